@@ -1,0 +1,6 @@
+pub mod Refusing
+pub mod Naming
+pub mod BestWrites
+pub mod TypesApart
+pub mod VersionTexts
+pub mod WriteTies

@@ -1,0 +1,25 @@
+-- Conditions in a row: what holds of all of them from what holds of the first ones.
+use Rattle.std.proofs.Common.{◌≡◌, List, [], ◌∷◌, ◌++◌, Bool, true, false, cond, Result, Ok, Err, refl, ap, ◌∙◌, sym}
+use Rattle.xds_resource.specs.declared.refusal.Refusal.{Refusal}
+use Rattle.xds_resource.specs.Refusals.{unless_refused}
+
+abbrev Conditions : Type 0
+Conditions = List (Bool × Refusal)
+
+past : {A B : Type 0} (b : Bool) (e : Refusal) (r : Result A Refusal) (a : A) (s t : Result B Refusal) → cond b (Err e) r ≡ Ok a → (r ≡ Ok a → s ≡ t) → cond b (Err e) s ≡ t
+past true e r a s t h rest = cc
+past false e r a s t h rest = rest h
+
+-- conditions of which none holds leave the rest to decide
+pub unless_refused-append : {A B : Type 0} (cs ds : Conditions) (a d : A) (b : B) → unless_refused cs a ≡ Ok d → unless_refused (cs ++ ds) b ≡ unless_refused ds b
+unless_refused-append [] ds a d b h = refl
+unless_refused-append (c ∷ cs) ds a d b h = past c.0 c.1 (unless_refused cs a) d (unless_refused (cs ++ ds) b) (unless_refused ds b) h (unless_refused-append cs ds a d b)
+
+here : {A : Type 0} (b : Bool) (e : Refusal) (r : Result A Refusal) (a d : A) → cond b (Err e) r ≡ Ok d → (r ≡ Ok d → a ≡ d) → a ≡ d
+here true e r a d h rest = cc
+here false e r a d h rest = rest h
+
+-- what is not refused is the value itself
+pub unless_refused-value : {A : Type 0} (cs : Conditions) (a d : A) → unless_refused cs a ≡ Ok d → a ≡ d
+unless_refused-value [] a d h = cc
+unless_refused-value (c ∷ cs) a d h = here c.0 c.1 (unless_refused cs a) a d h (unless_refused-value cs a d)

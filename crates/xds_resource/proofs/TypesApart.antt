@@ -1,0 +1,43 @@
+-- Four things of one kind, one for each type: what is put at a type is there alone.
+use Rattle.std.proofs.Common.{◌≡◌, ◌≢◌, refl}
+use Rattle.xds_resource.specs.declared.types.TypeName.{TypeName}
+use Rattle.xds_resource.specs.declared.types.TypeName.TheVariants.{Cluster, Endpoint, Listener, Route}
+use Rattle.xds_resource.specs.PerType.{PerType, at, with_at, PutsAtOneType, each}
+
+module _ {X : Type 0} where
+  pub at-with_at : (p : PerType X) (t : TypeName) (x : X) → at (with_at p t x) t ≡ x
+  at-with_at p Cluster x = refl
+  at-with_at p Endpoint x = refl
+  at-with_at p Listener x = refl
+  at-with_at p Route x = refl
+
+  pub at-with_at_other : (p : PerType X) (t : TypeName) (x : X) (s : TypeName) → s ≢ t → at (with_at p t x) s ≡ at p s
+  at-with_at_other p Cluster x Cluster other = absurd (other refl)
+  at-with_at_other p Cluster x Endpoint other = refl
+  at-with_at_other p Cluster x Listener other = refl
+  at-with_at_other p Cluster x Route other = refl
+  at-with_at_other p Endpoint x Cluster other = refl
+  at-with_at_other p Endpoint x Endpoint other = absurd (other refl)
+  at-with_at_other p Endpoint x Listener other = refl
+  at-with_at_other p Endpoint x Route other = refl
+  at-with_at_other p Listener x Cluster other = refl
+  at-with_at_other p Listener x Endpoint other = refl
+  at-with_at_other p Listener x Listener other = absurd (other refl)
+  at-with_at_other p Listener x Route other = refl
+  at-with_at_other p Route x Cluster other = refl
+  at-with_at_other p Route x Endpoint other = refl
+  at-with_at_other p Route x Listener other = refl
+  at-with_at_other p Route x Route other = absurd (other refl)
+
+  pub puts_at_one_type : (p : PerType X) (t : TypeName) (x : X) → PutsAtOneType p t x
+  puts_at_one_type p t x = (at-with_at p t x, at-with_at_other p t x)
+
+  pub at-each : (x : X) (t : TypeName) → at (each x) t ≡ x
+  at-each x Cluster = refl
+  at-each x Endpoint = refl
+  at-each x Listener = refl
+  at-each x Route = refl
+
+  -- two that agree at every type are equal
+  pub same_at_each_type : (p q : PerType X) → ((t : TypeName) → at p t ≡ at q t) → p ≡ q
+  same_at_each_type p q agree = λ i. record { cluster = agree Cluster i; endpoint = agree Endpoint i; listener = agree Listener i; route = agree Route i }

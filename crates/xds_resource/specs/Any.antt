@@ -1,0 +1,33 @@
+-- A resource or a write of any type, as its type and what it is there. This project's own.
+use Rattle.xds_resource.specs.declared.types.TypeName.{TypeName}
+use Rattle.xds_resource.specs.declared.types.TypeName.TheVariants as types
+use Rattle.xds_resource.specs.declared.any.AnyResource.{AnyResource}
+use Rattle.xds_resource.specs.declared.any.AnyResource.TheVariants as resources
+use Rattle.xds_resource.specs.declared.any.AnyWrite.{AnyWrite}
+use Rattle.xds_resource.specs.declared.any.AnyWrite.TheVariants as writes
+use Rattle.xds_resource.specs.Resources.{NamedBody}
+use Rattle.xds_resource.specs.Writes.{StampedWrite}
+
+abbrev pub resource_type : AnyResource → TypeName
+resource_type (resources.Cluster r) = types.Cluster
+resource_type (resources.Endpoint r) = types.Endpoint
+resource_type (resources.Listener r) = types.Listener
+resource_type (resources.Route r) = types.Route
+
+abbrev pub named_body : AnyResource → NamedBody
+named_body (resources.Cluster r) = r
+named_body (resources.Endpoint r) = r
+named_body (resources.Listener r) = r
+named_body (resources.Route r) = r
+
+abbrev pub write_type : AnyWrite → TypeName
+write_type (writes.Cluster w) = types.Cluster
+write_type (writes.Endpoint w) = types.Endpoint
+write_type (writes.Listener w) = types.Listener
+write_type (writes.Route w) = types.Route
+
+abbrev pub stamped_write : AnyWrite → StampedWrite
+stamped_write (writes.Cluster w) = w
+stamped_write (writes.Endpoint w) = w
+stamped_write (writes.Listener w) = w
+stamped_write (writes.Route w) = w

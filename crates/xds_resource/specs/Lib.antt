@@ -1,0 +1,10 @@
+pub mod Types
+pub mod PerType
+pub mod Refusals
+pub mod Stamps
+pub mod Writes
+pub mod WriteOrder
+pub mod Best
+pub mod Fields
+pub mod Resources
+pub mod Any

@@ -1,0 +1,40 @@
+-- The numbered refusals, and what a call answers that may also find no memory. This project's own.
+use Rattle.std.specs.Prelude.{◌≡◌, ◌≢◌, ℕ, List, [], ◌∷◌, Bool, if◌then◌else◌, Option, Some, None, Result, Ok, Err, codes}
+use Rattle.xds_resource.specs.declared.refusal.Refusal.{Refusal}
+use Rattle.xds_resource.specs.declared.refusal.Refusal.TheVariants.{NotJson, TooDeep, NotWhole, BadResource, BadName, TooLong, BadMessage, OutOfMemory, NotFound, CounterSpent, BadStamp}
+
+abbrev pub number_of : Refusal → ℕ
+number_of NotJson = 1
+number_of TooDeep = 2
+number_of NotWhole = 3
+number_of BadResource = 4
+number_of BadName = 5
+number_of TooLong = 6
+number_of BadMessage = 7
+number_of OutOfMemory = 8
+number_of NotFound = 9
+number_of CounterSpent = 10
+number_of BadStamp = 11
+
+abbrev pub name_of : Refusal → List ℕ
+name_of NotJson = codes "NotJson"
+name_of TooDeep = codes "TooDeep"
+name_of NotWhole = codes "NotWhole"
+name_of BadResource = codes "BadResource"
+name_of BadName = codes "BadName"
+name_of TooLong = codes "TooLong"
+name_of BadMessage = codes "BadMessage"
+name_of OutOfMemory = codes "OutOfMemory"
+name_of NotFound = codes "NotFound"
+name_of CounterSpent = codes "CounterSpent"
+name_of BadStamp = codes "BadStamp"
+
+-- a value, unless a condition holds: then the refusal of the first that does
+abbrev pub unless_refused : {A : Type 0} → List (Bool × Refusal) → A → Result A Refusal
+unless_refused [] a = Ok a
+unless_refused (c ∷ cs) a = if c.0 then Err c.1 else unless_refused cs a
+
+-- The call answers this, its value seen by view, unless it found no memory.
+abbrev pub Gives : {X Y : Type 0} → (X → Y) → Result X Refusal → Result Y Refusal → Type 0
+Gives view (Ok x) answer = answer ≡ Ok (view x)
+Gives view (Err e) answer = e ≢ OutOfMemory → answer ≡ Err e

@@ -1,0 +1,18 @@
+// What the catalogue of an xDS control plane holds: resources of Envoy's four types, and stamped writes of them.
+#![tactic(auto)]
+
+pub mod any;
+pub mod json;
+pub mod laws;
+pub mod refusal;
+pub mod resource;
+pub mod stamp;
+pub mod types;
+pub mod write;
+
+pub use any::{AnyResource, AnyWrite};
+pub use refusal::Refusal;
+pub use resource::Resource;
+pub use stamp::Stamp;
+pub use types::{Cluster, Endpoint, Listener, ResourceType, Route, TypeName};
+pub use write::Write;

@@ -1,0 +1,107 @@
+// The numbered refusals of the library.
+ghost use Rattle.std.specs.Prelude.{◌≡◌};
+
+use std::alloc::{AllocError, AllocFailed};
+use thiserror::Error;
+
+/// Why a call was refused. It prints as its number and its name, as `4 BadResource`.
+#[derive(Clone, Copy, Debug, PartialEq, Eq, Hash, Error)]
+pub enum Refusal {
+    /// The bytes are no JSON text, or nest more than 127 deep.
+    #[error("1 NotJson")]
+    NotJson,
+    /// A resource nests more than 100 deep.
+    #[error("2 TooDeep")]
+    TooDeep,
+    /// A resource has a number that is no 64-bit integer.
+    #[error("3 NotWhole")]
+    NotWhole,
+    /// It is no object of the type, or its name is no text.
+    #[error("4 BadResource")]
+    BadResource,
+    /// The name is empty, longer than 1,024 bytes, or `*`.
+    #[error("5 BadName")]
+    BadName,
+    /// The text is longer than 1,048,576 bytes.
+    #[error("6 TooLong")]
+    TooLong,
+    /// The JSON spells no message of the kind that is read.
+    #[error("7 BadMessage")]
+    BadMessage,
+    /// An allocation was refused.
+    #[error("8 OutOfMemory")]
+    OutOfMemory,
+    /// There is no live resource of the name.
+    #[error("9 NotFound")]
+    NotFound,
+    /// A counter has come to its greatest value.
+    #[error("10 CounterSpent")]
+    CounterSpent,
+    /// The text is no version.
+    #[error("11 BadStamp")]
+    BadStamp,
+}
+
+impl Refusal {
+    ghost use Rattle.xds_resource.specs.Refusals.{number_of, name_of};
+
+    /// The number, from 1.
+    pub fn number(self) -> u8
+        ensures { result ≡ number_of self }
+    {
+        match self {
+            Refusal::NotJson => 1,
+            Refusal::TooDeep => 2,
+            Refusal::NotWhole => 3,
+            Refusal::BadResource => 4,
+            Refusal::BadName => 5,
+            Refusal::TooLong => 6,
+            Refusal::BadMessage => 7,
+            Refusal::OutOfMemory => 8,
+            Refusal::NotFound => 9,
+            Refusal::CounterSpent => 10,
+            Refusal::BadStamp => 11,
+        }
+    }
+
+    /// The name, as programs print it.
+    pub fn name(self) -> &'static str
+        ensures { result.now ≡ name_of self }
+    {
+        match self {
+            Refusal::NotJson => "NotJson",
+            Refusal::TooDeep => "TooDeep",
+            Refusal::NotWhole => "NotWhole",
+            Refusal::BadResource => "BadResource",
+            Refusal::BadName => "BadName",
+            Refusal::TooLong => "TooLong",
+            Refusal::BadMessage => "BadMessage",
+            Refusal::OutOfMemory => "OutOfMemory",
+            Refusal::NotFound => "NotFound",
+            Refusal::CounterSpent => "CounterSpent",
+            Refusal::BadStamp => "BadStamp",
+        }
+    }
+}
+
+impl From<AllocError> for Refusal {
+    ghost use Rattle.std.specs.Prelude.{◌≡◌};
+    ghost use Rattle.xds_resource.specs.declared.refusal.Refusal.TheVariants.{OutOfMemory};
+
+    ghost from_gives = { λ _ e. e ≡ OutOfMemory };
+
+    fn from(_refused: AllocError) -> Refusal {
+        Refusal::OutOfMemory
+    }
+}
+
+impl<T: Drop> From<AllocFailed<T>> for Refusal {
+    ghost use Rattle.std.specs.Prelude.{◌≡◌};
+    ghost use Rattle.xds_resource.specs.declared.refusal.Refusal.TheVariants.{OutOfMemory};
+
+    ghost from_gives = { λ _ e. e ≡ OutOfMemory };
+
+    fn from(_refused: AllocFailed<T>) -> Refusal {
+        Refusal::OutOfMemory
+    }
+}

@@ -1,0 +1,214 @@
+// Resources of one type, read from JSON.
+ghost use Rattle.std.specs.Prelude.{◌≡◌, ◌≤◌, IfOk, IfErr, OnOk, Some, None, Ok, true, false, string_bytes, List, ℕ};
+ghost use Rattle.std.specs.Option.{option_map};
+ghost use Rattle.serde_json.specs.Data.{depth};
+ghost use Rattle.serde_json.specs.Read.{read};
+ghost use Rattle.serde_json.specs.View.{view};
+ghost use Rattle.serde_json.specs.Written.{compact_text, has_float};
+ghost use Rattle.xds_resource.specs.Refusals.{Gives, unless_refused};
+ghost use Rattle.xds_resource.specs.Resources.{ReadsAs, is_valid_name as is_valid, has_type as names_type, resource_name as name_of, value_of, max_nesting, front_conditions, from_object, parsed, from_value as valued};
+
+use crate::json::{field, is_whole, nests_within};
+use crate::refusal::Refusal;
+use crate::types::{ResourceType, TypeName};
+use serde_json::{Category, Value};
+use std::alloc::Global;
+use std::marker::{Model, PhantomData};
+
+/// The longest text of a resource, in bytes.
+pub const MAX_TEXT: usize = 1_048_576;
+
+/// How deep a resource may nest.
+pub const MAX_NESTING: usize = 100;
+
+/// The longest name, in bytes.
+pub const MAX_NAME: usize = 1024;
+
+/// A resource of one type: the JSON object of an Any, with its name.
+#[derive(Drop)]
+pub struct Resource<T: ResourceType> {
+    pub(crate) name: String,
+    pub(crate) body: String,
+    pub(crate) kind: PhantomData<T>,
+}
+
+impl<T: ResourceType> Model for Resource<T> {
+    ghost use Rattle.std.specs.Prelude.{string_bytes};
+    ghost use Rattle.xds_resource.specs.Resources.{NamedBody, named_body_code, IsCanonical};
+
+    ghost Value = { NamedBody };
+
+    ghost coded = { named_body_code };
+
+    ghost view = { λ r. record { name = string_bytes r.name; body = string_bytes r.body } };
+
+    ghost invariant = { λ r. IsCanonical T.TYPE (record { name = string_bytes r.name; body = string_bytes r.body }) };
+}
+
+impl<T: ResourceType> Resource<T> {
+    /// Reads a resource. Refused are, the first that applies: `TooLong`, `NotJson`, `TooDeep`, `NotWhole`,
+    /// `BadResource`, `BadName`.
+    pub fn parse(alloc: Global, text: &str) -> Result<Resource<T>, Refusal>
+        ensures { Gives (λ r. r) result (parsed T.TYPE text.now) }
+    {
+        let value = read_text(alloc, text)?;
+        let body = value.to_string(alloc)?;
+        Resource::of_object(alloc, &value, body)
+    }
+
+    /// Takes a value that was read. Refused are, the first that applies: `NotWhole`, `TooLong` by its compact
+    /// text, `TooDeep`, `BadResource`, `BadName`.
+    pub fn from_value(alloc: Global, value: Value) -> Result<Resource<T>, Refusal>
+        ensures { Gives (λ r. r) result (valued T.TYPE (view value)) }
+    {
+        if !is_whole(&value) {
+            return Err(Refusal::NotWhole);
+        }
+        let body = value.to_string(alloc)?;
+        if body.as_str().len() > MAX_TEXT {
+            return Err(Refusal::TooLong);
+        }
+        if !nests_within(&value, MAX_NESTING) {
+            return Err(Refusal::TooDeep);
+        }
+        Resource::of_object(alloc, &value, body)
+    }
+
+    // The body is the value's text.
+    pub(crate) fn of_object(
+        alloc: Global,
+        value: &Value,
+        body: String,
+    ) -> Result<Resource<T>, Refusal>
+        requires whole { has_float (view value.now) ≡ false }
+        requires shallow { depth (view value.now) ≤ max_nesting }
+        requires text { string_bytes body ≡ compact_text (view value.now) }
+        requires reads_back { read (string_bytes body) ≡ Some (view value.now) }
+        ensures of_value { Gives (λ r. r) result (from_object T.TYPE (view value.now)) }
+        ensures of_text { (text : List ℕ) → ReadsAs text (view value.now)
+            → Gives (λ r. r) result (parsed T.TYPE text) }
+    {
+        if !has_type(value, T::TYPE) {
+            return Err(Refusal::BadResource);
+        }
+        let Some(name) = resource_name(value, T::TYPE) else {
+            return Err(Refusal::BadResource);
+        };
+        if !is_valid_name(name) {
+            return Err(Refusal::BadName);
+        }
+        let name = String::from_str(alloc, name)?;
+        Ok(Resource {
+            name,
+            body,
+            kind: PhantomData,
+        })
+    }
+
+    pub fn name(&self) -> &str
+        ensures { result.now ≡ self.now.name }
+    {
+        self.name.as_str()
+    }
+
+    /// The compact text of the resource's object.
+    pub fn body(&self) -> &str
+        ensures { result.now ≡ self.now.body }
+    {
+        self.body.as_str()
+    }
+
+    /// The resource's object, as it is read again from its text. `OutOfMemory` where that took more memory than there is.
+    pub fn value(&self, alloc: Global) -> Result<Value, Refusal>
+        ensures value { IfOk result (λ v. view v ≡ value_of self.now.body) }
+        ensures text { IfOk result (λ v. compact_text (view v) ≡ self.now.body) }
+        ensures whole { IfOk result (λ v. has_float (view v) ≡ false) }
+        ensures shallow { IfOk result (λ v. depth (view v) ≤ max_nesting) }
+        ensures refused { IfErr result (λ e. e ≡ Refusal.OutOfMemory) }
+    {
+        read_body(alloc, self.body.as_str())
+    }
+
+    /// An equal resource, or `OutOfMemory`.
+    pub fn try_copy(&self, _alloc: Global) -> Result<Resource<T>, Refusal>
+        ensures copy { IfOk result (λ r. r ≡ self.now) }
+        ensures refused { IfErr result (λ e. e ≡ Refusal.OutOfMemory) }
+    {
+        Ok(Resource {
+            name: self.name.clone()?,
+            body: self.body.clone()?,
+            kind: PhantomData,
+        })
+    }
+}
+
+/// Whether a resource may have this name: not empty, at most [`MAX_NAME`] bytes, and not `*`.
+pub fn is_valid_name(name: &str) -> bool
+    ensures { result ≡ is_valid name.now }
+{
+    !name.is_empty() && name.len() <= MAX_NAME && name != "*"
+}
+
+// The value of a text, if it is one that any resource may have.
+pub(crate) fn read_text(alloc: Global, text: &str) -> Result<Value, Refusal>
+    ensures given { Gives view result (unless_refused (front_conditions text.now) (value_of text.now)) }
+    ensures reads { IfOk result (λ v. ReadsAs text.now (view v)) }
+    ensures shallow { IfOk result (λ v. depth (view v) ≤ max_nesting) }
+    ensures whole { IfOk result (λ v. has_float (view v) ≡ false) }
+{
+    if text.len() > MAX_TEXT {
+        return Err(Refusal::TooLong);
+    }
+    let value = match Value::from_str(alloc, text) {
+        Ok(value) => value,
+        Err(error) => {
+            return Err(if error.classify() == Category::Memory {
+                Refusal::OutOfMemory
+            } else {
+                Refusal::NotJson
+            });
+        }
+    };
+    if !nests_within(&value, MAX_NESTING) {
+        return Err(Refusal::TooDeep);
+    }
+    if !is_whole(&value) {
+        return Err(Refusal::NotWhole);
+    }
+    Ok(value)
+}
+
+// The value of a body. Every body reads, so that only memory can fail.
+pub(crate) fn read_body(alloc: Global, body: &str) -> Result<Value, Refusal>
+    requires { read body.now ≡ Some (value_of body.now) }
+    ensures value { IfOk result (λ v. view v ≡ value_of body.now) }
+    ensures refused { IfErr result (λ e. e ≡ Refusal.OutOfMemory) }
+{
+    match Value::from_str(alloc, body) {
+        Ok(value) => Ok(value),
+        Err(_) => Err(Refusal::OutOfMemory),
+    }
+}
+
+// Whether the value's `@type` is that of the type.
+pub(crate) fn has_type(value: &Value, type_name: TypeName) -> bool
+    ensures { result ≡ names_type type_name (view value.now) }
+{
+    match value.get("@type") {
+        Some(Value::String(url)) => url.as_str() == type_name.url(),
+        Some(_) => false,
+        None => false,
+    }
+}
+
+// The name that the value has as a resource of the type: empty where there is none, and `None` where it is no text.
+fn resource_name(value: &Value, type_name: TypeName) -> Option<&str>
+    ensures { option_map (λ s. s.now) result ≡ name_of type_name (view value.now) }
+{
+    match field(value, type_name.name_field(), type_name.proto_name_field()) {
+        None => Some(""),
+        Some(Value::Null) => Some(""),
+        Some(Value::String(name)) => Some(name.as_str()),
+        Some(_) => None,
+    }
+}

@@ -1,0 +1,195 @@
+// Stamped writes of one resource type, and their order.
+ghost use Rattle.std.specs.Prelude.{◌≡◌, IfOk, IfErr, ◌≤◌, Some, None, IfSome, true, false, string_bytes};
+ghost use Rattle.std.specs.Option.{option_map};
+ghost use Rattle.serde_json.specs.Data.{depth};
+ghost use Rattle.serde_json.specs.View.{view};
+ghost use Rattle.serde_json.specs.Written.{compact_text, has_float};
+ghost use Rattle.xds_resource.specs.Resources.{is_valid_name, value_of, max_nesting, written, deleted};
+
+use crate::refusal::Refusal;
+use crate::resource::{Resource, read_body};
+use crate::stamp::Stamp;
+use crate::types::ResourceType;
+use serde_json::Value;
+use std::alloc::Global;
+use std::cmp::Ordering;
+use std::marker::{Model, PhantomData};
+
+/// A stamped write of a resource, or of its deletion.
+#[derive(Drop)]
+pub struct Write<T: ResourceType> {
+    stamp: Stamp,
+    name: String,
+    // The compact text of the resource's object, or none for a deletion.
+    body: Option<String>,
+    kind: PhantomData<T>,
+}
+
+impl<T: ResourceType> Model for Write<T> {
+    ghost use Rattle.std.specs.Prelude.{string_bytes};
+    ghost use Rattle.std.specs.Option.{option_map};
+    ghost use Rattle.xds_resource.specs.Writes.{StampedWrite, write_code};
+
+    ghost Value = { StampedWrite };
+
+    ghost coded = { write_code };
+
+    ghost use Rattle.xds_resource.specs.Resources.{IsWritable};
+
+    ghost view = { λ w. record { name = string_bytes w.name; counter = w.stamp.counter; writer = w.stamp.writer; body = option_map string_bytes w.body } };
+
+    ghost invariant = { λ w. IsWritable T.TYPE (record { name = string_bytes w.name; counter = w.stamp.counter; writer = w.stamp.writer; body = option_map string_bytes w.body }) };
+}
+
+impl<T: ResourceType> Write<T> {
+    /// The write that puts a resource.
+    pub fn put(stamp: Stamp, resource: Resource<T>) -> Write<T>
+        ensures { result ≡ written stamp.counter stamp.writer resource }
+    {
+        let Resource { name, body, kind } = resource;
+        Write {
+            stamp,
+            name,
+            body: Some(body),
+            kind,
+        }
+    }
+
+    /// The write that deletes the resource of this name.
+    pub fn deletion(stamp: Stamp, name: String) -> Write<T>
+        requires { is_valid_name (string_bytes name) ≡ true }
+        ensures { result ≡ deleted stamp.counter stamp.writer (string_bytes name) }
+    {
+        Write {
+            stamp,
+            name,
+            body: None,
+            kind: PhantomData,
+        }
+    }
+
+    /// The name of the resource.
+    pub fn name(&self) -> &str
+        ensures name { result.now ≡ self.now.name }
+        ensures valid { is_valid_name self.now.name ≡ true }
+    {
+        self.name.as_str()
+    }
+
+    pub fn stamp(&self) -> Stamp
+        ensures counter { result.counter ≡ self.now.counter }
+        ensures writer { result.writer ≡ self.now.writer }
+    {
+        self.stamp
+    }
+
+    /// The compact text of the resource's object, or none for a deletion.
+    pub fn body(&self) -> Option<&str>
+        ensures { option_map (λ s. s.now) result ≡ self.now.body }
+    {
+        match &self.body {
+            Some(text) => Some(text.as_str()),
+            None => None,
+        }
+    }
+
+    /// The resource's object, as it is read again from its text, or none for a deletion. `OutOfMemory` where reading
+    /// took more memory than there is.
+    pub fn value(&self, alloc: Global) -> Result<Option<Value>, Refusal>
+        ensures value { IfOk result (λ o. option_map view o ≡ option_map value_of self.now.body) }
+        ensures text { IfOk result (λ o. option_map (λ v. compact_text (view v)) o ≡ self.now.body) }
+        ensures whole { IfOk result (λ o. IfSome o (λ v. has_float (view v) ≡ false)) }
+        ensures shallow { IfOk result (λ o. IfSome o (λ v. depth (view v) ≤ max_nesting)) }
+        ensures refused { IfErr result (λ e. e ≡ Refusal.OutOfMemory) }
+    {
+        match &self.body {
+            Some(body) => Ok(Some(read_body(alloc, body.as_str())?)),
+            None => Ok(None),
+        }
+    }
+
+    /// An equal write, or `OutOfMemory`.
+    pub fn try_copy(&self, _alloc: Global) -> Result<Write<T>, Refusal>
+        ensures copy { IfOk result (λ w. w ≡ self.now) }
+        ensures refused { IfErr result (λ e. e ≡ Refusal.OutOfMemory) }
+    {
+        let body = match &self.body {
+            Some(text) => Some(text.clone()?),
+            None => None,
+        };
+        Ok(Write {
+            stamp: self.stamp,
+            name: self.name.clone()?,
+            body,
+            kind: PhantomData,
+        })
+    }
+}
+
+impl<T: ResourceType> PartialEq for Write<T> {
+    ghost use Rattle.std.specs.Prelude.{◌↔◌, IsTrue};
+    ghost use Rattle.std.proofs.Common.{rules};
+    ghost use Rattle.std.specs.Ordering.{eq_by_cmp};
+    ghost use Rattle.std.specs.Cmp.Rules.{comparing};
+    ghost use Rattle.xds_resource.specs.WriteOrder.{write_cmp_total};
+    ghost use Rattle.xds_resource.specs.Writes.{write_cmp};
+
+    ghost eq = { eq_by_cmp write_cmp };
+
+    ghost laws = { Prim.search (write_cmp_total, comparing, rules) };
+
+    /// Whether the two are the same write.
+    fn eq(&self, other: &Write<T>) -> bool
+        ensures value { result ≡ eq_by_cmp write_cmp self.now other.now }
+        ensures same { IsTrue result ↔ (self.now ≡ other.now) }
+    {
+        self.cmp(other) == Ordering::Equal
+    }
+}
+
+impl<T: ResourceType> Eq for Write<T> {
+    ghost use Rattle.std.proofs.Common.{rules};
+    ghost use Rattle.std.specs.Cmp.Rules.{comparing};
+    ghost use Rattle.xds_resource.specs.WriteOrder.{write_cmp_total};
+
+    ghost laws = { Prim.search (write_cmp_total, comparing, rules) };
+}
+
+impl<T: ResourceType> PartialOrd for Write<T> {
+    ghost use Rattle.std.proofs.Common.{rules};
+    ghost use Rattle.std.specs.Cmp.{partial_order_from_own_ties};
+    ghost use Rattle.std.specs.Ordering.{as_partial_cmp};
+    ghost use Rattle.std.specs.Cmp.Rules.{comparing};
+    ghost use Rattle.xds_resource.specs.WriteOrder.{write_cmp_total};
+    ghost use Rattle.xds_resource.specs.Writes.{write_cmp};
+
+    ghost partial_cmp = { as_partial_cmp write_cmp };
+
+    ghost laws = { partial_order_from_own_ties (Prim.search (write_cmp_total, comparing, rules)) (Prim.search (comparing, rules)) };
+
+    fn partial_cmp(&self, other: &Write<T>) -> Option<Ordering> {
+        Some(self.cmp(other))
+    }
+}
+
+impl<T: ResourceType> Ord for Write<T> {
+    ghost use Rattle.std.proofs.Common.{rules};
+    ghost use Rattle.std.specs.Cmp.Rules.{comparing};
+    ghost use Rattle.xds_resource.specs.WriteOrder.{write_cmp_total};
+    ghost use Rattle.xds_resource.specs.Writes.{write_cmp};
+
+    ghost cmp = { write_cmp };
+
+    ghost total = { Prim.search (write_cmp_total, comparing, rules) };
+
+    ghost matches_partial_cmp = { Prim.search (comparing, rules) };
+
+    ghost matches_eq = { Prim.search (comparing, rules) };
+
+    fn cmp(&self, other: &Write<T>) -> Ordering {
+        self.stamp
+            .cmp(&other.stamp)
+            .then(self.body.cmp(&other.body))
+            .then(self.name.cmp(&other.name))
+    }
+}
