@@ -1,5 +1,5 @@
 -- The best of a list: it is the greatest of its name, and the best of two lists is the greater of the best of each.
-use Rattle.std.proofs.Common.{◌⊎◌, inl, inr, ◌≡◌, ◌≢◌, ℕ, ◌<◌, List, [], ◌∷◌, ◌++◌, length, get_or, Bool, true, false, zero, suc, arith, refl, sym, ap, ◌∙◌}
+use Rattle.std.proofs.Common.{◌⊎◌, inl, inr, ◌≡◌, ◌≢◌, ℕ, ◌<◌, List, [], ◌∷◌, length, get_or, Bool, true, false, zero, suc, arith, refl, sym, ap, ◌∙◌}
 use Rattle.std.specs.Prelude.{Option, Some, None, Contains, MatchOption, bytes_eq, if◌then◌else◌}
 use Rattle.std.specs.declared.cmp.Ordering.{Ordering}
 use Rattle.std.specs.declared.cmp.Ordering.TheVariants.{Less, Equal, Greater}
@@ -9,7 +9,7 @@ use Rattle.std.specs.FinMap.{IsAntisymmetric}
 use Rattle.std.proofs.lemmas.Slice.Eq.{bytes_eq-Decides}
 use Rattle.xds_resource.specs.Writes.{StampedWrite, write_cmp}
 use Rattle.xds_resource.specs.Best.{greater, if_named, best, IsGreatest, BestIsGreatest, SameWrites, BestOfBoth}
-use Rattle.xds_resource.proofs.WriteTies.{write_cmp-IsAntisymmetric, write_cmp-same}
+use Rattle.xds_resource.proofs.WriteTies.{write_cmp-IsAntisymmetric}
 use Rattle.xds_resource.specs.WriteOrder.{write_cmp_total}
 
 is_gt-reverse : (o : Ordering) → is_gt (ordering_reverse o) ≡ is_lt o
@@ -110,21 +110,21 @@ pub best_of_both : (v w : List StampedWrite) (name : List ℕ) → BestOfBoth v 
 best_of_both [] w name = refl
 best_of_both (x ∷ v) w name = ap (greater (if_named name x)) (best_of_both v w name) ∙ greater-assoc (if_named name x) (best v name) (best w name)
 
-Contains-head : {X : Type 0} (x : X) (xs : List X) → Contains (x ∷ xs) x
+pub Contains-head : {X : Type 0} (x : X) (xs : List X) → Contains (x ∷ xs) x
 Contains-head x xs = (0, omega arith, refl)
 
-Contains-tail : {X : Type 0} (x y : X) (xs : List X) → Contains xs y → Contains (x ∷ xs) y
+pub Contains-tail : {X : Type 0} (x y : X) (xs : List X) → Contains xs y → Contains (x ∷ xs) y
 Contains-tail x y xs h = (suc h.0, omega (arith, h.1), h.2)
 
 Contains-cons_at : {X : Type 0} (x y : X) (xs : List X) (k : ℕ) → k < length (x ∷ xs) → get_or (x ∷ xs) k y ≡ y → (x ≡ y) ⊎ Contains xs y
 Contains-cons_at x y xs zero below e = inl e
 Contains-cons_at x y xs (suc k) below e = inr (k, omega arith, e)
 
-Contains-cons_cases : {X : Type 0} (x y : X) (xs : List X) → Contains (x ∷ xs) y → (x ≡ y) ⊎ Contains xs y
+pub Contains-cons_cases : {X : Type 0} (x y : X) (xs : List X) → Contains (x ∷ xs) y → (x ≡ y) ⊎ Contains xs y
 Contains-cons_cases x y xs h = Contains-cons_at x y xs h.0 h.1 h.2
 
 -- no write of the list has the name
-abbrev NoneNamed : List StampedWrite → List ℕ → Type 0
+abbrev pub NoneNamed : List StampedWrite → List ℕ → Type 0
 NoneNamed ws name = (v : StampedWrite) → Contains ws v → v.name ≢ name
 
 name_tells : (w : StampedWrite) (name : List ℕ) → w.name ≡ name → bytes_eq w.name name ≡ true
@@ -190,3 +190,20 @@ greatest_of_same v w name same (Some a) (Some b) one two =
 -- the best depends on which writes there are alone
 pub best_of_same_writes : (v w : List StampedWrite) (name : List ℕ) → SameWrites v w → best v name ≡ best w name
 best_of_same_writes v w name same = greatest_of_same v w name same (best v name) (best w name) (best_is_greatest v name) (best_is_greatest w name)
+
+-- the best is the one greatest write of its name
+pub IsGreatest-best : (ws : List StampedWrite) (name : List ℕ) (w : StampedWrite) → best ws name ≡ Some w → IsGreatest ws name w
+IsGreatest-best ws name w e =
+    let greatest = best_is_greatest ws name in
+    rw e at greatest
+
+pub best-IsGreatest : (ws : List StampedWrite) (name : List ℕ) (w : StampedWrite) → IsGreatest ws name w → best ws name ≡ Some w
+best-IsGreatest ws name w is = greatest_of_same ws ws name (λ x. (λ h. h, λ h. h)) (best ws name) (Some w) (best_is_greatest ws name) is
+
+pub best-NoneNamed : (ws : List StampedWrite) (name : List ℕ) → NoneNamed ws name → best ws name ≡ None
+best-NoneNamed ws name none = greatest_of_same ws ws name (λ x. (λ h. h, λ h. h)) (best ws name) None (best_is_greatest ws name) none
+
+pub NoneNamed-best : (ws : List StampedWrite) (name : List ℕ) → best ws name ≡ None → NoneNamed ws name
+NoneNamed-best ws name e =
+    let missing = best_is_greatest ws name in
+    rw e at missing

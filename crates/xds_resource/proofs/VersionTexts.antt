@@ -1,10 +1,9 @@
 -- Version texts: the dash stands once, so a text names one stamp.
-use Rattle.std.proofs.Common.{◌≡◌, ◌≢◌, ℕ, ◌<◌, ◌≤◌, ◌^◌, List, [], ◌∷◌, ◌++◌, length, get_or, suc, arith, rules, refl, sym, ◌∙◌, decimal}
+use Rattle.std.proofs.Common.{◌≡◌, ◌≢◌, ℕ, ◌<◌, ◌^◌, List, [], ◌∷◌, ◌++◌, length, get_or, suc, arith, refl, sym, decimal}
 use Rattle.std.specs.Prelude.{MatchOption, Option}
 use Rattle.std.specs.Borrow.{Bor}
-use Rattle.std.specs.Int.{IsInRange}
 use Rattle.std.specs.Str.Parse.{AllDigits}
-use Rattle.std.proofs.lemmas.Str.Parse.{IsNumeralModel, numerals_by_value, tells_digits, not_in_digits}
+use Rattle.std.proofs.lemmas.Str.Parse.{numerals_by_value, tells_digits, not_in_digits}
 use Rattle.std.proofs.lemmas.Str.Pattern.{IsSplitOnceResult, split_after}
 use Rattle.std.proofs.lemmas.Fmt.{digits_decimal, decimal_injective}
 use Rattle.xds_resource.specs.Stamps.{IsStamp, version_text}
@@ -42,7 +41,7 @@ pub version_text_injective : (c w d v : ℕ) → IsStamp c w → IsStamp d v →
 version_text_injective c w d v one two e =
     let below_c : c < 2 ^ 64 = omega (arith, one.counter_to) in
     let below_d : d < 2 ^ 64 = omega (arith, two.counter_to) in
-    let parts = same_parts (decimal c) (decimal d) (decimal w) (decimal v) (decimal_without_dash c below_c) (decimal_without_dash d below_d) e in
-    ( decimal_injective c d below_c below_d parts.0
-    , decimal_injective w v (omega (arith, one.writer_to)) (omega (arith, two.writer_to)) parts.1
+    let parts = same_parts (decimal c) (decimal d) (decimal w) (decimal v) (decimal_without_dash c below_c) (decimal_without_dash d below_d) e in (
+      decimal_injective c d below_c below_d parts.0,
+      decimal_injective w v (omega (arith, one.writer_to)) (omega (arith, two.writer_to)) parts.1,
     )

@@ -1,7 +1,7 @@
 -- The numbered refusals, and what a call answers that may also find no memory. This project's own.
 use Rattle.std.specs.Prelude.{◌≡◌, ◌≢◌, ℕ, List, [], ◌∷◌, Bool, if◌then◌else◌, Option, Some, None, Result, Ok, Err, codes}
 use Rattle.xds_resource.specs.declared.refusal.Refusal.{Refusal}
-use Rattle.xds_resource.specs.declared.refusal.Refusal.TheVariants.{NotJson, TooDeep, NotWhole, BadResource, BadName, TooLong, BadMessage, OutOfMemory, NotFound, CounterSpent, BadStamp}
+use Rattle.xds_resource.specs.declared.refusal.Refusal.TheVariants.{NotJson, TooDeep, NotWhole, BadResource, BadName, TooLong, BadMessage, OutOfMemory, NotFound, CounterSpent, BadStamp, Device}
 
 abbrev pub number_of : Refusal → ℕ
 number_of NotJson = 1
@@ -15,6 +15,7 @@ number_of OutOfMemory = 8
 number_of NotFound = 9
 number_of CounterSpent = 10
 number_of BadStamp = 11
+number_of Device = 19
 
 abbrev pub name_of : Refusal → List ℕ
 name_of NotJson = codes "NotJson"
@@ -28,6 +29,7 @@ name_of OutOfMemory = codes "OutOfMemory"
 name_of NotFound = codes "NotFound"
 name_of CounterSpent = codes "CounterSpent"
 name_of BadStamp = codes "BadStamp"
+name_of Device = codes "Device"
 
 -- a value, unless a condition holds: then the refusal of the first that does
 abbrev pub unless_refused : {A : Type 0} → List (Bool × Refusal) → A → Result A Refusal

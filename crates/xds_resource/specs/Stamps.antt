@@ -1,5 +1,5 @@
 -- Stamps of writes and their version texts. This project's own.
-use Rattle.std.specs.Prelude.{ℕ, ◌≤◌, ◌<◌, ◌^◌, List, ◌∷◌, ◌++◌, decimal}
+use Rattle.std.specs.Prelude.{ℕ, ◌≤◌, List, ◌∷◌, ◌++◌, decimal}
 
 -- the greatest counter, 2 ^ 63 - 1
 abbrev pub max_counter : ℕ

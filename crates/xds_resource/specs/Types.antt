@@ -24,7 +24,7 @@ row Cluster = record {
   name_field = codes "name";
   proto_name_field = codes "name";
   is_complete = true;
-  rest_path = codes "/v3/discovery:clusters"
+  rest_path = codes "/v3/discovery:clusters";
 }
 row Endpoint = record {
   word = codes "endpoint";
@@ -32,7 +32,7 @@ row Endpoint = record {
   name_field = codes "clusterName";
   proto_name_field = codes "cluster_name";
   is_complete = false;
-  rest_path = codes "/v3/discovery:endpoints"
+  rest_path = codes "/v3/discovery:endpoints";
 }
 row Listener = record {
   word = codes "listener";
@@ -40,7 +40,7 @@ row Listener = record {
   name_field = codes "name";
   proto_name_field = codes "name";
   is_complete = true;
-  rest_path = codes "/v3/discovery:listeners"
+  rest_path = codes "/v3/discovery:listeners";
 }
 row Route = record {
   word = codes "route";
@@ -48,7 +48,7 @@ row Route = record {
   name_field = codes "name";
   proto_name_field = codes "name";
   is_complete = false;
-  rest_path = codes "/v3/discovery:routes"
+  rest_path = codes "/v3/discovery:routes";
 }
 
 -- the types, in the order in which a server answers them

@@ -46,9 +46,7 @@ impl AnyResource {
             TypeName::Listener => Ok(AnyResource::Listener(Resource::of_object(
                 alloc, &value, body,
             )?)),
-            TypeName::Route => Ok(AnyResource::Route(Resource::of_object(
-                alloc, &value, body,
-            )?)),
+            TypeName::Route => Ok(AnyResource::Route(Resource::of_object(alloc, &value, body)?)),
         }
     }
 

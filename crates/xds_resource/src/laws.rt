@@ -13,46 +13,39 @@ ghost use Rattle.std.specs.Prelude.{Option};
 pub fn writes_are_ordered()
     ensures total { IsTotalOrder write_cmp }
     ensures ties { (v w : StampedWrite) → write_cmp v w ≡ Equal → v ≡ w }
-{
-}
+{}
 
 /// The best of a name is the greatest write of that name, and missing only where no write has it.
 pub fn best_is_greatest()
     ensures { (ws : List StampedWrite) (name : List ℕ) → BestIsGreatest ws name }
-{
-}
+{}
 
 /// The best of two lists together follows from the best of each.
 pub fn best_of_both()
     ensures { (v w : List StampedWrite) (name : List ℕ) → BestOfBoth v w name }
-{
-}
+{}
 
 /// The best depends on which writes are there, and neither on their order nor on how often each stands there.
 pub fn best_of_the_same_writes()
     ensures { (v w : List StampedWrite) (name : List ℕ) → SameWrites v w → best v name ≡ best w name }
-{
-}
+{}
 
 /// Which of three writes is the greater doesn't depend on the order in which they are compared.
 pub fn greater_joins()
     ensures associative { (a b c : Option StampedWrite) → greater a (greater b c) ≡ greater (greater a b) c }
     ensures commutative { (a b : Option StampedWrite) → greater a b ≡ greater b a }
     ensures idempotent { (a : Option StampedWrite) → greater a a ≡ a }
-{
-}
+{}
 
 /// A version text names one stamp.
 pub fn version_names_one_stamp()
     ensures { (c w d v : ℕ) → IsStamp c w → IsStamp d v → version_text c w ≡ version_text d v
         → (c ≡ d) × (w ≡ v) }
-{
-}
+{}
 
 /// What is put at a type is there alone, and what agrees at every type is the same.
 pub fn one_type_at_a_time<X>()
     ensures puts { (p : PerType X) (t : TypeName) (x : X) → PutsAtOneType p t x }
     ensures alike { (x : X) (t : TypeName) → at (each x) t ≡ x }
     ensures same { (p q : PerType X) → ((t : TypeName) → at p t ≡ at q t) → p ≡ q }
-{
-}
+{}

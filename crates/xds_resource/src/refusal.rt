@@ -40,6 +40,9 @@ pub enum Refusal {
     /// The text is no version.
     #[error("11 BadStamp")]
     BadStamp,
+    /// A reader or a writer failed.
+    #[error("19 Device")]
+    Device,
 }
 
 impl Refusal {
@@ -61,6 +64,7 @@ impl Refusal {
             Refusal::NotFound => 9,
             Refusal::CounterSpent => 10,
             Refusal::BadStamp => 11,
+            Refusal::Device => 19,
         }
     }
 
@@ -80,6 +84,7 @@ impl Refusal {
             Refusal::NotFound => "NotFound",
             Refusal::CounterSpent => "CounterSpent",
             Refusal::BadStamp => "BadStamp",
+            Refusal::Device => "Device",
         }
     }
 }

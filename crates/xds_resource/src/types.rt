@@ -39,7 +39,8 @@ impl TypeName {
     {
         match self {
             TypeName::Cluster => "type.googleapis.com/envoy.config.cluster.v3.Cluster",
-            TypeName::Endpoint => "type.googleapis.com/envoy.config.endpoint.v3.ClusterLoadAssignment",
+            TypeName::Endpoint =>
+                "type.googleapis.com/envoy.config.endpoint.v3.ClusterLoadAssignment",
             TypeName::Listener => "type.googleapis.com/envoy.config.listener.v3.Listener",
             TypeName::Route => "type.googleapis.com/envoy.config.route.v3.RouteConfiguration",
         }

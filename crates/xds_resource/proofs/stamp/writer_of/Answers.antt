@@ -1,5 +1,5 @@
 -- The text of a number that fits is read as that number, so `parse` does not fail there, and the digits are the text's.
-use Rattle.std.proofs.Common.{rules, arith, ◌≡◌, ℕ, Some, decimal, List, true, false, nat_eq, ◌∙◌, sym}
+use Rattle.std.proofs.Common.{arith, ◌≡◌, Some, true, nat_eq, ◌∙◌, sym}
 use Rattle.std.specs.Cmp.Lexicographic.{nat_list_eq_equiv, pointwise}
 use Rattle.std.proofs.lemmas.Fmt.{parse-decimal}
 use Rattle.xds_resource.proofs.stamp.writer_of.Goals as goal

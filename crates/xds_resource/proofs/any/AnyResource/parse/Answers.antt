@@ -1,12 +1,28 @@
 use Rattle.std.proofs.Common.{Some, ap, sym, ◌∙◌}
 use Rattle.std.proofs.lemmas.Result.{err_from_is_err_and}
 use Rattle.serde_json.specs.View.{view}
-use Rattle.xds_resource.specs.declared.types.TypeName.TheVariants.{Listener, Route}
+use Rattle.xds_resource.specs.declared.types.TypeName.TheVariants.{Cluster, Endpoint, Listener, Route}
 use Rattle.xds_resource.proofs.Naming.{IsRefused-untyped, IsRefused-typed}
 use Rattle.xds_resource.proofs.any.AnyResource.parse.Goals as goal
 
 pub returns-in_default-clause-refused : goal.returns-in_default-clause-refused
 returns-in_default-clause-refused c = λ _. IsRefused-untyped c.args.text.now (view c.in_ok-value.value) c.in_ok-value.ensures.reads (sym c.in_default.ensures)
+
+pub returns-in_err-of_object-in-Cluster-clause-refused :
+    goal.returns-in_err-of_object-in-Cluster-clause-refused
+returns-in_err-of_object-in-Cluster-clause-refused c =
+    let p = err_from_is_err_and c.from_residual-in_err-of_object-in-Cluster.result c.from_residual-in_err-of_object-in-Cluster.ensures.1 in
+    rw (p.1, p.2)
+    (λ other. IsRefused-typed c.args.text.now (view c.in_ok-value.value) Cluster _ c.in_ok-value.ensures.reads (sym c.in-Some.ensures ∙ ap Some c.in-Cluster.is)
+    (c.in_err-of_object-in-Cluster.ensures.of_text c.args.text.now c.in_ok-value.ensures.reads other))
+
+pub returns-in_err-of_object-in-Endpoint-clause-refused :
+    goal.returns-in_err-of_object-in-Endpoint-clause-refused
+returns-in_err-of_object-in-Endpoint-clause-refused c =
+    let p = err_from_is_err_and c.from_residual-in_err-of_object-in-Endpoint.result c.from_residual-in_err-of_object-in-Endpoint.ensures.1 in
+    rw (p.1, p.2)
+    (λ other. IsRefused-typed c.args.text.now (view c.in_ok-value.value) Endpoint _ c.in_ok-value.ensures.reads (sym c.in-Some.ensures ∙ ap Some c.in-Endpoint.is)
+    (c.in_err-of_object-in-Endpoint.ensures.of_text c.args.text.now c.in_ok-value.ensures.reads other))
 
 pub returns-in_err-of_object-in-Listener-clause-refused :
     goal.returns-in_err-of_object-in-Listener-clause-refused
