@@ -1,5 +1,5 @@
 -- What a text is as a resource of a type, from the value that it reads as and the type that it names.
-use Rattle.std.proofs.Common.{◌≡◌, ℕ, List, Bool, true, false, Option, Some, None, Result, Ok, Err, refl, ap, sym, ◌∙◌, subst, arith}
+use Rattle.std.proofs.Common.{◌≡◌, ℕ, List, Bool, true, false, Option, Some, None, Err, refl, ap, sym, ◌∙◌, subst, arith}
 use Rattle.std.proofs.lemmas.Bool.{le-ltb}
 use Rattle.std.proofs.lemmas.Bool.Decides.{nat_tests}
 use Rattle.std.specs.Prelude.{find, bytes_eq}
@@ -13,8 +13,7 @@ use Rattle.xds_resource.specs.declared.types.TypeName.TheVariants.{Cluster, Endp
 use Rattle.xds_resource.specs.declared.refusal.Refusal.{Refusal}
 use Rattle.xds_resource.specs.declared.refusal.Refusal.TheVariants.{BadResource}
 use Rattle.xds_resource.specs.Types.{row, types, type_of_url}
-use Rattle.xds_resource.specs.Refusals.{Gives, unless_refused}
-use Rattle.xds_resource.specs.Resources.{max_text, max_nesting, from_value, NamedBody, ReadsAs, IsRefused, value_of, type_text, has_type, named_type, front_conditions, object_conditions, resource_of, from_object, parsed}
+use Rattle.xds_resource.specs.Resources.{max_text, max_nesting, from_value, ReadsAs, IsRefused, value_of, type_text, has_type, named_type, front_conditions, object_conditions, resource_of, from_object, parsed}
 use Rattle.xds_resource.proofs.Refusing.{unless_refused-append, unless_refused-value}
 
 -- a text that no type refuses is what its value is

@@ -1,5 +1,6 @@
 -- Four things of one kind, one for each resource type: catalogues, sessions, caches, marks. This project's own.
-use Rattle.std.specs.Prelude.{◌≡◌, ◌≢◌}
+use Rattle.std.specs.Prelude.{◌≡◌, ◌≢◌, refl}
+use Rattle.std.specs.Coded.{Coded, code_by, coded×}
 use Rattle.xds_resource.specs.declared.types.TypeName.{TypeName}
 use Rattle.xds_resource.specs.declared.types.TypeName.TheVariants.{Cluster, Endpoint, Listener, Route}
 
@@ -8,6 +9,11 @@ pub record PerType (X : Type 0) : Type 0 where
   pub endpoint : X
   pub listener : X
   pub route : X
+
+abbrev pub per_type_code : {X : Type 0} → Coded X → Coded (PerType X)
+per_type_code {X} x =
+    code_by (X × (X × (X × X))) (coded× x (coded× x (coded× x x))) (λ p. (p.cluster, (p.endpoint, (p.listener, p.route))))
+    (λ q. record { cluster = q.0; endpoint = q.1.0; listener = q.1.1.0; route = q.1.1.1 }) (λ _. refl)
 
 -- the one of a type
 abbrev pub at : {X : Type 0} → PerType X → TypeName → X

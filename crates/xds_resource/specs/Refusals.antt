@@ -1,5 +1,5 @@
 -- The numbered refusals, and what a call answers that may also find no memory. This project's own.
-use Rattle.std.specs.Prelude.{◌≡◌, ◌≢◌, ℕ, List, [], ◌∷◌, Bool, if◌then◌else◌, Option, Some, None, Result, Ok, Err, codes}
+use Rattle.std.specs.Prelude.{◌≡◌, ◌≢◌, ℕ, List, [], ◌∷◌, Bool, if◌then◌else◌, Result, Ok, Err, codes}
 use Rattle.xds_resource.specs.declared.refusal.Refusal.{Refusal}
 use Rattle.xds_resource.specs.declared.refusal.Refusal.TheVariants.{NotJson, TooDeep, NotWhole, BadResource, BadName, TooLong, BadMessage, OutOfMemory, NotFound, CounterSpent, BadStamp, Device}
 

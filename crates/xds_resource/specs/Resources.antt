@@ -1,6 +1,6 @@
 -- Which texts and JSON values are resources of a type, and why others are refused. A resource is the proto3 JSON form of
 -- an Any: the message's object with one more key `@type`. The limits are this project's own.
-use Rattle.std.specs.Prelude.{ℕ, ◌≡◌, ◌≤◌, List, [], ◌∷◌, ◌++◌, length, Bool, true, false, not, ◌&&◌, ◌||◌, nat_lt, bytes_eq, Option, Some, None, is_some, is_none, IsSome, MatchOption, unwrap_or, Result, Ok, Err, codes, refl}
+use Rattle.std.specs.Prelude.{ℕ, ◌≡◌, ◌≤◌, List, [], ◌∷◌, ◌++◌, length, Bool, true, false, not, ◌&&◌, nat_lt, bytes_eq, Option, Some, None, is_some, is_none, MatchOption, unwrap_or, Result, Ok, Err, codes, refl}
 use Rattle.std.specs.Coded.{Coded, code_by, coded×, coded_ℕ, coded_list}
 use Rattle.std.specs.Option.{ForSome, option_and_then, option_map_or}
 use Rattle.serde_json.specs.Data.{Data, null, boolean, number, string, array, object, depth}

@@ -1,0 +1,5 @@
+pub mod Texts
+pub mod Listed
+pub mod Choices
+pub mod SotwLaws
+pub mod DeltaLaws

@@ -1,0 +1,60 @@
+-- What the interests are, in other words: the last list, one request more, and names that a request leaves alone. This project's own.
+use Rattle.std.specs.Prelude.{◌≡◌, ◌≢◌, ℕ, List, [], ◌∷◌, ◌++◌, true, false, ◌&&◌, ◌||◌, if◌then◌else◌, Contains}
+use Rattle.std.specs.FinSet as set
+use Rattle.xds_resource.specs.declared.types.TypeName.{TypeName}
+use Rattle.xds_resource.specs.Types.{row}
+use Rattle.xds_interest.specs.Interests.{Selection, covers, star_text, is_star, has_name}
+use Rattle.xds_interest.specs.SotW.{listed, sotw_interest}
+use Rattle.xds_interest.specs.Delta.{Mention, delta_interest}
+use Rattle.xds_interest.specs.Touched.{sotw_touches, delta_touches}
+
+-- once something was named, the last list says all
+abbrev pub LastListSaysAll : Type 0
+LastListSaysAll =
+    (t : TypeName) (lists : List (List (List ℕ))) (last named : List (List ℕ)) → Contains (lists ++ last ∷ []) named → named ≢ [] → sotw_interest t (lists ++ last ∷ []) ≡ listed t last
+
+-- while requests came and none named anything, the interest is the star of a complete type, and nothing of an incomplete one
+abbrev pub WhileNothingIsNamed : Type 0
+WhileNothingIsNamed =
+    (t : TypeName) (lists : List (List (List ℕ))) → lists ≢ [] → ((names : List (List ℕ)) → Contains lists names → names ≡ [])
+    → sotw_interest t lists ≡ record { star = (row t).is_complete; names = set.empty }
+
+-- a list covers the names that it has, and its star covers all
+abbrev pub ListCoversItsNames : Type 0
+ListCoversItsNames =
+    (t : TypeName) (names : List (List ℕ)) (name : List ℕ) → covers (listed t names) name ≡ (has_name names name || ((row t).is_complete && has_name names star_text))
+
+-- one request more subscribes what it subscribes, drops what else it unsubscribes, and leaves the other names
+abbrev pub OneRequestMore : Type 0
+OneRequestMore =
+    (t : TypeName) (ms : List Mention) (m : Mention) (name : List ℕ) → is_star t name ≡ false
+    → set.contains (delta_interest t (ms ++ m ∷ [])).names name
+    ≡ (if has_name m.subscribe name then true else if has_name m.unsubscribe name then false else set.contains (delta_interest t ms).names name)
+
+-- and so it does with the star of a complete type, after the first request
+abbrev pub OneRequestMoreForTheStar : Type 0
+OneRequestMoreForTheStar =
+    (t : TypeName) (ms : List Mention) (m : Mention) → ms ≢ [] → (row t).is_complete ≡ true
+    → (delta_interest t (ms ++ m ∷ [])).star
+    ≡ (if has_name m.subscribe star_text then true else if has_name m.unsubscribe star_text then false else (delta_interest t ms).star)
+
+-- the star is no explicit name
+abbrev pub StarIsNoName : Type 0
+StarIsNoName =
+    (t : TypeName) (name : List ℕ) → is_star t name ≡ true
+    → ((lists : List (List (List ℕ))) → set.contains (sotw_interest t lists).names name ≡ false) × ((ms : List Mention) → set.contains (delta_interest t ms).names name ≡ false)
+
+-- only a complete type has the star
+abbrev pub IncompleteHasNoStar : Type 0
+IncompleteHasNoStar =
+    (t : TypeName) → (row t).is_complete ≡ false → ((lists : List (List (List ℕ))) → (sotw_interest t lists).star ≡ false) × ((ms : List Mention) → (delta_interest t ms).star ≡ false)
+
+-- a name that the step between two interests does not touch stays covered, or not covered
+abbrev pub UntouchedKeepsCover : Type 0
+UntouchedKeepsCover = (old new : Selection) (name : List ℕ) → sotw_touches old new name ≡ false → covers old name ≡ covers new name
+
+-- and so does one that a delta request after the first does not touch
+abbrev pub UntouchedKeepsCoverInDelta : Type 0
+UntouchedKeepsCoverInDelta =
+    (t : TypeName) (ms : List Mention) (m : Mention) (name : List ℕ) → ms ≢ [] → delta_touches t m name ≡ false
+    → covers (delta_interest t (ms ++ m ∷ [])) name ≡ covers (delta_interest t ms) name

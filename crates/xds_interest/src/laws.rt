@@ -1,0 +1,44 @@
+//! What interests are, as statements that the prover checks. The functions do nothing.
+ghost use Rattle.xds_interest.specs.Examples.{SotwClusters, SotwRoutes, SotwTwice, DeltaClusters, DeltaRoutes};
+ghost use Rattle.xds_interest.specs.Laws.{WhileNothingIsNamed, LastListSaysAll, ListCoversItsNames, OneRequestMore, OneRequestMoreForTheStar, StarIsNoName, IncompleteHasNoStar, UntouchedKeepsCover, UntouchedKeepsCoverInDelta};
+
+/// Streams of state of the world, worked out request by request. An empty list is the star of
+/// clusters only while nothing was named.
+pub fn sotw_examples()
+    ensures clusters { SotwClusters }
+    ensures routes { SotwRoutes }
+    ensures twice { SotwTwice }
+{}
+
+/// Delta streams, worked out request by request.
+pub fn delta_examples()
+    ensures clusters { DeltaClusters }
+    ensures routes { DeltaRoutes }
+{}
+
+/// While no list has named anything, the interest is all of a complete type and nothing of an
+/// incomplete one. Once one has, the last list says all. A list covers the names that it has,
+/// and every name if it has the star.
+pub fn sotw_lists()
+    ensures unnamed { WhileNothingIsNamed }
+    ensures last { LastListSaysAll }
+    ensures covers { ListCoversItsNames }
+{}
+
+/// One delta request more changes what it mentions, and nothing else.
+pub fn delta_requests()
+    ensures names { OneRequestMore }
+    ensures star { OneRequestMoreForTheStar }
+{}
+
+/// The star is no explicit name of a complete type, and an incomplete type has no star.
+pub fn stars()
+    ensures complete { StarIsNoName }
+    ensures incomplete { IncompleteHasNoStar }
+{}
+
+/// A name that a request does not touch stays covered, or not covered.
+pub fn untouched_keeps_cover()
+    ensures sotw { UntouchedKeepsCover }
+    ensures delta { UntouchedKeepsCoverInDelta }
+{}
