@@ -1,7 +1,8 @@
--- Four things of one kind, one for each type: what is put at a type is there alone.
-use Rattle.std.proofs.Common.{◌≡◌, ◌≢◌, refl}
+-- The types apart: which are the same, and what is put at one of them.
+use Rattle.std.proofs.Common.{◌≡◌, ◌≢◌, ◌⊎◌, inl, inr, true, false, refl}
 use Rattle.xds_resource.specs.declared.types.TypeName.{TypeName}
 use Rattle.xds_resource.specs.declared.types.TypeName.TheVariants.{Cluster, Endpoint, Listener, Route}
+use Rattle.xds_resource.specs.Types.{is_same_type}
 use Rattle.xds_resource.specs.PerType.{PerType, at, with_at, PutsAtOneType, each}
 
 module _ {X : Type 0} where
@@ -41,3 +42,28 @@ module _ {X : Type 0} where
   -- two that agree at every type are equal
   pub same_at_each_type : (p q : PerType X) → ((t : TypeName) → at p t ≡ at q t) → p ≡ q
   same_at_each_type p q agree = λ i. record { cluster = agree Cluster i; endpoint = agree Endpoint i; listener = agree Listener i; route = agree Route i }
+
+-- a type is the same as itself, and as no other
+pub is_same_type-same : (t : TypeName) → is_same_type t t ≡ true
+is_same_type-same Cluster = refl
+is_same_type-same Endpoint = refl
+is_same_type-same Listener = refl
+is_same_type-same Route = refl
+
+pub same_type : (s t : TypeName) → ((s ≡ t) × (is_same_type s t ≡ true)) ⊎ ((s ≢ t) × (is_same_type s t ≡ false))
+same_type Cluster Cluster = inl (refl, refl)
+same_type Cluster Endpoint = inr ((λ e. cc), refl)
+same_type Cluster Listener = inr ((λ e. cc), refl)
+same_type Cluster Route = inr ((λ e. cc), refl)
+same_type Endpoint Cluster = inr ((λ e. cc), refl)
+same_type Endpoint Endpoint = inl (refl, refl)
+same_type Endpoint Listener = inr ((λ e. cc), refl)
+same_type Endpoint Route = inr ((λ e. cc), refl)
+same_type Listener Cluster = inr ((λ e. cc), refl)
+same_type Listener Endpoint = inr ((λ e. cc), refl)
+same_type Listener Listener = inl (refl, refl)
+same_type Listener Route = inr ((λ e. cc), refl)
+same_type Route Cluster = inr ((λ e. cc), refl)
+same_type Route Endpoint = inr ((λ e. cc), refl)
+same_type Route Listener = inr ((λ e. cc), refl)
+same_type Route Route = inl (refl, refl)

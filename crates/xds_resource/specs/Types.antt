@@ -62,3 +62,7 @@ type_of_url url = find (λ t. bytes_eq url (row t).url) types
 -- the type that the programs call by this word
 abbrev pub type_of_word : List ℕ → Option TypeName
 type_of_word word = find (λ t. bytes_eq word (row t).word) types
+
+-- whether two types are the same: no two of them share a URL
+abbrev pub is_same_type : TypeName → TypeName → Bool
+is_same_type s t = bytes_eq (row s).url (row t).url
