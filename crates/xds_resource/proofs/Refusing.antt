@@ -1,6 +1,7 @@
 -- Conditions in a row: what holds of all of them from what holds of the first ones.
-use Rattle.std.proofs.Common.{◌≡◌, List, [], ◌∷◌, ◌++◌, Bool, true, false, cond, Result, Ok, Err, refl}
+use Rattle.std.proofs.Common.{◌≡◌, List, [], ◌∷◌, ◌++◌, Bool, true, false, cond, Result, Ok, Err, refl, ◌≢◌, ◌⊎◌, inl, inr}
 use Rattle.xds_resource.specs.declared.refusal.Refusal.{Refusal}
+use Rattle.xds_resource.specs.declared.refusal.Refusal.TheVariants.{NotJson, TooDeep, NotWhole, BadResource, BadName, TooLong, BadMessage, OutOfMemory, NotFound, CounterSpent, BadStamp, Device}
 use Rattle.xds_resource.specs.Refusals.{unless_refused}
 
 abbrev Conditions : Type 0
@@ -23,3 +24,18 @@ here false e r a d h rest = rest h
 pub unless_refused-value : {A : Type 0} (cs : Conditions) (a d : A) → unless_refused cs a ≡ Ok d → a ≡ d
 unless_refused-value [] a d h = cc
 unless_refused-value (c ∷ cs) a d h = here c.0 c.1 (unless_refused cs a) a d h (unless_refused-value cs a d)
+
+-- every refusal is `OutOfMemory`, or it isn't
+pub memory_or_not : (e : Refusal) → (e ≡ OutOfMemory) ⊎ (e ≢ OutOfMemory)
+memory_or_not NotJson = inr (λ same. cc)
+memory_or_not TooDeep = inr (λ same. cc)
+memory_or_not NotWhole = inr (λ same. cc)
+memory_or_not BadResource = inr (λ same. cc)
+memory_or_not BadName = inr (λ same. cc)
+memory_or_not TooLong = inr (λ same. cc)
+memory_or_not BadMessage = inr (λ same. cc)
+memory_or_not OutOfMemory = inl refl
+memory_or_not NotFound = inr (λ same. cc)
+memory_or_not CounterSpent = inr (λ same. cc)
+memory_or_not BadStamp = inr (λ same. cc)
+memory_or_not Device = inr (λ same. cc)

@@ -1,0 +1,23 @@
+-- How many writes of a list add or replace an entry. This project's own.
+use Rattle.std.specs.Prelude.{ℕ, ◌+◌, List, [], ◌∷◌, ◌++◌, Bool, true, Option, Some, None, if◌then◌else◌}
+use Rattle.std.specs.Ordering.{is_gt}
+use Rattle.xds_resource.specs.Writes.{StampedWrite, write_cmp}
+use Rattle.xds_resource.specs.Best.{best}
+
+-- greater than what is held, or the first
+abbrev pub surpasses : StampedWrite → Option StampedWrite → Bool
+surpasses w None = true
+surpasses w (Some held) = is_gt (write_cmp w held)
+
+-- a write that changes what is held, after the writes before it
+abbrev pub is_news : List StampedWrite → StampedWrite → Bool
+is_news before w = surpasses w (best before w.name)
+
+-- the number of writes that are greater than all before them of their name, where others came before the list
+abbrev pub changes_after : List StampedWrite → List StampedWrite → ℕ
+changes_after before [] = 0
+changes_after before (w ∷ ws) = (if is_news before w then 1 else 0) + changes_after (before ++ w ∷ []) ws
+
+-- the same, where nothing came before
+abbrev pub changes_of : List StampedWrite → ℕ
+changes_of ws = changes_after [] ws

@@ -1,0 +1,179 @@
+// The catalogue of one type.
+ghost use Rattle.std.specs.Prelude.{◌≡◌, ◌≤◌, ◌∷◌, [], map, is_some, true, IfSome, IsOk, IfOk, IfErr, OnErr, string_bytes};
+ghost use Rattle.std.specs.Option.{option_map};
+ghost use Rattle.std.specs.FinMap as finmap;
+ghost use Rattle.xds_resource.specs.Refusals.{Gives, unless_refused};
+ghost use Rattle.xds_catalogue.specs.Holdings.{nothing_held, IsCatalogue};
+ghost use Rattle.xds_resource.specs.Resources.{is_valid_name};
+ghost use Rattle.xds_catalogue.specs.Content.{content};
+ghost use Rattle.xds_catalogue.specs.Joins.{joining};
+ghost use Rattle.xds_catalogue.specs.Local.{putting, deleting, has_live, spent_conditions, next_counter};
+
+use crate::log::{add, add_all, copies, greatest_counter, newest, standing};
+use std::alloc::Global;
+use std::marker::Model;
+use xds_interest::Interest;
+use xds_resource::stamp::MAX_COUNTER;
+use xds_resource::{Refusal, Resource, ResourceType, Stamp, Write};
+
+/// The greatest write of each name of the type `T`. Deletions stay for good.
+#[derive(Drop)]
+pub struct Catalogue<T: ResourceType> {
+    // The writes that changed an entry, in the order in which they came.
+    writes: Vec<Write<T>>,
+}
+
+impl<T: ResourceType> Model for Catalogue<T> {
+    ghost use Rattle.xds_catalogue.specs.Holdings.{Holdings, holdings_code};
+    ghost use Rattle.xds_catalogue.specs.Log.{IsLog, held_by};
+
+    ghost Value = { Holdings };
+
+    ghost coded = { holdings_code };
+
+    ghost view = { λ c. held_by c.writes.items };
+
+    ghost invariant = { λ c. IsLog c.writes.items };
+}
+
+impl<T: ResourceType> Catalogue<T> {
+    /// A catalogue that holds nothing.
+    pub fn new(alloc: Global) -> Self
+        ensures { result ≡ nothing_held }
+    {
+        Self {
+            writes: Vec::new(alloc),
+        }
+    }
+
+    /// How many writes added or replaced an entry, since the catalogue was new.
+    pub fn changes(&self) -> u64
+        ensures { result ≡ self.now.changes }
+    {
+        self.writes.len() as u64
+    }
+
+    /// The write that stands under a name, be it a deletion.
+    pub fn get(&self, name: &str) -> Option<&Write<T>>
+        ensures found { option_map (λ w. w.now) result ≡ finmap.get self.now.entries name.now }
+        ensures named { IsCatalogue self.now.entries }
+    {
+        newest(&self.writes, name)
+    }
+
+    /// Joins a write: it stands if it is greater than what stands under its name. Answers by how much the
+    /// changes grew, 0 or 1.
+    pub fn join_write(&mut self, write: Write<T>) -> Result<u64, Refusal>
+        ensures joins { Gives (λ grown. (grown, self.new)) result (joining self.old (write ∷ [])) }
+        ensures memory { IfErr result (λ e. e ≡ Refusal.OutOfMemory → IsOk (joining self.old (write ∷ []))) }
+        ensures err { OnErr result (self.new ≡ self.old) }
+    {
+        add(&mut self.writes, write)
+    }
+    /// Joins writes, all or none, as one by one in their order. Answers by how much the changes grew.
+    pub fn join_all(&mut self, writes: Vec<Write<T>>) -> Result<u64, Refusal>
+        ensures joins { Gives (λ grown. (grown, self.new)) result (joining self.old writes.items) }
+        ensures err { OnErr result (self.new ≡ self.old) }
+    {
+        add_all(&mut self.writes, writes)
+    }
+
+    /// Puts a resource, as a new write even where an equal body stands. `writer` is the number of this replica,
+    /// from 1.
+    pub fn put(&mut self, resource: Resource<T>, writer: u16) -> Result<Stamp, Refusal>
+        requires { 1 ≤ writer }
+        ensures puts { Gives (λ s. (s.counter, self.new)) result (putting self.old resource writer) }
+        ensures memory { IfErr result (λ e. e ≡ Refusal.OutOfMemory → IsOk (putting self.old resource writer)) }
+        ensures writer { IfOk result (λ s. s.writer ≡ writer) }
+        ensures err { OnErr result (self.new ≡ self.old) }
+    {
+        let stamp = self.next_stamp(writer)?;
+        add(&mut self.writes, Write::put(stamp, resource))?;
+        Ok(stamp)
+    }
+
+    /// Deletes the live resource of a name; the write stays for good. `writer` is the number of this replica,
+    /// from 1.
+    pub fn delete(&mut self, name: &str, writer: u16) -> Result<Stamp, Refusal>
+        requires { 1 ≤ writer }
+        ensures deletes { Gives (λ s. (s.counter, self.new)) result (deleting self.old name.now writer) }
+        ensures memory { IfErr result (λ e. e ≡ Refusal.OutOfMemory → IsOk (deleting self.old name.now writer)) }
+        ensures writer { IfOk result (λ s. s.writer ≡ writer) }
+        ensures err { OnErr result (self.new ≡ self.old) }
+    {
+        let held = self.live_name(name).ok_or(Refusal::NotFound)?;
+        let stamp = self.next_stamp(writer)?;
+        let name = self.own_text(held)?;
+        add(&mut self.writes, Write::deletion(stamp, name))?;
+        Ok(stamp)
+    }
+
+    // The name itself, if there is a live resource of it.
+    fn live_name(&self, name: &str) -> Option<&str>
+        ensures same { IfSome result (λ n. n.now ≡ name.now) }
+        ensures valid { IfSome result (λ n. is_valid_name n.now ≡ true) }
+        ensures missing { is_some result ≡ has_live self.now.entries name.now }
+    {
+        let held = self.get(name)?;
+        held.body()?;
+        Some(held.name())
+    }
+
+    // A text of its own, from the allocator of the writes.
+    fn own_text(&self, text: &str) -> Result<String, Refusal>
+        ensures ok { IfOk result (λ s. string_bytes s ≡ text.now) }
+        ensures err { IfErr result (λ e. e ≡ Refusal.OutOfMemory) }
+    {
+        let alloc = *self.writes.allocator();
+        Ok(String::from_str(alloc, text)?)
+    }
+
+    // The stamp of the next write of this replica.
+    fn next_stamp(&self, writer: u16) -> Result<Stamp, Refusal>
+        requires { 1 ≤ writer }
+        ensures counter { Gives (λ s. s.counter) result (unless_refused (spent_conditions self.now) (next_counter self.now)) }
+        ensures writer { IfOk result (λ s. s.writer ≡ writer) }
+        ensures refused { IfErr result (λ e. e ≡ Refusal.CounterSpent) }
+    {
+        let greatest = greatest_counter(&self.writes);
+        if greatest == MAX_COUNTER || self.changes() == MAX_COUNTER {
+            return Err(Refusal::CounterSpent);
+        }
+        Ok(Stamp::new(greatest + 1, writer))
+    }
+
+    /// Every write that stands, deletions included, in ascending order of names. Refused only by `OutOfMemory`.
+    pub fn entries(&self, alloc: Global) -> Result<Vec<&Write<T>>, Refusal>
+        ensures ok { IfOk result (λ v. map (λ w. w.now) v.items ≡ finmap.values self.now.entries) }
+        ensures named { IsCatalogue self.now.entries }
+        ensures err { IfErr result (λ e. e ≡ Refusal.OutOfMemory) }
+    {
+        standing(alloc, &self.writes)
+    }
+
+    /// The live writes that a client of this interest sees, in ascending order of names. Refused only by
+    /// `OutOfMemory`.
+    pub fn content(&self, alloc: Global, interest: &Interest<T>) -> Result<Vec<&Write<T>>, Refusal>
+        ensures ok { IfOk result (λ v. map (λ w. w.now) v.items ≡ content self.now.entries interest.now) }
+        ensures err { IfErr result (λ e. e ≡ Refusal.OutOfMemory) }
+    {
+        let entries = self.entries(alloc)?;
+        let mut shown = Vec::new(alloc);
+        for write in &entries {
+            if write.body().is_some() && interest.covers(write.name()) {
+                shown.push(*write)?;
+            }
+        }
+        Ok(shown)
+    }
+
+    /// An equal catalogue, with memory of its own. Refused only by `OutOfMemory`.
+    pub fn try_copy(&self, alloc: Global) -> Result<Catalogue<T>, Refusal>
+        ensures ok { IfOk result (λ c. c ≡ self.now) }
+        ensures err { IfErr result (λ e. e ≡ Refusal.OutOfMemory) }
+    {
+        Ok(Catalogue {
+            writes: copies(alloc, &self.writes)?,
+        })
+    }
+}

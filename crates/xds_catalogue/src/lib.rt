@@ -1,0 +1,11 @@
+// What one replica holds of one resource type: the greatest write of each name.
+#![tactic(auto)]
+
+pub mod catalogue;
+pub mod laws;
+mod log;
+
+pub use catalogue::Catalogue;
+
+#[cfg(test)]
+mod tests;
