@@ -1,0 +1,5 @@
+pub mod Lists
+pub mod OneMessage
+pub mod ReadsBack
+pub mod WrittenLemmas
+pub mod StampedWriteLemmas

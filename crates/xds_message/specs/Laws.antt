@@ -1,0 +1,23 @@
+-- What holds of every message: a value spells one at most, and the object that is written for a message spells it.
+use Rattle.std.specs.Prelude.{◌≡◌, All, MatchOption, FitsSigned, ⊤}
+use Rattle.std.specs.Int.{w32}
+use Rattle.serde_json.specs.Data.{Data}
+use Rattle.xds_message.specs.Spelling.{IsObject}
+use Rattle.xds_message.specs.Messages.{Request, Response, SpellsRequest, SpellsResponse}
+use Rattle.xds_message.specs.Written.{request_object, response_object}
+
+abbrev pub SpellsOneRequest : Data → Type 0
+SpellsOneRequest d = (m n : Request) → SpellsRequest d m → SpellsRequest d n → m ≡ n
+
+abbrev pub SpellsOneResponse : Data → Type 0
+SpellsOneResponse d = (m n : Response) → SpellsResponse d m → SpellsResponse d n → m ≡ n
+
+-- a request whose error code, if it has one, is a number of 32 bits
+abbrev pub HasCodeInRange : Request → Type 0
+HasCodeInRange m = MatchOption m.error_detail ⊤ (λ f. FitsSigned w32 f.code)
+
+abbrev pub IsSpelledByItsObject : Response → Type 0
+IsSpelledByItsObject m = All IsObject m.resources → SpellsResponse (response_object m) m
+
+abbrev pub IsRequestSpelledByItsObject : Request → Type 0
+IsRequestSpelledByItsObject m = HasCodeInRange m → SpellsRequest (request_object m) m

@@ -1,0 +1,58 @@
+-- The messages of Envoy's `discovery.proto` that are exchanged here, and which JSON values spell them: the proto3 JSON
+-- mapping, of the fields that a control plane reads.
+use Rattle.std.specs.Prelude.{ℕ, ℤ, List, Option, codes}
+use Rattle.serde_json.specs.Data.{Data}
+use Rattle.xds_resource.specs.Fields.{field}
+use Rattle.xds_message.specs.Spelling.{IsObject, IsText, IsTexts, IsObjects, IsCode, IsInner}
+
+-- who asks: of Envoy's Node its id and its cluster
+pub record Identity : Type 0 where
+  pub id : List ℕ
+  pub cluster : List ℕ
+
+-- why a client rejects a response: of google.rpc.Status its code and its message
+pub record Failure : Type 0 where
+  pub code : ℤ
+  pub message : List ℕ
+
+-- a DiscoveryRequest
+pub record Request : Type 0 where
+  pub version_info : List ℕ
+  pub node : Option Identity
+  pub resource_names : List (List ℕ)
+  pub type_url : List ℕ
+  pub response_nonce : List ℕ
+  pub error_detail : Option Failure
+
+-- a DiscoveryResponse, its resources as JSON values
+pub record Response : Type 0 where
+  pub version_info : List ℕ
+  pub resources : List Data
+  pub type_url : List ℕ
+  pub nonce : List ℕ
+
+pub record SpellsIdentity (d : Data) (m : Identity) : Type 0 where
+  pub is_object : IsObject d
+  pub id : IsText (field (codes "id") (codes "id") d) m.id
+  pub cluster : IsText (field (codes "cluster") (codes "cluster") d) m.cluster
+
+pub record SpellsFailure (d : Data) (m : Failure) : Type 0 where
+  pub is_object : IsObject d
+  pub code : IsCode (field (codes "code") (codes "code") d) m.code
+  pub message : IsText (field (codes "message") (codes "message") d) m.message
+
+pub record SpellsRequest (d : Data) (m : Request) : Type 0 where
+  pub is_object : IsObject d
+  pub version_info : IsText (field (codes "versionInfo") (codes "version_info") d) m.version_info
+  pub node : IsInner SpellsIdentity (field (codes "node") (codes "node") d) m.node
+  pub resource_names : IsTexts (field (codes "resourceNames") (codes "resource_names") d) m.resource_names
+  pub type_url : IsText (field (codes "typeUrl") (codes "type_url") d) m.type_url
+  pub response_nonce : IsText (field (codes "responseNonce") (codes "response_nonce") d) m.response_nonce
+  pub error_detail : IsInner SpellsFailure (field (codes "errorDetail") (codes "error_detail") d) m.error_detail
+
+pub record SpellsResponse (d : Data) (m : Response) : Type 0 where
+  pub is_object : IsObject d
+  pub version_info : IsText (field (codes "versionInfo") (codes "version_info") d) m.version_info
+  pub resources : IsObjects (field (codes "resources") (codes "resources") d) m.resources
+  pub type_url : IsText (field (codes "typeUrl") (codes "type_url") d) m.type_url
+  pub nonce : IsText (field (codes "nonce") (codes "nonce") d) m.nonce

@@ -1,0 +1,37 @@
+// Laws of the messages. Each is a function that does nothing, whose clause is the law.
+ghost use Rattle.serde_json.specs.Data.{Data};
+ghost use Rattle.xds_resource.specs.declared.types.TypeName.{TypeName};
+ghost use Rattle.xds_resource.specs.Writes.{StampedWrite};
+ghost use Rattle.xds_message.specs.Messages.{Request, Response};
+ghost use Rattle.xds_message.specs.Laws.{SpellsOneRequest, SpellsOneResponse, IsSpelledByItsObject, IsRequestSpelledByItsObject};
+ghost use Rattle.xds_message.specs.StampedWrites.{SpellsOneWrite, IsWriteSpelledByItsObject};
+
+/// A value spells one request at most.
+pub fn a_value_spells_one_request()
+    ensures { (d : Data) → SpellsOneRequest d }
+{}
+
+/// A value spells one response at most.
+pub fn a_value_spells_one_response()
+    ensures { (d : Data) → SpellsOneResponse d }
+{}
+
+/// The object that is written for a response spells it.
+pub fn a_response_is_spelled_by_its_object()
+    ensures { (m : Response) → IsSpelledByItsObject m }
+{}
+
+/// The object of a request spells it.
+pub fn a_request_is_spelled_by_its_object()
+    ensures { (m : Request) → IsRequestSpelledByItsObject m }
+{}
+
+/// A value spells one stamped write at most.
+pub fn a_value_spells_one_write()
+    ensures { (d : Data) → SpellsOneWrite d }
+{}
+
+/// The object that is written for a stamped write spells it.
+pub fn a_write_is_spelled_by_its_object()
+    ensures { (t : TypeName) (w : StampedWrite) → IsWriteSpelledByItsObject t w }
+{}

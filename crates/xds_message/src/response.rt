@@ -1,0 +1,81 @@
+// Discovery responses.
+ghost use Rattle.std.specs.Prelude.{◌≡◌, ◌≤◌, suc, Some, false, map, string_bytes, codes, IfOk, IfErr, All};
+ghost use Rattle.serde_json.specs.Data.{Data, depth};
+ghost use Rattle.serde_json.specs.Read.{read, max_depth};
+ghost use Rattle.serde_json.specs.View.{view, members_view};
+ghost use Rattle.serde_json.specs.Written.{compact_text, has_float};
+ghost use Rattle.xds_resource.specs.Resources.{max_nesting};
+ghost use Rattle.xds_resource.specs.declared.refusal.Refusal.TheVariants.{OutOfMemory};
+ghost use Rattle.xds_message.specs.Messages.{SpellsResponse};
+ghost use Rattle.xds_message.specs.Responses.{response_of};
+ghost use Rattle.xds_message.specs.Spelling.{IsJson, IsObject};
+ghost use Rattle.xds_message.specs.Written.{response_object};
+
+use crate::fields::{copy_values, put_list, put_text};
+use serde_json::{Map, Value};
+use std::alloc::Global;
+use xds_resource::Refusal;
+
+/// What a server answers: resources of one type.
+#[derive(Drop)]
+pub struct DiscoveryResponse {
+    /// The version of the resources.
+    pub version_info: String,
+    /// The resources, each a JSON object.
+    pub resources: Vec<Value>,
+    /// The type of the resources.
+    pub type_url: String,
+    /// What the client's next request names this response by.
+    pub nonce: String,
+}
+
+impl DiscoveryResponse {
+    /// The compact text of the response's object. Its resources hold no number but whole ones.
+    pub fn write(&self, alloc: Global) -> Result<String, Refusal>
+        ensures text { IfOk result (λ s. has_float (response_object (response_of self.now)) ≡ false
+            → string_bytes s ≡ compact_text (response_object (response_of self.now))) }
+        ensures whole { IfOk result
+            (λ s. All (λ d. has_float d ≡ false) (response_of self.now).resources
+            → string_bytes s ≡ compact_text (response_object (response_of self.now))) }
+        ensures shallow { IfOk result
+            (λ s. All (λ d. depth d ≤ max_nesting) (response_of self.now).resources
+            → (depth (response_object (response_of self.now)) ≤ suc (suc max_nesting))
+            × (read (string_bytes s) ≡ Some (response_object (response_of self.now)))) }
+        ensures reads_back { IfOk result
+            (λ s. depth (response_object (response_of self.now)) ≤ max_depth
+            → read (string_bytes s) ≡ Some (response_object (response_of self.now))) }
+        ensures spelled { IfOk result (λ s. All IsObject (response_of self.now).resources
+            → depth (response_object (response_of self.now)) ≤ max_depth
+            → (d : Data) × IsJson (string_bytes s) d × SpellsResponse d (response_of self.now)) }
+        ensures refused { IfErr result (λ e. e ≡ OutOfMemory) }
+    {
+        Ok(self.to_value(alloc)?.to_string(alloc)?)
+    }
+
+    /// The response's object.
+    fn to_value(&self, alloc: Global) -> Result<Value, Refusal>
+        ensures ok { IfOk result (λ v. view v ≡ response_object (response_of self.now)) }
+        ensures refused { IfErr result (λ e. e ≡ OutOfMemory) }
+    {
+        let mut map = Map::new(alloc);
+        put_text(alloc, &mut map, "nonce", &self.nonce)?;
+        put_text(alloc, &mut map, "typeUrl", &self.type_url)?;
+        let resources = copy_values(alloc, &self.resources)?;
+        put_list(alloc, &mut map, "resources", resources)?;
+        put_text(alloc, &mut map, "versionInfo", &self.version_info)?;
+        Ok(Value::Object(map))
+    }
+
+    /// An equal response.
+    pub fn try_copy(&self, alloc: Global) -> Result<DiscoveryResponse, Refusal>
+        ensures ok { IfOk result (λ r. response_of r ≡ response_of self.now) }
+        ensures refused { IfErr result (λ e. e ≡ OutOfMemory) }
+    {
+        Ok(DiscoveryResponse {
+            version_info: String::from_str(alloc, self.version_info.as_str())?,
+            resources: copy_values(alloc, &self.resources)?,
+            type_url: String::from_str(alloc, self.type_url.as_str())?,
+            nonce: String::from_str(alloc, self.nonce.as_str())?,
+        })
+    }
+}
