@@ -1,0 +1,4 @@
+pub mod Splits
+pub mod Responding
+pub mod Taking
+pub mod Reading

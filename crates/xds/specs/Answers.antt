@@ -1,0 +1,73 @@
+-- The answer to the first request of a fresh stream, over the catalogues of the writes that came before it: Envoy's
+-- state-of-the-world response. The version and the nonce are this project's own.
+use Rattle.std.specs.Prelude.{◌≡◌, ◌≢◌, ℕ, List, [], ◌∷◌, ◌++◌, map, Bool, false, not, ◌||◌, ◌==◌, if◌then◌else◌, length, bytes_eq, Option, Some, None, codes, decimal}
+use Rattle.std.specs.List.{filter, filter_map}
+use Rattle.std.specs.Option.{option_map, option_and_then, option_map_or}
+use Rattle.serde_json.specs.Data.{Data}
+use Rattle.serde_json.specs.Written.{compact_text, has_float}
+use Rattle.xds_resource.specs.declared.types.TypeName.{TypeName}
+use Rattle.xds_resource.specs.Types.{row, type_of_url, is_same_type}
+use Rattle.xds_resource.specs.Writes.{StampedWrite}
+use Rattle.xds_resource.specs.Resources.{value_of}
+use Rattle.xds_interest.specs.Interests.{Selection}
+use Rattle.xds_interest.specs.SotW.{sotw_interest}
+use Rattle.xds_catalogue.specs.Holdings.{Holdings, nothing_held}
+use Rattle.xds_catalogue.specs.Joins.{joined}
+use Rattle.xds_catalogue.specs.Content.{content}
+use Rattle.xds_message.specs.Messages.{Request, Response}
+use Rattle.xds_message.specs.Written.{response_object}
+
+-- a write and its type
+abbrev pub TypedWrite : Type 0
+TypedWrite = TypeName × StampedWrite
+
+-- the writes of the type, in order
+abbrev pub writes_of : TypeName → List TypedWrite → List StampedWrite
+writes_of t xs = map (λ x. x.1) (filter (λ x. is_same_type x.0 t) xs)
+
+-- what is held of the type once these writes came, where nothing was held before
+abbrev pub held_of : List TypedWrite → TypeName → Holdings
+held_of xs t = joined nothing_held (writes_of t xs)
+
+-- the replica and its count of changes, and `.named` where not all resources were asked for
+abbrev pub version_info : ℕ → ℕ → Bool → List ℕ
+version_info replica changes star = decimal replica ++ 46 ∷ decimal changes ++ (if star then [] else codes ".named")
+
+-- a value whose numbers are all 64-bit integers
+abbrev pub IsWhole : Data → Type 0
+IsWhole d = has_float d ≡ false
+
+-- the objects of the writes that put one
+abbrev pub objects_of : List StampedWrite → List Data
+objects_of ws = filter_map (λ w. option_map value_of w.body) ws
+
+-- the response with this content
+abbrev pub response_with : ℕ → TypeName → ℕ → Bool → List StampedWrite → Response
+response_with replica t changes star shown = record {
+  version_info = version_info replica changes star;
+  resources = objects_of shown;
+  type_url = (row t).url;
+  nonce = codes "1"
+}
+
+-- what a fresh stream's one list of names asks for
+abbrev pub asked : TypeName → Request → Selection
+asked t m = sotw_interest t (m.resource_names ∷ [])
+
+-- A complete type is answered with its content, and an incomplete one only where there is some.
+abbrev pub response_to : ℕ → TypeName → Holdings → Request → Option Response
+response_to replica t h m =
+    if (row t).is_complete || not (length (content h.entries (asked t m)) == 0) then Some (response_with replica t h.changes (asked t m).star (content h.entries (asked t m))) else None
+
+-- a response's text, and a line feed
+abbrev pub answer_text : Option Response → List ℕ
+answer_text None = []
+answer_text (Some r) = compact_text (response_object r) ++ 10 ∷ []
+
+-- the response to a request of a type of the table, by what is held of each; to one of another type there is none
+abbrev pub response_by : ℕ → (TypeName → Holdings) → Request → Option Response
+response_by replica held m = option_and_then (λ t. response_to replica t (held t) m) (type_of_url m.type_url)
+
+-- what is written for the request, after these writes
+abbrev pub answer : ℕ → List TypedWrite → Request → List ℕ
+answer replica xs m = answer_text (response_by replica (held_of xs) m)

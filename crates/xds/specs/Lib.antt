@@ -1,0 +1,5 @@
+pub mod Lines
+pub mod Answers
+pub mod Faults
+pub mod Outcomes
+pub mod Words
