@@ -47,7 +47,7 @@ response_with replica t changes star shown = record {
   version_info = version_info replica changes star;
   resources = objects_of shown;
   type_url = (row t).url;
-  nonce = codes "1"
+  nonce = codes "1";
 }
 
 -- what a fresh stream's one list of names asks for

@@ -5,21 +5,30 @@ mod answer;
 mod catalogues;
 mod lines;
 mod run;
+#[cfg(test)]
+mod tests;
 mod words;
 
-use std::env;
-use std::io;
+use run::{run, tell_failure};
 use std::process::ExitCode;
+use std::rt::Env;
+use std::{env, io};
 
-fn main(rt: HostRuntime) -> io::Result<ExitCode> {
-    let alloc = rt.alloc();
-    let words: Vec<String> = env::args(&rt)?.collect(alloc)?;
-    let status = run::run(
-        alloc,
-        words.as_slice(),
-        &mut rt.reader(),
-        &mut rt.stdout(),
-        &mut rt.stderr(),
-    );
-    Ok(ExitCode::from(status))
+fn main(rt: HostRuntime) -> ExitCode {
+    let status = match arguments(&rt) {
+        Ok(words) => run(
+            rt.alloc(),
+            words.as_slice(),
+            &mut rt.reader(),
+            &mut rt.stdout(),
+            &mut rt.stderr(),
+        ),
+        Err(error) => tell_failure(&error, &mut rt.stderr()),
+    };
+    ExitCode::from(status)
+}
+
+// The words of the command line, the program's name first.
+fn arguments<R: Env + AllocGlobal>(rt: &R) -> io::Result<Vec<String>> {
+    Ok(env::args(rt)?.collect(rt.alloc())?)
 }

@@ -30,11 +30,11 @@ pub fn run<I: Read, O: Write, E: Write>(
     errors: &mut E,
 ) -> u8
     ensures { HasRun result (record {
-        input = I.remaining input.old;
-        output = O.contents output.old;
-        output_after = O.contents output.new;
-        errors = E.contents errors.old;
-        errors_after = E.contents errors.new
+      input = I.remaining input.old;
+      output = O.contents output.old;
+      output_after = O.contents output.new;
+      errors = E.contents errors.old;
+      errors_after = E.contents errors.new;
     }) }
 {
     match task_of(alloc, words) {
@@ -55,11 +55,11 @@ pub fn answer<I: Read, O: Write, E: Write>(
     errors: &mut E,
 ) -> io::Result<u8>
     ensures { IfOk result (λ status. HasOutcome replica status (record {
-        input = I.remaining input.old;
-        output = O.contents output.old;
-        output_after = O.contents output.new;
-        errors = E.contents errors.old;
-        errors_after = E.contents errors.new
+      input = I.remaining input.old;
+      output = O.contents output.old;
+      output_after = O.contents output.new;
+      errors = E.contents errors.old;
+      errors_after = E.contents errors.new;
     })) }
 {
     let mut bytes = Vec::new(alloc);
@@ -88,8 +88,8 @@ fn tell_fault<E: Write>(fault: LineFault, errors: &mut E) -> io::Result<()>
     writeln!(errors, "line {line}: {number} {name}")
 }
 
-// Tells that a reader or a writer failed, or that there was no memory for what came.
-fn tell_failure<E: Write>(error: &io::Error, errors: &mut E) -> u8
+/// Tells that a reader or a writer failed, or that there was no memory for what came, and answers the status.
+pub fn tell_failure<E: Write>(error: &io::Error, errors: &mut E) -> u8
     ensures { result ≡ 1 }
 {
     let refusal = if error.kind() == io::ErrorKind::OutOfMemory {

@@ -1,19 +1,23 @@
 -- A value spells one stamped write at most, and the object that is written for one spells it.
-use Rattle.std.proofs.Common.{◌≡◌, ◌≤◌, ℕ, List, [], length, Option, Some, None, Result, Ok, Err, option_map, codes, refl, sym, ap, ◌∙◌, subst}
-use Rattle.std.proofs.lemmas.Bool.{le-leb}
+use Rattle.std.proofs.Common.{◌≡◌, ◌≤◌, ℕ, List, [], length, Bool, true, false, cond, Option, IsSomeAnd, Some, None, Result, Ok, Err, option_map, codes, refl, sym, ap, ◌∙◌, subst}
+use Rattle.std.proofs.lemmas.Bool.{le-leb, ltb-false}
 use Rattle.std.specs.Option.{ForSome}
+use Rattle.std.specs.Prelude.{nat_lt}
+use Rattle.serde_json.specs.Written.{compact_text, has_float}
 use Rattle.serde_json.specs.Data.{Data, null, boolean, number, string, array, object, unsigned, depth}
 use Rattle.serde_json.specs.Find.{get}
 use Rattle.xds_resource.specs.declared.types.TypeName.{TypeName}
 use Rattle.xds_resource.specs.declared.types.TypeName.TheVariants.{Cluster, Endpoint, Listener, Route}
 use Rattle.xds_resource.specs.declared.refusal.Refusal.{Refusal}
+use Rattle.xds_resource.specs.declared.refusal.Refusal.TheVariants.{NotWhole, TooLong}
+use Rattle.xds_resource.proofs.Refusing.{unless_refused-value}
 use Rattle.xds_resource.specs.Fields.{first_of}
 use Rattle.xds_resource.specs.Types.{row, type_of_url}
 use Rattle.xds_resource.specs.Writes.{StampedWrite}
-use Rattle.xds_resource.specs.Resources.{max_text, max_nesting, NamedBody, value_of, from_object, from_value, IsCanonical}
+use Rattle.xds_resource.specs.Resources.{max_text, max_nesting, NamedBody, value_of, from_object, from_value, value_conditions, resource_of, IsCanonical}
 use Rattle.xds_resource.proofs.Naming.{from_value-from_object}
-use Rattle.xds_message.specs.Spelling.{set_value}
-use Rattle.xds_message.specs.StampedWrites.{IsBodyOf, IsBody, SpellsWrite, SpellsOneWrite, write_fields, IsWriteSpelledByItsObject}
+use Rattle.xds_message.specs.Spelling.{IsOrDefault, set_value}
+use Rattle.xds_message.specs.StampedWrites.{IsBodyOf, IsBody, SpellsWrite, SpellsOneWrite, write_fields, IsWriteSpelledByItsObject, IsReadWriteSpelledByItsObject}
 use Rattle.xds_message.proofs.OneMessage.{IsOrDefault-unique, IsSomeAnd-unique}
 use Rattle.xds_message.proofs.ReadsBack.{get_member-members_set}
 
@@ -102,3 +106,25 @@ SpellsWrite-write_object t w h stamp short =
       stamp = stamp;
       body = subst (λ o. IsBody t w.name o w.body) (sym (at (codes "body") ∙ first_of-None (option_map value_of w.body))) (IsBody-value_of t w.name w.body h.body short);
     }
+
+-- ---- a write that was read
+
+second_passed : {A : Type 0} (a b : Bool) (e f : Refusal) (r : Result A Refusal) (x : A) → cond a (Err e) (cond b (Err f) r) ≡ Ok x → b ≡ false
+second_passed true b e f r x h = cc
+second_passed false true e f r x h = cc
+second_passed false false e f r x h = refl
+
+-- the body that a value has is short
+pub short-from_value : (t : TypeName) (d : Data) (r : NamedBody) → from_value t d ≡ Ok r → length r.body ≤ max_text
+short-from_value t d r h =
+    let text = ap (λ (x : NamedBody). x.body) (unless_refused-value (value_conditions t d) (resource_of t d) r h) in
+    let passed = second_passed (has_float d) (nat_lt max_text (length (compact_text d))) NotWhole TooLong _ r h in
+    subst (λ s. length s ≤ max_text) text (ltb-false max_text (length (compact_text d)) passed)
+
+IsBody-short : (t : TypeName) (name : List ℕ) (o : Option Data) (body : Option (List ℕ)) → IsOrDefault None (λ d b. IsSomeAnd b (IsBodyOf t name d)) o body → (b : List ℕ) → body ≡ Some b → length b ≤ max_text
+IsBody-short t name None body h b is = let none = sym h ∙ is in cc
+IsBody-short t name (Some d) None h b is = absurd h
+IsBody-short t name (Some d) (Some c) h b is = subst (λ s. length s ≤ max_text) (let same = is in cc) (short-from_value t d (record { name = name; body = c }) h)
+
+pub SpellsWrite-read : (d : Data) (t : TypeName) (w : StampedWrite) → IsReadWriteSpelledByItsObject d t w
+SpellsWrite-read d t w h writable = SpellsWrite-write_object t w writable h.stamp (λ b is. IsBody-short t w.name _ w.body h.body b is)

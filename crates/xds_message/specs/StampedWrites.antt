@@ -49,3 +49,7 @@ SpellsOneWrite d = (s t : TypeName) (v w : StampedWrite) → SpellsWrite d s v �
 -- The object of a write spells it, if the body is no longer than a resource's may be.
 abbrev pub IsWriteSpelledByItsObject : TypeName → StampedWrite → Type 0
 IsWriteSpelledByItsObject t w = IsWritable t w → IsStamp w.counter w.writer → ForSome w.body (λ b. length b ≤ max_text) → SpellsWrite (write_object t w) t w
+
+-- The object of a write that a value spells spells it again.
+abbrev pub IsReadWriteSpelledByItsObject : Data → TypeName → StampedWrite → Type 0
+IsReadWriteSpelledByItsObject d t w = SpellsWrite d t w → IsWritable t w → SpellsWrite (write_object t w) t w

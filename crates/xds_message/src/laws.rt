@@ -4,7 +4,7 @@ ghost use Rattle.xds_resource.specs.declared.types.TypeName.{TypeName};
 ghost use Rattle.xds_resource.specs.Writes.{StampedWrite};
 ghost use Rattle.xds_message.specs.Messages.{Request, Response};
 ghost use Rattle.xds_message.specs.Laws.{SpellsOneRequest, SpellsOneResponse, IsSpelledByItsObject, IsRequestSpelledByItsObject};
-ghost use Rattle.xds_message.specs.StampedWrites.{SpellsOneWrite, IsWriteSpelledByItsObject};
+ghost use Rattle.xds_message.specs.StampedWrites.{SpellsOneWrite, IsWriteSpelledByItsObject, IsReadWriteSpelledByItsObject};
 
 /// A value spells one request at most.
 pub fn a_value_spells_one_request()
@@ -31,7 +31,12 @@ pub fn a_value_spells_one_write()
     ensures { (d : Data) → SpellsOneWrite d }
 {}
 
-/// The object that is written for a stamped write spells it.
+/// The object that is written for a stamped write spells it, if its body is no longer than a resource's may be.
 pub fn a_write_is_spelled_by_its_object()
     ensures { (t : TypeName) (w : StampedWrite) → IsWriteSpelledByItsObject t w }
+{}
+
+/// The object that is written for a stamped write that was read spells it.
+pub fn a_write_that_was_read_is_spelled_by_its_object()
+    ensures { (d : Data) (t : TypeName) (w : StampedWrite) → IsReadWriteSpelledByItsObject d t w }
 {}

@@ -1,0 +1,71 @@
+#!/usr/bin/env python3
+"""Times `xds answer` over N stamped writes of about 1 KB each, and prints its peak memory.
+
+    python3 bench/answer.py PROGRAM [N ..]
+
+PROGRAM is the built program (crates/xds/out/xds after `rt run` in crates/xds); N is 1000 and 10000 if left out.
+Every write is of a name of its own, and the request asks for all of them, so that everything is read, kept and
+written. The input is made anew each time and kept in memory.
+"""
+import json
+import os
+import resource
+import subprocess
+import sys
+import time
+
+URL = "type.googleapis.com/envoy.config.cluster.v3.Cluster"
+
+
+def writes(count):
+    """The input: `count` writes of about 1 KB, and a request for all of them."""
+    lines = []
+    for number in range(count):
+        name = "cluster-%06d" % number
+        body = {
+            "@type": URL,
+            "name": name,
+            "connectTimeout": "0.250s",
+            "metadata": {"filterMetadata": {"owner": {"team": "t" * 650, "number": number}}},
+        }
+        write = {"typeUrl": URL, "name": name, "counter": number + 1, "writer": 1 + number % 2, "body": body}
+        lines.append(json.dumps(write, separators=(",", ":")))
+    lines.append(json.dumps({"typeUrl": URL}, separators=(",", ":")))
+    return ("\n".join(lines) + "\n").encode()
+
+
+def measure(program, data):
+    """Seconds, peak memory in bytes and the output of one run, in a process of its own."""
+    start = time.monotonic()
+    child = subprocess.Popen([program, "answer"], stdin=subprocess.PIPE, stdout=subprocess.PIPE)
+    output, _ = child.communicate(data)
+    seconds = time.monotonic() - start
+    if child.returncode != 0:
+        sys.exit("the program ended with status %d" % child.returncode)
+    return seconds, output
+
+
+def one(program, count):
+    data = writes(count)
+    seconds, output = measure(program, data)
+    peak = resource.getrusage(resource.RUSAGE_CHILDREN).ru_maxrss * 1024
+    found = len(json.loads(output)["resources"])
+    assert found == count, found
+    print("%6d writes, %6.1f MB in, %6.1f MB out: %7.2f s, peak %7.1f MB (%.1f times the input)"
+          % (count, len(data) / 1e6, len(output) / 1e6, seconds, peak / 1e6, peak / len(data)))
+
+
+def main():
+    if len(sys.argv) < 2:
+        sys.exit(__doc__)
+    program = os.path.abspath(sys.argv[1])
+    for count in [int(word) for word in sys.argv[2:]] or [1000, 10000]:
+        # each size in a process of its own, so that the peak is that size's
+        if os.fork() == 0:
+            one(program, count)
+            os._exit(0)
+        if os.wait()[1] != 0:
+            sys.exit(1)
+
+
+main()
