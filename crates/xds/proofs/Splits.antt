@@ -1,6 +1,6 @@
 -- The pieces between line feeds, from the first feed that comes.
-use Rattle.std.proofs.Common.{◌≡◌, ◌≢◌, ℕ, zero, suc, ◌+◌, ◌<◌, ◌==◌, List, [], ◌∷◌, length, get_or, take, drop, Bool, true, false, cond, refl, ap, sym, ◌∙◌, arith, add-one, ne_eqb}
-use Rattle.xds.specs.Lines.{feed, onto_first, pieces}
+use Rattle.std.proofs.Common.{◌≡◌, ℕ, zero, suc, ◌<◌, List, [], ◌∷◌, length, get_or, take, drop, refl, ap, ◌∙◌, arith, ne_eqb}
+use Rattle.xds.specs.Lines.{onto_first, pieces}
 
 at_feed : (b : ℕ) (bs : List ℕ) → b ≡ 10 → pieces (b ∷ bs) ≡ [] ∷ pieces bs
 at_feed b bs e = rw e refl

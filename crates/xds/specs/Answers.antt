@@ -1,8 +1,8 @@
 -- The answer to the first request of a fresh stream, over the catalogues of the writes that came before it: Envoy's
 -- state-of-the-world response. The version and the nonce are this project's own.
-use Rattle.std.specs.Prelude.{◌≡◌, ◌≢◌, ℕ, List, [], ◌∷◌, ◌++◌, map, Bool, false, not, ◌||◌, ◌==◌, if◌then◌else◌, length, bytes_eq, Option, Some, None, codes, decimal}
+use Rattle.std.specs.Prelude.{◌≡◌, ℕ, List, [], ◌∷◌, ◌++◌, map, Bool, false, not, ◌||◌, ◌==◌, if◌then◌else◌, length, Option, Some, None, codes, decimal}
 use Rattle.std.specs.List.{filter, filter_map}
-use Rattle.std.specs.Option.{option_map, option_and_then, option_map_or}
+use Rattle.std.specs.Option.{option_map, option_and_then}
 use Rattle.serde_json.specs.Data.{Data}
 use Rattle.serde_json.specs.Written.{compact_text, has_float}
 use Rattle.xds_resource.specs.declared.types.TypeName.{TypeName}

@@ -1,7 +1,6 @@
 use Rattle.std.proofs.lemmas.Result.{on_ok_weaker, MatchResult-weaker}
 use Rattle.xds_resource.specs.Any.{write_type, stamped_write}
 use Rattle.xds_resource.specs.PerType.{at}
-use Rattle.xds.specs.Faults.{RefusesWrite}
 use Rattle.xds.proofs.Taking.{after_ok, after_err, RefusesWrite-joining}
 use Rattle.xds.proofs.answer.take_write.Goals as goal
 
