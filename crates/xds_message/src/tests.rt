@@ -102,6 +102,8 @@ fn refuses_what_is_no_request(rt: HostRuntime) -> Result<(), Fail> {
         ("", Refusal::NotJson),
         ("{\"typeUrl\":\"t\",}", Refusal::NotJson),
         ("{} {}", Refusal::NotJson),
+        ("{\"x\":\"\\ud800\"}", Refusal::NotJson),
+        ("{\"x\":1e400}", Refusal::NotJson),
     ] {
         assert_eq!(rt; rewritten(rt.alloc(), text).err(), Some(want), "at {text}");
     }
@@ -115,6 +117,23 @@ fn refuses_what_is_no_json(rt: HostRuntime) -> Result<(), Fail> {
     let brackets = vec![in rt.alloc(); b'['; 10000]?;
     let deep = DiscoveryRequest::read(rt.alloc(), &brackets);
     assert_eq!(rt; deep.err(), Some(Refusal::NotJson));
+    Ok(())
+}
+
+#[test]
+fn unknown_fields_nest_as_deep_as_json_may(rt: HostRuntime) -> Result<(), Fail> {
+    let alloc = rt.alloc();
+    for (deep, want) in [(126, None), (127, Some(Refusal::NotJson))] {
+        let mut text = String::from_str(alloc, "{\"x\":")?;
+        for _ in 0..deep {
+            text.push_str("[")?;
+        }
+        for _ in 0..deep {
+            text.push_str("]")?;
+        }
+        text.push_str("}")?;
+        assert_eq!(rt; rewritten(alloc, text.as_str()).err(), want, "{deep}");
+    }
     Ok(())
 }
 

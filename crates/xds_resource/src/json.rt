@@ -87,7 +87,7 @@ fn members_are_whole(members: &Map<String, Value>) -> bool
 }
 
 /// What a field holds, under either spelling of its name. Where both stand, the lowerCamelCase one counts.
-pub fn field<'a>(value: &'a Value, camel: &str, proto: &str) -> Option<&'a Value>
+pub(crate) fn field<'a>(value: &'a Value, camel: &str, proto: &str) -> Option<&'a Value>
     ensures { option_map (λ v. view v.now) result ≡ field_of camel.now proto.now (view value.now) }
 {
     match value.get(camel) {

@@ -2,7 +2,7 @@
 #![tactic(auto)]
 
 pub mod any;
-pub mod json;
+mod json;
 pub mod laws;
 pub mod refusal;
 pub mod resource;
