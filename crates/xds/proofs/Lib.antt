@@ -2,3 +2,8 @@ pub mod Splits
 pub mod Responding
 pub mod Taking
 pub mod Reading
+pub mod Writing
+pub mod Telling
+pub mod CommandLine
+pub mod RightWords
+pub mod OnlyRight

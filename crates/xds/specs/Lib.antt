@@ -1,5 +1,7 @@
 pub mod Lines
 pub mod Answers
 pub mod Faults
-pub mod Outcomes
+pub mod Devices
 pub mod Words
+pub mod CommandLine
+pub mod Outcomes

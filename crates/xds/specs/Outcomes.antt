@@ -1,46 +1,81 @@
--- What a run of `xds answer` leaves on its output and its error output. This project's own.
-use Rattle.std.specs.Prelude.{◌≡◌, ◌⊎◌, ◌≤◌, ℕ, List, ◌++◌, Option, IfSome, codes, decimal}
-use Rattle.std.specs.Io.KnownBytes.{Keeps, Appends}
+-- What a run of the program leaves on its output and its error output, and its status. This project's own.
+use Rattle.std.specs.Prelude.{◌≡◌, ◌⊎◌, ℕ, List, ◌++◌, IfSome, codes, decimal}
+use Rattle.clap.specs.declared.error.kind.ErrorKind.{ErrorKind}
+use Rattle.clap.specs.declared.error.kind.ErrorKind.TheVariants.{DisplayHelp, DisplayVersion}
+use Rattle.clap.specs.Words.{IsAmong}
 use Rattle.xds_resource.specs.declared.refusal.Refusal.{Refusal}
+use Rattle.xds_resource.specs.declared.refusal.Refusal.TheVariants.{Device as DeviceRefusal, OutOfMemory}
 use Rattle.xds_resource.specs.Refusals.{number_of, name_of}
 use Rattle.xds.specs.Faults.{IsAnswer, IsFault}
+use Rattle.xds.specs.Devices.{Device, HasFailed, Stays, Tells, Wrote}
+use Rattle.xds.specs.Words.{AsksAnswer, Text}
+use Rattle.xds.specs.CommandLine.{faults}
+
+-- how a refusal is told
+abbrev pub refusal_text : Refusal → List ℕ
+refusal_text refusal = decimal (number_of refusal) ++ codes " " ++ name_of refusal ++ codes "\n"
 
 -- how a refused line is told
 abbrev pub fault_text : ℕ → Refusal → List ℕ
-fault_text line refusal = codes "line " ++ decimal line ++ codes ": " ++ decimal (number_of refusal) ++ codes " " ++ name_of refusal ++ codes "\n"
+fault_text line refusal = codes "line " ++ decimal line ++ codes ": " ++ refusal_text refusal
 
--- what a reader has left, and what two writers hold before and after, as far as that is known
+-- the reader, the output and the error output of a run
 pub record Streams : Type 0 where
-  pub input : Option (List ℕ)
-  pub output : Option (List ℕ)
-  pub output_after : Option (List ℕ)
-  pub errors : Option (List ℕ)
-  pub errors_after : Option (List ℕ)
+  pub input : Device
+  pub output : Device
+  pub errors : Device
 
 -- the answer is written, and no more
-pub record IsAnswered (replica : ℕ) (input : List ℕ) (s : Streams) : Type 0 where
+pub record IsAnswered (replica : ℕ) (input : List ℕ) (output : Device) : Type 0 where
   pub answer : List ℕ
   pub is_answer : IsAnswer replica input answer
-  pub written : Appends s.output s.output_after answer
-  pub quiet : Keeps s.errors s.errors_after
+  pub written : Wrote output answer
 
--- the first line that is refused is told, and nothing is written
-pub record IsRefused (input : List ℕ) (s : Streams) : Type 0 where
+-- the first line that is refused is told
+pub record IsRefused (input : List ℕ) (errors : Device) : Type 0 where
   pub line : ℕ
   pub refusal : Refusal
   pub is_fault : IsFault input line refusal
-  pub written : Keeps s.output s.output_after
-  pub told : Appends s.errors s.errors_after (fault_text line refusal)
+  pub told : Tells errors (fault_text line refusal)
 
--- Status 0 comes with the answer, and status 1 with the line that is refused.
+-- Status 0 comes with the answer, and status 1 with the line that is refused and no output.
 abbrev pub HasOutcome : ℕ → ℕ → Streams → Type 0
-HasOutcome replica status s = IfSome s.input (λ input. ((status ≡ 0) × IsAnswered replica input s) ⊎ ((status ≡ 1) × IsRefused input s))
+HasOutcome replica status s = IfSome s.input.before (λ input.
+    ((status ≡ 0) × IsAnswered replica input s.output × Stays s.errors) ⊎ ((status ≡ 1) × IsRefused input s.errors × Stays s.output))
 
--- No answer is given: the help that was asked for is shown, a reader or a writer failed or there was no memory, or the
--- words are wrong, and then nothing is written.
-abbrev pub IsAside : ℕ → Streams → Type 0
-IsAside status s = (status ≡ 0) ⊎ ((status ≡ 1) ⊎ ((status ≡ 2) × Keeps s.output s.output_after))
+-- There was no memory, or a device failed: the refusal says which.
+abbrev pub IsCause : Refusal → Device → Device → Type 0
+IsCause refusal input output = (refusal ≡ OutOfMemory) ⊎ ((refusal ≡ DeviceRefusal) × (HasFailed input ⊎ HasFailed output))
 
--- A run answers as some replica, or gives no answer.
-abbrev pub HasRun : ℕ → Streams → Type 0
-HasRun status s = ((replica : ℕ) × (1 ≤ replica) × (replica ≤ 65535) × HasOutcome replica status s) ⊎ IsAside status s
+-- The run can't go on, and tells why. The output stays, unless a call of it failed.
+pub record IsUnable (status : ℕ) (s : Streams) : Type 0 where
+  pub refusal : Refusal
+  pub is_cause : IsCause refusal s.input s.output
+  pub output : Stays s.output ⊎ HasFailed s.output
+  pub told : Tells s.errors (refusal_text refusal)
+  pub status_is : status ≡ 1
+
+-- `xds answer` as this replica has its outcome, or can't go on
+abbrev pub RunsAnswer : ℕ → ℕ → Streams → Type 0
+RunsAnswer replica status s = HasOutcome replica status s ⊎ IsUnable status s
+
+-- the words call for help, or for the version
+abbrev pub IsCall : ErrorKind → Type 0
+IsCall kind = (kind ≡ DisplayHelp) ⊎ (kind ≡ DisplayVersion)
+
+-- Help goes to the output, with status 0; what is wrong with the words goes to the error output, with status 2.
+abbrev pub IsShown : ErrorKind → ℕ → Device → Device → Type 0
+IsShown kind status output errors = (IsCall kind × (status ≡ 0) × Stays errors) ⊎ ((IsCall kind → ⊥) × (status ≡ 2) × Stays output)
+
+-- The words ask for no answer: they call for help, or they are wrong. The input isn't read.
+pub record IsAside (words : List Text) (status : ℕ) (s : Streams) : Type 0 where
+  pub kind : ErrorKind
+  pub is_fault : IsAmong kind (faults words)
+  pub asks_none : (replica : ℕ) → AsksAnswer words replica → ⊥
+  pub unread : Stays s.input
+  pub shown : IsShown kind status s.output s.errors
+
+-- A run whose words ask for an answer gives it, or tells the line that is refused; other words get help, or are told to
+-- be wrong; and any run may be unable to go on.
+abbrev pub HasRun : List Text → ℕ → Streams → Type 0
+HasRun words status s = ((replica : ℕ) × AsksAnswer words replica × HasOutcome replica status s) ⊎ (IsAside words status s ⊎ IsUnable status s)

@@ -3,27 +3,36 @@
 
 mod answer;
 mod catalogues;
+mod counted;
 mod lines;
 mod run;
 #[cfg(test)]
 mod tests;
 mod words;
 
-use run::{run, tell_failure};
+use counted::{Counted, write_whole};
+use run::{WRONG_WORDS, run, tell};
+use std::io::ErrorKind;
 use std::process::ExitCode;
 use std::rt::Env;
 use std::{env, io};
+use xds_resource::Refusal;
 
 fn main(rt: HostRuntime) -> ExitCode {
+    let mut errors = Counted::new(rt.stderr());
     let status = match arguments(&rt) {
         Ok(words) => run(
             rt.alloc(),
             words.as_slice(),
-            &mut rt.reader(),
-            &mut rt.stdout(),
-            &mut rt.stderr(),
+            &mut Counted::new(rt.reader()),
+            &mut Counted::new(rt.stdout()),
+            &mut errors,
         ),
-        Err(error) => tell_failure(&error, &mut rt.stderr()),
+        Err(error) if error.kind() == ErrorKind::InvalidData => {
+            let _ = write_whole(&mut errors, b"error: a word is not UTF-8\n");
+            WRONG_WORDS
+        }
+        Err(_) => tell(Refusal::OutOfMemory, &mut errors),
     };
     ExitCode::from(status)
 }

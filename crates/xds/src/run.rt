@@ -1,13 +1,14 @@
 // A run of the program, over the reader and the writers that it is given.
-ghost use Rattle.std.specs.Prelude.{◌≡◌, ◌⊎◌, IfOk, OnOk};
-ghost use Rattle.std.specs.Io.KnownBytes.{Appends, Keeps};
-ghost use Rattle.xds.specs.Outcomes.{HasOutcome, HasRun, fault_text};
+ghost use Rattle.std.specs.Prelude.{◌≡◌, ◌≢◌, ◌⊎◌, map, string_bytes};
+ghost use Rattle.clap.specs.Words.{kind_of};
+ghost use Rattle.xds.specs.Devices.{Device, Tells, seen};
+ghost use Rattle.xds.specs.Outcomes.{HasRun, IsShown, IsUnable, RunsAnswer, fault_text, refusal_text};
 
 use crate::answer::{LineFault, answer_lines};
+use crate::counted::{Counted, read_whole, write_whole};
 use crate::words::{Task, task_of};
 use clap::error::ErrorKind;
 use std::alloc::Global;
-use std::io;
 use std::io::{Read, Write};
 use xds_resource::Refusal;
 
@@ -25,24 +26,19 @@ pub const WRONG_WORDS: u8 = 2;
 pub fn run<I: Read, O: Write, E: Write>(
     alloc: Global,
     words: &[String],
-    input: &mut I,
-    output: &mut O,
-    errors: &mut E,
+    input: &mut Counted<I>,
+    output: &mut Counted<O>,
+    errors: &mut Counted<E>,
 ) -> u8
-    ensures { HasRun result (record {
-      input = I.remaining input.old;
-      output = O.contents output.old;
-      output_after = O.contents output.new;
-      errors = E.contents errors.old;
-      errors_after = E.contents errors.new;
+    ensures { HasRun (map string_bytes words.now) result (record {
+      input = seen I.remaining input.old input.new;
+      output = seen O.contents output.old output.new;
+      errors = seen E.contents errors.old errors.new;
     }) }
 {
     match task_of(alloc, words) {
-        Ok(Task::Answer { replica }) => match answer(alloc, replica, input, output, errors) {
-            Ok(status) => status,
-            Err(error) => tell_failure(&error, errors),
-        },
-        Err(error) => show(&error, output, errors),
+        Ok(Task::Answer { replica }) => answer(alloc, replica, input, output, errors),
+        Err(error) => show(alloc, &error, output, errors),
     }
 }
 
@@ -50,74 +46,94 @@ pub fn run<I: Read, O: Write, E: Write>(
 pub fn answer<I: Read, O: Write, E: Write>(
     alloc: Global,
     replica: u16,
-    input: &mut I,
-    output: &mut O,
-    errors: &mut E,
-) -> io::Result<u8>
-    ensures { IfOk result (λ status. HasOutcome replica status (record {
-      input = I.remaining input.old;
-      output = O.contents output.old;
-      output_after = O.contents output.new;
-      errors = E.contents errors.old;
-      errors_after = E.contents errors.new;
-    })) }
+    input: &mut Counted<I>,
+    output: &mut Counted<O>,
+    errors: &mut Counted<E>,
+) -> u8
+    ensures { RunsAnswer replica result (record {
+      input = seen I.remaining input.old input.new;
+      output = seen O.contents output.old output.new;
+      errors = seen E.contents errors.old errors.new;
+    }) }
 {
-    let mut bytes = Vec::new(alloc);
-    input.read_to_end(&mut bytes)?;
+    let bytes = match read_whole(alloc, input) {
+        Ok(bytes) => bytes,
+        Err(refusal) => return tell(refusal, errors),
+    };
     match answer_lines(alloc, replica, bytes.as_slice()) {
-        Ok(text) => {
-            output.write_all(text.as_slice())?;
-            output.flush()?;
-            Ok(DONE)
-        }
-        Err(fault) => {
-            tell_fault(fault, errors)?;
-            Ok(REFUSED)
-        }
+        Ok(text) => match write_whole(output, text.as_slice()) {
+            Ok(()) => DONE,
+            Err(refusal) => tell(refusal, errors),
+        },
+        Err(fault) => tell_fault(alloc, fault, errors),
     }
 }
 
-// Tells which line is refused.
-fn tell_fault<E: Write>(fault: LineFault, errors: &mut E) -> io::Result<()>
-    ensures { OnOk result
-        (Appends (E.contents errors.old) (E.contents errors.new) (fault_text fault.line fault.refusal)) }
+/// Tells that there was no memory, or that a reader or a writer failed, and answers the status.
+pub fn tell<E: Write>(refusal: Refusal, errors: &mut Counted<E>) -> u8
+    requires { (refusal ≡ Refusal.OutOfMemory) ⊎ (refusal ≡ Refusal.Device) }
+    ensures told { Tells (seen E.contents errors.old errors.new) (refusal_text refusal) }
+    ensures status { result ≡ 1 }
+{
+    let _ = write_whole(errors, refusal_line(refusal).as_bytes());
+    REFUSED
+}
+
+// The refusal in words, without a need for memory.
+fn refusal_line(refusal: Refusal) -> &'static str
+    requires { (refusal ≡ Refusal.OutOfMemory) ⊎ (refusal ≡ Refusal.Device) }
+    ensures { result.now ≡ refusal_text refusal }
+{
+    match refusal {
+        Refusal::Device => "19 Device\n",
+        _ => "8 OutOfMemory\n",
+    }
+}
+
+// Tells which line is refused, or that there was no memory to say so.
+fn tell_fault<E: Write>(alloc: Global, fault: LineFault, errors: &mut Counted<E>) -> u8
+    ensures told { Tells (seen E.contents errors.old errors.new) (fault_text fault.line fault.refusal)
+        ⊎ Tells (seen E.contents errors.old errors.new) (refusal_text Refusal.OutOfMemory) }
+    ensures status { result ≡ 1 }
 {
     let line = fault.line;
     let number = fault.refusal.number();
     let name = fault.refusal.name();
-    writeln!(errors, "line {line}: {number} {name}")
-}
-
-/// Tells that a reader or a writer failed, or that there was no memory for what came, and answers the status.
-pub fn tell_failure<E: Write>(error: &io::Error, errors: &mut E) -> u8
-    ensures { result ≡ 1 }
-{
-    let refusal = if error.kind() == io::ErrorKind::OutOfMemory {
-        Refusal::OutOfMemory
-    } else {
-        Refusal::Device
-    };
-    let number = refusal.number();
-    let name = refusal.name();
-    let _ = writeln!(errors, "{number} {name}");
-    REFUSED
+    match format!(in alloc; "line {line}: {number} {name}\n") {
+        Ok(text) => {
+            let _ = write_whole(errors, text.as_bytes());
+            REFUSED
+        }
+        Err(_) => tell(Refusal::OutOfMemory, errors),
+    }
 }
 
 // Shows help, or what is wrong with the words.
-fn show<O: Write, E: Write>(error: &clap::Error, output: &mut O, errors: &mut E) -> u8
-    ensures { (result ≡ 0) ⊎ ((result ≡ 1) ⊎ ((result ≡ 2) × Keeps (O.contents output.old) (O.contents output.new))) }
+fn show<O: Write, E: Write>(
+    alloc: Global,
+    error: &clap::Error,
+    output: &mut Counted<O>,
+    errors: &mut Counted<E>,
+) -> u8
+    ensures { (input : Device) → IsUnable result (record {
+      input = input;
+      output = seen O.contents output.old output.new;
+      errors = seen E.contents errors.old errors.new;
+    }) ⊎ ((kind_of error.now ≢ ErrorKind.OutOfMemory)
+        × IsShown (kind_of error.now) result (seen O.contents output.old output.new) (seen E.contents errors.old errors.new)) }
 {
     if error.kind() == ErrorKind::OutOfMemory {
-        let _ = writeln!(errors, "8 OutOfMemory");
-        return REFUSED;
+        return tell(Refusal::OutOfMemory, errors);
     }
+    let Ok(text) = format!(in alloc; "{error}") else {
+        return tell(Refusal::OutOfMemory, errors);
+    };
     if error.use_stderr() {
-        let _ = write!(errors, "{error}");
-        WRONG_WORDS
-    } else {
-        match write!(output, "{error}") {
-            Ok(()) => DONE,
-            Err(failure) => tell_failure(&failure, errors),
-        }
+        let _ = write_whole(errors, text.as_bytes());
+        return WRONG_WORDS;
+    }
+    match write_whole(output, text.as_bytes()) {
+        Ok(()) => DONE,
+        Err(refusal) => tell(refusal, errors),
     }
 }

@@ -1,5 +1,6 @@
 // Worked runs of the program, over readers and writers in memory and over some that fail.
 use crate::answer::{LineFault, answer_lines};
+use crate::counted::Counted;
 use crate::run::run;
 use std::alloc::Global;
 use std::io;
@@ -44,12 +45,18 @@ fn words(alloc: Global, given: &str) -> Result<Vec<String>, Fail> {
 // What a run over these bytes writes to its output and its error output, and its status.
 fn outcome(alloc: Global, given: &str, input: &[u8]) -> Result<(String, String, u8), Fail> {
     let words = words(alloc, given)?;
-    let mut rest = input;
-    let mut output = Vec::new(alloc);
-    let mut errors = Vec::new(alloc);
-    let status = run(alloc, words.as_slice(), &mut rest, &mut output, &mut errors);
-    let output = String::from_utf8(output).ok().ok_or("output")?;
-    let errors = String::from_utf8(errors).ok().ok_or("errors")?;
+    let mut input = Counted::new(input);
+    let mut output = Counted::new(Vec::new(alloc));
+    let mut errors = Counted::new(Vec::new(alloc));
+    let status = run(
+        alloc,
+        words.as_slice(),
+        &mut input,
+        &mut output,
+        &mut errors,
+    );
+    let output = String::from_utf8(output.inner).ok().ok_or("output")?;
+    let errors = String::from_utf8(errors.inner).ok().ok_or("errors")?;
     Ok((output, errors, status))
 }
 
@@ -232,49 +239,116 @@ fn the_first_bad_line_is_told(rt: HostRuntime) -> Result<(), Fail> {
 }
 
 #[test]
-fn words_are_looked_at_first(rt: HostRuntime) -> Result<(), Fail> {
+fn wrong_words_are_told_before_any_input(rt: HostRuntime) -> Result<(), Fail> {
     let alloc = rt.alloc();
     for given in [
         "",
         "play",
+        "-- answer",
+        "--replica 1 answer",
+        "help nothing",
         "answer extra",
+        "answer -- extra",
+        "answer -x",
         "answer --replica",
         "answer --replica 0",
         "answer --replica 65536",
         "answer --replica x",
+        "answer --replica=",
+        "answer --replica=0",
+        "answer --replica=-1",
         "answer --replica 1 --replica 2",
-        "--replica 1 answer",
+        "answer --replica=1 --replica",
     ] {
         let words = words(alloc, given)?;
-        let mut rest = b"{}".as_slice();
-        let mut output = Vec::new(alloc);
-        let mut errors = Vec::new(alloc);
-        let status = run(alloc, words.as_slice(), &mut rest, &mut output, &mut errors);
+        let mut input = Counted::new(b"{}".as_slice());
+        let mut output = Counted::new(Vec::new(alloc));
+        let mut errors = Counted::new(Vec::new(alloc));
+        let status = run(
+            alloc,
+            words.as_slice(),
+            &mut input,
+            &mut output,
+            &mut errors,
+        );
         assert_eq!(rt; status, 2, "{given}");
-        assert_eq!(rt; rest.len(), 2, "{given}");
-        assert!(rt; output.is_empty() && !errors.is_empty(), "{given}");
-    }
-    for given in ["--help", "answer --help"] {
-        let (output, errors, status) = outcome(alloc, given, b"")?;
-        assert_eq!(rt; status, 0);
-        assert!(rt; output.as_str().contains("answer") && errors.is_empty());
+        assert_eq!(rt; input.inner.len(), 2, "{given}");
+        assert!(rt;
+            output.inner.is_empty() && !errors.inner.is_empty(),
+            "{given}"
+        );
     }
     Ok(())
 }
 
-// A reader and a writer that fail.
-#[derive(Drop)]
-struct Broken;
+#[test]
+fn help_goes_to_the_output(rt: HostRuntime) -> Result<(), Fail> {
+    let alloc = rt.alloc();
+    for given in [
+        "-h",
+        "--help",
+        "help",
+        "help answer",
+        "answer -h",
+        "answer --help",
+    ] {
+        let (output, errors, status) = outcome(alloc, given, b"")?;
+        assert_eq!(rt; status, 0, "{given}");
+        assert!(rt;
+            output.as_str().contains("answer") && errors.is_empty(),
+            "{given}"
+        );
+    }
+    Ok(())
+}
 
-impl Read for Broken {
+#[test]
+fn right_words_name_the_replica(rt: HostRuntime) -> Result<(), Fail> {
+    let alloc = rt.alloc();
+    let input = written_out(alloc, "{\"typeUrl\":\"CDS\"}\n")?;
+    for (given, replica) in [
+        ("answer", 1),
+        ("answer --", 1),
+        ("answer --replica 7", 7),
+        ("answer --replica=65535", 65535),
+        ("answer --replica=+7 --", 7),
+        ("answer --replica 007 --", 7),
+    ] {
+        let wanted = format!(in alloc;
+            "{{\"nonce\":\"1\",\"typeUrl\":\"CDS\",\"versionInfo\":\"{replica}.0\"}}\n"
+        )?;
+        let (output, _errors, status) = outcome(alloc, given, input.as_bytes())?;
+        assert_eq!(rt; output, written_out(alloc, wanted.as_str())?, "{given}");
+        assert_eq!(rt; status, 0, "{given}");
+    }
+    Ok(())
+}
+
+// A reader, and a writer that takes some bytes, one a call, and then fails.
+#[derive(Drop)]
+struct Faulty {
+    taken: Vec<u8>,
+    most: usize,
+}
+
+impl Read for Faulty {
     fn read(&mut self, _buf: &mut [u8]) -> io::Result<usize> {
         Err(io::Error::from(ErrorKind::Other))
     }
 }
 
-impl Write for Broken {
-    fn write(&mut self, _buf: &[u8]) -> io::Result<usize> {
-        Err(io::Error::from(ErrorKind::Other))
+impl Write for Faulty {
+    fn write(&mut self, buf: &[u8]) -> io::Result<usize> {
+        if self.taken.len() >= self.most {
+            return Err(io::Error::from(ErrorKind::Other));
+        }
+        match buf.first() {
+            Some(byte) => {
+                self.taken.push(*byte)?;
+                Ok(1)
+            }
+            None => Ok(0),
+        }
     }
 
     fn flush(&mut self) -> io::Result<()> {
@@ -282,22 +356,56 @@ impl Write for Broken {
     }
 }
 
+fn failing_after(alloc: Global, most: usize) -> Counted<Faulty> {
+    Counted::new(Faulty {
+        taken: Vec::new(alloc),
+        most,
+    })
+}
+
 #[test]
 fn failing_devices_are_told(rt: HostRuntime) -> Result<(), Fail> {
     let alloc = rt.alloc();
     let words = words(alloc, "answer")?;
     let words = words.as_slice();
-    let mut output = Vec::new(alloc);
-    let mut errors = Vec::new(alloc);
-    assert_eq!(rt; run(alloc, words, &mut Broken, &mut output, &mut errors), 1);
-    assert_eq!(rt; errors.as_slice(), b"19 Device\n".as_slice());
-    assert!(rt; output.is_empty());
+    let mut reader = failing_after(alloc, 0);
+    let mut output = Counted::new(Vec::new(alloc));
+    let mut errors = Counted::new(Vec::new(alloc));
+    let status = run(alloc, words, &mut reader, &mut output, &mut errors);
+    assert_eq!(rt; status, 1);
+    assert_eq!(rt; errors.inner.as_slice(), b"19 Device\n".as_slice());
+    assert_eq!(rt; reader.failed, 1);
+    assert!(rt; output.inner.is_empty());
     let input = written_out(alloc, "{\"typeUrl\":\"CDS\"}\n")?;
-    let mut rest = input.as_bytes();
-    let mut errors = Vec::new(alloc);
-    assert_eq!(rt; run(alloc, words, &mut rest, &mut Broken, &mut errors), 1);
-    assert_eq!(rt; errors.as_slice(), b"19 Device\n".as_slice());
-    let mut rest = b"".as_slice();
-    assert_eq!(rt; run(alloc, words, &mut rest, &mut output, &mut Broken), 1);
+    let mut reader = Counted::new(input.as_bytes());
+    let mut output = failing_after(alloc, 8);
+    let mut errors = Counted::new(Vec::new(alloc));
+    let status = run(alloc, words, &mut reader, &mut output, &mut errors);
+    assert_eq!(rt; status, 1);
+    assert_eq!(rt; errors.inner.as_slice(), b"19 Device\n".as_slice());
+    assert_eq!(rt; output.inner.taken.as_slice(), b"{\"nonce\"".as_slice());
+    assert_eq!(rt; (reader.failed, output.failed, errors.failed), (0, 1, 0));
+    let mut reader = Counted::new(b"".as_slice());
+    let mut output = Counted::new(Vec::new(alloc));
+    let mut errors = failing_after(alloc, 4);
+    let status = run(alloc, words, &mut reader, &mut output, &mut errors);
+    assert_eq!(rt; status, 1);
+    assert_eq!(rt; errors.inner.taken.as_slice(), b"line".as_slice());
+    assert!(rt; output.inner.is_empty());
+    Ok(())
+}
+
+#[test]
+fn a_write_that_takes_nothing_has_failed(rt: HostRuntime) -> Result<(), Fail> {
+    let mut none = [0u8; 0];
+    let mut writer = Counted::new(none.as_mut_slice());
+    assert!(rt; writer.write(b"a").is_err());
+    assert!(rt; writer.write(b"").is_ok());
+    assert!(rt; writer.flush().is_ok());
+    assert_eq!(rt; writer.failed, 1);
+    let mut reader = Counted::new(b"".as_slice());
+    let mut room = [0u8; 4];
+    assert_eq!(rt; reader.read(room.as_mut_slice()).ok(), Some(0));
+    assert_eq!(rt; reader.failed, 0);
     Ok(())
 }

@@ -1,7 +1,10 @@
 // The words of a command line.
-ghost use Rattle.std.specs.Prelude.{IfOk};
-ghost use Rattle.xds.specs.Words.{HasReplica};
+ghost use Rattle.std.specs.Prelude.{◌≡◌, IfOk, IfErr, map, string_bytes};
+ghost use Rattle.clap.specs.Words.{HasKind, kind_of};
+ghost use Rattle.xds.specs.Words.{Asks};
+ghost use Rattle.xds.specs.CommandLine.{faults};
 
+use clap::error::ErrorKind;
 use clap::{Arg, Command, Error, value_parser};
 use std::alloc::Global;
 
@@ -15,7 +18,9 @@ pub enum Task {
 /// Reads the words, of which the first is the program's name. An error holds the text to show, which may also be the
 /// help that was asked for.
 pub fn task_of(alloc: Global, words: &[String]) -> Result<Task, Error>
-    ensures { IfOk result HasReplica }
+    ensures asked { IfOk result (Asks (map string_bytes words.now)) }
+    ensures right { IfErr result (λ e. (task : Task) → Asks (map string_bytes words.now) task → kind_of e ≡ ErrorKind.OutOfMemory) }
+    ensures faults { IfErr result (HasKind (faults (map string_bytes words.now))) }
 {
     let replica = Arg::new(alloc, "replica")
         .long("replica")
@@ -36,6 +41,6 @@ pub fn task_of(alloc: Global, words: &[String]) -> Result<Task, Error>
         None => None,
     };
     Ok(Task::Answer {
-        replica: replica.unwrap_or(1).max(1),
+        replica: replica.unwrap_or(1),
     })
 }

@@ -1,0 +1,12 @@
+use Rattle.std.proofs.Common.{rules}
+use Rattle.std.proofs.KnownBytes.{Keeps-refl}
+use Rattle.xds.proofs.Telling.{answer_written, fault_told}
+use Rattle.xds.proofs.run.answer.Goals as goal
+
+pub returns-in-Ok-write_whole : goal.returns-in-Ok-write_whole
+returns-in-Ok-write_whole g c =
+    answer_written _ _ _ _ _ _ _ _ c.in-Ok.ensures.read (search rules) c.in-Ok-answer_lines.ensures.answered (search rules) c.in-Ok-write_whole.ensures.written (Keeps-refl _)
+
+pub returns : goal.returns
+returns g c =
+    fault_told _ _ _ _ _ _ _ _ _ c.in-Ok.ensures.read (search rules) c.in-Err-answer_lines.ensures.refused c.tell_fault.ensures.told (Keeps-refl _) c.tell_fault.ensures.status
