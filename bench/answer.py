@@ -5,13 +5,13 @@
 
 PROGRAM is the built program (crates/xds/out/xds after `rt run` in crates/xds); N is 1000 and 10000 if left out.
 Every write is of a name of its own, and the request asks for all of them, so that everything is read, kept and
-written. The input is made anew each time and kept in memory.
+written. The input is made anew each time and kept in memory. Peak memory is the kernel's `VmHWM` of the process, so it
+needs Linux.
 """
 import json
-import os
-import resource
 import subprocess
 import sys
+import threading
 import time
 
 URL = "type.googleapis.com/envoy.config.cluster.v3.Cluster"
@@ -34,21 +34,37 @@ def writes(count):
     return ("\n".join(lines) + "\n").encode()
 
 
+def watch(child, peaks):
+    """Keeps the greatest peak memory that the kernel tells of the process, in bytes, until it ends."""
+    while child.returncode is None:
+        try:
+            with open("/proc/%d/status" % child.pid) as status:
+                for line in status:
+                    if line.startswith("VmHWM:"):
+                        peaks.append(int(line.split()[1]) * 1024)
+        except (OSError, ValueError):
+            return
+        time.sleep(0.0005)
+
+
 def measure(program, data):
     """Seconds, peak memory in bytes and the output of one run, in a process of its own."""
+    peaks = []
     start = time.monotonic()
     child = subprocess.Popen([program, "answer"], stdin=subprocess.PIPE, stdout=subprocess.PIPE)
+    watcher = threading.Thread(target=watch, args=(child, peaks))
+    watcher.start()
     output, _ = child.communicate(data)
     seconds = time.monotonic() - start
+    watcher.join()
     if child.returncode != 0:
         sys.exit("the program ended with status %d" % child.returncode)
-    return seconds, output
+    return seconds, max(peaks, default=0), output
 
 
 def one(program, count):
     data = writes(count)
-    seconds, output = measure(program, data)
-    peak = resource.getrusage(resource.RUSAGE_CHILDREN).ru_maxrss * 1024
+    seconds, peak, output = measure(program, data)
     found = len(json.loads(output)["resources"])
     assert found == count, found
     print("%6d writes, %6.1f MB in, %6.1f MB out: %7.2f s, peak %7.1f MB (%.1f times the input)"
@@ -58,14 +74,8 @@ def one(program, count):
 def main():
     if len(sys.argv) < 2:
         sys.exit(__doc__)
-    program = os.path.abspath(sys.argv[1])
     for count in [int(word) for word in sys.argv[2:]] or [1000, 10000]:
-        # each size in a process of its own, so that the peak is that size's
-        if os.fork() == 0:
-            one(program, count)
-            os._exit(0)
-        if os.wait()[1] != 0:
-            sys.exit(1)
+        one(sys.argv[1], count)
 
 
 main()

@@ -76,9 +76,9 @@ one = record { digits = (omega arith, (omega arith, tt)); value = refl; least = 
 
 -- ---- the forms of the words
 
--- the words are taken, and give the text as the replica's number
+-- the words are taken without a fault, and give the text as the replica's number
 abbrev Gives : List Text → Text → Type 0
-Gives words t = (takes command_line words ≡ true) × (replica_read words ≡ Some (Some t))
+Gives words t = (takes command_line words ≡ true) × (replica_read words ≡ Some (Some t)) × (faults words ≡ [])
 
 -- so they do with the options, and where `--` follows them
 abbrev OptionsGive : Text → List Text → Text → Type 0
@@ -87,20 +87,20 @@ OptionsGive p options t = Gives (p ∷ codes "answer" ∷ options) t × Gives (p
 -- no option: the default number
 no_option : (p : Text) → OptionsGive p [] (codes "1")
 unfolding clap_on_literals
-no_option p = ((refl, refl), (refl, refl))
+no_option p = ((refl, refl, refl), (refl, refl, refl))
 
 -- `--replica N`
 two_words : (p t : Text) → IsTaken t → OptionsGive p (codes "--replica" ∷ t ∷ []) t
 unfolding clap_on_literals
 two_words p t h = (
-  (rw (h.no_dashes, h.no_long, h.no_short, h.fits) refl, rw (h.no_dashes, h.no_long, h.no_short, h.no_hyphen) refl),
-  (rw (h.no_dashes, h.no_long, h.no_short, h.fits) refl, rw (h.no_dashes, h.no_long, h.no_short, h.no_hyphen) refl),
+  (rw (h.no_dashes, h.no_long, h.no_short, h.fits) refl, rw (h.no_dashes, h.no_long, h.no_short, h.no_hyphen) refl, rw (h.no_dashes, h.no_long, h.no_short, h.fits) refl),
+  (rw (h.no_dashes, h.no_long, h.no_short, h.fits) refl, rw (h.no_dashes, h.no_long, h.no_short, h.no_hyphen) refl, rw (h.no_dashes, h.no_long, h.no_short, h.fits) refl),
 )
 
 -- `--replica=N`
 one_word : (p t : Text) → IsTaken t → OptionsGive p ((codes "--replica=" ++ t) ∷ []) t
 unfolding clap_on_literals
-one_word p t h = ((rw h.fits refl, rw h.no_hyphen refl), (rw h.fits refl, rw h.no_hyphen refl))
+one_word p t h = ((rw h.fits refl, rw h.no_hyphen refl, rw h.fits refl), (rw h.fits refl, rw h.no_hyphen refl, rw h.fits refl))
 
 -- each form of the options gives the number that it names
 options_give : (p : Text) (options : List Text) (n : ℕ) → AreOptions options n → (t : Text) × IsReplicaText t n × OptionsGive p options t
@@ -133,6 +133,22 @@ pub reads_right : (words : List Text) (n : ℕ) → AsksAnswer words n → (text
 reads_right words n h =
     let given = words_give words n h in
     (given.0, given.1, given.2.1)
+
+-- and nothing is wrong with them
+pub faultless_right : (words : List Text) (n : ℕ) → AsksAnswer words n → faults words ≡ []
+faultless_right words n h = (words_give words n h).2.2
+
+-- two texts that are read of one line are one
+same_text : (o : Option (Option Text)) (s t : Text) → o ≡ Some (Some s) → o ≡ Some (Some t) → s ≡ t
+same_text o s t is other = cc
+
+-- words that ask two replicas ask one
+pub ask_one : (words : List Text) (n m : ℕ) → AsksAnswer words n → AsksAnswer words m → n ≡ m
+ask_one words n m h k =
+    let first = reads_right words n h in
+    let second = reads_right words m k in
+    let same = same_text (replica_read words) first.0 second.0 first.2 second.2 in
+    sym first.1.value ∙ ap (λ (t : Text). digits_value 10 (without_leading_plus t)) same ∙ second.1.value
 
 -- ---- what `task_of` makes of a parse
 

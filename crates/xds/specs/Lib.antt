@@ -4,4 +4,5 @@ pub mod Faults
 pub mod Devices
 pub mod Words
 pub mod CommandLine
+pub mod Laws
 pub mod Outcomes

@@ -79,15 +79,15 @@ fn answer_request(
         return Err(Refusal::BadMessage);
     }
     match respond_among(alloc, replica, catalogues, &request)? {
-        Some(response) => text_of(alloc, &response),
+        Some(response) => text_of(alloc, response),
         None => Ok(Vec::new(alloc)),
     }
 }
 
 // The response's text, and a line feed.
-fn text_of(alloc: Global, response: &DiscoveryResponse) -> Result<Vec<u8>, Refusal>
-    requires { All IsWhole (response_of response.now).resources }
-    ensures text { IfOk result (λ v. v.items ≡ answer_text (Some (response_of response.now))) }
+fn text_of(alloc: Global, response: DiscoveryResponse) -> Result<Vec<u8>, Refusal>
+    requires { All IsWhole (response_of response).resources }
+    ensures text { IfOk result (λ v. v.items ≡ answer_text (Some (response_of response))) }
     ensures refused { IfErr result (λ e. e ≡ Refusal.OutOfMemory) }
 {
     let mut text = response.write(alloc)?;

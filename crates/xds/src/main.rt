@@ -4,6 +4,7 @@
 mod answer;
 mod catalogues;
 mod counted;
+mod laws;
 mod lines;
 mod run;
 #[cfg(test)]

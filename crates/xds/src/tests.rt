@@ -324,11 +324,25 @@ fn right_words_name_the_replica(rt: HostRuntime) -> Result<(), Fail> {
     Ok(())
 }
 
-// A reader, and a writer that takes some bytes, one a call, and then fails.
+// A reader that fails, and a writer that takes some bytes, one a call, and then fails.
 #[derive(Drop)]
 struct Faulty {
     taken: Vec<u8>,
     most: usize,
+}
+
+// A writer that takes all and can't flush.
+#[derive(Drop)]
+struct Stuck;
+
+impl Write for Stuck {
+    fn write(&mut self, buf: &[u8]) -> io::Result<usize> {
+        Ok(buf.len())
+    }
+
+    fn flush(&mut self) -> io::Result<()> {
+        Err(io::Error::from(ErrorKind::Other))
+    }
 }
 
 impl Read for Faulty {
@@ -385,6 +399,13 @@ fn failing_devices_are_told(rt: HostRuntime) -> Result<(), Fail> {
     assert_eq!(rt; errors.inner.as_slice(), b"19 Device\n".as_slice());
     assert_eq!(rt; output.inner.taken.as_slice(), b"{\"nonce\"".as_slice());
     assert_eq!(rt; (reader.failed, output.failed, errors.failed), (0, 1, 0));
+    let mut reader = Counted::new(input.as_bytes());
+    let mut output = Counted::new(Stuck);
+    let mut errors = Counted::new(Vec::new(alloc));
+    let status = run(alloc, words, &mut reader, &mut output, &mut errors);
+    assert_eq!(rt; status, 1);
+    assert_eq!(rt; errors.inner.as_slice(), b"19 Device\n".as_slice());
+    assert_eq!(rt; output.failed, 1);
     let mut reader = Counted::new(b"".as_slice());
     let mut output = Counted::new(Vec::new(alloc));
     let mut errors = failing_after(alloc, 4);

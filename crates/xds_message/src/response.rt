@@ -30,39 +30,39 @@ pub struct DiscoveryResponse {
 }
 
 impl DiscoveryResponse {
-    /// The compact text of the response's object. Its resources hold no number but whole ones.
-    pub fn write(&self, alloc: Global) -> Result<String, Refusal>
-        ensures text { IfOk result (λ s. has_float (response_object (response_of self.now)) ≡ false
-            → string_bytes s ≡ compact_text (response_object (response_of self.now))) }
+    /// The compact text of the response's object. Its resources hold no number but whole ones. They move into that
+    /// object, so a caller that needs the response again copies it first.
+    pub fn write(self, alloc: Global) -> Result<String, Refusal>
+        ensures text { IfOk result (λ s. has_float (response_object (response_of self)) ≡ false
+            → string_bytes s ≡ compact_text (response_object (response_of self))) }
         ensures whole { IfOk result
-            (λ s. All (λ d. has_float d ≡ false) (response_of self.now).resources
-            → string_bytes s ≡ compact_text (response_object (response_of self.now))) }
+            (λ s. All (λ d. has_float d ≡ false) (response_of self).resources
+            → string_bytes s ≡ compact_text (response_object (response_of self))) }
         ensures shallow { IfOk result
-            (λ s. All (λ d. depth d ≤ max_nesting) (response_of self.now).resources
-            → (depth (response_object (response_of self.now)) ≤ suc (suc max_nesting))
-            × (read (string_bytes s) ≡ Some (response_object (response_of self.now)))) }
+            (λ s. All (λ d. depth d ≤ max_nesting) (response_of self).resources
+            → (depth (response_object (response_of self)) ≤ suc (suc max_nesting))
+            × (read (string_bytes s) ≡ Some (response_object (response_of self)))) }
         ensures reads_back { IfOk result
-            (λ s. depth (response_object (response_of self.now)) ≤ max_depth
-            → read (string_bytes s) ≡ Some (response_object (response_of self.now))) }
-        ensures spelled { IfOk result (λ s. All IsObject (response_of self.now).resources
-            → depth (response_object (response_of self.now)) ≤ max_depth
-            → (d : Data) × IsJson (string_bytes s) d × SpellsResponse d (response_of self.now)) }
+            (λ s. depth (response_object (response_of self)) ≤ max_depth
+            → read (string_bytes s) ≡ Some (response_object (response_of self))) }
+        ensures spelled { IfOk result (λ s. All IsObject (response_of self).resources
+            → depth (response_object (response_of self)) ≤ max_depth
+            → (d : Data) × IsJson (string_bytes s) d × SpellsResponse d (response_of self)) }
         ensures refused { IfErr result (λ e. e ≡ OutOfMemory) }
     {
         Ok(self.to_value(alloc)?.to_string(alloc)?)
     }
 
     /// The response's object.
-    fn to_value(&self, alloc: Global) -> Result<Value, Refusal>
-        ensures ok { IfOk result (λ v. view v ≡ response_object (response_of self.now)) }
+    fn to_value(self, alloc: Global) -> Result<Value, Refusal>
+        ensures ok { IfOk result (λ v. view v ≡ response_object (response_of self)) }
         ensures refused { IfErr result (λ e. e ≡ OutOfMemory) }
     {
         let mut map = Map::new(alloc);
         put_text(alloc, &mut map, "nonce", &self.nonce)?;
         put_text(alloc, &mut map, "typeUrl", &self.type_url)?;
-        let resources = copy_values(alloc, &self.resources)?;
-        put_list(alloc, &mut map, "resources", resources)?;
         put_text(alloc, &mut map, "versionInfo", &self.version_info)?;
+        put_list(alloc, &mut map, "resources", self.resources)?;
         Ok(Value::Object(map))
     }
 

@@ -147,14 +147,14 @@ fn writes_a_response(rt: HostRuntime) -> Result<(), Fail> {
         nonce: String::from_str(alloc, "1")?,
     };
     assert_eq!(rt;
-        response.write(alloc)?.as_str(),
+        response.try_copy(alloc)?.write(alloc)?.as_str(),
         "{\"nonce\":\"1\",\"typeUrl\":\"t\",\"versionInfo\":\"1.0\"}"
     );
     response
         .resources
         .push(json!(in alloc; {"name": "a", "@type": "t"})?)?;
     assert_eq!(rt;
-        response.try_copy(alloc)?.write(alloc)?.as_str(),
+        response.write(alloc)?.as_str(),
         "{\"nonce\":\"1\",\"resources\":[{\"@type\":\"t\",\"name\":\"a\"}],\"typeUrl\":\"t\",\"versionInfo\":\"1.0\"}"
     );
     Ok(())
