@@ -7,7 +7,7 @@ use Rattle.xds_resource.specs.declared.refusal.Refusal.{Refusal}
 use Rattle.xds_resource.specs.declared.refusal.Refusal.TheVariants.{Device as DeviceRefusal, OutOfMemory}
 use Rattle.xds_resource.specs.Refusals.{number_of, name_of}
 use Rattle.xds.specs.Faults.{IsAnswer, IsFault}
-use Rattle.xds.specs.Devices.{Device, HasFailed, Stays, Tells, Wrote}
+use Rattle.xds.specs.Devices.{Device, HasFailed, Stays, Tells, WrotePart, Wrote}
 use Rattle.xds.specs.Words.{AsksAnswer, Text}
 use Rattle.xds.specs.CommandLine.{faults}
 
@@ -47,17 +47,17 @@ HasOutcome replica status s = IfSome s.input.before (λ input.
 abbrev pub IsCause : Refusal → Device → Device → Type 0
 IsCause refusal input output = (refusal ≡ OutOfMemory) ⊎ ((refusal ≡ DeviceRefusal) × (HasFailed input ⊎ HasFailed output))
 
--- The run can't go on, and tells why. The output stays, unless a call of it failed.
-pub record IsUnable (status : ℕ) (s : Streams) : Type 0 where
+-- The run can't go on, and tells why. The output stays, or a call of it failed in the midst of a text that may be begun.
+pub record IsUnable (MayBegin : List ℕ → Type 0) (status : ℕ) (s : Streams) : Type 0 where
   pub refusal : Refusal
   pub is_cause : IsCause refusal s.input s.output
-  pub output : Stays s.output ⊎ HasFailed s.output
+  pub output : Stays s.output ⊎ ((text : List ℕ) × MayBegin text × WrotePart s.output text)
   pub told : Tells s.errors (refusal_text refusal)
   pub status_is : status ≡ 1
 
--- `xds answer` as this replica has its outcome, or can't go on
+-- `xds answer` as this replica has its outcome, or can't go on, at the latest in the midst of its answer
 abbrev pub RunsAnswer : ℕ → ℕ → Streams → Type 0
-RunsAnswer replica status s = HasOutcome replica status s ⊎ IsUnable status s
+RunsAnswer replica status s = HasOutcome replica status s ⊎ IsUnable (λ text. IfSome s.input.before (λ input. IsAnswer replica input text)) status s
 
 -- the words call for help, or for the version
 abbrev pub IsCall : ErrorKind → Type 0
@@ -67,15 +67,19 @@ IsCall kind = (kind ≡ DisplayHelp) ⊎ (kind ≡ DisplayVersion)
 abbrev pub IsShown : ErrorKind → ℕ → Device → Device → Type 0
 IsShown kind status output errors = (IsCall kind × (status ≡ 0) × Stays errors) ⊎ ((IsCall kind → ⊥) × (status ≡ 2) × Stays output)
 
+-- no replica is asked to answer
+abbrev pub AsksNone : List Text → Type 0
+AsksNone words = (replica : ℕ) → AsksAnswer words replica → ⊥
+
 -- The words ask for no answer: they call for help, or they are wrong. The input isn't read.
 pub record IsAside (words : List Text) (status : ℕ) (s : Streams) : Type 0 where
   pub kind : ErrorKind
   pub is_fault : IsAmong kind (faults words)
-  pub asks_none : (replica : ℕ) → AsksAnswer words replica → ⊥
+  pub asks_none : AsksNone words
   pub unread : Stays s.input
   pub shown : IsShown kind status s.output s.errors
 
 -- A run whose words ask for an answer gives it, or tells the line that is refused; other words get help, or are told to
--- be wrong; and any run may be unable to go on.
+-- be wrong; and any run may be unable to go on. A text that is no answer is begun only where no answer is asked.
 abbrev pub HasRun : List Text → ℕ → Streams → Type 0
-HasRun words status s = ((replica : ℕ) × AsksAnswer words replica × HasOutcome replica status s) ⊎ (IsAside words status s ⊎ IsUnable status s)
+HasRun words status s = ((replica : ℕ) × AsksAnswer words replica × RunsAnswer replica status s) ⊎ (IsAside words status s ⊎ IsUnable (λ text. AsksNone words) status s)

@@ -115,7 +115,7 @@ fn show<O: Write, E: Write>(
     output: &mut Counted<O>,
     errors: &mut Counted<E>,
 ) -> u8
-    ensures { (input : Device) → IsUnable result (record {
+    ensures { (input : Device) → IsUnable (λ text. kind_of error.now ≢ ErrorKind.OutOfMemory) result (record {
       input = input;
       output = seen O.contents output.old output.new;
       errors = seen E.contents errors.old errors.new;

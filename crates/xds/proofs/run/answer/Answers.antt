@@ -1,7 +1,15 @@
 use Rattle.std.proofs.Common.{rules}
 use Rattle.std.proofs.KnownBytes.{Keeps-refl}
-use Rattle.xds.proofs.Telling.{answer_written, fault_told}
+use Rattle.xds.proofs.Telling.{answer_begun, answer_written, fault_told, not_read}
 use Rattle.xds.proofs.run.answer.Goals as goal
+
+pub returns-in-Err : goal.returns-in-Err
+returns-in-Err g c = not_read _ _ _ _ _ _ c.in-Err.ensures.refused (Keeps-refl _) c.tell.ensures.told c.tell.ensures.status
+
+pub returns-in-Ok-answer_lines : goal.returns-in-Ok-answer_lines
+returns-in-Ok-answer_lines g c =
+    answer_begun _ _ _ _ _ _ _ _ _ _ c.in-Ok.ensures.read (search rules) c.in-Ok-answer_lines.ensures.answered (search rules) c.in-Err-write_whole.ensures.failed
+    c.tell-in-Err-write_whole.ensures.told c.tell-in-Err-write_whole.ensures.status
 
 pub returns-in-Ok-write_whole : goal.returns-in-Ok-write_whole
 returns-in-Ok-write_whole g c =
