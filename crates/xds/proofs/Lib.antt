@@ -6,4 +6,5 @@ pub mod Writing
 pub mod Telling
 pub mod CommandLine
 pub mod RightWords
+pub mod LongWords
 pub mod OnlyRight

@@ -1,5 +1,5 @@
 -- What a run tells, and how it ends.
-use Rattle.std.proofs.Common.{◌≡◌, ◌++◌, ap, sym, arith, codes, refl, subst, Option, Some, None, IfSome, ◌⊎◌, inl, inr, ℕ, List}
+use Rattle.std.proofs.Common.{◌≡◌, ◌++◌, ap, sym, arith, codes, refl, subst, Option, Some, None, IfSome, ◌⊎◌, inl, inr, ℕ, List, Result, Ok, Err, OnOk, IfErr}
 use Rattle.xds_resource.specs.declared.refusal.Refusal.{Refusal}
 use Rattle.xds_resource.specs.declared.refusal.Refusal.TheVariants.{Device as DeviceRefusal, OutOfMemory}
 use Rattle.clap.proofs.CountText.{decimal-count_text}
@@ -14,6 +14,11 @@ use Rattle.clap.specs.Words.{HasKind, kind_of}
 use Rattle.std.specs.Prelude.{◌≢◌}
 use Rattle.xds.specs.Faults.{IsAnswer, IsFault}
 use Rattle.xds.specs.Devices.{Device, HasFailed, Stays, Tells, Wrote, WrotePart}
+
+-- what was written whole, or up to a call that failed, is told
+pub tells : {T : Type 0} (d : Device) (bytes : List ℕ) (r : Result T Refusal) → OnOk r (Wrote d bytes) → IfErr r (λ e. (e ≡ DeviceRefusal) × WrotePart d bytes) → Tells d bytes
+tells d bytes (Ok x) whole part = inl whole
+tells d bytes (Err e) whole part = inr part.1
 
 -- the two refusals that are told without a line, in words
 pub device_text : codes "19 Device\n" ≡ refusal_text DeviceRefusal

@@ -3,9 +3,13 @@ use Rattle.std.specs.Prelude.{◌≡◌, ◌⊎◌, ◌<◌, ℕ, List, Option, 
 use Rattle.std.specs.Io.KnownBytes.{Keeps, Appends}
 use Rattle.xds.specs.declared.counted.Counted.{Counted}
 
+-- as many failed calls as can be counted
+abbrev pub most_failed : ℕ
+most_failed = 18446744073709551615
+
 -- more calls have failed, or as many as can be counted
 abbrev pub MoreFailed : ℕ → ℕ → Type 0
-MoreFailed before after = (before < after) ⊎ (after ≡ 18446744073709551615)
+MoreFailed before after = (before < after) ⊎ (after ≡ most_failed)
 
 -- a call that fails is counted, and no other
 abbrev pub CountsFailure : {T E : Type 0} → Result T E → ℕ → ℕ → Type 0

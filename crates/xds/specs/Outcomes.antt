@@ -63,9 +63,12 @@ RunsAnswer replica status s = HasOutcome replica status s ⊎ IsUnable (λ text.
 abbrev pub IsCall : ErrorKind → Type 0
 IsCall kind = (kind ≡ DisplayHelp) ⊎ (kind ≡ DisplayVersion)
 
--- Help goes to the output, with status 0; what is wrong with the words goes to the error output, with status 2.
+-- Help goes to the output, with status 0; what is wrong with the words is told on the error output, with status 2. The
+-- texts are `clap`'s.
 abbrev pub IsShown : ErrorKind → ℕ → Device → Device → Type 0
-IsShown kind status output errors = (IsCall kind × (status ≡ 0) × Stays errors) ⊎ ((IsCall kind → ⊥) × (status ≡ 2) × Stays output)
+IsShown kind status output errors =
+    (IsCall kind × (status ≡ 0) × ((text : List ℕ) × Wrote output text) × Stays errors)
+    ⊎ ((IsCall kind → ⊥) × (status ≡ 2) × ((text : List ℕ) × Tells errors text) × Stays output)
 
 -- no replica is asked to answer
 abbrev pub AsksNone : List Text → Type 0

@@ -1,0 +1,179 @@
+#!/usr/bin/env python3
+"""Compares `xds answer` with a reading of the rules in Python, over random inputs.
+
+    python3 bench/compare.py PROGRAM [FIRST LAST]
+
+Each seed from FIRST (0) up to LAST (2000) makes an input of stamped writes, some of them bad, and a request. What
+differs is printed, with its seed, and the status is then 1.
+"""
+import json
+import random
+import subprocess
+import sys
+
+PREFIX = "type.googleapis.com/envoy.config."
+# the URL, the name field and its other spelling, and whether a response lists everything
+TYPES = {
+    "cluster": (PREFIX + "cluster.v3.Cluster", "name", "name", True),
+    "endpoint": (PREFIX + "endpoint.v3.ClusterLoadAssignment", "clusterName", "cluster_name", False),
+    "listener": (PREFIX + "listener.v3.Listener", "name", "name", True),
+    "route": (PREFIX + "route.v3.RouteConfiguration", "name", "name", False),
+}
+NAMES = ["a", "b", "c", "\u00e9", "a b", "B", "zz", "0"]
+
+
+def in_order(value):
+    """The value with the keys of its objects in ascending byte order."""
+    if isinstance(value, dict):
+        return {key: in_order(value[key]) for key in sorted(value, key=str.encode)}
+    if isinstance(value, list):
+        return [in_order(item) for item in value]
+    return value
+
+
+def compact(value):
+    return json.dumps(in_order(value), separators=(",", ":"), ensure_ascii=False).encode()
+
+
+def some_value(pick, depth=0):
+    kind = pick.randrange(8 if depth < 3 else 5)
+    if kind == 0:
+        return pick.choice([None, True, False])
+    if kind == 1:
+        return pick.choice([0, -1, 7, 2**63 - 1, -(2**63), 2**64 - 1, pick.randrange(1000)])
+    if kind == 2:
+        return pick.choice(["", "a", "\u00e9", "\u0001", '"q\\', "\U0001f600", "/", "\n\t"])
+    if kind in (3, 4):
+        return "x%d" % pick.randrange(5)
+    if kind == 5:
+        return [some_value(pick, depth + 1) for _ in range(pick.randrange(3))]
+    return {pick.choice(["a", "b", "Z", "\u00e9", "z_1", ""]): some_value(pick, depth + 1) for _ in range(pick.randrange(3))}
+
+
+def some_write(pick):
+    """The word of a type, a write of it, and whether the write is good."""
+    word = pick.choice(["cluster", "cluster", "endpoint", "listener", "route"])
+    url, field, other, _ = TYPES[word]
+    name = pick.choice(NAMES)
+    write = {"typeUrl": url, "name": name, "counter": pick.randrange(1, 6), "writer": pick.choice([1, 2, 3, 65535])}
+    good = True
+    if pick.random() < 0.8:
+        body = {pick.choice(["x", "y", "Z", "\u00e9"]): some_value(pick) for _ in range(pick.randrange(3))}
+        body["@type"] = url
+        body[pick.choice([field, other])] = name
+        write["body"] = body
+        fault = pick.random()
+        if fault < 0.01:
+            body["f"], good = 1.5, False
+        elif fault < 0.02:
+            body["@type"], good = PREFIX + "x", False
+        elif fault < 0.03:
+            write["name"], good = "other", False
+    elif pick.random() < 0.3:
+        write["body"] = None
+    fault = pick.random()
+    for key, value in [("counter", 0), ("writer", 65536), ("name", "*"), ("typeUrl", PREFIX + "q"), ("counter", "1")]:
+        fault -= 0.01
+        if fault < 0:
+            write[key] = value
+            return word, write, False
+    if fault < 0.05:
+        write["extra"] = [1.5, {"a": None}]
+    return word, write, good
+
+
+def some_request(pick):
+    """The request, and the word of its type, or none outside the table, or an empty text where it names no type."""
+    request = {}
+    word = pick.choice(list(TYPES))
+    kind = pick.random()
+    if kind < 0.9:
+        request[pick.choice(["typeUrl", "type_url"])] = TYPES[word][0]
+    elif kind < 0.95:
+        request["typeUrl"], word = PREFIX + "unknown", None
+    else:
+        word = ""
+    if pick.random() < 0.7:
+        names = [pick.choice(NAMES + ["*", "missing"]) for _ in range(pick.randrange(4))]
+        request[pick.choice(["resourceNames", "resource_names"])] = names
+    if pick.random() < 0.3:
+        request["node"] = {"id": "n", "x": 1.25}
+    return request, word
+
+
+def spelled(pick, value):
+    items = list(value.items())
+    pick.shuffle(items)
+    return json.dumps(dict(items), ensure_ascii=pick.random() < 0.5, separators=pick.choice([(",", ":"), (", ", ": ")]))
+
+
+def answer(replica, held, changes, word, request):
+    """What a fresh stream's first poll gives, by what is held of the type."""
+    url, _, _, complete = TYPES[word]
+    names = request.get("resourceNames", request.get("resource_names", []))
+    star = complete and (not names or "*" in names)
+    shown = [held[name][1] for name in sorted(held, key=str.encode)]
+    shown = [body for body in shown if body is not None and (star or body_name(word, body) in names)]
+    if not complete and not shown:
+        return b""
+    response = {"nonce": "1", "typeUrl": url, "versionInfo": "%d.%d%s" % (replica, changes, "" if star else ".named")}
+    if shown:
+        response["resources"] = shown
+    return compact(response) + b"\n"
+
+
+def body_name(word, body):
+    return body.get(TYPES[word][1], body.get(TYPES[word][2]))
+
+
+def one(program, seed):
+    pick = random.Random(seed)
+    replica = pick.choice([1, 7, 65535])
+    held = {word: {} for word in TYPES}
+    changes = dict.fromkeys(TYPES, 0)
+    lines, fault = [], None
+    for number in range(1, pick.randrange(1, 15)):
+        if pick.random() < 0.01:
+            lines.append(pick.choice(["", "{", "nope", '{"a":1,}']))
+            fault = fault or (number, "1 NotJson")
+            continue
+        word, write, good = some_write(pick)
+        lines.append(spelled(pick, write))
+        if not good:
+            fault = fault or (number, "7 BadMessage")
+            continue
+        body = write.get("body")
+        rank = (write["counter"], write["writer"], body is not None, b"" if body is None else compact(body))
+        old = held[word].get(write["name"])
+        if old is None or rank > old[0]:
+            held[word][write["name"]] = (rank, body)
+            changes[word] += 1
+    request, word = some_request(pick)
+    lines.append(spelled(pick, request))
+    if word == "":
+        fault = fault or (len(lines), "7 BadMessage")
+    text = "\n".join(lines) + pick.choice(["", "\n"])
+    if fault:
+        wanted = (1, b"", b"line %d: %s\n" % (fault[0], fault[1].encode()))
+    elif word is None:
+        wanted = (0, b"", b"")
+    else:
+        wanted = (0, answer(replica, held[word], changes[word], word, request), b"")
+    run = subprocess.run([program, "answer", "--replica", str(replica)], input=text.encode(), capture_output=True)
+    given = (run.returncode, run.stdout, run.stderr)
+    if given != wanted:
+        print("seed", seed, text, "wanted", wanted, "given", given, sep="\n")
+    return given == wanted, bool(wanted[1])
+
+
+def main():
+    if len(sys.argv) not in (2, 4):
+        sys.exit(__doc__)
+    first, last = (int(word) for word in sys.argv[2:]) if len(sys.argv) == 4 else (0, 2000)
+    results = [one(sys.argv[1], seed) for seed in range(first, last)]
+    wrong = sum(not same for same, _ in results)
+    print("%d inputs, %d of them answered with a response; %d differ" % (len(results), sum(some for _, some in results), wrong))
+    sys.exit(1 if wrong or not results else 0)
+
+
+main()
