@@ -4,3 +4,4 @@ pub mod BestWrites
 pub mod TypesApart
 pub mod VersionTexts
 pub mod WriteTies
+pub mod NameMaps

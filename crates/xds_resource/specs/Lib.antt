@@ -8,3 +8,4 @@ pub mod Best
 pub mod Fields
 pub mod Resources
 pub mod Any
+pub mod Names

@@ -3,6 +3,7 @@
 
 pub mod any;
 mod json;
+pub mod names;
 pub mod laws;
 pub mod refusal;
 pub mod resource;
@@ -13,6 +14,7 @@ pub mod types;
 pub mod write;
 
 pub use any::{AnyResource, AnyWrite};
+pub use names::NameMap;
 pub use refusal::Refusal;
 pub use resource::Resource;
 pub use stamp::Stamp;

@@ -1,0 +1,94 @@
+-- Maps from names, and the sorted maps that stand for them.
+use Rattle.std.proofs.Common.{inl, inr, ◌≡◌, ℕ, List, [], ◌∷◌, ◌++◌, map, Bool, true, false, cond, ◌||◌, Option, Some, None, String, BTreeMap, refl, sym, ap, ◌∙◌}
+use Rattle.std.specs.Prelude.{T, ◌&&◌, string_bytes, bytes_eq}
+use Rattle.std.specs.declared.cmp.Ordering.TheVariants.{Less}
+use Rattle.std.specs.Ordering.{nat_cmp, is_lt, is_eq, eq_by_cmp}
+use Rattle.std.specs.Option.{option_map}
+use Rattle.std.specs.List.{AllByRecursion, list_any}
+use Rattle.std.specs.List.Sorted.{IsStrictlySortedBy}
+use Rattle.std.specs.Cmp.Lexicographic.{slice_cmp}
+use Rattle.std.specs.String.{string_cmp}
+use Rattle.std.specs.Map.{lookup, update}
+use Rattle.std.specs.BTreeMap as tree
+use Rattle.std.specs.BTreeMap.{is_at}
+use Rattle.std.specs.FinMap as finmap
+use Rattle.std.specs.FinMap.Entries.{below_all, is_sorted, same_entries}
+use Rattle.std.proofs.lemmas.Cmp.{nat_list_cmp_total}
+use Rattle.std.proofs.lemmas.Map.Text.{is_eq-slice_cmp, btree_map_updates_text}
+use Rattle.xds_resource.specs.Writes.{text_cmp}
+use Rattle.xds_resource.specs.Names.{pairs, put_some, tabulate}
+use Rattle.std.proofs.lemmas.Slice.Eq.{bytes_eq-Decides}
+use Rattle.std.proofs.lemmas.Bool.{cases_Bool, false_from_ne_true, true≢false}
+use Rattle.xds_resource.proofs.WriteTies.{text_cmp-IsAntisymmetric}
+
+-- a map as its entries show it
+abbrev pub seen : {Y X : Type 0} → BTreeMap (String Y) X → finmap.FinMap text_cmp X
+seen m = finmap.from_entries (pairs m.entries)
+
+find-pairs : {Y X : Type 0} (es : List (String Y × X)) (q : List ℕ) → finmap.find text_cmp q (pairs es) ≡ lookup (is_at (λ k. slice_cmp nat_cmp q (string_bytes k))) es
+find-pairs [] q = refl
+find-pairs (e ∷ es) q = ap (cond (is_eq (text_cmp q (string_bytes e.0))) (Some e.1)) (find-pairs es q)
+
+pub get-seen : {Y X : Type 0} (m : BTreeMap (String Y) X) (q : List ℕ) → finmap.get (seen m) q ≡ tree.get_by_text m q
+get-seen m q = finmap.get-from_entries nat_list_cmp_total (pairs m.entries) q ∙ find-pairs m.entries q
+
+pub same_names : {X : Type 0} (m n : finmap.FinMap text_cmp X) → ((q : List ℕ) → finmap.get m q ≡ finmap.get n q) → m ≡ n
+same_names m n same = finmap.same_map nat_list_cmp_total text_cmp-IsAntisymmetric m n same
+
+-- ---- texts
+
+pub bytes_eq_same : (x : List ℕ) → bytes_eq x x ≡ true
+bytes_eq_same x = (bytes_eq-Decides x x).1 refl
+
+pub bytes_eq_tells : (x y : List ℕ) → bytes_eq x y ≡ true → x ≡ y
+bytes_eq_tells x y e = (bytes_eq-Decides x y).0 e
+
+pub bytes_eq_swap : (x y : List ℕ) → bytes_eq x y ≡ bytes_eq y x
+bytes_eq_swap x y =
+    elim (cases_Bool (bytes_eq y x)) [
+      | inl same ↦ (bytes_eq-Decides x y).1 (sym ((bytes_eq-Decides y x).0 same)) ∙ sym same
+      | inr other ↦ false_from_ne_true _ (λ same. true≢false (sym ((bytes_eq-Decides y x).1 (sym ((bytes_eq-Decides x y).0 same))) ∙ other)) ∙ sym other
+    ]
+
+-- ---- what a map has after a change
+
+pub get-insert : {X : Type 0} (m : finmap.FinMap text_cmp X) (k : List ℕ) (x : X) (q : List ℕ) → finmap.get (finmap.insert m k x) q ≡ cond (bytes_eq k q) (Some x) (finmap.get m q)
+get-insert m k x q = finmap.get-insert nat_list_cmp_total m k x q ∙ ap (λ b. cond b (Some x) (finmap.get m q)) (is_eq-slice_cmp q k ∙ bytes_eq_swap q k)
+
+pub get-remove : {X : Type 0} (m : finmap.FinMap text_cmp X) (k q : List ℕ) → finmap.get (finmap.remove m k) q ≡ cond (bytes_eq k q) None (finmap.get m q)
+get-remove m k q = finmap.get-remove nat_list_cmp_total m k q ∙ ap (λ b. cond b None (finmap.get m q)) (is_eq-slice_cmp q k ∙ bytes_eq_swap q k)
+
+-- a map after a value was put at a key
+pub seen-inserted : {Y X : Type 0} (m n : BTreeMap (String Y) X) (k : String Y) (x : X) → tree.Updates string_cmp m n k (Some x) → seen n ≡ finmap.insert (seen m) (string_bytes k) x
+seen-inserted m n k x u = same_names _ _ (λ q. get-seen n q ∙ btree_map_updates_text (string_bytes k) m n (Some x) u q
+    ∙ ap (cond (bytes_eq (string_bytes k) q) (Some x)) (sym (get-seen m q)) ∙ sym (get-insert (seen m) (string_bytes k) x q))
+
+-- and after a text was taken out
+pub seen-removed : {Y X : Type 0} (m n : BTreeMap (String Y) X) (k : List ℕ) → tree.UpdatesBy string_cmp (λ s. slice_cmp nat_cmp k (string_bytes s)) m n None → seen n ≡ finmap.remove (seen m) k
+seen-removed m n k u = same_names _ _ (λ q. get-seen n q ∙ btree_map_updates_text k m n None u q
+    ∙ ap (cond (bytes_eq k q) None) (sym (get-seen m q)) ∙ sym (get-remove (seen m) k q))
+
+-- ---- in the order of names
+
+both_true : (a b : Bool) → a ≡ true → T b → T (a && b)
+both_true true b e h = h
+both_true false b e h = absurd cc
+
+both_hold : (a b : Bool) → T a → T b → T (a && b)
+both_hold true b h k = k
+both_hold false b h k = absurd h
+
+below_pairs : {Y X : Type 0} (k : String Y) (es : List (String Y × X)) → AllByRecursion (λ y. string_cmp k y ≡ Less) (map (λ e. e.0) es) → T (below_all text_cmp (string_bytes k) (pairs es))
+below_pairs k [] h = tt
+below_pairs k (e ∷ es) h = both_true (is_lt (text_cmp (string_bytes k) (string_bytes e.0))) (below_all text_cmp (string_bytes k) (pairs es)) (ap is_lt h.0) (below_pairs k es h.1)
+
+sorted_pairs : {Y X : Type 0} (es : List (String Y × X)) → IsStrictlySortedBy string_cmp (map (λ e. e.0) es) → T (is_sorted text_cmp (pairs es))
+unfolding IsStrictlySortedBy
+sorted_pairs [] h = tt
+sorted_pairs (e ∷ es) h = both_hold (below_all text_cmp (string_bytes e.0) (pairs es)) (is_sorted text_cmp (pairs es)) (below_pairs e.0 es h.0) (sorted_pairs es h.1)
+
+-- the entries of a map are its pairs
+pub entries-seen : {Y X : Type 0} (m : BTreeMap (String Y) X) → tree.IsOrdered string_cmp m → pairs m.entries ≡ finmap.entries (seen m)
+entries-seen m sorted =
+    same_entries text_cmp nat_list_cmp_total text_cmp-IsAntisymmetric (pairs m.entries) (finmap.entries (seen m)) (sorted_pairs m.entries sorted) (finmap.entries_sorted (seen m))
+    (λ q. sym (finmap.get-from_entries nat_list_cmp_total (pairs m.entries) q) ∙ finmap.get-entries (seen m) q)

@@ -1,0 +1,7 @@
+use Rattle.std.proofs.Common.{◌≡◌, refl, sym, ap, ◌∙◌, rules}
+use Rattle.std.specs.FinMap as finmap
+use Rattle.xds_resource.proofs.NameMaps.{seen, get-seen, seen-inserted, seen-removed, entries-seen}
+use Rattle.xds_resource.proofs.names.NameMap.get.Goals as goal
+
+pub returns : goal.returns
+returns g c = c.get.ensures.value ∙ sym (get-seen c.self.inside.by_name c.args.name.now) ∙ ap (λ m. finmap.get m c.args.name.now) c.self.view_is

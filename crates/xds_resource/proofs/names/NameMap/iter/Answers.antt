@@ -1,0 +1,9 @@
+use Rattle.std.proofs.Common.{◌≡◌, refl, sym, ap, ◌∙◌, rules}
+use Rattle.std.specs.FinMap as finmap
+use Rattle.std.specs.Prelude.{string_bytes}
+use Rattle.xds_resource.specs.Names.{pairs}
+use Rattle.xds_resource.proofs.NameMaps.{seen, get-seen, seen-inserted, seen-removed, entries-seen}
+use Rattle.xds_resource.proofs.names.NameMap.iter.Goals as goal
+
+pub returns : goal.returns
+returns g c = ap pairs c.iter.ensures.rest ∙ entries-seen c.self.inside.by_name c.iter.ensures.ordered ∙ ap finmap.entries c.self.view_is
