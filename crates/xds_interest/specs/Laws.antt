@@ -7,6 +7,8 @@ use Rattle.xds_interest.specs.Interests.{Selection, covers, star_text, is_star, 
 use Rattle.xds_interest.specs.SotW.{listed, sotw_interest}
 use Rattle.xds_interest.specs.Delta.{Mention, delta_interest}
 use Rattle.xds_interest.specs.Touched.{sotw_touches, delta_touches}
+use Rattle.xds_interest.specs.Asked.{sotw_asked, sotw_kept, delta_asked, delta_kept}
+use Rattle.xds_interest.specs.Touches.{touches, sotw_touch, delta_touch}
 
 -- once something was named, the last list says all
 abbrev pub LastListSaysAll : Type 0
@@ -58,3 +60,18 @@ abbrev pub UntouchedKeepsCoverInDelta : Type 0
 UntouchedKeepsCoverInDelta =
     (t : TypeName) (ms : List Mention) (m : Mention) (name : List ℕ) → ms ≢ [] → delta_touches t m name ≡ false
     → covers (delta_interest t (ms ++ m ∷ [])) name ≡ covers (delta_interest t ms) name
+
+-- What is kept of the lists of a stream suffices: after one list more it is what is kept of them all.
+abbrev pub SotwIsKept : Type 0
+SotwIsKept = (t : TypeName) (lists : List (List (List ℕ))) (last : List (List ℕ)) → sotw_asked t (sotw_kept t lists) last ≡ sotw_kept t (lists ++ last ∷ [])
+
+-- and so it is with delta requests
+abbrev pub DeltaIsKept : Type 0
+DeltaIsKept = (t : TypeName) (ms : List Mention) (m : Mention) → delta_asked t (delta_kept t ms) m ≡ delta_kept t (ms ++ m ∷ [])
+
+-- the touched names, as a set
+abbrev pub SotwTouchIsASet : Type 0
+SotwTouchIsASet = (old new : Selection) (name : List ℕ) → touches (sotw_touch old new) name ≡ sotw_touches old new name
+
+abbrev pub DeltaTouchIsASet : Type 0
+DeltaTouchIsASet = (t : TypeName) (m : Mention) (name : List ℕ) → touches (delta_touch t m) name ≡ delta_touches t m name

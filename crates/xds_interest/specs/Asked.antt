@@ -1,0 +1,70 @@
+-- What is kept of a stream's requests for one type, so that its interest is known after one request more. This project's own.
+use Rattle.std.specs.Prelude.{ℕ, List, [], ◌∷◌, ◌++◌, Bool, true, false, ◌&&◌, ◌||◌, not, if◌then◌else◌, refl}
+use Rattle.std.specs.List.{list_any, filter}
+use Rattle.std.specs.FinSet as set
+use Rattle.std.specs.Coded.{Coded, code_by, coded×, coded_bool}
+use Rattle.xds_resource.specs.declared.types.TypeName.{TypeName}
+use Rattle.xds_resource.specs.Types.{row}
+use Rattle.xds_interest.specs.Interests.{Selection, selection_code, star_text, has_name, names_among}
+use Rattle.xds_interest.specs.SotW.{is_named, listed, sotw_interest}
+use Rattle.xds_interest.specs.Delta.{Mention, delta_interest}
+
+-- whether there was a request, whether a state-of-the-world list named something, and the interest
+pub record Asked : Type 0 where
+  pub begun : Bool
+  pub named : Bool
+  pub interest : Selection
+
+abbrev pub asked_code : Coded Asked
+asked_code =
+    code_by (Bool × (Bool × Selection)) (coded× coded_bool (coded× coded_bool selection_code)) (λ a. (a.begun, (a.named, a.interest)))
+    (λ p. record { begun = p.0; named = p.1.0; interest = p.1.1 }) (λ _. refl)
+
+-- a client that wants nothing
+abbrev pub nothing : Selection
+nothing = record { star = false; names = set.empty }
+
+-- all of a complete type, and nothing of an incomplete one
+abbrev pub everything : TypeName → Selection
+everything t = record { star = (row t).is_complete; names = set.empty }
+
+-- before the first request
+abbrev pub unasked : Asked
+unasked = record { begun = false; named = false; interest = nothing }
+
+-- state of the world: after one list more
+abbrev pub sotw_asked : TypeName → Asked → List (List ℕ) → Asked
+sotw_asked t a names = record {
+  begun = true;
+  named = a.named || is_named names;
+  interest = if a.named || is_named names then listed t names else everything t;
+}
+
+-- delta: whether the star stands after one request more, where it stood before or not
+abbrev pub star_after : Mention → Bool → Bool
+star_after m before = if has_name m.subscribe star_text then true else if has_name m.unsubscribe star_text then false else before
+
+-- delta: the explicit names after one request more, which are those that it subscribes and those of before that it doesn't unsubscribe
+abbrev pub names_after : TypeName → Mention → List (List ℕ) → List (List ℕ)
+names_after t m before = names_among t m.subscribe ++ filter (λ name. not (has_name m.unsubscribe name)) before
+
+-- delta: after one request more; before the first the star stands if that subscribes nothing
+abbrev pub delta_asked : TypeName → Asked → Mention → Asked
+delta_asked t a m = record {
+  begun = true;
+  named = false;
+  interest = record {
+    star = (row t).is_complete && star_after m (if a.begun then a.interest.star else not (is_named m.subscribe));
+    names = set.from_list (names_after t m (set.items a.interest.names));
+  };
+}
+
+-- what is kept of a whole stream's lists
+abbrev pub sotw_kept : TypeName → List (List (List ℕ)) → Asked
+sotw_kept t [] = unasked
+sotw_kept t (names ∷ lists) = record { begun = true; named = list_any is_named (names ∷ lists); interest = sotw_interest t (names ∷ lists) }
+
+-- what is kept of a whole stream's delta requests
+abbrev pub delta_kept : TypeName → List Mention → Asked
+delta_kept t [] = unasked
+delta_kept t (m ∷ ms) = record { begun = true; named = false; interest = delta_interest t (m ∷ ms) }
