@@ -1,7 +1,7 @@
 -- Conditions in a row: what holds of all of them from what holds of the first ones.
 use Rattle.std.proofs.Common.{◌≡◌, List, [], ◌∷◌, ◌++◌, Bool, true, false, cond, Result, Ok, Err, refl, ◌≢◌, ◌⊎◌, inl, inr}
 use Rattle.xds_resource.specs.declared.refusal.Refusal.{Refusal}
-use Rattle.xds_resource.specs.declared.refusal.Refusal.TheVariants.{NotJson, TooDeep, NotWhole, BadResource, BadName, TooLong, BadMessage, OutOfMemory, NotFound, CounterSpent, BadStamp, Device}
+use Rattle.xds_resource.specs.declared.refusal.Refusal.TheVariants.{NotJson, TooDeep, NotWhole, BadResource, BadName, TooLong, BadMessage, OutOfMemory, NotFound, CounterSpent, BadStamp, NoStream, WrongVariant, NonceSpent, Device, BadScript}
 use Rattle.xds_resource.specs.Refusals.{unless_refused}
 
 abbrev Conditions : Type 0
@@ -38,4 +38,8 @@ memory_or_not OutOfMemory = inl refl
 memory_or_not NotFound = inr (λ same. cc)
 memory_or_not CounterSpent = inr (λ same. cc)
 memory_or_not BadStamp = inr (λ same. cc)
+memory_or_not NoStream = inr (λ same. cc)
+memory_or_not WrongVariant = inr (λ same. cc)
+memory_or_not NonceSpent = inr (λ same. cc)
 memory_or_not Device = inr (λ same. cc)
+memory_or_not BadScript = inr (λ same. cc)

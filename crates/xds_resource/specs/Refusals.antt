@@ -1,7 +1,7 @@
 -- The numbered refusals, and what a call answers that may also find no memory. This project's own.
 use Rattle.std.specs.Prelude.{◌≡◌, ◌≢◌, ℕ, List, [], ◌∷◌, Bool, if◌then◌else◌, Result, Ok, Err, codes}
 use Rattle.xds_resource.specs.declared.refusal.Refusal.{Refusal}
-use Rattle.xds_resource.specs.declared.refusal.Refusal.TheVariants.{NotJson, TooDeep, NotWhole, BadResource, BadName, TooLong, BadMessage, OutOfMemory, NotFound, CounterSpent, BadStamp, Device}
+use Rattle.xds_resource.specs.declared.refusal.Refusal.TheVariants.{NotJson, TooDeep, NotWhole, BadResource, BadName, TooLong, BadMessage, OutOfMemory, NotFound, CounterSpent, BadStamp, NoStream, WrongVariant, NonceSpent, Device, BadScript}
 
 abbrev pub number_of : Refusal → ℕ
 number_of NotJson = 1
@@ -15,7 +15,11 @@ number_of OutOfMemory = 8
 number_of NotFound = 9
 number_of CounterSpent = 10
 number_of BadStamp = 11
+number_of NoStream = 12
+number_of WrongVariant = 13
+number_of NonceSpent = 14
 number_of Device = 19
+number_of BadScript = 21
 
 abbrev pub name_of : Refusal → List ℕ
 name_of NotJson = codes "NotJson"
@@ -29,7 +33,11 @@ name_of OutOfMemory = codes "OutOfMemory"
 name_of NotFound = codes "NotFound"
 name_of CounterSpent = codes "CounterSpent"
 name_of BadStamp = codes "BadStamp"
+name_of NoStream = codes "NoStream"
+name_of WrongVariant = codes "WrongVariant"
+name_of NonceSpent = codes "NonceSpent"
 name_of Device = codes "Device"
+name_of BadScript = codes "BadScript"
 
 -- a value, unless a condition holds: then the refusal of the first that does
 abbrev pub unless_refused : {A : Type 0} → List (Bool × Refusal) → A → Result A Refusal

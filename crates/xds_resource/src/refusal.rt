@@ -40,9 +40,21 @@ pub enum Refusal {
     /// The text is no version.
     #[error("11 BadStamp")]
     BadStamp,
+    /// There is no open stream of the number, or the client has none that it can use.
+    #[error("12 NoStream")]
+    NoStream,
+    /// The message is of the other variant than its stream.
+    #[error("13 WrongVariant")]
+    WrongVariant,
+    /// A stream has given out its greatest nonce.
+    #[error("14 NonceSpent")]
+    NonceSpent,
     /// A reader or a writer failed.
     #[error("19 Device")]
     Device,
+    /// A line of a script is none.
+    #[error("21 BadScript")]
+    BadScript,
 }
 
 impl Refusal {
@@ -64,7 +76,11 @@ impl Refusal {
             Refusal::NotFound => 9,
             Refusal::CounterSpent => 10,
             Refusal::BadStamp => 11,
+            Refusal::NoStream => 12,
+            Refusal::WrongVariant => 13,
+            Refusal::NonceSpent => 14,
             Refusal::Device => 19,
+            Refusal::BadScript => 21,
         }
     }
 
@@ -84,7 +100,11 @@ impl Refusal {
             Refusal::NotFound => "NotFound",
             Refusal::CounterSpent => "CounterSpent",
             Refusal::BadStamp => "BadStamp",
+            Refusal::NoStream => "NoStream",
+            Refusal::WrongVariant => "WrongVariant",
+            Refusal::NonceSpent => "NonceSpent",
             Refusal::Device => "Device",
+            Refusal::BadScript => "BadScript",
         }
     }
 }

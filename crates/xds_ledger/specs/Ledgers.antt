@@ -1,0 +1,139 @@
+-- What a server keeps of one type on one stream, beside the interest: what it told, what is unanswered, what was refused. This project's own.
+use Rattle.std.specs.Prelude.{ℕ, zero, suc, List, [], ◌∷◌, ◌++◌, Bool, true, false, ◌&&◌, ◌||◌, ◌==◌, not, if◌then◌else◌, Option, Some, None, bytes_eq, is_some, is_none, option_map, decimal, refl}
+use Rattle.std.specs.Option.{option_map_or, option_or}
+use Rattle.std.specs.List.{list_any}
+use Rattle.std.specs.FinMap as finmap
+use Rattle.std.specs.FinSet as set
+use Rattle.xds_resource.specs.declared.types.TypeName.{TypeName}
+use Rattle.xds_resource.specs.Writes.{text_cmp}
+use Rattle.xds_resource.specs.Names.{tabulate}
+use Rattle.xds_interest.specs.Interests.{Selection, covers}
+use Rattle.xds_interest.specs.Touches.{Touch, touches}
+use Rattle.xds_catalogue.specs.Holdings.{Entries}
+use Rattle.xds_ledger.specs.declared.variant.VariantName.{VariantName}
+use Rattle.xds_ledger.specs.declared.entry.Entry.{Entry}
+use Rattle.xds_ledger.specs.declared.entry.Entry.TheVariants.{Told, Unsure}
+use Rattle.xds_ledger.specs.declared.entry.Due.{Due}
+use Rattle.xds_ledger.specs.declared.entry.Due.TheVariants.{Stated, Removed}
+use Rattle.xds_ledger.specs.Variants.{is_whole}
+use Rattle.xds_ledger.specs.Owed.{Beliefs, something_owed}
+use Rattle.xds_ledger.specs.Offers.{Offer, offer, same_offer}
+
+-- a response that was sent and isn't answered: what it offers, and what the requests touched that were taken since
+pub record Sent : Type 0 where
+  pub offer : finmap.FinMap text_cmp Due
+  pub touched : List Touch
+
+pub record Account : Type 0 where
+  -- what the client is believed to hold
+  pub beliefs : finmap.FinMap text_cmp Entry
+  -- the number of the last response of the type, 0 before the first
+  pub nonce : ℕ
+  -- whether a response of the type was accepted on this stream
+  pub accepted : Bool
+  pub sent : Option Sent
+  -- the offer that was refused last, where none was accepted since
+  pub refused : Option (finmap.FinMap text_cmp Due)
+
+-- before the first request
+abbrev pub opened : Account
+opened = record { beliefs = finmap.empty; nonce = 0; accepted = false; sent = None; refused = None }
+
+-- ---- what is due
+
+-- Whether a response is due: something is owed that can be told, or, where responses are whole, none was accepted yet.
+abbrev pub is_due : VariantName → TypeName → Selection → Entries → Account → Bool
+is_due v t s m a = something_owed v t s m a.beliefs || (is_whole v t && not a.accepted)
+
+-- Whether the client is owed something: an answer of its own is out, or a response is due.
+abbrev pub owes : VariantName → TypeName → Selection → Entries → Account → Bool
+owes v t s m a = is_some a.sent || is_due v t s m a
+
+abbrev pub is_refused : Account → Offer → Bool
+is_refused a o = option_map_or (same_offer o) a.refused false
+
+-- The offer that is sent now, if one is: nothing is unanswered, a response is due, and the offer isn't the one that was refused.
+abbrev pub sending : VariantName → TypeName → Selection → Entries → Account → Option Offer
+sending v t s m a =
+    if is_none a.sent && is_due v t s m a && not (is_refused a (offer v t s m a.beliefs)) then Some (offer v t s m a.beliefs) else None
+
+-- once a response of this number was sent
+abbrev pub send : Account → Offer → ℕ → Account
+send a o nonce = record a { nonce = nonce; sent = Some (record { offer = o; touched = [] }) }
+
+-- ---- nonces
+
+-- the nonce of the response of this number, and none before the first
+abbrev pub nonce_text : ℕ → List ℕ
+nonce_text zero = []
+nonce_text (suc n) = decimal (suc n)
+
+-- whether a request with this nonce answers the unanswered response
+abbrev pub answers : Account → List ℕ → Bool
+answers a nonce = is_some a.sent && bytes_eq nonce (nonce_text a.nonce)
+
+-- Whether a request with this nonce is out of date: nothing is unanswered, and it names another response than the last.
+abbrev pub is_stale : Account → List ℕ → Bool
+is_stale a nonce = is_none a.sent && not (bytes_eq nonce []) && not (bytes_eq nonce (nonce_text a.nonce))
+
+-- ---- answers
+
+-- whether a request touched the name since the response was sent
+abbrev pub was_touched : Sent → List ℕ → Bool
+was_touched sent name = list_any (λ touch. touches touch name) sent.touched
+
+-- what is believed of a name that was told
+abbrev pub once_told : Due → Option Entry
+once_told (Stated v) = Some (Told v)
+once_told Removed = None
+
+-- What is believed of a name once the response is accepted, from what the response says of it and what was believed before.
+-- A name that was touched meanwhile is unsure; a whole response leaves no other name that wasn't touched.
+abbrev pub believed_accepted : Bool → Bool → Option Due → Option Entry → Option Entry
+believed_accepted whole touched (Some due) before = if touched then Some Unsure else once_told due
+believed_accepted whole touched None before = if whole && not touched then None else before
+
+abbrev pub beliefs_accepted : Bool → Sent → Beliefs → Beliefs
+beliefs_accepted whole sent beliefs =
+    tabulate (λ name. believed_accepted whole (was_touched sent name) (finmap.get sent.offer name) (finmap.get beliefs name)) (finmap.keys sent.offer ++ finmap.keys beliefs)
+
+-- the client accepts the response
+abbrev pub accept : VariantName → TypeName → Account → Sent → Account
+accept v t a sent = record a { beliefs = beliefs_accepted (is_whole v t) sent a.beliefs; accepted = true; sent = None; refused = None }
+
+-- the client rejects the response
+abbrev pub reject : Account → Sent → Account
+reject a sent = record a { sent = None; refused = Some sent.offer }
+
+-- once the unanswered response was settled by a request with this nonce, if it answers that response
+abbrev pub settled : VariantName → TypeName → Account → List ℕ → Bool → Account
+settled v t a nonce rejects = if answers a nonce then option_map_or (λ sent. if rejects then reject a sent else accept v t a sent) a.sent a else a
+
+-- ---- names
+
+-- What is believed of a name that a request touches: nothing if the interest doesn't cover it, and else unsure if the
+-- request mentions it or it was believed held.
+abbrev pub believed_touched : Bool → Bool → Option Entry → Option Entry
+believed_touched covered mentioned before = if covered && (mentioned || is_some before) then Some Unsure else None
+
+-- the same of any name: one that isn't touched keeps what is believed of it
+abbrev pub believed_taken : Selection → Touch → set.FinSet text_cmp → Beliefs → List ℕ → Option Entry
+believed_taken s touch mentioned beliefs name =
+    if touches touch name then believed_touched (covers s name) (set.contains mentioned name) (finmap.get beliefs name) else finmap.get beliefs name
+
+abbrev pub beliefs_taken : Selection → Touch → set.FinSet text_cmp → Beliefs → Beliefs
+beliefs_taken s touch mentioned beliefs = tabulate (believed_taken s touch mentioned beliefs) (set.items mentioned ++ finmap.keys beliefs)
+
+-- the response that is unanswered, once a request touched names
+abbrev pub touched_since : Sent → Touch → Sent
+touched_since sent touch = record sent { touched = sent.touched ++ touch ∷ [] }
+
+-- Once a request's names are taken: its interest, what it touches, and the names that it mentions.
+abbrev pub touch : Account → Selection → Touch → set.FinSet text_cmp → Account
+touch a s touched mentioned = record a { beliefs = beliefs_taken s touched mentioned a.beliefs; sent = option_map (λ sent. touched_since sent touched) a.sent }
+
+-- Once a client said which versions it holds: it was told these.
+abbrev pub resume : Account → finmap.FinMap text_cmp (List ℕ) → Account
+resume a versions = record a {
+  beliefs = tabulate (λ name. option_or (option_map Told (finmap.get versions name)) (finmap.get a.beliefs name)) (finmap.keys versions ++ finmap.keys a.beliefs);
+}

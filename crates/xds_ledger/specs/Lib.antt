@@ -1,0 +1,6 @@
+pub mod Variants
+pub mod Owed
+pub mod Offers
+pub mod Ledgers
+pub mod Sessions
+pub mod Laws

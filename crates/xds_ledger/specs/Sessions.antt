@@ -1,0 +1,80 @@
+-- A session is one type on one stream: what the client asked for, and the account of what it was told. One definition for
+-- both variants; a request of either says how the interest changes, what it touches, what it mentions and what it resumes from.
+use Rattle.std.specs.Prelude.{ℕ, List, [], ◌∷◌, Bool, true, false, ◌&&◌, not, if◌then◌else◌, Option, Some, None, option_map, refl}
+use Rattle.std.specs.FinMap as finmap
+use Rattle.std.specs.FinSet as set
+use Rattle.xds_resource.specs.declared.types.TypeName.{TypeName}
+use Rattle.xds_resource.specs.Writes.{text_cmp}
+use Rattle.xds_interest.specs.Interests.{Selection}
+use Rattle.xds_interest.specs.Asked.{Asked, unasked, sotw_asked, delta_asked}
+use Rattle.xds_interest.specs.Delta.{Mention}
+use Rattle.xds_interest.specs.Touches.{Touch, sotw_touch, delta_touch}
+use Rattle.xds_catalogue.specs.Holdings.{Entries}
+use Rattle.xds_ledger.specs.declared.variant.VariantName.{VariantName}
+use Rattle.xds_ledger.specs.Offers.{Offer}
+use Rattle.xds_ledger.specs.Ledgers as ledgers
+use Rattle.xds_ledger.specs.Ledgers.{Account, opened, is_stale, settled, touch, resume}
+
+pub record Session : Type 0 where
+  pub asked : Asked
+  pub account : Account
+
+-- before the first request: it is owed nothing
+abbrev pub unopened : Session
+unopened = record { asked = unasked; account = opened }
+
+-- the nonce of a request, and whether it has an error
+pub record Answer : Type 0 where
+  pub nonce : List ℕ
+  pub rejects : Bool
+
+-- what a request's names say: what is kept of the requests then, what it touches and mentions, and the versions that it resumes from
+pub record Names : Type 0 where
+  pub asked : Asked
+  pub touched : Touch
+  pub mentioned : set.FinSet text_cmp
+  pub versions : finmap.FinMap text_cmp (List ℕ)
+
+-- state of the world: the explicit names are mentioned
+abbrev pub sotw_names : TypeName → Asked → List (List ℕ) → Names
+sotw_names t before names =
+    let after = sotw_asked t before names in
+    record { asked = after; touched = sotw_touch before.interest after.interest; mentioned = after.interest.names; versions = finmap.empty }
+
+-- Delta: both lists mention names, but the first request mentions those that it subscribes, and it alone resumes from versions.
+abbrev pub delta_names : TypeName → Asked → Mention → finmap.FinMap text_cmp (List ℕ) → Names
+delta_names t before m versions =
+    let after = delta_asked t before m in
+    record {
+      asked = after;
+      touched = delta_touch t m;
+      mentioned = if before.begun then (delta_touch t m).names else after.interest.names;
+      versions = if before.begun then finmap.empty else versions;
+    }
+
+-- whether a request with this nonce is taken: the first one is, and else one that isn't out of date
+abbrev pub is_taken : Session → List ℕ → Bool
+is_taken s nonce = not (s.asked.begun && is_stale s.account nonce)
+
+-- after a request that is taken: it settles the response that it answers, and then its names are taken
+abbrev pub taken : VariantName → TypeName → Session → Answer → Names → Session
+taken v t s answer names = record {
+  asked = names.asked;
+  account = resume (touch (settled v t s.account answer.nonce answer.rejects) names.asked.interest names.touched names.mentioned) names.versions;
+}
+
+-- after a request
+abbrev pub take : VariantName → TypeName → Session → Answer → Names → Session
+take v t s answer names = if is_taken s answer.nonce then taken v t s answer names else s
+
+-- whether the client is owed something, by a replica that holds these entries
+abbrev pub owes : VariantName → TypeName → Session → Entries → Bool
+owes v t s m = s.asked.begun && ledgers.owes v t s.asked.interest m s.account
+
+-- the offer that a poll sends, if it sends one
+abbrev pub sending : VariantName → TypeName → Session → Entries → Option Offer
+sending v t s m = if s.asked.begun then ledgers.sending v t s.asked.interest m s.account else None
+
+-- once that was sent as the response of this number
+abbrev pub send : Session → Offer → ℕ → Session
+send s offer nonce = record s { account = ledgers.send s.account offer nonce }

@@ -1,0 +1,31 @@
+//! What sessions are, as statements that the prover checks. The functions do nothing.
+ghost use Rattle.xds_ledger.specs.Laws.{OfferSaysIt, AcceptedByName, TakenByName, UntouchedKeepsBelief, TouchedIsNotTold, SendingCommutes, AcceptedOwesNothing, NothingOwed, OffersAreToldApart};
+
+/// What an offer says, and what is believed after an answer and after a request, name by name.
+pub fn name_by_name()
+    ensures offered { OfferSaysIt }
+    ensures accepted { AcceptedByName }
+    ensures taken { TakenByName }
+    ensures owed { NothingOwed }
+{}
+
+/// A request leaves the names alone that it doesn't touch, and no touched name counts as told.
+pub fn touched_names()
+    ensures untouched { UntouchedKeepsBelief }
+    ensures touched { TouchedIsNotTold }
+{}
+
+/// To send and then take a request that doesn't answer is to take it and then send.
+pub fn sending_commutes()
+    ensures { SendingCommutes }
+{}
+
+/// Once an offer is accepted of which no name was touched, nothing is due.
+pub fn accepted_offers_settle()
+    ensures { AcceptedOwesNothing }
+{}
+
+/// Two offers are equal where each says what the other says.
+pub fn offers_are_told_apart()
+    ensures { OffersAreToldApart }
+{}

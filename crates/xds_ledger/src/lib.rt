@@ -1,0 +1,11 @@
+// What a server told a client of one type on one stream, and what it owes.
+#![tactic(auto)]
+
+pub mod entry;
+pub mod laws;
+pub mod variant;
+pub mod version;
+
+pub use entry::{Due, Entry};
+pub use variant::{Delta, StateOfTheWorld, Variant, VariantName};
+pub use version::Version;
