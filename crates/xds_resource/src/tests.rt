@@ -275,7 +275,7 @@ fn writes_are_ordered(rt: HostRuntime) -> Result<(), Fail> {
     let stamp = Stamp::parse_version("2-1")?;
     let ascending = [
         cluster_write(alloc, 1, 2, ",\"name\":\"b\",\"x\":9")?,
-        Write::deletion(stamp, String::from_str(alloc, "b")?),
+        Write::deletion(stamp, ArcStr::from_str(alloc, "b")?),
         cluster_write(alloc, 2, 1, ",\"name\":\"b\",\"x\":1")?,
         cluster_write(alloc, 2, 1, ",\"name\":\"b\",\"x\":2")?,
         cluster_write(alloc, 2, 2, ",\"name\":\"a\"")?,
