@@ -1,14 +1,12 @@
-// Worked examples, and what no clause says: that calls succeed where memory is ample, and what is printed.
-use crate::any::{AnyResource, AnyWrite};
-use crate::refusal::Refusal;
-use crate::resource::Resource;
-use crate::stamp::Stamp;
-use crate::types::{Cluster, Endpoint, Listener, ResourceType, Route, TypeName};
-use crate::write::Write;
+// Resources, writes and refusals.
 use serde_json::Value;
 use std::alloc::Global;
 use std::process::Abort;
 use std::test::Fail;
+use xds_resource::{
+    AnyResource, AnyWrite, Cluster, Endpoint, Listener, Refusal, Resource, ResourceType, Route,
+    Stamp, TypeName, Write,
+};
 
 const CLUSTER: &str = "type.googleapis.com/envoy.config.cluster.v3.Cluster";
 

@@ -1,7 +1,7 @@
-//! Worked runs of one and of two replicas, with ample memory.
-use super::Catalogue;
+// Worked runs of one and of two replicas.
 use std::alloc::Global;
 use std::test::Fail;
+use xds_catalogue::Catalogue;
 use xds_interest::Interest;
 use xds_resource::{Cluster, Refusal, Resource, ResourceType, Route, Stamp, Write};
 
