@@ -2,6 +2,7 @@
 use serde_json::Value;
 use std::alloc::Global;
 use std::process::Abort;
+use std::sync::ArcStr;
 use std::test::Fail;
 use xds_resource::{
     AnyResource, AnyWrite, Cluster, Endpoint, Listener, Refusal, Resource, ResourceType, Route,
