@@ -42,15 +42,3 @@ pub fn untouched_keeps_cover()
     ensures sotw { UntouchedKeepsCover }
     ensures delta { UntouchedKeepsCoverInDelta }
 {}
-
-/// What is kept of a stream's requests suffices to tell the interest after the next.
-pub fn what_is_kept_suffices()
-    ensures sotw { SotwIsKept }
-    ensures delta { DeltaIsKept }
-{}
-
-/// The touched names as a set are those of the definition.
-pub fn touched_names_are_a_set()
-    ensures sotw { SotwTouchIsASet }
-    ensures delta { DeltaTouchIsASet }
-{}

@@ -1,9 +1,9 @@
 -- Maps from names, and the sorted maps that stand for them.
 use Rattle.std.proofs.Common.{inl, inr, ◌≡◌, ℕ, List, [], ◌∷◌, ◌++◌, map, Bool, true, false, cond, ◌||◌, Option, Some, None, String, BTreeMap, refl, sym, ap, ◌∙◌}
-use Rattle.std.specs.Prelude.{T, ◌&&◌, string_bytes, bytes_eq}
+use Rattle.std.specs.Prelude.{T, ◌&&◌, string_bytes, bytes_eq, is_some}
 use Rattle.std.specs.declared.cmp.Ordering.TheVariants.{Less}
 use Rattle.std.specs.Ordering.{nat_cmp, is_lt, is_eq, eq_by_cmp}
-use Rattle.std.specs.Option.{option_map}
+use Rattle.std.specs.Option.{option_map, option_or}
 use Rattle.std.specs.List.{AllByRecursion, list_any}
 use Rattle.std.specs.List.Sorted.{IsStrictlySortedBy}
 use Rattle.std.specs.Cmp.Lexicographic.{slice_cmp}
@@ -12,6 +12,8 @@ use Rattle.std.specs.Map.{lookup, update}
 use Rattle.std.specs.BTreeMap as tree
 use Rattle.std.specs.BTreeMap.{is_at}
 use Rattle.std.specs.FinMap as finmap
+use Rattle.std.specs.FinSet as set
+use Rattle.std.proofs.lemmas.List.Folds.{list_any-append}
 use Rattle.std.specs.FinMap.Entries.{below_all, is_sorted, same_entries}
 use Rattle.std.proofs.lemmas.Cmp.{nat_list_cmp_total}
 use Rattle.std.proofs.lemmas.Map.Text.{is_eq-slice_cmp, btree_map_updates_text}
@@ -92,3 +94,72 @@ pub entries-seen : {Y X : Type 0} (m : BTreeMap (String Y) X) → tree.IsOrdered
 entries-seen m sorted =
     same_entries text_cmp nat_list_cmp_total text_cmp-IsAntisymmetric (pairs m.entries) (finmap.entries (seen m)) (sorted_pairs m.entries sorted) (finmap.entries_sorted (seen m))
     (λ q. sym (finmap.get-from_entries nat_list_cmp_total (pairs m.entries) q) ∙ finmap.get-entries (seen m) q)
+
+-- ---- maps that are tabulated
+
+abbrev pub has_text : List (List ℕ) → List ℕ → Bool
+has_text texts q = list_any (bytes_eq q) texts
+
+cond_same : {X : Type 0} (b : Bool) (x : X) → cond b x x ≡ x
+cond_same true x = refl
+cond_same false x = refl
+
+get-put_some : {X : Type 0} (m : finmap.FinMap text_cmp X) (k : List ℕ) (o : Option X) (q : List ℕ) → finmap.get (put_some m k o) q ≡ cond (bytes_eq k q) (option_or o (finmap.get m q)) (finmap.get m q)
+get-put_some m k None q = sym (cond_same (bytes_eq k q) (finmap.get m q))
+get-put_some m k (Some x) q = get-insert m k x q
+
+or_again : {X : Type 0} (b : Bool) (o : Option X) → option_or o (cond b o None) ≡ o
+or_again true None = refl
+or_again false None = refl
+or_again true (Some x) = refl
+or_again false (Some x) = refl
+
+tabulate_step : {X : Type 0} (here later : Bool) (o p : Option X) → (here ≡ true → o ≡ p) → cond here (option_or o (cond later p None)) (cond later p None) ≡ cond (here || later) p None
+tabulate_step true later o p same = ap (λ x. option_or x (cond later p None)) (same refl) ∙ or_again later p
+tabulate_step false later o p same = refl
+
+-- a tabulated map has f at each of the names
+pub get-tabulate : {X : Type 0} (f : List ℕ → Option X) (names : List (List ℕ)) (q : List ℕ) → finmap.get (tabulate f names) q ≡ cond (has_text names q) (f q) None
+get-tabulate f [] q = finmap.get-empty text_cmp q
+get-tabulate f (n ∷ ns) q =
+    get-put_some (tabulate f ns) n (f n) q ∙ ap (λ r. cond (bytes_eq n q) (option_or (f n) r) r) (get-tabulate f ns q)
+    ∙ tabulate_step (bytes_eq n q) (has_text ns q) (f n) (f q) (λ same. ap f (bytes_eq_tells n q same)) ∙ ap (λ b. cond (b || has_text ns q) (f q) None) (bytes_eq_swap n q)
+
+only_there : {X : Type 0} (b : Bool) (o : Option X) → (b ≡ false → o ≡ None) → cond b o None ≡ o
+only_there true o absent = refl
+only_there false o absent = sym (absent refl)
+
+-- and it is f, if f has nothing at other names
+pub get-tabulated : {X : Type 0} (f : List ℕ → Option X) (names : List (List ℕ)) (q : List ℕ) → (has_text names q ≡ false → f q ≡ None) → finmap.get (tabulate f names) q ≡ f q
+get-tabulated f names q absent = get-tabulate f names q ∙ only_there (has_text names q) (f q) absent
+
+-- ---- the names of a map
+
+has_text-by_order : (xs : List (List ℕ)) (q : List ℕ) → list_any (eq_by_cmp text_cmp q) xs ≡ has_text xs q
+has_text-by_order [] q = refl
+has_text-by_order (x ∷ xs) q = (λ i. is_eq-slice_cmp q x i || has_text-by_order xs q i)
+
+pub has_text-keys : {X : Type 0} (m : finmap.FinMap text_cmp X) (q : List ℕ) → has_text (finmap.keys m) q ≡ is_some (finmap.get m q)
+has_text-keys m q = sym (has_text-by_order (finmap.keys m) q) ∙ sym (finmap.contains_key-keys m q)
+
+pub has_text-items : (s : set.FinSet text_cmp) (q : List ℕ) → has_text (set.items s) q ≡ set.contains s q
+has_text-items s q = sym (has_text-by_order (set.items s) q) ∙ sym (set.contains-items s q)
+
+has_text-append : (xs ys : List (List ℕ)) (q : List ℕ) → has_text (xs ++ ys) q ≡ (has_text xs q || has_text ys q)
+has_text-append xs ys q = list_any-append (bytes_eq q) xs ys
+
+neither : (a b : Bool) → (a || b) ≡ false → (a ≡ false) × (b ≡ false)
+neither true b e = absurd cc
+neither false b e = (refl, e)
+
+-- a name that is in none of two lists
+pub in_neither : (xs ys : List (List ℕ)) (q : List ℕ) → has_text (xs ++ ys) q ≡ false → (has_text xs q ≡ false) × (has_text ys q ≡ false)
+in_neither xs ys q e = neither _ _ (sym (has_text-append xs ys q) ∙ e)
+
+none_by_is_some : {X : Type 0} (o : Option X) → is_some o ≡ false → o ≡ None
+none_by_is_some None e = refl
+none_by_is_some (Some x) e = absurd cc
+
+-- a map has nothing at a name that isn't among its names
+pub absent_key : {X : Type 0} (m : finmap.FinMap text_cmp X) (q : List ℕ) → has_text (finmap.keys m) q ≡ false → finmap.get m q ≡ None
+absent_key m q e = none_by_is_some (finmap.get m q) (sym (has_text-keys m q) ∙ e)
