@@ -80,3 +80,32 @@ and-or false a b = refl
 pub and_second : (p q : Bool) → (p && q) ≡ true → q ≡ true
 and_second true q h = h
 and_second false q h = absurd (true≢false (sym h))
+
+-- a name that isn't the star's text (p), and was subscribed now (s), unsubscribed now (u), or subscribed before (w)
+pub word_now : (p s u w : Bool) → ((not p && s) || (not u && (w && not p))) ≡ ((if s then true else if u then false else w) && not p)
+word_now true s u w = ap (λ b. not u && b) (and-false w) ∙ and-false (not u) ∙ sym (and-false _)
+word_now false true u w = refl
+word_now false false true w = refl
+word_now false false false w = refl
+
+-- a star that only a complete type (c) has, asked twice
+pub complete_twice : (c s u w : Bool) → (c && (if s then true else if u then false else (c && w))) ≡ (c && (if s then true else if u then false else w))
+complete_twice true s u w = refl
+complete_twice false s u w = refl
+
+pub exactly_one-swapped : (a b : Bool) → ((a && not b) || (b && not a)) ≡ exactly_one a b
+exactly_one-swapped true true = refl
+exactly_one-swapped true false = refl
+exactly_one-swapped false true = refl
+exactly_one-swapped false false = refl
+
+-- the star (w) of what only a complete type (c) has, where the request doesn't mention it
+pub kept_star : (c s u w : Bool) → (c ≡ false → w ≡ false) → (c && (s || u)) ≡ false → (c && (if s then true else if u then false else w)) ≡ w
+kept_star true s u w allowed h = unmentioned s u w h
+kept_star false s u w allowed h = sym (allowed refl)
+
+-- a name that is neither subscribed (s) nor unsubscribed (u) stays (w)
+pub kept_name : (p s u w : Bool) → (s || u) ≡ false → ((p && s) || (not u && w)) ≡ w
+kept_name p true u w h = absurd (true≢false h)
+kept_name p false true w h = absurd (true≢false h)
+kept_name p false false w h = ap (λ b. b || w) (and-false p)

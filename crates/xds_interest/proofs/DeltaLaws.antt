@@ -21,7 +21,7 @@ last_said-push [] m text = sym (option_or-None (said m text))
 last_said-push (x ∷ ms) m text = ap (λ o. option_or o (said x text)) (last_said-push ms m text) ∙ option_or_assoc (said m text) (last_said ms text) (said x text)
 
 -- the last word on a text after one request more
-last_word-push : (ms : List Mention) (m : Mention) (text : List ℕ) (start : Bool)
+pub last_word-push : (ms : List Mention) (m : Mention) (text : List ℕ) (start : Bool)
     → unwrap_or (last_said (ms ++ m ∷ []) text) start ≡ (if has_name m.subscribe text then true else if has_name m.unsubscribe text then false else unwrap_or (last_said ms text) start)
 last_word-push ms m text start =
     ap (λ o. unwrap_or o start) (last_said-push ms m text) ∙ last_word (has_name m.subscribe text) (has_name m.unsubscribe text) start (last_said ms text)
@@ -52,7 +52,7 @@ one_request_more t ms m name plain =
     contains-delta_plain t (ms ++ m ∷ []) name plain ∙ last_word-push ms m name false
     ∙ ap (λ b. if has_name m.subscribe name then true else if has_name m.unsubscribe name then false else b) (sym (contains-delta_plain t ms name plain))
 
-star-push : (ms : List Mention) (m : Mention) → ms ≢ []
+pub star-push : (ms : List Mention) (m : Mention) → ms ≢ []
     → unwrap_or (last_said (ms ++ m ∷ []) star_text) (opens_unnamed (ms ++ m ∷ []))
     ≡ (if has_name m.subscribe star_text then true else if has_name m.unsubscribe star_text then false else unwrap_or (last_said ms star_text) (opens_unnamed ms))
 star-push ms m some = ap (λ b. unwrap_or (last_said (ms ++ m ∷ []) star_text) b) (opens_unnamed-push ms m some) ∙ last_word-push ms m star_text (opens_unnamed ms)

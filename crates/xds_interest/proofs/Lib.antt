@@ -3,3 +3,4 @@ pub mod Listed
 pub mod Choices
 pub mod SotwLaws
 pub mod DeltaLaws
+pub mod AskedLaws

@@ -17,11 +17,11 @@ use Rattle.xds_interest.proofs.Texts.{from_list_same}
 abbrev pub selection : Bool → set.FinSet text_cmp → Selection
 selection star names = record { star = star; names = names }
 
-or-false : (b : Bool) → (b || false) ≡ b
+pub or-false : (b : Bool) → (b || false) ≡ b
 or-false true = refl
 or-false false = refl
 
-or_swap : (a b : Bool) → (a || b) ≡ (b || a)
+pub or_swap : (a b : Bool) → (a || b) ≡ (b || a)
 or_swap true b = sym (or_right b true refl)
 or_swap false b = sym (or-false b)
 

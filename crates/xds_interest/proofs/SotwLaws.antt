@@ -16,7 +16,7 @@ use Rattle.xds_interest.specs.Laws.{LastListSaysAll, WhileNothingIsNamed, ListCo
 use Rattle.xds_interest.proofs.Texts.{contains-from_texts}
 use Rattle.xds_interest.proofs.Choices.{and-false, and-or, and_second, or_kept, neither_one}
 
-last_list-push : (lists : List (List (List ℕ))) (last : List (List ℕ)) → last_list (lists ++ last ∷ []) ≡ last
+pub last_list-push : (lists : List (List (List ℕ))) (last : List (List ℕ)) → last_list (lists ++ last ∷ []) ≡ last
 last_list-push [] last = refl
 last_list-push (x ∷ []) last = refl
 last_list-push (x ∷ (y ∷ lists)) last = last_list-push (y ∷ lists) last

@@ -1,5 +1,5 @@
 -- Lists of texts and the sets that they make.
-use Rattle.std.proofs.Common.{◌≡◌, ℕ, List, [], ◌∷◌, map, Bool, true, false, cond, ◌||◌, refl, sym, ap, ◌∙◌, inl, inr, String, BTreeSet}
+use Rattle.std.proofs.Common.{◌≡◌, ℕ, List, [], ◌∷◌, map, Bool, true, false, cond, ◌||◌, refl, sym, ap, ◌∙◌, String, BTreeSet}
 use Rattle.std.specs.List.{list_any, AllZip}
 use Rattle.std.specs.Str.{bytes_eq}
 use Rattle.std.specs.String.{string_bytes, string_cmp}
@@ -10,9 +10,8 @@ use Rattle.std.specs.BTreeMap.{is_at}
 use Rattle.std.specs.BTreeSet as sorted
 use Rattle.std.specs.FinSet as set
 use Rattle.std.proofs.lemmas.Map.Text.{is_eq-slice_cmp, btree_set_updates_text}
-use Rattle.std.proofs.lemmas.Slice.Eq.{bytes_eq-Decides}
-use Rattle.std.proofs.lemmas.Bool.{cases_Bool, false_from_ne_true, true≢false}
 use Rattle.xds_resource.specs.Writes.{text_cmp}
+use Rattle.xds_resource.proofs.NameMaps.{bytes_eq_swap}
 use Rattle.xds_interest.specs.Interests.{has_name}
 
 pub has_name-by_order : (xs : List (List ℕ)) (q : List ℕ) → list_any (eq_by_cmp text_cmp q) xs ≡ has_name xs q
@@ -32,16 +31,6 @@ from_list_same xs ys same =
 pub has_name-strings : {Y : Type 0} (ks : List (String Y)) (q : List ℕ) → has_name (map string_bytes ks) q ≡ list_any (is_at (λ k. slice_cmp nat_cmp q (string_bytes k))) ks
 has_name-strings [] q = refl
 has_name-strings (k ∷ ks) q = (λ i. sym (is_eq-slice_cmp q (string_bytes k)) i || has_name-strings ks q i)
-
-pub bytes_eq_same : (x : List ℕ) → bytes_eq x x ≡ true
-bytes_eq_same x = (bytes_eq-Decides x x).1 refl
-
-pub bytes_eq_swap : (x y : List ℕ) → bytes_eq x y ≡ bytes_eq y x
-bytes_eq_swap x y =
-    elim (cases_Bool (bytes_eq y x)) [
-      | inl same ↦ (bytes_eq-Decides x y).1 (sym ((bytes_eq-Decides y x).0 same)) ∙ sym same
-      | inr other ↦ false_from_ne_true _ (λ same. true≢false (sym ((bytes_eq-Decides y x).1 (sym ((bytes_eq-Decides x y).0 same))) ∙ other)) ∙ sym other
-    ]
 
 cond_or : (b x : Bool) → cond b true x ≡ (b || x)
 cond_or true x = refl
@@ -63,3 +52,11 @@ strings_of_clones (k ∷ ks) (l ∷ ls) h = (λ i. h.0 i ∷ strings_of_clones k
 pub or_twice : (b : Bool) → (b || (b || false)) ≡ (b || false)
 or_twice true = refl
 or_twice false = refl
+
+-- a set has the texts that its items are
+pub has_name-items : (s : set.FinSet text_cmp) (q : List ℕ) → has_name (set.items s) q ≡ set.contains s q
+has_name-items s q = sym (has_name-by_order (set.items s) q) ∙ sym (set.contains-items s q)
+
+-- sets of the same texts are equal
+pub same_texts : (s n : set.FinSet text_cmp) → ((q : List ℕ) → set.contains s q ≡ set.contains n q) → s ≡ n
+same_texts s n same = set.same_set nat_list_cmp_total (set.slice_cmp-IsAntisymmetric set.nat_cmp-IsAntisymmetric) s n same

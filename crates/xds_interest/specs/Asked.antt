@@ -1,5 +1,5 @@
 -- What is kept of a stream's requests for one type, so that its interest is known after one request more. This project's own.
-use Rattle.std.specs.Prelude.{ℕ, List, [], ◌∷◌, ◌++◌, Bool, true, false, ◌&&◌, ◌||◌, not, if◌then◌else◌, refl}
+use Rattle.std.specs.Prelude.{◌≡◌, ℕ, List, [], ◌∷◌, ◌++◌, Bool, true, false, ◌&&◌, ◌||◌, not, if◌then◌else◌, refl}
 use Rattle.std.specs.List.{list_any, filter}
 use Rattle.std.specs.FinSet as set
 use Rattle.std.specs.Coded.{Coded, code_by, coded×, coded_bool}
@@ -68,3 +68,7 @@ sotw_kept t (names ∷ lists) = record { begun = true; named = list_any is_named
 abbrev pub delta_kept : TypeName → List Mention → Asked
 delta_kept t [] = unasked
 delta_kept t (m ∷ ms) = record { begun = true; named = false; interest = delta_interest t (m ∷ ms) }
+
+-- the star of an incomplete type does not stand
+abbrev pub IsStarOfComplete : TypeName → Asked → Type 0
+IsStarOfComplete t a = (row t).is_complete ≡ false → a.interest.star ≡ false

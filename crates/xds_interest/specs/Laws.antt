@@ -7,7 +7,7 @@ use Rattle.xds_interest.specs.Interests.{Selection, covers, star_text, is_star, 
 use Rattle.xds_interest.specs.SotW.{listed, sotw_interest}
 use Rattle.xds_interest.specs.Delta.{Mention, delta_interest}
 use Rattle.xds_interest.specs.Touched.{sotw_touches, delta_touches}
-use Rattle.xds_interest.specs.Asked.{sotw_asked, sotw_kept, delta_asked, delta_kept}
+use Rattle.xds_interest.specs.Asked.{Asked, IsStarOfComplete, unasked, sotw_asked, sotw_kept, delta_asked, delta_kept}
 use Rattle.xds_interest.specs.Touches.{touches, sotw_touch, delta_touch}
 
 -- once something was named, the last list says all
@@ -75,3 +75,21 @@ SotwTouchIsASet = (old new : Selection) (name : List ℕ) → touches (sotw_touc
 
 abbrev pub DeltaTouchIsASet : Type 0
 DeltaTouchIsASet = (t : TypeName) (m : Mention) (name : List ℕ) → touches (delta_touch t m) name ≡ delta_touches t m name
+
+-- only a complete type's star stands in what is kept
+abbrev pub KeptStarIsOfComplete : Type 0
+KeptStarIsOfComplete =
+    (t : TypeName) → IsStarOfComplete t unasked × ((a : Asked) (names : List (List ℕ)) → IsStarOfComplete t (sotw_asked t a names))
+    × ((a : Asked) (m : Mention) → IsStarOfComplete t (delta_asked t a m))
+
+-- a name that a list does not touch stays covered, or not covered, by what is kept
+abbrev pub UntouchedKeepsCoverOfKept : Type 0
+UntouchedKeepsCoverOfKept =
+    (t : TypeName) (old : Asked) (names : List (List ℕ)) (name : List ℕ) → touches (sotw_touch old.interest (sotw_asked t old names).interest) name ≡ false
+    → covers (sotw_asked t old names).interest name ≡ covers old.interest name
+
+-- and so does one that a delta request after the first does not touch
+abbrev pub UntouchedKeepsCoverOfKeptInDelta : Type 0
+UntouchedKeepsCoverOfKeptInDelta =
+    (t : TypeName) (old : Asked) (m : Mention) (name : List ℕ) → old.begun ≡ true → IsStarOfComplete t old → touches (delta_touch t m) name ≡ false
+    → covers (delta_asked t old m).interest name ≡ covers old.interest name

@@ -1,6 +1,6 @@
 //! What interests are, as statements that the prover checks. The functions do nothing.
 ghost use Rattle.xds_interest.specs.Examples.{SotwClusters, SotwRoutes, SotwTwice, DeltaClusters, DeltaRoutes};
-ghost use Rattle.xds_interest.specs.Laws.{WhileNothingIsNamed, LastListSaysAll, ListCoversItsNames, OneRequestMore, OneRequestMoreForTheStar, StarIsNoName, IncompleteHasNoStar, UntouchedKeepsCover, UntouchedKeepsCoverInDelta, SotwIsKept, DeltaIsKept, SotwTouchIsASet, DeltaTouchIsASet};
+ghost use Rattle.xds_interest.specs.Laws.{WhileNothingIsNamed, LastListSaysAll, ListCoversItsNames, OneRequestMore, OneRequestMoreForTheStar, StarIsNoName, IncompleteHasNoStar, UntouchedKeepsCover, UntouchedKeepsCoverInDelta, SotwIsKept, DeltaIsKept, SotwTouchIsASet, DeltaTouchIsASet, KeptStarIsOfComplete, UntouchedKeepsCoverOfKept, UntouchedKeepsCoverOfKeptInDelta};
 
 /// Streams of state of the world, worked out request by request. An empty list is the star of
 /// clusters only while nothing was named.
@@ -41,4 +41,24 @@ pub fn stars()
 pub fn untouched_keeps_cover()
     ensures sotw { UntouchedKeepsCover }
     ensures delta { UntouchedKeepsCoverInDelta }
+{}
+
+/// What is kept of a stream's requests suffices to tell the interest after the next.
+pub fn what_is_kept_suffices()
+    ensures sotw { SotwIsKept }
+    ensures delta { DeltaIsKept }
+{}
+
+/// The touched names as a set are those of the definition.
+pub fn touched_names_are_a_set()
+    ensures sotw { SotwTouchIsASet }
+    ensures delta { DeltaTouchIsASet }
+{}
+
+/// A name that a request does not touch stays covered, or not covered, by what is kept of the
+/// requests. Only a complete type has the star there.
+pub fn untouched_keeps_cover_of_kept()
+    ensures star { KeptStarIsOfComplete }
+    ensures sotw { UntouchedKeepsCoverOfKept }
+    ensures delta { UntouchedKeepsCoverOfKeptInDelta }
 {}

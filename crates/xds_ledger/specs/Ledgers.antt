@@ -8,7 +8,8 @@ use Rattle.xds_resource.specs.declared.types.TypeName.{TypeName}
 use Rattle.xds_resource.specs.Writes.{text_cmp}
 use Rattle.xds_resource.specs.Names.{tabulate}
 use Rattle.xds_interest.specs.Interests.{Selection, covers}
-use Rattle.xds_interest.specs.Touches.{Touch, touches}
+use Rattle.std.specs.Coded.{Coded, code_by, coded×, coded_ℕ, coded_bool, coded_list, coded_option}
+use Rattle.xds_interest.specs.Touches.{Touch, touch_code, touches}
 use Rattle.xds_catalogue.specs.Holdings.{Entries}
 use Rattle.xds_ledger.specs.declared.variant.VariantName.{VariantName}
 use Rattle.xds_ledger.specs.declared.entry.Entry.{Entry}
@@ -16,8 +17,8 @@ use Rattle.xds_ledger.specs.declared.entry.Entry.TheVariants.{Told, Unsure}
 use Rattle.xds_ledger.specs.declared.entry.Due.{Due}
 use Rattle.xds_ledger.specs.declared.entry.Due.TheVariants.{Stated, Removed}
 use Rattle.xds_ledger.specs.Variants.{is_whole}
-use Rattle.xds_ledger.specs.Owed.{Beliefs, something_owed}
-use Rattle.xds_ledger.specs.Offers.{Offer, offer, same_offer}
+use Rattle.xds_ledger.specs.Owed.{Beliefs, entry_code, something_owed}
+use Rattle.xds_ledger.specs.Offers.{Offer, due_code, offer, same_offer}
 
 -- a response that was sent and isn't answered: what it offers, and what the requests touched that were taken since
 pub record Sent : Type 0 where
@@ -34,6 +35,17 @@ pub record Account : Type 0 where
   pub sent : Option Sent
   -- the offer that was refused last, where none was accepted since
   pub refused : Option (finmap.FinMap text_cmp Due)
+
+abbrev pub sent_code : Coded Sent
+sent_code =
+    code_by (finmap.FinMap text_cmp Due × List Touch) (coded× (finmap.code (coded_list coded_ℕ) due_code) (coded_list touch_code)) (λ s. (s.offer, s.touched))
+    (λ p. record { offer = p.0; touched = p.1 }) (λ _. refl)
+
+abbrev pub account_code : Coded Account
+account_code =
+    code_by (finmap.FinMap text_cmp Entry × (ℕ × (Bool × (Option Sent × Option (finmap.FinMap text_cmp Due)))))
+    (coded× (finmap.code (coded_list coded_ℕ) entry_code) (coded× coded_ℕ (coded× coded_bool (coded× (coded_option sent_code) (coded_option (finmap.code (coded_list coded_ℕ) due_code))))))
+    (λ a. (a.beliefs, (a.nonce, (a.accepted, (a.sent, a.refused))))) (λ p. record { beliefs = p.0; nonce = p.1.0; accepted = p.1.1.0; sent = p.1.1.1.0; refused = p.1.1.1.1 }) (λ _. refl)
 
 -- before the first request
 abbrev pub opened : Account
@@ -132,8 +144,10 @@ touched_since sent touch = record sent { touched = sent.touched ++ touch ∷ [] 
 abbrev pub touch : Account → Selection → Touch → set.FinSet text_cmp → Account
 touch a s touched mentioned = record a { beliefs = beliefs_taken s touched mentioned a.beliefs; sent = option_map (λ sent. touched_since sent touched) a.sent }
 
--- Once a client said which versions it holds: it was told these.
+-- what is believed once a client said which versions it holds: it was told these
+abbrev pub beliefs_resumed : finmap.FinMap text_cmp (List ℕ) → Beliefs → Beliefs
+beliefs_resumed versions beliefs =
+    tabulate (λ name. option_or (option_map Told (finmap.get versions name)) (finmap.get beliefs name)) (finmap.keys versions ++ finmap.keys beliefs)
+
 abbrev pub resume : Account → finmap.FinMap text_cmp (List ℕ) → Account
-resume a versions = record a {
-  beliefs = tabulate (λ name. option_or (option_map Told (finmap.get versions name)) (finmap.get a.beliefs name)) (finmap.keys versions ++ finmap.keys a.beliefs);
-}
+resume a versions = record a { beliefs = beliefs_resumed versions a.beliefs }

@@ -3,4 +3,5 @@ pub mod Owed
 pub mod Offers
 pub mod Ledgers
 pub mod Sessions
+pub mod Parts
 pub mod Laws

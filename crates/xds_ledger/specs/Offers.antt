@@ -1,5 +1,6 @@
 -- What a response says: of each of its names the version that is stated, or that it is removed. This project's own.
-use Rattle.std.specs.Prelude.{ℕ, List, [], ◌∷◌, Bool, true, false, ◌&&◌, if◌then◌else◌, Option, Some, None, bytes_eq, option_map}
+use Rattle.std.specs.Prelude.{◌≡◌, ℕ, List, [], ◌∷◌, Bool, true, false, ◌&&◌, if◌then◌else◌, Option, Some, None, bytes_eq, option_map, refl}
+use Rattle.std.specs.Coded.{Coded, code_by, coded_ℕ, coded_list, coded_option}
 use Rattle.std.specs.Option.{option_map_or}
 use Rattle.std.specs.List.{list_all}
 use Rattle.std.specs.FinMap as finmap
@@ -16,6 +17,21 @@ use Rattle.xds_ledger.specs.Owed.{Beliefs, present, owed_of, is_owed, names_know
 
 abbrev pub Offer : Type 0
 Offer = finmap.FinMap text_cmp Due
+
+abbrev pub stated_version : Due → Option (List ℕ)
+stated_version (Stated version) = Some version
+stated_version Removed = None
+
+abbrev pub due_stated : Option (List ℕ) → Due
+due_stated (Some version) = Stated version
+due_stated None = Removed
+
+abbrev pub due_stated_again : (d : Due) → due_stated (stated_version d) ≡ d
+due_stated_again (Stated version) = refl
+due_stated_again Removed = refl
+
+abbrev pub due_code : Coded Due
+due_code = code_by (Option (List ℕ)) (coded_option (coded_list coded_ℕ)) stated_version due_stated due_stated_again
 
 -- What an offer says of a name: a whole response states what is present, another one what is owed and can be told.
 abbrev pub offered : VariantName → TypeName → Selection → Entries → Beliefs → List ℕ → Option Due

@@ -1,12 +1,11 @@
 -- What a client is owed of each name, from what it was told and what the catalogue holds. This project's own.
-use Rattle.std.specs.Prelude.{ℕ, List, ◌++◌, Bool, true, false, ◌&&◌, ◌||◌, not, if◌then◌else◌, Option, Some, None, bytes_eq, is_some, option_map, unwrap_or, refl}
+use Rattle.std.specs.Prelude.{◌≡◌, ℕ, List, ◌++◌, Bool, true, false, ◌&&◌, ◌||◌, not, if◌then◌else◌, Option, Some, None, bytes_eq, is_some, option_map, unwrap_or, refl}
 use Rattle.std.specs.Option.{option_and_then, option_map_or}
 use Rattle.std.specs.List.{list_any}
 use Rattle.std.specs.FinMap as finmap
 use Rattle.std.specs.Coded.{Coded, code_by, coded_ℕ, coded_list, coded_option}
 use Rattle.xds_resource.specs.declared.types.TypeName.{TypeName}
 use Rattle.xds_resource.specs.Writes.{StampedWrite, text_cmp, version_of}
-use Rattle.xds_resource.specs.Names.{tabulate}
 use Rattle.xds_interest.specs.Interests.{Selection, covers}
 use Rattle.xds_catalogue.specs.Holdings.{Entries}
 use Rattle.xds_catalogue.specs.Content.{is_live}
@@ -20,6 +19,21 @@ use Rattle.xds_ledger.specs.Variants.{is_told}
 -- What the server believes that a client holds: each name with the version that it was told, or unsure.
 abbrev pub Beliefs : Type 0
 Beliefs = finmap.FinMap text_cmp Entry
+
+abbrev pub told_version : Entry → Option (List ℕ)
+told_version (Told version) = Some version
+told_version Unsure = None
+
+abbrev pub entry_told : Option (List ℕ) → Entry
+entry_told (Some version) = Told version
+entry_told None = Unsure
+
+abbrev pub entry_told_again : (e : Entry) → entry_told (told_version e) ≡ e
+entry_told_again (Told version) = refl
+entry_told_again Unsure = refl
+
+abbrev pub entry_code : Coded Entry
+entry_code = code_by (Option (List ℕ)) (coded_option (coded_list coded_ℕ)) told_version entry_told entry_told_again
 
 -- the version of a live write
 abbrev pub live_version : StampedWrite → Option (List ℕ)

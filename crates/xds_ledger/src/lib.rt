@@ -1,11 +1,16 @@
 // What a server told a client of one type on one stream, and what it owes.
 #![tactic(auto)]
 
+mod beliefs;
 pub mod entry;
 pub mod laws;
+pub mod nonces;
+mod owed;
+mod sent;
 pub mod variant;
 pub mod version;
 
 pub use entry::{Due, Entry};
+pub use nonces::Nonces;
 pub use variant::{Delta, StateOfTheWorld, Variant, VariantName};
 pub use version::Version;

@@ -5,3 +5,4 @@ pub mod TypesApart
 pub mod VersionTexts
 pub mod WriteTies
 pub mod NameMaps
+pub mod MadeMaps

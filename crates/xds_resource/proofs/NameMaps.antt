@@ -104,7 +104,7 @@ cond_same : {X : Type 0} (b : Bool) (x : X) → cond b x x ≡ x
 cond_same true x = refl
 cond_same false x = refl
 
-get-put_some : {X : Type 0} (m : finmap.FinMap text_cmp X) (k : List ℕ) (o : Option X) (q : List ℕ) → finmap.get (put_some m k o) q ≡ cond (bytes_eq k q) (option_or o (finmap.get m q)) (finmap.get m q)
+pub get-put_some : {X : Type 0} (m : finmap.FinMap text_cmp X) (k : List ℕ) (o : Option X) (q : List ℕ) → finmap.get (put_some m k o) q ≡ cond (bytes_eq k q) (option_or o (finmap.get m q)) (finmap.get m q)
 get-put_some m k None q = sym (cond_same (bytes_eq k q) (finmap.get m q))
 get-put_some m k (Some x) q = get-insert m k x q
 

@@ -16,3 +16,13 @@ put_some m name (Some x) = finmap.insert m name x
 abbrev pub tabulate : {X : Type 0} → (List ℕ → Option X) → List (List ℕ) → finmap.FinMap text_cmp X
 tabulate f [] = finmap.empty
 tabulate f (name ∷ names) = put_some (tabulate f names) name (f name)
+
+-- a map after what f makes of each of some entries was put at its name
+abbrev pub put_all : {X Y : Type 0} → (List ℕ → X → Option Y) → finmap.FinMap text_cmp Y → List (List ℕ × X) → finmap.FinMap text_cmp Y
+put_all f m [] = m
+put_all f m (e ∷ es) = put_all f (put_some m e.0 (f e.0 e.1)) es
+
+-- a map after what f makes of each of some names was put at it
+abbrev pub put_each : {Y : Type 0} → (List ℕ → Option Y) → finmap.FinMap text_cmp Y → List (List ℕ) → finmap.FinMap text_cmp Y
+put_each f m [] = m
+put_each f m (n ∷ ns) = put_each f (put_some m n (f n)) ns

@@ -1,8 +1,8 @@
 // Maps from names, in ascending byte order of the names.
-ghost use Rattle.std.specs.Prelude.{◌≡◌, ◌≢◌, map, is_some, None, Some, IfOk, IfErr, OnErr, string_bytes};
+ghost use Rattle.std.specs.Prelude.{◌≡◌, is_some, IfOk, IfErr, OnOk, OnErr, string_bytes};
 ghost use Rattle.std.specs.Option.{option_map};
 ghost use Rattle.std.specs.FinMap as finmap;
-ghost use Rattle.xds_resource.specs.Names.{pairs};
+ghost use Rattle.xds_resource.specs.Names.{pairs, put_some};
 
 use crate::refusal::Refusal;
 use std::alloc::Global;
@@ -62,6 +62,18 @@ impl<V: Drop> NameMap<V> {
             Ok(old) => Ok(old),
             Err(_) => Err(Refusal::OutOfMemory),
         }
+    }
+
+    /// Puts a value at a name, if there is one to put. Refused only by `OutOfMemory`.
+    pub fn put(&mut self, alloc: Global, name: &str, value: Option<V>) -> Result<(), Refusal>
+        ensures ok { OnOk result (self.new ≡ put_some self.old name.now value) }
+        ensures err { OnErr result (self.new ≡ self.old) }
+        ensures refused { IfErr result (λ e. e ≡ Refusal.OutOfMemory) }
+    {
+        if let Some(value) = value {
+            self.insert(String::from_str(alloc, name)?, value)?;
+        }
+        Ok(())
     }
 
     /// Takes a name out, and answers what stood at it.
