@@ -4,3 +4,5 @@ pub mod Choices
 pub mod SotwLaws
 pub mod DeltaLaws
 pub mod AskedLaws
+pub mod NameSets
+pub mod Made

@@ -1,5 +1,5 @@
 -- The interest of an incremental (delta) stream, from its subscribe and unsubscribe lists, as Envoy's "xDS REST and gRPC protocol" tells.
-use Rattle.std.specs.Prelude.{ℕ, List, [], ◌∷◌, Bool, true, false, ◌&&◌, not, Option, Some, None, unwrap_or, if◌then◌else◌}
+use Rattle.std.specs.Prelude.{ℕ, List, [], ◌∷◌, map, String, string_bytes, Bool, true, false, ◌&&◌, not, Option, Some, None, unwrap_or, if◌then◌else◌}
 use Rattle.std.specs.List.{filter, flat_map}
 use Rattle.std.specs.Option.{option_or}
 use Rattle.std.specs.FinSet as set
@@ -12,6 +12,10 @@ use Rattle.xds_interest.specs.SotW.{is_named}
 pub record Mention : Type 0 where
   pub subscribe : List (List ℕ)
   pub unsubscribe : List (List ℕ)
+
+-- a request by its lists of strings
+abbrev pub mention_of : {Y : Type 0} → List (String Y) → List (String Y) → Mention
+mention_of subscribe unsubscribe = record { subscribe = map string_bytes subscribe; unsubscribe = map string_bytes unsubscribe }
 
 -- What one request says of a text: subscribed or not, or nothing where it does not mention it. In both lists it is subscribed.
 abbrev pub said : Mention → List ℕ → Option Bool

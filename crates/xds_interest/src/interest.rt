@@ -1,12 +1,19 @@
 // The interest of one client in one type.
 ghost use Rattle.std.specs.Prelude.{◌≡◌, map, [], ◌∷◌, IfOk, IfErr};
-ghost use Rattle.std.specs.String.{string_bytes};
+ghost use Rattle.std.specs.String.{string_bytes, string_cmp};
+ghost use Rattle.std.specs.List.Sorted.{IsStrictlySortedBy};
+ghost use Rattle.std.specs.FinSet as set;
 ghost use Rattle.xds_resource.specs.declared.refusal.Refusal.TheVariants.{OutOfMemory};
-ghost use Rattle.xds_interest.specs.Interests.{covers, is_star};
+ghost use Rattle.xds_interest.specs.Interests.{covers};
 ghost use Rattle.xds_interest.specs.SotW.{sotw_interest};
+ghost use Rattle.xds_interest.specs.Asked.{nothing};
+ghost use Rattle.xds_interest.specs.Touches.{sotw_touch};
 
+use crate::lists::has_star_text;
+use crate::names::NameSet;
+use crate::touched::Touched;
 use std::alloc::Global;
-use std::collections::BTreeSet;
+use std::collections::btree_set::Iter;
 use std::marker::{Model, PhantomData};
 use xds_resource::{Refusal, ResourceType, TypeName};
 
@@ -15,31 +22,45 @@ use xds_resource::{Refusal, ResourceType, TypeName};
 #[derive(Drop)]
 pub struct Interest<T: ResourceType> {
     star: bool,
-    names: BTreeSet<String>,
+    names: NameSet,
     kind: PhantomData<T>,
 }
 
 impl<T: ResourceType> Model for Interest<T> {
-    ghost use Rattle.std.specs.Prelude.{map};
-    ghost use Rattle.std.specs.String.{string_bytes};
-    ghost use Rattle.std.specs.FinSet as set;
     ghost use Rattle.xds_interest.specs.Interests.{Selection, selection_code};
 
     ghost Value = { Selection };
 
     ghost coded = { selection_code };
 
-    ghost view = { λ i. record { star = i.star; names = set.from_list (map string_bytes i.names.keys) } };
+    ghost view = { λ i. record { star = i.star; names = i.names } };
 }
 
-// Whether a text in a request of the type is the star.
-fn is_star(kind: TypeName, text: &str) -> bool
-    ensures { result ≡ is_star kind text.now }
+// Whether a stream's first list is the star, since it names nothing or names `*`.
+fn opens_star(kind: TypeName, names: &[String]) -> bool
+    ensures { result ≡ (sotw_interest kind (map string_bytes names.now ∷ [])).star }
 {
-    kind.is_complete() && text == "*"
+    kind.is_complete() && (names.is_empty() || has_star_text(names))
 }
 
 impl<T: ResourceType> Interest<T> {
+    /// The interest of a client that wants nothing.
+    pub fn nothing(alloc: Global) -> Interest<T>
+        ensures { result ≡ nothing }
+    {
+        Interest::of_parts(false, NameSet::new(alloc))
+    }
+
+    pub(crate) fn of_parts(star: bool, names: NameSet) -> Interest<T>
+        ensures { result ≡ record { star = star; names = names } }
+    {
+        Interest {
+            star,
+            names,
+            kind: PhantomData,
+        }
+    }
+
     /// The interest of a client whose first request lists these names. No name at all is the star
     /// of a complete type, and nothing of an incomplete one.
     ///
@@ -48,20 +69,10 @@ impl<T: ResourceType> Interest<T> {
         ensures ok { IfOk result (λ i. i ≡ sotw_interest T.TYPE (map string_bytes names.now ∷ [])) }
         ensures err { IfErr result (λ e. e ≡ OutOfMemory) }
     {
-        let mut star = T::TYPE.is_complete() && names.is_empty();
-        let mut explicit = BTreeSet::new(alloc);
-        for name in names {
-            if is_star(T::TYPE, name) {
-                star = true;
-            } else {
-                explicit.insert(name.clone()?)?;
-            }
-        }
-        Ok(Interest {
-            star,
-            names: explicit,
-            kind: PhantomData,
-        })
+        let star = opens_star(T::TYPE, names);
+        let mut explicit = NameSet::new(alloc);
+        explicit.insert_names(T::TYPE, names)?;
+        Ok(Interest::of_parts(star, explicit))
     }
 
     /// Whether the client wants the resource of this name, as one of its explicit names or by the star.
@@ -78,12 +89,39 @@ impl<T: ResourceType> Interest<T> {
         self.star
     }
 
+    /// The explicit names, in ascending order.
+    pub fn names(&self) -> Iter<'_, String>
+        ensures names { set.from_list (map string_bytes result) ≡ self.now.names }
+        ensures ascending { IsStrictlySortedBy string_cmp result }
+    {
+        self.names.iter()
+    }
+
+    pub(crate) fn explicit(&self) -> &NameSet
+        ensures { result.now ≡ self.now.names }
+    {
+        &self.names
+    }
+
+    /// The names that a state-of-the-world list touches, which leads from this interest to the
+    /// next: those that are explicit in one of the two alone, and every name if the star stands in
+    /// one of them alone. Refused only by `OutOfMemory`.
+    pub fn touched_until(&self, alloc: Global, next: &Interest<T>) -> Result<Touched, Refusal>
+        ensures ok { IfOk result (λ t. t ≡ sotw_touch self.now next.now) }
+        ensures err { IfErr result (λ e. e ≡ OutOfMemory) }
+    {
+        let mut touched = NameSet::new(alloc);
+        touched.insert_difference(&self.names, &next.names)?;
+        touched.insert_difference(&next.names, &self.names)?;
+        Ok(Touched::of_parts(self.star != next.star, touched))
+    }
+
     /// An equal interest, with memory of its own. Refused only by `OutOfMemory`.
     pub fn try_copy(&self, alloc: Global) -> Result<Interest<T>, Refusal>
         ensures ok { IfOk result (λ i. i ≡ self.now) }
         ensures err { IfErr result (λ e. e ≡ OutOfMemory) }
     {
-        let names = self.names.clone()?;
+        let names = self.names.try_copy()?;
         Ok(Interest {
             star: self.star,
             names,

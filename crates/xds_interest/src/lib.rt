@@ -1,7 +1,16 @@
-// What a client of an xDS control plane wants of one type: the star, explicit names, or both.
+// What a client of an xDS control plane wants of one type, and what its requests leave of that.
 #![tactic(auto)]
 
+pub mod delta;
 pub mod interest;
 pub mod laws;
+mod lists;
+mod names;
+pub mod sotw;
+pub mod touched;
 
+pub use delta::DeltaNames;
 pub use interest::Interest;
+pub use sotw::SotwNames;
+pub use touched::Touched;
+

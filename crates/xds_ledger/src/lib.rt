@@ -1,12 +1,12 @@
 // What a server told a client of one type on one stream, and what it owes.
 #![tactic(auto)]
 
-//mod beliefs;
+mod beliefs;
 pub mod entry;
 pub mod laws;
 pub mod nonces;
 mod owed;
-//mod sent;
+mod sent;
 pub mod variant;
 pub mod version;
 

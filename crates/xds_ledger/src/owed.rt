@@ -1,5 +1,5 @@
 // What a client is owed of one name.
-ghost use Rattle.std.specs.Prelude.{◌≡◌, IfOk, IfErr, option_map};
+ghost use Rattle.std.specs.Prelude.{◌≡◌, IfOk, IfErr, option_map, false};
 ghost use Rattle.std.specs.Option.{option_map_or};
 ghost use Rattle.xds_resource.specs.Stamps.{version_text};
 ghost use Rattle.xds_resource.specs.declared.refusal.Refusal.TheVariants.{OutOfMemory};
@@ -46,7 +46,7 @@ pub(crate) fn is_owed(
     entry: Option<&Entry>,
     present: Option<Stamp>,
 ) -> bool
-    ensures { result ≡ option_map_or (is_told variant kind) (owed (option_map (λ e. e.now) entry) (option_map (λ s. version_text s.counter s.writer) present)) false }
+    ensures { result ≡ option_map_or (is_told variant kind) (owed (option_map (λ e. e.now) entry.entry) (option_map (λ s. version_text s.counter s.writer) present)) false }
 {
     match (entry, present) {
         (None, None) => false,
@@ -63,7 +63,7 @@ pub(crate) fn due_of(
     entry: Option<&Entry>,
     present: Option<Stamp>,
 ) -> Result<Option<Due>, Refusal>
-    ensures ok { IfOk result (λ d. d ≡ owed (option_map (λ e. e.now) entry) (option_map (λ s. version_text s.counter s.writer) present)) }
+    ensures ok { IfOk result (λ d. d ≡ owed (option_map (λ e. e.now) entry.entry) (option_map (λ s. version_text s.counter s.writer) present)) }
     ensures err { IfErr result (λ e. e ≡ OutOfMemory) }
 {
     match (entry, present) {

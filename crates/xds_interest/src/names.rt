@@ -1,0 +1,123 @@
+// Sets of names, which interests and touched names are made of.
+ghost use Rattle.std.specs.Prelude.{◌≡◌, map, IfOk, IfErr, OnOk, OnErr};
+ghost use Rattle.std.specs.String.{string_bytes, string_cmp};
+ghost use Rattle.std.specs.List.Sorted.{IsStrictlySortedBy};
+ghost use Rattle.std.specs.FinSet as set;
+ghost use Rattle.xds_resource.specs.declared.refusal.Refusal.TheVariants.{OutOfMemory};
+ghost use Rattle.xds_interest.specs.Interests.{names_among};
+
+use crate::lists::is_star;
+use std::alloc::Global;
+use std::collections::BTreeSet;
+use std::collections::btree_set::Iter;
+use std::marker::Model;
+use xds_resource::{Refusal, TypeName};
+
+// A set of names, in ascending byte order. Contracts see the finite set of their bytes.
+#[derive(Drop)]
+pub(crate) struct NameSet {
+    names: BTreeSet<String>,
+}
+
+impl Model for NameSet {
+    ghost use Rattle.std.specs.Prelude.{map};
+    ghost use Rattle.std.specs.String.{string_bytes};
+    ghost use Rattle.std.specs.Coded.{coded_ℕ, coded_list};
+    ghost use Rattle.std.specs.FinSet as set;
+    ghost use Rattle.xds_resource.specs.Writes.{text_cmp};
+
+    ghost Value = { set.FinSet text_cmp };
+
+    ghost coded = { set.code (coded_list coded_ℕ) };
+
+    ghost view = { λ s. set.from_list (map string_bytes s.names.keys) };
+}
+
+impl NameSet {
+    pub(crate) fn new(alloc: Global) -> NameSet
+        ensures { result ≡ set.empty }
+    {
+        NameSet {
+            names: BTreeSet::new(alloc),
+        }
+    }
+
+    pub(crate) fn contains(&self, name: &str) -> bool
+        ensures { result ≡ set.contains self.now name.now }
+    {
+        self.names.contains(name)
+    }
+
+    // The names in ascending order.
+    pub(crate) fn iter(&self) -> Iter<'_, String>
+        ensures names { set.from_list (map string_bytes result) ≡ self.now }
+        ensures ascending { IsStrictlySortedBy string_cmp result }
+    {
+        self.names.iter()
+    }
+
+    // Puts a copy of a name in.
+    pub(crate) fn insert(&mut self, name: &String) -> Result<(), Refusal>
+        ensures ok { OnOk result (self.new ≡ set.insert self.old (string_bytes name.now)) }
+        ensures err { OnErr result (self.new ≡ self.old) }
+        ensures refused { IfErr result (λ e. e ≡ OutOfMemory) }
+    {
+        let copy = name.clone()?;
+        self.names.insert(copy)?;
+        Ok(())
+    }
+
+    pub(crate) fn remove(&mut self, name: &str)
+        ensures { self.new ≡ set.remove self.old name.now }
+    {
+        self.names.remove(name);
+    }
+
+    // Puts in the texts of a request of the type that are names. After an `Err` some of them may be in.
+    pub(crate) fn insert_names(&mut self, kind: TypeName, texts: &[String]) -> Result<(), Refusal>
+        ensures ok { OnOk result (self.new ≡ set.union self.old (set.from_list (names_among kind (map string_bytes texts.now)))) }
+        ensures refused { IfErr result (λ e. e ≡ OutOfMemory) }
+    {
+        for text in texts {
+            if !is_star(kind, text) {
+                self.insert(text)?;
+            }
+        }
+        Ok(())
+    }
+
+    // Takes the texts of a list out.
+    pub(crate) fn remove_all(&mut self, texts: &[String])
+        ensures { self.new ≡ set.difference self.old (set.from_list (map string_bytes texts.now)) }
+    {
+        for text in texts {
+            self.remove(text);
+        }
+    }
+
+    // Puts in the names of one set that another lacks. After an `Err` some of them may be in.
+    pub(crate) fn insert_difference(
+        &mut self,
+        from: &NameSet,
+        other: &NameSet,
+    ) -> Result<(), Refusal>
+        ensures ok { OnOk result (self.new ≡ set.union self.old (set.difference from.now other.now)) }
+        ensures refused { IfErr result (λ e. e ≡ OutOfMemory) }
+    {
+        for name in from.iter() {
+            if other.contains(name) {
+                continue;
+            }
+            self.insert(name)?;
+        }
+        Ok(())
+    }
+
+    pub(crate) fn try_copy(&self) -> Result<NameSet, Refusal>
+        ensures ok { IfOk result (λ s. s ≡ self.now) }
+        ensures err { IfErr result (λ e. e ≡ OutOfMemory) }
+    {
+        let names = self.names.clone()?;
+        Ok(NameSet { names })
+    }
+}
