@@ -24,3 +24,7 @@ left_by s touched name entry = if touches touched name then (if covers s name th
 -- of a name that a request mentions
 abbrev pub made_unsure : Selection → Touch → List ℕ → Option Entry
 made_unsure s touched name = if touches touched name && covers s name then Some Unsure else None
+
+-- of a name that a client says it holds at a version
+abbrev pub told_as : List ℕ → List ℕ → Option Entry
+told_as name version = Some (Told version)

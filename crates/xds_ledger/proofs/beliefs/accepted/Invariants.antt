@@ -1,0 +1,10 @@
+use Rattle.std.proofs.Common.{◌≡◌, map, string_bytes, drop}
+use Rattle.std.specs.FinMap as finmap
+use Rattle.xds_resource.specs.Names.{pairs, put_all, put_each}
+use Rattle.xds_ledger.specs.Ledgers.{was_touched}
+use Rattle.xds_ledger.specs.Parts.{told_unless_touched, kept_beside, left_by, made_unsure}
+use Rattle.xds_ledger.proofs.beliefs.accepted.Given as goal
+
+-- what is left decides
+abbrev pub invariant-loop-name : goal.invariant-loop-name
+invariant-loop-name l = put_all (kept_beside l.whole l.sent) l.next (pairs l.name-iterator) ≡ put_all (kept_beside l.whole l.sent) l.initial.next (finmap.entries l.beliefs)
