@@ -4,4 +4,5 @@ pub mod Offers
 pub mod Ledgers
 pub mod Sessions
 pub mod Parts
+pub mod OfferParts
 pub mod Laws

@@ -1,9 +1,10 @@
 // What the server believes that a client holds, after an answer and after a request. Each function makes the whole
 // anew, so that a refusal leaves what was.
-ghost use Rattle.std.specs.Prelude.{◌≡◌, Some, map, option_map, string_bytes, IfOk, IfErr};
+ghost use Rattle.std.specs.Prelude.{◌≡◌, ℕ, List, map, string_bytes, IfOk, IfErr};
 ghost use Rattle.std.specs.FinMap as finmap;
 ghost use Rattle.std.specs.FinSet as set;
 ghost use Rattle.xds_resource.specs.declared.refusal.Refusal.TheVariants.{OutOfMemory};
+ghost use Rattle.xds_resource.specs.Writes.{text_cmp};
 ghost use Rattle.xds_resource.specs.Names.{put_all};
 ghost use Rattle.xds_ledger.specs.Ledgers.{was_touched, beliefs_accepted, beliefs_taken, beliefs_resumed};
 ghost use Rattle.xds_ledger.specs.Parts.{told_unless_touched, kept_beside, left_by, made_unsure};
@@ -144,13 +145,14 @@ pub(crate) fn taken<T: ResourceType>(
     Ok(next)
 }
 
-/// After a client said which versions it holds.
+/// After a client said which versions it holds, in ascending order of names.
 pub(crate) fn resumed(
     alloc: Global,
     versions: &[(&str, &str)],
     beliefs: NameMap<Entry>,
 ) -> Result<NameMap<Entry>, Refusal>
-    ensures ok { IfOk result (λ m. m ≡ beliefs_resumed (finmap.from_entries (map (λ p. (p.0.now, p.1.now)) versions.now)) beliefs) }
+    ensures ok { (held : finmap.FinMap text_cmp (List ℕ)) → map (λ p. (p.0.now, p.1.now)) versions.now ≡ finmap.entries held
+        → IfOk result (λ m. m ≡ beliefs_resumed held beliefs) }
     ensures err { IfErr result (λ e. e ≡ OutOfMemory) }
 {
     let mut next = beliefs;

@@ -5,6 +5,7 @@ mod beliefs;
 pub mod entry;
 pub mod laws;
 pub mod nonces;
+mod offers;
 mod owed;
 mod sent;
 pub mod variant;
