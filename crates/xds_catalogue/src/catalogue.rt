@@ -157,6 +157,7 @@ impl<T: ResourceType> Catalogue<T> {
     /// `OutOfMemory`.
     pub fn content(&self, alloc: Global, interest: &Interest<T>) -> Result<Vec<&Write<T>>, Refusal>
         ensures ok { IfOk result (λ v. map (λ w. w.now) v.items ≡ content self.now.entries interest.now) }
+        ensures named { IsCatalogue self.now.entries }
         ensures err { IfErr result (λ e. e ≡ Refusal.OutOfMemory) }
     {
         let entries = self.entries(alloc)?;

@@ -10,6 +10,7 @@ use Rattle.std.specs.FinMap as finmap
 use Rattle.std.specs.FinMap.Entries.{below_all, is_sorted}
 use Rattle.std.proofs.lemmas.Map.Text.{is_eq-slice_cmp}
 use Rattle.xds_resource.specs.Writes.{text_cmp}
+use Rattle.xds_resource.proofs.MadeMaps.{holds_first, holds_second, less_is_no_tie}
 use Rattle.xds_resource.proofs.NameMaps.{bytes_eq_same, bytes_eq_tells, bytes_eq_swap, same_names}
 use Rattle.xds_ledger.specs.declared.entry.Due.{Due}
 use Rattle.xds_ledger.specs.declared.entry.Due.TheVariants.{Stated, Removed}
@@ -64,19 +65,6 @@ agree (Some d) (Some e) left right = ap Some (same_due_tells d e (left d refl))
 same_offer_tells : (a b : Offer) → same_offer a b ≡ true → a ≡ b
 same_offer_tells a b is =
     same_names a b (λ q. agree (finmap.get a q) (finmap.get b q) (λ d. within_says a b q d (first_true _ _ is)) (λ d. within_says b a q d (second_true _ _ is)))
-
-holds_first : (a b : Bool) → T (a && b) → T a
-holds_first true b h = tt
-holds_first false b h = h
-
-holds_second : (a b : Bool) → T (a && b) → T b
-holds_second true b h = h
-holds_second false b h = absurd h
-
-less_is_no_tie : (o : Ordering) → T (is_lt o) → is_eq o ≡ false
-less_is_no_tie Less h = refl
-less_is_no_tie Equal h = absurd h
-less_is_no_tie Greater h = absurd h
 
 -- each of some entries, all above the key k, is found where k stands before them
 abbrev FoundIn : List (List ℕ × Due) → List (List ℕ × Due) → Type 0

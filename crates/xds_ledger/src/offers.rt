@@ -94,15 +94,13 @@ pub(crate) fn offer<T: ResourceType>(
     ensures ok { IfOk result (λ m. m ≡ offer variant T.TYPE interest.now catalogue.now.entries beliefs.now) }
     ensures err { IfErr result (λ e. e ≡ OutOfMemory) }
 {
-    let delta = variant == VariantName::Delta;
-    let whole = !delta && T::TYPE.is_complete();
     let shown = catalogue.content(alloc, interest)?;
-    let stated = all_stated(alloc, whole, beliefs, &shown)?;
-    if delta {
-        with_removals(alloc, interest, catalogue, beliefs, stated)
-    } else {
-        Ok(stated)
+    let stated = all_stated(alloc, variant.is_whole(T::TYPE), beliefs, &shown)?;
+    if !variant.is_delta() {
+        return Ok(stated);
     }
+    let said = with_removals(alloc, interest, catalogue, beliefs, stated)?;
+    Ok(said)
 }
 
 // Whether an offer says this of a name.

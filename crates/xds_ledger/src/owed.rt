@@ -4,7 +4,7 @@ ghost use Rattle.std.specs.Option.{option_map_or};
 ghost use Rattle.xds_resource.specs.Stamps.{version_text};
 ghost use Rattle.xds_resource.specs.declared.refusal.Refusal.TheVariants.{OutOfMemory};
 ghost use Rattle.xds_ledger.specs.Owed.{present, owed};
-ghost use Rattle.xds_ledger.specs.Variants.{is_told, tells_removals as tells_removals_of};
+ghost use Rattle.xds_ledger.specs.Variants.{is_told};
 
 use crate::entry::{Due, Entry};
 use crate::variant::VariantName;
@@ -32,13 +32,6 @@ pub(crate) fn present<T: ResourceType>(
     }
 }
 
-// Whether a removal can be told.
-pub(crate) fn tells_removals(variant: VariantName, kind: TypeName) -> bool
-    ensures { result ≡ tells_removals_of variant kind }
-{
-    variant == VariantName::Delta || kind.is_complete()
-}
-
 // Whether something is owed of a name that can be told. It takes no memory.
 pub(crate) fn is_owed(
     variant: VariantName,
@@ -51,7 +44,7 @@ pub(crate) fn is_owed(
     match (entry, present) {
         (None, None) => false,
         (None, Some(_)) => true,
-        (Some(_), None) => tells_removals(variant, kind),
+        (Some(_), None) => variant.tells_removals(kind),
         (Some(Entry::Unsure), Some(_)) => true,
         (Some(Entry::Told(version)), Some(stamp)) => !version.is_of(stamp),
     }

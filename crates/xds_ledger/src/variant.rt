@@ -1,4 +1,8 @@
 // The two variants of the protocol, by name and as type parameters.
+ghost use Rattle.std.specs.Prelude.{◌≡◌};
+
+use xds_resource::TypeName;
+
 /// A variant of the protocol.
 #[derive(Clone, Copy, Debug, PartialEq, Eq)]
 pub enum VariantName {
@@ -6,6 +10,33 @@ pub enum VariantName {
     StateOfTheWorld,
     /// A request and a response tell what differs.
     Delta,
+}
+
+impl VariantName {
+    ghost use Rattle.xds_ledger.specs.Variants.{is_delta, is_whole, tells_removals};
+
+    pub fn is_delta(self) -> bool
+        ensures { result ≡ is_delta self }
+    {
+        match self {
+            VariantName::StateOfTheWorld => false,
+            VariantName::Delta => true,
+        }
+    }
+
+    /// Whether each response of the type is the whole, so that what it lacks is gone.
+    pub fn is_whole(self, kind: TypeName) -> bool
+        ensures { result ≡ is_whole self kind }
+    {
+        !self.is_delta() && kind.is_complete()
+    }
+
+    /// Whether there is a way to tell a client of the type that a name is gone.
+    pub fn tells_removals(self, kind: TypeName) -> bool
+        ensures { result ≡ tells_removals self kind }
+    {
+        self.is_delta() || kind.is_complete()
+    }
 }
 
 /// A variant as a type parameter.

@@ -12,20 +12,20 @@ use Rattle.xds_resource.specs.Writes.{text_cmp}
 use Rattle.xds_resource.specs.Names.{put_some, put_all, put_each}
 use Rattle.xds_resource.proofs.NameMaps.{has_text, get-put_some, bytes_eq_tells, bytes_eq_swap}
 
-holds_first : (a b : Bool) → T (a && b) → T a
+pub holds_first : (a b : Bool) → T (a && b) → T a
 holds_first true b h = tt
 holds_first false b h = h
 
-holds_second : (a b : Bool) → T (a && b) → T b
+pub holds_second : (a b : Bool) → T (a && b) → T b
 holds_second true b h = h
 holds_second false b h = absurd h
 
-less_is_no_tie : (o : Ordering) → T (is_lt o) → is_eq o ≡ false
+pub less_is_no_tie : (o : Ordering) → T (is_lt o) → is_eq o ≡ false
 less_is_no_tie Less h = refl
 less_is_no_tie Equal h = absurd h
 less_is_no_tie Greater h = absurd h
 
-find_below : {X : Type 0} (k : List ℕ) (es : List (List ℕ × X)) → T (below_all text_cmp k es) → finmap.find text_cmp k es ≡ None
+pub find_below : {X : Type 0} (k : List ℕ) (es : List (List ℕ × X)) → T (below_all text_cmp k es) → finmap.find text_cmp k es ≡ None
 find_below k [] h = refl
 find_below k (e ∷ es) h =
     ap (λ b. cond b (Some e.1) (finmap.find text_cmp k es)) (less_is_no_tie (text_cmp k e.0) (holds_first (is_lt (text_cmp k e.0)) (below_all text_cmp k es) h))
