@@ -4,6 +4,7 @@
 mod beliefs;
 pub mod entry;
 pub mod laws;
+pub mod ledger;
 pub mod nonces;
 mod offers;
 mod owed;
@@ -12,6 +13,7 @@ pub mod variant;
 pub mod version;
 
 pub use entry::{Due, Entry};
+pub use ledger::Ledger;
 pub use nonces::Nonces;
 pub use variant::{Delta, StateOfTheWorld, Variant, VariantName};
 pub use version::Version;
