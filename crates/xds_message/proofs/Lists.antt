@@ -1,5 +1,5 @@
 -- Lists of values, item by item.
-use Rattle.std.proofs.Common.{◌≡◌, ℕ, zero, suc, ◌<◌, List, [], ◌∷◌, length, get_or, map, Option, Some, None, Result, Ok, Err, IsErrAnd, refl, sym, ap, ◌∙◌, arith}
+use Rattle.std.proofs.Common.{◌≡◌, ℕ, zero, suc, ◌<◌, List, [], ◌∷◌, ◌++◌, length, get_or, map, Option, Some, None, Result, Ok, Err, IsErrAnd, refl, sym, ap, ◌∙◌, arith}
 use Rattle.serde_json.specs.Data.{Data, null, boolean, number, string, array, object, Items}
 use Rattle.serde_json.specs.Find.{as_str, as_array}
 use Rattle.serde_json.specs.View.{view, items_of, items_view}
@@ -46,3 +46,8 @@ pub Reads-refused : {X Y W Z : Type 0} (P : Y → Type 0) (Q : Z → Type 0) (vi
 Reads-refused P Q view part_view (Ok x) part e failed part_failed h to = absurd failed
 Reads-refused P Q view part_view (Err f) part e failed part_failed h to =
     λ other. let k = (rw part_failed at h) (rw (← failed) other) in (failed ∙ k.0, λ y fits. let z = to y fits in k.1 z.0 z.1)
+
+-- an item that moves from the end of one list to the beginning of another
+pub map-moved : {A B C : Type 0} (f : A → C) (g : B → C) (xs : List A) (x : A) (y : B) (ys : List B) → f x ≡ g y → map f (xs ++ x ∷ []) ++ map g ys ≡ map f xs ++ map g (y ∷ ys)
+map-moved f g [] x y ys e = (λ i. e i ∷ map g ys)
+map-moved f g (z ∷ xs) x y ys e = ap (λ zs. f z ∷ zs) (map-moved f g xs x y ys e)

@@ -2,5 +2,8 @@ pub mod Spelling
 pub mod Messages
 pub mod Written
 pub mod Responses
+pub mod Versions
+pub mod DeltaMessages
+pub mod DeltaWritten
 pub mod Laws
 pub mod StampedWrites
