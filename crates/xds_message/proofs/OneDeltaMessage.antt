@@ -9,7 +9,7 @@ use Rattle.xds_message.specs.Spelling.{set_value}
 use Rattle.xds_message.specs.Messages.{SpellsIdentity, SpellsFailure}
 use Rattle.xds_message.specs.Versions.{VersionMap, IsVersions, text_members}
 use Rattle.xds_message.specs.DeltaMessages.{DeltaRequest, DeltaResponse, VersionedResource, SpellsDeltaRequest, SpellsDeltaResponse, SpellsResource, IsResources}
-use Rattle.xds_message.proofs.Lists.{items_of-injective}
+use Rattle.xds_message.proofs.Lists.{items_of-injective, IsArrayOf}
 use Rattle.xds_message.proofs.OneMessage.{IsOrDefault-unique, IsText-unique, IsTexts-unique, IsInner-unique, SpellsIdentity-unique, SpellsFailure-unique}
 use Rattle.xds_message.proofs.VersionLemmas.{text_members-injective}
 
@@ -48,13 +48,10 @@ each_unique (d ∷ ds) [] ns p q = absurd p
 each_unique (d ∷ ds) (m ∷ ms) [] p q = absurd q
 each_unique (d ∷ ds) (m ∷ ms) (n ∷ ns) p q = (λ i. SpellsResource-unique d m n p.0 q.0 i ∷ each_unique ds ms ns p.1 q.1 i)
 
-abbrev IsArrayOf : Data → List VersionedResource → Type 0
-IsArrayOf d rs = (ds : List Data) × (d ≡ array (items_of ds)) × AllZip SpellsResource ds rs
-
 same_items : (d : Data) (ds es : List Data) → d ≡ array (items_of ds) → d ≡ array (items_of es) → ds ≡ es
 same_items d ds es p q = let same = sym p ∙ q in items_of-injective ds es cc
 
-IsArrayOf-unique : (d : Data) (ms ns : List VersionedResource) → IsArrayOf d ms → IsArrayOf d ns → ms ≡ ns
+IsArrayOf-unique : (d : Data) (ms ns : List VersionedResource) → IsArrayOf SpellsResource d ms → IsArrayOf SpellsResource d ns → ms ≡ ns
 IsArrayOf-unique d ms ns p q = each_unique q.0 ms ns (subst (λ ds. AllZip SpellsResource ds ms) (same_items d p.0 q.0 p.1 q.1) p.2) q.2
 
 IsResources-unique : (o : Option Data) (ms ns : List VersionedResource) → IsResources o ms → IsResources o ns → ms ≡ ns

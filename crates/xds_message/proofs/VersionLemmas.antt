@@ -17,6 +17,7 @@ use Rattle.serde_json.specs.Find.{as_str, as_object}
 use Rattle.serde_json.specs.View.{view, members_view}
 use Rattle.serde_json.proofs.Views.{Entry}
 use Rattle.xds_resource.specs.Writes.{text_cmp}
+use Rattle.xds_message.proofs.Lists.{none_left}
 use Rattle.xds_message.specs.Versions.{VersionMap, pairs_of, text_members, versions_data, pairs_data}
 
 abbrev pub Pair : Type 0
@@ -53,12 +54,8 @@ from_sorted-insert_entry es fs k v name version is named told h =
     ∙ (λ i. finmap.put text_cmp (named i) (told i) (sym (finmap.entries-from_sorted text_cmp (pairs_of es) h) i))
     ∙ sym (finmap.entries-insert nat_list_cmp_total (finmap.from_sorted (pairs_of es)) name version))
 
-no_length : {A : Type 0} (es : List A) → length es ≡ 0 → es ≡ []
-no_length [] e = refl
-no_length (x ∷ es) e = absurd (omega arith)
-
 pub entries-empty : finmap.entries {X = List ℕ} {R = text_cmp} finmap.empty ≡ []
-entries-empty = no_length _ (sym (finmap.len-entries finmap.empty) ∙ finmap.len-empty text_cmp (List ℕ))
+entries-empty = none_left _ (sym (finmap.len-entries finmap.empty) ∙ finmap.len-empty text_cmp (List ℕ))
 
 pub from_sorted-empty : (es : List Pair) → es ≡ [] → finmap.from_sorted {R = text_cmp} (pairs_of es) ≡ finmap.empty
 from_sorted-empty es e = finmap.same_entries_map _ _ (ap (λ fs. finmap.entries (finmap.from_sorted {R = text_cmp} (pairs_of fs))) e ∙ finmap.entries-from_sorted text_cmp [] tt ∙ sym entries-empty)
@@ -74,7 +71,7 @@ pub versions_data-some : (es : List Pair) (m : VersionMap) → finmap.from_sorte
 versions_data-some es m is h some = ap pairs_data (entries_are es m is h) ∙ pairs_data-some (pairs_of es) (λ none. some (sym (length-map es _) ∙ none))
 
 pub versions_data-none : (es : List Pair) (m : VersionMap) → finmap.from_sorted (pairs_of es) ≡ m → Rises (pairs_of es) → length es ≡ 0 → versions_data m ≡ None
-versions_data-none es m is h none = ap pairs_data (entries_are es m is h ∙ ap pairs_of (no_length es none))
+versions_data-none es m is h none = ap pairs_data (entries_are es m is h ∙ ap pairs_of (none_left es none))
 
 -- ---- look-ups and copies
 
