@@ -1,5 +1,5 @@
 -- The object that is written for a message of the incremental variant spells it.
-use Rattle.std.proofs.Common.{◌≡◌, ℕ, suc, ◌<◌, List, [], ◌∷◌, length, map, Option, Some, None, option_map, All, codes, refl, sym, ◌∙◌, subst, arith}
+use Rattle.std.proofs.Common.{◌≡◌, ℕ, suc, List, [], ◌∷◌, length, map, Some, option_map, All, codes, refl, sym, ◌∙◌, subst, arith}
 use Rattle.std.specs.List.{AllZip}
 use Rattle.std.specs.FinMap as finmap
 use Rattle.serde_json.specs.Data.{Data, null, boolean, number, string, array, object}

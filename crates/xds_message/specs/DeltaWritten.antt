@@ -1,5 +1,5 @@
 -- The objects that are written for the messages of the incremental variant, in the proto3 JSON mapping.
-use Rattle.std.specs.Prelude.{List, [], ◌∷◌, map, Some, option_map, codes}
+use Rattle.std.specs.Prelude.{[], ◌∷◌, map, Some, option_map, codes}
 use Rattle.serde_json.specs.Data.{Data, string}
 use Rattle.xds_message.specs.Versions.{versions_data}
 use Rattle.xds_message.specs.DeltaMessages.{DeltaRequest, VersionedResource, DeltaResponse}

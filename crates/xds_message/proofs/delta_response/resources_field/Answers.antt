@@ -10,4 +10,4 @@ pub returns-in-Some-Array : goal.returns-in-Some-Array
 returns-in-Some-Array c =
     let is_array = ap view c.in-Some-Array.field-0-is ∙ view-Array c.in-Some-Array.values in
     let found = sym (ap Some is_array) ∙ sym (ap (option_map view) c.in-Some-Array.is) ∙ c.taken_field.ensures in
-    Reads-each SpellsResource _ (map view c.in-Some-Array.values.items) _ c.resources_from.result found c.resources_from.ensures
+    Reads-each SpellsResource _ (map view c.in-Some-Array.values.items) _ c.resources_from.result found (rw c.in-Some-Array.values-is at c.resources_from.ensures)
