@@ -1,5 +1,6 @@
 // The catalogue of one type.
-ghost use Rattle.std.specs.Prelude.{◌≡◌, ◌≤◌, ◌∷◌, [], map, is_some, true, IfSome, IsOk, IfOk, IfErr, OnErr, string_bytes};
+ghost use Rattle.std.specs.Prelude.{◌≡◌, ◌≤◌, ◌∷◌, [], map, is_some, true, IfSome, IsOk, IfOk, IfErr, OnErr};
+ghost use Rattle.std.specs.Arc.{arc_str_bytes};
 ghost use Rattle.std.specs.Option.{option_map};
 ghost use Rattle.std.specs.FinMap as finmap;
 ghost use Rattle.xds_resource.specs.Refusals.{Gives, unless_refused};
@@ -12,6 +13,7 @@ ghost use Rattle.xds_catalogue.specs.Local.{putting, deleting, has_live, spent_c
 use crate::log::{add, add_all, copies, greatest_counter, newest, standing};
 use std::alloc::Global;
 use std::marker::Model;
+use std::sync::ArcStr;
 use xds_interest::Interest;
 use xds_resource::stamp::MAX_COUNTER;
 use xds_resource::{Refusal, Resource, ResourceType, Stamp, Write};
@@ -120,12 +122,12 @@ impl<T: ResourceType> Catalogue<T> {
     }
 
     // A text of its own, from the allocator of the writes.
-    fn own_text(&self, text: &str) -> Result<String, Refusal>
-        ensures ok { IfOk result (λ s. string_bytes s ≡ text.now) }
+    fn own_text(&self, text: &str) -> Result<ArcStr<Global>, Refusal>
+        ensures ok { IfOk result (λ s. arc_str_bytes s ≡ text.now) }
         ensures err { IfErr result (λ e. e ≡ Refusal.OutOfMemory) }
     {
         let alloc = *self.writes.allocator();
-        Ok(String::from_str(alloc, text)?)
+        Ok(ArcStr::from_str(alloc, text)?)
     }
 
     // The stamp of the next write of this replica.

@@ -5,6 +5,3 @@ pub mod interest;
 pub mod laws;
 
 pub use interest::Interest;
-
-#[cfg(test)]
-mod tests;

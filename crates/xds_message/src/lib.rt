@@ -9,8 +9,6 @@ pub mod node;
 pub mod request;
 pub mod response;
 pub mod status;
-#[cfg(test)]
-mod tests;
 pub mod versions;
 pub mod writes;
 

@@ -17,6 +17,7 @@ ghost use Rattle.xds_message.specs.StampedWrites.{SpellsWrite, IsSpelledBy, writ
 use crate::fields::{put_inner, read_json, set_field};
 use serde_json::{Map, Value, put};
 use std::alloc::Global;
+use std::sync::ArcStr;
 use xds_resource::resource::is_valid_name;
 use xds_resource::stamp::MAX_COUNTER;
 use xds_resource::{AnyWrite, Refusal, Resource, ResourceType, Stamp, TypeName, Write};
@@ -86,7 +87,7 @@ fn write_of<T: ResourceType>(alloc: Global, value: &Value) -> Result<Write<T>, R
     };
     match set_field(value, "body", "body") {
         Some(body) => Ok(Write::put(stamp, body_of(alloc, body, name)?)),
-        None => Ok(Write::deletion(stamp, String::from_str(alloc, name)?)),
+        None => Ok(Write::deletion(stamp, ArcStr::from_str(alloc, name)?)),
     }
 }
 
@@ -159,6 +160,3 @@ fn number_of(value: &Value, key: &str) -> Option<u64>
 {
     value.get(key)?.as_u64()
 }
-
-#[cfg(test)]
-mod tests;

@@ -14,6 +14,7 @@ use crate::types::{ResourceType, TypeName};
 use serde_json::{Category, Value};
 use std::alloc::Global;
 use std::marker::{Model, PhantomData};
+use std::sync::ArcStr;
 
 /// The longest text of a resource, in bytes.
 pub const MAX_TEXT: usize = 1_048_576;
@@ -27,22 +28,22 @@ pub const MAX_NAME: usize = 1024;
 /// A resource of one type: the JSON object of an Any, with its name.
 #[derive(Drop)]
 pub struct Resource<T: ResourceType> {
-    pub(crate) name: String,
-    pub(crate) body: String,
+    pub(crate) name: ArcStr<Global>,
+    pub(crate) body: ArcStr<Global>,
     pub(crate) kind: PhantomData<T>,
 }
 
 impl<T: ResourceType> Model for Resource<T> {
-    ghost use Rattle.std.specs.Prelude.{string_bytes};
+    ghost use Rattle.std.specs.Arc.{arc_str_bytes};
     ghost use Rattle.xds_resource.specs.Resources.{NamedBody, named_body_code, IsCanonical};
 
     ghost Value = { NamedBody };
 
     ghost coded = { named_body_code };
 
-    ghost view = { λ r. record { name = string_bytes r.name; body = string_bytes r.body } };
+    ghost view = { λ r. record { name = arc_str_bytes r.name; body = arc_str_bytes r.body } };
 
-    ghost invariant = { λ r. IsCanonical T.TYPE (record { name = string_bytes r.name; body = string_bytes r.body }) };
+    ghost invariant = { λ r. IsCanonical T.TYPE (record { name = arc_str_bytes r.name; body = arc_str_bytes r.body }) };
 }
 
 impl<T: ResourceType> Resource<T> {
@@ -97,7 +98,8 @@ impl<T: ResourceType> Resource<T> {
         if !is_valid_name(name) {
             return Err(Refusal::BadName);
         }
-        let name = String::from_str(alloc, name)?;
+        let name = ArcStr::from_str(alloc, name)?;
+        let body = ArcStr::from_string(body)?;
         Ok(Resource {
             name,
             body,

@@ -1,10 +1,11 @@
 // Stamped writes of one resource type, and their order.
-ghost use Rattle.std.specs.Prelude.{◌≡◌, IfOk, IfErr, ◌≤◌, Some, None, IfSome, true, false, string_bytes};
+ghost use Rattle.std.specs.Prelude.{◌≡◌, IfOk, IfErr, ◌≤◌, Some, None, IfSome, true, false};
+ghost use Rattle.std.specs.Arc.{arc_str_bytes};
 ghost use Rattle.std.specs.Option.{option_map};
 ghost use Rattle.serde_json.specs.Data.{depth};
 ghost use Rattle.serde_json.specs.View.{view};
 ghost use Rattle.serde_json.specs.Written.{compact_text, has_float};
-ghost use Rattle.xds_resource.specs.Resources.{is_valid_name, value_of, max_nesting, written, deleted};
+ghost use Rattle.xds_resource.specs.Resources.{is_valid_name, value_of, max_nesting, IsWritable, written, deleted};
 
 use crate::refusal::Refusal;
 use crate::resource::{Resource, read_body};
@@ -14,19 +15,20 @@ use serde_json::Value;
 use std::alloc::Global;
 use std::cmp::Ordering;
 use std::marker::{Model, PhantomData};
+use std::sync::ArcStr;
 
 /// A stamped write of a resource, or of its deletion.
 #[derive(Drop)]
 pub struct Write<T: ResourceType> {
     stamp: Stamp,
-    name: String,
+    name: ArcStr<Global>,
     // The compact text of the resource's object, or none for a deletion.
-    body: Option<String>,
+    body: Option<ArcStr<Global>>,
     kind: PhantomData<T>,
 }
 
 impl<T: ResourceType> Model for Write<T> {
-    ghost use Rattle.std.specs.Prelude.{string_bytes};
+    ghost use Rattle.std.specs.Arc.{arc_str_bytes};
     ghost use Rattle.std.specs.Option.{option_map};
     ghost use Rattle.xds_resource.specs.Writes.{StampedWrite, write_code};
 
@@ -36,9 +38,9 @@ impl<T: ResourceType> Model for Write<T> {
 
     ghost use Rattle.xds_resource.specs.Resources.{IsWritable};
 
-    ghost view = { λ w. record { name = string_bytes w.name; counter = w.stamp.counter; writer = w.stamp.writer; body = option_map string_bytes w.body } };
+    ghost view = { λ w. record { name = arc_str_bytes w.name; counter = w.stamp.counter; writer = w.stamp.writer; body = option_map arc_str_bytes w.body } };
 
-    ghost invariant = { λ w. IsWritable T.TYPE (record { name = string_bytes w.name; counter = w.stamp.counter; writer = w.stamp.writer; body = option_map string_bytes w.body }) };
+    ghost invariant = { λ w. IsWritable T.TYPE (record { name = arc_str_bytes w.name; counter = w.stamp.counter; writer = w.stamp.writer; body = option_map arc_str_bytes w.body }) };
 }
 
 impl<T: ResourceType> Write<T> {
@@ -56,9 +58,9 @@ impl<T: ResourceType> Write<T> {
     }
 
     /// The write that deletes the resource of this name.
-    pub fn deletion(stamp: Stamp, name: String) -> Write<T>
-        requires { is_valid_name (string_bytes name) ≡ true }
-        ensures { result ≡ deleted stamp.counter stamp.writer (string_bytes name) }
+    pub fn deletion(stamp: Stamp, name: ArcStr<Global>) -> Write<T>
+        requires { is_valid_name (arc_str_bytes name) ≡ true }
+        ensures { result ≡ deleted stamp.counter stamp.writer (arc_str_bytes name) }
     {
         Write {
             stamp,
@@ -90,6 +92,28 @@ impl<T: ResourceType> Write<T> {
         match &self.body {
             Some(text) => Some(text.as_str()),
             None => None,
+        }
+    }
+
+    /// The name as a text that is shared: no bytes are copied. `OutOfMemory` where a text has 2^63 owners.
+    pub fn shared_name(&self) -> Result<ArcStr<Global>, Refusal>
+        ensures name { IfOk result (λ s. arc_str_bytes s ≡ self.now.name) }
+        ensures valid { IfOk result (λ s. is_valid_name (arc_str_bytes s) ≡ true) }
+        ensures refused { IfErr result (λ e. e ≡ Refusal.OutOfMemory) }
+    {
+        Ok(self.name.clone()?)
+    }
+
+    /// The body as a text that is shared, or none for a deletion: no bytes are copied. `OutOfMemory` where a text has
+    /// 2^63 owners.
+    pub fn shared_body(&self) -> Result<Option<ArcStr<Global>>, Refusal>
+        ensures body { IfOk result (λ o. option_map arc_str_bytes o ≡ self.now.body) }
+        ensures writable { IsWritable T.TYPE self.now }
+        ensures refused { IfErr result (λ e. e ≡ Refusal.OutOfMemory) }
+    {
+        match &self.body {
+            Some(text) => Ok(Some(text.clone()?)),
+            None => Ok(None),
         }
     }
 

@@ -1,14 +1,13 @@
-// Worked examples, and what no clause says: that calls succeed where memory is ample, and what is printed.
-use crate::any::{AnyResource, AnyWrite};
-use crate::refusal::Refusal;
-use crate::resource::Resource;
-use crate::stamp::Stamp;
-use crate::types::{Cluster, Endpoint, Listener, ResourceType, Route, TypeName};
-use crate::write::Write;
+// Resources, writes and refusals.
 use serde_json::Value;
 use std::alloc::Global;
 use std::process::Abort;
+use std::sync::ArcStr;
 use std::test::Fail;
+use xds_resource::{
+    AnyResource, AnyWrite, Cluster, Endpoint, Listener, Refusal, Resource, ResourceType, Route,
+    Stamp, TypeName, Write,
+};
 
 const CLUSTER: &str = "type.googleapis.com/envoy.config.cluster.v3.Cluster";
 
@@ -275,7 +274,7 @@ fn writes_are_ordered(rt: HostRuntime) -> Result<(), Fail> {
     let stamp = Stamp::parse_version("2-1")?;
     let ascending = [
         cluster_write(alloc, 1, 2, ",\"name\":\"b\",\"x\":9")?,
-        Write::deletion(stamp, String::from_str(alloc, "b")?),
+        Write::deletion(stamp, ArcStr::from_str(alloc, "b")?),
         cluster_write(alloc, 2, 1, ",\"name\":\"b\",\"x\":1")?,
         cluster_write(alloc, 2, 1, ",\"name\":\"b\",\"x\":2")?,
         cluster_write(alloc, 2, 2, ",\"name\":\"a\"")?,

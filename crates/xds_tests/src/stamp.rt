@@ -1,5 +1,7 @@
-use super::*;
+// Stamps and version texts.
 use std::test::Fail;
+use xds_resource::stamp::MAX_COUNTER;
+use xds_resource::{Refusal, Stamp};
 
 #[test]
 fn versions_name_stamps(rt: HostRuntime) -> Result<(), Fail> {

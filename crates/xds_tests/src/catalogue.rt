@@ -1,7 +1,8 @@
-//! Worked runs of one and of two replicas, with ample memory.
-use super::Catalogue;
+// Worked runs of one and of two replicas.
 use std::alloc::Global;
+use std::sync::ArcStr;
 use std::test::Fail;
+use xds_catalogue::Catalogue;
 use xds_interest::Interest;
 use xds_resource::{Cluster, Refusal, Resource, ResourceType, Route, Stamp, Write};
 
@@ -123,7 +124,7 @@ fn numbered(alloc: Global, number: u8) -> Result<Write<Cluster>, Refusal> {
     Ok(match number {
         0 => Write::put(Stamp::new(1, 1), cluster(alloc, A)?),
         1 => Write::put(Stamp::new(1, 2), cluster(alloc, A)?),
-        2 => Write::deletion(Stamp::new(2, 1), String::from_str(alloc, "a")?),
+        2 => Write::deletion(Stamp::new(2, 1), ArcStr::from_str(alloc, "a")?),
         _ => Write::put(Stamp::new(2, 1), cluster(alloc, A_LATER)?),
     })
 }

@@ -1,8 +1,8 @@
 // Spellings from `discovery.proto` and the proto3 JSON mapping.
-use crate::{DiscoveryRequest, DiscoveryResponse};
 use serde_json::json;
 use std::alloc::Global;
 use std::test::Fail;
+use xds_message::{DiscoveryRequest, DiscoveryResponse};
 use xds_resource::Refusal;
 
 // What is written of the request that the text spells.

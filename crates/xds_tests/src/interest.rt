@@ -1,7 +1,7 @@
-//! Each public call once with ample memory.
-use super::Interest;
+// What a client wants of one type.
 use std::alloc::{AllocError, Global};
 use std::test::Fail;
+use xds_interest::Interest;
 use xds_resource::{Cluster, Endpoint, ResourceType, Route};
 
 fn names(alloc: Global, texts: &[&str]) -> Result<Vec<String>, AllocError> {

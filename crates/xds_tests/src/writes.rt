@@ -1,7 +1,7 @@
 // Worked examples of the stamped writes that replicas exchange.
-use crate::{read_write, write_object};
 use std::alloc::Global;
 use std::test::Fail;
+use xds_message::{read_write, write_object};
 use xds_resource::Refusal;
 
 const PUT: &str =
