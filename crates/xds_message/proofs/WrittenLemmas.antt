@@ -49,7 +49,7 @@ IsWithin-list_data (d ∷ ds) n h = omega arith
 pub depth-response_object : (m : Response) (n : ℕ) → items_depth (items_of m.resources) ≤ n → depth (response_object m) ≤ suc (suc n)
 depth-response_object m n h =
     let texts = λ (s : List ℕ). IsWithin-text_data s (suc n) in
-    let within = members_depth-members_set (response_fields m) (suc n) (texts m.version_info, (IsWithin-list_data m.resources n h, (texts m.type_url, (texts m.nonce, tt)))) in
+    let within = members_depth-members_set (response_fields m) (suc n) (texts m.nonce, (IsWithin-list_data m.resources n h, (texts m.type_url, (texts m.version_info, tt)))) in
     omega arith
 
 -- ---- floats
@@ -99,7 +99,7 @@ HasNoFloat-list_data (d ∷ ds) h = h
 
 -- a response holds no float where its resources hold none
 pub has_float-response_object : (m : Response) → items_have_float (items_of m.resources) ≡ false → has_float (response_object m) ≡ false
-has_float-response_object m h = members_have_float-members_set (response_fields m) (HasNoFloat-text_data m.version_info, (HasNoFloat-list_data m.resources h, (HasNoFloat-text_data m.type_url, (HasNoFloat-text_data m.nonce, tt))))
+has_float-response_object m h = members_have_float-members_set (response_fields m) (HasNoFloat-text_data m.nonce, (HasNoFloat-list_data m.resources h, (HasNoFloat-text_data m.type_url, (HasNoFloat-text_data m.version_info, tt))))
 
 -- ---- resources, one by one
 

@@ -5,5 +5,7 @@ pub mod Responses
 pub mod Versions
 pub mod DeltaMessages
 pub mod DeltaWritten
+pub mod Joined
+pub mod Drafts
 pub mod Laws
 pub mod StampedWrites

@@ -59,10 +59,10 @@ impl DiscoveryResponse {
         ensures refused { IfErr result (λ e. e ≡ OutOfMemory) }
     {
         let mut map = Map::new(alloc);
-        put_text(alloc, &mut map, "nonce", &self.nonce)?;
-        put_text(alloc, &mut map, "typeUrl", &self.type_url)?;
         put_text(alloc, &mut map, "versionInfo", &self.version_info)?;
+        put_text(alloc, &mut map, "typeUrl", &self.type_url)?;
         put_list(alloc, &mut map, "resources", self.resources)?;
+        put_text(alloc, &mut map, "nonce", &self.nonce)?;
         Ok(Value::Object(map))
     }
 
