@@ -1,12 +1,13 @@
 -- Lists of values, item by item.
-use Rattle.std.proofs.Common.{◌≡◌, ℕ, zero, suc, ◌<◌, List, [], ◌∷◌, ◌++◌, length, get_or, map, Option, Some, None, Result, Ok, Err, IsErrAnd, refl, sym, ap, ◌∙◌, subst, arith}
+use Rattle.std.proofs.Common.{◌≡◌, ℕ, zero, suc, ◌<◌, List, [], ◌∷◌, ◌++◌, length, get_or, map, Option, Some, None, Result, Ok, Err, IsErrAnd, All, is_some, true, false, true≢false, refl, sym, ap, ◌∙◌, subst, arith}
 use Rattle.std.specs.List.{AllZip}
+use Rattle.std.proofs.lemmas.List.Elements.{All-head, All-tail}
 use Rattle.serde_json.specs.Data.{Data, null, boolean, number, string, array, object, Items}
-use Rattle.serde_json.specs.Find.{as_str, as_array}
+use Rattle.serde_json.specs.Find.{as_str, as_array, as_object}
 use Rattle.serde_json.specs.View.{view, items_of, items_view}
 use Rattle.serde_json.specs.declared.value.Value.{Value}
 use Rattle.xds_resource.specs.declared.refusal.Refusal.{Refusal}
-use Rattle.xds_message.specs.Spelling.{IsOrDefault, Reads}
+use Rattle.xds_message.specs.Spelling.{IsObject, IsOrDefault, Reads}
 
 -- where one item is no text, the items are no texts
 pub no_texts : (vs : List Value) (i : ℕ) (d : Value) → i < length vs → as_str (view (get_or vs i d)) ≡ None → (texts : List (List ℕ)) → map view vs ≡ map string texts → ⊥
@@ -83,6 +84,17 @@ pub Reads-each : {X Y : Type 0} (Spells : Data → Y → Type 0) (o : Option Dat
     → Reads (IsOrDefault [] (IsArrayOf Spells) o) view_of r
 Reads-each Spells o ds view_of r found h =
     rw (← found) (Reads-same (AllZip Spells ds) (IsArrayOf Spells (array (items_of ds))) view_of r (λ ms zipped. (ds, refl, zipped)) (IsArrayOf-items Spells ds) h)
+
+pub Reads-objects : {X : Type 0} (o : Option Data) (ds : List Data) (view_of : X → List Data) (r : Result X Refusal) → Some (array (items_of ds)) ≡ o → Reads (λ es. (ds ≡ es) × All IsObject es) view_of r
+    → Reads (IsOrDefault [] (λ d es. (d ≡ array (items_of es)) × All IsObject es) o) view_of r
+Reads-objects o ds view_of r found h =
+    rw (← found) (Reads-same (λ es. (ds ≡ es) × All IsObject es) (λ es. (array (items_of ds) ≡ array (items_of es)) × All IsObject es) view_of r (λ es w. (ap (λ xs. array (items_of xs)) w.0, w.1)) (λ es w. (let same : items_of ds ≡ items_of es = (let both = w.0 in cc) in items_of-injective ds es same, w.1)) h)
+
+-- where one value is no object, not all are
+pub no_objects : (vs : List Value) (i : ℕ) (d : Value) → i < length vs → is_some (as_object (view (get_or vs i d))) ≡ false → All IsObject (map view vs) → ⊥
+no_objects [] i d below other all = absurd (omega arith)
+no_objects (v ∷ vs) zero d below other all = true≢false (sym (All-head IsObject (view v) (map view vs) all) ∙ other)
+no_objects (v ∷ vs) (suc i) d below other all = no_objects vs i d (omega arith) other (All-tail IsObject (view v) (map view vs) all)
 
 pub map-twice : {A B C : Type 0} (f : A → B) (g : B → C) (xs : List A) → map (λ x. g (f x)) xs ≡ map g (map f xs)
 map-twice f g [] = refl

@@ -7,5 +7,6 @@ pub mod DeltaMessages
 pub mod DeltaWritten
 pub mod Joined
 pub mod Drafts
+pub mod DraftTexts
 pub mod Laws
 pub mod StampedWrites

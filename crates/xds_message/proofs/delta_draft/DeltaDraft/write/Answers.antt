@@ -22,10 +22,10 @@ returns-clause-text c =
     let objects = map-twice drafted_resource resource_object c.self.inside.resources.items in
     joined
     ∙ (λ i. compact_text (object_set (
-      (codes "nonce", text_data (c.as_str.ensures.value i))
-      ∷ (codes "removedResources", list_data (texts i))
-      ∷ (codes "resources", list_data (objects i))
-      ∷ (codes "systemVersionInfo", text_data (c.as_str-2.ensures.value i))
-      ∷ (codes "typeUrl", text_data (c.url.ensures i))
-      ∷ [])))
+    (codes "nonce", text_data (c.as_str.ensures.value i))
+    ∷ (codes "removedResources", list_data (texts i))
+    ∷ (codes "resources", list_data (objects i))
+    ∷ (codes "systemVersionInfo", text_data (c.as_str-2.ensures.value i))
+    ∷ (codes "typeUrl", text_data (c.url.ensures i))
+    ∷ [])))
     ∙ ap (λ (m : DraftedDelta). compact_text (delta_response_object (delta_message_of m))) c.self.view_is

@@ -17,9 +17,9 @@ returns-clause-text c =
     let joined = object_joined [] _ _ _ c.in_ok-join_text.field-0 all c.in_ok-out.ensures.ok members c.in_ok-push_str.ensures.bytes tt in
     joined
     ∙ (λ i. compact_text (object_set (
-      (codes "nonce", text_data (c.as_str.ensures.value i))
-      ∷ (codes "resources", list_data (map value_of c.self.inside.bodies.items))
-      ∷ (codes "typeUrl", text_data (c.url.ensures i))
-      ∷ (codes "versionInfo", text_data (c.as_str-2.ensures.value i))
-      ∷ [])))
+    (codes "nonce", text_data (c.as_str.ensures.value i))
+    ∷ (codes "resources", list_data (map value_of c.self.inside.bodies.items))
+    ∷ (codes "typeUrl", text_data (c.url.ensures i))
+    ∷ (codes "versionInfo", text_data (c.as_str-2.ensures.value i))
+    ∷ [])))
     ∙ ap (λ (m : Drafted). compact_text (response_object (message_of m))) c.self.view_is
