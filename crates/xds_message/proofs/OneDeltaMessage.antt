@@ -1,10 +1,9 @@
 -- A value spells one message of each kind of the incremental variant at most.
-use Rattle.std.proofs.Common.{◌≡◌, ℕ, List, [], ◌∷◌, map, Option, Some, None, refl, sym, ap, ◌∙◌, subst}
+use Rattle.std.proofs.Common.{◌≡◌, List, [], ◌∷◌, Option, Some, refl, sym, ◌∙◌, subst}
 use Rattle.std.specs.List.{AllZip}
 use Rattle.std.specs.FinMap as finmap
 use Rattle.serde_json.specs.Data.{Data, array, object}
 use Rattle.serde_json.specs.View.{items_of}
-use Rattle.xds_resource.specs.Fields.{field}
 use Rattle.xds_message.specs.Spelling.{set_value}
 use Rattle.xds_message.specs.Messages.{SpellsIdentity, SpellsFailure}
 use Rattle.xds_message.specs.Versions.{VersionMap, IsVersions, text_members}

@@ -1,8 +1,8 @@
 -- A sorted map of texts as the finite map that contracts see, and as the members of an object.
-use Rattle.std.proofs.Common.{◌≡◌, ℕ, List, [], ◌∷◌, ◌++◌, length, map, Bool, true, false, cond, ◌&&◌, Option, Some, None, String, Global, Ordering, Less, Equal, Greater, is_eq, string_bytes, string_cmp, nat_cmp, refl, sym, ap, ◌∙◌, subst, arith}
+use Rattle.std.proofs.Common.{◌≡◌, ℕ, List, [], ◌∷◌, ◌++◌, length, cond, Option, Some, None, String, Global, Ordering, Less, Equal, Greater, is_eq, string_bytes, string_cmp, nat_cmp, refl, sym, ap, ◌∙◌, subst}
 use Rattle.std.specs.Prelude.{T}
 use Rattle.std.specs.Option.{option_map}
-use Rattle.std.specs.Ordering.{match_ordering, ordering_reverse, is_lt}
+use Rattle.std.specs.Ordering.{match_ordering, ordering_reverse}
 use Rattle.std.specs.Cmp.Lexicographic.{slice_cmp}
 use Rattle.std.specs.List.{AllZip, AllByRecursion}
 use Rattle.std.specs.List.Sorted.{IsStrictlySortedBy}
@@ -12,8 +12,8 @@ use Rattle.std.specs.FinMap as finmap
 use Rattle.std.specs.FinMap.Entries.{by_order, is_sorted-put}
 use Rattle.std.proofs.lemmas.Cmp.{nat_list_cmp_total}
 use Rattle.std.proofs.lemmas.List.{length-map}
-use Rattle.serde_json.specs.Data.{Data, null, boolean, number, string, array, object, Members, no_members, member, put}
-use Rattle.serde_json.specs.Find.{as_str, as_object}
+use Rattle.serde_json.specs.Data.{Data, null, boolean, number, string, array, object, Members, member, put}
+use Rattle.serde_json.specs.Find.{as_str}
 use Rattle.serde_json.specs.View.{view, members_view}
 use Rattle.serde_json.proofs.Views.{Entry}
 use Rattle.xds_resource.specs.Writes.{text_cmp}

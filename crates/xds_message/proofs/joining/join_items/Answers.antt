@@ -1,4 +1,4 @@
-use Rattle.std.proofs.Common.{◌≡◌, [], ◌∷◌, ◌++◌, ◌+◌, get_or, map, false, string_bytes, refl, sym, ap, ◌∙◌, append_assoc, arith}
+use Rattle.std.proofs.Common.{[], ◌∷◌, get_or, map, false, string_bytes, ap, ◌∙◌, append_assoc, arith}
 use Rattle.serde_json.specs.View.{items_of}
 use Rattle.serde_json.specs.Written.{items_text}
 use Rattle.xds_message.proofs.JoinedLemmas.{drop_here, item_joined, items_closed}

@@ -2,8 +2,6 @@ use Rattle.std.proofs.Common.{◌≡◌, [], ◌∷◌, ◌++◌, sym, ap, ◌�
 use Rattle.std.specs.List.Sorted.{IsStrictlySortedBy}
 use Rattle.std.specs.Map.{keys_of}
 use Rattle.std.specs.String.{string_cmp}
-use Rattle.serde_json.specs.View.{view}
-use Rattle.serde_json.specs.Data.{put}
 use Rattle.xds_message.proofs.VersionLemmas.{Pair, text_put_last}
 use Rattle.xds_message.proofs.versions.members_of.Goals as goal
 

@@ -1,4 +1,4 @@
-use Rattle.std.proofs.Common.{subst, ◌∙◌}
+use Rattle.std.proofs.Common.{subst}
 use Rattle.xds_message.specs.Drafts.{DraftedDelta, DraftedResource, AreSound, drafted_resource, delta_message_of, IsSoundDelta}
 use Rattle.xds_message.specs.DeltaMessages.{VersionedResource}
 use Rattle.xds_message.proofs.Lists.{map-twice}

@@ -1,7 +1,6 @@
-use Rattle.std.proofs.Common.{◌≡◌, List, ℕ, [], ◌∷◌, map, codes, string_bytes, ap, ◌∙◌, subst}
+use Rattle.std.proofs.Common.{[], ◌∷◌, map, codes, string_bytes, ap, ◌∙◌}
 use Rattle.serde_json.specs.Data.{string}
 use Rattle.serde_json.specs.Written.{compact_text}
-use Rattle.xds_resource.specs.Types.{row}
 use Rattle.xds_message.specs.Written.{Fields, text_data, list_data, object_set}
 use Rattle.xds_message.specs.DeltaWritten.{resource_object, delta_response_object}
 use Rattle.xds_message.specs.Drafts.{DraftedDelta, DraftedResource, drafted_resource, delta_message_of}

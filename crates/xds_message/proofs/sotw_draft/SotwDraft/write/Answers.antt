@@ -1,6 +1,5 @@
-use Rattle.std.proofs.Common.{◌≡◌, List, ℕ, [], ◌∷◌, map, codes, string_bytes, ap, ◌∙◌, subst}
+use Rattle.std.proofs.Common.{[], ◌∷◌, map, codes, ap, ◌∙◌}
 use Rattle.serde_json.specs.Written.{compact_text}
-use Rattle.xds_resource.specs.Types.{row}
 use Rattle.xds_resource.specs.Resources.{value_of}
 use Rattle.xds_message.specs.Written.{Fields, text_data, list_data, object_set, response_object}
 use Rattle.xds_message.specs.Drafts.{Drafted, message_of}

@@ -1,7 +1,5 @@
-use Rattle.std.proofs.Common.{◌≡◌, List, ◌∷◌, ◌++◌, map, string_bytes, refl, sym, ap, ◌∙◌}
+use Rattle.std.proofs.Common.{string_bytes, sym, ◌∙◌}
 use Rattle.std.proofs.lemmas.List.{append-nil}
-use Rattle.std.specs.FinMap as finmap
-use Rattle.xds_message.specs.Versions.{pairs_of}
 use Rattle.xds_message.proofs.Lists.{map-moved}
 use Rattle.xds_message.proofs.VersionLemmas.{entries_are}
 use Rattle.xds_message.proofs.versions.Versions.pairs.Goals as goal
