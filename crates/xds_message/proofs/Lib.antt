@@ -2,4 +2,10 @@ pub mod Lists
 pub mod OneMessage
 pub mod ReadsBack
 pub mod WrittenLemmas
+pub mod VersionLemmas
+pub mod OneDeltaMessage
+pub mod DeltaReadsBack
+pub mod DeltaWrittenLemmas
+pub mod JoinedLemmas
+pub mod DraftLemmas
 pub mod StampedWriteLemmas

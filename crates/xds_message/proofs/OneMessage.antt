@@ -47,13 +47,13 @@ IsSomeAnd-unique P unique (Some a) (Some b) p q = ap Some (unique a b p q)
 pub IsInner-unique : {A : Type 0} (Spells : Data → A → Type 0) → ((d : Data) (a b : A) → Spells d a → Spells d b → a ≡ b) → (o : Option Data) (m n : Option A) → IsInner Spells o m → IsInner Spells o n → m ≡ n
 IsInner-unique Spells unique o m n p q = IsOrDefault-unique None _ (λ d a b x y. IsSomeAnd-unique (Spells d) (unique d) a b x y) (set_value o) m n p q
 
-SpellsIdentity-unique : (d : Data) (m n : Identity) → SpellsIdentity d m → SpellsIdentity d n → m ≡ n
+pub SpellsIdentity-unique : (d : Data) (m n : Identity) → SpellsIdentity d m → SpellsIdentity d n → m ≡ n
 SpellsIdentity-unique d m n p q =
     let id = IsText-unique _ m.id n.id p.id q.id in
     let cluster = IsText-unique _ m.cluster n.cluster p.cluster q.cluster in
     λ i. record { id = id i; cluster = cluster i }
 
-SpellsFailure-unique : (d : Data) (m n : Failure) → SpellsFailure d m → SpellsFailure d n → m ≡ n
+pub SpellsFailure-unique : (d : Data) (m n : Failure) → SpellsFailure d m → SpellsFailure d n → m ≡ n
 SpellsFailure-unique d m n p q =
     let code = IsCode-unique _ m.code n.code p.code q.code in
     let message = IsText-unique _ m.message n.message p.message q.message in

@@ -32,17 +32,17 @@ pub field-object_set : (camel proto : List ℕ) (fs : List (List ℕ × Option D
 field-object_set camel proto fs = ap (λ o. first_of o (get_member proto (members_set fs))) (get_member-members_set camel fs) ∙ ap (first_of (value_at camel fs)) (get_member-members_set proto fs)
 
 -- under one name of two, and where both names are one
-abbrev once : Option Data → Option Data
+abbrev pub once : Option Data → Option Data
 once o = first_of (first_of o None) None
 
-abbrev twice : Option Data → Option Data
+abbrev pub twice : Option Data → Option Data
 twice o = first_of (first_of o None) (first_of o None)
 
-once_is : (o : Option Data) → once o ≡ o
+pub once_is : (o : Option Data) → once o ≡ o
 once_is None = refl
 once_is (Some d) = refl
 
-twice_is : (o : Option Data) → twice o ≡ o
+pub twice_is : (o : Option Data) → twice o ≡ o
 twice_is None = refl
 twice_is (Some d) = refl
 
@@ -52,7 +52,7 @@ IsText-text_data : (s : List ℕ) → IsText (text_data s) s
 IsText-text_data [] = refl
 IsText-text_data (c ∷ cs) = refl
 
-IsTexts-list_data : (ss : List (List ℕ)) → IsTexts (list_data (map string ss)) ss
+pub IsTexts-list_data : (ss : List (List ℕ)) → IsTexts (list_data (map string ss)) ss
 IsTexts-list_data [] = refl
 IsTexts-list_data (s ∷ ss) = refl
 
@@ -67,10 +67,10 @@ IsCode-code_data (negsuc n) h = (refl, h)
 
 -- ---- whole messages
 
-text_once : (o : Option Data) (s : List ℕ) → o ≡ once (text_data s) → IsText o s
+pub text_once : (o : Option Data) (s : List ℕ) → o ≡ once (text_data s) → IsText o s
 text_once o s e = subst (λ x. IsText x s) (sym (e ∙ once_is (text_data s))) (IsText-text_data s)
 
-text_twice : (o : Option Data) (s : List ℕ) → o ≡ twice (text_data s) → IsText o s
+pub text_twice : (o : Option Data) (s : List ℕ) → o ≡ twice (text_data s) → IsText o s
 text_twice o s e = subst (λ x. IsText x s) (sym (e ∙ twice_is (text_data s))) (IsText-text_data s)
 
 pub SpellsIdentity-identity_object : (m : Identity) → SpellsIdentity (identity_object m) m
@@ -87,11 +87,11 @@ SpellsFailure-failure_object m h = record {
   message = text_twice _ m.message (field-object_set (codes "message") (codes "message") (failure_fields m));
 }
 
-IsInner-identity : (m : Option Identity) → IsInner SpellsIdentity (option_map identity_object m) m
+pub IsInner-identity : (m : Option Identity) → IsInner SpellsIdentity (option_map identity_object m) m
 IsInner-identity None = refl
 IsInner-identity (Some a) = SpellsIdentity-identity_object a
 
-IsInner-failure : (m : Option Failure) → MatchOption m ⊤ (λ f. FitsSigned w32 f.code) → IsInner SpellsFailure (option_map failure_object m) m
+pub IsInner-failure : (m : Option Failure) → MatchOption m ⊤ (λ f. FitsSigned w32 f.code) → IsInner SpellsFailure (option_map failure_object m) m
 IsInner-failure None h = refl
 IsInner-failure (Some a) h = SpellsFailure-failure_object a h
 

@@ -49,7 +49,7 @@ IsWithin-list_data (d ∷ ds) n h = omega arith
 pub depth-response_object : (m : Response) (n : ℕ) → items_depth (items_of m.resources) ≤ n → depth (response_object m) ≤ suc (suc n)
 depth-response_object m n h =
     let texts = λ (s : List ℕ). IsWithin-text_data s (suc n) in
-    let within = members_depth-members_set (response_fields m) (suc n) (texts m.version_info, (IsWithin-list_data m.resources n h, (texts m.type_url, (texts m.nonce, tt)))) in
+    let within = members_depth-members_set (response_fields m) (suc n) (texts m.nonce, (IsWithin-list_data m.resources n h, (texts m.type_url, (texts m.version_info, tt)))) in
     omega arith
 
 -- ---- floats
@@ -63,7 +63,7 @@ both : (a b : Bool) → (a || b) ≡ false → (a ≡ false) × (b ≡ false)
 both true b h = absurd (cc)
 both false b h = (refl, h)
 
-neither : (a b : Bool) → a ≡ false → b ≡ false → (a || b) ≡ false
+pub neither : (a b : Bool) → a ≡ false → b ≡ false → (a || b) ≡ false
 neither true b p q = absurd (cc)
 neither false b p q = q
 
@@ -99,11 +99,11 @@ HasNoFloat-list_data (d ∷ ds) h = h
 
 -- a response holds no float where its resources hold none
 pub has_float-response_object : (m : Response) → items_have_float (items_of m.resources) ≡ false → has_float (response_object m) ≡ false
-has_float-response_object m h = members_have_float-members_set (response_fields m) (HasNoFloat-text_data m.version_info, (HasNoFloat-list_data m.resources h, (HasNoFloat-text_data m.type_url, (HasNoFloat-text_data m.nonce, tt))))
+has_float-response_object m h = members_have_float-members_set (response_fields m) (HasNoFloat-text_data m.nonce, (HasNoFloat-list_data m.resources h, (HasNoFloat-text_data m.type_url, (HasNoFloat-text_data m.version_info, tt))))
 
 -- ---- resources, one by one
 
-all_later : (P : Data → Type 0) (d : Data) (ds : List Data) → All P (d ∷ ds) → All P ds
+pub all_later : (P : Data → Type 0) (d : Data) (ds : List Data) → All P (d ∷ ds) → All P ds
 all_later P d ds h = λ k e below. h (suc k) e (omega arith)
 
 pub items_depth-items_of : (ds : List Data) (n : ℕ) → All (λ d. depth d ≤ n) ds → items_depth (items_of ds) ≤ n
@@ -116,11 +116,11 @@ items_have_float-items_of (d ∷ ds) h = neither _ _ (h 0 d (omega arith)) (item
 
 -- ---- requests
 
-items_depth-texts : (ss : List (List ℕ)) → items_depth (items_of (map string ss)) ≤ 0
+pub items_depth-texts : (ss : List (List ℕ)) → items_depth (items_of (map string ss)) ≤ 0
 items_depth-texts [] = omega arith
 items_depth-texts (s ∷ ss) = omega (arith, items_depth-texts ss)
 
-items_have_float-texts : (ss : List (List ℕ)) → items_have_float (items_of (map string ss)) ≡ false
+pub items_have_float-texts : (ss : List (List ℕ)) → items_have_float (items_of (map string ss)) ≡ false
 items_have_float-texts [] = refl
 items_have_float-texts (s ∷ ss) = items_have_float-texts ss
 
@@ -134,23 +134,23 @@ HasNoFloat-code_data (pos zero) = tt
 HasNoFloat-code_data (pos (suc n)) = refl
 HasNoFloat-code_data (negsuc n) = refl
 
-IsWithin-identity : (m : Option Identity) → IsWithin 1 (option_map identity_object m)
+pub IsWithin-identity : (m : Option Identity) → IsWithin 1 (option_map identity_object m)
 IsWithin-identity None = tt
 IsWithin-identity (Some a) =
     let within = members_depth-members_set (identity_fields a) 0 (IsWithin-text_data a.id 0, (IsWithin-text_data a.cluster 0, tt)) in
     omega arith
 
-IsWithin-failure : (m : Option Failure) → IsWithin 1 (option_map failure_object m)
+pub IsWithin-failure : (m : Option Failure) → IsWithin 1 (option_map failure_object m)
 IsWithin-failure None = tt
 IsWithin-failure (Some a) =
     let within = members_depth-members_set (failure_fields a) 0 (IsWithin-code_data a.code, (IsWithin-text_data a.message 0, tt)) in
     omega arith
 
-HasNoFloat-identity : (m : Option Identity) → HasNoFloat (option_map identity_object m)
+pub HasNoFloat-identity : (m : Option Identity) → HasNoFloat (option_map identity_object m)
 HasNoFloat-identity None = tt
 HasNoFloat-identity (Some a) = members_have_float-members_set (identity_fields a) (HasNoFloat-text_data a.id, (HasNoFloat-text_data a.cluster, tt))
 
-HasNoFloat-failure : (m : Option Failure) → HasNoFloat (option_map failure_object m)
+pub HasNoFloat-failure : (m : Option Failure) → HasNoFloat (option_map failure_object m)
 HasNoFloat-failure None = tt
 HasNoFloat-failure (Some a) = members_have_float-members_set (failure_fields a) (HasNoFloat-code_data a.code, (HasNoFloat-text_data a.message, tt))
 

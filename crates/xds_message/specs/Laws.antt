@@ -4,7 +4,9 @@ use Rattle.std.specs.Int.{w32}
 use Rattle.serde_json.specs.Data.{Data}
 use Rattle.xds_message.specs.Spelling.{IsObject}
 use Rattle.xds_message.specs.Messages.{Request, Response, SpellsRequest, SpellsResponse}
+use Rattle.xds_message.specs.DeltaMessages.{DeltaRequest, DeltaResponse, SpellsDeltaRequest, SpellsDeltaResponse}
 use Rattle.xds_message.specs.Written.{request_object, response_object}
+use Rattle.xds_message.specs.DeltaWritten.{delta_request_object, delta_response_object}
 
 abbrev pub SpellsOneRequest : Data → Type 0
 SpellsOneRequest d = (m n : Request) → SpellsRequest d m → SpellsRequest d n → m ≡ n
@@ -21,3 +23,20 @@ IsSpelledByItsObject m = All IsObject m.resources → SpellsResponse (response_o
 
 abbrev pub IsRequestSpelledByItsObject : Request → Type 0
 IsRequestSpelledByItsObject m = HasCodeInRange m → SpellsRequest (request_object m) m
+
+-- ---- the incremental variant
+
+abbrev pub SpellsOneDeltaRequest : Data → Type 0
+SpellsOneDeltaRequest d = (m n : DeltaRequest) → SpellsDeltaRequest d m → SpellsDeltaRequest d n → m ≡ n
+
+abbrev pub SpellsOneDeltaResponse : Data → Type 0
+SpellsOneDeltaResponse d = (m n : DeltaResponse) → SpellsDeltaResponse d m → SpellsDeltaResponse d n → m ≡ n
+
+abbrev pub HasDeltaCodeInRange : DeltaRequest → Type 0
+HasDeltaCodeInRange m = MatchOption m.error_detail ⊤ (λ f. FitsSigned w32 f.code)
+
+abbrev pub IsDeltaRequestSpelledByItsObject : DeltaRequest → Type 0
+IsDeltaRequestSpelledByItsObject m = HasDeltaCodeInRange m → SpellsDeltaRequest (delta_request_object m) m
+
+abbrev pub IsDeltaResponseSpelledByItsObject : DeltaResponse → Type 0
+IsDeltaResponseSpelledByItsObject m = All (λ r. IsObject r.resource) m.resources → SpellsDeltaResponse (delta_response_object m) m

@@ -2,5 +2,11 @@ pub mod Spelling
 pub mod Messages
 pub mod Written
 pub mod Responses
+pub mod Versions
+pub mod DeltaMessages
+pub mod DeltaWritten
+pub mod Joined
+pub mod Drafts
+pub mod DraftTexts
 pub mod Laws
 pub mod StampedWrites

@@ -61,7 +61,7 @@ request_object m = object_set (request_fields m)
 
 abbrev pub response_fields : Response → Fields
 response_fields m =
-    (codes "versionInfo", text_data m.version_info) ∷ (codes "resources", list_data m.resources) ∷ (codes "typeUrl", text_data m.type_url) ∷ (codes "nonce", text_data m.nonce) ∷ []
+    (codes "nonce", text_data m.nonce) ∷ (codes "resources", list_data m.resources) ∷ (codes "typeUrl", text_data m.type_url) ∷ (codes "versionInfo", text_data m.version_info) ∷ []
 
 abbrev pub response_object : Response → Data
 response_object m = object_set (response_fields m)

@@ -2,6 +2,7 @@
 ghost use Rattle.std.specs.Prelude.{map as map_items, ◌≡◌, ◌≢◌, ℤ, map, option_map, string_bytes, IfOk, IfErr, OnOk, IfSome, IfNone, FitsSigned};
 ghost use Rattle.std.specs.Int.{w32};
 ghost use Rattle.serde_json.specs.Data.{Data, string};
+ghost use Rattle.serde_json.specs.Find.{get};
 ghost use Rattle.serde_json.specs.View.{view, members_view};
 ghost use Rattle.xds_resource.specs.Fields.{field};
 ghost use Rattle.xds_resource.specs.declared.refusal.Refusal.TheVariants.{NotJson, OutOfMemory};
@@ -40,6 +41,25 @@ pub(crate) fn set_field<'v>(value: &'v Value, camel: &str, proto: &str) -> Optio
         None => value.get(proto)?,
     };
     if found.is_null() { None } else { Some(found) }
+}
+
+fn taken(value: Value, key: &str) -> Option<Value>
+    ensures { option_map view result ≡ get key.now (view value) }
+{
+    match value {
+        Value::Object(mut members) => members.remove(key),
+        _ => None,
+    }
+}
+
+/// What a field whose names are one is set to, which moves out of the object.
+pub(crate) fn taken_field(value: Value, key: &str) -> Option<Value>
+    ensures { option_map view result ≡ set_value (field key.now key.now (view value)) }
+{
+    match taken(value, key) {
+        Some(found) if !found.is_null() => Some(found),
+        _ => None,
+    }
 }
 
 /// A text field.
@@ -219,8 +239,23 @@ pub(crate) fn put_inner(
     }
 }
 
-/// The texts as values.
-pub(crate) fn text_values(alloc: Global, texts: &Vec<String>) -> Result<Vec<Value>, Refusal>
+/// Writes a field that is a list of texts, unless the list is empty.
+pub(crate) fn put_texts(
+    alloc: Global,
+    map: &mut Map<String, Value>,
+    key: &str,
+    texts: &Vec<String>,
+) -> Result<(), Refusal>
+    ensures ok { OnOk result (members_view map.new.entries
+        ≡ put_set key.now (list_data (map_items string (map_items string_bytes texts.now.items))) (members_view map.old.entries)) }
+    ensures refused { IfErr result (λ e. e ≡ OutOfMemory) }
+{
+    let values = text_values(alloc, texts)?;
+    put_list(alloc, map, key, values)
+}
+
+// The texts as values.
+fn text_values(alloc: Global, texts: &Vec<String>) -> Result<Vec<Value>, Refusal>
     ensures ok { IfOk result
         (λ v. map view v.items ≡ map string (map string_bytes texts.now.items)) }
     ensures refused { IfErr result (λ e. e ≡ OutOfMemory) }

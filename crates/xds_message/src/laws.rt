@@ -3,7 +3,9 @@ ghost use Rattle.serde_json.specs.Data.{Data};
 ghost use Rattle.xds_resource.specs.declared.types.TypeName.{TypeName};
 ghost use Rattle.xds_resource.specs.Writes.{StampedWrite};
 ghost use Rattle.xds_message.specs.Messages.{Request, Response};
+ghost use Rattle.xds_message.specs.DeltaMessages.{DeltaRequest, DeltaResponse};
 ghost use Rattle.xds_message.specs.Laws.{SpellsOneRequest, SpellsOneResponse, IsSpelledByItsObject, IsRequestSpelledByItsObject};
+ghost use Rattle.xds_message.specs.Laws.{SpellsOneDeltaRequest, SpellsOneDeltaResponse, IsDeltaRequestSpelledByItsObject, IsDeltaResponseSpelledByItsObject};
 ghost use Rattle.xds_message.specs.StampedWrites.{SpellsOneWrite, IsWriteSpelledByItsObject, IsReadWriteSpelledByItsObject};
 
 /// A value spells one request at most.
@@ -24,6 +26,26 @@ pub fn a_response_is_spelled_by_its_object()
 /// The object of a request spells it.
 pub fn a_request_is_spelled_by_its_object()
     ensures { (m : Request) → IsRequestSpelledByItsObject m }
+{}
+
+/// A value spells one delta request at most.
+pub fn a_value_spells_one_delta_request()
+    ensures { (d : Data) → SpellsOneDeltaRequest d }
+{}
+
+/// A value spells one delta response at most.
+pub fn a_value_spells_one_delta_response()
+    ensures { (d : Data) → SpellsOneDeltaResponse d }
+{}
+
+/// The object of a delta request spells it.
+pub fn a_delta_request_is_spelled_by_its_object()
+    ensures { (m : DeltaRequest) → IsDeltaRequestSpelledByItsObject m }
+{}
+
+/// The object that is written for a delta response spells it.
+pub fn a_delta_response_is_spelled_by_its_object()
+    ensures { (m : DeltaResponse) → IsDeltaResponseSpelledByItsObject m }
 {}
 
 /// A value spells one stamped write at most.

@@ -5,7 +5,7 @@ ghost use Rattle.std.specs.Option.{option_map};
 ghost use Rattle.serde_json.specs.Data.{depth};
 ghost use Rattle.serde_json.specs.View.{view};
 ghost use Rattle.serde_json.specs.Written.{compact_text, has_float};
-ghost use Rattle.xds_resource.specs.Resources.{is_valid_name, value_of, max_nesting, written, deleted};
+ghost use Rattle.xds_resource.specs.Resources.{is_valid_name, value_of, max_nesting, IsWritable, written, deleted};
 
 use crate::refusal::Refusal;
 use crate::resource::{Resource, read_body};
@@ -108,6 +108,7 @@ impl<T: ResourceType> Write<T> {
     /// 2^63 owners.
     pub fn shared_body(&self) -> Result<Option<ArcStr<Global>>, Refusal>
         ensures body { IfOk result (λ o. option_map arc_str_bytes o ≡ self.now.body) }
+        ensures writable { IsWritable T.TYPE self.now }
         ensures refused { IfErr result (λ e. e ≡ Refusal.OutOfMemory) }
     {
         match &self.body {

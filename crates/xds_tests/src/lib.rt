@@ -5,6 +5,10 @@
 #[cfg(test)]
 mod catalogue;
 #[cfg(test)]
+mod delta;
+#[cfg(test)]
+mod draft;
+#[cfg(test)]
 mod interest;
 #[cfg(test)]
 mod message;

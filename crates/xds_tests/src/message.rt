@@ -159,3 +159,55 @@ fn writes_a_response(rt: HostRuntime) -> Result<(), Fail> {
     );
     Ok(())
 }
+
+// What is written of the response that the text spells.
+fn response_rewritten(alloc: Global, text: &str) -> Result<String, Refusal> {
+    DiscoveryResponse::read(alloc, text.as_bytes())?.write(alloc)
+}
+
+#[test]
+fn reads_responses(rt: HostRuntime) -> Result<(), Fail> {
+    let whole =
+        "{\"nonce\":\"1\",\"resources\":[{\"@type\":\"t\",\"x\":null},{}],\"typeUrl\":\"t\",\"versionInfo\":\"1.2\"}";
+    for (text, want) in [
+        (
+            "{\"versionInfo\":\"1.2\",\"resources\":[{\"x\":null,\"@type\":\"t\"},{}],\"canary\":true,\"typeUrl\":\"t\",\"nonce\":\"1\"}",
+            whole,
+        ),
+        (
+            "{\"version_info\":\"1.2\",\"resources\":[{\"@type\":\"t\",\"x\":null},{}],\"type_url\":\"t\",\"nonce\":\"1\"}",
+            whole,
+        ),
+        (
+            "{\"versionInfo\":null,\"version_info\":\"1\",\"resources\":null,\"typeUrl\":null,\"nonce\":null}",
+            "{}",
+        ),
+    ] {
+        assert_eq!(rt;
+            response_rewritten(rt.alloc(), text)?.as_str(),
+            want,
+            "at {text}"
+        );
+    }
+    Ok(())
+}
+
+#[test]
+fn refuses_what_is_no_response(rt: HostRuntime) -> Result<(), Fail> {
+    for (text, want) in [
+        ("", Refusal::NotJson),
+        ("[]", Refusal::BadMessage),
+        ("{\"resources\":{}}", Refusal::BadMessage),
+        ("{\"resources\":[{},null]}", Refusal::BadMessage),
+        ("{\"resources\":[\"a\"]}", Refusal::BadMessage),
+        ("{\"version_info\":1}", Refusal::BadMessage),
+        ("{\"nonce\":1}", Refusal::BadMessage),
+    ] {
+        assert_eq!(rt;
+            response_rewritten(rt.alloc(), text).err(),
+            Some(want),
+            "at {text}"
+        );
+    }
+    Ok(())
+}

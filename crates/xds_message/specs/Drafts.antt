@@ -1,0 +1,94 @@
+-- Responses before they are written: what they tell, with the resources as the compact texts that are stored. This project's own.
+use Rattle.std.specs.Prelude.{◌≡◌, ◌≤◌, ℕ, List, [], ◌∷◌, ◌++◌, map, false, Option, Some, None, All}
+use Rattle.serde_json.specs.Data.{Data, depth}
+use Rattle.serde_json.specs.Read.{read}
+use Rattle.serde_json.specs.Written.{compact_text, has_float}
+use Rattle.xds_resource.specs.declared.types.TypeName.{TypeName}
+use Rattle.xds_resource.specs.Types.{row}
+use Rattle.xds_resource.specs.Resources.{value_of, max_nesting}
+use Rattle.xds_resource.specs.Writes.{StampedWrite, version_of}
+use Rattle.xds_message.specs.Spelling.{IsObject}
+use Rattle.xds_message.specs.Messages.{Response}
+use Rattle.xds_message.specs.DeltaMessages.{VersionedResource, DeltaResponse}
+
+-- the compact text of a resource's object
+pub record IsBodyText (body : List ℕ) : Type 0 where
+  pub reads : read body ≡ Some (value_of body)
+  pub text : compact_text (value_of body) ≡ body
+  pub whole : has_float (value_of body) ≡ false
+  pub shallow : depth (value_of body) ≤ max_nesting
+  pub is_object : IsObject (value_of body)
+
+-- a DiscoveryResponse before it is written
+pub record Drafted : Type 0 where
+  pub kind : TypeName
+  pub version_info : List ℕ
+  pub nonce : List ℕ
+  pub bodies : List (List ℕ)
+
+abbrev pub message_of : Drafted → Response
+message_of m = record { version_info = m.version_info; resources = map value_of m.bodies; type_url = (row m.kind).url; nonce = m.nonce }
+
+-- the resources are shallow, whole objects
+pub record AreSound (ds : List Data) : Type 0 where
+  pub whole : All (λ d. has_float d ≡ false) ds
+  pub shallow : All (λ d. depth d ≤ max_nesting) ds
+  pub objects : All IsObject ds
+
+abbrev pub IsSoundResponse : Response → Type 0
+IsSoundResponse m = AreSound m.resources
+
+abbrev pub IsSoundDelta : DeltaResponse → Type 0
+IsSoundDelta m = AreSound (map (λ r. r.resource) m.resources)
+
+-- the draft with one more resource, if there is a body
+abbrev pub with_body : Drafted → Option (List ℕ) → Drafted
+with_body m None = m
+with_body m (Some body) = record { kind = m.kind; version_info = m.version_info; nonce = m.nonce; bodies = m.bodies ++ body ∷ [] }
+
+-- a resource of a DeltaDiscoveryResponse before it is written
+pub record DraftedResource : Type 0 where
+  pub name : List ℕ
+  pub version : List ℕ
+  pub body : List ℕ
+
+abbrev pub drafted_resource : DraftedResource → VersionedResource
+drafted_resource r = record { name = r.name; version = r.version; resource = value_of r.body }
+
+-- a DeltaDiscoveryResponse before it is written
+pub record DraftedDelta : Type 0 where
+  pub kind : TypeName
+  pub system_version_info : List ℕ
+  pub nonce : List ℕ
+  pub resources : List DraftedResource
+  pub removed_resources : List (List ℕ)
+
+abbrev pub delta_message_of : DraftedDelta → DeltaResponse
+delta_message_of m = record {
+  system_version_info = m.system_version_info;
+  resources = map drafted_resource m.resources;
+  type_url = (row m.kind).url;
+  nonce = m.nonce;
+  removed_resources = m.removed_resources;
+}
+
+-- the draft with the resource that a write puts, if it puts one
+abbrev pub with_resource : DraftedDelta → StampedWrite → Option (List ℕ) → DraftedDelta
+with_resource m w None = m
+with_resource m w (Some body) = record {
+  kind = m.kind;
+  system_version_info = m.system_version_info;
+  nonce = m.nonce;
+  resources = m.resources ++ record { name = w.name; version = version_of w; body = body } ∷ [];
+  removed_resources = m.removed_resources;
+}
+
+-- the draft with one more name to be dropped
+abbrev pub with_removed : DraftedDelta → List ℕ → DraftedDelta
+with_removed m name = record {
+  kind = m.kind;
+  system_version_info = m.system_version_info;
+  nonce = m.nonce;
+  resources = m.resources;
+  removed_resources = m.removed_resources ++ name ∷ [];
+}
