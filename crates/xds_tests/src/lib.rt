@@ -9,6 +9,8 @@ mod interest;
 #[cfg(test)]
 mod message;
 #[cfg(test)]
+mod program;
+#[cfg(test)]
 mod resource;
 #[cfg(test)]
 mod stamp;
