@@ -167,11 +167,11 @@ fn version_of(alloc: Global, replica: u16, changes: u64, star: bool) -> Result<S
     ensures given { IfOk result (λ s. string_bytes s ≡ version_info replica changes star) }
     ensures refused { IfErr result (λ e. e ≡ Refusal.OutOfMemory) }
 {
-    Ok(if star {
-        format!(in alloc; "{replica}.{changes}")?
-    } else {
-        format!(in alloc; "{replica}.{changes}.named")?
-    })
+    let mut text = format!(in alloc; "{replica}.{changes}")?;
+    if !star {
+        text.push_str(".named")?;
+    }
+    Ok(text)
 }
 
 // The objects that the writes put.
