@@ -11,7 +11,7 @@ ghost use Rattle.xds_catalogue.specs.Joins.{joined};
 use std::alloc::Global;
 use std::marker::Model;
 use xds_catalogue::Catalogue;
-use xds_resource::{AnyWrite, Cluster, Endpoint, Listener, Refusal, Route};
+use xds_resource::{AnyWrite, Cluster, Endpoint, Listener, Refusal, ResourceType, Route, Write};
 
 /// What a replica holds of each type.
 #[derive(Drop)]
@@ -54,11 +54,22 @@ impl Catalogues {
         ensures err { OnErr result (self.new ≡ self.old) }
     {
         match write {
-            AnyWrite::Cluster(write) => self.cluster.join_write(write)?,
-            AnyWrite::Endpoint(write) => self.endpoint.join_write(write)?,
-            AnyWrite::Listener(write) => self.listener.join_write(write)?,
-            AnyWrite::Route(write) => self.route.join_write(write)?,
-        };
-        Ok(())
+            AnyWrite::Cluster(write) => join_one(&mut self.cluster, write),
+            AnyWrite::Endpoint(write) => join_one(&mut self.endpoint, write),
+            AnyWrite::Listener(write) => join_one(&mut self.listener, write),
+            AnyWrite::Route(write) => join_one(&mut self.route, write),
+        }
     }
+}
+
+// Joins a write to the catalogue of its type, whose entry may have changed.
+fn join_one<T: ResourceType>(catalogue: &mut Catalogue<T>, write: Write<T>) -> Result<(), Refusal>
+    ensures joins { Gives (λ _. catalogue.new) result
+        (unless_refused
+        ((nat_lt max_counter (joined catalogue.old (write ∷ [])).changes, CounterSpent) ∷ [])
+        (joined catalogue.old (write ∷ []))) }
+    ensures err { OnErr result (catalogue.new ≡ catalogue.old) }
+{
+    catalogue.join_write(write)?;
+    Ok(())
 }
