@@ -1,11 +1,12 @@
 // What one replica holds, by scripts whose steps are apart by `; `, and what two replicas tell each other.
 use crate::cases::{Outcome, first_word, hold, told, written_out};
 use crate::interest::names_of;
+use crate::stamp::write_of;
 use std::alloc::Global;
 use std::test::Fail;
 use xds_catalogue::Catalogue;
 use xds_interest::Interest;
-use xds_resource::{Cluster, Refusal, Resource, ResourceType, Route, Stamp, Write};
+use xds_resource::{Cluster, Refusal, Resource, ResourceType, Route, Write};
 
 // The answers to the steps of a script over a new catalogue of clusters, a space before each.
 struct Answers;
@@ -69,16 +70,6 @@ fn shown<T: ResourceType>(
         names.push_str(write.name())?;
     }
     Ok(names)
-}
-
-// A put, by its version and its body, or a deletion of `a`, by its version and `-`.
-fn write_of(alloc: Global, given: &str) -> Result<Write<Cluster>, Refusal> {
-    let (version, body) = given.split_once(' ').ok_or(Refusal::BadMessage)?;
-    let stamp = Stamp::parse_version(version)?;
-    if body == "-" {
-        return Ok(Write::deletion(stamp, String::from_str(alloc, "a")?));
-    }
-    Ok(Write::put(stamp, Resource::parse(alloc, body)?))
 }
 
 #[test]

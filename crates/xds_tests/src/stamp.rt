@@ -78,25 +78,26 @@ impl Outcome for Compared {
     }
 }
 
-fn write_of(alloc: Global, given: &str) -> Result<Write<Cluster>, Fail> {
-    let (version, rest) = first_word(given)?;
+/// The write of a version that puts a body, or that deletes `a` where `-` stands in the body's place.
+pub fn write_of(alloc: Global, given: &str) -> Result<Write<Cluster>, Refusal> {
+    let (version, body) = given.split_once(' ').ok_or(Refusal::BadMessage)?;
     let stamp = Stamp::parse_version(version)?;
-    if rest == "b" {
-        return Ok(Write::deletion(stamp, String::from_str(alloc, "b")?));
+    if body == "-" {
+        return Ok(Write::deletion(stamp, String::from_str(alloc, "a")?));
     }
-    Ok(Write::put(stamp, Resource::parse(alloc, rest)?))
+    Ok(Write::put(stamp, Resource::parse(alloc, body)?))
 }
 
 #[test]
 fn writes_are_ordered(rt: HostRuntime) -> Result<(), Fail> {
     hold::<Compared, HostRuntime>(
         &rt,
-        r#"1-2 {"@type":"CDS","name":"b","x":9} and 2-1 b => less
-2-1 b and 2-1 {"@type":"CDS","name":"b","x":1} => less
-2-1 b and 2-1 b => equal
-2-1 {"@type":"CDS","name":"b","x":1} and 2-1 b => greater
-2-1 {"@type":"CDS","name":"b","x":1} and 2-1 {"@type":"CDS","name":"b","x":2} => less
-2-1 {"@type":"CDS","name":"b","x":2} and 2-1 {"@type":"CDS", "x":2,"name":"b"} => equal
+        r#"1-2 {"@type":"CDS","name":"a","x":9} and 2-1 - => less
+2-1 - and 2-1 {"@type":"CDS","name":"a","x":1} => less
+2-1 - and 2-1 - => equal
+2-1 {"@type":"CDS","name":"a","x":1} and 2-1 - => greater
+2-1 {"@type":"CDS","name":"a","x":1} and 2-1 {"@type":"CDS","name":"a","x":2} => less
+2-1 {"@type":"CDS","name":"a","x":2} and 2-1 {"@type":"CDS", "x":2,"name":"a"} => equal
 2-1 {"@type":"CDS","name":"b","x":2} and 2-2 {"@type":"CDS","name":"a"} => less
 2-2 {"@type":"CDS","name":"a"} and 1-2 {"@type":"CDS","name":"b","x":9} => greater"#,
     )
