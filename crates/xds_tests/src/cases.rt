@@ -37,6 +37,15 @@ pub fn first_word(text: &str) -> Result<(&str, &str), Fail> {
     Ok(text.split_once(' ').ok_or("a case lacks a word")?)
 }
 
+/// The words that stand in a text, apart by spaces.
+pub fn words_of(alloc: Global, text: &str) -> Result<Vec<String>, Refusal> {
+    let mut words = Vec::new(alloc);
+    for word in text.split_whitespace() {
+        words.push(String::from_str(alloc, word)?)?;
+    }
+    Ok(words)
+}
+
 /// The text, with `by` in place of `word`.
 pub fn replaced(alloc: Global, text: &str, word: &str, by: &str) -> Result<String, Fail> {
     let mut all = String::new(alloc);

@@ -1,6 +1,5 @@
 // What one replica holds, by scripts whose steps are apart by `; `, and what two replicas tell each other.
-use crate::cases::{Outcome, first_word, hold, told, written_out};
-use crate::interest::names_of;
+use crate::cases::{Outcome, first_word, hold, told, words_of, written_out};
 use crate::stamp::write_of;
 use std::alloc::Global;
 use std::test::Fail;
@@ -64,7 +63,7 @@ fn shown<T: ResourceType>(
     catalogue: &Catalogue<T>,
     wanted: &str,
 ) -> Result<String, Refusal> {
-    let interest = Interest::of_list(alloc, &names_of(alloc, wanted)?)?;
+    let interest = Interest::of_list(alloc, &words_of(alloc, wanted)?)?;
     let mut names = String::new(alloc);
     for write in &catalogue.content(alloc, &interest)? {
         names.push_str(write.name())?;

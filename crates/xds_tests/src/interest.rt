@@ -1,22 +1,13 @@
 // What a client wants of one type.
-use crate::cases::{Outcome, hold};
+use crate::cases::{Outcome, hold, words_of};
 use std::alloc::Global;
 use std::test::Fail;
 use xds_interest::Interest;
 use xds_resource::{Cluster, Endpoint, Refusal, ResourceType, Route};
 
-/// The names that stand in a text, apart by spaces.
-pub fn names_of(alloc: Global, text: &str) -> Result<Vec<String>, Refusal> {
-    let mut names = Vec::new(alloc);
-    for name in text.split_whitespace() {
-        names.push(String::from_str(alloc, name)?)?;
-    }
-    Ok(names)
-}
-
 // Whether an interest has the star, and which of the names `A`, `B` and `*` it covers.
 fn told_of<T: ResourceType>(alloc: Global, text: &str) -> Result<String, Refusal> {
-    let names = names_of(alloc, text)?;
+    let names = words_of(alloc, text)?;
     let interest = Interest::<T>::of_list(alloc, &names)?.try_copy(alloc)?;
     let mut all = String::from_str(
         alloc,

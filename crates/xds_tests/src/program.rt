@@ -1,5 +1,5 @@
 // Worked runs of the program, over readers and writers in memory and over some that fail.
-use crate::cases::{Outcome, hold, replaced, written_out};
+use crate::cases::{Outcome, hold, replaced, words_of, written_out};
 use std::alloc::Global;
 use std::io;
 use std::io::{ErrorKind, Read, Write};
@@ -8,13 +8,11 @@ use xds_program::run::run;
 use xds_program::{Counted, LineFault, answer_lines};
 use xds_resource::Refusal;
 
+// The words of a command line, the program's name first.
 fn words(alloc: Global, given: &str) -> Result<Vec<String>, Fail> {
-    let mut words = Vec::new(alloc);
-    words.push(String::from_str(alloc, "xds")?)?;
-    for word in given.split_whitespace() {
-        words.push(String::from_str(alloc, word)?)?;
-    }
-    Ok(words)
+    let mut line = String::from_str(alloc, "xds ")?;
+    line.push_str(given)?;
+    Ok(words_of(alloc, line.as_str())?)
 }
 
 // The status of a run over words and the input after a `|`, its output and its error output. `~` is a line feed, and
