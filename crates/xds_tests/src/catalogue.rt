@@ -1,5 +1,5 @@
 // What one replica holds, by scripts whose steps are apart by `; `, and what two replicas tell each other.
-use crate::cases::{Outcome, first_word, hold, told, words_of, written_out};
+use crate::cases::{Outcome, first_word, hold, told, words_of};
 use crate::stamp::write_of;
 use std::alloc::Global;
 use std::test::Fail;
@@ -12,21 +12,34 @@ struct Answers;
 
 impl Outcome for Answers {
     fn of(alloc: Global, given: &str) -> Result<String, Fail> {
-        let mut catalogue = Catalogue::<Cluster>::new(alloc);
-        let mut answers = String::new(alloc);
-        for step in given.split("; ") {
-            let (verb, rest) = first_word(step)?;
-            let answer = answer_to(alloc, &mut catalogue, verb, rest);
-            answers.push_str(" ")?;
-            answers.push_str(told(alloc, answer)?.as_str())?;
-        }
-        Ok(answers)
+        answers_of::<Cluster>(alloc, given)
     }
 }
 
-fn answer_to(
+// The same over a new catalogue of routes.
+struct RouteAnswers;
+
+impl Outcome for RouteAnswers {
+    fn of(alloc: Global, given: &str) -> Result<String, Fail> {
+        answers_of::<Route>(alloc, given)
+    }
+}
+
+fn answers_of<T: ResourceType>(alloc: Global, script: &str) -> Result<String, Fail> {
+    let mut catalogue = Catalogue::<T>::new(alloc);
+    let mut answers = String::new(alloc);
+    for step in script.split("; ") {
+        let (verb, rest) = first_word(step)?;
+        let answer = answer_to(alloc, &mut catalogue, verb, rest);
+        answers.push_str(" ")?;
+        answers.push_str(told(alloc, answer)?.as_str())?;
+    }
+    Ok(answers)
+}
+
+fn answer_to<T: ResourceType>(
     alloc: Global,
-    catalogue: &mut Catalogue<Cluster>,
+    catalogue: &mut Catalogue<T>,
     verb: &str,
     rest: &str,
 ) -> Result<String, Refusal> {
@@ -48,7 +61,11 @@ fn count_text(alloc: Global, count: u64) -> Result<String, Refusal> {
 }
 
 // The version and the body of what stands under a name.
-fn held_text(alloc: Global, catalogue: &Catalogue<Cluster>, name: &str) -> Result<String, Refusal> {
+fn held_text<T: ResourceType>(
+    alloc: Global,
+    catalogue: &Catalogue<T>,
+    name: &str,
+) -> Result<String, Refusal> {
     let Some(write) = catalogue.get(name) else {
         return Ok(String::from_str(alloc, "none")?);
     };
@@ -125,11 +142,8 @@ fn two_replicas_agree(rt: HostRuntime) -> Result<(), Fail> {
 
 #[test]
 fn routes_are_seen_by_name_alone(rt: HostRuntime) -> Result<(), Fail> {
-    let alloc = rt.alloc();
-    let mut routes = Catalogue::<Route>::new(alloc);
-    let text = written_out(alloc, r#"{"@type":"RDS","name":"r"}"#)?;
-    routes.put(Resource::parse(alloc, text.as_str())?, 1)?;
-    assert_eq!(rt; shown(alloc, &routes, "*")?.as_str(), "");
-    assert_eq!(rt; shown(alloc, &routes, "r")?.as_str(), "r");
-    Ok(())
+    hold::<RouteAnswers, HostRuntime>(
+        &rt,
+        r#"put {"@type":"RDS","name":"r"}; want ; want *; want r =>  1-1   r"#,
+    )
 }

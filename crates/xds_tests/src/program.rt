@@ -272,17 +272,26 @@ fn failing_devices_are_told(rt: HostRuntime) -> Result<(), Fail> {
     Ok(())
 }
 
+// A writer that takes nothing.
+#[derive(Drop)]
+struct Full;
+
+impl Write for Full {
+    fn write(&mut self, _buf: &[u8]) -> io::Result<usize> {
+        Ok(0)
+    }
+
+    fn flush(&mut self) -> io::Result<()> {
+        Ok(())
+    }
+}
+
 #[test]
 fn a_write_that_takes_nothing_has_failed(rt: HostRuntime) -> Result<(), Fail> {
-    let mut none = [0u8; 0];
-    let mut writer = Counted::new(none.as_mut_slice());
+    let mut writer = Counted::new(Full);
     assert!(rt; writer.write(b"a").is_err());
     assert!(rt; writer.write(b"").is_ok());
     assert!(rt; writer.flush().is_ok());
     assert_eq!(rt; writer.failed, 1);
-    let mut reader = Counted::new(b"".as_slice());
-    let mut room = [0u8; 4];
-    assert_eq!(rt; reader.read(room.as_mut_slice()).ok(), Some(0));
-    assert_eq!(rt; reader.failed, 0);
     Ok(())
 }

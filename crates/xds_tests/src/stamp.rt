@@ -4,7 +4,7 @@ use std::alloc::Global;
 use std::cmp::Ordering;
 use std::test::Fail;
 use xds_resource::stamp::MAX_COUNTER;
-use xds_resource::{Cluster, Refusal, Resource, Stamp, Write};
+use xds_resource::{Cluster, Refusal, Resource, ResourceType, Stamp, Write};
 
 // The version text of the stamp that a version text names.
 struct VersionAgain;
@@ -66,8 +66,8 @@ struct Compared;
 impl Outcome for Compared {
     fn of(alloc: Global, given: &str) -> Result<String, Fail> {
         let (first, second) = given.split_once(" and ").ok_or("no second write")?;
-        let first = write_of(alloc, first)?;
-        let second = write_of(alloc, second)?.try_copy(alloc)?;
+        let first = write_of::<Cluster>(alloc, first)?;
+        let second = write_of::<Cluster>(alloc, second)?.try_copy(alloc)?;
         let order = match first.cmp(&second) {
             Ordering::Less => "less",
             Ordering::Equal => "equal",
@@ -79,7 +79,7 @@ impl Outcome for Compared {
 }
 
 /// The write of a version that puts a body, or that deletes `a` where `-` stands in the body's place.
-pub fn write_of(alloc: Global, given: &str) -> Result<Write<Cluster>, Refusal> {
+pub fn write_of<T: ResourceType>(alloc: Global, given: &str) -> Result<Write<T>, Refusal> {
     let (version, body) = given.split_once(' ').ok_or(Refusal::BadMessage)?;
     let stamp = Stamp::parse_version(version)?;
     if body == "-" {
