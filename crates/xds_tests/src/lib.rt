@@ -3,6 +3,8 @@
 #![tactic(auto)]
 
 #[cfg(test)]
+mod cases;
+#[cfg(test)]
 mod catalogue;
 #[cfg(test)]
 mod delta;
@@ -12,6 +14,8 @@ mod draft;
 mod interest;
 #[cfg(test)]
 mod message;
+#[cfg(test)]
+mod program;
 #[cfg(test)]
 mod resource;
 #[cfg(test)]
