@@ -6,6 +6,3 @@ pub mod laws;
 mod log;
 
 pub use catalogue::Catalogue;
-
-#[cfg(test)]
-mod tests;

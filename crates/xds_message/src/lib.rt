@@ -5,8 +5,6 @@ mod fields;
 pub mod laws;
 pub mod request;
 pub mod response;
-#[cfg(test)]
-mod tests;
 pub mod writes;
 
 pub use request::{DiscoveryRequest, Node, Status};

@@ -159,6 +159,3 @@ fn number_of(value: &Value, key: &str) -> Option<u64>
 {
     value.get(key)?.as_u64()
 }
-
-#[cfg(test)]
-mod tests;

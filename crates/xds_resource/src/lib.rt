@@ -8,8 +8,6 @@ pub mod laws;
 pub mod refusal;
 pub mod resource;
 pub mod stamp;
-#[cfg(test)]
-mod tests;
 pub mod types;
 pub mod write;
 

@@ -86,6 +86,3 @@ fn writer_of(text: &str) -> Option<u16>
         None
     }
 }
-
-#[cfg(test)]
-mod tests;

@@ -1,0 +1,20 @@
+// Tests of the public calls of the crates below, in modules named for what they test: worked examples, and what no
+// clause says, as that calls succeed where memory is ample. Nothing else stands here.
+#![tactic(auto)]
+
+#[cfg(test)]
+mod cases;
+#[cfg(test)]
+mod catalogue;
+#[cfg(test)]
+mod interest;
+#[cfg(test)]
+mod message;
+#[cfg(test)]
+mod program;
+#[cfg(test)]
+mod resource;
+#[cfg(test)]
+mod stamp;
+#[cfg(test)]
+mod writes;

@@ -1,0 +1,103 @@
+// Stamps and version texts, and the order of writes.
+use crate::cases::{Outcome, first_word, hold, told};
+use std::alloc::Global;
+use std::cmp::Ordering;
+use std::test::Fail;
+use xds_resource::stamp::MAX_COUNTER;
+use xds_resource::{Cluster, Refusal, Resource, Stamp, Write};
+
+// The version text of the stamp that a version text names.
+struct VersionAgain;
+
+impl Outcome for VersionAgain {
+    fn of(alloc: Global, given: &str) -> Result<String, Fail> {
+        let (_, text) = first_word(given)?;
+        told(alloc, version_again(alloc, text))
+    }
+}
+
+fn version_again(alloc: Global, text: &str) -> Result<String, Refusal> {
+    Stamp::parse_version(text)?.version_text(alloc)
+}
+
+#[test]
+fn versions_name_stamps(rt: HostRuntime) -> Result<(), Fail> {
+    hold::<VersionAgain, HostRuntime>(
+        &rt,
+        "version 1-1 => 1-1
+version 12-3 => 12-3
+version 10-10 => 10-10
+version 9223372036854775807-65535 => 9223372036854775807-65535
+version  => 11 BadStamp
+version - => 11 BadStamp
+version 1 => 11 BadStamp
+version 1- => 11 BadStamp
+version -1 => 11 BadStamp
+version 0-1 => 11 BadStamp
+version 1-0 => 11 BadStamp
+version 01-1 => 11 BadStamp
+version 1-01 => 11 BadStamp
+version +1-1 => 11 BadStamp
+version 1-+1 => 11 BadStamp
+version 1 -1 => 11 BadStamp
+version  1-1 => 11 BadStamp
+version 1-1  => 11 BadStamp
+version 1-1-1 => 11 BadStamp
+version 1--1 => 11 BadStamp
+version a-1 => 11 BadStamp
+version 0x1-1 => 11 BadStamp
+version 1-65536 => 11 BadStamp
+version 9223372036854775808-1 => 11 BadStamp
+version 18446744073709551616-1 => 11 BadStamp",
+    )
+}
+
+#[test]
+fn stamps_are_made(rt: HostRuntime) {
+    let stamp = Stamp::new(MAX_COUNTER, 1);
+    assert_eq!(rt; stamp.counter, 9_223_372_036_854_775_807);
+    assert!(rt; Stamp::new(2, 1) > Stamp::new(1, 2));
+    assert!(rt; Stamp::new(2, 2) > Stamp::new(2, 1));
+}
+
+// How two writes stand, each given by its version and its name or its body.
+struct Compared;
+
+impl Outcome for Compared {
+    fn of(alloc: Global, given: &str) -> Result<String, Fail> {
+        let (first, second) = given.split_once(" and ").ok_or("no second write")?;
+        let first = write_of(alloc, first)?;
+        let second = write_of(alloc, second)?.try_copy(alloc)?;
+        let order = match first.cmp(&second) {
+            Ordering::Less => "less",
+            Ordering::Equal => "equal",
+            Ordering::Greater => "greater",
+        };
+        let is_same = (order == "equal") == (first == second);
+        Ok(String::from_str(alloc, if is_same { order } else { "at odds" })?)
+    }
+}
+
+fn write_of(alloc: Global, given: &str) -> Result<Write<Cluster>, Fail> {
+    let (version, rest) = first_word(given)?;
+    let stamp = Stamp::parse_version(version)?;
+    if rest == "b" {
+        return Ok(Write::deletion(stamp, String::from_str(alloc, "b")?));
+    }
+    Ok(Write::put(stamp, Resource::parse(alloc, rest)?))
+}
+
+#[test]
+fn writes_are_ordered(rt: HostRuntime) -> Result<(), Fail> {
+    hold::<Compared, HostRuntime>(
+        &rt,
+        r#"1-2 {"@type":"CDS","name":"b","x":9} and 2-1 b => less
+2-1 b and 2-1 {"@type":"CDS","name":"b","x":1} => less
+2-1 b and 2-1 b => equal
+2-1 {"@type":"CDS","name":"b","x":1} and 2-1 b => greater
+2-1 {"@type":"CDS","name":"b","x":1} and 2-1 {"@type":"CDS","name":"b","x":2} => less
+2-1 {"@type":"CDS","name":"b","x":2} and 2-1 {"@type":"CDS", "x":2,"name":"b"} => equal
+2-1 {"@type":"CDS","name":"b","x":2} and 2-2 {"@type":"CDS","name":"a"} => less
+2-2 {"@type":"CDS","name":"a"} and 1-2 {"@type":"CDS","name":"b","x":9} => greater"#,
+    )
+}
