@@ -13,4 +13,3 @@ pub use delta::DeltaNames;
 pub use interest::Interest;
 pub use sotw::SotwNames;
 pub use touched::Touched;
-
