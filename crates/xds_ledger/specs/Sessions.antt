@@ -3,21 +3,27 @@
 use Rattle.std.specs.Prelude.{ℕ, List, [], ◌∷◌, Bool, true, false, ◌&&◌, not, if◌then◌else◌, Option, Some, None, option_map, refl}
 use Rattle.std.specs.FinMap as finmap
 use Rattle.std.specs.FinSet as set
+use Rattle.std.specs.Coded.{Coded, code_by, coded×}
 use Rattle.xds_resource.specs.declared.types.TypeName.{TypeName}
 use Rattle.xds_resource.specs.Writes.{text_cmp}
 use Rattle.xds_interest.specs.Interests.{Selection}
-use Rattle.xds_interest.specs.Asked.{Asked, unasked, sotw_asked, delta_asked}
+use Rattle.xds_interest.specs.Asked.{Asked, asked_code, unasked, sotw_asked, delta_asked}
 use Rattle.xds_interest.specs.Delta.{Mention}
 use Rattle.xds_interest.specs.Touches.{Touch, sotw_touch, delta_touch}
 use Rattle.xds_catalogue.specs.Holdings.{Entries}
 use Rattle.xds_ledger.specs.declared.variant.VariantName.{VariantName}
+use Rattle.xds_ledger.specs.declared.outcome.Outcome.{Outcome}
+use Rattle.xds_ledger.specs.declared.outcome.Outcome.TheVariants.{Taken, Ignored}
 use Rattle.xds_ledger.specs.Offers.{Offer}
 use Rattle.xds_ledger.specs.Ledgers as ledgers
-use Rattle.xds_ledger.specs.Ledgers.{Account, opened, is_stale, settled, touch, resume}
+use Rattle.xds_ledger.specs.Ledgers.{Account, account_code, opened, is_stale, settled, touch, resume}
 
 pub record Session : Type 0 where
   pub asked : Asked
   pub account : Account
+
+abbrev pub session_code : Coded Session
+session_code = code_by (Asked × Account) (coded× asked_code account_code) (λ s. (s.asked, s.account)) (λ p. record { asked = p.0; account = p.1 }) (λ _. refl)
 
 -- before the first request: it is owed nothing
 abbrev pub unopened : Session
@@ -62,6 +68,10 @@ taken v t s answer names = record {
   asked = names.asked;
   account = resume (touch (settled v t s.account answer.nonce answer.rejects) names.asked.interest names.touched names.mentioned) names.versions;
 }
+
+-- what became of a request with this nonce
+abbrev pub outcome : Session → List ℕ → Outcome
+outcome s nonce = if is_taken s nonce then Taken else Ignored
 
 -- after a request
 abbrev pub take : VariantName → TypeName → Session → Answer → Names → Session

@@ -12,6 +12,7 @@ ghost use Rattle.xds_ledger.specs.Variants.{is_whole};
 use crate::beliefs::{accepted, resumed, taken};
 use crate::entry::{Due, Entry};
 use crate::offers::{is_same_offer, offer};
+use crate::owed::something_owed;
 use crate::sent::Sent;
 use crate::variant::Variant;
 use itoa::Buffer;
@@ -115,6 +116,43 @@ impl<T: ResourceType, V: Variant> Ledger<T, V> {
         ensures err { IfErr result (λ e. e ≡ OutOfMemory) }
     {
         offer(alloc, V::NAME, interest, catalogue, &self.beliefs)
+    }
+
+    /// Whether a response is due: something is owed that can be told, or, where a response is the whole, none was
+    /// accepted yet. It takes no memory.
+    pub fn is_due(&self, interest: &Interest<T>, catalogue: &Catalogue<T>) -> bool
+        ensures { result ≡ ledgers.is_due V.NAME T.TYPE interest.now catalogue.now.entries self.now }
+    {
+        something_owed(V::NAME, interest, catalogue, &self.beliefs)
+            || (V::NAME.is_whole(T::TYPE) && !self.accepted)
+    }
+
+    /// Whether the client is owed something: its answer is out, or a response is due. It takes no memory.
+    pub fn owes(&self, interest: &Interest<T>, catalogue: &Catalogue<T>) -> bool
+        ensures { result ≡ ledgers.owes V.NAME T.TYPE interest.now catalogue.now.entries self.now }
+    {
+        self.sent.is_some() || self.is_due(interest, catalogue)
+    }
+
+    /// The offer that is to be sent now, if there is one: nothing is unanswered, a response is due, and the offer
+    /// isn't the one that was refused last. Refused only by `OutOfMemory`.
+    pub fn sending(
+        &self,
+        alloc: Global,
+        interest: &Interest<T>,
+        catalogue: &Catalogue<T>,
+    ) -> Result<Option<NameMap<Due>>, Refusal>
+        ensures ok { IfOk result (λ o. o ≡ ledgers.sending V.NAME T.TYPE interest.now catalogue.now.entries self.now) }
+        ensures err { IfErr result (λ e. e ≡ OutOfMemory) }
+    {
+        if self.sent.is_some() || !self.is_due(interest, catalogue) {
+            return Ok(None);
+        }
+        let offer = self.offer(alloc, interest, catalogue)?;
+        if self.is_refused(&offer) {
+            return Ok(None);
+        }
+        Ok(Some(offer))
     }
 
     /// Whether this is the offer that was refused last.

@@ -33,16 +33,25 @@ impl Nonces {
         Nonces { last: 0 }
     }
 
-    /// Draws the next number. After the greatest, 9,223,372,036,854,775,807, it is `NonceSpent`.
-    pub fn next(&mut self) -> Result<u64, Refusal>
-        ensures ok { IfOk result (λ n. (n ≡ self.old + 1) × (self.new ≡ self.old + 1)) }
-        ensures spent { IfErr result (λ e. (e ≡ NonceSpent) × (self.old ≡ max_counter) × (self.new ≡ self.old)) }
+    /// The number that is drawn next; after the greatest, 9,223,372,036,854,775,807, it is `NonceSpent`.
+    pub fn upcoming(&self) -> Result<u64, Refusal>
+        ensures ok { IfOk result (λ n. n ≡ self.now + 1) }
+        ensures spent { IfErr result (λ e. (e ≡ NonceSpent) × (self.now ≡ max_counter)) }
     {
         if self.last == MAX_COUNTER {
             return Err(Refusal::NonceSpent);
         }
-        self.last += 1;
-        Ok(self.last)
+        Ok(self.last + 1)
+    }
+
+    /// Draws the next number.
+    pub fn next(&mut self) -> Result<u64, Refusal>
+        ensures ok { IfOk result (λ n. (n ≡ self.old + 1) × (self.new ≡ self.old + 1)) }
+        ensures spent { IfErr result (λ e. (e ≡ NonceSpent) × (self.old ≡ max_counter) × (self.new ≡ self.old)) }
+    {
+        let number = self.upcoming()?;
+        self.last = number;
+        Ok(number)
     }
 
     /// Whether the greatest number was drawn.

@@ -1,9 +1,11 @@
 // What a client is owed of one name.
-ghost use Rattle.std.specs.Prelude.{◌≡◌, IfOk, IfErr, option_map, false};
+ghost use Rattle.std.specs.Prelude.{◌≡◌, ℕ, List, IfOk, IfErr, option_map, is_some, None, true, false};
+ghost use Rattle.std.specs.List.{list_any};
+ghost use Rattle.std.specs.FinMap as finmap;
 ghost use Rattle.std.specs.Option.{option_map_or};
 ghost use Rattle.xds_resource.specs.Stamps.{version_text};
 ghost use Rattle.xds_resource.specs.declared.refusal.Refusal.TheVariants.{OutOfMemory};
-ghost use Rattle.xds_ledger.specs.Owed.{present, owed};
+ghost use Rattle.xds_ledger.specs.Owed.{present, owed, something_owed, is_owed_at};
 ghost use Rattle.xds_ledger.specs.Variants.{is_told};
 
 use crate::entry::{Due, Entry};
@@ -12,7 +14,7 @@ use crate::version::Version;
 use std::alloc::Global;
 use xds_catalogue::Catalogue;
 use xds_interest::Interest;
-use xds_resource::{Refusal, ResourceType, Stamp, TypeName};
+use xds_resource::{NameMap, Refusal, ResourceType, Stamp, TypeName};
 
 // The stamp at which a name is present: of the live write that the interest covers. It takes no memory.
 pub(crate) fn present<T: ResourceType>(
@@ -65,4 +67,54 @@ pub(crate) fn due_of(
         (Some(Entry::Told(version)), Some(stamp)) if version.is_of(stamp) => Ok(None),
         (_, Some(stamp)) => Ok(Some(Due::Stated(Version::of_stamp(alloc, stamp)?))),
     }
+}
+
+// Whether something is owed of a name with an entry.
+fn believed_owed<T: ResourceType>(
+    variant: VariantName,
+    interest: &Interest<T>,
+    catalogue: &Catalogue<T>,
+    beliefs: &NameMap<Entry>,
+) -> bool
+    ensures { result ≡ list_any (λ e. is_owed_at variant T.TYPE interest.now catalogue.now.entries e.0 e.1) (finmap.entries beliefs.now) }
+{
+    for (name, entry) in beliefs.iter() {
+        if is_owed(variant, T::TYPE, Some(entry), present(interest, catalogue, name)) {
+            return true;
+        }
+    }
+    false
+}
+
+// Whether a name without an entry is present.
+fn unbelieved_owed<T: ResourceType>(
+    interest: &Interest<T>,
+    catalogue: &Catalogue<T>,
+    beliefs: &NameMap<Entry>,
+) -> bool
+    ensures found { result ≡ true → (name : List ℕ) × (finmap.get beliefs.now name ≡ None) × (is_some (present interest.now catalogue.now.entries name) ≡ true) }
+    ensures none { result ≡ false → (name : List ℕ) → finmap.get beliefs.now name ≡ None → present interest.now catalogue.now.entries name ≡ None }
+{
+    let mut after = 0;
+    while let Some((number, write)) = catalogue.next_change(after) {
+        let name = write.name();
+        if !beliefs.contains(name) && present(interest, catalogue, name).is_some() {
+            return true;
+        }
+        after = number;
+    }
+    false
+}
+
+/// Whether something is owed of some name that can be told. It takes no memory.
+pub(crate) fn something_owed<T: ResourceType>(
+    variant: VariantName,
+    interest: &Interest<T>,
+    catalogue: &Catalogue<T>,
+    beliefs: &NameMap<Entry>,
+) -> bool
+    ensures { result ≡ something_owed variant T.TYPE interest.now catalogue.now.entries beliefs.now }
+{
+    believed_owed(variant, interest, catalogue, beliefs)
+        || unbelieved_owed(interest, catalogue, beliefs)
 }

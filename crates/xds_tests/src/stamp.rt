@@ -2,6 +2,7 @@
 use crate::cases::{Outcome, first_word, hold, told};
 use std::alloc::Global;
 use std::cmp::Ordering;
+use std::sync::ArcStr;
 use std::test::Fail;
 use xds_resource::stamp::MAX_COUNTER;
 use xds_resource::{Cluster, Refusal, Resource, ResourceType, Stamp, Write};
@@ -83,7 +84,7 @@ pub fn write_of<T: ResourceType>(alloc: Global, given: &str) -> Result<Write<T>,
     let (version, body) = given.split_once(' ').ok_or(Refusal::BadMessage)?;
     let stamp = Stamp::parse_version(version)?;
     if body == "-" {
-        return Ok(Write::deletion(stamp, String::from_str(alloc, "a")?));
+        return Ok(Write::deletion(stamp, ArcStr::from_str(alloc, "a")?));
     }
     Ok(Write::put(stamp, Resource::parse(alloc, body)?))
 }

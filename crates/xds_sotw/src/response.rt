@@ -1,0 +1,56 @@
+// The response that an offer makes.
+ghost use Rattle.std.specs.Prelude.{◌≡◌, map, ◌≤◌, ◌<◌, ◌^◌, IfOk, IfErr, string_bytes, is_some, decimal};
+ghost use Rattle.std.specs.List.{filter};
+ghost use Rattle.std.specs.FinMap as finmap;
+ghost use Rattle.xds_resource.specs.declared.refusal.Refusal.TheVariants.{OutOfMemory};
+ghost use Rattle.xds_sotw.specs.Polls.{version_info, response as response_of};
+
+use std::alloc::Global;
+use xds_catalogue::Catalogue;
+use xds_interest::Interest;
+use xds_ledger::Due;
+use xds_message::SotwDraft;
+use xds_resource::{NameMap, Refusal, ResourceType};
+
+fn version_text(
+    alloc: Global,
+    replica: u16,
+    changes: u64,
+    star: bool,
+) -> Result<String, Refusal>
+    ensures text { IfOk result (λ s. string_bytes s ≡ version_info replica changes star) }
+    ensures refused { IfErr result (λ e. e ≡ OutOfMemory) }
+{
+    let named = if star { "" } else { ".named" };
+    Ok(format!(in alloc; "{replica}.{changes}{named}")?)
+}
+
+fn nonce_text(alloc: Global, number: u64) -> Result<String, Refusal>
+    ensures text { IfOk result (λ s. string_bytes s ≡ decimal number) }
+    ensures refused { IfErr result (λ e. e ≡ OutOfMemory) }
+{
+    Ok(format!(in alloc; "{number}")?)
+}
+
+/// The response with this offer, as the response of this number on its stream.
+pub(crate) fn response<T: ResourceType>(
+    alloc: Global,
+    replica: u16,
+    catalogue: &Catalogue<T>,
+    interest: &Interest<T>,
+    offer: &NameMap<Due>,
+    number: u64,
+) -> Result<SotwDraft, Refusal>
+    ensures ok { IfOk result (λ d. d ≡ response_of replica T.TYPE catalogue.now interest.now offer.now number) }
+    ensures refused { IfErr result (λ e. e ≡ OutOfMemory) }
+{
+    let version = version_text(alloc, replica, catalogue.changes(), interest.has_star())?;
+    let mut draft = SotwDraft::new(alloc, T::TYPE, version, nonce_text(alloc, number)?);
+    let shown = catalogue.content(alloc, interest)?;
+    for write in &shown {
+        if offer.contains(write.name()) {
+            draft.push(write)?;
+        }
+    }
+    Ok(draft)
+}
