@@ -1,5 +1,5 @@
 // The nonces of one stream.
-ghost use Rattle.std.specs.Prelude.{◌≡◌, ◌+◌, ◌↔◌, IsTrue, IfOk, IfErr};
+ghost use Rattle.std.specs.Prelude.{◌≡◌, ◌≤◌, ◌+◌, ◌↔◌, IsTrue, IfOk, IfErr};
 ghost use Rattle.xds_resource.specs.Stamps.{max_counter};
 ghost use Rattle.xds_resource.specs.declared.refusal.Refusal.TheVariants.{NonceSpent};
 
@@ -36,6 +36,7 @@ impl Nonces {
     /// The number that is drawn next; after the greatest, 9,223,372,036,854,775,807, it is `NonceSpent`.
     pub fn upcoming(&self) -> Result<u64, Refusal>
         ensures ok { IfOk result (λ n. n ≡ self.now + 1) }
+        ensures bound { IfOk result (λ n. n ≤ max_counter) }
         ensures spent { IfErr result (λ e. (e ≡ NonceSpent) × (self.now ≡ max_counter)) }
     {
         if self.last == MAX_COUNTER {

@@ -10,7 +10,7 @@ use Rattle.std.specs.FinMap.Entries.{below_all, is_sorted}
 use Rattle.std.proofs.lemmas.Map.Text.{is_eq-slice_cmp}
 use Rattle.xds_resource.specs.Writes.{text_cmp}
 use Rattle.xds_resource.specs.Names.{put_some, put_all, put_each}
-use Rattle.xds_resource.proofs.NameMaps.{has_text, get-put_some, bytes_eq_tells, bytes_eq_swap}
+use Rattle.xds_resource.proofs.NameMaps.{has_text, get-put_some, bytes_eq_same, bytes_eq_tells, bytes_eq_swap}
 
 pub holds_first : (a b : Bool) → T (a && b) → T a
 holds_first true b h = tt
@@ -70,3 +70,34 @@ get-put_each f m (n ∷ ns) q =
     get-put_each f (put_some m n (f n)) ns q ∙ ap (λ o. cond (has_text ns q) (option_or (f q) o) o) (get-put_some m n (f n) q)
     ∙ each_step (bytes_eq n q) (has_text ns q) (f n) (f q) (finmap.get m q) (λ same. ap f (bytes_eq_tells n q same))
     ∙ ap (λ b. cond (b || has_text ns q) (option_or (f q) (finmap.get m q)) (finmap.get m q)) (bytes_eq_swap n q)
+
+-- ---- the entries of a map are found
+
+-- each of some entries is what the map has at its name
+abbrev pub EachFound : {X : Type 0} → finmap.FinMap text_cmp X → List (List ℕ × X) → Type 0
+EachFound m [] = Unit {0}
+EachFound m (e ∷ es) = (finmap.get m e.0 ≡ Some e.1) × EachFound m es
+
+abbrev EachAt : {X : Type 0} → List (List ℕ × X) → List (List ℕ × X) → Type 0
+EachAt all [] = Unit {0}
+EachAt all (e ∷ es) = (finmap.find text_cmp e.0 all ≡ Some e.1) × EachAt all es
+
+past_first : {X : Type 0} (k : List ℕ) (x : X) (all es : List (List ℕ × X)) → T (below_all text_cmp k es) → EachAt all es → EachAt ((k, x) ∷ all) es
+past_first k x all [] below found = tt
+past_first k x all (e ∷ es) below found =
+    let apart : eq_by_cmp text_cmp e.0 k ≡ false =
+    is_eq-slice_cmp e.0 k ∙ bytes_eq_swap e.0 k ∙ sym (is_eq-slice_cmp k e.0) ∙ less_is_no_tie (text_cmp k e.0) (holds_first (is_lt (text_cmp k e.0)) (below_all text_cmp k es) below) in
+    (ap (λ b. cond b (Some x) (finmap.find text_cmp e.0 all)) apart ∙ found.0, past_first k x all es (holds_second (is_lt (text_cmp k e.0)) (below_all text_cmp k es) below) found.1)
+
+each_at : {X : Type 0} (es : List (List ℕ × X)) → T (is_sorted text_cmp es) → EachAt es es
+each_at [] sorted = tt
+each_at (e ∷ es) sorted =
+    ( ap (λ b. cond b (Some e.1) (finmap.find text_cmp e.0 es)) (is_eq-slice_cmp e.0 e.0 ∙ bytes_eq_same e.0)
+    , past_first e.0 e.1 es es (holds_first (below_all text_cmp e.0 es) (is_sorted text_cmp es) sorted) (each_at es (holds_second (below_all text_cmp e.0 es) (is_sorted text_cmp es) sorted)) )
+
+by_get : {X : Type 0} (m : finmap.FinMap text_cmp X) (es : List (List ℕ × X)) → EachAt (finmap.entries m) es → EachFound m es
+by_get m [] found = tt
+by_get m (e ∷ es) found = (finmap.get-entries m e.0 ∙ found.0, by_get m es found.1)
+
+pub each_found : {X : Type 0} (m : finmap.FinMap text_cmp X) → EachFound m (finmap.entries m)
+each_found m = by_get m (finmap.entries m) (each_at (finmap.entries m) (finmap.entries_sorted m))
