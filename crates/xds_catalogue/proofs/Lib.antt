@@ -1,8 +1,8 @@
 pub mod Catalogues
 pub mod News
-pub mod Logs
+pub mod Lookups
+pub mod OneWrite
 pub mod Joining
 pub mod Counters
 pub mod LocalWrites
-pub mod Standing
 pub mod JoinLaws
