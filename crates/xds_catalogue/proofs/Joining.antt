@@ -1,5 +1,5 @@
 -- Writes that are joined one by one, against the same writes at once.
-use Rattle.std.proofs.Common.{◌≡◌, ℕ, ◌+◌, ◌-◌, ◌<◌, ◌≤◌, zero, suc, List, [], ◌∷◌, ◌++◌, length, take, Bool, true, false, cond, Result, Ok, Err, refl, sym, ap, ◌∙◌, arith, append-nil, append_assoc}
+use Rattle.std.proofs.Common.{◌≡◌, ◌≢◌, ℕ, ◌+◌, ◌-◌, ◌<◌, ◌≤◌, zero, suc, List, [], ◌∷◌, ◌++◌, length, take, Bool, true, false, cond, Result, Ok, Err, refl, sym, ap, ◌∙◌, arith, append-nil, append_assoc}
 use Rattle.std.specs.Prelude.{nat_lt}
 use Rattle.std.specs.FinMap as finmap
 use Rattle.std.proofs.lemmas.Bool.{ltb-true, lt-ltb, le-ltb}
@@ -7,13 +7,13 @@ use Rattle.xds_resource.specs.declared.refusal.Refusal.{Refusal}
 use Rattle.xds_resource.specs.declared.refusal.Refusal.TheVariants.{CounterSpent}
 use Rattle.xds_resource.specs.Stamps.{max_counter}
 use Rattle.xds_resource.specs.Writes.{StampedWrite}
-use Rattle.xds_catalogue.specs.Holdings.{Holdings, catalogue_of}
-use Rattle.xds_catalogue.specs.Changes.{changes_after, change_list}
+use Rattle.xds_catalogue.specs.Holdings.{Holdings, catalogue_of, IsCatalogue}
+use Rattle.xds_catalogue.specs.Changes.{surpasses, changes_after, change_list}
 use Rattle.xds_catalogue.specs.Joins.{changes_by, latest_by, joined, joining}
 use Rattle.xds_catalogue.proofs.Catalogues.{best-entries_of, catalogue_of-entries}
 use Rattle.xds_catalogue.proofs.News.{changes_after-same, changes_after-append}
 use Rattle.xds_catalogue.proofs.Lookups.{from_entries-entries}
-use Rattle.xds_catalogue.proofs.OneWrite.{change_list-same, change_list-append}
+use Rattle.xds_catalogue.proofs.OneWrite.{changed, joined-news, joined-old, change_list-same, change_list-append}
 
 sum_assoc : (a b c : ℕ) → (a + b) + c ≡ a + (b + c)
 sum_assoc a b c = omega arith
@@ -65,3 +65,24 @@ joining-fits h k vs n grown is fits =
 
 pub joining-spent : (h : Holdings) (vs : List StampedWrite) → max_counter < (joined h vs).changes → joining h vs ≡ Err CounterSpent
 joining-spent h vs past = ap (λ b. cond b (Err CounterSpent) (Ok (changes_by h vs, joined h vs))) (lt-ltb max_counter (joined h vs).changes past)
+
+pub below_top : (n top : ℕ) → n ≤ top → n ≢ top → n < top
+below_top n top within apart = omega arith
+
+-- one write: it is no news, it is news and can be counted, or it can't
+pub joining-old : (h : Holdings) (w : StampedWrite) → IsCatalogue h.entries → h.changes ≤ max_counter → surpasses w (finmap.get h.entries w.name) ≡ false → joining h (w ∷ []) ≡ Ok (0, h)
+joining-old h w named short below =
+    let is = joined-old h w named below in
+    let count = ap (λ k. k.changes) is in
+    joining-fits h h (w ∷ []) 0 (omega (arith, count)) is short
+
+pub joining-news : (h : Holdings) (w : StampedWrite) → IsCatalogue h.entries → h.changes < max_counter → surpasses w (finmap.get h.entries w.name) ≡ true → joining h (w ∷ []) ≡ Ok (1, changed h w)
+joining-news h w named room above =
+    let is = joined-news h w named above in
+    let count = ap (λ k. k.changes) is in
+    joining-fits h (changed h w) (w ∷ []) 1 (omega (arith, count)) is (omega arith)
+
+pub joining-full : (h : Holdings) (w : StampedWrite) → IsCatalogue h.entries → h.changes ≡ max_counter → surpasses w (finmap.get h.entries w.name) ≡ true → joining h (w ∷ []) ≡ Err CounterSpent
+joining-full h w named full above =
+    let count = ap (λ k. k.changes) (joined-news h w named above) in
+    joining-spent h (w ∷ []) (omega (arith, count))

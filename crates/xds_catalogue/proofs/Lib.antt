@@ -3,6 +3,9 @@ pub mod News
 pub mod Lookups
 pub mod OneWrite
 pub mod Joining
+pub mod Sound
+pub mod Leftovers
+pub mod MapViews
 pub mod Counters
 pub mod LocalWrites
 pub mod JoinLaws

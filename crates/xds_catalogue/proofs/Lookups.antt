@@ -1,10 +1,11 @@
 -- What finite maps have after a change, and when two changes leave them as they were.
-use Rattle.std.proofs.Common.{◌≡◌, ℕ, List, [], ◌∷◌, ◌++◌, Bool, true, false, cond, Option, Some, None, Ordering, refl, sym, ap, ◌∙◌}
+use Rattle.std.proofs.Common.{◌≡◌, ◌≢◌, ◌⊎◌, inl, inr, ℕ, List, [], ◌∷◌, ◌++◌, Bool, true, false, cond, Option, Some, None, Ordering, refl, sym, ap, ◌∙◌}
 use Rattle.std.specs.declared.cmp.Ordering.TheVariants.{Less, Equal, Greater}
-use Rattle.std.specs.Ordering.{is_eq, eq_by_cmp, nat_cmp}
-use Rattle.std.specs.Cmp.{IsTotalOrder, nat_cmp_total}
+use Rattle.std.specs.Ordering.{is_eq, eq_by_cmp}
+use Rattle.std.specs.Cmp.{IsTotalOrder, eq_by_cmp_equiv}
 use Rattle.std.specs.FinMap as finmap
 use Rattle.std.specs.FinMap.{FinMap, IsAntisymmetric}
+use Rattle.std.proofs.lemmas.Bool.{true≢false}
 use Rattle.std.proofs.lemmas.Cmp.{nat_list_cmp_total}
 use Rattle.xds_resource.specs.Writes.{text_cmp}
 use Rattle.xds_resource.proofs.WriteTies.{text_cmp-IsAntisymmetric}
@@ -56,3 +57,24 @@ from_entries-entries xs ys =
 pub from_own_entries : {X : Type 0} (m : FinMap text_cmp X) → finmap.from_entries (finmap.entries m) ≡ m
 from_own_entries m =
     finmap.same_map nat_list_cmp_total text_cmp-IsAntisymmetric _ _ (λ q. finmap.get-from_entries nat_list_cmp_total (finmap.entries m) q ∙ sym (finmap.get-entries m q))
+
+module _ {K X : Type 0} {R : K → K → Ordering} (o : IsTotalOrder R) (same : IsAntisymmetric R) where
+  at_insert : (m : FinMap R X) (k : K) (v : X) (q : K) (b : Bool) → eq_by_cmp R q k ≡ b → ((k ≡ q) × (finmap.get (finmap.insert m k v) q ≡ Some v)) ⊎ ((k ≢ q) × (finmap.get (finmap.insert m k v) q ≡ finmap.get m q))
+  at_insert m k v q true tie = inl (sym (same q k (tie_told (R q k) tie)), finmap.get-insert o m k v q ∙ ap (λ b. cond b (Some v) (finmap.get m q)) tie)
+  at_insert m k v q false tie =
+      let itself = (eq_by_cmp_equiv o).refl q in
+      inr (λ is. true≢false (sym itself ∙ ap (eq_by_cmp R q) (sym is) ∙ tie), finmap.get-insert o m k v q ∙ ap (λ b. cond b (Some v) (finmap.get m q)) tie)
+
+  -- a key after an insertion: it is the one that was inserted, or it has what it had
+  pub get-inserted : (m : FinMap R X) (k : K) (v : X) (q : K) → ((k ≡ q) × (finmap.get (finmap.insert m k v) q ≡ Some v)) ⊎ ((k ≢ q) × (finmap.get (finmap.insert m k v) q ≡ finmap.get m q))
+  get-inserted m k v q = at_insert m k v q (eq_by_cmp R q k) refl
+
+  at_remove : (m : FinMap R X) (k : K) (q : K) (b : Bool) → eq_by_cmp R q k ≡ b → ((k ≡ q) × (finmap.get (finmap.remove m k) q ≡ None)) ⊎ ((k ≢ q) × (finmap.get (finmap.remove m k) q ≡ finmap.get m q))
+  at_remove m k q true tie = inl (sym (same q k (tie_told (R q k) tie)), finmap.get-remove o m k q ∙ ap (λ b. cond b None (finmap.get m q)) tie)
+  at_remove m k q false tie =
+      let itself = (eq_by_cmp_equiv o).refl q in
+      inr (λ is. true≢false (sym itself ∙ ap (eq_by_cmp R q) (sym is) ∙ tie), finmap.get-remove o m k q ∙ ap (λ b. cond b None (finmap.get m q)) tie)
+
+  -- the same after a removal
+  pub get-removed : (m : FinMap R X) (k : K) (q : K) → ((k ≡ q) × (finmap.get (finmap.remove m k) q ≡ None)) ⊎ ((k ≢ q) × (finmap.get (finmap.remove m k) q ≡ finmap.get m q))
+  get-removed m k q = at_remove m k q (eq_by_cmp R q k) refl

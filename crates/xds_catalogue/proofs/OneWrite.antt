@@ -26,7 +26,7 @@ put_at : (m : Entries) (w : StampedWrite) (q : List ℕ) (b : Bool) → IsCatalo
 put_at m w q true named news is = best-push_named (finmap.values m) w q is news
 put_at m w q false named news is = best-push_other (finmap.values m) w q is ∙ best-values m named q
 
-entries-news : (m : Entries) (w : StampedWrite) → IsCatalogue m → is_news (finmap.values m) w ≡ true → catalogue_of (finmap.values m ++ w ∷ []) ≡ finmap.insert m w.name w
+pub entries-news : (m : Entries) (w : StampedWrite) → IsCatalogue m → is_news (finmap.values m) w ≡ true → catalogue_of (finmap.values m ++ w ∷ []) ≡ finmap.insert m w.name w
 entries-news m w named news =
     same_entries _ _ (λ q. get-catalogue_of (finmap.values m ++ w ∷ []) q ∙ put_at m w q (bytes_eq w.name q) named news refl
     ∙ ap (λ b. cond b (Some w) (finmap.get m q)) (sym (tie-bytes_eq q w.name)) ∙ sym (finmap.get-insert nat_list_cmp_total m w.name w q))

@@ -4,8 +4,6 @@ use Rattle.std.specs.Coded.{Coded, code_by, coded×, coded_ℕ, coded_list, code
 use Rattle.std.specs.Ordering.{nat_cmp}
 use Rattle.std.specs.Option.{option_map}
 use Rattle.std.specs.String.{string_bytes}
-use Rattle.std_alloc.specs.declared.wrapped.ArcStr.{ArcStr}
-use Rattle.std.specs.Arc.{arc_str_bytes}
 use Rattle.std.specs.FinMap as finmap
 use Rattle.xds_resource.specs.Stamps.{max_counter}
 use Rattle.xds_resource.specs.Writes.{StampedWrite, write_code, text_cmp}
@@ -24,9 +22,9 @@ numbered_code = code_by (StampedWrite × ℕ) (coded× write_code coded_ℕ) (λ
 abbrev pub by_text : {X Y Z : Type 0} → (X → Z) → List (String Y × X) → finmap.FinMap text_cmp Z
 by_text f es = finmap.from_entries (map (λ e. (string_bytes e.0, f e.1)) es)
 
--- the entries of a map from numbers to texts
-abbrev pub by_number : {Y : Type 0} → List (ℕ × ArcStr Y) → finmap.FinMap nat_cmp (List ℕ)
-by_number es = finmap.from_entries (map (λ e. (e.0, arc_str_bytes e.1)) es)
+-- the entries of a map from numbers, each seen by f
+abbrev pub by_number : {X Z : Type 0} → (X → Z) → List (ℕ × X) → finmap.FinMap nat_cmp Z
+by_number f es = finmap.from_entries (map (λ e. (e.0, f e.1)) es)
 
 -- the map from names, as its writes and its numbers
 pub record Named : Type 0 where
@@ -37,6 +35,10 @@ abbrev pub named_code : Coded Named
 named_code =
     code_by (finmap.FinMap text_cmp StampedWrite × finmap.FinMap text_cmp ℕ) (coded× (finmap.code (coded_list coded_ℕ) write_code) (finmap.code (coded_list coded_ℕ) coded_ℕ))
     (λ n. (n.entries, n.latest)) (λ p. record { entries = p.0; latest = p.1 }) (λ _. refl)
+
+-- what the entries of an ordered map say
+abbrev pub named_by : {Y : Type 0} → List (String Y × NumberedWrite) → Named
+named_by es = record { entries = by_text (λ e. e.write) es; latest = by_text (λ e. e.change) es }
 
 abbrev pub no_names : Named
 no_names = record { entries = finmap.empty; latest = finmap.empty }
@@ -137,7 +139,7 @@ pub record IsSoundBut (leftover : List ℕ) (t : TwoMaps) : Type 0 where
   pub each : (name : List ℕ) → is_some (finmap.get t.named.latest name) ≡ is_some (finmap.get t.named.entries name)
   pub counted : (name : List ℕ) → IfSome (finmap.get t.named.latest name) (λ k. (1 ≤ k) × (k ≤ t.changes) × (finmap.get t.numbers k ≡ Some name))
   pub listed : (k : ℕ) → IfSome (finmap.get t.numbers k) (λ name. (k ≤ t.changes) × ((finmap.get t.named.latest name ≡ Some k) ⊎ IsAmong k leftover))
-  pub passed : (k : ℕ) → IsAmong k leftover → (name : List ℕ) → finmap.get t.named.latest name ≢ Some k
+  pub passed : (k : ℕ) → IsAmong k leftover → (k ≤ t.changes) × ((name : List ℕ) → finmap.get t.named.latest name ≢ Some k)
   pub short : t.changes ≤ max_counter
   pub greatest : t.greatest ≡ greatest_counter t.named.entries
 

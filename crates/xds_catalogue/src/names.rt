@@ -64,13 +64,13 @@ pub(crate) struct Names<T: ResourceType> {
 }
 
 impl<T: ResourceType> Model for Names<T> {
-    ghost use Rattle.xds_catalogue.specs.Tables.{Named, named_code, by_text};
+    ghost use Rattle.xds_catalogue.specs.Tables.{Named, named_code, named_by};
 
     ghost Value = { Named };
 
     ghost coded = { named_code };
 
-    ghost view = { λ n. record { entries = by_text (λ e. e.write) n.by_name.entries; latest = by_text (λ e. e.change) n.by_name.entries } };
+    ghost view = { λ n. named_by n.by_name.entries };
 }
 
 impl<T: ResourceType> Names<T> {

@@ -18,6 +18,7 @@ impl Model for Numbers {
     ghost use Rattle.std.specs.Prelude.{ℕ, List};
     ghost use Rattle.std.specs.Coded.{coded_ℕ, coded_list};
     ghost use Rattle.std.specs.Ordering.{nat_cmp};
+    ghost use Rattle.std.specs.Arc.{arc_str_bytes};
     ghost use Rattle.std.specs.FinMap as finmap;
     ghost use Rattle.xds_catalogue.specs.Tables.{by_number};
 
@@ -25,7 +26,7 @@ impl Model for Numbers {
 
     ghost coded = { finmap.code coded_ℕ (coded_list coded_ℕ) };
 
-    ghost view = { λ n. by_number n.names.entries };
+    ghost view = { λ n. by_number arc_str_bytes n.names.entries };
 }
 
 impl Numbers {
