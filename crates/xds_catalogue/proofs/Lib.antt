@@ -6,6 +6,9 @@ pub mod Joining
 pub mod Sound
 pub mod Leftovers
 pub mod MapViews
+pub mod Surpassing
+pub mod Undoing
+pub mod Batches
 pub mod Counters
 pub mod LocalWrites
 pub mod JoinLaws

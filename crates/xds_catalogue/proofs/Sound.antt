@@ -2,6 +2,7 @@
 use Rattle.std.proofs.Common.{◌≡◌, ◌≢◌, ◌⊎◌, inl, inr, ℕ, ◌+◌, ◌<◌, ◌≤◌, max, List, [], ◌∷◌, ◌++◌, map, Bool, true, false, Option, Some, None, refl, sym, ap, subst, ◌∙◌, arith}
 use Rattle.std.specs.Prelude.{◌↔◌, is_some, IfSome}
 use Rattle.std.specs.List.{fold}
+use Rattle.std.specs.Ordering.{nat_cmp}
 use Rattle.std.specs.Cmp.{nat_cmp_total}
 use Rattle.std.specs.FinMap as finmap
 use Rattle.std.specs.FinMap.{FinMap, nat_cmp-IsAntisymmetric}
@@ -12,7 +13,7 @@ use Rattle.xds_resource.proofs.WriteTies.{text_cmp-IsAntisymmetric}
 use Rattle.xds_catalogue.specs.Holdings.{Entries, IsCatalogue}
 use Rattle.xds_catalogue.specs.Changes.{surpasses}
 use Rattle.xds_catalogue.specs.Local.{greatest_counter}
-use Rattle.xds_catalogue.specs.Tables.{TwoMaps, IsAmong, IsSoundBut, IsSound, with_write, without_number}
+use Rattle.xds_catalogue.specs.Tables.{TwoMaps, IsAmong, IsSoundBut, IsSound, no_tables, with_write, without_number}
 use Rattle.xds_catalogue.proofs.Counters.{greatest_counter-held}
 use Rattle.xds_catalogue.proofs.Lookups.{get-inserted, get-removed}
 use Rattle.xds_catalogue.proofs.OneWrite.{is_news-held, entries-news}
@@ -56,7 +57,7 @@ some_same : {X : Type 0} (x y : X) → Some x ≡ Some y → x ≡ y
 some_same x y e = cc
 
 -- a write that is news leaves the number that it replaces
-module _ (leftover after : List ℕ) (t : TwoMaps) (w : StampedWrite) (sound : IsSoundBut leftover t) (room : t.changes < max_counter)
+module _ (leftover after : List ℕ) (t : TwoMaps) (w : StampedWrite) (sound : IsSoundBut leftover t) (room : t.changes < max_counter) (stamped : w.counter ≤ max_counter)
     (above : surpasses w (finmap.get t.named.entries w.name) ≡ true) (left : (k : ℕ) → IsAmong k after ↔ (IsAmong k leftover ⊎ (finmap.get t.named.latest w.name ≡ Some k))) where
   named_put : IsCatalogue (with_write t w).named.entries
   named_put q = elim (get-inserted nat_list_cmp_total text_cmp-IsAntisymmetric t.named.entries w.name w q) [
@@ -157,6 +158,7 @@ module _ (leftover after : List ℕ) (t : TwoMaps) (w : StampedWrite) (sound : I
     listed = listed_put;
     passed = λ k among. (left_within k ((left k).0 among), λ q. not_latest k q ((left k).0 among));
     short = omega arith;
+    bounded = let old = sound.bounded in omega arith;
     greatest = ap (λ n. max n w.counter) sound.greatest ∙ sym (greatest_counter-news t.named.entries w sound.named above);
   }
 
@@ -192,4 +194,18 @@ module _ (n : ℕ) (rest : List ℕ) (t : TwoMaps) (sound : IsSoundBut (n ∷ re
     passed = λ k among. sound.passed k (inr among);
     short = sound.short;
     greatest = sound.greatest;
+    bounded = sound.bounded;
   }
+
+-- tables that hold nothing
+pub no_tables-sound : IsSound no_tables
+no_tables-sound = record {
+  named = λ q. subst (λ o. IfSome o (λ w. w.name ≡ q)) (sym (finmap.get-empty text_cmp q)) tt;
+  each = λ q. ap is_some (finmap.get-empty text_cmp q) ∙ sym (ap is_some (finmap.get-empty text_cmp q));
+  counted = λ q. subst (λ o. IfSome o (Counted no_tables q)) (sym (finmap.get-empty text_cmp q)) tt;
+  listed = λ k. subst (λ o. IfSome o (Listed [] no_tables k)) (sym (finmap.get-empty nat_cmp k)) tt;
+  passed = λ k none. absurd none;
+  short = omega arith;
+  greatest = sym (greatest_counter-held []);
+  bounded = omega arith;
+}

@@ -142,6 +142,7 @@ pub record IsSoundBut (leftover : List ℕ) (t : TwoMaps) : Type 0 where
   pub passed : (k : ℕ) → IsAmong k leftover → (k ≤ t.changes) × ((name : List ℕ) → finmap.get t.named.latest name ≢ Some k)
   pub short : t.changes ≤ max_counter
   pub greatest : t.greatest ≡ greatest_counter t.named.entries
+  pub bounded : t.greatest ≤ max_counter
 
 -- the two maps agree, and what they stand for is a catalogue
 abbrev pub IsSound : TwoMaps → Type 0

@@ -90,7 +90,8 @@ fn put_news<T: ResourceType>(
     }
     let aside = tables.aside(&write)?;
     displaced.push(aside)?;
-    tables.put(write)
+    tables.put(write)?;
+    Ok(())
 }
 
 // Takes changes back, the last one first.

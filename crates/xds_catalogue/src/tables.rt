@@ -142,6 +142,7 @@ impl<T: ResourceType> Tables<T> {
         requires room { self.old.changes < max_counter }
         requires fresh { finmap.get self.old.numbers (self.old.changes + 1) ≡ None }
         ensures ok { OnOk result (self.new ≡ with_write self.old write) }
+        ensures stamped { OnOk result (write.counter ≤ max_counter) }
         ensures err { OnErr result (self.new ≡ self.old) }
         ensures refused { IfErr result (λ e. e ≡ Refusal.OutOfMemory) }
     {

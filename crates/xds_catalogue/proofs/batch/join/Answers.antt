@@ -27,7 +27,7 @@ returns-in-Some-clause-sound g c =
     let number = ap (finmap.get c.args.tables.now.named.latest) c.name.ensures.name in
     subst IsSound (sym (c.remove_number.ensures ∙ ap (λ t. without_number t c.in-Some.number) c.in_ok-put.ensures.ok))
     (without_number-sound c.in-Some.number [] (with_write c.args.tables.now c.args.write)
-    (with_write-sound [] (c.in-Some.number ∷ []) c.args.tables.now c.args.write c.requires (below_top _ _ c.requires.short (λ e. c.if-changes-eq-MAX_COUNTER.false (c.changes.ensures ∙ e))) above
+    (with_write-sound [] (c.in-Some.number ∷ []) c.args.tables.now c.args.write c.requires (below_top _ _ c.requires.short (λ e. c.if-changes-eq-MAX_COUNTER.false (c.changes.ensures ∙ e))) c.in_ok-put.ensures.stamped above
     (λ k. one_left _ c.in-Some.number k (sym number ∙ former))))
 
 pub returns-in-Some-clause-joins : goal.returns-in-Some-clause-joins
@@ -42,7 +42,7 @@ returns-in_default-clause-sound g c =
     let above = sym c.is_news.ensures ∙ c.if-not-is_news.false in
     let number = ap (finmap.get c.args.tables.now.named.latest) c.name.ensures.name in
     subst IsSound (sym c.in_ok-put.ensures.ok)
-    (with_write-sound [] [] c.args.tables.now c.args.write c.requires (below_top _ _ c.requires.short (λ e. c.if-changes-eq-MAX_COUNTER.false (c.changes.ensures ∙ e))) above
+    (with_write-sound [] [] c.args.tables.now c.args.write c.requires (below_top _ _ c.requires.short (λ e. c.if-changes-eq-MAX_COUNTER.false (c.changes.ensures ∙ e))) c.in_ok-put.ensures.stamped above
     (λ k. none_left_over _ k (sym number ∙ former)))
 
 pub returns-in_default-clause-joins : goal.returns-in_default-clause-joins

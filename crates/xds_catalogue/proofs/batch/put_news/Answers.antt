@@ -1,0 +1,26 @@
+use Rattle.std.proofs.Common.{◌≡◌, ◌∷◌, [], ◌++◌, sym, ap, subst, ◌∙◌}
+use Rattle.xds_catalogue.specs.Tables.{TwoMaps, PutAside, IsSoundBut, former_numbers, held_by, with_write, all_taken_back, with_counts}
+use Rattle.xds_catalogue.specs.Joins.{joined}
+use Rattle.xds_catalogue.proofs.Leftovers.{one_more_left}
+use Rattle.xds_catalogue.proofs.OneWrite.{joined-news, joined-old}
+use Rattle.xds_catalogue.proofs.Sound.{fresh, with_write-sound}
+use Rattle.xds_catalogue.proofs.Undoing.{all_taken_back-same, all_taken_back-put}
+use Rattle.xds_catalogue.proofs.batch.put_news.Goals as goal
+
+pub put-requires-clause-fresh : goal.put-requires-clause-fresh
+put-requires-clause-fresh g c = fresh _ _ c.requires.sound
+
+pub returns-then-not-is_news-clause-joins : goal.returns-then-not-is_news-clause-joins
+returns-then-not-is_news-clause-joins g c = sym (joined-old (held_by c.args.tables.now) c.args.write c.requires.sound.named (sym c.is_news.ensures ∙ c.if-not-is_news.true))
+
+pub returns-in_err-put-clause-back : goal.returns-in_err-put-clause-back
+returns-in_err-put-clause-back g c = ?
+
+pub returns-clause-sound : goal.returns-clause-sound
+returns-clause-sound g c = ?
+
+pub returns-clause-joins : goal.returns-clause-joins
+returns-clause-joins g c = ap held_by c.in_ok-put.ensures.ok ∙ sym (joined-news (held_by c.args.tables.now) c.args.write c.requires.sound.named (sym c.is_news.ensures ∙ c.if-not-is_news.false))
+
+pub returns-clause-back : goal.returns-clause-back
+returns-clause-back g c = ?
