@@ -1,6 +1,7 @@
 -- A batch of writes that is joined one by one.
-use Rattle.std.proofs.Common.{◌≡◌, ℕ, ◌+◌, ◌-◌, ◌<◌, ◌≤◌, List, [], ◌∷◌, ◌++◌, length, take, get_or, Bool, true, false, Result, Ok, Err, refl, sym, ap, ◌∙◌, arith, append_assoc, length-append}
+use Rattle.std.proofs.Common.{zero, suc, ◌≡◌, Option, Some, None, subst, ℕ, ◌+◌, ◌-◌, ◌<◌, ◌≤◌, List, [], ◌∷◌, ◌++◌, length, take, get_or, Bool, true, false, Result, Ok, Err, refl, sym, ap, ◌∙◌, arith, append_assoc, length-append}
 use Rattle.std.specs.Prelude.{◌&&◌, nat_lt, if◌then◌else◌}
+use Rattle.std.specs.Option.{option_map}
 use Rattle.std.specs.FinMap as finmap
 use Rattle.std.proofs.lemmas.Bool.{lt-ltb, le-ltb, ltb-true, ltb-false}
 use Rattle.std.proofs.lemmas.List.{take_more}
@@ -12,11 +13,12 @@ use Rattle.xds_resource.proofs.BestWrites.{best_of_both}
 use Rattle.xds_catalogue.specs.Holdings.{Entries, Holdings, IsCatalogue}
 use Rattle.xds_catalogue.specs.Changes.{surpasses, is_news, changes_after}
 use Rattle.xds_catalogue.specs.Joins.{changes_by, joined, joining}
-use Rattle.xds_catalogue.specs.Tables.{TwoMaps, PutAside, IsSoundBut, held_by, former_numbers, all_taken_back, with_counts}
+use Rattle.xds_catalogue.specs.Tables.{TwoMaps, NumberedWrite, PutAside, IsSoundBut, held_by, without_number, former_number, former_numbers, all_taken_back, with_counts}
 use Rattle.xds_catalogue.proofs.Catalogues.{best-values}
 use Rattle.xds_catalogue.proofs.News.{changes_after-append, changes_after-le}
 use Rattle.xds_catalogue.proofs.OneWrite.{is_news-held, joined-none}
 use Rattle.xds_catalogue.proofs.Joining.{joined_again, joining-fits}
+use Rattle.xds_catalogue.proofs.Sound.{without_number-sound}
 use Rattle.xds_catalogue.proofs.Surpassing.{surpasses-greater}
 
 -- news after what is held and after other writes
@@ -67,7 +69,8 @@ pub room_left : (old now : TwoMaps) (aside : List PutAside) (w : StampedWrite) (
     → surpasses w (finmap.get now.named.entries w.name) ≡ true → now.changes < max_counter
 room_left old now aside w rest all so_far fits above =
     let total = ap (λ h. h.changes) so_far.same in
-    first_counts (is_news (finmap.values now.named.entries) w) now.changes _ (is_news-held now.named.entries w so_far.sound.named ∙ above) (omega (arith, total, fits))
+    let within : now.changes + changes_after (finmap.values now.named.entries) (w ∷ rest) ≤ max_counter = omega (arith, total, fits) in
+    first_counts (is_news (finmap.values now.named.entries) w) now.changes (changes_after (finmap.values now.named.entries ++ w ∷ []) rest) (is_news-held now.named.entries w so_far.sound.named ∙ above) within
 
 pub joins_more : (old now next : TwoMaps) (aside beside : List PutAside) (w : StampedWrite) (rest all : List StampedWrite) → JoinsSoFar old now aside (w ∷ rest) all
     → IsSoundBut (former_numbers beside) next → held_by next ≡ joined (held_by now) (w ∷ [])
@@ -92,3 +95,29 @@ joins_end old now aside all so_far h held =
 pub all_back : (old now left : TwoMaps) (aside : List PutAside) → ((changes greatest : ℕ) → with_counts (all_taken_back now aside) changes greatest ≡ with_counts old changes greatest)
     → left ≡ all_taken_back now aside → with_counts left old.changes old.greatest ≡ old
 all_back old now left aside back is = ap (λ t. with_counts t old.changes old.greatest) is ∙ back old.changes old.greatest
+
+-- the numbers that entries had before are taken out one by one
+dropped_at : (f : Option NumberedWrite) (n : ℕ) (rest : List ℕ) (t : TwoMaps) → option_map (λ e. e.change) f ≡ Some n → IsSoundBut (former_number f ++ rest) t → IsSoundBut rest (without_number t n)
+dropped_at None n rest t is sound = absurd cc
+dropped_at (Some e) n rest t is sound =
+    let same : e.change ≡ n = cc in
+    subst (λ k. IsSoundBut rest (without_number t k)) same (without_number-sound e.change rest t sound)
+
+pub dropped : (t next : TwoMaps) (d : PutAside) (rest : List PutAside) (n : ℕ) → option_map (λ e. e.change) d.former ≡ Some n → IsSoundBut (former_numbers (d ∷ rest)) t → next ≡ without_number t n → IsSoundBut (former_numbers rest) next
+dropped t next d rest n is sound taken = subst (IsSoundBut (former_numbers rest)) (sym taken) (dropped_at d.former n (former_numbers rest) t is sound)
+
+kept_at : (f : Option NumberedWrite) (rest : List ℕ) (t : TwoMaps) → option_map (λ e. e.change) f ≡ None → IsSoundBut (former_number f ++ rest) t → IsSoundBut rest t
+kept_at None rest t is sound = sound
+kept_at (Some e) rest t is sound = absurd cc
+
+pub kept : (t next : TwoMaps) (d : PutAside) (rest : List PutAside) → option_map (λ e. e.change) d.former ≡ None → IsSoundBut (former_numbers (d ∷ rest)) t → next ≡ t → IsSoundBut (former_numbers rest) next
+kept t next d rest is sound same = subst (IsSoundBut (former_numbers rest)) (sym same) (kept_at d.former (former_numbers rest) t is sound)
+
+pub none_left : {X : Type 0} (xs : List X) → length xs ≡ 0 → xs ≡ []
+none_left [] e = refl
+none_left (x ∷ xs) e = absurd (omega arith)
+
+pub length_take : (n : ℕ) (ws : List StampedWrite) → length (take n ws) ≤ n
+length_take zero ws = omega arith
+length_take (suc n) [] = omega arith
+length_take (suc n) (w ∷ ws) = let rest = length_take n ws in omega arith

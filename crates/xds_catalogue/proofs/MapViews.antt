@@ -131,8 +131,8 @@ from_start start k h = (not_above (nat_cmp start k) (start_below start k h), tt)
 
     start_below : (a b : ℕ) → a ≤ b → nat_cmp a b ≢ Greater
     start_below a b h is = elim (cases_lt a b) [
-      | inl below ↦ absurd (less_not_greater (sym (nat_cmp_is a b Less below) ∙ is))
-      | inr above ↦ let same : a ≡ b = omega arith in absurd (equal_not_greater (sym (nat_cmp_is a b Equal same) ∙ is))
+      | inl below ↦ absurd (less_not_greater (nat_cmp_is a b Less below ∙ is))
+      | inr above ↦ let same : a ≡ b = omega arith in absurd (equal_not_greater (nat_cmp_is a b Equal same ∙ is))
     ]
 
     not_above : (r : Ordering) → r ≢ Greater → is_gt r ≡ false

@@ -1,5 +1,5 @@
 // How writes are joined to the tables of a catalogue: one, or a batch of which all or none are taken.
-ghost use Rattle.std.specs.Prelude.{◌≡◌, ◌<◌, ◌≤◌, ℕ, ◌∷◌, [], ◌++◌, true, nat_lt, IsOk, IfOk, IfErr, OnOk, OnErr};
+ghost use Rattle.std.specs.Prelude.{◌≡◌, ◌<◌, ◌≤◌, ◌^◌, ℕ, length, ◌∷◌, [], ◌++◌, true, nat_lt, IsOk, IfOk, IfErr, OnOk, OnErr};
 ghost use Rattle.std.specs.FinMap as finmap;
 ghost use Rattle.xds_resource.specs.Best.{best};
 ghost use Rattle.xds_resource.specs.Refusals.{Gives};
@@ -119,7 +119,8 @@ fn drop_former<T: ResourceType>(tables: &mut Tables<T>, displaced: Vec<Displaced
 
 // Whether the writes would make more changes than can be counted. It takes no memory.
 fn is_spent_by<T: ResourceType>(tables: &Tables<T>, writes: &[Write<T>]) -> bool
-    requires { IsSound tables.now }
+    requires sound { IsSound tables.now }
+    requires few { length writes.now < 2 ^ 64 }
     ensures { result ≡ nat_lt max_counter (joined (held_by tables.now) writes.now).changes }
 {
     let room = MAX_COUNTER - tables.changes();
@@ -128,7 +129,8 @@ fn is_spent_by<T: ResourceType>(tables: &Tables<T>, writes: &[Write<T>]) -> bool
 
 // How many entries the writes add or replace.
 fn count_changes<T: ResourceType>(tables: &Tables<T>, writes: &[Write<T>]) -> u64
-    requires { IsCatalogue tables.now.named.entries }
+    requires named { IsCatalogue tables.now.named.entries }
+    requires few { length writes.now < 2 ^ 64 }
     ensures { result ≡ changes_by (held_by tables.now) writes.now }
 {
     let mut count = 0;

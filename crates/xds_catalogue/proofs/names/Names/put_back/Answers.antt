@@ -3,7 +3,7 @@ use Rattle.std.specs.Prelude.{is_some}
 use Rattle.std.specs.Option.{option_copied_mut}
 use Rattle.xds_catalogue.proofs.MapViews.{Named-replaced, Named-absent, Named-cleared}
 use Rattle.xds_catalogue.proofs.names.Names.put_back.Goals as goal
-use Rattle.xds_catalogue.proofs.names.Names.put_back.Goals.{in-Some-1, in-None-1, in-Some-2, in-None-2, in-Some-3, in-None-3}
+use Rattle.xds_catalogue.proofs.names.Names.put_back.Goals.{in-Some-1, in-None-1, in-Some-2, in-None-2, in-Some+in-Some-remove-2, in-Some+in-None-1, in-None-3}
 
 pub returns-in-Some-get_mut : goal.returns-in-Some-get_mut
 returns-in-Some-get_mut g c =
@@ -18,4 +18,4 @@ returns-in_default g c =
     elim c.match-entry.branch [ in-Some-2 w ↦ w.self-is ∙ all | in-None-2 w ↦ w.self-is ∙ all ]
 
 pub returns-in-None : goal.returns-in-None
-returns-in-None g c = let all = Named-cleared c.self.inside.by_name c.remove.new.self c.args.self.now c.args.name.now c.args.former c.self.view_is c.in-None.is c.remove.ensures.updates in elim c.match-remove.branch [ in-Some-3 w ↦ w.self-is ∙ all | in-None-3 w ↦ w.self-is ∙ all ]
+returns-in-None g c = let all = Named-cleared c.self.inside.by_name c.remove.new.self c.args.self.now c.args.name.now c.args.former c.self.view_is c.in-None.is c.remove.ensures.updates in elim c.match-remove.branch [ in-Some+in-Some-remove-2 w ↦ w.self-is ∙ all | in-Some+in-None-1 w ↦ w.self-is ∙ all | in-None-3 w ↦ w.self-is ∙ all ]
