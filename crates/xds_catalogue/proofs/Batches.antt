@@ -1,14 +1,13 @@
 -- A batch of writes that is joined one by one.
-use Rattle.std.proofs.Common.{zero, suc, ◌≡◌, Option, Some, None, subst, ℕ, ◌+◌, ◌-◌, ◌<◌, ◌≤◌, List, [], ◌∷◌, ◌++◌, length, take, get_or, Bool, true, false, Result, Ok, Err, refl, sym, ap, ◌∙◌, arith, append_assoc, length-append}
+use Rattle.std.proofs.Common.{zero, suc, ◌≡◌, Option, Some, None, subst, ℕ, ◌+◌, ◌-◌, ◌<◌, ◌≤◌, List, [], ◌∷◌, ◌++◌, length, take, get_or, Bool, true, false, Ok, refl, sym, ap, ◌∙◌, arith}
 use Rattle.std.specs.Prelude.{◌&&◌, nat_lt, if◌then◌else◌}
 use Rattle.std.specs.Option.{option_map}
 use Rattle.std.specs.FinMap as finmap
 use Rattle.std.proofs.lemmas.Bool.{lt-ltb, le-ltb, ltb-true, ltb-false}
 use Rattle.std.proofs.lemmas.List.{take_more}
-use Rattle.xds_resource.specs.declared.refusal.Refusal.{Refusal}
 use Rattle.xds_resource.specs.Stamps.{max_counter}
 use Rattle.xds_resource.specs.Writes.{StampedWrite}
-use Rattle.xds_resource.specs.Best.{greater, best}
+use Rattle.xds_resource.specs.Best.{best}
 use Rattle.xds_resource.proofs.BestWrites.{best_of_both}
 use Rattle.xds_catalogue.specs.Holdings.{Entries, Holdings, IsCatalogue}
 use Rattle.xds_catalogue.specs.Changes.{surpasses, is_news, changes_after}

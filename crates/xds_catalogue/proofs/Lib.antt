@@ -6,6 +6,7 @@ pub mod Joining
 pub mod Sound
 pub mod Leftovers
 pub mod MapViews
+pub mod InOrder
 pub mod Surpassing
 pub mod Undoing
 pub mod Batches

@@ -4,12 +4,12 @@ use Rattle.std.specs.Prelude.{bytes_eq, is_some, IfSome, if◌then◌else◌}
 use Rattle.std.specs.Option.{option_map, option_copied}
 use Rattle.std.specs.declared.cmp.Ordering.TheVariants.{Less, Equal, Greater}
 use Rattle.std.specs.declared.ops.Bound.TheVariants.{Included, Unbounded}
-use Rattle.std.specs.Ordering.{is_eq, is_gt, eq_by_cmp, nat_cmp}
+use Rattle.std.specs.Ordering.{is_eq, is_gt, nat_cmp}
 use Rattle.std.specs.Cmp.{nat_cmp_total, nat_cmp_is, eq_by_cmp_equiv}
 use Rattle.std.specs.Cmp.Lexicographic.{slice_cmp}
 use Rattle.std.specs.String.{string_bytes, string_cmp}
 use Rattle.std.specs.List.{AllZip, slice_get}
-use Rattle.std.specs.Map.{lookup, update}
+use Rattle.std.specs.Map.{lookup}
 use Rattle.std.specs.BTreeMap as tree
 use Rattle.std.specs.BTreeMap.{is_at}
 use Rattle.std.specs.BTreeMap.Range.{IsLeBy, IsInRange, IsEntryInRange, IsRangeOf}

@@ -1,11 +1,11 @@
 -- Tables stay sound through a change, and as numbers are taken out.
-use Rattle.std.proofs.Common.{◌≡◌, ◌≢◌, ◌⊎◌, inl, inr, ℕ, ◌+◌, ◌<◌, ◌≤◌, max, List, [], ◌∷◌, ◌++◌, map, Bool, true, false, Option, Some, None, refl, sym, ap, subst, ◌∙◌, arith}
+use Rattle.std.proofs.Common.{◌≡◌, ◌≢◌, ◌⊎◌, inl, inr, ℕ, ◌+◌, ◌<◌, ◌≤◌, max, List, [], ◌∷◌, ◌++◌, map, true, Option, Some, None, refl, sym, ap, subst, ◌∙◌, arith}
 use Rattle.std.specs.Prelude.{◌↔◌, is_some, IfSome}
 use Rattle.std.specs.List.{fold}
 use Rattle.std.specs.Ordering.{nat_cmp}
 use Rattle.std.specs.Cmp.{nat_cmp_total}
 use Rattle.std.specs.FinMap as finmap
-use Rattle.std.specs.FinMap.{FinMap, nat_cmp-IsAntisymmetric}
+use Rattle.std.specs.FinMap.{nat_cmp-IsAntisymmetric}
 use Rattle.std.proofs.lemmas.Cmp.{nat_list_cmp_total}
 use Rattle.xds_resource.specs.Stamps.{max_counter}
 use Rattle.xds_resource.specs.Writes.{StampedWrite, text_cmp}
@@ -93,10 +93,10 @@ module _ (leftover after : List ℕ) (t : TwoMaps) (w : StampedWrite) (sound : I
   counted_put q = elim (get-inserted nat_list_cmp_total text_cmp-IsAntisymmetric t.named.latest w.name (t.changes + 1) q) [
     | inl (here, has) ↦ subst (λ o. IfSome o (Counted (with_write t w) q)) (sym has) (omega arith, omega arith, number_new ∙ ap Some here)
     | inr (other, has) ↦ subst (λ o. IfSome o (Counted (with_write t w) q)) (sym has) (if_some _ (Counted (with_write t w) q) (λ k is.
-      let old = some_from _ k (Counted t q) is (sound.counted q) in
-      let from = old.0 in
-      let to = old.1 in
-      (from, omega arith, number_kept k q to old.2)))
+        let old = some_from _ k (Counted t q) is (sound.counted q) in
+        let from = old.0 in
+        let to = old.1 in
+        (from, omega arith, number_kept k q to old.2)))
   ]
 
   latest_here : (q : List ℕ) → w.name ≡ q → finmap.get (with_write t w).named.latest q ≡ Some (t.changes + 1)
@@ -114,11 +114,13 @@ module _ (leftover after : List ℕ) (t : TwoMaps) (w : StampedWrite) (sound : I
 
   old_listed : (k : ℕ) (q : List ℕ) → Listed leftover t k q → Listed after (with_write t w) k q
   old_listed k q listed =
-    let within = listed.0 in
-    (omega arith, elim listed.1 [
-      | inl is ↦ still_listed k q is
-      | inr among ↦ inr ((left k).1 (inl among))
-    ])
+      let within = listed.0 in (
+        omega arith,
+        elim listed.1 [
+          | inl is ↦ still_listed k q is
+          | inr among ↦ inr ((left k).1 (inl among))
+        ],
+      )
 
   listed_put : (k : ℕ) → IfSome (finmap.get (with_write t w).numbers k) (Listed after (with_write t w) k)
   listed_put k = elim (get-inserted nat_cmp_total nat_cmp-IsAntisymmetric t.numbers (t.changes + 1) w.name k) [
@@ -130,17 +132,17 @@ module _ (leftover after : List ℕ) (t : TwoMaps) (w : StampedWrite) (sound : I
   not_latest : (k : ℕ) (q : List ℕ) → IsAmong k leftover ⊎ (finmap.get t.named.latest w.name ≡ Some k) → finmap.get (with_write t w).named.latest q ≢ Some k
   not_latest k q among is = elim (get-inserted nat_list_cmp_total text_cmp-IsAntisymmetric t.named.latest w.name (t.changes + 1) q) [
     | inl (here, has) ↦
-      let next : t.changes + 1 ≡ k = some_same _ _ (sym has ∙ is) in
-      elim among [
-        | inl old ↦ let within = (sound.passed k old).0 in absurd (omega arith)
-        | inr old ↦ let within = (some_from _ k (Counted t w.name) old (sound.counted w.name)).1 in absurd (omega arith)
-      ]
+        let next : t.changes + 1 ≡ k = some_same _ _ (sym has ∙ is) in
+        elim among [
+          | inl old ↦ let within = (sound.passed k old).0 in absurd (omega arith)
+          | inr old ↦ let within = (some_from _ k (Counted t w.name) old (sound.counted w.name)).1 in absurd (omega arith)
+        ]
     | inr (other, keeps) ↦ elim among [
       | inl old ↦ (sound.passed k old).1 q (sym keeps ∙ is)
       | inr old ↦
-        let first = (some_from _ k (Counted t w.name) old (sound.counted w.name)).2 in
-        let second = (some_from _ k (Counted t q) (sym keeps ∙ is) (sound.counted q)).2 in
-        other (some_same _ _ (sym first ∙ second))
+          let first = (some_from _ k (Counted t w.name) old (sound.counted w.name)).2 in
+          let second = (some_from _ k (Counted t q) (sym keeps ∙ is) (sound.counted q)).2 in
+          other (some_same _ _ (sym first ∙ second))
     ]
   ]
 
@@ -178,11 +180,13 @@ module _ (n : ℕ) (rest : List ℕ) (t : TwoMaps) (sound : IsSoundBut (n ∷ re
   listed_out k = elim (get-removed nat_cmp_total nat_cmp-IsAntisymmetric t.numbers n k) [
     | inl (here, none) ↦ subst (λ o. IfSome o (Listed rest (without_number t n) k)) (sym none) tt
     | inr (other, keeps) ↦ subst (λ o. IfSome o (Listed rest (without_number t n) k)) (sym keeps) (if_some _ (Listed rest (without_number t n) k) (λ q is.
-      let old = some_from _ q (Listed (n ∷ rest) t k) is (sound.listed k) in
-      (old.0, elim old.1 [
-        | inl latest ↦ inl latest
-        | inr among ↦ inr (either_left n k rest other among)
-      ])))
+        let old = some_from _ q (Listed (n ∷ rest) t k) is (sound.listed k) in (
+          old.0,
+          elim old.1 [
+            | inl latest ↦ inl latest
+            | inr among ↦ inr (either_left n k rest other among)
+          ],
+        )))
   ]
 
   pub without_number-sound : IsSoundBut rest (without_number t n)

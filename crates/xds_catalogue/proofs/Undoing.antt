@@ -1,13 +1,12 @@
 -- Changes that are taken back leave the maps as they were.
-use Rattle.std.proofs.Common.{◌≡◌, ◌≢◌, ◌⊎◌, inl, inr, ℕ, ◌+◌, List, [], ◌∷◌, ◌++◌, Bool, true, false, Option, Some, None, refl, sym, ap, ◌∙◌}
+use Rattle.std.proofs.Common.{◌≡◌, inl, inr, ℕ, ◌+◌, List, [], ◌∷◌, ◌++◌, Bool, true, false, Option, Some, None, refl, sym, ap, ◌∙◌}
 use Rattle.std.specs.Prelude.{is_some, if◌then◌else◌}
 use Rattle.std.specs.Option.{option_map}
-use Rattle.std.specs.Ordering.{nat_cmp}
 use Rattle.std.specs.Cmp.{nat_cmp_total}
 use Rattle.std.specs.FinMap as finmap
 use Rattle.std.specs.FinMap.{nat_cmp-IsAntisymmetric}
 use Rattle.std.proofs.lemmas.Cmp.{nat_list_cmp_total}
-use Rattle.xds_resource.specs.Writes.{StampedWrite, text_cmp}
+use Rattle.xds_resource.specs.Writes.{StampedWrite}
 use Rattle.xds_resource.proofs.WriteTies.{text_cmp-IsAntisymmetric}
 use Rattle.xds_catalogue.specs.Tables.{NumberedWrite, Named, with_name, with_former, TwoMaps, PutAside, IsPutAside, with_write, with_counts, taken_back, all_taken_back}
 use Rattle.xds_catalogue.proofs.Lookups.{insert-same, remove-none, insert-insert, remove-insert, get-inserted}

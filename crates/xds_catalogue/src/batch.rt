@@ -16,10 +16,7 @@ use xds_resource::stamp::MAX_COUNTER;
 use xds_resource::{Refusal, ResourceType, Write};
 
 // Joins a write, and answers how many entries it added or replaced.
-pub(crate) fn join<T: ResourceType>(
-    tables: &mut Tables<T>,
-    write: Write<T>,
-) -> Result<u64, Refusal>
+pub(crate) fn join<T: ResourceType>(tables: &mut Tables<T>, write: Write<T>) -> Result<u64, Refusal>
     requires { IsSound tables.old }
     ensures sound { IsSound tables.new }
     ensures joins { Gives (λ grown. (grown, held_by tables.new)) result (joining (held_by tables.old) (write ∷ [])) }
@@ -143,11 +140,7 @@ fn count_changes<T: ResourceType>(tables: &Tables<T>, writes: &[Write<T>]) -> u6
 }
 
 // Whether a write adds or replaces an entry, after the writes before it.
-fn is_news_after<T: ResourceType>(
-    tables: &Tables<T>,
-    before: &[Write<T>],
-    write: &Write<T>,
-) -> bool
+fn is_news_after<T: ResourceType>(tables: &Tables<T>, before: &[Write<T>], write: &Write<T>) -> bool
     requires { IsCatalogue tables.now.named.entries }
     ensures { result ≡ news_after (finmap.values tables.now.named.entries ++ before.now) write.now }
 {

@@ -3,7 +3,7 @@ ghost use Rattle.std.specs.Prelude.{◌≡◌, map, false, OnOk, OnErr, IfOk, If
 ghost use Rattle.std.specs.Option.{option_map};
 ghost use Rattle.std.specs.FinMap as finmap;
 ghost use Rattle.xds_catalogue.specs.Holdings.{IsCatalogue};
-ghost use Rattle.xds_catalogue.specs.Content.{content};
+ghost use Rattle.xds_catalogue.specs.Content.{content, live_at};
 ghost use Rattle.xds_catalogue.specs.Tables.{no_names, with_name, with_former};
 
 use std::alloc::{AllocError, Global};
@@ -41,7 +41,6 @@ impl<T: ResourceType> Entry<T> {
     {
         self.change
     }
-
 }
 
 impl<T: ResourceType> Clone for Entry<T> {
@@ -126,11 +125,21 @@ impl<T: ResourceType> Names<T> {
         ensures ok { IfOk result (λ v. map (λ w. w.now) v.items ≡ finmap.values self.now.entries) }
         ensures err { IfErr result (λ e. e ≡ Refusal.OutOfMemory) }
     {
+        let by_name = &self.by_name;
         let mut writes = Vec::new(alloc);
-        for entry in self.by_name.values() {
+        for (_name, entry) in by_name {
             writes.push(entry.write())?;
         }
         Ok(writes)
+    }
+
+    // What stands live under a name.
+    fn live(&self, name: &str) -> Option<&Write<T>>
+        ensures { option_map (λ w. w.now) result ≡ live_at self.now.entries name.now }
+    {
+        let write = self.get(name)?.write();
+        write.body()?;
+        Some(write)
     }
 
     // The live writes of the explicit names of an interest without the star, in ascending order of names.
@@ -144,12 +153,11 @@ impl<T: ResourceType> Names<T> {
         ensures ok { IfOk result (λ v. map (λ w. w.now) v.items ≡ content self.now.entries interest.now) }
         ensures err { IfErr result (λ e. e ≡ Refusal.OutOfMemory) }
     {
+        let names = interest.names();
         let mut shown = Vec::new(alloc);
-        for name in interest.names() {
-            if let Some(entry) = self.get(name.as_str()) {
-                if entry.write().body().is_some() {
-                    shown.push(entry.write())?;
-                }
+        for name in names {
+            if let Some(write) = self.live(name.as_str()) {
+                shown.push(write)?;
             }
         }
         Ok(shown)

@@ -1,6 +1,5 @@
-use Rattle.std.proofs.Common.{◌≡◌, ◌+◌, ◌≤◌, take, length, arith, sym, ap, ◌∙◌}
+use Rattle.std.proofs.Common.{◌+◌, take, arith, sym, ap, ◌∙◌}
 use Rattle.std.specs.FinMap as finmap
-use Rattle.xds_catalogue.specs.Changes.{changes_after}
 use Rattle.xds_catalogue.proofs.News.{changes_after-le}
 use Rattle.xds_catalogue.proofs.Batches.{changes_after-more, length_take}
 use Rattle.xds_catalogue.proofs.batch.count_changes.Goals as goal

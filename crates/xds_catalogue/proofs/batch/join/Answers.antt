@@ -1,7 +1,5 @@
-use Rattle.std.proofs.Common.{◌≡◌, ◌<◌, ◌≤◌, ◌∷◌, [], true, false, Ok, ap, sym, subst, ◌∙◌, arith}
-use Rattle.xds_resource.specs.Stamps.{max_counter}
+use Rattle.std.proofs.Common.{◌∷◌, [], Ok, ap, sym, subst, ◌∙◌}
 use Rattle.std.specs.FinMap as finmap
-use Rattle.xds_catalogue.specs.Changes.{surpasses}
 use Rattle.xds_catalogue.specs.Tables.{held_by, IsSound, with_write, without_number}
 use Rattle.xds_catalogue.proofs.Joining.{below_top, joining-old, joining-news, joining-full}
 use Rattle.xds_catalogue.proofs.Leftovers.{one_left, none_left_over}

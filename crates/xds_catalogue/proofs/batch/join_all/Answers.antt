@@ -1,10 +1,10 @@
-use Rattle.std.proofs.Common.{◌≡◌, ◌-◌, ◌≤◌, length, subst, arith, sym, ap, ◌∙◌, Ok}
+use Rattle.std.proofs.Common.{◌-◌, length, subst, arith, sym, ap, ◌∙◌, Ok}
 use Rattle.std.specs.Prelude.{nat_lt}
 use Rattle.std.proofs.lemmas.Bool.{ltb-false}
 use Rattle.xds_resource.specs.Stamps.{max_counter}
 use Rattle.xds_catalogue.specs.Joins.{joined}
-use Rattle.xds_catalogue.specs.Tables.{IsSound, held_by, with_counts, all_taken_back}
-use Rattle.xds_catalogue.proofs.Batches.{JoinsSoFar, joins_start, room_left, joins_more, joins_end, all_back, none_left}
+use Rattle.xds_catalogue.specs.Tables.{IsSound, held_by, with_counts}
+use Rattle.xds_catalogue.proofs.Batches.{joins_start, room_left, joins_more, joins_end, all_back, none_left}
 use Rattle.xds_catalogue.proofs.batch.join_all.Goals as goal
 
 pub loop-write-init : goal.loop-write-init

@@ -1,6 +1,5 @@
 use Rattle.std.proofs.Common.{◌≡◌, ◌∷◌, [], ◌++◌, sym, ap, subst, ◌∙◌}
-use Rattle.xds_catalogue.specs.Tables.{TwoMaps, PutAside, IsSoundBut, former_numbers, held_by, with_write, all_taken_back, with_counts}
-use Rattle.xds_catalogue.specs.Joins.{joined}
+use Rattle.xds_catalogue.specs.Tables.{IsSoundBut, former_numbers, held_by, with_write, all_taken_back, with_counts}
 use Rattle.xds_catalogue.proofs.Leftovers.{one_more_left}
 use Rattle.xds_catalogue.proofs.OneWrite.{joined-news, joined-old}
 use Rattle.xds_catalogue.proofs.Sound.{fresh, with_write-sound}

@@ -10,7 +10,7 @@ loop-other-preserved g c =
     let named : bytes_eq c.name.result.now c.name-in-loop-other.result.now ≡ bytes_eq c.other-item.result.name c.args.write.now.name = λ i. bytes_eq (c.name.ensures.name i) (c.name-in-loop-other.ensures.name i) in
     elim c.else-eq.branch [
       | else-eq-via-then-eq+else-ne w ↦ surpasses_lesser c.args.write.now c.args.others.now c.loop-other.other-index c.other-item.result c.loop-other-test.true c.other-item.is (sym (c.eq.ensures ∙ named) ∙ w.if-eq.true)
-        (ap is_gt (sym w.cmp.ensures) ∙ gt_where w.cmp.result _ (sym w.ne.ensures ∙ w.if-ne.false)) c.loop-other.invariant
+          (ap is_gt (sym w.cmp.ensures) ∙ gt_where w.cmp.result _ (sym w.ne.ensures ∙ w.if-ne.false)) c.loop-other.invariant
       | else-eq-via-else-eq w ↦ surpasses_other c.args.write.now c.args.others.now c.loop-other.other-index c.other-item.result c.loop-other-test.true c.other-item.is (sym (c.eq.ensures ∙ named) ∙ w.if-eq.false) c.loop-other.invariant
     ]
 

@@ -1,4 +1,4 @@
-use Rattle.std.proofs.Common.{refl, ap, sym, subst, ◌∙◌, ◌≡◌}
+use Rattle.std.proofs.Common.{refl, ap, sym, subst, ◌∙◌}
 use Rattle.std.specs.Option.{IsSome, option_copied_mut}
 use Rattle.xds_catalogue.specs.Tables.{with_name, named_by}
 use Rattle.xds_catalogue.proofs.MapViews.{Named-insert}

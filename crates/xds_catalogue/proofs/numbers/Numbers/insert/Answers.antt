@@ -1,4 +1,4 @@
-use Rattle.std.proofs.Common.{ap, sym, ◌∙◌}
+use Rattle.std.proofs.Common.{ap, ◌∙◌}
 use Rattle.std.specs.Arc.{arc_str_bytes}
 use Rattle.std.specs.FinMap as finmap
 use Rattle.xds_catalogue.proofs.MapViews.{by_number-insert}
