@@ -1,8 +1,15 @@
 pub mod Catalogues
 pub mod News
-pub mod Logs
+pub mod Lookups
+pub mod OneWrite
 pub mod Joining
+pub mod Sound
+pub mod Leftovers
+pub mod MapViews
+pub mod InOrder
+pub mod Surpassing
+pub mod Undoing
+pub mod Batches
 pub mod Counters
 pub mod LocalWrites
-pub mod Standing
 pub mod JoinLaws

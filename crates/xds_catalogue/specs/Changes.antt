@@ -1,4 +1,4 @@
--- How many writes of a list add or replace an entry. This project's own.
+-- Which writes of a list add or replace an entry, and how many do. This project's own.
 use Rattle.std.specs.Prelude.{ℕ, ◌+◌, List, [], ◌∷◌, ◌++◌, Bool, true, Option, Some, None, if◌then◌else◌}
 use Rattle.std.specs.Ordering.{is_gt}
 use Rattle.xds_resource.specs.Writes.{StampedWrite, write_cmp}
@@ -21,3 +21,9 @@ changes_after before (w ∷ ws) = (if is_news before w then 1 else 0) + changes_
 -- the same, where nothing came before
 abbrev pub changes_of : List StampedWrite → ℕ
 changes_of ws = changes_after [] ws
+
+-- The changes that the writes make, the latest first. Each has the name of the entry that it changed, and how many changes there were up to and with it: `changes` of them before the list.
+abbrev pub change_list : List StampedWrite → ℕ → List StampedWrite → List (List ℕ × ℕ)
+change_list before changes [] = []
+change_list before changes (w ∷ ws) =
+    change_list (before ++ w ∷ []) (changes + (if is_news before w then 1 else 0)) ws ++ (if is_news before w then (w.name, changes + 1) ∷ [] else [])
