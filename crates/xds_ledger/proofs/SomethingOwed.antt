@@ -81,9 +81,17 @@ owed_by v t s m b false true is found none =
 owed_by v t s m b false false is found none =
     sym ((λ i. (names_believed v t s m b ∙ is) i || none_passes (is_owed v t s m b) (λ name. not_owed v t s m b is (none refl) name (finmap.get b name) refl) (finmap.keys m) i))
 
-pub something_owed_by : (v : VariantName) (t : TypeName) (s : Selection) (m : Entries) (b : Beliefs) (first second : Bool) → first ≡ believed v t s m b
+together : (v : VariantName) (t : TypeName) (s : Selection) (m : Entries) (b : Beliefs)
+    → (list_any (is_owed v t s m b) (finmap.keys b) || list_any (is_owed v t s m b) (finmap.keys m)) ≡ something_owed v t s m b
+together v t s m b = sym (list_any-append (is_owed v t s m b) (finmap.keys b) (finmap.keys m))
+
+-- where a name with an entry is owed
+pub owed_believed : (v : VariantName) (t : TypeName) (s : Selection) (m : Entries) (b : Beliefs) → believed v t s m b ≡ true → true ≡ something_owed v t s m b
+owed_believed v t s m b is = sym (true_or _ _ (names_believed v t s m b ∙ is)) ∙ together v t s m b
+
+-- where none is, it is up to the names without an entry
+pub owed_else : (v : VariantName) (t : TypeName) (s : Selection) (m : Entries) (b : Beliefs) (second : Bool) → believed v t s m b ≡ false
     → (second ≡ true → (name : List ℕ) × (finmap.get b name ≡ None) × (is_some (present s m name) ≡ true))
     → (second ≡ false → (name : List ℕ) → finmap.get b name ≡ None → present s m name ≡ None)
-    → (first || second) ≡ something_owed v t s m b
-something_owed_by v t s m b first second is found none =
-    owed_by v t s m b first second (sym is) found none ∙ sym (list_any-append (is_owed v t s m b) (finmap.keys b) (finmap.keys m))
+    → second ≡ something_owed v t s m b
+owed_else v t s m b second is found none = owed_by v t s m b false second is found none ∙ together v t s m b

@@ -1,5 +1,5 @@
 // What a client is owed of one name.
-ghost use Rattle.std.specs.Prelude.{◌≡◌, ℕ, List, IfOk, IfErr, option_map, is_some, None, true, false};
+ghost use Rattle.std.specs.Prelude.{◌≡◌, ℕ, List, IfOk, IfErr, option_map, is_some, is_none, ◌&&◌, None, true, false};
 ghost use Rattle.std.specs.List.{list_any};
 ghost use Rattle.std.specs.FinMap as finmap;
 ghost use Rattle.std.specs.Option.{option_map_or};
@@ -86,6 +86,18 @@ fn believed_owed<T: ResourceType>(
     false
 }
 
+// Whether a name is present and has no entry.
+fn is_unbelieved<T: ResourceType>(
+    interest: &Interest<T>,
+    catalogue: &Catalogue<T>,
+    beliefs: &NameMap<Entry>,
+    name: &str,
+) -> bool
+    ensures { result ≡ (is_none (finmap.get beliefs.now name.now) && is_some (present interest.now catalogue.now.entries name.now)) }
+{
+    !beliefs.contains(name) && present(interest, catalogue, name).is_some()
+}
+
 // Whether a name without an entry is present.
 fn unbelieved_owed<T: ResourceType>(
     interest: &Interest<T>,
@@ -97,8 +109,7 @@ fn unbelieved_owed<T: ResourceType>(
 {
     let mut after = 0;
     while let Some((number, write)) = catalogue.next_change(after) {
-        let name = write.name();
-        if !beliefs.contains(name) && present(interest, catalogue, name).is_some() {
+        if is_unbelieved(interest, catalogue, beliefs, write.name()) {
             return true;
         }
         after = number;
@@ -115,6 +126,8 @@ pub(crate) fn something_owed<T: ResourceType>(
 ) -> bool
     ensures { result ≡ something_owed variant T.TYPE interest.now catalogue.now.entries beliefs.now }
 {
-    believed_owed(variant, interest, catalogue, beliefs)
-        || unbelieved_owed(interest, catalogue, beliefs)
+    if believed_owed(variant, interest, catalogue, beliefs) {
+        return true;
+    }
+    unbelieved_owed(interest, catalogue, beliefs)
 }
