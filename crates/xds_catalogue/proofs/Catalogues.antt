@@ -102,7 +102,7 @@ not_tied Less e = refl
 not_tied Equal e = absurd cc
 not_tied Greater e = absurd cc
 
-find_below : (q : List ℕ) (es : List (List ℕ × StampedWrite)) → T (below_all text_cmp q es) → finmap.find text_cmp q es ≡ None
+pub find_below : (q : List ℕ) (es : List (List ℕ × StampedWrite)) → T (below_all text_cmp q es) → finmap.find text_cmp q es ≡ None
 find_below q [] h = refl
 find_below q (e ∷ es) h =
     ap (λ b. cond b (Some e.1) (finmap.find text_cmp q es)) (not_tied (text_cmp q e.0) (less_first (is_lt (text_cmp q e.0)) (below_all text_cmp q es) h))
@@ -118,7 +118,7 @@ rest_named_at e q r true none h = subst (λ o. IfSome o (λ w. w.name ≡ q)) (s
 rest_named_at e q r false none h = h
 
 -- what is below each of the entries is not found there
-none_tied : (e : List ℕ × StampedWrite) (es : List (List ℕ × StampedWrite)) (q : List ℕ) → T (below_all text_cmp e.0 es) → eq_by_cmp text_cmp q e.0 ≡ true → finmap.find text_cmp q es ≡ None
+pub none_tied : (e : List ℕ × StampedWrite) (es : List (List ℕ × StampedWrite)) (q : List ℕ) → T (below_all text_cmp e.0 es) → eq_by_cmp text_cmp q e.0 ≡ true → finmap.find text_cmp q es ≡ None
 none_tied e es q below tie =
     let same : e.0 ≡ q = tells e.0 q (sym (tie-bytes_eq q e.0) ∙ tie) in
     subst (λ k. finmap.find text_cmp k es ≡ None) same (find_below e.0 es below)

@@ -10,12 +10,10 @@ use Rattle.xds_resource.specs.Stamps.{max_counter}
 use Rattle.xds_resource.specs.Writes.{StampedWrite}
 use Rattle.xds_resource.proofs.Refusing.{unless_refused-append, unless_refused-value}
 use Rattle.xds_catalogue.specs.Holdings.{Holdings}
-use Rattle.xds_catalogue.specs.Log.{held_by}
 use Rattle.xds_catalogue.specs.Joins.{joined, joining}
-use Rattle.xds_catalogue.specs.Local.{greatest_counter, greatest_counter_of, next_counter, spent_conditions, has_live, putting, deleting}
+use Rattle.xds_catalogue.specs.Local.{greatest_counter, next_counter, spent_conditions, has_live, putting, deleting}
 use Rattle.xds_catalogue.proofs.News.{changes_after-le}
 use Rattle.xds_catalogue.proofs.Joining.{joined_Ok, spent}
-use Rattle.xds_catalogue.proofs.Counters.{greatest_counter-held}
 
 -- the counter of the next write, or that there is none
 abbrev pub next : Holdings → Result ℕ Refusal
@@ -27,21 +25,18 @@ either_spent true false x = refl
 either_spent false true x = refl
 either_spent false false x = refl
 
-pub next-spent_counter : (h : Holdings) (ws : List StampedWrite) → held_by ws ≡ h → greatest_counter_of ws ≡ max_counter → next h ≡ Err CounterSpent
-next-spent_counter h ws is top =
-    ap (λ b. cond b (Err CounterSpent) (cond (h.changes == max_counter) (Err CounterSpent) (Ok (next_counter h)))) (eq-eqb _ max_counter (ap (λ k. greatest_counter k.entries) (sym is) ∙ greatest_counter-held ws ∙ top))
+pub next-spent_counter : (h : Holdings) → greatest_counter h.entries ≡ max_counter → next h ≡ Err CounterSpent
+next-spent_counter h top = ap (λ b. cond b (Err CounterSpent) (cond (h.changes == max_counter) (Err CounterSpent) (Ok (next_counter h)))) (eq-eqb _ max_counter top)
 
 pub next-spent_changes : (h : Holdings) → h.changes ≡ max_counter → next h ≡ Err CounterSpent
 next-spent_changes h top =
     either_spent (greatest_counter h.entries == max_counter) (h.changes == max_counter) (next_counter h)
     ∙ ap (λ b. cond b (Err CounterSpent) (cond (greatest_counter h.entries == max_counter) (Err CounterSpent) (Ok (next_counter h)))) (eq-eqb h.changes max_counter top)
 
-pub next-Ok : (h : Holdings) (ws : List StampedWrite) (c : ℕ) → held_by ws ≡ h → greatest_counter_of ws ≢ max_counter → h.changes ≢ max_counter → c ≡ greatest_counter_of ws + 1 → next h ≡ Ok c
-next-Ok h ws c is counter changes next_is =
-    let greatest : greatest_counter h.entries ≡ greatest_counter_of ws = ap (λ k. greatest_counter k.entries) (sym is) ∙ greatest_counter-held ws in
-    ap (λ b. cond b (Err CounterSpent) (cond (h.changes == max_counter) (Err CounterSpent) (Ok (next_counter h)))) (ne_eqb _ max_counter (λ e. counter (sym greatest ∙ e)))
-    ∙ ap (λ b. cond b (Err CounterSpent) (Ok (next_counter h))) (ne_eqb h.changes max_counter changes)
-    ∙ ap (λ n. Ok (n + 1)) greatest ∙ ap Ok (sym next_is)
+pub next-Ok : (h : Holdings) (c : ℕ) → greatest_counter h.entries ≢ max_counter → h.changes ≢ max_counter → c ≡ greatest_counter h.entries + 1 → next h ≡ Ok c
+next-Ok h c counter changes next_is =
+    ap (λ b. cond b (Err CounterSpent) (cond (h.changes == max_counter) (Err CounterSpent) (Ok (next_counter h)))) (ne_eqb _ max_counter counter)
+    ∙ ap (λ b. cond b (Err CounterSpent) (Ok (next_counter h))) (ne_eqb h.changes max_counter changes) ∙ ap Ok (sym next_is)
 
 -- what a next counter says
 next-value : (h : Holdings) (c : ℕ) → next h ≡ Ok c → next_counter h ≡ c

@@ -1,5 +1,6 @@
 -- Which resources of a catalogue a client sees: those that are live and that its interest covers. This project's own.
-use Rattle.std.specs.Prelude.{List, Bool, ◌&&◌, is_some}
+use Rattle.std.specs.Prelude.{ℕ, List, Bool, ◌&&◌, Option, Some, None, is_some, if◌then◌else◌}
+use Rattle.std.specs.Option.{option_and_then}
 use Rattle.std.specs.List.{filter}
 use Rattle.std.specs.FinMap as finmap
 use Rattle.xds_resource.specs.Writes.{StampedWrite}
@@ -17,3 +18,11 @@ is_shown s w = is_live w && covers s w.name
 -- what a client of this interest sees, in ascending order of names
 abbrev pub content : Entries → Selection → List StampedWrite
 content m s = filter (is_shown s) (finmap.values m)
+
+-- the write, if it is live
+abbrev pub if_live : StampedWrite → Option StampedWrite
+if_live w = if is_live w then Some w else None
+
+-- what stands live under a name
+abbrev pub live_at : Entries → List ℕ → Option StampedWrite
+live_at m name = option_and_then if_live (finmap.get m name)

@@ -1,7 +1,8 @@
 pub mod Holdings
 pub mod Content
 pub mod Changes
-pub mod Log
 pub mod Joins
 pub mod Local
+pub mod Next
+pub mod Tables
 pub mod Laws

@@ -1,16 +1,18 @@
 // The catalogue of one type.
-ghost use Rattle.std.specs.Prelude.{◌≡◌, ◌≤◌, ◌∷◌, [], map, is_some, true, IfSome, IsOk, IfOk, IfErr, OnErr};
-ghost use Rattle.std.specs.Arc.{arc_str_bytes};
+ghost use Rattle.std.specs.Prelude.{◌≡◌, ◌≤◌, ◌∷◌, [], map, is_some, true, false, IfSome, IfNone, IsOk, IfOk, IfErr, OnErr};
 ghost use Rattle.std.specs.Option.{option_map};
+ghost use Rattle.std.specs.Arc.{arc_str_bytes};
 ghost use Rattle.std.specs.FinMap as finmap;
 ghost use Rattle.xds_resource.specs.Refusals.{Gives, unless_refused};
-ghost use Rattle.xds_catalogue.specs.Holdings.{nothing_held, IsCatalogue};
 ghost use Rattle.xds_resource.specs.Resources.{is_valid_name};
+ghost use Rattle.xds_catalogue.specs.Holdings.{nothing_held, IsCatalogue, IsNumbered};
 ghost use Rattle.xds_catalogue.specs.Content.{content};
 ghost use Rattle.xds_catalogue.specs.Joins.{joining};
 ghost use Rattle.xds_catalogue.specs.Local.{putting, deleting, has_live, spent_conditions, next_counter};
+ghost use Rattle.xds_catalogue.specs.Next.{IsNextChange, NoneAfter};
 
-use crate::log::{add, add_all, copies, greatest_counter, newest, standing};
+use crate::batch::{join, join_all};
+use crate::tables::Tables;
 use std::alloc::Global;
 use std::marker::Model;
 use std::sync::ArcStr;
@@ -21,21 +23,21 @@ use xds_resource::{Refusal, Resource, ResourceType, Stamp, Write};
 /// The greatest write of each name of the type `T`. Deletions stay for good.
 #[derive(Drop)]
 pub struct Catalogue<T: ResourceType> {
-    // The writes that changed an entry, in the order in which they came.
-    writes: Vec<Write<T>>,
+    tables: Tables<T>,
+    alloc: Global,
 }
 
 impl<T: ResourceType> Model for Catalogue<T> {
     ghost use Rattle.xds_catalogue.specs.Holdings.{Holdings, holdings_code};
-    ghost use Rattle.xds_catalogue.specs.Log.{IsLog, held_by};
+    ghost use Rattle.xds_catalogue.specs.Tables.{IsSound, held_by};
 
     ghost Value = { Holdings };
 
     ghost coded = { holdings_code };
 
-    ghost view = { λ c. held_by c.writes.items };
+    ghost view = { λ c. held_by c.tables };
 
-    ghost invariant = { λ c. IsLog c.writes.items };
+    ghost invariant = { λ c. IsSound c.tables };
 }
 
 impl<T: ResourceType> Catalogue<T> {
@@ -44,7 +46,8 @@ impl<T: ResourceType> Catalogue<T> {
         ensures { result ≡ nothing_held }
     {
         Self {
-            writes: Vec::new(alloc),
+            tables: Tables::new(alloc),
+            alloc,
         }
     }
 
@@ -52,7 +55,22 @@ impl<T: ResourceType> Catalogue<T> {
     pub fn changes(&self) -> u64
         ensures { result ≡ self.now.changes }
     {
-        self.writes.len() as u64
+        self.tables.changes()
+    }
+
+    /// The entry whose latest change has the least number above this one, and that number, or none where no entry
+    /// changed since. It takes no memory.
+    pub fn next_change(&self, after: u64) -> Option<(u64, &Write<T>)>
+        ensures next { IfSome result (λ p. IsNextChange self.now after p.0 p.1.now) }
+        ensures none { IfNone result (NoneAfter self.now after) }
+        ensures numbered { IsNumbered self.now }
+    {
+        if after >= self.tables.changes() {
+            return None;
+        }
+        let (number, name) = self.tables.numbers().first_from(after + 1)?;
+        let held = self.tables.names().get(name)?;
+        Some((number, held.write()))
     }
 
     /// The write that stands under a name, be it a deletion.
@@ -60,7 +78,10 @@ impl<T: ResourceType> Catalogue<T> {
         ensures found { option_map (λ w. w.now) result ≡ finmap.get self.now.entries name.now }
         ensures named { IsCatalogue self.now.entries }
     {
-        newest(&self.writes, name)
+        match self.tables.names().get(name) {
+            Some(held) => Some(held.write()),
+            None => None,
+        }
     }
 
     /// Joins a write: it stands if it is greater than what stands under its name. Answers by how much the
@@ -70,14 +91,16 @@ impl<T: ResourceType> Catalogue<T> {
         ensures memory { IfErr result (λ e. e ≡ Refusal.OutOfMemory → IsOk (joining self.old (write ∷ []))) }
         ensures err { OnErr result (self.new ≡ self.old) }
     {
-        add(&mut self.writes, write)
+        join(&mut self.tables, write)
     }
+
     /// Joins writes, all or none, as one by one in their order. Answers by how much the changes grew.
     pub fn join_all(&mut self, writes: Vec<Write<T>>) -> Result<u64, Refusal>
         ensures joins { Gives (λ grown. (grown, self.new)) result (joining self.old writes.items) }
+        ensures memory { IfErr result (λ e. e ≡ Refusal.OutOfMemory → IsOk (joining self.old writes.items)) }
         ensures err { OnErr result (self.new ≡ self.old) }
     {
-        add_all(&mut self.writes, writes)
+        join_all(&mut self.tables, self.alloc, writes)
     }
 
     /// Puts a resource, as a new write even where an equal body stands. `writer` is the number of this replica,
@@ -90,7 +113,7 @@ impl<T: ResourceType> Catalogue<T> {
         ensures err { OnErr result (self.new ≡ self.old) }
     {
         let stamp = self.next_stamp(writer)?;
-        add(&mut self.writes, Write::put(stamp, resource))?;
+        join(&mut self.tables, Write::put(stamp, resource))?;
         Ok(stamp)
     }
 
@@ -103,31 +126,21 @@ impl<T: ResourceType> Catalogue<T> {
         ensures writer { IfOk result (λ s. s.writer ≡ writer) }
         ensures err { OnErr result (self.new ≡ self.old) }
     {
-        let held = self.live_name(name).ok_or(Refusal::NotFound)?;
+        let held = self.live(name).ok_or(Refusal::NotFound)?;
         let stamp = self.next_stamp(writer)?;
-        let name = self.own_text(held)?;
-        add(&mut self.writes, Write::deletion(stamp, name))?;
+        let name = held.shared_name()?;
+        join(&mut self.tables, Write::deletion(stamp, name))?;
         Ok(stamp)
     }
 
-    // The name itself, if there is a live resource of it.
-    fn live_name(&self, name: &str) -> Option<&str>
-        ensures same { IfSome result (λ n. n.now ≡ name.now) }
-        ensures valid { IfSome result (λ n. is_valid_name n.now ≡ true) }
+    // The write that stands under a name, if it puts a resource there.
+    fn live(&self, name: &str) -> Option<&Write<T>>
+        ensures same { IfSome result (λ w. w.now.name ≡ name.now) }
         ensures missing { is_some result ≡ has_live self.now.entries name.now }
     {
         let held = self.get(name)?;
         held.body()?;
-        Some(held.name())
-    }
-
-    // A text of its own, from the allocator of the writes.
-    fn own_text(&self, text: &str) -> Result<ArcStr<Global>, Refusal>
-        ensures ok { IfOk result (λ s. arc_str_bytes s ≡ text.now) }
-        ensures err { IfErr result (λ e. e ≡ Refusal.OutOfMemory) }
-    {
-        let alloc = *self.writes.allocator();
-        Ok(ArcStr::from_str(alloc, text)?)
+        Some(held)
     }
 
     // The stamp of the next write of this replica.
@@ -137,7 +150,7 @@ impl<T: ResourceType> Catalogue<T> {
         ensures writer { IfOk result (λ s. s.writer ≡ writer) }
         ensures refused { IfErr result (λ e. e ≡ Refusal.CounterSpent) }
     {
-        let greatest = greatest_counter(&self.writes);
+        let greatest = self.tables.greatest();
         if greatest == MAX_COUNTER || self.changes() == MAX_COUNTER {
             return Err(Refusal::CounterSpent);
         }
@@ -150,7 +163,7 @@ impl<T: ResourceType> Catalogue<T> {
         ensures named { IsCatalogue self.now.entries }
         ensures err { IfErr result (λ e. e ≡ Refusal.OutOfMemory) }
     {
-        standing(alloc, &self.writes)
+        self.tables.names().in_order(alloc)
     }
 
     /// The live writes that a client of this interest sees, in ascending order of names. Refused only by
@@ -159,6 +172,9 @@ impl<T: ResourceType> Catalogue<T> {
         ensures ok { IfOk result (λ v. map (λ w. w.now) v.items ≡ content self.now.entries interest.now) }
         ensures err { IfErr result (λ e. e ≡ Refusal.OutOfMemory) }
     {
+        if !interest.has_star() {
+            return self.tables.names().shown(alloc, interest);
+        }
         let entries = self.entries(alloc)?;
         let mut shown = Vec::new(alloc);
         for write in &entries {
@@ -175,7 +191,8 @@ impl<T: ResourceType> Catalogue<T> {
         ensures err { IfErr result (λ e. e ≡ Refusal.OutOfMemory) }
     {
         Ok(Catalogue {
-            writes: copies(alloc, &self.writes)?,
+            tables: self.tables.try_copy(alloc)?,
+            alloc,
         })
     }
 }

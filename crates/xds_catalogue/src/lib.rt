@@ -1,8 +1,11 @@
 // What one replica holds of one resource type: the greatest write of each name.
 #![tactic(auto)]
 
+mod batch;
 pub mod catalogue;
 pub mod laws;
-mod log;
+mod names;
+mod numbers;
+mod tables;
 
 pub use catalogue::Catalogue;

@@ -1,6 +1,7 @@
 // The interest of one client in one type.
 ghost use Rattle.std.specs.Prelude.{◌≡◌, map, [], ◌∷◌, IfOk, IfErr};
 ghost use Rattle.std.specs.String.{string_bytes};
+ghost use Rattle.std.specs.FinSet as set;
 ghost use Rattle.xds_resource.specs.declared.refusal.Refusal.TheVariants.{OutOfMemory};
 ghost use Rattle.xds_interest.specs.Interests.{covers, is_star};
 ghost use Rattle.xds_interest.specs.SotW.{sotw_interest};
@@ -69,6 +70,13 @@ impl<T: ResourceType> Interest<T> {
         ensures { result ≡ covers self.now name.now }
     {
         self.star || self.names.contains(name)
+    }
+
+    /// The explicit names, in ascending order.
+    pub fn names(&self) -> &BTreeSet<String>
+        ensures { set.from_list (map string_bytes result.now.keys) ≡ self.now.names }
+    {
+        &self.names
     }
 
     /// Whether the client wants all resources of the type.

@@ -12,7 +12,7 @@ use crate::resource::{Resource, read_body};
 use crate::stamp::Stamp;
 use crate::types::ResourceType;
 use serde_json::Value;
-use std::alloc::Global;
+use std::alloc::{AllocError, Global};
 use std::cmp::Ordering;
 use std::marker::{Model, PhantomData};
 use std::sync::ArcStr;
@@ -136,6 +136,17 @@ impl<T: ResourceType> Write<T> {
         ensures copy { IfOk result (λ w. w ≡ self.now) }
         ensures refused { IfErr result (λ e. e ≡ Refusal.OutOfMemory) }
     {
+        Ok(self.clone()?)
+    }
+}
+
+impl<T: ResourceType> Clone for Write<T> {
+    ghost use Rattle.std.specs.Prelude.{◌≡◌};
+
+    ghost is_clone = { λ w c. c ≡ w };
+
+    // The texts are shared.
+    fn clone(&self) -> Result<Write<T>, AllocError> {
         let body = match &self.body {
             Some(text) => Some(text.clone()?),
             None => None,
