@@ -3,11 +3,12 @@
 
     bench/gate.py [--factor F] [--without-edits] [CRATE ..]
 
-Each crate is proved from nothing, then its tests, then its must-fail edits are tried, each with one job, on a copy of
-the repository and over libraries that are built before. With no names, all crates of crates.txt are measured, lowest
-first. The times are scaled to a machine whose `rt selftest` takes 2.0 minutes of processor time: the script runs it,
-or takes the factor F. It prints a table for docs/DESIGN.md, a row as soon as it is measured. Other work on the machine
-disturbs processor time less than it disturbs wall time, but it does disturb it.
+Each crate is proved from nothing, then its tests, as `rt verdict` does it, and then its must-fail edits are tried by
+`rt must-fail`, each with one job, on a copy of the repository and over libraries that are built before. With no names,
+all crates of crates.txt are measured, lowest first. The times are scaled to a machine whose `rt selftest` takes 2.0
+minutes of processor time: the script runs it, or takes the factor F. It prints a table for docs/DESIGN.md, a row as
+soon as it is measured. Other work on the machine disturbs processor time less than it disturbs wall time, but it does
+disturb it.
 """
 import argparse
 import os
@@ -24,13 +25,33 @@ TOP = os.path.dirname(os.path.dirname(os.path.abspath(__file__)))
 SELFTEST = 2.0
 
 
+# What `rt verdict` does in a crate, for that crate alone: it would prove the libraries below again.
+PROVE = """
+import os, sys
+rt, top, folder, what = sys.argv[1:]
+sys.path.insert(0, rt)
+import rtlib
+rtlib.guarded()
+os.chdir(folder)
+os.makedirs("out", exist_ok=True)
+crate = rtlib.Crate(folder, top, {})
+jobs = ["--jobs", "1"]
+sys.exit(crate.verdict_on_tests(jobs) if what == "tests" else crate.verdict(jobs, as_rlib=not crate.is_program, with_tests=False))
+"""
+
+
+def proving(top, folder, what):
+    rt = os.path.dirname(os.path.realpath(shutil.which("rt")))
+    return minutes([sys.executable, "-c", PROVE, rt, top, folder, what], folder)
+
+
 def minutes(words, folder):
     """Runs a command, which must succeed, and answers its processor minutes."""
     before = resource.getrusage(resource.RUSAGE_CHILDREN)
     run = subprocess.run(words, cwd=folder, stdin=subprocess.DEVNULL, stdout=subprocess.PIPE, stderr=subprocess.STDOUT, text=True)
     after = resource.getrusage(resource.RUSAGE_CHILDREN)
     if run.returncode:
-        sys.exit(f"{' '.join(words)} failed in {folder}:\n{run.stdout[-3000:]}")
+        sys.exit(f"{words[0]} {words[-1]} failed in {folder}:\n{run.stdout[-3000:]}")
     return (after.ru_utime + after.ru_stime - before.ru_utime - before.ru_stime) / 60
 
 
@@ -82,12 +103,9 @@ def edits(folder):
 def measured(top, name, with_edits):
     """The processor minutes of a crate's proof, of its tests and of its edits. Its library is built afterwards."""
     folder = os.path.join(top, "crates", name)
-    is_program = os.path.isfile(os.path.join(folder, "src", "main.rt"))
-    proof = minutes(["rt", "check" if is_program else "lib", "--jobs", "1"], folder)
-    shutil.rmtree(os.path.join(folder, "out", "incremental"), ignore_errors=True)
-    tests = minutes(["rt", "check", "--test", "--jobs", "1"], folder) if has_tests(folder) else 0.0
+    proof = proving(top, folder, "proof")
+    tests = proving(top, folder, "tests") if has_tests(folder) else 0.0
     tried = minutes(["rt", "must-fail", name], top) if with_edits and edits(folder) else 0.0
-    shutil.rmtree(os.path.join(folder, "out", "incremental"), ignore_errors=True)
     return proof, tests, tried
 
 
@@ -118,7 +136,7 @@ def main():
             if name not in wanted and not any(name in needs(it) for it in wanted):
                 continue
             if name not in wanted:
-                minutes(["rt", "lib"], os.path.join(top, "crates", name))
+                proving(top, os.path.join(top, "crates", name), "proof")
                 continue
             folder = os.path.join(TOP, "crates", name)
             counts = [lines(folder, "src", ".rt"), lines(folder, "specs", ".antt"), lines(folder, "proofs", ".antt"), edits(folder)]

@@ -1,22 +1,12 @@
-// The programs of a replicated xDS control plane.
+// The programs of a replicated xDS control plane, over the process's own words and streams.
 #![tactic(auto)]
 
-mod answer;
-mod catalogues;
-mod counted;
-mod laws;
-mod lines;
-mod run;
-#[cfg(test)]
-mod tests;
-mod words;
-
-use counted::{Counted, write_whole};
-use run::{WRONG_WORDS, run, tell};
 use std::io::ErrorKind;
 use std::process::ExitCode;
 use std::rt::Env;
 use std::{env, io};
+use xds_program::counted::{Counted, write_whole};
+use xds_program::run::{WRONG_WORDS, run, tell};
 use xds_resource::Refusal;
 
 fn main(rt: HostRuntime) -> ExitCode {

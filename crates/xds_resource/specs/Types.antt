@@ -1,5 +1,8 @@
 -- The table of resource types of Envoy's "xDS REST and gRPC protocol": one row a type. A further type is one row more.
 use Rattle.std.specs.Prelude.{ℕ, List, [], ◌∷◌, Bool, true, false, bytes_eq, Option, codes, find}
+use Rattle.std.specs.List.{position_or_len}
+use Rattle.std.specs.Ordering.{nat_cmp}
+use Rattle.std.specs.declared.cmp.Ordering.{Ordering}
 use Rattle.xds_resource.specs.declared.types.TypeName.{TypeName}
 use Rattle.xds_resource.specs.declared.types.TypeName.TheVariants.{Cluster, Endpoint, Listener, Route}
 
@@ -66,3 +69,11 @@ type_of_word word = find (λ t. bytes_eq word (row t).word) types
 -- whether two types are the same: no two of them share a URL
 abbrev pub is_same_type : TypeName → TypeName → Bool
 is_same_type s t = bytes_eq (row s).url (row t).url
+
+-- how many types a server answers before this one
+abbrev pub place : TypeName → ℕ
+place t = position_or_len (is_same_type t) types
+
+-- the order of types, in which a server answers them
+abbrev pub type_cmp : TypeName → TypeName → Ordering
+type_cmp s t = nat_cmp (place s) (place t)

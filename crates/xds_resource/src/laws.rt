@@ -8,6 +8,9 @@ ghost use Rattle.xds_resource.specs.Best.{greater, best, BestIsGreatest, BestOfB
 ghost use Rattle.xds_resource.specs.PerType.{PerType, at, each, PutsAtOneType};
 ghost use Rattle.xds_resource.specs.declared.types.TypeName.{TypeName};
 ghost use Rattle.std.specs.Prelude.{Option};
+ghost use Rattle.xds_resource.specs.Types.{types, type_cmp};
+
+use crate::types::TypeName;
 
 /// The order of writes is total, and two writes that tie are the same.
 pub fn writes_are_ordered()
@@ -48,4 +51,10 @@ pub fn one_type_at_a_time<X>()
     ensures puts { (p : PerType X) (t : TypeName) (x : X) → PutsAtOneType p t x }
     ensures alike { (x : X) (t : TypeName) → at (each x) t ≡ x }
     ensures same { (p q : PerType X) → ((t : TypeName) → at p t ≡ at q t) → p ≡ q }
+{}
+
+/// The types stand in the order of the table, in `TypeName::ALL` and by their own order.
+pub fn types_stand_in_order()
+    ensures all { TypeName.ALL ≡ types }
+    ensures order { (s t : TypeName) → ⟦<TypeName as Ord>⟧.cmp s t ≡ type_cmp s t }
 {}

@@ -1,25 +1,106 @@
-// Worked runs of one and of two replicas.
+// What one replica holds, by scripts whose steps are apart by `; `, and what two replicas tell each other.
+use crate::cases::{Outcome, first_word, hold, told, words_of};
+use crate::stamp::write_of;
 use std::alloc::Global;
-use std::sync::ArcStr;
 use std::test::Fail;
 use xds_catalogue::Catalogue;
 use xds_interest::Interest;
-use xds_resource::{Cluster, Refusal, Resource, ResourceType, Route, Stamp, Write};
+use xds_resource::{Cluster, Refusal, Resource, ResourceType, Route, Write};
 
-const A: &str =
-    "{\"@type\":\"type.googleapis.com/envoy.config.cluster.v3.Cluster\",\"name\":\"a\"}";
+// The answers to the steps of a script over a new catalogue of clusters, a space before each.
+struct Answers;
 
-const A_LATER: &str =
-    "{\"@type\":\"type.googleapis.com/envoy.config.cluster.v3.Cluster\",\"altStatName\":\"x\",\"name\":\"a\"}";
+impl Outcome for Answers {
+    fn of(alloc: Global, given: &str) -> Result<String, Fail> {
+        answers_of::<Cluster>(alloc, given)
+    }
+}
 
-const B: &str =
-    "{\"@type\":\"type.googleapis.com/envoy.config.cluster.v3.Cluster\",\"name\":\"b\"}";
+// The same over a new catalogue of routes.
+struct RouteAnswers;
 
-const R: &str =
-    "{\"@type\":\"type.googleapis.com/envoy.config.route.v3.RouteConfiguration\",\"name\":\"r\"}";
+impl Outcome for RouteAnswers {
+    fn of(alloc: Global, given: &str) -> Result<String, Fail> {
+        answers_of::<Route>(alloc, given)
+    }
+}
 
-fn cluster(alloc: Global, text: &str) -> Result<Resource<Cluster>, Refusal> {
-    Resource::parse(alloc, text)
+fn answers_of<T: ResourceType>(alloc: Global, script: &str) -> Result<String, Fail> {
+    let mut catalogue = Catalogue::<T>::new(alloc);
+    let mut answers = String::new(alloc);
+    for step in script.split("; ") {
+        let (verb, rest) = first_word(step)?;
+        let answer = answer_to(alloc, &mut catalogue, verb, rest);
+        answers.push_str(" ")?;
+        answers.push_str(told(alloc, answer)?.as_str())?;
+    }
+    Ok(answers)
+}
+
+fn answer_to<T: ResourceType>(
+    alloc: Global,
+    catalogue: &mut Catalogue<T>,
+    verb: &str,
+    rest: &str,
+) -> Result<String, Refusal> {
+    match verb {
+        "put" => catalogue
+            .put(Resource::parse(alloc, rest)?, 1)?
+            .version_text(alloc),
+        "delete" => catalogue.delete(rest, 1)?.version_text(alloc),
+        "join" => count_text(alloc, catalogue.join_write(write_of(alloc, rest)?)?),
+        "get" => held_text(alloc, catalogue, rest),
+        "copy" => held_text(alloc, &catalogue.try_copy(alloc)?, rest),
+        "want" => shown(alloc, catalogue, rest),
+        _ => count_text(alloc, catalogue.changes()),
+    }
+}
+
+fn count_text(alloc: Global, count: u64) -> Result<String, Refusal> {
+    Ok(format!(in alloc; "{count}")?)
+}
+
+// The version and the body of what stands under a name.
+fn held_text<T: ResourceType>(
+    alloc: Global,
+    catalogue: &Catalogue<T>,
+    name: &str,
+) -> Result<String, Refusal> {
+    let Some(write) = catalogue.get(name) else {
+        return Ok(String::from_str(alloc, "none")?);
+    };
+    let mut text = write.stamp().version_text(alloc)?;
+    text.push_str(write.body().unwrap_or("-"))?;
+    Ok(text)
+}
+
+// The names that a client of this interest sees, one after another.
+fn shown<T: ResourceType>(
+    alloc: Global,
+    catalogue: &Catalogue<T>,
+    wanted: &str,
+) -> Result<String, Refusal> {
+    let interest = Interest::of_list(alloc, &words_of(alloc, wanted)?)?;
+    let mut names = String::new(alloc);
+    for write in &catalogue.content(alloc, &interest)? {
+        names.push_str(write.name())?;
+    }
+    Ok(names)
+}
+
+#[test]
+fn a_replica_keeps_the_greatest_write(rt: HostRuntime) -> Result<(), Fail> {
+    hold::<Answers, HostRuntime>(
+        &rt,
+        r#"put {"@type":"CDS","name":"a"}; delete a; join 1-1 {"@type":"CDS","name":"a"}; join 1-1 {"@type":"CDS","name":"a"}; get a; want ; delete a; delete b =>  1-1 2-1 0 0 2-1-  9 NotFound 9 NotFound
+put {"@type":"CDS","name":"a"}; delete a; put {"@type":"CDS","name":"a"}; put {"@type":"CDS","name":"a"}; copy a; changes  =>  1-1 2-1 3-1 4-1 4-1{"@type":"CDS","name":"a"} 4
+join 9223372036854775807-9 {"@type":"CDS","name":"a"}; put {"@type":"CDS","name":"b"}; delete a; delete b; get a; get b; changes  =>  1 10 CounterSpent 10 CounterSpent 9 NotFound 9223372036854775807-9{"@type":"CDS","name":"a"} none 1
+join 1-1 {"@type":"CDS","name":"a"}; join 1-2 {"@type":"CDS","name":"a"}; join 2-1 -; join 2-1 {"@type":"CDS","name":"a","x":1}; get a; changes  =>  1 1 1 1 2-1{"@type":"CDS","name":"a","x":1} 4
+join 2-1 {"@type":"CDS","name":"a","x":1}; join 2-1 -; join 1-2 {"@type":"CDS","name":"a"}; join 1-1 {"@type":"CDS","name":"a"}; get a; changes  =>  1 0 0 0 2-1{"@type":"CDS","name":"a","x":1} 1
+join 1-2 {"@type":"CDS","name":"a"}; join 2-1 {"@type":"CDS","name":"a","x":1}; join 1-1 {"@type":"CDS","name":"a"}; join 2-1 -; get a; changes  =>  1 1 0 0 2-1{"@type":"CDS","name":"a","x":1} 2
+join 2-1 -; join 2-1 -; join 1-1 {"@type":"CDS","name":"a"}; join 2-1 {"@type":"CDS","name":"a","x":1}; get a; want a =>  1 0 0 1 2-1{"@type":"CDS","name":"a","x":1} a
+put {"@type":"CDS","name":"b"}; put {"@type":"CDS","name":"a"}; want ; want * c; want b c; want c =>  1-1 2-1 ab ab b "#,
+    )
 }
 
 // The writes that a catalogue hands to another replica.
@@ -31,152 +112,38 @@ fn sent(alloc: Global, catalogue: &Catalogue<Cluster>) -> Result<Vec<Write<Clust
     Ok(writes)
 }
 
-// Counter, writer and body of what stands under a name.
-fn seen<'a>(catalogue: &'a Catalogue<Cluster>, name: &str) -> Option<(u64, u16, Option<&'a str>)> {
-    let write = catalogue.get(name)?;
-    let stamp = write.stamp();
-    Some((stamp.counter, stamp.writer, write.body()))
-}
+// What two replicas answer that put `a`, hand each other their entries, and do so again.
+struct Exchange;
 
-fn interest<T: ResourceType>(alloc: Global, texts: &[&str]) -> Result<Interest<T>, Refusal> {
-    let mut names = Vec::new(alloc);
-    for text in texts {
-        names.push(String::from_str(alloc, text)?)?;
+impl Outcome for Exchange {
+    fn of(alloc: Global, given: &str) -> Result<String, Fail> {
+        let (one, two) = given.split_once(" and ").ok_or("no second replica")?;
+        let mut first = Catalogue::new(alloc);
+        let mut second = Catalogue::new(alloc);
+        first.put(Resource::parse(alloc, one)?, 1)?;
+        second.put(Resource::parse(alloc, two)?, 2)?;
+        let from_first = sent(alloc, &first)?;
+        let gained = first.join_all(sent(alloc, &second)?)?;
+        let second_gained = second.join_all(from_first)?;
+        let again = first.join_all(sent(alloc, &second)?)?;
+        let held = held_text(alloc, &first, "a")?;
+        let second_held = held_text(alloc, &second, "a")?;
+        Ok(format!(in alloc; "{gained} {second_gained} {again} {held} {second_held}")?)
     }
-    Interest::of_list(alloc, &names)
-}
-
-// The names that a client of this interest sees, one after another.
-fn shown<T: ResourceType>(
-    alloc: Global,
-    catalogue: &Catalogue<T>,
-    texts: &[&str],
-) -> Result<String, Refusal> {
-    let mut names = String::new(alloc);
-    for write in &catalogue.content(alloc, &interest(alloc, texts)?)? {
-        names.push_str(write.name())?;
-    }
-    Ok(names)
 }
 
 #[test]
 fn two_replicas_agree(rt: HostRuntime) -> Result<(), Fail> {
-    let alloc = rt.alloc();
-    let mut first = Catalogue::new(alloc);
-    let mut second = Catalogue::new(alloc);
-    assert_eq!(rt; first.put(cluster(alloc, A)?, 1)?, Stamp::new(1, 1));
-    assert_eq!(rt; second.put(cluster(alloc, A_LATER)?, 2)?, Stamp::new(1, 2));
-    let (from_first, from_second) = (sent(alloc, &first)?, sent(alloc, &second)?);
-    assert_eq!(rt; first.join_all(from_second)?, 1);
-    assert_eq!(rt; second.join_all(from_first)?, 0);
-    assert_eq!(rt; first.join_all(sent(alloc, &second)?)?, 0);
-    assert_eq!(rt; second.join_all(sent(alloc, &first)?)?, 0);
-    assert_eq!(rt; seen(&first, "a"), Some((1, 2, Some(A_LATER))));
-    assert_eq!(rt; seen(&second, "a"), Some((1, 2, Some(A_LATER))));
-    assert_eq!(rt; (first.changes(), second.changes()), (2, 1));
-    Ok(())
+    hold::<Exchange, HostRuntime>(
+        &rt,
+        r#"{"@type":"CDS","name":"a"} and {"@type":"CDS","name":"a","x":1} => 1 0 0 1-2{"@type":"CDS","name":"a","x":1} 1-2{"@type":"CDS","name":"a","x":1}"#,
+    )
 }
 
 #[test]
-fn deletion_stays(rt: HostRuntime) -> Result<(), Fail> {
-    let alloc = rt.alloc();
-    let mut catalogue = Catalogue::new(alloc);
-    catalogue.put(cluster(alloc, A)?, 1)?;
-    let old = sent(alloc, &catalogue)?;
-    let old_again = sent(alloc, &catalogue)?;
-    assert_eq!(rt; catalogue.delete("a", 1)?, Stamp::new(2, 1));
-    assert_eq!(rt; catalogue.join_all(old)?, 0);
-    assert_eq!(rt; catalogue.join_all(old_again)?, 0);
-    assert_eq!(rt; seen(&catalogue, "a"), Some((2, 1, None)));
-    assert_eq!(rt; shown(alloc, &catalogue, &[])?.as_str(), "");
-    assert!(rt; catalogue.delete("a", 1) == Err(Refusal::NotFound));
-    assert!(rt; catalogue.delete("b", 1) == Err(Refusal::NotFound));
-    assert_eq!(rt; catalogue.put(cluster(alloc, A)?, 1)?, Stamp::new(3, 1));
-    assert_eq!(rt; catalogue.put(cluster(alloc, A)?, 1)?, Stamp::new(4, 1));
-    let copy = catalogue.try_copy(alloc)?;
-    assert_eq!(rt;
-        (seen(&copy, "a"), copy.changes()),
-        (Some((4, 1, Some(A))), 4)
-    );
-    Ok(())
-}
-
-#[test]
-fn counter_is_spent(rt: HostRuntime) -> Result<(), Fail> {
-    let alloc = rt.alloc();
-    let mut catalogue = Catalogue::new(alloc);
-    let last = Stamp::new(9_223_372_036_854_775_807, 9);
-    let write = Write::put(last, cluster(alloc, A)?);
-    assert_eq!(rt; catalogue.join_write(write)?, 1);
-    assert!(rt; catalogue.put(cluster(alloc, B)?, 1) == Err(Refusal::CounterSpent));
-    assert!(rt; catalogue.delete("a", 1) == Err(Refusal::CounterSpent));
-    assert!(rt; catalogue.delete("b", 1) == Err(Refusal::NotFound));
-    assert_eq!(rt;
-        seen(&catalogue, "a"),
-        Some((9_223_372_036_854_775_807, 9, Some(A)))
-    );
-    assert_eq!(rt; (seen(&catalogue, "b"), catalogue.changes()), (None, 1));
-    Ok(())
-}
-
-// Four writes of one name: two puts that tie on the counter, a deletion, and a put above it.
-fn numbered(alloc: Global, number: u8) -> Result<Write<Cluster>, Refusal> {
-    Ok(match number {
-        0 => Write::put(Stamp::new(1, 1), cluster(alloc, A)?),
-        1 => Write::put(Stamp::new(1, 2), cluster(alloc, A)?),
-        2 => Write::deletion(Stamp::new(2, 1), ArcStr::from_str(alloc, "a")?),
-        _ => Write::put(Stamp::new(2, 1), cluster(alloc, A_LATER)?),
-    })
-}
-
-// What stands once the four came in this order, each twice.
-fn after(alloc: Global, order: [u8; 4]) -> Result<Catalogue<Cluster>, Refusal> {
-    let mut catalogue = Catalogue::new(alloc);
-    for number in order {
-        catalogue.join_write(numbered(alloc, number)?)?;
-        catalogue.join_write(numbered(alloc, number)?)?;
-    }
-    Ok(catalogue)
-}
-
-// The orders of four things.
-fn orders(alloc: Global) -> Result<Vec<[u8; 4]>, Refusal> {
-    let mut orders = Vec::new(alloc);
-    for first in 0..4_u8 {
-        for second in 0..4_u8 {
-            for third in 0..4_u8 {
-                if first != second && first != third && second != third {
-                    orders.push([first, second, third, 6 - first - second - third])?;
-                }
-            }
-        }
-    }
-    Ok(orders)
-}
-
-#[test]
-fn order_of_arrival_does_not_matter(rt: HostRuntime) -> Result<(), Fail> {
-    let orders = orders(rt.alloc())?;
-    assert_eq!(rt; orders.len(), 24);
-    for order in &orders {
-        let catalogue = after(rt.alloc(), *order)?;
-        assert_eq!(rt; seen(&catalogue, "a"), Some((2, 1, Some(A_LATER))));
-    }
-    Ok(())
-}
-
-#[test]
-fn clients_see_what_they_want(rt: HostRuntime) -> Result<(), Fail> {
-    let alloc = rt.alloc();
-    let mut clusters = Catalogue::new(alloc);
-    clusters.put(cluster(alloc, B)?, 1)?;
-    clusters.put(cluster(alloc, A)?, 1)?;
-    assert_eq!(rt; shown(alloc, &clusters, &[])?.as_str(), "ab");
-    assert_eq!(rt; shown(alloc, &clusters, &["*", "c"])?.as_str(), "ab");
-    assert_eq!(rt; shown(alloc, &clusters, &["b", "c"])?.as_str(), "b");
-    let mut routes = Catalogue::<Route>::new(alloc);
-    routes.put(Resource::parse(alloc, R)?, 1)?;
-    assert_eq!(rt; shown(alloc, &routes, &["*"])?.as_str(), "");
-    assert_eq!(rt; shown(alloc, &routes, &["r"])?.as_str(), "r");
-    Ok(())
+fn routes_are_seen_by_name_alone(rt: HostRuntime) -> Result<(), Fail> {
+    hold::<RouteAnswers, HostRuntime>(
+        &rt,
+        r#"put {"@type":"RDS","name":"r"}; want ; want *; want r =>  1-1   r"#,
+    )
 }

@@ -1,48 +1,54 @@
 // What a client wants of one type.
-use std::alloc::{AllocError, Global};
+use crate::cases::{Outcome, hold, words_of};
+use std::alloc::Global;
 use std::test::Fail;
 use xds_interest::Interest;
-use xds_resource::{Cluster, Endpoint, ResourceType, Route};
+use xds_resource::{Cluster, Endpoint, Refusal, ResourceType, Route};
 
-fn names(alloc: Global, texts: &[&str]) -> Result<Vec<String>, AllocError> {
-    let mut names = Vec::new(alloc);
-    for text in texts {
-        names.push(String::from_str(alloc, text)?)?;
+// Whether an interest has the star, and which of the names `A`, `B` and `*` it covers.
+fn told_of<T: ResourceType>(alloc: Global, text: &str) -> Result<String, Refusal> {
+    let names = words_of(alloc, text)?;
+    let interest = Interest::<T>::of_list(alloc, &names)?.try_copy(alloc)?;
+    let mut all = String::from_str(
+        alloc,
+        if interest.has_star() {
+            "star:"
+        } else {
+            "names:"
+        },
+    )?;
+    for name in ["A", "B", "*"].as_slice() {
+        if interest.covers(name) {
+            all.push_str(name)?;
+        }
     }
-    Ok(names)
+    Ok(all)
 }
 
-// Whether the interest has the star, and whether it covers A and B.
-fn seen<T: ResourceType>(interest: &Interest<T>) -> (bool, bool, bool) {
-    (
-        interest.has_star(),
-        interest.covers("A"),
-        interest.covers("B"),
+struct Wanted;
+
+impl Outcome for Wanted {
+    fn of(alloc: Global, given: &str) -> Result<String, Fail> {
+        let (word, names) = given.split_once(':').ok_or("no type")?;
+        Ok(match word {
+            "cluster" => told_of::<Cluster>(alloc, names)?,
+            "endpoint" => told_of::<Endpoint>(alloc, names)?,
+            _ => told_of::<Route>(alloc, names)?,
+        })
+    }
+}
+
+#[test]
+fn a_list_makes_an_interest(rt: HostRuntime) -> Result<(), Fail> {
+    hold::<Wanted, HostRuntime>(
+        &rt,
+        "cluster: => star:AB*
+cluster: * A A => star:AB*
+cluster: A A => names:A
+cluster: A B => names:AB
+route: * => names:*
+route: => names:
+endpoint: => names:
+endpoint: B => names:B",
     )
-}
-
-#[test]
-fn interest_in_clusters(rt: HostRuntime) -> Result<(), Fail> {
-    for (texts, want) in [
-        ([].as_slice(), (true, true, true)),
-        (["*", "A", "A"].as_slice(), (true, true, true)),
-        (["A", "A"].as_slice(), (false, true, false)),
-    ] {
-        let list = names(rt.alloc(), texts)?;
-        let interest = Interest::<Cluster>::of_list(rt.alloc(), &list)?;
-        assert_eq!(rt; seen(&interest), want);
-        assert_eq!(rt; seen(&interest.try_copy(rt.alloc())?), want);
-    }
-    Ok(())
-}
-
-#[test]
-fn star_of_routes_is_a_name(rt: HostRuntime) -> Result<(), Fail> {
-    let list = names(rt.alloc(), &["*"])?;
-    let interest = Interest::<Route>::of_list(rt.alloc(), &list)?;
-    assert_eq!(rt; seen(&interest), (false, false, false));
-    assert!(rt; interest.covers("*"));
-    let nothing = Interest::<Endpoint>::of_list(rt.alloc(), &[])?;
-    assert_eq!(rt; seen(&nothing), (false, false, false));
-    Ok(())
 }

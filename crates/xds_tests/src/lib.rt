@@ -3,11 +3,15 @@
 #![tactic(auto)]
 
 #[cfg(test)]
+mod cases;
+#[cfg(test)]
 mod catalogue;
 #[cfg(test)]
 mod interest;
 #[cfg(test)]
 mod message;
+#[cfg(test)]
+mod program;
 #[cfg(test)]
 mod resource;
 #[cfg(test)]

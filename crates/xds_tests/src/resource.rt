@@ -1,331 +1,218 @@
-// Resources, writes and refusals.
+// Resources, and the types and refusals that tell of them.
+use crate::cases::{Outcome, first_word, hold, told};
 use serde_json::Value;
 use std::alloc::Global;
-use std::process::Abort;
-use std::sync::ArcStr;
 use std::test::Fail;
 use xds_resource::{
-    AnyResource, AnyWrite, Cluster, Endpoint, Listener, Refusal, Resource, ResourceType, Route,
-    Stamp, TypeName, Write,
+    AnyResource, Cluster, Endpoint, Listener, Refusal, Resource, ResourceType, Route, TypeName,
 };
 
-const CLUSTER: &str = "type.googleapis.com/envoy.config.cluster.v3.Cluster";
+// Name and body of the resource that a text is, after the word of its type.
+struct ParsedText;
 
-const ENDPOINT: &str = "type.googleapis.com/envoy.config.endpoint.v3.ClusterLoadAssignment";
-
-// An object of the type, with these members after `@type`.
-fn object(alloc: Global, url: &str, members: &str) -> Result<String, Fail> {
-    Ok(format!(in alloc; "{{\"@type\":\"{url}\"{members}}}")?)
-}
-
-fn refusal_of<T: ResourceType>(alloc: Global, text: &str) -> Option<Refusal> {
-    match Resource::<T>::parse(alloc, text) {
-        Ok(_) => None,
-        Err(refusal) => Some(refusal),
-    }
-}
-
-// A cluster `a` whose `x` nests this deep.
-fn nested_cluster(alloc: Global, deep: usize) -> Result<String, Fail> {
-    let mut members = String::from_str(alloc, ",\"name\":\"a\",\"x\":")?;
-    for _ in 0..deep {
-        members.push_str("[")?;
-    }
-    for _ in 0..deep {
-        members.push_str("]")?;
-    }
-    object(alloc, CLUSTER, members.as_str())
-}
-
-// A text of this many times the piece.
-fn repeated(alloc: Global, piece: &str, times: usize) -> Result<String, Fail> {
-    let mut text = String::new(alloc);
-    for _ in 0..times {
-        text.push_str(piece)?;
-    }
-    Ok(text)
-}
-
-#[test]
-fn cluster_is_read(rt: HostRuntime) -> Result<(), Fail> {
-    let alloc = rt.alloc();
-    let text = object(alloc, CLUSTER, ", \"x\": [ 1, -2 ] , \"name\":\"\\u0061\"")?;
-    let cluster = Resource::<Cluster>::parse(alloc, text.as_str())?;
-    assert_eq!(rt; cluster.name(), "a");
-    let wanted =
-        "{\"@type\":\"type.googleapis.com/envoy.config.cluster.v3.Cluster\",\"name\":\"a\",\"x\":[1,-2]}";
-    assert_eq!(rt; cluster.body(), wanted);
-    let copy = cluster.try_copy(alloc)?;
-    assert_eq!(rt; copy.body(), wanted);
-    let value = cluster.value(alloc)?;
-    let again = Resource::<Cluster>::from_value(alloc, value)?;
-    assert_eq!(rt; again.body(), wanted);
-    Ok(())
-}
-
-#[test]
-fn the_first_fault_is_told(rt: HostRuntime) -> Result<(), Fail> {
-    let alloc = rt.alloc();
-    for (members, wanted) in [
-        (",\"name\":\"a\"", None),
-        (",\"name\":\"a\",\"x\":1.5", Some(Refusal::NotWhole)),
-        (",\"name\":\"a\",\"x\":1e2", Some(Refusal::NotWhole)),
-        (",\"name\":\"a\",\"x\":18446744073709551615", None),
-        (
-            ",\"name\":\"a\",\"x\":18446744073709551616",
-            Some(Refusal::NotWhole),
-        ),
-        (",\"name\":\"a\",\"x\":-9223372036854775808", None),
-        (
-            ",\"name\":\"a\",\"x\":-9223372036854775809",
-            Some(Refusal::NotWhole),
-        ),
-        (",\"name\":\"*\"", Some(Refusal::BadName)),
-        (",\"name\":\"**\"", None),
-        (",\"name\":\"\"", Some(Refusal::BadName)),
-        (",\"name\":null", Some(Refusal::BadName)),
-        ("", Some(Refusal::BadName)),
-        (",\"name\":7", Some(Refusal::BadResource)),
-        (",\"name\":7,\"x\":0.5", Some(Refusal::NotWhole)),
-        (
-            ",\"name\":\"a\",\"@type\":\"x\"",
-            Some(Refusal::BadResource),
-        ),
-        (",\"name\":\"a\"}", Some(Refusal::NotJson)),
-    ] {
-        let text = object(alloc, CLUSTER, members)?;
-        assert_eq!(rt;
-            refusal_of::<Cluster>(alloc, text.as_str()),
-            wanted,
-            "{members}"
-        );
-    }
-    for text in ["[]", "7", "\"a\"", "null", "{}", "{\"name\":\"a\"}"] {
-        assert_eq!(rt;
-            refusal_of::<Cluster>(alloc, text),
-            Some(Refusal::BadResource),
-            "{text}"
-        );
-    }
-    assert_eq!(rt;
-        refusal_of::<Listener>(alloc, object(alloc, CLUSTER, ",\"name\":\"a\"")?.as_str()),
-        Some(Refusal::BadResource)
-    );
-    assert_eq!(rt; refusal_of::<Route>(alloc, ""), Some(Refusal::NotJson));
-    Ok(())
-}
-
-#[test]
-fn nesting_has_a_limit(rt: HostRuntime) -> Result<(), Fail> {
-    let alloc = rt.alloc();
-    for (deep, wanted) in [
-        (99, None),
-        (100, Some(Refusal::TooDeep)),
-        (126, Some(Refusal::TooDeep)),
-        (127, Some(Refusal::NotJson)),
-        (10_000, Some(Refusal::NotJson)),
-    ] {
-        let text = nested_cluster(alloc, deep)?;
-        assert_eq!(rt;
-            refusal_of::<Cluster>(alloc, text.as_str()),
-            wanted,
-            "{deep}"
-        );
-    }
-    Ok(())
-}
-
-#[test]
-fn names_have_a_limit_in_bytes(rt: HostRuntime) -> Result<(), Fail> {
-    let alloc = rt.alloc();
-    for (piece, times, wanted) in [
-        ("n", 1024, None),
-        ("n", 1025, Some(Refusal::BadName)),
-        ("\u{e9}", 512, None),
-        ("\u{e9}", 513, Some(Refusal::BadName)),
-        ("\u{1f980}", 256, None),
-        ("\u{1f980}", 257, Some(Refusal::BadName)),
-    ] {
-        let name = repeated(alloc, piece, times)?;
-        let members = format!(in alloc; ",\"name\":\"{name}\"")?;
-        let text = object(alloc, CLUSTER, members.as_str())?;
-        assert_eq!(rt;
-            refusal_of::<Cluster>(alloc, text.as_str()),
-            wanted,
-            "{piece} {times}"
-        );
-    }
-    Ok(())
-}
-
-#[test]
-fn texts_have_a_limit_in_bytes(rt: HostRuntime) -> Result<(), Fail> {
-    let alloc = rt.alloc();
-    let bare = object(alloc, CLUSTER, ",\"name\":\"a\"")?;
-    for (length, wanted) in [(1_048_576, None), (1_048_577, Some(Refusal::TooLong))] {
-        let mut text = bare.clone()?;
-        for _ in text.len()..length {
-            text.push_str(" ")?;
+impl Outcome for ParsedText {
+    fn of(alloc: Global, given: &str) -> Result<String, Fail> {
+        let (word, text) = first_word(given)?;
+        match TypeName::from_word(word).ok_or("no type")? {
+            TypeName::Cluster => told(alloc, parsed::<Cluster>(alloc, text)),
+            TypeName::Endpoint => told(alloc, parsed::<Endpoint>(alloc, text)),
+            TypeName::Listener => told(alloc, parsed::<Listener>(alloc, text)),
+            TypeName::Route => told(alloc, parsed::<Route>(alloc, text)),
         }
-        assert_eq!(rt;
-            refusal_of::<Cluster>(alloc, text.as_str()),
-            wanted,
-            "{length}"
-        );
     }
-    Ok(())
+}
+
+fn parsed<T: ResourceType>(alloc: Global, text: &str) -> Result<String, Refusal> {
+    let resource = Resource::<T>::parse(alloc, text)?;
+    seen(alloc, resource.name(), resource.body())
+}
+
+fn seen(alloc: Global, name: &str, body: &str) -> Result<String, Refusal> {
+    let mut seen = String::from_str(alloc, name)?;
+    seen.push_str(" ")?;
+    seen.push_str(body)?;
+    Ok(seen)
 }
 
 #[test]
-fn values_are_judged_by_their_compact_text(rt: HostRuntime) -> Result<(), Fail> {
-    let alloc = rt.alloc();
-    // 74 bytes of the bare cluster, 7 for `,"x":""` and the filling.
-    for (filling, wanted) in [(1_048_495, None), (1_048_496, Some(Refusal::TooLong))] {
-        let x = repeated(alloc, "y", filling)?;
-        let members = format!(in alloc; ",\"name\":\"a\",\"x\":\"{x}\"")?;
-        let value = Value::from_str(alloc, object(alloc, CLUSTER, members.as_str())?.as_str())?;
-        let found = match Resource::<Cluster>::from_value(alloc, value) {
-            Ok(_) => None,
-            Err(refusal) => Some(refusal),
-        };
-        assert_eq!(rt; found, wanted, "{filling}");
-    }
-    Ok(())
+fn the_first_fault_of_a_text_is_told(rt: HostRuntime) -> Result<(), Fail> {
+    hold::<ParsedText, HostRuntime>(
+        &rt,
+        r#"cluster {"@type":"CDS", "x": [ 1, -2 ] , "name":"\u0061"} => a {"@type":"CDS","name":"a","x":[1,-2]}
+cluster {"@type":"CDS","name":"a","x":18446744073709551615} => a {"@type":"CDS","name":"a","x":18446744073709551615}
+cluster {"@type":"CDS","name":"a","x":-9223372036854775808} => a {"@type":"CDS","name":"a","x":-9223372036854775808}
+cluster {"@type":"CDS","name":"**"} => ** {"@type":"CDS","name":"**"}
+cluster {"@type":"CDS","name":"a","x":1.5} => 3 NotWhole
+cluster {"@type":"CDS","name":"a","x":1e2} => 3 NotWhole
+cluster {"@type":"CDS","name":"a","x":18446744073709551616} => 3 NotWhole
+cluster {"@type":"CDS","name":"a","x":-9223372036854775809} => 3 NotWhole
+cluster {"@type":"CDS","name":7,"x":0.5} => 3 NotWhole
+cluster {"@type":"CDS","name":"*"} => 5 BadName
+cluster {"@type":"CDS","name":""} => 5 BadName
+cluster {"@type":"CDS","name":null} => 5 BadName
+cluster {"@type":"CDS"} => 5 BadName
+cluster {"@type":"CDS","name":7} => 4 BadResource
+cluster {"@type":"CDS","name":"a","@type":"x"} => 4 BadResource
+cluster {"name":"a"} => 4 BadResource
+cluster {} => 4 BadResource
+cluster [] => 4 BadResource
+cluster 7 => 4 BadResource
+cluster "a" => 4 BadResource
+cluster null => 4 BadResource
+listener {"@type":"CDS","name":"a"} => 4 BadResource
+cluster {"@type":"CDS","name":"a"}} => 1 NotJson
+route  => 1 NotJson
+endpoint {"@type":"EDS","clusterName":"a"} => a {"@type":"EDS","clusterName":"a"}
+endpoint {"@type":"EDS","cluster_name":"b"} => b {"@type":"EDS","cluster_name":"b"}
+endpoint {"@type":"EDS","clusterName":"a","cluster_name":"b"} => a {"@type":"EDS","clusterName":"a","cluster_name":"b"}
+endpoint {"@type":"EDS","clusterName":"a","cluster_name":7} => a {"@type":"EDS","clusterName":"a","cluster_name":7}
+endpoint {"@type":"EDS","clusterName":null,"cluster_name":"b"} => 5 BadName
+endpoint {"@type":"EDS","clusterName":7,"cluster_name":"b"} => 4 BadResource
+endpoint {"@type":"EDS","name":"a"} => 5 BadName"#,
+    )
 }
 
 #[test]
-fn both_spellings_of_a_name(rt: HostRuntime) -> Result<(), Fail> {
-    let alloc = rt.alloc();
-    for (members, wanted) in [
-        (",\"clusterName\":\"a\"", "a"),
-        (",\"cluster_name\":\"b\"", "b"),
-        (",\"clusterName\":\"a\",\"cluster_name\":\"b\"", "a"),
-        (",\"clusterName\":\"a\",\"cluster_name\":7", "a"),
-    ] {
-        let text = object(alloc, ENDPOINT, members)?;
-        let endpoint = Resource::<Endpoint>::parse(alloc, text.as_str())?;
-        assert_eq!(rt; endpoint.name(), wanted, "{members}");
+fn depth_names_and_texts_have_limits(rt: HostRuntime) -> Result<(), Fail> {
+    hold::<ParsedText, HostRuntime>(
+        &rt,
+        r#"cluster {"@type":"CDS","name":"a","x":<[*99><]*99>} => a {"@type":"CDS","name":"a","x":<[*99><]*99>}
+cluster {"@type":"CDS","name":"a","x":<[*100><]*100>} => 2 TooDeep
+cluster {"@type":"CDS","name":"a","x":<[*126><]*126>} => 2 TooDeep
+cluster {"@type":"CDS","name":"a","x":<[*127><]*127>} => 1 NotJson
+cluster {"@type":"CDS","name":"a","x":<[*10000><]*10000>} => 1 NotJson
+cluster {"@type":"CDS","name":"<n*1024>"} => <n*1024> {"@type":"CDS","name":"<n*1024>"}
+cluster {"@type":"CDS","name":"<n*1025>"} => 5 BadName
+cluster {"@type":"CDS","name":"<é*512>"} => <é*512> {"@type":"CDS","name":"<é*512>"}
+cluster {"@type":"CDS","name":"<é*513>"} => 5 BadName
+cluster {"@type":"CDS","name":"<🦀*256>"} => <🦀*256> {"@type":"CDS","name":"<🦀*256>"}
+cluster {"@type":"CDS","name":"<🦀*257>"} => 5 BadName
+cluster {"@type":"CDS","name":"a"}< *1048502> => a {"@type":"CDS","name":"a"}
+cluster {"@type":"CDS","name":"a"}< *1048503> => 6 TooLong"#,
+    )
+}
+
+// The same of the value that a text spells, which is judged by its compact text.
+struct FromValue;
+
+impl Outcome for FromValue {
+    fn of(alloc: Global, given: &str) -> Result<String, Fail> {
+        let value = Value::from_str(alloc, given)?;
+        told(alloc, from_value(alloc, value))
     }
-    for (members, wanted) in [
-        (
-            ",\"clusterName\":null,\"cluster_name\":\"b\"",
-            Refusal::BadName,
-        ),
-        (
-            ",\"clusterName\":7,\"cluster_name\":\"b\"",
-            Refusal::BadResource,
-        ),
-        (",\"name\":\"a\"", Refusal::BadName),
-    ] {
-        let text = object(alloc, ENDPOINT, members)?;
-        assert_eq!(rt;
-            refusal_of::<Endpoint>(alloc, text.as_str()),
-            Some(wanted),
-            "{members}"
-        );
+}
+
+fn from_value(alloc: Global, value: Value) -> Result<String, Refusal> {
+    let resource = Resource::<Cluster>::from_value(alloc, value)?;
+    let copy = resource.try_copy(alloc)?;
+    let again = Resource::<Cluster>::from_value(alloc, copy.value(alloc)?)?;
+    seen(alloc, again.name(), again.body())
+}
+
+#[test]
+fn the_first_fault_of_a_value_is_told(rt: HostRuntime) -> Result<(), Fail> {
+    hold::<FromValue, HostRuntime>(
+        &rt,
+        r#"{"name":"a", "@type":"CDS"} => a {"@type":"CDS","name":"a"}
+{"@type":"CDS","name":"a","x":"<y*1048495>"} => a {"@type":"CDS","name":"a","x":"<y*1048495>"}
+{"@type":"CDS","name":"a","x":"<y*1048496>"} => 6 TooLong
+{"@type":"CDS","name":"","x":"<y*1048497>"} => 6 TooLong
+{"@type":"CDS","name":"a","x":<[*100>0.5<]*100>} => 3 NotWhole
+{"@type":"EDS","clusterName":"a"} => 4 BadResource"#,
+    )
+}
+
+// Type, name and body of the resource that a text is, whatever its type.
+struct AnyText;
+
+impl Outcome for AnyText {
+    fn of(alloc: Global, given: &str) -> Result<String, Fail> {
+        told(alloc, parsed_as_any(alloc, given))
     }
-    Ok(())
+}
+
+fn parsed_as_any(alloc: Global, text: &str) -> Result<String, Refusal> {
+    let resource = AnyResource::parse(alloc, text)?.try_copy(alloc)?;
+    let word = resource.type_name().word();
+    let name = seen(alloc, resource.name(), resource.body())?;
+    seen(alloc, word, name.as_str())
 }
 
 #[test]
 fn the_type_tells_which_resource_it_is(rt: HostRuntime) -> Result<(), Fail> {
-    let alloc = rt.alloc();
-    for type_name in TypeName::ALL {
-        let field = type_name.name_field();
-        let members = format!(in alloc; ",\"{field}\":\"a\"")?;
-        let text = object(alloc, type_name.url(), members.as_str())?;
-        let resource = AnyResource::parse(alloc, text.as_str())?;
-        assert_eq!(rt; resource.type_name(), type_name);
-        assert_eq!(rt; resource.name(), "a");
-        let copy = resource.try_copy(alloc)?;
-        assert_eq!(rt; copy.body(), resource.body());
-        assert_eq!(rt; TypeName::from_word(type_name.word()), Some(type_name));
-        assert_eq!(rt; TypeName::from_url(type_name.url()), Some(type_name));
-    }
-    let unknown = object(alloc, "type.googleapis.com/x.Y", ",\"name\":\"a\"")?;
-    for (text, wanted) in [
-        (unknown.as_str(), Refusal::BadResource),
-        ("{\"x\":1.5}", Refusal::NotWhole),
-        ("{", Refusal::NotJson),
-    ] {
-        match AnyResource::parse(alloc, text) {
-            Ok(_) => assert!(rt; false, "{text}"),
-            Err(refusal) => assert_eq!(rt; refusal, wanted, "{text}"),
-        }
-    }
-    Ok(())
+    hold::<AnyText, HostRuntime>(
+        &rt,
+        r#"{"@type":"CDS","name":"a"} => cluster a {"@type":"CDS","name":"a"}
+{"@type":"EDS","clusterName":"a"} => endpoint a {"@type":"EDS","clusterName":"a"}
+{"@type":"LDS","name":"a"} => listener a {"@type":"LDS","name":"a"}
+{"@type":"RDS","name":"a"} => route a {"@type":"RDS","name":"a"}
+{"@type":"type.googleapis.com/x.Y","name":"a"} => 4 BadResource
+{"x":1.5} => 3 NotWhole
+{ => 1 NotJson"#,
+    )
 }
 
-fn cluster_write(
-    alloc: Global,
-    counter: u64,
-    writer: u16,
-    members: &str,
-) -> Result<Write<Cluster>, Fail> {
-    let text = object(alloc, CLUSTER, members)?;
-    let version = format!(in alloc; "{counter}-{writer}")?;
-    let stamp = Stamp::parse_version(version.as_str())?;
-    Ok(Write::put(stamp, Resource::parse(alloc, text.as_str())?))
+// The row of the type that a word names.
+struct RowOf;
+
+impl Outcome for RowOf {
+    fn of(alloc: Global, given: &str) -> Result<String, Fail> {
+        let Some(type_name) = TypeName::from_word(given) else {
+            return Ok(String::from_str(alloc, "none")?);
+        };
+        let url = type_name.url();
+        let again = TypeName::from_url(url).ok_or("no type of this URL")?.word();
+        let names = seen(alloc, type_name.name_field(), type_name.proto_name_field())?;
+        let whole = if type_name.is_complete() {
+            "complete"
+        } else {
+            "incomplete"
+        };
+        let end = seen(alloc, whole, type_name.rest_path())?;
+        let start = seen(alloc, again, url)?;
+        let rest = seen(alloc, names.as_str(), end.as_str())?;
+        Ok(seen(alloc, start.as_str(), rest.as_str())?)
+    }
 }
 
 #[test]
-fn writes_are_ordered(rt: HostRuntime) -> Result<(), Fail> {
-    let alloc = rt.alloc();
-    let stamp = Stamp::parse_version("2-1")?;
-    let ascending = [
-        cluster_write(alloc, 1, 2, ",\"name\":\"b\",\"x\":9")?,
-        Write::deletion(stamp, ArcStr::from_str(alloc, "b")?),
-        cluster_write(alloc, 2, 1, ",\"name\":\"b\",\"x\":1")?,
-        cluster_write(alloc, 2, 1, ",\"name\":\"b\",\"x\":2")?,
-        cluster_write(alloc, 2, 2, ",\"name\":\"a\"")?,
-    ];
-    for (i, lower) in ascending.iter().enumerate() {
-        for (j, higher) in ascending.iter().enumerate() {
-            assert_eq!(rt; lower.cmp(higher), i.cmp(&j), "{i} {j}");
-            assert_eq!(rt; *lower == *higher, i == j, "{i} {j}");
-        }
-        let copy = lower.try_copy(alloc)?;
-        assert!(rt; copy == *lower, "{i}");
-    }
-    Ok(())
-}
-
-#[test]
-fn writes_show_what_they_hold(rt: HostRuntime) -> Result<(), Fail> {
-    let alloc = rt.alloc();
-    let write = AnyWrite::Cluster(cluster_write(alloc, 12, 3, ",\"name\":\"a\"")?);
-    assert_eq!(rt; write.type_name(), TypeName::Cluster);
-    assert_eq!(rt; write.name(), "a");
-    assert_eq!(rt; write.stamp().version_text(alloc)?.as_str(), "12-3");
-    let body = "{\"@type\":\"type.googleapis.com/envoy.config.cluster.v3.Cluster\",\"name\":\"a\"}";
-    assert_eq!(rt; write.body(), Some(body));
-    let copy = write.try_copy(alloc)?;
-    let value = copy.value(alloc)?.ok_or("no value")?;
-    assert_eq!(rt; value.to_string(alloc)?.as_str(), body);
-    Ok(())
+fn a_word_names_a_row_of_the_table(rt: HostRuntime) -> Result<(), Fail> {
+    assert!(rt; TypeName::from_url("cluster").is_none());
+    hold::<RowOf, HostRuntime>(
+        &rt,
+        r#"cluster => cluster CDS name name complete /v3/discovery:clusters
+endpoint => endpoint EDS clusterName cluster_name incomplete /v3/discovery:endpoints
+listener => listener LDS name name complete /v3/discovery:listeners
+route => route RDS name name incomplete /v3/discovery:routes
+CDS => none"#,
+    )
 }
 
 #[test]
 fn refusals_print_number_and_name(rt: HostRuntime) -> Result<(), Fail> {
     let alloc = rt.alloc();
-    for (refusal, wanted) in [
-        (Refusal::NotJson, "1 NotJson"),
-        (Refusal::TooDeep, "2 TooDeep"),
-        (Refusal::NotWhole, "3 NotWhole"),
-        (Refusal::BadResource, "4 BadResource"),
-        (Refusal::BadName, "5 BadName"),
-        (Refusal::TooLong, "6 TooLong"),
-        (Refusal::BadMessage, "7 BadMessage"),
-        (Refusal::OutOfMemory, "8 OutOfMemory"),
-        (Refusal::NotFound, "9 NotFound"),
-        (Refusal::CounterSpent, "10 CounterSpent"),
-        (Refusal::BadStamp, "11 BadStamp"),
-        (Refusal::Device, "19 Device"),
-    ] {
-        assert_eq!(rt; refusal.to_string(alloc)?.as_str(), wanted);
-        let number = refusal.number();
-        let name = refusal.name();
-        assert_eq!(rt; format!(in alloc; "{number} {name}")?.as_str(), wanted);
+    let mut printed = String::new(alloc);
+    for refusal in [
+        Refusal::NotJson,
+        Refusal::TooDeep,
+        Refusal::NotWhole,
+        Refusal::BadResource,
+        Refusal::BadName,
+        Refusal::TooLong,
+        Refusal::BadMessage,
+        Refusal::OutOfMemory,
+        Refusal::NotFound,
+        Refusal::CounterSpent,
+        Refusal::BadStamp,
+        Refusal::Device,
+    ]
+    .as_slice()
+    {
+        printed.push_str(refusal.to_string(alloc)?.as_str())?;
+        printed.push_str(" ")?;
     }
+    let wanted =
+        "1 NotJson 2 TooDeep 3 NotWhole 4 BadResource 5 BadName 6 TooLong 7 BadMessage 8 OutOfMemory 9 NotFound 10 CounterSpent 11 BadStamp 19 Device ";
+    assert_eq!(rt; printed.as_str(), wanted);
     Ok(())
 }

@@ -1,61 +1,56 @@
-// Stamps and version texts.
+// Stamps and version texts, and the order of writes.
+use crate::cases::{Outcome, first_word, hold, told};
+use std::alloc::Global;
+use std::sync::ArcStr;
+use std::cmp::Ordering;
 use std::test::Fail;
 use xds_resource::stamp::MAX_COUNTER;
-use xds_resource::{Refusal, Stamp};
+use xds_resource::{Cluster, Refusal, Resource, ResourceType, Stamp, Write};
 
-#[test]
-fn versions_name_stamps(rt: HostRuntime) -> Result<(), Fail> {
-    let stamps = [
-        ("1-1", 1, 1),
-        ("12-3", 12, 3),
-        ("10-10", 10, 10),
-        (
-            "9223372036854775807-65535",
-            9_223_372_036_854_775_807,
-            65535,
-        ),
-    ];
-    for (text, counter, writer) in stamps {
-        let stamp = Stamp::parse_version(text)?;
-        assert_eq!(rt; stamp.counter, counter, "{text}");
-        assert_eq!(rt; stamp.writer, writer, "{text}");
-        assert_eq!(rt; stamp.version_text(rt.alloc())?.as_str(), text);
+// The version text of the stamp that a version text names.
+struct VersionAgain;
+
+impl Outcome for VersionAgain {
+    fn of(alloc: Global, given: &str) -> Result<String, Fail> {
+        let (_, text) = first_word(given)?;
+        told(alloc, version_again(alloc, text))
     }
-    Ok(())
+}
+
+fn version_again(alloc: Global, text: &str) -> Result<String, Refusal> {
+    Stamp::parse_version(text)?.version_text(alloc)
 }
 
 #[test]
-fn other_texts_name_none(rt: HostRuntime) {
-    let texts = [
-        "",
-        "-",
-        "1",
-        "1-",
-        "-1",
-        "0-1",
-        "1-0",
-        "01-1",
-        "1-01",
-        "+1-1",
-        "1-+1",
-        "1 -1",
-        " 1-1",
-        "1-1 ",
-        "1-1-1",
-        "1--1",
-        "a-1",
-        "0x1-1",
-        "1-65536",
-        "9223372036854775808-1",
-        "18446744073709551616-1",
-    ];
-    for text in texts {
-        assert_eq!(rt;
-            Stamp::parse_version(text),
-            Err(Refusal::BadStamp),
-            "{text}"
-        );
-    }
+fn versions_name_stamps(rt: HostRuntime) -> Result<(), Fail> {
+    hold::<VersionAgain, HostRuntime>(
+        &rt,
+        "version 1-1 => 1-1
+version 12-3 => 12-3
+version 10-10 => 10-10
+version 9223372036854775807-65535 => 9223372036854775807-65535
+version  => 11 BadStamp
+version - => 11 BadStamp
+version 1 => 11 BadStamp
+version 1- => 11 BadStamp
+version -1 => 11 BadStamp
+version 0-1 => 11 BadStamp
+version 1-0 => 11 BadStamp
+version 01-1 => 11 BadStamp
+version 1-01 => 11 BadStamp
+version +1-1 => 11 BadStamp
+version 1-+1 => 11 BadStamp
+version 1 -1 => 11 BadStamp
+version  1-1 => 11 BadStamp
+version 1-1  => 11 BadStamp
+version 1-1-1 => 11 BadStamp
+version 1--1 => 11 BadStamp
+version a-1 => 11 BadStamp
+version 0x1-1 => 11 BadStamp
+version 1-65536 => 11 BadStamp
+version 9223372036854775808-1 => 11 BadStamp
+version 18446744073709551616-1 => 11 BadStamp",
+    )
 }
 
 #[test]
@@ -64,4 +59,47 @@ fn stamps_are_made(rt: HostRuntime) {
     assert_eq!(rt; stamp.counter, 9_223_372_036_854_775_807);
     assert!(rt; Stamp::new(2, 1) > Stamp::new(1, 2));
     assert!(rt; Stamp::new(2, 2) > Stamp::new(2, 1));
+}
+
+// How two writes stand, each given by its version and its name or its body.
+struct Compared;
+
+impl Outcome for Compared {
+    fn of(alloc: Global, given: &str) -> Result<String, Fail> {
+        let (first, second) = given.split_once(" and ").ok_or("no second write")?;
+        let first = write_of::<Cluster>(alloc, first)?;
+        let second = write_of::<Cluster>(alloc, second)?.try_copy(alloc)?;
+        let order = match first.cmp(&second) {
+            Ordering::Less => "less",
+            Ordering::Equal => "equal",
+            Ordering::Greater => "greater",
+        };
+        let is_same = (order == "equal") == (first == second);
+        Ok(String::from_str(alloc, if is_same { order } else { "at odds" })?)
+    }
+}
+
+/// The write of a version that puts a body, or that deletes `a` where `-` stands in the body's place.
+pub fn write_of<T: ResourceType>(alloc: Global, given: &str) -> Result<Write<T>, Refusal> {
+    let (version, body) = given.split_once(' ').ok_or(Refusal::BadMessage)?;
+    let stamp = Stamp::parse_version(version)?;
+    if body == "-" {
+        return Ok(Write::deletion(stamp, ArcStr::from_str(alloc, "a")?));
+    }
+    Ok(Write::put(stamp, Resource::parse(alloc, body)?))
+}
+
+#[test]
+fn writes_are_ordered(rt: HostRuntime) -> Result<(), Fail> {
+    hold::<Compared, HostRuntime>(
+        &rt,
+        r#"1-2 {"@type":"CDS","name":"a","x":9} and 2-1 - => less
+2-1 - and 2-1 {"@type":"CDS","name":"a","x":1} => less
+2-1 - and 2-1 - => equal
+2-1 {"@type":"CDS","name":"a","x":1} and 2-1 - => greater
+2-1 {"@type":"CDS","name":"a","x":1} and 2-1 {"@type":"CDS","name":"a","x":2} => less
+2-1 {"@type":"CDS","name":"a","x":2} and 2-1 {"@type":"CDS", "x":2,"name":"a"} => equal
+2-1 {"@type":"CDS","name":"b","x":2} and 2-2 {"@type":"CDS","name":"a"} => less
+2-2 {"@type":"CDS","name":"a"} and 1-2 {"@type":"CDS","name":"b","x":9} => greater"#,
+    )
 }

@@ -1,109 +1,102 @@
-// Worked examples of the stamped writes that replicas exchange.
+// The stamped writes that replicas exchange.
+use crate::cases::{Outcome, hold, told};
 use std::alloc::Global;
 use std::test::Fail;
 use xds_message::{read_write, write_object};
 use xds_resource::Refusal;
 
-const PUT: &str =
-    "{\"body\":{\"@type\":\"type.googleapis.com/envoy.config.cluster.v3.Cluster\",\"name\":\"a\",\"x\":1},\"counter\":1,\"name\":\"a\",\"typeUrl\":\"type.googleapis.com/envoy.config.cluster.v3.Cluster\",\"writer\":1}";
-
-const DELETION: &str =
-    "{\"counter\":9223372036854775807,\"name\":\"a\",\"typeUrl\":\"type.googleapis.com/envoy.config.endpoint.v3.ClusterLoadAssignment\",\"writer\":65535}";
-
 // What is written for the write that the text spells.
-fn rewritten(alloc: Global, text: &str) -> Result<String, Refusal> {
-    let write = read_write(alloc, text.as_bytes())?;
+struct WriteAgain;
+
+impl Outcome for WriteAgain {
+    fn of(alloc: Global, given: &str) -> Result<String, Fail> {
+        told(alloc, rewritten(alloc, given.as_bytes()))
+    }
+}
+
+fn rewritten(alloc: Global, bytes: &[u8]) -> Result<String, Refusal> {
+    let write = read_write(alloc, bytes)?;
     Ok(write_object(alloc, &write)?.to_string(alloc)?)
 }
 
 #[test]
-fn writes_of_each_type_are_written_as_they_were_read(rt: HostRuntime) -> Result<(), Fail> {
-    for text in [
-        PUT,
-        "{\"body\":{\"@type\":\"type.googleapis.com/envoy.config.endpoint.v3.ClusterLoadAssignment\",\"clusterName\":\"a\"},\"counter\":2,\"name\":\"a\",\"typeUrl\":\"type.googleapis.com/envoy.config.endpoint.v3.ClusterLoadAssignment\",\"writer\":3}",
-        "{\"body\":{\"@type\":\"type.googleapis.com/envoy.config.listener.v3.Listener\",\"address\":{},\"name\":\"b\"},\"counter\":10,\"name\":\"b\",\"typeUrl\":\"type.googleapis.com/envoy.config.listener.v3.Listener\",\"writer\":12}",
-        "{\"body\":{\"@type\":\"type.googleapis.com/envoy.config.route.v3.RouteConfiguration\",\"name\":\"**\"},\"counter\":1,\"name\":\"**\",\"typeUrl\":\"type.googleapis.com/envoy.config.route.v3.RouteConfiguration\",\"writer\":1}",
-        DELETION,
-    ] {
-        assert_eq!(rt; rewritten(rt.alloc(), text)?.as_str(), text);
-    }
-    Ok(())
-}
-
-#[test]
-fn other_spellings_of_a_write(rt: HostRuntime) -> Result<(), Fail> {
-    for (text, want) in [
-        (
-            " { \"writer\": 1, \"weight\": 0.5, \"typeUrl\": \"type.googleapis.com/envoy.config.cluster.v3.Cluster\", \"name\": \"\\u0061\", \"counter\": 1, \"body\": {\"x\": 1, \"name\": \"a\", \"@type\": \"type.googleapis.com/envoy.config.cluster.v3.Cluster\"} } ",
-            PUT,
-        ),
-        (
-            "{\"body\":null,\"counter\":9223372036854775807,\"name\":\"a\",\"typeUrl\":\"type.googleapis.com/envoy.config.endpoint.v3.ClusterLoadAssignment\",\"writer\":65535}",
-            DELETION,
-        ),
-    ] {
-        assert_eq!(rt; rewritten(rt.alloc(), text)?.as_str(), want, "at {text}");
-    }
-    Ok(())
-}
-
-// Each edit makes of the write that puts `a` a value that spells none.
-#[test]
-fn refuses_what_is_no_write(rt: HostRuntime) -> Result<(), Fail> {
-    let alloc = rt.alloc();
-    for (old, new) in [
-        ("\"counter\":1", "\"counter\":0"),
-        ("\"counter\":1", "\"counter\":9223372036854775808"),
-        ("\"counter\":1", "\"counter\":-1"),
-        ("\"counter\":1", "\"counter\":1.0"),
-        ("\"counter\":1", "\"counter\":\"1\""),
-        ("\"counter\":1", "\"counter\":null"),
-        ("\"counter\":1", "\"count\":1"),
-        ("\"writer\":1", "\"writer\":0"),
-        ("\"writer\":1", "\"writer\":65536"),
-        ("\"writer\":1", "\"writers\":1"),
-        ("1,\"name\":\"a\"", "1,\"name\":\"b\""),
-        ("1,\"name\":\"a\"", "1,\"name\":\"\""),
-        ("1,\"name\":\"a\"", "1,\"name\":null"),
-        ("1,\"name\":\"a\"", "1"),
-        ("\"name\":\"a\"", "\"name\":\"*\""),
-        (".Cluster\",\"name\"", ".Clusters\",\"name\""),
-        (".Cluster\",\"name\"", ".Cluster\",\"weight\":0.5,\"name\""),
-        (".Cluster\",\"writer\"", ".Clusters\",\"writer\""),
-        (
-            "cluster.v3.Cluster\",\"writer\"",
-            "listener.v3.Listener\",\"writer\"",
-        ),
-        ("\"typeUrl\"", "\"type_url\""),
-        ("\"body\":{", "\"body\":\"a\",\"bodies\":{"),
-        ("\"body\":{", "\"body\":[],\"bodies\":{"),
-    ] {
-        let text = PUT.replace(alloc, old, new)?;
-        assert_eq!(rt;
-            rewritten(alloc, &text).err(),
-            Some(Refusal::BadMessage),
-            "at {new}"
-        );
-    }
-    for text in ["[]", "null", "\"a\"", "{}"] {
-        assert_eq!(rt;
-            rewritten(alloc, text).err(),
-            Some(Refusal::BadMessage),
-            "at {text}"
-        );
-    }
-    Ok(())
-}
-
-#[test]
-fn refuses_what_is_no_json(rt: HostRuntime) {
-    for text in ["", "{", "{} {}"] {
-        assert_eq!(rt;
-            rewritten(rt.alloc(), text).err(),
-            Some(Refusal::NotJson),
-            "at {text}"
-        );
-    }
-    let latin = read_write(rt.alloc(), &[34, 255, 34]);
+fn writes_are_read(rt: HostRuntime) -> Result<(), Fail> {
+    let latin = rewritten(rt.alloc(), &[34, 255, 34]);
     assert_eq!(rt; latin.err(), Some(Refusal::NotJson));
+    hold::<WriteAgain, HostRuntime>(
+        &rt,
+        r#"{"body":{"@type":"CDS","name":"a","x":1},"counter":1,"name":"a","typeUrl":"CDS","writer":1} => {"body":{"@type":"CDS","name":"a","x":1},"counter":1,"name":"a","typeUrl":"CDS","writer":1}
+{"body":{"@type":"EDS","clusterName":"a"},"counter":2,"name":"a","typeUrl":"EDS","writer":3} => {"body":{"@type":"EDS","clusterName":"a"},"counter":2,"name":"a","typeUrl":"EDS","writer":3}
+{"body":{"@type":"LDS","address":{},"name":"b"},"counter":10,"name":"b","typeUrl":"LDS","writer":12} => {"body":{"@type":"LDS","address":{},"name":"b"},"counter":10,"name":"b","typeUrl":"LDS","writer":12}
+{"body":{"@type":"RDS","name":"**"},"counter":1,"name":"**","typeUrl":"RDS","writer":1} => {"body":{"@type":"RDS","name":"**"},"counter":1,"name":"**","typeUrl":"RDS","writer":1}
+{"counter":9223372036854775807,"name":"a","typeUrl":"EDS","writer":65535} => {"counter":9223372036854775807,"name":"a","typeUrl":"EDS","writer":65535}
+ { "writer": 1, "weight": 0.5, "typeUrl": "CDS", "name": "\u0061", "counter": 1, "body": {"x": 1, "name": "a", "@type": "CDS"} }  => {"body":{"@type":"CDS","name":"a","x":1},"counter":1,"name":"a","typeUrl":"CDS","writer":1}
+{"body":null,"counter":9223372036854775807,"name":"a","typeUrl":"EDS","writer":65535} => {"counter":9223372036854775807,"name":"a","typeUrl":"EDS","writer":65535}
+ => 1 NotJson
+{ => 1 NotJson
+{} {} => 1 NotJson"#,
+    )
+}
+
+#[test]
+fn other_values_are_no_writes(rt: HostRuntime) -> Result<(), Fail> {
+    hold::<WriteAgain, HostRuntime>(
+        &rt,
+        r#"{"counter":0,"name":"a","typeUrl":"CDS","writer":1} => 7 BadMessage
+{"counter":9223372036854775808,"name":"a","typeUrl":"CDS","writer":1} => 7 BadMessage
+{"counter":-1,"name":"a","typeUrl":"CDS","writer":1} => 7 BadMessage
+{"counter":1.0,"name":"a","typeUrl":"CDS","writer":1} => 7 BadMessage
+{"counter":"1","name":"a","typeUrl":"CDS","writer":1} => 7 BadMessage
+{"counter":null,"name":"a","typeUrl":"CDS","writer":1} => 7 BadMessage
+{"count":1,"name":"a","typeUrl":"CDS","writer":1} => 7 BadMessage
+{"counter":1,"name":"a","typeUrl":"CDS","writer":0} => 7 BadMessage
+{"counter":1,"name":"a","typeUrl":"CDS","writer":65536} => 7 BadMessage
+{"counter":1,"name":"a","typeUrl":"CDS","writers":1} => 7 BadMessage
+{"counter":1,"name":"","typeUrl":"CDS","writer":1} => 7 BadMessage
+{"counter":1,"name":null,"typeUrl":"CDS","writer":1} => 7 BadMessage
+{"counter":1,"typeUrl":"CDS","writer":1} => 7 BadMessage
+{"counter":1,"name":"*","typeUrl":"CDS","writer":1} => 7 BadMessage
+{"counter":1,"name":"a","typeUrl":"CDSs","writer":1} => 7 BadMessage
+{"counter":1,"name":"a","type_url":"CDS","writer":1} => 7 BadMessage
+{"body":{"@type":"CDS","name":"a"},"counter":1,"name":"b","typeUrl":"CDS","writer":1} => 7 BadMessage
+{"body":{"@type":"CDSs","name":"a"},"counter":1,"name":"a","typeUrl":"CDS","writer":1} => 7 BadMessage
+{"body":{"@type":"CDS","name":"a"},"counter":1,"name":"a","typeUrl":"LDS","writer":1} => 7 BadMessage
+{"body":{"@type":"CDS","weight":0.5,"name":"a"},"counter":1,"name":"a","typeUrl":"CDS","writer":1} => 7 BadMessage
+{"body":{"@type":"CDS","name":"*"},"counter":1,"name":"*","typeUrl":"CDS","writer":1} => 7 BadMessage
+{"body":"a","counter":1,"name":"a","typeUrl":"CDS","writer":1} => 7 BadMessage
+{"body":[],"counter":1,"name":"a","typeUrl":"CDS","writer":1} => 7 BadMessage
+[] => 7 BadMessage
+null => 7 BadMessage
+"a" => 7 BadMessage
+{} => 7 BadMessage"#,
+    )
+}
+
+// What a write shows of itself: its type, name, stamp and body, and the value that it has.
+struct Shown;
+
+impl Outcome for Shown {
+    fn of(alloc: Global, given: &str) -> Result<String, Fail> {
+        let write = read_write(alloc, given.as_bytes())?.try_copy(alloc)?;
+        let version = write.stamp().version_text(alloc)?;
+        let mut all = String::from_str(alloc, write.type_name().word())?;
+        for part in [write.name(), version.as_str(), write.body().unwrap_or("-")].as_slice() {
+            all.push_str(" ")?;
+            all.push_str(part)?;
+        }
+        if let Some(value) = write.value(alloc)? {
+            all.push_str(" ")?;
+            all.push_str(value.to_string(alloc)?.as_str())?;
+        }
+        Ok(all)
+    }
+}
+
+#[test]
+fn writes_show_what_they_hold(rt: HostRuntime) -> Result<(), Fail> {
+    hold::<Shown, HostRuntime>(
+        &rt,
+        r#"{"body":{"@type":"CDS","name":"a"},"counter":12,"name":"a","typeUrl":"CDS","writer":3} => cluster a 12-3 {"@type":"CDS","name":"a"} {"@type":"CDS","name":"a"}
+{"counter":1,"name":"q","typeUrl":"RDS","writer":2} => route q 1-2 -"#,
+    )
 }

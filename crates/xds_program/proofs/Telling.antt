@@ -1,0 +1,127 @@
+-- What a run tells, and how it ends.
+use Rattle.std.proofs.Common.{◌≡◌, ◌++◌, ap, sym, arith, codes, refl, subst, Option, Some, None, IfSome, ◌⊎◌, inl, inr, ℕ, List, Result, Ok, Err, OnOk, IfErr}
+use Rattle.xds_resource.specs.declared.refusal.Refusal.{Refusal}
+use Rattle.xds_resource.specs.declared.refusal.Refusal.TheVariants.{Device as DeviceRefusal, OutOfMemory}
+use Rattle.clap.proofs.CountText.{decimal-count_text}
+use Rattle.xds_program.specs.Outcomes.{HasRun, IsCause, IsShown, IsUnable, RunsAnswer, fault_text, refusal_text}
+use Rattle.xds_program.specs.declared.words.Task.{Task}
+use Rattle.xds_program.specs.declared.words.Task.TheVariants.{Answer}
+use Rattle.xds_program.specs.Words.{Asks, Text}
+use Rattle.xds_program.specs.CommandLine.{faults}
+use Rattle.clap.specs.declared.error.Error.{Error}
+use Rattle.clap.specs.declared.error.kind.ErrorKind.TheVariants as kind
+use Rattle.clap.specs.Words.{HasKind, kind_of}
+use Rattle.std.specs.Prelude.{◌≢◌}
+use Rattle.xds_program.specs.Faults.{IsAnswer, IsFault}
+use Rattle.xds_program.specs.Devices.{Device, HasFailed, Stays, Tells, Wrote, WrotePart}
+
+-- what was written whole, or up to a call that failed, is told
+pub tells : {T : Type 0} (d : Device) (bytes : List ℕ) (r : Result T Refusal) → OnOk r (Wrote d bytes) → IfErr r (λ e. (e ≡ DeviceRefusal) × WrotePart d bytes) → Tells d bytes
+tells d bytes (Ok x) whole part = inl whole
+tells d bytes (Err e) whole part = inr part.1
+
+-- the two refusals that are told without a line, in words
+pub device_text : codes "19 Device\n" ≡ refusal_text DeviceRefusal
+device_text = ap (λ (number : List ℕ). number ++ codes " " ++ codes "Device" ++ codes "\n") (sym (decimal-count_text 19 (omega arith)))
+
+pub memory_text : codes "8 OutOfMemory\n" ≡ refusal_text OutOfMemory
+memory_text = ap (λ (number : List ℕ). number ++ codes " " ++ codes "OutOfMemory" ++ codes "\n") (sym (decimal-count_text 8 (omega arith)))
+
+-- a run that can't go on before anything is written
+pub unable : (May : List ℕ → Type 0) (input output errors : Device) (refusal : Refusal) (status : ℕ) → IsCause refusal input output → Stays output
+    → Tells errors (refusal_text refusal) → status ≡ 1 → IsUnable May status (record { input = input; output = output; errors = errors })
+unable May input output errors refusal status cause stays told is = record {
+  refusal = refusal;
+  is_cause = cause;
+  output = inl stays;
+  told = told;
+  status_is = is;
+}
+
+-- for want of memory
+pub no_memory : (May : List ℕ → Type 0) (input output errors : Device) (status : ℕ) → Stays output → Tells errors (refusal_text OutOfMemory) → status ≡ 1
+    → IsUnable May status (record { input = input; output = output; errors = errors })
+no_memory May input output errors status stays told is = unable May input output errors OutOfMemory status (inl refl) stays told is
+
+-- for want of its input
+pub not_read : (replica : ℕ) (input output errors : Device) (refusal : Refusal) (status : ℕ) → (refusal ≡ OutOfMemory) ⊎ ((refusal ≡ DeviceRefusal) × HasFailed input) → Stays output
+    → Tells errors (refusal_text refusal) → status ≡ 1 → RunsAnswer replica status (record { input = input; output = output; errors = errors })
+not_read replica input output errors refusal status (inl memory) stays told is = inr (unable _ input output errors refusal status (inl memory) stays told is)
+not_read replica input output errors refusal status (inr failed) stays told is = inr (unable _ input output errors refusal status (inr (failed.0, inl failed.1)) stays told is)
+
+-- a run whose output failed in the midst of a text
+pub part_written : (May : List ℕ → Type 0) (input output errors : Device) (text : List ℕ) (refusal : Refusal) (status : ℕ) → May text
+    → (refusal ≡ DeviceRefusal) × WrotePart output text → Tells errors (refusal_text refusal) → status ≡ 1
+    → IsUnable May status (record { input = input; output = output; errors = errors })
+part_written May input output errors text refusal status may failed told is = record {
+  refusal = refusal;
+  is_cause = inr (failed.0, inr failed.1.0);
+  output = inr (text, may, failed.1);
+  told = told;
+  status_is = is;
+}
+
+-- what is said of an input that was read whole
+of_input : (P : List ℕ → Type 0) (before : Option (List ℕ)) (bytes : List ℕ) → IfSome before (λ all. bytes ≡ all) → P bytes → IfSome before P
+of_input P None bytes same h = tt
+of_input P (Some all) bytes same h = subst P same h
+
+-- the answer to the bytes that were read, written whole
+pub answer_written : (replica : ℕ) (input output errors : Device) (bytes given answer written : List ℕ) → IfSome input.before (λ all. bytes ≡ all)
+    → given ≡ bytes → IsAnswer replica given answer → written ≡ answer → Wrote output written → Stays errors → RunsAnswer replica 0 (record { input = input; output = output; errors = errors })
+answer_written replica input output errors bytes given answer written same lent is all wrote stays =
+    inl (of_input _ input.before bytes same (inl (
+      refl,
+      record {
+        answer = answer;
+        is_answer = subst (λ (b : List ℕ). IsAnswer replica b answer) lent is;
+        written = subst (Wrote output) all wrote;
+      },
+      stays,
+    )))
+
+-- the answer to the bytes that were read, written in part
+pub answer_begun : (replica : ℕ) (input output errors : Device) (bytes given answer written : List ℕ) (refusal : Refusal) (status : ℕ) → IfSome input.before (λ all. bytes ≡ all)
+    → given ≡ bytes → IsAnswer replica given answer → written ≡ answer → (refusal ≡ DeviceRefusal) × WrotePart output written → Tells errors (refusal_text refusal) → status ≡ 1
+    → RunsAnswer replica status (record { input = input; output = output; errors = errors })
+answer_begun replica input output errors bytes given answer written refusal status same lent is all failed told one =
+    let of_bytes = of_input (λ b. IsAnswer replica b answer) input.before bytes same (subst (λ (b : List ℕ). IsAnswer replica b answer) lent is) in
+    let part = subst (λ (t : List ℕ). (refusal ≡ DeviceRefusal) × WrotePart output t) all failed in
+    inr (part_written _ input output errors answer refusal status of_bytes part told one)
+
+-- the first line that is refused, told, or no memory to tell it
+pub fault_told : (replica : ℕ) (input output errors : Device) (bytes given : List ℕ) (line : ℕ) (refusal : Refusal) (status : ℕ)
+    → IfSome input.before (λ all. bytes ≡ all) → given ≡ bytes → IsFault given line refusal → Tells errors (fault_text line refusal) ⊎ Tells errors (refusal_text OutOfMemory) → Stays output → status ≡ 1
+    → RunsAnswer replica status (record { input = input; output = output; errors = errors })
+fault_told replica input output errors bytes given line refusal status same lent is (inl told) stays one =
+    let of_bytes = subst (λ (b : List ℕ). IsFault b line refusal) lent is in
+    inl (of_input _ input.before bytes same (inr (one, record { line = line; refusal = refusal; is_fault = of_bytes; told = told }, stays)))
+fault_told replica input output errors bytes given line refusal status same lent is (inr told) stays one = inr (no_memory _ input output errors status stays told one)
+
+-- what may be begun may be begun under a weaker name
+weaker : (P Q : List ℕ → Type 0) (output : Device) → ((text : List ℕ) → P text → Q text)
+    → Stays output ⊎ ((text : List ℕ) × P text × WrotePart output text) → Stays output ⊎ ((text : List ℕ) × Q text × WrotePart output text)
+weaker P Q output h (inl stays) = inl stays
+weaker P Q output h (inr begun) = inr (begun.0, h begun.0 begun.1, begun.2)
+
+-- words that were not taken ask for nothing, and are shown help, or what is wrong with them
+pub words_shown : (words : List Text) (input output errors : Device) (e : Error) (status : ℕ) → HasKind (faults words) e
+    → ((task : Task) → Asks words task → kind_of e ≡ kind.OutOfMemory) → Stays input
+    → IsUnable (λ text. kind_of e ≢ kind.OutOfMemory) status (record { input = input; output = output; errors = errors })
+    ⊎ ((kind_of e ≢ kind.OutOfMemory) × IsShown (kind_of e) status output errors)
+    → HasRun words status (record { input = input; output = output; errors = errors })
+words_shown words input output errors e status found right unread (inl unable) = inr (inr (record {
+  refusal = unable.refusal;
+  is_cause = unable.is_cause;
+  output = weaker _ _ output (λ text other replica asked. other (right (Answer replica) asked)) unable.output;
+  told = unable.told;
+  status_is = unable.status_is;
+}))
+words_shown words input output errors e status (inl memory) right unread (inr shown) = absurd (shown.0 memory)
+words_shown words input output errors e status (inr among) right unread (inr shown) = inr (inl (record {
+  kind = kind_of e;
+  is_fault = among;
+  asks_none = λ replica asked. shown.0 (right (Answer replica) asked);
+  unread = unread;
+  shown = shown.1;
+}))

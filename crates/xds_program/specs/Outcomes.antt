@@ -1,0 +1,88 @@
+-- What a run of the program leaves on its output and its error output, and its status. This project's own.
+use Rattle.std.specs.Prelude.{◌≡◌, ◌⊎◌, ℕ, List, ◌++◌, IfSome, codes, decimal}
+use Rattle.clap.specs.declared.error.kind.ErrorKind.{ErrorKind}
+use Rattle.clap.specs.declared.error.kind.ErrorKind.TheVariants.{DisplayHelp, DisplayVersion}
+use Rattle.clap.specs.Words.{IsAmong}
+use Rattle.xds_resource.specs.declared.refusal.Refusal.{Refusal}
+use Rattle.xds_resource.specs.declared.refusal.Refusal.TheVariants.{Device as DeviceRefusal, OutOfMemory}
+use Rattle.xds_resource.specs.Refusals.{number_of, name_of}
+use Rattle.xds_program.specs.Faults.{IsAnswer, IsFault}
+use Rattle.xds_program.specs.Devices.{Device, HasFailed, Stays, Tells, WrotePart, Wrote}
+use Rattle.xds_program.specs.Words.{AsksAnswer, Text}
+use Rattle.xds_program.specs.CommandLine.{faults}
+
+-- how a refusal is told
+abbrev pub refusal_text : Refusal → List ℕ
+refusal_text refusal = decimal (number_of refusal) ++ codes " " ++ name_of refusal ++ codes "\n"
+
+-- how a refused line is told
+abbrev pub fault_text : ℕ → Refusal → List ℕ
+fault_text line refusal = codes "line " ++ decimal line ++ codes ": " ++ refusal_text refusal
+
+-- the reader, the output and the error output of a run
+pub record Streams : Type 0 where
+  pub input : Device
+  pub output : Device
+  pub errors : Device
+
+-- the answer is written, and no more
+pub record IsAnswered (replica : ℕ) (input : List ℕ) (output : Device) : Type 0 where
+  pub answer : List ℕ
+  pub is_answer : IsAnswer replica input answer
+  pub written : Wrote output answer
+
+-- the first line that is refused is told
+pub record IsRefused (input : List ℕ) (errors : Device) : Type 0 where
+  pub line : ℕ
+  pub refusal : Refusal
+  pub is_fault : IsFault input line refusal
+  pub told : Tells errors (fault_text line refusal)
+
+-- Status 0 comes with the answer, and status 1 with the line that is refused and no output.
+abbrev pub HasOutcome : ℕ → ℕ → Streams → Type 0
+HasOutcome replica status s = IfSome s.input.before (λ input.
+    ((status ≡ 0) × IsAnswered replica input s.output × Stays s.errors) ⊎ ((status ≡ 1) × IsRefused input s.errors × Stays s.output))
+
+-- There was no memory, or a device failed: the refusal says which.
+abbrev pub IsCause : Refusal → Device → Device → Type 0
+IsCause refusal input output = (refusal ≡ OutOfMemory) ⊎ ((refusal ≡ DeviceRefusal) × (HasFailed input ⊎ HasFailed output))
+
+-- The run can't go on, and tells why. The output stays, or a call of it failed in the midst of a text that may be begun.
+pub record IsUnable (MayBegin : List ℕ → Type 0) (status : ℕ) (s : Streams) : Type 0 where
+  pub refusal : Refusal
+  pub is_cause : IsCause refusal s.input s.output
+  pub output : Stays s.output ⊎ ((text : List ℕ) × MayBegin text × WrotePart s.output text)
+  pub told : Tells s.errors (refusal_text refusal)
+  pub status_is : status ≡ 1
+
+-- `xds answer` as this replica has its outcome, or can't go on, at the latest in the midst of its answer
+abbrev pub RunsAnswer : ℕ → ℕ → Streams → Type 0
+RunsAnswer replica status s = HasOutcome replica status s ⊎ IsUnable (λ text. IfSome s.input.before (λ input. IsAnswer replica input text)) status s
+
+-- the words call for help, or for the version
+abbrev pub IsCall : ErrorKind → Type 0
+IsCall kind = (kind ≡ DisplayHelp) ⊎ (kind ≡ DisplayVersion)
+
+-- Help goes to the output, with status 0; what is wrong with the words is told on the error output, with status 2. The
+-- texts are `clap`'s.
+abbrev pub IsShown : ErrorKind → ℕ → Device → Device → Type 0
+IsShown kind status output errors =
+    (IsCall kind × (status ≡ 0) × ((text : List ℕ) × Wrote output text) × Stays errors)
+    ⊎ ((IsCall kind → ⊥) × (status ≡ 2) × ((text : List ℕ) × Tells errors text) × Stays output)
+
+-- no replica is asked to answer
+abbrev pub AsksNone : List Text → Type 0
+AsksNone words = (replica : ℕ) → AsksAnswer words replica → ⊥
+
+-- The words ask for no answer: they call for help, or they are wrong. The input isn't read.
+pub record IsAside (words : List Text) (status : ℕ) (s : Streams) : Type 0 where
+  pub kind : ErrorKind
+  pub is_fault : IsAmong kind (faults words)
+  pub asks_none : AsksNone words
+  pub unread : Stays s.input
+  pub shown : IsShown kind status s.output s.errors
+
+-- A run whose words ask for an answer gives it, or tells the line that is refused; other words get help, or are told to
+-- be wrong; and any run may be unable to go on. A text that is no answer is begun only where no answer is asked.
+abbrev pub HasRun : List Text → ℕ → Streams → Type 0
+HasRun words status s = ((replica : ℕ) × AsksAnswer words replica × RunsAnswer replica status s) ⊎ (IsAside words status s ⊎ IsUnable (λ text. AsksNone words) status s)

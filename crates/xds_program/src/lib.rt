@@ -1,0 +1,14 @@
+// The programs of a replicated xDS control plane, over the readers and writers that they are given.
+#![tactic(auto)]
+
+pub mod answer;
+mod catalogues;
+pub mod counted;
+pub mod laws;
+mod lines;
+pub mod run;
+pub mod words;
+
+pub use answer::{LineFault, answer_lines};
+pub use counted::Counted;
+pub use words::{Task, task_of};

@@ -1,0 +1,139 @@
+// A run of the program, over the reader and the writers that it is given.
+ghost use Rattle.std.specs.Prelude.{◌≡◌, ◌≢◌, ◌⊎◌, map, string_bytes};
+ghost use Rattle.clap.specs.Words.{kind_of};
+ghost use Rattle.xds_program.specs.Devices.{Device, Tells, seen};
+ghost use Rattle.xds_program.specs.Outcomes.{HasRun, IsShown, IsUnable, RunsAnswer, fault_text, refusal_text};
+
+use crate::answer::{LineFault, answer_lines};
+use crate::counted::{Counted, read_whole, write_whole};
+use crate::words::{Task, task_of};
+use clap::error::ErrorKind;
+use std::alloc::Global;
+use std::io::{Read, Write};
+use xds_resource::Refusal;
+
+/// The status of a run that did what it was asked.
+pub const DONE: u8 = 0;
+
+/// The status of a run that refused its input, or found no memory, or whose reader or writer failed.
+pub const REFUSED: u8 = 1;
+
+/// The status of a run with wrong words.
+pub const WRONG_WORDS: u8 = 2;
+
+/// Runs the program with these words, the first of which is its name, and answers its status. The words are looked at
+/// before any input.
+pub fn run<I: Read, O: Write, E: Write>(
+    alloc: Global,
+    words: &[String],
+    input: &mut Counted<I>,
+    output: &mut Counted<O>,
+    errors: &mut Counted<E>,
+) -> u8
+    ensures { HasRun (map string_bytes words.now) result (record {
+      input = seen I.remaining input.old input.new;
+      output = seen O.contents output.old output.new;
+      errors = seen E.contents errors.old errors.new;
+    }) }
+{
+    match task_of(alloc, words) {
+        Ok(Task::Answer { replica }) => answer(alloc, replica, input, output, errors),
+        Err(error) => show(alloc, &error, output, errors),
+    }
+}
+
+/// Runs `xds answer`: what [`answer_lines`] gives goes to the output, and the line that it refuses to the error output.
+pub fn answer<I: Read, O: Write, E: Write>(
+    alloc: Global,
+    replica: u16,
+    input: &mut Counted<I>,
+    output: &mut Counted<O>,
+    errors: &mut Counted<E>,
+) -> u8
+    ensures { RunsAnswer replica result (record {
+      input = seen I.remaining input.old input.new;
+      output = seen O.contents output.old output.new;
+      errors = seen E.contents errors.old errors.new;
+    }) }
+{
+    let bytes = match read_whole(alloc, input) {
+        Ok(bytes) => bytes,
+        Err(refusal) => return tell(refusal, errors),
+    };
+    match answer_lines(alloc, replica, bytes.as_slice()) {
+        Ok(text) => match write_whole(output, text.as_slice()) {
+            Ok(()) => DONE,
+            Err(refusal) => tell(refusal, errors),
+        },
+        Err(fault) => tell_fault(alloc, fault, errors),
+    }
+}
+
+/// Tells that there was no memory, or that a reader or a writer failed, and answers the status.
+pub fn tell<E: Write>(refusal: Refusal, errors: &mut Counted<E>) -> u8
+    requires { (refusal ≡ Refusal.OutOfMemory) ⊎ (refusal ≡ Refusal.Device) }
+    ensures told { Tells (seen E.contents errors.old errors.new) (refusal_text refusal) }
+    ensures status { result ≡ 1 }
+{
+    let _ = write_whole(errors, refusal_line(refusal).as_bytes());
+    REFUSED
+}
+
+// The refusal in words, without a need for memory.
+fn refusal_line(refusal: Refusal) -> &'static str
+    requires { (refusal ≡ Refusal.OutOfMemory) ⊎ (refusal ≡ Refusal.Device) }
+    ensures { result.now ≡ refusal_text refusal }
+{
+    match refusal {
+        Refusal::Device => "19 Device\n",
+        _ => "8 OutOfMemory\n",
+    }
+}
+
+// Tells which line is refused, or that there was no memory to say so.
+fn tell_fault<E: Write>(alloc: Global, fault: LineFault, errors: &mut Counted<E>) -> u8
+    ensures told { Tells (seen E.contents errors.old errors.new) (fault_text fault.line fault.refusal)
+        ⊎ Tells (seen E.contents errors.old errors.new) (refusal_text Refusal.OutOfMemory) }
+    ensures status { result ≡ 1 }
+{
+    let line = fault.line;
+    let number = fault.refusal.number();
+    let name = fault.refusal.name();
+    match format!(in alloc; "line {line}: {number} {name}\n") {
+        Ok(text) => {
+            let _ = write_whole(errors, text.as_bytes());
+            REFUSED
+        }
+        Err(_) => tell(Refusal::OutOfMemory, errors),
+    }
+}
+
+// Shows help, or what is wrong with the words.
+fn show<O: Write, E: Write>(
+    alloc: Global,
+    error: &clap::Error,
+    output: &mut Counted<O>,
+    errors: &mut Counted<E>,
+) -> u8
+    ensures { (input : Device) → IsUnable (λ text. kind_of error.now ≢ ErrorKind.OutOfMemory) result (record {
+      input = input;
+      output = seen O.contents output.old output.new;
+      errors = seen E.contents errors.old errors.new;
+    }) ⊎ ((kind_of error.now ≢ ErrorKind.OutOfMemory)
+        × IsShown (kind_of error.now) result (seen O.contents output.old output.new) (seen E.contents errors.old errors.new)) }
+{
+    if error.kind() == ErrorKind::OutOfMemory {
+        return tell(Refusal::OutOfMemory, errors);
+    }
+    let Ok(text) = format!(in alloc; "{error}") else {
+        return tell(Refusal::OutOfMemory, errors);
+    };
+    if error.use_stderr() {
+        let _ = write_whole(errors, text.as_bytes());
+        return WRONG_WORDS;
+    }
+    match write_whole(output, text.as_bytes()) {
+        Ok(()) => DONE,
+        Err(refusal) => tell(refusal, errors),
+    }
+}

@@ -1,0 +1,297 @@
+// Worked runs of the program, over readers and writers in memory and over some that fail.
+use crate::cases::{Outcome, hold, replaced, words_of, written_out};
+use std::alloc::Global;
+use std::io;
+use std::io::{ErrorKind, Read, Write};
+use std::test::Fail;
+use xds_program::run::run;
+use xds_program::{Counted, LineFault, answer_lines};
+use xds_resource::Refusal;
+
+// The words of a command line, the program's name first.
+fn words(alloc: Global, given: &str) -> Result<Vec<String>, Fail> {
+    let mut line = String::from_str(alloc, "xds ")?;
+    line.push_str(given)?;
+    Ok(words_of(alloc, line.as_str())?)
+}
+
+// The status of a run over words and the input after a `|`, its output and its error output. `~` is a line feed, and
+// `A!`, `B!` and `Q!` are lines that put the clusters `a` and `b` and the route `q`.
+struct Run;
+
+impl Outcome for Run {
+    fn of(alloc: Global, given: &str) -> Result<String, Fail> {
+        let (given, input) = given.split_once('|').ok_or("no input")?;
+        let input = replaced(alloc, input, "A!", A)?;
+        let input = replaced(alloc, input.as_str(), "B!", B)?;
+        let input = replaced(alloc, input.as_str(), "Q!", Q)?;
+        let input = replaced(alloc, input.as_str(), "~", "\n")?;
+        let input = written_out(alloc, input.as_str())?;
+        let words = words(alloc, given)?;
+        let mut input = Counted::new(input.as_bytes());
+        let mut output = Counted::new(Vec::new(alloc));
+        let mut errors = Counted::new(Vec::new(alloc));
+        let status = run(
+            alloc,
+            words.as_slice(),
+            &mut input,
+            &mut output,
+            &mut errors,
+        );
+        let output = String::from_utf8(output.inner).ok().ok_or("output")?;
+        let errors = String::from_utf8(errors.inner).ok().ok_or("errors")?;
+        let told = format!(in alloc; "{status} {output}{errors}")?;
+        replaced(alloc, told.as_str(), "\n", "~")
+    }
+}
+
+const A: &str =
+    r#"{"body":{"@type":"CDS","name":"a"},"counter":1,"name":"a","typeUrl":"CDS","writer":1}~"#;
+
+const B: &str =
+    r#"{"body":{"@type":"CDS","name":"b"},"counter":2,"name":"b","typeUrl":"CDS","writer":1}~"#;
+
+const Q: &str =
+    r#"{"body":{"@type":"RDS","name":"q"},"counter":1,"name":"q","typeUrl":"RDS","writer":1}~"#;
+
+#[test]
+fn requests_are_answered(rt: HostRuntime) -> Result<(), Fail> {
+    hold::<Run, HostRuntime>(
+        &rt,
+        r#"answer|{"typeUrl":"CDS"} => 0 {"nonce":"1","typeUrl":"CDS","versionInfo":"1.0"}~
+answer|{"typeUrl":"CDS"}~ => 0 {"nonce":"1","typeUrl":"CDS","versionInfo":"1.0"}~
+answer|{"node":{"id":"n","metadata":{"load":1.5}},"typeUrl":"CDS","x":[1e9]}~ => 0 {"nonce":"1","typeUrl":"CDS","versionInfo":"1.0"}~
+answer|A!B!{"resourceNames":["*","b"],"typeUrl":"CDS"}~ => 0 {"nonce":"1","resources":[{"@type":"CDS","name":"a"},{"@type":"CDS","name":"b"}],"typeUrl":"CDS","versionInfo":"1.2"}~
+answer|B!A!{"typeUrl":"CDS"}~ => 0 {"nonce":"1","resources":[{"@type":"CDS","name":"a"},{"@type":"CDS","name":"b"}],"typeUrl":"CDS","versionInfo":"1.2"}~
+answer|A!B!{"resourceNames":["b","zz"],"typeUrl":"CDS"}~ => 0 {"nonce":"1","resources":[{"@type":"CDS","name":"b"}],"typeUrl":"CDS","versionInfo":"1.2.named"}~
+answer|A!A!A!{"resourceNames":["a"],"typeUrl":"CDS"}~ => 0 {"nonce":"1","resources":[{"@type":"CDS","name":"a"}],"typeUrl":"CDS","versionInfo":"1.1.named"}~
+answer|{"resourceNames":["q"],"typeUrl":"RDS"} => 0 
+answer|Q!{"typeUrl":"RDS"}~ => 0 
+answer|Q!A!{"resourceNames":["*","q"],"typeUrl":"RDS"}~ => 0 {"nonce":"1","resources":[{"@type":"RDS","name":"q"}],"typeUrl":"RDS","versionInfo":"1.1.named"}~
+answer|A!{"typeUrl":"type.googleapis.com/x"}~ => 0 
+answer|{"body":{"@type":"EDS","cluster_name":"x","clusterName":"e"},"counter":1,"name":"e","typeUrl":"EDS","writer":1}~{"resource_names":["e"],"type_url":"EDS"}~ => 0 {"nonce":"1","resources":[{"@type":"EDS","clusterName":"e","cluster_name":"x"}],"typeUrl":"EDS","versionInfo":"1.1.named"}~
+answer|{"writer":1,"typeUrl":"LDS","name":"\u00e9/\ud83d\ude00","counter":7,"body":{"z":"\u0001\/","@type":"LDS","name":"\u00e9\/\ud83d\ude00","a":{"d":[],"c":-9223372036854775808}}}~{"typeUrl":"LDS"}~ => 0 {"nonce":"1","resources":[{"@type":"LDS","a":{"c":-9223372036854775808,"d":[]},"name":"é/😀","z":"\u0001/"}],"typeUrl":"LDS","versionInfo":"1.1"}~"#,
+    )
+}
+
+#[test]
+fn the_greatest_write_of_a_name_stands(rt: HostRuntime) -> Result<(), Fail> {
+    hold::<Run, HostRuntime>(
+        &rt,
+        r#"answer|{"body":{"@type":"CDS","name":"a","x":1},"counter":1,"name":"a","typeUrl":"CDS","writer":1}~{"body":{"@type":"CDS","name":"a","x":2},"counter":1,"name":"a","typeUrl":"CDS","writer":2}~B!{"counter":3,"name":"b","typeUrl":"CDS","writer":1}~{"typeUrl":"CDS"}~ => 0 {"nonce":"1","resources":[{"@type":"CDS","name":"a","x":2}],"typeUrl":"CDS","versionInfo":"1.4"}~
+answer|A!{"counter":1,"name":"a","typeUrl":"CDS","writer":1}~{"typeUrl":"CDS"}~ => 0 {"nonce":"1","resources":[{"@type":"CDS","name":"a"}],"typeUrl":"CDS","versionInfo":"1.1"}~
+answer|{"body":{"@type":"CDS","name":"a","x":9},"counter":1,"name":"a","typeUrl":"CDS","writer":1}~{"body":{"@type":"CDS","name":"a","x":10},"counter":1,"name":"a","typeUrl":"CDS","writer":1}~{"typeUrl":"CDS"}~ => 0 {"nonce":"1","resources":[{"@type":"CDS","name":"a","x":9}],"typeUrl":"CDS","versionInfo":"1.1"}~"#,
+    )
+}
+
+#[test]
+fn the_first_bad_line_is_told(rt: HostRuntime) -> Result<(), Fail> {
+    let alloc = rt.alloc();
+    let fault = answer_lines(alloc, 1, b"{\"a\":\"\xff\"}\n").err();
+    assert_eq!(rt;
+        fault,
+        Some(LineFault {
+            line: 1,
+            refusal: Refusal::NotJson
+        })
+    );
+    hold::<Run, HostRuntime>(
+        &rt,
+        r#"answer| => 1 line 1: 1 NotJson~
+answer|~ => 1 line 1: 1 NotJson~
+answer|{}~ => 1 line 1: 7 BadMessage~
+answer|[] => 1 line 1: 7 BadMessage~
+answer|{"counter":0,"name":"b","typeUrl":"CDS","writer":1}~{"typeUrl":"CDS"} => 1 line 1: 7 BadMessage~
+answer|{"counter":1,"name":"b","typeUrl":"CDS","writer":1}~~{"typeUrl":"CDS"}~ => 1 line 2: 1 NotJson~
+answer|{"counter":1,"name":"b","typeUrl":"CDS","writer":1}~{"typeUrl":"CDS"}~~ => 1 line 2: 7 BadMessage~
+answer|{"body":{"@type":"CDS","name":"b"},"counter":1,"name":"a","typeUrl":"CDS","writer":1}~{"typeUrl":"CDS"}~ => 1 line 1: 7 BadMessage~
+answer|{"body":{"@type":"CDS","name":"a","x":1.5},"counter":1,"name":"a","typeUrl":"CDS","writer":1}~{"typeUrl":"CDS"}~ => 1 line 1: 7 BadMessage~"#,
+    )
+}
+
+#[test]
+fn right_words_name_the_replica(rt: HostRuntime) -> Result<(), Fail> {
+    hold::<Run, HostRuntime>(
+        &rt,
+        r#"answer --|{"typeUrl":"CDS"}~ => 0 {"nonce":"1","typeUrl":"CDS","versionInfo":"1.0"}~
+answer --replica 7|{"typeUrl":"CDS"}~ => 0 {"nonce":"1","typeUrl":"CDS","versionInfo":"7.0"}~
+answer --replica 65535|{"typeUrl":"CDS"}~ => 0 {"nonce":"1","typeUrl":"CDS","versionInfo":"65535.0"}~
+answer --replica=65535|{"typeUrl":"CDS"}~ => 0 {"nonce":"1","typeUrl":"CDS","versionInfo":"65535.0"}~
+answer --replica=+7 --|{"typeUrl":"CDS"}~ => 0 {"nonce":"1","typeUrl":"CDS","versionInfo":"7.0"}~
+answer --replica 007 --|{"typeUrl":"CDS"}~ => 0 {"nonce":"1","typeUrl":"CDS","versionInfo":"7.0"}~"#,
+    )
+}
+
+// Where a run over words and no answer tells something, its status, and how much of the input it left.
+struct Aside;
+
+impl Outcome for Aside {
+    fn of(alloc: Global, given: &str) -> Result<String, Fail> {
+        let words = words(alloc, given)?;
+        let mut input = Counted::new(b"{}".as_slice());
+        let mut output = Counted::new(Vec::new(alloc));
+        let mut errors = Counted::new(Vec::new(alloc));
+        let status = run(
+            alloc,
+            words.as_slice(),
+            &mut input,
+            &mut output,
+            &mut errors,
+        );
+        let output = String::from_utf8(output.inner).ok().ok_or("output")?;
+        let shown = if output.as_str().contains("answer") {
+            "help"
+        } else {
+            output.as_str()
+        };
+        let told = if errors.inner.is_empty() { "" } else { "fault" };
+        let left = input.inner.len();
+        Ok(format!(in alloc; "{shown}{told} {status} {left}")?)
+    }
+}
+
+#[test]
+fn other_words_are_told_before_any_input(rt: HostRuntime) -> Result<(), Fail> {
+    hold::<Aside, HostRuntime>(
+        &rt,
+        " => fault 2 2
+play => fault 2 2
+-- answer => fault 2 2
+--replica 1 answer => fault 2 2
+help nothing => fault 2 2
+answer extra => fault 2 2
+answer -- extra => fault 2 2
+answer -x => fault 2 2
+answer --replica => fault 2 2
+answer --replica 0 => fault 2 2
+answer --replica 65536 => fault 2 2
+answer --replica x => fault 2 2
+answer --replica= => fault 2 2
+answer --replica=0 => fault 2 2
+answer --replica=-1 => fault 2 2
+answer --replica 1 --replica 2 => fault 2 2
+answer --replica=1 --replica => fault 2 2
+-h => help 0 2
+--help => help 0 2
+help => help 0 2
+help answer => help 0 2
+answer -h => help 0 2
+answer --help => help 0 2",
+    )
+}
+
+// A reader that fails, and a writer that takes some bytes, one a call, and then fails.
+#[derive(Drop)]
+struct Faulty {
+    taken: Vec<u8>,
+    most: usize,
+}
+
+// A writer that takes all and can't flush.
+#[derive(Drop)]
+struct Stuck;
+
+impl Write for Stuck {
+    fn write(&mut self, buf: &[u8]) -> io::Result<usize> {
+        Ok(buf.len())
+    }
+
+    fn flush(&mut self) -> io::Result<()> {
+        Err(io::Error::from(ErrorKind::Other))
+    }
+}
+
+impl Read for Faulty {
+    fn read(&mut self, _buf: &mut [u8]) -> io::Result<usize> {
+        Err(io::Error::from(ErrorKind::Other))
+    }
+}
+
+impl Write for Faulty {
+    fn write(&mut self, buf: &[u8]) -> io::Result<usize> {
+        if self.taken.len() >= self.most {
+            return Err(io::Error::from(ErrorKind::Other));
+        }
+        match buf.first() {
+            Some(byte) => {
+                self.taken.push(*byte)?;
+                Ok(1)
+            }
+            None => Ok(0),
+        }
+    }
+
+    fn flush(&mut self) -> io::Result<()> {
+        Ok(())
+    }
+}
+
+fn failing_after(alloc: Global, most: usize) -> Counted<Faulty> {
+    Counted::new(Faulty {
+        taken: Vec::new(alloc),
+        most,
+    })
+}
+
+#[test]
+fn failing_devices_are_told(rt: HostRuntime) -> Result<(), Fail> {
+    let alloc = rt.alloc();
+    let words = words(alloc, "answer")?;
+    let words = words.as_slice();
+    let mut reader = failing_after(alloc, 0);
+    let mut output = Counted::new(Vec::new(alloc));
+    let mut errors = Counted::new(Vec::new(alloc));
+    let status = run(alloc, words, &mut reader, &mut output, &mut errors);
+    assert_eq!(rt; status, 1);
+    assert_eq!(rt; errors.inner.as_slice(), b"19 Device\n".as_slice());
+    assert_eq!(rt; reader.failed, 1);
+    assert!(rt; output.inner.is_empty());
+    let input = written_out(alloc, "{\"typeUrl\":\"CDS\"}\n")?;
+    let mut reader = Counted::new(input.as_bytes());
+    let mut output = failing_after(alloc, 8);
+    let mut errors = Counted::new(Vec::new(alloc));
+    let status = run(alloc, words, &mut reader, &mut output, &mut errors);
+    assert_eq!(rt; status, 1);
+    assert_eq!(rt; errors.inner.as_slice(), b"19 Device\n".as_slice());
+    assert_eq!(rt; output.inner.taken.as_slice(), b"{\"nonce\"".as_slice());
+    assert_eq!(rt; (reader.failed, output.failed, errors.failed), (0, 1, 0));
+    let mut reader = Counted::new(input.as_bytes());
+    let mut output = Counted::new(Stuck);
+    let mut errors = Counted::new(Vec::new(alloc));
+    let status = run(alloc, words, &mut reader, &mut output, &mut errors);
+    assert_eq!(rt; status, 1);
+    assert_eq!(rt; errors.inner.as_slice(), b"19 Device\n".as_slice());
+    assert_eq!(rt; output.failed, 1);
+    let mut reader = Counted::new(b"".as_slice());
+    let mut output = Counted::new(Vec::new(alloc));
+    let mut errors = failing_after(alloc, 4);
+    let status = run(alloc, words, &mut reader, &mut output, &mut errors);
+    assert_eq!(rt; status, 1);
+    assert_eq!(rt; errors.inner.taken.as_slice(), b"line".as_slice());
+    assert!(rt; output.inner.is_empty());
+    Ok(())
+}
+
+// A writer that takes nothing.
+#[derive(Drop)]
+struct Full;
+
+impl Write for Full {
+    fn write(&mut self, _buf: &[u8]) -> io::Result<usize> {
+        Ok(0)
+    }
+
+    fn flush(&mut self) -> io::Result<()> {
+        Ok(())
+    }
+}
+
+#[test]
+fn a_write_that_takes_nothing_has_failed(rt: HostRuntime) -> Result<(), Fail> {
+    let mut writer = Counted::new(Full);
+    assert!(rt; writer.write(b"a").is_err());
+    assert!(rt; writer.write(b"").is_ok());
+    assert!(rt; writer.flush().is_ok());
+    assert_eq!(rt; writer.failed, 1);
+    Ok(())
+}
