@@ -9,6 +9,8 @@ mod catalogue;
 #[cfg(test)]
 mod interest;
 #[cfg(test)]
+mod many_writes;
+#[cfg(test)]
 mod message;
 #[cfg(test)]
 mod program;
