@@ -13,3 +13,4 @@ pub mod Batches
 pub mod Counters
 pub mod LocalWrites
 pub mod JoinLaws
+pub mod Numbering

@@ -1,12 +1,12 @@
 -- What one write changes, and what a list of changes has.
-use Rattle.std.proofs.Common.{◌≡◌, ℕ, ◌+◌, List, [], ◌∷◌, ◌++◌, Bool, true, false, cond, Option, Some, refl, sym, ap, ◌∙◌, arith, append_assoc, append-nil}
-use Rattle.std.specs.Prelude.{bytes_eq, if◌then◌else◌}
+use Rattle.std.proofs.Common.{◌≡◌, ℕ, ◌+◌, List, [], ◌∷◌, ◌++◌, Bool, true, false, cond, Option, Some, refl, sym, ap, subst, ◌∙◌, arith, append_assoc, append-nil}
+use Rattle.std.specs.Prelude.{bytes_eq, IfSome, if◌then◌else◌}
 use Rattle.std.specs.FinMap as finmap
 use Rattle.std.proofs.lemmas.Cmp.{nat_list_cmp_total}
 use Rattle.xds_resource.specs.Writes.{StampedWrite, text_cmp}
 use Rattle.xds_resource.specs.Best.{greater, best}
 use Rattle.xds_resource.proofs.BestWrites.{best_of_both}
-use Rattle.xds_catalogue.specs.Holdings.{Entries, Latest, Holdings, catalogue_of, IsCatalogue}
+use Rattle.xds_catalogue.specs.Holdings.{Entries, Latest, Holdings, nothing_held, catalogue_of, IsCatalogue}
 use Rattle.xds_catalogue.specs.Changes.{surpasses, is_news, changes_after, change_list}
 use Rattle.xds_catalogue.specs.Joins.{joined}
 use Rattle.xds_catalogue.proofs.Catalogues.{tie-bytes_eq, get-catalogue_of, best-values, same_entries}
@@ -76,6 +76,9 @@ add_none n = omega arith
 -- nor does no write
 pub joined-none : (h : Holdings) → IsCatalogue h.entries → joined h [] ≡ h
 joined-none h named = λ i. record { entries = entries-none h.entries named i; changes = add_none h.changes i; latest = from_own_entries h.latest i }
+
+pub joined-nothing : joined nothing_held [] ≡ nothing_held
+joined-nothing = joined-none nothing_held (λ q. subst (λ o. IfSome o (λ w. w.name ≡ q)) (sym (finmap.get-empty text_cmp q)) tt)
 
 -- the changes depend on what was best before alone
 pub change_list-same : (a b : List StampedWrite) (n : ℕ) (ws : List StampedWrite) → ((q : List ℕ) → best a q ≡ best b q) → change_list a n ws ≡ change_list b n ws

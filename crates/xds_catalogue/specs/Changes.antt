@@ -1,5 +1,5 @@
 -- Which writes of a list add or replace an entry, and how many do. This project's own.
-use Rattle.std.specs.Prelude.{ℕ, ◌+◌, List, [], ◌∷◌, ◌++◌, Bool, true, Option, Some, None, if◌then◌else◌}
+use Rattle.std.specs.Prelude.{◌≡◌, ℕ, ◌+◌, List, [], ◌∷◌, ◌++◌, Bool, true, false, Option, Some, None, if◌then◌else◌}
 use Rattle.std.specs.Ordering.{is_gt}
 use Rattle.xds_resource.specs.Writes.{StampedWrite, write_cmp}
 use Rattle.xds_resource.specs.Best.{best}
@@ -27,3 +27,18 @@ abbrev pub change_list : List StampedWrite → ℕ → List StampedWrite → Lis
 change_list before changes [] = []
 change_list before changes (w ∷ ws) =
     change_list (before ++ w ∷ []) (changes + (if is_news before w then 1 else 0)) ws ++ (if is_news before w then (w.name, changes + 1) ∷ [] else [])
+
+-- no write of the list changes the entry of this name, where others came before the list
+abbrev pub NoneChanges : List StampedWrite → List StampedWrite → List ℕ → Type 0
+NoneChanges before ws name = (front : List StampedWrite) (w : StampedWrite) (back : List StampedWrite) → ws ≡ front ++ w ∷ back → w.name ≡ name → is_news (before ++ front) w ≡ false
+
+-- The write that comes after front changes the entry of this name, none after it does, and with it the list makes this many changes.
+pub record IsLastChange (before ws : List StampedWrite) (name : List ℕ) (number : ℕ) : Type 0 where
+  pub front : List StampedWrite
+  pub write : StampedWrite
+  pub back : List StampedWrite
+  pub splits : ws ≡ front ++ write ∷ back
+  pub named : write.name ≡ name
+  pub changes : is_news (before ++ front) write ≡ true
+  pub last : NoneChanges (before ++ front ++ write ∷ []) back name
+  pub counts : number ≡ changes_after before (front ++ write ∷ [])

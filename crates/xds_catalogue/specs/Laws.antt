@@ -1,11 +1,11 @@
 -- Laws of catalogues: which writes they are made of, how they join, and what changes them. This project's own.
-use Rattle.std.specs.Prelude.{◌≡◌, ◌⊎◌, ℕ, ◌≤◌, List, ◌++◌, Contains}
+use Rattle.std.specs.Prelude.{◌≡◌, ◌⊎◌, ℕ, ◌+◌, ◌≤◌, List, ◌++◌, Some, Contains}
 use Rattle.std.specs.FinMap as finmap
 use Rattle.xds_resource.specs.Writes.{StampedWrite}
 use Rattle.xds_resource.specs.Best.{best, SameWrites}
-use Rattle.xds_catalogue.specs.Holdings.{Entries, Holdings, catalogue_of, IsCatalogue}
-use Rattle.xds_catalogue.specs.Changes.{changes_after}
-use Rattle.xds_catalogue.specs.Joins.{join, IsAbove, joined}
+use Rattle.xds_catalogue.specs.Holdings.{Entries, Holdings, catalogue_of, IsCatalogue, IsNumbered}
+use Rattle.xds_catalogue.specs.Changes.{changes_after, NoneChanges, IsLastChange}
+use Rattle.xds_catalogue.specs.Joins.{join, IsAbove, changes_by, joined}
 use Rattle.xds_catalogue.specs.Local.{greatest_counter}
 
 -- a catalogue has the best write of each name
@@ -64,3 +64,17 @@ NoneAbove = (m : Entries) (w : StampedWrite) → Contains (finmap.values m) w �
 -- which is 0, or some entry's
 abbrev pub IsReached : Type 0
 IsReached = (m : Entries) → (greatest_counter m ≡ 0) ⊎ ((w : StampedWrite) × Contains (finmap.values m) w × (w.counter ≡ greatest_counter m))
+
+-- each entry of what is held keeps a number of its own, whatever writes come
+abbrev pub EntriesAreNumbered : Type 0
+EntriesAreNumbered = (h : Holdings) (ws : List StampedWrite) → IsCatalogue h.entries → IsNumbered h → IsNumbered (joined h ws)
+
+-- where nothing changes, the numbers stay
+abbrev pub NoChangeKeepsNumbers : Type 0
+NoChangeKeepsNumbers = (h : Holdings) (ws : List StampedWrite) → changes_by h ws ≡ 0 → (joined h ws).latest ≡ h.latest
+
+-- An entry's number, after writes that came, is that of the last of them that changed it, or the one from before where none did.
+abbrev pub NumberIsOfTheLast : Type 0
+NumberIsOfTheLast = (h : Holdings) (ws : List StampedWrite) (name : List ℕ)
+    → (NoneChanges (finmap.values h.entries) ws name × (finmap.get (joined h ws).latest name ≡ finmap.get h.latest name))
+    ⊎ ((k : ℕ) × IsLastChange (finmap.values h.entries) ws name k × (finmap.get (joined h ws).latest name ≡ Some (h.changes + k)))

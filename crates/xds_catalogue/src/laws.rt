@@ -1,5 +1,6 @@
 //! Laws of catalogues, as statements that the prover checks. The functions do nothing.
-ghost use Rattle.xds_catalogue.specs.Laws.{HasTheBest, StandUnderTheirNames, IsMadeOfItsWrites, OrderDoesNotMatter, JoinsTheWrites, JoinCommutes, JoinAssociates, JoinIsIdempotent, JoinIsAbove, JoinIsLeast, JoinsOneAfterAnother, RepeatsChangeNothing, NoChangeKeepsAll, NoneAbove, IsReached};
+ghost use Rattle.xds_catalogue.specs.Laws.{HasTheBest, StandUnderTheirNames, IsMadeOfItsWrites, OrderDoesNotMatter, JoinsTheWrites, JoinCommutes, JoinAssociates, JoinIsIdempotent, JoinIsAbove, JoinIsLeast, JoinsOneAfterAnother, RepeatsChangeNothing, NoChangeKeepsAll, NoneAbove, IsReached, EntriesAreNumbered, NoChangeKeepsNumbers, NumberIsOfTheLast};
+ghost use Rattle.xds_catalogue.specs.Holdings.{IsNumbered, nothing_held};
 
 /// A catalogue has the best write of each name, under that name.
 pub fn has_the_best()
@@ -38,4 +39,13 @@ pub fn writes_come_again()
 pub fn greatest_counter_is_reached()
     ensures bound { NoneAbove }
     ensures reached { IsReached }
+{}
+
+/// Each entry has a number from 1 to the count of changes, and no two have the same. It is the number of the last
+/// change of the entry, so that writes which change nothing leave all numbers.
+pub fn entries_are_numbered()
+    ensures none { IsNumbered nothing_held }
+    ensures kept { EntriesAreNumbered }
+    ensures last { NumberIsOfTheLast }
+    ensures unchanged { NoChangeKeepsNumbers }
 {}

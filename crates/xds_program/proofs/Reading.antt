@@ -12,7 +12,8 @@ use Rattle.xds_resource.specs.PerType.{PerType, at, with_at}
 use Rattle.xds_resource.proofs.TypesApart.{same_type, at-with_at, at-with_at_other}
 use Rattle.xds_catalogue.specs.Holdings.{Holdings, nothing_held}
 use Rattle.xds_catalogue.specs.Joins.{joined}
-use Rattle.xds_catalogue.proofs.Joining.{joined_again, joined-none}
+use Rattle.xds_catalogue.proofs.Joining.{joined_again}
+use Rattle.xds_catalogue.proofs.OneWrite.{joined-nothing}
 use Rattle.xds_message.specs.Messages.{Request}
 use Rattle.xds_program.specs.Lines.{feed, lines, pieces, onto_first, without_last_feed}
 use Rattle.xds_program.specs.Answers.{TypedWrite, writes_of, held_of, response_by, answer_text}
@@ -79,7 +80,7 @@ read_none input p empty = record {
   writes = [];
   lines_are = refl;
   writes_are = tt;
-  held_are = λ t. empty t ∙ sym (joined-none []);
+  held_are = λ t. empty t ∙ sym joined-nothing;
   number_is = refl;
   short = omega (arith, shorter_if (slice_index input (length input - 1) == feed) (length input - 1) input);
 }

@@ -52,6 +52,7 @@ fn answer_to<T: ResourceType>(
         "get" => held_text(alloc, catalogue, rest),
         "copy" => held_text(alloc, &catalogue.try_copy(alloc)?, rest),
         "want" => shown(alloc, catalogue, rest),
+        "next" => next_text(alloc, catalogue, rest),
         _ => count_text(alloc, catalogue.changes()),
     }
 }
@@ -72,6 +73,20 @@ fn held_text<T: ResourceType>(
     let mut text = write.stamp().version_text(alloc)?;
     text.push_str(write.body().unwrap_or("-"))?;
     Ok(text)
+}
+
+// The number and the name of the entry that changed next after a number.
+fn next_text<T: ResourceType>(
+    alloc: Global,
+    catalogue: &Catalogue<T>,
+    after: &str,
+) -> Result<String, Refusal> {
+    let after = after.parse::<u64>().map_err(|_| Refusal::BadStamp)?;
+    let Some((number, write)) = catalogue.next_change(after) else {
+        return Ok(String::from_str(alloc, "none")?);
+    };
+    let name = write.name();
+    Ok(format!(in alloc; "{number}{name}")?)
 }
 
 // The names that a client of this interest sees, one after another.
@@ -99,7 +114,9 @@ join 1-1 {"@type":"CDS","name":"a"}; join 1-2 {"@type":"CDS","name":"a"}; join 2
 join 2-1 {"@type":"CDS","name":"a","x":1}; join 2-1 -; join 1-2 {"@type":"CDS","name":"a"}; join 1-1 {"@type":"CDS","name":"a"}; get a; changes  =>  1 0 0 0 2-1{"@type":"CDS","name":"a","x":1} 1
 join 1-2 {"@type":"CDS","name":"a"}; join 2-1 {"@type":"CDS","name":"a","x":1}; join 1-1 {"@type":"CDS","name":"a"}; join 2-1 -; get a; changes  =>  1 1 0 0 2-1{"@type":"CDS","name":"a","x":1} 2
 join 2-1 -; join 2-1 -; join 1-1 {"@type":"CDS","name":"a"}; join 2-1 {"@type":"CDS","name":"a","x":1}; get a; want a =>  1 0 0 1 2-1{"@type":"CDS","name":"a","x":1} a
-put {"@type":"CDS","name":"b"}; put {"@type":"CDS","name":"a"}; want ; want * c; want b c; want c =>  1-1 2-1 ab ab b "#,
+put {"@type":"CDS","name":"b"}; put {"@type":"CDS","name":"a"}; want ; want * c; want b c; want c =>  1-1 2-1 ab ab b 
+next 0; put {"@type":"CDS","name":"b"}; put {"@type":"CDS","name":"a"}; next 0; next 1; put {"@type":"CDS","name":"b"}; join 1-1 -; next 0; next 2; next 3; next 18446744073709551615 =>  none 1-1 2-1 1b 2a 3-1 0 2a 3b none none
+delete a; put {"@type":"CDS","name":"a"}; delete a; next 0; next 1; next 2; copy a; want a =>  9 NotFound 1-1 2-1 2a 2a none 2-1- "#,
     )
 }
 

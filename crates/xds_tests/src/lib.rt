@@ -13,6 +13,8 @@ mod draft;
 #[cfg(test)]
 mod interest;
 #[cfg(test)]
+mod many_writes;
+#[cfg(test)]
 mod message;
 #[cfg(test)]
 mod program;

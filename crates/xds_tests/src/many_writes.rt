@@ -1,0 +1,119 @@
+// Many writes in two orders, and a batch of some that is refused.
+use std::alloc::Global;
+use std::test::Fail;
+use xds_catalogue::Catalogue;
+use xds_resource::{Cluster, Refusal, Resource, Stamp, Write};
+
+// One of 10,000 writes: of 2,500 names, each with four counters, by counter and then by name.
+fn numbered(alloc: Global, number: u64) -> Result<Write<Cluster>, Refusal> {
+    let (name, counter) = (number % 2_500, number / 2_500 % 4 + 1);
+    let body = format!(in alloc; "{{\"@type\":\"type.googleapis.com/envoy.config.cluster.v3.Cluster\",\"name\":\"{name}\",\"x\":{counter}}}")?;
+    Ok(Write::put(
+        Stamp::new(counter, 1),
+        Resource::parse(alloc, body.as_str())?,
+    ))
+}
+
+// What stands once the 10,000 came, each this many places after the one before it in their own order.
+fn joined(alloc: Global, stride: u16) -> Result<Catalogue<Cluster>, Refusal> {
+    let mut catalogue = Catalogue::new(alloc);
+    for place in 0..10_000_u64 {
+        catalogue.join_write(numbered(alloc, place * stride as u64 % 10_000)?)?;
+    }
+    Ok(catalogue)
+}
+
+// Whether both hold the same writes, of this many names.
+fn same_entries(
+    alloc: Global,
+    first: &Catalogue<Cluster>,
+    second: &Catalogue<Cluster>,
+    count: usize,
+) -> Result<bool, Refusal> {
+    let (entries, others) = (first.entries(alloc)?, second.entries(alloc)?);
+    let mut same = entries.len() == count && others.len() == count;
+    for (entry, other) in entries.iter().zip(&others) {
+        same = same && **entry == **other;
+    }
+    Ok(same)
+}
+
+// How many entries `next_change` walks over, or none where a number doesn't ascend or a name doesn't stand under it.
+fn walked(catalogue: &Catalogue<Cluster>) -> Option<u64> {
+    let mut after = 0;
+    for count in 0..10_001_u64 {
+        let Some((number, write)) = catalogue.next_change(after) else {
+            return Some(count);
+        };
+        if number <= after || catalogue.get(write.name()) != Some(write) {
+            return None;
+        }
+        after = number;
+    }
+    None
+}
+
+#[test]
+fn order_does_not_matter(rt: HostRuntime) -> Result<(), Fail> {
+    let alloc = rt.alloc();
+    let sorted = joined(alloc, 1)?;
+    let shuffled = joined(alloc, 7_919)?;
+    assert!(rt; same_entries(alloc, &sorted, &shuffled, 2_500)?);
+    assert_eq!(rt; sorted.changes(), 10_000);
+    assert_eq!(rt; (walked(&sorted), walked(&shuffled)), (Some(2_500), Some(2_500)));
+    let mut after = 0;
+    for place in 0..2_500_u64 {
+        let (number, write) = sorted.next_change(after).ok_or("no next change")?;
+        assert!(rt; *write == numbered(alloc, 7_500 + place)?);
+        assert_eq!(rt; number, 7_501 + place);
+        after = number;
+    }
+    Ok(())
+}
+
+// Writes with these numbers, as a batch.
+fn batch(alloc: Global, numbers: &[u64]) -> Result<Vec<Write<Cluster>>, Refusal> {
+    let mut writes = Vec::new(alloc);
+    for number in numbers {
+        writes.push(numbered(alloc, *number)?)?;
+    }
+    Ok(writes)
+}
+
+// Whether both hold the same entries, under the same numbers. It takes no memory.
+fn same(first: &Catalogue<Cluster>, second: &Catalogue<Cluster>) -> bool {
+    let mut after = 0;
+    for _ in 0..10_001_u64 {
+        let (next, other) = (first.next_change(after), second.next_change(after));
+        if next != other {
+            return false;
+        }
+        let Some((number, _)) = next else {
+            return first.changes() == second.changes();
+        };
+        after = number;
+    }
+    false
+}
+
+// Joins a batch to some writes: it is joined whole, or memory was refused and the catalogue is as it was.
+fn joined_or_unchanged(alloc: Global) -> Result<bool, Refusal> {
+    let mut catalogue = Catalogue::new(alloc);
+    catalogue.join_all(batch(alloc, &[1, 2, 3, 2_501, 4, 5])?)?;
+    let before = catalogue.try_copy(alloc)?;
+    let more = batch(alloc, &[7, 2_502, 8, 2_507, 1, 5_002, 9, 7_501])?;
+    Ok(match catalogue.join_all(more) {
+        Ok(grown) => grown == 7 && catalogue.changes() == 13,
+        Err(refusal) => refusal == Refusal::OutOfMemory && same(&catalogue, &before),
+    })
+}
+
+// With ample memory the batch is joined. It is also run with each allocation failing in turn.
+#[test]
+fn refused_batch_changes_nothing(rt: HostRuntime) -> Result<(), Fail> {
+    match joined_or_unchanged(rt.alloc()) {
+        Ok(right) => assert!(rt; right),
+        Err(refusal) => assert!(rt; refusal == Refusal::OutOfMemory),
+    }
+    Ok(())
+}
