@@ -34,6 +34,10 @@ impl Model for Body {
 impl Join for Body {
     ghost json = { value_of };
 
+    fn size(&self) -> usize {
+        self.text.len()
+    }
+
     fn join(&self, _alloc: Global, out: &mut String) -> Result<(), Refusal> {
         Ok(out.push_str(self.text.as_str())?)
     }

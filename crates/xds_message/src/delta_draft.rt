@@ -36,6 +36,11 @@ impl Model for DraftResource {
 impl Join for DraftResource {
     ghost json = { λ r. resource_object (drafted_resource r) };
 
+    fn size(&self) -> usize {
+        let texts = self.name.len().saturating_add(self.version.as_str().len());
+        self.body.size().saturating_add(texts).saturating_add(40)
+    }
+
     fn join(&self, alloc: Global, out: &mut String) -> Result<(), Refusal> {
         out.push_str("{")?;
         let later = join_text(alloc, out, false, "name", self.name.as_str())?;

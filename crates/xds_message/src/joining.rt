@@ -16,6 +16,9 @@ pub(crate) trait Join {
     // The value that the text is of.
     ghost json: { Self → Data };
 
+    /// About how many bytes the text has, for the room that is made for it at once.
+    fn size(&self) -> usize;
+
     /// Appends the text.
     fn join(&self, alloc: Global, out: &mut String) -> Result<(), Refusal>
         ensures ok { OnOk result (string_bytes out.new ≡ string_bytes out.old ++ compact_text (json self.now)) }
@@ -24,6 +27,10 @@ pub(crate) trait Join {
 
 impl Join for String {
     ghost json = { λ s. string (string_bytes s) };
+
+    fn size(&self) -> usize {
+        self.as_str().len()
+    }
 
     fn join(&self, alloc: Global, out: &mut String) -> Result<(), Refusal> {
         join_quoted(alloc, out, self.as_str())
@@ -111,9 +118,19 @@ pub(crate) fn join_list<I: Join>(
     if items.is_empty() {
         return Ok(later);
     }
+    out.reserve(room_for(items))?;
     join_key(alloc, out, later, key)?;
     join_items(alloc, out, items)?;
     Ok(true)
+}
+
+// About how many bytes the items take as an array, and what follows it in a message.
+fn room_for<I: Join>(items: &Vec<I>) -> usize {
+    let mut room: usize = 256;
+    for item in items {
+        room = room.saturating_add(item.size()).saturating_add(4);
+    }
+    room
 }
 
 // Appends an array.
