@@ -23,4 +23,6 @@ mod resource;
 #[cfg(test)]
 mod stamp;
 #[cfg(test)]
+mod streams;
+#[cfg(test)]
 mod writes;
