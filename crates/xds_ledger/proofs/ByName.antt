@@ -33,7 +33,7 @@ owed_absent s m b q unheld unknown = (λ i. owed (unheld i) (present_absent s m 
 offered_absent : (v : VariantName) (t : TypeName) (s : Selection) (m : Entries) (b : Beliefs) (q : List ℕ) → finmap.get b q ≡ None → finmap.get m q ≡ None → offered v t s m b q ≡ None
 offered_absent v t s m b q unheld unknown =
     (λ i. if is_whole v t then option_map Stated (present_absent s m q unknown i)
-      else if option_map_or (is_told v t) (owed_absent s m b q unheld unknown i) false then owed_absent s m b q unheld unknown i else None)
+    else if option_map_or (is_told v t) (owed_absent s m b q unheld unknown i) false then owed_absent s m b q unheld unknown i else None)
     ∙ cond_same (is_whole v t) None
 
 -- a name that isn't among those of which something may be owed
@@ -62,7 +62,7 @@ pub taken_by_name : TakenByName
 taken_by_name s touched mentioned b q =
     get-tabulated (believed_taken s touched mentioned b) (set.items mentioned ++ finmap.keys b) q
     (λ e. let parts = in_neither (set.items mentioned) (finmap.keys b) q e in
-      taken_absent (touches touched q) (covers s q) (set.contains mentioned q) (finmap.get b q) (sym (has_text-items mentioned q) ∙ parts.0) (absent_key b q parts.1))
+    taken_absent (touches touched q) (covers s q) (set.contains mentioned q) (finmap.get b q) (sym (has_text-items mentioned q) ∙ parts.0) (absent_key b q parts.1))
 
 pub untouched_keeps_belief : UntouchedKeepsBelief
 untouched_keeps_belief s touched mentioned b q e =

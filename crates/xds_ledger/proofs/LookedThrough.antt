@@ -32,9 +32,9 @@ pub looked_at_more : (s : Selection) (h : Holdings) (b : Beliefs) (after number 
 looked_at_more s h b after number w numbered next here before name k is from low unheld =
     elim (cases_lt after k) [
       | inl later ↦
-        let least : number ≤ k = subst (λ o. IfSome o (λ k. after < k → number ≤ k)) is (next.least name) later in
-        let same : name ≡ w.name = numbered.apart name w.name number (is ∙ ap Some (same_number k number low least)) next.numbered in
-        ap (present s h.entries) same ∙ here (ap (finmap.get b) (sym same) ∙ unheld)
+          let least : number ≤ k = subst (λ o. IfSome o (λ k. after < k → number ≤ k)) is (next.least name) later in
+          let same : name ≡ w.name = numbered.apart name w.name number (is ∙ ap Some (same_number k number low least)) next.numbered in
+          ap (present s h.entries) same ∙ here (ap (finmap.get b) (sym same) ∙ unheld)
       | inr earlier ↦ before name k is from earlier unheld
     ]
 

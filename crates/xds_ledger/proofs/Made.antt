@@ -39,10 +39,10 @@ told_by sent = put_all (λ name due. told_unless_touched (was_touched sent name)
 pub accepted_made : (whole : Bool) (sent : Sent) (b : Beliefs) → put_all (kept_beside whole sent) (told_by sent) (finmap.entries b) ≡ beliefs_accepted whole sent b
 accepted_made whole sent b =
     same_names _ _ (λ q. get-put_all (kept_beside whole sent) (told_by sent) b q
-      ∙ ap (option_or (option_and_then (kept_beside whole sent q) (finmap.get b q)))
-        (get-put_all (λ name due. told_unless_touched (was_touched sent name) due) finmap.empty sent.offer q
-        ∙ ap (option_or (option_and_then (told_unless_touched (was_touched sent q)) (finmap.get sent.offer q))) (finmap.get-empty text_cmp q))
-      ∙ accepted_parts whole (was_touched sent q) (finmap.get sent.offer q) (finmap.get b q) ∙ sym (accepted_by_name whole sent b q))
+    ∙ ap (option_or (option_and_then (kept_beside whole sent q) (finmap.get b q)))
+    (get-put_all (λ name due. told_unless_touched (was_touched sent name) due) finmap.empty sent.offer q
+    ∙ ap (option_or (option_and_then (told_unless_touched (was_touched sent q)) (finmap.get sent.offer q))) (finmap.get-empty text_cmp q))
+    ∙ accepted_parts whole (was_touched sent q) (finmap.get sent.offer q) (finmap.get b q) ∙ sym (accepted_by_name whole sent b q))
 
 abbrev left : Bool → Bool → Option Entry → Option Entry
 left touched covered e = option_or (option_and_then (λ x. if touched then (if covered then Some Unsure else None) else Some x) e) None
@@ -68,13 +68,13 @@ pub taken_made : (s : Selection) (touched : Touch) (names : List (List ℕ)) (b 
 taken_made s touched names b =
     let before = put_all (left_by s touched) finmap.empty (finmap.entries b) in
     same_names _ _ (λ q.
-      let made = made_unsure s touched q in
-      get-put_each (made_unsure s touched) before names q
-      ∙ ap (λ o. cond (has_text names q) (option_or made o) o)
-        (get-put_all (left_by s touched) finmap.empty b q ∙ ap (option_or (option_and_then (left_by s touched q) (finmap.get b q))) (finmap.get-empty text_cmp q))
-      ∙ taken_parts (touches touched q) (covers s q) (has_text names q) (finmap.get b q)
-      ∙ ap (λ m. if touches touched q then believed_touched (covers s q) m (finmap.get b q) else finmap.get b q) (sym (contains-from_texts names q))
-      ∙ sym (taken_by_name s touched (set.from_list names) b q))
+    let made = made_unsure s touched q in
+    get-put_each (made_unsure s touched) before names q
+    ∙ ap (λ o. cond (has_text names q) (option_or made o) o)
+    (get-put_all (left_by s touched) finmap.empty b q ∙ ap (option_or (option_and_then (left_by s touched q) (finmap.get b q))) (finmap.get-empty text_cmp q))
+    ∙ taken_parts (touches touched q) (covers s q) (has_text names q) (finmap.get b q)
+    ∙ ap (λ m. if touches touched q then believed_touched (covers s q) m (finmap.get b q) else finmap.get b q) (sym (contains-from_texts names q))
+    ∙ sym (taken_by_name s touched (set.from_list names) b q))
 
 told_parts : (o : Option (List ℕ)) (e : Option Entry) → option_or (option_and_then (λ v. Some (Told v)) o) e ≡ option_or (option_map Told o) e
 told_parts None e = refl

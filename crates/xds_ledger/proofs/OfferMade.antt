@@ -45,11 +45,12 @@ rest_named e q r false none h = h
 each_named : (es : List (List ℕ × StampedWrite)) → T (is_sorted text_cmp es) → AreNamed es → EachNamed es
 each_named [] sorted named = tt
 each_named (e ∷ es) sorted named =
-    let below = holds_first (below_all text_cmp e.0 es) (is_sorted text_cmp es) sorted in
-    ( subst (λ b. IfSome (cond b (Some e.1) (finmap.find text_cmp e.0 es)) (λ w. w.name ≡ e.0)) (is_eq-slice_cmp e.0 e.0 ∙ bytes_eq_same e.0) (named e.0)
-    , each_named es (holds_second (below_all text_cmp e.0 es) (is_sorted text_cmp es) sorted)
-      (λ q. rest_named e q (finmap.find text_cmp q es) (eq_by_cmp text_cmp q e.0)
-        (λ tie. ap (λ n. finmap.find text_cmp n es) (bytes_eq_tells q e.0 (sym (is_eq-slice_cmp q e.0) ∙ tie)) ∙ find_below e.0 es below) (named q)) )
+    let below = holds_first (below_all text_cmp e.0 es) (is_sorted text_cmp es) sorted in (
+      subst (λ b. IfSome (cond b (Some e.1) (finmap.find text_cmp e.0 es)) (λ w. w.name ≡ e.0)) (is_eq-slice_cmp e.0 e.0 ∙ bytes_eq_same e.0) (named e.0),
+      each_named es (holds_second (below_all text_cmp e.0 es) (is_sorted text_cmp es) sorted)
+          (λ q. rest_named e q (finmap.find text_cmp q es) (eq_by_cmp text_cmp q e.0)
+          (λ tie. ap (λ n. finmap.find text_cmp n es) (bytes_eq_tells q e.0 (sym (is_eq-slice_cmp q e.0) ∙ tie)) ∙ find_below e.0 es below) (named q)),
+    )
 
 abbrev if_shown : Selection → (StampedWrite → Option Due) → List ℕ → StampedWrite → Option Due
 if_shown s f name w = if is_shown s w then f w else None
@@ -152,7 +153,7 @@ sotw_offered false tells told untold e p = stated_alone tells told (untold refl)
 pub sotw_offer_made : (v : VariantName) (t : TypeName) (s : Selection) (m : Entries) (b : Beliefs) → is_delta v ≡ false → IsCatalogue m → base (is_whole v t) s m b ≡ offer v t s m b
 sotw_offer_made StateOfTheWorld t s m b variant named =
     same_names _ _ (λ q. get-base (row t).is_complete s m b q named
-      ∙ sotw_offered (row t).is_complete (is_told StateOfTheWorld t) (λ v. refl) (λ incomplete. incomplete) (finmap.get b q) (present s m q) ∙ sym (offer_says_it StateOfTheWorld t s m b q))
+    ∙ sotw_offered (row t).is_complete (is_told StateOfTheWorld t) (λ v. refl) (λ incomplete. incomplete) (finmap.get b q) (present s m q) ∙ sym (offer_says_it StateOfTheWorld t s m b q))
 sotw_offer_made Delta t s m b variant named = absurd cc
 
 pub delta_offer_made : (v : VariantName) (t : TypeName) (s : Selection) (m : Entries) (b : Beliefs) → is_delta v ≡ true → IsCatalogue m
@@ -160,5 +161,5 @@ pub delta_offer_made : (v : VariantName) (t : TypeName) (s : Selection) (m : Ent
 delta_offer_made StateOfTheWorld t s m b variant named = absurd cc
 delta_offer_made Delta t s m b variant named =
     same_names _ _ (λ q. get-put_all (λ name entry. removed s m name) (base false s m b) b q
-      ∙ ap (option_or (option_and_then (λ entry. removed s m q) (finmap.get b q))) (get-base false s m b q named)
-      ∙ with_removal (is_told Delta t) (λ v. refl) refl (finmap.get b q) (present s m q) ∙ sym (offer_says_it Delta t s m b q))
+    ∙ ap (option_or (option_and_then (λ entry. removed s m q) (finmap.get b q))) (get-base false s m b q named)
+    ∙ with_removal (is_told Delta t) (λ v. refl) refl (finmap.get b q) (present s m q) ∙ sym (offer_says_it Delta t s m b q))

@@ -76,19 +76,19 @@ past_first k x all (e ∷ es) below found =
     let apart : eq_by_cmp text_cmp e.0 k ≡ false =
     is_eq-slice_cmp e.0 k ∙ bytes_eq_swap e.0 k ∙ sym (is_eq-slice_cmp k e.0) ∙ less_is_no_tie (text_cmp k e.0) (holds_first (is_lt (text_cmp k e.0)) (below_all text_cmp k es) below) in
     (λ i. (ap (λ b. option_map_or (same_due e.1) (cond b (Some x) (finmap.find text_cmp e.0 all)) false) apart ∙ first_true _ _ found) i
-      && past_first k x all es (holds_second (is_lt (text_cmp k e.0)) (below_all text_cmp k es) below) (second_true (option_map_or (same_due e.1) (finmap.find text_cmp e.0 all) false) _ found) i)
+    && past_first k x all es (holds_second (is_lt (text_cmp k e.0)) (below_all text_cmp k es) below) (second_true (option_map_or (same_due e.1) (finmap.find text_cmp e.0 all) false) _ found) i)
 
 found_in_itself : (es : List (List ℕ × Due)) → T (is_sorted text_cmp es) → FoundIn es es
 found_in_itself [] sorted = refl
 found_in_itself (e ∷ es) sorted =
     (λ i. (ap (λ b. option_map_or (same_due e.1) (cond b (Some e.1) (finmap.find text_cmp e.0 es)) false) (is_eq-slice_cmp e.0 e.0 ∙ bytes_eq_same e.0) ∙ same_due_itself e.1) i
-      && past_first e.0 e.1 es es (holds_first (below_all text_cmp e.0 es) (is_sorted text_cmp es) sorted) (found_in_itself es (holds_second (below_all text_cmp e.0 es) (is_sorted text_cmp es) sorted)) i)
+    && past_first e.0 e.1 es es (holds_first (below_all text_cmp e.0 es) (is_sorted text_cmp es) sorted) (found_in_itself es (holds_second (below_all text_cmp e.0 es) (is_sorted text_cmp es) sorted)) i)
 
 by_entries : (a : Offer) (es : List (List ℕ × Due)) → FoundIn (finmap.entries a) es → list_all (λ e. says a e.0 e.1) es ≡ true
 by_entries a [] found = refl
 by_entries a (e ∷ es) found =
     (λ i. (ap (λ o. option_map_or (same_due e.1) o false) (finmap.get-entries a e.0) ∙ first_true _ _ found) i
-      && by_entries a es (second_true (option_map_or (same_due e.1) (finmap.find text_cmp e.0 (finmap.entries a)) false) _ found) i)
+    && by_entries a es (second_true (option_map_or (same_due e.1) (finmap.find text_cmp e.0 (finmap.entries a)) false) _ found) i)
 
 within_itself : (a : Offer) → is_within a a ≡ true
 within_itself a = by_entries a (finmap.entries a) (found_in_itself (finmap.entries a) (finmap.entries_sorted a))

@@ -72,8 +72,8 @@ accepted_owes_nothing v t s m a =
     let sent : Sent = record { offer = offer v t s m b; touched = [] } in
     let no_name : (name : List ℕ) → is_owed v t s m (beliefs_accepted (is_whole v t) sent b) name ≡ false =
     λ name. ap (λ o. option_map_or (is_told v t) (owed o (present s m name)) false)
-      (accepted_by_name (is_whole v t) sent b name ∙ ap (λ d. believed_accepted (is_whole v t) false d (finmap.get b name)) (offer_says_it v t s m b name))
-      ∙ accepted_settles (is_whole v t) (is_told v t) (finmap.get b name) (present s m name) in
+    (accepted_by_name (is_whole v t) sent b name ∙ ap (λ d. believed_accepted (is_whole v t) false d (finmap.get b name)) (offer_says_it v t s m b name))
+    ∙ accepted_settles (is_whole v t) (is_told v t) (finmap.get b name) (present s m name) in
     (λ i. none_passes (is_owed v t s m (beliefs_accepted (is_whole v t) sent b)) no_name (names_known m (beliefs_accepted (is_whole v t) sent b)) i || and-false (is_whole v t) i)
 
 settled_by : (v : VariantName) (t : TypeName) (a : Account) (rejects b : Bool) → Account

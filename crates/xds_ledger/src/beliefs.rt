@@ -117,7 +117,11 @@ fn all_left<T: ResourceType>(
 }
 
 // What a request makes of a name that it mentions.
-fn made_unsure<T: ResourceType>(interest: &Interest<T>, touched: &Touched, name: &str) -> Option<Entry>
+fn made_unsure<T: ResourceType>(
+    interest: &Interest<T>,
+    touched: &Touched,
+    name: &str,
+) -> Option<Entry>
     ensures { result ≡ made_unsure interest.now touched.now name.now }
 {
     if touched.touches(name) && interest.covers(name) {

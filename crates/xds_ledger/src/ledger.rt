@@ -196,7 +196,14 @@ impl<T: ResourceType, V: Variant> Ledger<T, V> {
             return self.take_names(alloc, interest, touched, mentioned, versions);
         }
         let beliefs = if rejects {
-            beliefs_after(alloc, interest, &touched, mentioned, versions, &self.beliefs)?
+            beliefs_after(
+                alloc,
+                interest,
+                &touched,
+                mentioned,
+                versions,
+                &self.beliefs,
+            )?
         } else {
             let told = self.beliefs_accepted(alloc)?;
             beliefs_after(alloc, interest, &touched, mentioned, versions, &told)?

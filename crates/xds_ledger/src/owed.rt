@@ -79,7 +79,12 @@ fn believed_owed<T: ResourceType>(
     ensures { result ≡ list_any (λ e. is_owed_at variant T.TYPE interest.now catalogue.now.entries e.0 e.1) (finmap.entries beliefs.now) }
 {
     for (name, entry) in beliefs.iter() {
-        if is_owed(variant, T::TYPE, Some(entry), present(interest, catalogue, name)) {
+        if is_owed(
+            variant,
+            T::TYPE,
+            Some(entry),
+            present(interest, catalogue, name),
+        ) {
             return true;
         }
     }

@@ -46,7 +46,7 @@ get-put_sorted f m (e ∷ es) q sorted =
     get-put_sorted f (put_some m e.0 (f e.0 e.1)) es q (holds_second (below_all text_cmp e.0 es) (is_sorted text_cmp es) sorted)
     ∙ ap (λ o. option_or (option_and_then (f q) later) o) (get-put_some m e.0 (f e.0 e.1) q)
     ∙ step (f q) (bytes_eq e.0 q) e.1 later (f e.0 e.1) (finmap.get m q) (λ same. ap (λ n. f n e.1) (bytes_eq_tells e.0 q same))
-      (λ same. ap (λ n. finmap.find text_cmp n es) (sym (bytes_eq_tells e.0 q same)) ∙ find_below e.0 es below)
+    (λ same. ap (λ n. finmap.find text_cmp n es) (sym (bytes_eq_tells e.0 q same)) ∙ find_below e.0 es below)
     ∙ ap (λ b. option_or (option_and_then (f q) (cond b (Some e.1) later)) (finmap.get m q)) (bytes_eq_swap e.0 q ∙ sym (is_eq-slice_cmp q e.0))
 
 -- once f was put at each entry of a map
@@ -91,9 +91,10 @@ past_first k x all (e ∷ es) below found =
 
 each_at : {X : Type 0} (es : List (List ℕ × X)) → T (is_sorted text_cmp es) → EachAt es es
 each_at [] sorted = tt
-each_at (e ∷ es) sorted =
-    ( ap (λ b. cond b (Some e.1) (finmap.find text_cmp e.0 es)) (is_eq-slice_cmp e.0 e.0 ∙ bytes_eq_same e.0)
-    , past_first e.0 e.1 es es (holds_first (below_all text_cmp e.0 es) (is_sorted text_cmp es) sorted) (each_at es (holds_second (below_all text_cmp e.0 es) (is_sorted text_cmp es) sorted)) )
+each_at (e ∷ es) sorted = (
+  ap (λ b. cond b (Some e.1) (finmap.find text_cmp e.0 es)) (is_eq-slice_cmp e.0 e.0 ∙ bytes_eq_same e.0),
+  past_first e.0 e.1 es es (holds_first (below_all text_cmp e.0 es) (is_sorted text_cmp es) sorted) (each_at es (holds_second (below_all text_cmp e.0 es) (is_sorted text_cmp es) sorted)),
+)
 
 by_get : {X : Type 0} (m : finmap.FinMap text_cmp X) (es : List (List ℕ × X)) → EachAt (finmap.entries m) es → EachFound m es
 by_get m [] found = tt

@@ -3,8 +3,8 @@
 
 pub mod any;
 mod json;
-pub mod names;
 pub mod laws;
+pub mod names;
 pub mod refusal;
 pub mod resource;
 pub mod stamp;

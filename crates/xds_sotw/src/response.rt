@@ -12,12 +12,7 @@ use xds_ledger::Due;
 use xds_message::SotwDraft;
 use xds_resource::{NameMap, Refusal, ResourceType};
 
-fn version_text(
-    alloc: Global,
-    replica: u16,
-    changes: u64,
-    star: bool,
-) -> Result<String, Refusal>
+fn version_text(alloc: Global, replica: u16, changes: u64, star: bool) -> Result<String, Refusal>
     ensures text { IfOk result (λ s. string_bytes s ≡ version_info replica changes star) }
     ensures refused { IfErr result (λ e. e ≡ OutOfMemory) }
 {

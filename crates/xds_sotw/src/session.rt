@@ -58,7 +58,10 @@ impl<T: ResourceType> Session<T> {
             return Ok(Outcome::Ignored);
         }
         let names = self.names.after(alloc, &request.resource_names)?;
-        let touched = self.names.interest().touched_until(alloc, names.interest())?;
+        let touched = self
+            .names
+            .interest()
+            .touched_until(alloc, names.interest())?;
         let interest = names.interest();
         self.ledger.take(
             alloc,

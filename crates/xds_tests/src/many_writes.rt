@@ -7,7 +7,9 @@ use xds_resource::{Cluster, Refusal, Resource, Stamp, Write};
 // One of 10,000 writes: of 2,500 names, each with four counters, by counter and then by name.
 fn numbered(alloc: Global, number: u64) -> Result<Write<Cluster>, Refusal> {
     let (name, counter) = (number % 2_500, number / 2_500 % 4 + 1);
-    let body = format!(in alloc; "{{\"@type\":\"type.googleapis.com/envoy.config.cluster.v3.Cluster\",\"name\":\"{name}\",\"x\":{counter}}}")?;
+    let body = format!(in alloc;
+        "{{\"@type\":\"type.googleapis.com/envoy.config.cluster.v3.Cluster\",\"name\":\"{name}\",\"x\":{counter}}}"
+    )?;
     Ok(Write::put(
         Stamp::new(counter, 1),
         Resource::parse(alloc, body.as_str())?,
@@ -60,7 +62,10 @@ fn order_does_not_matter(rt: HostRuntime) -> Result<(), Fail> {
     let shuffled = joined(alloc, 7_919)?;
     assert!(rt; same_entries(alloc, &sorted, &shuffled, 2_500)?);
     assert_eq!(rt; sorted.changes(), 10_000);
-    assert_eq!(rt; (walked(&sorted), walked(&shuffled)), (Some(2_500), Some(2_500)));
+    assert_eq!(rt;
+        (walked(&sorted), walked(&shuffled)),
+        (Some(2_500), Some(2_500))
+    );
     let mut after = 0;
     for place in 0..2_500_u64 {
         let (number, write) = sorted.next_change(after).ok_or("no next change")?;

@@ -1,6 +1,5 @@
 // What a stream's requests leave of an interest, and the names that they touch, request by request.
-use crate::cases::{Outcome, hold};
-use crate::interest::names_of;
+use crate::cases::{Outcome, hold, words_of};
 use std::alloc::{AllocError, Global};
 use std::test::Fail;
 use xds_interest::{DeltaNames, Interest, SotwNames, Touched};
@@ -27,7 +26,7 @@ fn sotw<T: ResourceType>(alloc: Global, lists: &str) -> Result<String, Refusal> 
     let mut kept = SotwNames::<T>::new(alloc);
     let mut all = String::new(alloc);
     for list in lists.split('|') {
-        let names = names_of(alloc, list)?;
+        let names = words_of(alloc, list)?;
         let touched = kept.take(alloc, &names)?.try_copy(alloc)?;
         kept = kept.try_copy(alloc)?;
         write_step(&mut all, kept.interest(), &touched)?;
@@ -41,8 +40,8 @@ fn delta<T: ResourceType>(alloc: Global, requests: &str) -> Result<String, Refus
     let mut all = String::new(alloc);
     for request in requests.split('|') {
         let (subscribe, unsubscribe) = request.split_once('-').unwrap_or((request, ""));
-        let subscribe = names_of(alloc, subscribe)?;
-        let unsubscribe = names_of(alloc, unsubscribe)?;
+        let subscribe = words_of(alloc, subscribe)?;
+        let unsubscribe = words_of(alloc, unsubscribe)?;
         let touched = kept.take(alloc, &subscribe, &unsubscribe)?;
         kept = kept.try_copy(alloc)?;
         write_step(&mut all, kept.interest(), &touched)?;

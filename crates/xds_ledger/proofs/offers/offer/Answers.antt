@@ -31,7 +31,7 @@ returns-clause-ok g c =
     let telling : is_delta v ≡ true = search rules in
     c.in_ok-said.ensures.ok
     ∙ ap (λ o. put_all (λ name entry. removed s m name) o (finmap.entries b))
-      (c.in_ok-stated.ensures.ok
-      ∙ ap (λ w. put_writes (stated w b) finmap.empty (map seen c.deref.result.now)) (c.is_whole.ensures ∙ ap (is_whole v) c.TYPE.ensures)
-      ∙ ap (put_writes (stated (is_whole v t) b) finmap.empty) (ap (map seen) c.deref.ensures.value ∙ c.in_ok-shown.ensures.ok))
+    (c.in_ok-stated.ensures.ok
+    ∙ ap (λ w. put_writes (stated w b) finmap.empty (map seen c.deref.result.now)) (c.is_whole.ensures ∙ ap (is_whole v) c.TYPE.ensures)
+    ∙ ap (put_writes (stated (is_whole v t) b) finmap.empty) (ap (map seen) c.deref.ensures.value ∙ c.in_ok-shown.ensures.ok))
     ∙ delta_offer_made v t s m b telling c.in_ok-shown.ensures.named
