@@ -1,14 +1,16 @@
 #!/usr/bin/env python3
-"""Times `xds answer` over N stamped writes of about 1 KB each, and prints its peak memory.
+"""Times `xds answer` over N stamped writes of about 1 KB each, and prints its processor time, in all and a write, and its
+peak memory.
 
     python3 bench/answer.py PROGRAM [N ..]
 
-PROGRAM is the built program (crates/xds/out/xds after `rt run` in crates/xds); N is 1000 and 10000 if left out.
+PROGRAM is the built program (crates/xds/out/xds after `rt run` in crates/xds); N is 1000, 10000 and 100000 if left out.
 Every write is of a name of its own, and the request asks for all of them, so that everything is read, kept and
 written. The input is made anew each time and kept in memory. Peak memory is the kernel's `VmHWM` of the process, so it
 needs Linux.
 """
 import json
+import resource
 import subprocess
 import sys
 import threading
@@ -48,17 +50,19 @@ def watch(child, peaks):
 
 
 def measure(program, data):
-    """Seconds, peak memory in bytes and the output of one run, in a process of its own."""
+    """Seconds of processor time, of user and system, peak memory in bytes and the output of one run, in a process of
+    its own. Other work on the machine makes it longer too, but far less than the time by the clock."""
     peaks = []
-    start = time.monotonic()
+    before = resource.getrusage(resource.RUSAGE_CHILDREN)
     child = subprocess.Popen([program, "answer"], stdin=subprocess.PIPE, stdout=subprocess.PIPE)
     watcher = threading.Thread(target=watch, args=(child, peaks))
     watcher.start()
     output, _ = child.communicate(data)
-    seconds = time.monotonic() - start
+    after = resource.getrusage(resource.RUSAGE_CHILDREN)
     watcher.join()
     if child.returncode != 0:
         sys.exit("the program ended with status %d" % child.returncode)
+    seconds = after.ru_utime - before.ru_utime + after.ru_stime - before.ru_stime
     return seconds, max(peaks, default=0), output
 
 
@@ -67,14 +71,14 @@ def one(program, count):
     seconds, peak, output = measure(program, data)
     found = len(json.loads(output)["resources"])
     assert found == count, found
-    print("%6d writes, %6.1f MB in, %6.1f MB out: %7.2f s, peak %7.1f MB (%.1f times the input)"
-          % (count, len(data) / 1e6, len(output) / 1e6, seconds, peak / 1e6, peak / len(data)))
+    print("%6d writes, %6.1f MB in, %6.1f MB out: %7.2f s, %5.1f us a write, peak %7.1f MB (%.1f times the input)"
+          % (count, len(data) / 1e6, len(output) / 1e6, seconds, seconds / count * 1e6, peak / 1e6, peak / len(data)))
 
 
 def main():
     if len(sys.argv) < 2:
         sys.exit(__doc__)
-    for count in [int(word) for word in sys.argv[2:]] or [1000, 10000]:
+    for count in [int(word) for word in sys.argv[2:]] or [1000, 10000, 100000]:
         one(sys.argv[1], count)
 
 
