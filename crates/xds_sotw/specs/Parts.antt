@@ -1,0 +1,15 @@
+-- How a response is made, write by write: the answers of the functions that make it. This project's own.
+use Rattle.std.specs.Prelude.{List, [], ◌∷◌, if◌then◌else◌, is_some}
+use Rattle.std.specs.FinMap as finmap
+use Rattle.xds_resource.specs.Writes.{StampedWrite}
+use Rattle.xds_message.specs.Drafts.{Drafted, with_body}
+use Rattle.xds_ledger.specs.Offers.{Offer}
+
+-- the response with the body of a write, if the offer speaks of its name
+abbrev pub pushed : Offer → Drafted → StampedWrite → Drafted
+pushed o d w = if is_some (finmap.get o w.name) then with_body d w.body else d
+
+-- and so with each of some writes
+abbrev pub pushed_all : Offer → Drafted → List StampedWrite → Drafted
+pushed_all o d [] = d
+pushed_all o d (w ∷ ws) = pushed_all o (pushed o d w) ws

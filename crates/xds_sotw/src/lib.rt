@@ -1,0 +1,7 @@
+// A state-of-the-world session: one type on one stream.
+#![tactic(auto)]
+
+mod response;
+pub mod session;
+
+pub use session::Session;

@@ -1,0 +1,146 @@
+// What a state-of-the-world client asked for of one type, and what it was told.
+ghost use Rattle.std.specs.Prelude.{◌≡◌, ◌⊎◌, map, string_bytes, IsSome, IfOk, IfErr, OnOk, OnErr};
+ghost use Rattle.xds_resource.specs.Stamps.{max_counter};
+ghost use Rattle.xds_resource.specs.declared.refusal.Refusal.TheVariants.{OutOfMemory, NonceSpent};
+ghost use Rattle.xds_ledger.specs.Sessions.{unopened, is_taken, outcome};
+ghost use Rattle.xds_sotw.specs.Polls as polls;
+ghost use Rattle.xds_sotw.specs.Polls.{HasPolled, sending};
+
+use crate::response::response;
+use std::alloc::Global;
+use std::marker::Model;
+use xds_catalogue::Catalogue;
+use xds_interest::SotwNames;
+use xds_ledger::{Due, Ledger, Nonces, Outcome, StateOfTheWorld};
+use xds_message::{DiscoveryRequest, SotwDraft};
+use xds_resource::{NameMap, Refusal, ResourceType};
+
+/// One type on one stream, in the state-of-the-world variant.
+#[derive(Drop)]
+pub struct Session<T: ResourceType> {
+    names: SotwNames<T>,
+    ledger: Ledger<T, StateOfTheWorld>,
+}
+
+impl<T: ResourceType> Model for Session<T> {
+    ghost use Rattle.xds_ledger.specs.Sessions as sessions;
+    ghost use Rattle.xds_ledger.specs.Sessions.{session_code};
+
+    ghost Value = { sessions.Session };
+
+    ghost coded = { session_code };
+
+    ghost view = { λ s. record { asked = s.names; account = s.ledger } };
+}
+
+impl<T: ResourceType> Session<T> {
+    /// Before the first request. It is owed nothing.
+    pub fn new(alloc: Global) -> Session<T>
+        ensures { result ≡ unopened }
+    {
+        Session {
+            names: SotwNames::new(alloc),
+            ledger: Ledger::new(alloc),
+        }
+    }
+
+    /// Takes a request of this type: it settles the response that it answers, and its names are taken. One whose
+    /// nonce is out of date is ignored; the first is taken in any case. Refused only by `OutOfMemory`, and then
+    /// nothing is taken.
+    pub fn take(&mut self, alloc: Global, request: &DiscoveryRequest) -> Result<Outcome, Refusal>
+        ensures ok { OnOk result (self.new ≡ polls.take T.TYPE self.old request.now) }
+        ensures taken { IfOk result (λ r. r ≡ outcome self.old request.now.response_nonce) }
+        ensures err { OnErr result (self.new ≡ self.old) }
+        ensures refused { IfErr result (λ e. e ≡ OutOfMemory) }
+    {
+        self.take_list(
+            alloc,
+            request.response_nonce.as_str(),
+            request.error_detail.is_some(),
+            &request.resource_names,
+        )
+    }
+
+    // Whether a request with this nonce is taken.
+    fn takes(&self, nonce: &str) -> bool
+        ensures { result ≡ is_taken self.now nonce.now }
+    {
+        !(self.names.has_begun() && self.ledger.is_stale(nonce))
+    }
+
+    // Takes a request with this nonce, with or without an error, and with this list of names.
+    fn take_list(
+        &mut self,
+        alloc: Global,
+        nonce: &str,
+        rejects: bool,
+        list: &[String],
+    ) -> Result<Outcome, Refusal>
+        ensures ok { OnOk result (self.new ≡ polls.take_list T.TYPE self.old nonce.now rejects (map string_bytes list.now)) }
+        ensures taken { IfOk result (λ r. r ≡ outcome self.old nonce.now) }
+        ensures err { OnErr result (self.new ≡ self.old) }
+        ensures refused { IfErr result (λ e. e ≡ OutOfMemory) }
+    {
+        if !self.takes(nonce) {
+            return Ok(Outcome::Ignored);
+        }
+        let names = self.names.after(alloc, list)?;
+        let interest = names.interest();
+        let touched = self.names.interest().touched_until(alloc, interest)?;
+        let mentioned = interest.names();
+        self.ledger
+            .take(alloc, nonce, rejects, interest, touched, mentioned, &[])?;
+        self.names = names;
+        Ok(Outcome::Taken)
+    }
+
+    /// Whether the client is owed something: a response of the type is unanswered or due. It takes no memory.
+    pub fn owes(&self, catalogue: &Catalogue<T>) -> bool
+        ensures { result ≡ polls.owes T.TYPE self.now catalogue.now.entries }
+    {
+        self.names.has_begun() && self.ledger.owes(self.names.interest(), catalogue)
+    }
+
+    // The offer of the next response, if one is to be sent.
+    fn sending(
+        &self,
+        alloc: Global,
+        catalogue: &Catalogue<T>,
+    ) -> Result<Option<NameMap<Due>>, Refusal>
+        ensures ok { IfOk result (λ o. o ≡ sending T.TYPE self.now catalogue.now.entries) }
+        ensures refused { IfErr result (λ e. e ≡ OutOfMemory) }
+    {
+        if !self.names.has_begun() {
+            return Ok(None);
+        }
+        let interest = self.names.interest();
+        let offer = self.ledger.sending(alloc, interest, catalogue)?;
+        Ok(offer)
+    }
+
+    /// The next response, if one is to be sent: nothing of the type is unanswered, something is due, and it isn't
+    /// what the client refused. `replica` is the number of this replica. Refused by `OutOfMemory`, or by
+    /// `NonceSpent` where a response is to be sent and the stream has no nonce left; then nothing is sent, and no
+    /// nonce is drawn.
+    pub fn poll(
+        &mut self,
+        alloc: Global,
+        replica: u16,
+        catalogue: &Catalogue<T>,
+        nonces: &mut Nonces,
+    ) -> Result<Option<SotwDraft>, Refusal>
+        ensures ok { IfOk result (λ answer. HasPolled replica T.TYPE catalogue.now self.old nonces.old answer self.new nonces.new) }
+        ensures err { OnErr result ((self.new ≡ self.old) × (nonces.new ≡ nonces.old)) }
+        ensures refused { IfErr result (λ e. (e ≡ OutOfMemory) ⊎ ((e ≡ NonceSpent) × (nonces.old ≡ max_counter) × IsSome (sending T.TYPE self.old catalogue.now.entries))) }
+    {
+        let Some(offer) = self.sending(alloc, catalogue)? else {
+            return Ok(None);
+        };
+        let number = nonces.upcoming()?;
+        let interest = self.names.interest();
+        let draft = response(alloc, replica, catalogue, interest, &offer, number)?;
+        nonces.next()?;
+        self.ledger.send(alloc, offer, number);
+        Ok(Some(draft))
+    }
+}
