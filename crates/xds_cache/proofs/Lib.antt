@@ -1,5 +1,0 @@
-pub mod Making
-pub mod Stating
-pub mod Interests
-pub mod Judging
-pub mod Opening
