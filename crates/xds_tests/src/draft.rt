@@ -9,8 +9,8 @@ use xds_resource::{Cluster, Refusal, Resource, Stamp, TypeName, Write};
 const BODY: &str =
     "{\"@type\":\"type.googleapis.com/envoy.config.cluster.v3.Cluster\",\"name\":\"q\\\"\\\\\\u0001é\",\"x\":[-7,\"\\n\"]}";
 
-fn put(alloc: Global, counter: u64, text: &str) -> Result<Write<Cluster>, Refusal> {
-    Ok(Write::put(Stamp::new(counter, 1), Resource::parse(alloc, text)?))
+fn put(alloc: Global, stamp: Stamp, text: &str) -> Result<Write<Cluster>, Refusal> {
+    Ok(Write::put(stamp, Resource::parse(alloc, text)?))
 }
 
 fn text(alloc: Global, text: &str) -> Result<String, Refusal> {
@@ -35,8 +35,8 @@ fn state_of_the_world_drafts_are_joined(rt: HostRuntime) -> Result<(), Fail> {
         text(alloc, "1")?,
     );
     let empty = draft.write(alloc)?;
-    draft.push(&put(alloc, 1, BODY)?)?;
-    draft.push(&put(alloc, 2, BODY)?)?;
+    draft.push(&put(alloc, Stamp::new(1, 1), BODY)?)?;
+    draft.push(&put(alloc, Stamp::new(2, 1), BODY)?)?;
     let want = format!(in alloc;
         "{{\"nonce\":\"1\",\"resources\":[{BODY},{BODY}],\"typeUrl\":\"type.googleapis.com/envoy.config.cluster.v3.Cluster\",\"versionInfo\":\"1.2\"}}"
     )?;
@@ -60,7 +60,7 @@ fn delta_drafts_are_joined(rt: HostRuntime) -> Result<(), Fail> {
         text(alloc, "1.2")?,
         text(alloc, "1")?,
     );
-    draft.push(alloc, &put(alloc, 2, BODY)?)?;
+    draft.push(alloc, &put(alloc, Stamp::new(2, 1), BODY)?)?;
     draft.push::<Cluster>(
         alloc,
         &Write::deletion(Stamp::new(3, 1), ArcStr::from_str(alloc, "gone")?),
