@@ -9,8 +9,6 @@ mod catalogue;
 #[cfg(test)]
 mod delta;
 #[cfg(test)]
-mod draft;
-#[cfg(test)]
 mod interest;
 #[cfg(test)]
 mod many_writes;
