@@ -6,6 +6,4 @@ pub mod VersionLemmas
 pub mod OneDeltaMessage
 pub mod DeltaReadsBack
 pub mod DeltaWrittenLemmas
-pub mod JoinedLemmas
-pub mod DraftLemmas
 pub mod StampedWriteLemmas

@@ -5,8 +5,5 @@ pub mod Responses
 pub mod Versions
 pub mod DeltaMessages
 pub mod DeltaWritten
-pub mod Joined
-pub mod Drafts
-pub mod DraftTexts
 pub mod Laws
 pub mod StampedWrites

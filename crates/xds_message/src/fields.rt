@@ -114,7 +114,7 @@ fn texts_of(alloc: Global, items: &Vec<Value>) -> Result<Vec<String>, Refusal>
 }
 
 /// Equal texts.
-pub(crate) fn copy_texts(alloc: Global, texts: &Vec<String>) -> Result<Vec<String>, Refusal>
+pub fn copy_texts(alloc: Global, texts: &Vec<String>) -> Result<Vec<String>, Refusal>
     ensures ok { IfOk result
         (λ v. map string_bytes v.items ≡ map string_bytes texts.now.items) }
     ensures refused { IfErr result (λ e. e ≡ OutOfMemory) }

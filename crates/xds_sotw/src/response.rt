@@ -8,7 +8,7 @@ use std::alloc::Global;
 use xds_catalogue::Catalogue;
 use xds_interest::Interest;
 use xds_ledger::Due;
-use xds_message::SotwDraft;
+use xds_draft::SotwDraft;
 use xds_resource::{NameMap, Refusal, ResourceType, Write};
 
 fn version_text(alloc: Global, replica: u16, changes: u64, star: bool) -> Result<String, Refusal>

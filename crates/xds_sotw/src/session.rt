@@ -12,7 +12,8 @@ use std::marker::Model;
 use xds_catalogue::Catalogue;
 use xds_interest::SotwNames;
 use xds_ledger::{Due, Ledger, Nonces, Outcome, StateOfTheWorld};
-use xds_message::{DiscoveryRequest, SotwDraft};
+use xds_draft::SotwDraft;
+use xds_message::DiscoveryRequest;
 use xds_resource::{NameMap, Refusal, ResourceType};
 
 /// One type on one stream, in the state-of-the-world variant.

@@ -1,0 +1,12 @@
+use Rattle.std.proofs.Common.{subst}
+use Rattle.xds_draft.specs.Drafts.{DraftedDelta, DraftedResource, AreSound, drafted_resource, delta_message_of, IsSoundDelta}
+use Rattle.xds_message.specs.DeltaMessages.{VersionedResource}
+use Rattle.xds_message.proofs.Lists.{map-twice}
+use Rattle.xds_draft.proofs.DraftLemmas.{AreSound-each}
+use Rattle.xds_draft.proofs.delta_draft.DeltaDraft.message.Goals as goal
+
+pub returns-clause-sound : goal.returns-clause-sound
+returns-clause-sound c =
+    let sound = AreSound-each (λ (r : DraftedResource). r.body) c.self.inside.resources.items c.in_ok-resources_of.ensures.sound in
+    let moved = map-twice drafted_resource (λ (r : VersionedResource). r.resource) c.self.inside.resources.items in
+    subst (λ (m : DraftedDelta). IsSoundDelta (delta_message_of m)) c.self.view_is (subst AreSound moved sound)

@@ -1,0 +1,3 @@
+pub mod Joined
+pub mod Drafts
+pub mod DraftTexts
