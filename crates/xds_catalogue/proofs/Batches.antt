@@ -83,12 +83,15 @@ joins_more old now next aside beside w rest all so_far sound joins back =
       more = omega (arith, count, so_far.more);
     }
 
-pub joins_end : (old now : TwoMaps) (aside : List PutAside) (all : List StampedWrite) → JoinsSoFar old now aside [] all → (h : Holdings) → h ≡ held_by now → joining (held_by old) all ≡ Ok (now.changes - old.changes, h)
-joins_end old now aside all so_far h held =
-    let is : joined (held_by old) all ≡ h = sym so_far.same ∙ joined-none (held_by now) so_far.sound.named ∙ sym held in
+-- what is held once nothing is left to do
+pub joins_done : (old now : TwoMaps) (aside : List PutAside) (all : List StampedWrite) → JoinsSoFar old now aside [] all → held_by now ≡ joined (held_by old) all
+joins_done old now aside all so_far = sym (joined-none (held_by now) so_far.sound.named) ∙ so_far.same
+
+-- what a batch answers that is joined whole
+pub joins_all : (old now : Holdings) (all : List StampedWrite) → now ≡ joined old all → old.changes ≤ now.changes → now.changes ≤ max_counter → joining old all ≡ Ok (now.changes - old.changes, now)
+joins_all old now all is more short =
     let count = ap (λ k. k.changes) is in
-    let same = ap (λ k. k.changes) held in
-    joining-fits (held_by old) h all (now.changes - old.changes) (omega (arith, count, same, so_far.more)) is (omega (arith, same, so_far.sound.short))
+    joining-fits old now all (now.changes - old.changes) (omega (arith, count, more)) (sym is) short
 
 -- the tables as they were, once all is taken back
 pub all_back : (old now left : TwoMaps) (aside : List PutAside) → ((changes greatest : ℕ) → with_counts (all_taken_back now aside) changes greatest ≡ with_counts old changes greatest)

@@ -6,3 +6,4 @@ pub mod Local
 pub mod Next
 pub mod Tables
 pub mod Laws
+pub mod Pending

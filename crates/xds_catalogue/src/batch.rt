@@ -7,6 +7,7 @@ ghost use Rattle.xds_resource.specs.Stamps.{max_counter};
 ghost use Rattle.xds_catalogue.specs.Holdings.{IsCatalogue};
 ghost use Rattle.xds_catalogue.specs.Changes.{surpasses, is_news as news_after};
 ghost use Rattle.xds_catalogue.specs.Joins.{changes_by, joined, joining};
+ghost use Rattle.xds_catalogue.specs.Pending.{tables_before};
 ghost use Rattle.xds_catalogue.specs.Tables.{IsSound, IsSoundBut, held_by, former_numbers, all_taken_back, with_counts};
 
 use crate::tables::{Displaced, Tables};
@@ -53,6 +54,27 @@ pub(crate) fn join_all<T: ResourceType>(
         return Err(Refusal::CounterSpent);
     }
     let changes = tables.changes();
+    let displaced = put_all(tables, alloc, writes)?;
+    drop_former(tables, displaced);
+    Ok(tables.changes() - changes)
+}
+
+// Puts the writes that are news, all or none, and answers what they put aside. The numbers that entries had before stay.
+pub(crate) fn put_all<T: ResourceType>(
+    tables: &mut Tables<T>,
+    alloc: Global,
+    writes: Vec<Write<T>>,
+) -> Result<Vec<Displaced<T>>, Refusal>
+    requires sound { IsSound tables.old }
+    requires room { (joined (held_by tables.old) writes.items).changes ≤ max_counter }
+    ensures sound { IfOk result (λ aside. IsSoundBut (former_numbers aside.items) tables.new) }
+    ensures joins { OnOk result (held_by tables.new ≡ joined (held_by tables.old) writes.items) }
+    ensures back { IfOk result (λ aside. tables_before tables.new aside.items tables.old.changes tables.old.greatest ≡ tables.old) }
+    ensures more { tables.old.changes ≤ tables.new.changes }
+    ensures err { OnErr result (tables.new ≡ tables.old) }
+    ensures refused { IfErr result (λ e. e ≡ Refusal.OutOfMemory) }
+{
+    let changes = tables.changes();
     let greatest = tables.greatest();
     let mut displaced = Vec::new(alloc);
     for write in writes {
@@ -62,8 +84,7 @@ pub(crate) fn join_all<T: ResourceType>(
             return Err(refusal);
         }
     }
-    drop_former(tables, displaced);
-    Ok(tables.changes() - changes)
+    Ok(displaced)
 }
 
 // Puts a write, if it is news, and keeps what it puts aside.
@@ -92,7 +113,7 @@ fn put_news<T: ResourceType>(
 }
 
 // Takes changes back, the last one first.
-fn take_all_back<T: ResourceType>(tables: &mut Tables<T>, displaced: Vec<Displaced<T>>)
+pub(crate) fn take_all_back<T: ResourceType>(tables: &mut Tables<T>, displaced: Vec<Displaced<T>>)
     ensures { tables.new ≡ all_taken_back tables.old displaced.items }
 {
     let mut left = displaced;
@@ -102,7 +123,7 @@ fn take_all_back<T: ResourceType>(tables: &mut Tables<T>, displaced: Vec<Displac
 }
 
 // Takes out the numbers that entries had before they changed.
-fn drop_former<T: ResourceType>(tables: &mut Tables<T>, displaced: Vec<Displaced<T>>)
+pub(crate) fn drop_former<T: ResourceType>(tables: &mut Tables<T>, displaced: Vec<Displaced<T>>)
     requires { IsSoundBut (former_numbers displaced.items) tables.old }
     ensures sound { IsSound tables.new }
     ensures held { held_by tables.new ≡ held_by tables.old }
@@ -115,7 +136,7 @@ fn drop_former<T: ResourceType>(tables: &mut Tables<T>, displaced: Vec<Displaced
 }
 
 // Whether the writes would make more changes than can be counted. It takes no memory.
-fn is_spent_by<T: ResourceType>(tables: &Tables<T>, writes: &[Write<T>]) -> bool
+pub(crate) fn is_spent_by<T: ResourceType>(tables: &Tables<T>, writes: &[Write<T>]) -> bool
     requires sound { IsSound tables.now }
     requires few { length writes.now < 2 ^ 64 }
     ensures { result ≡ nat_lt max_counter (joined (held_by tables.now) writes.now).changes }

@@ -1,5 +1,5 @@
 // The catalogue of one type.
-ghost use Rattle.std.specs.Prelude.{◌≡◌, ◌≤◌, ◌∷◌, [], map, is_some, true, false, IfSome, IfNone, IsOk, IfOk, IfErr, OnErr};
+ghost use Rattle.std.specs.Prelude.{◌≡◌, ◌≤◌, ◌<◌, ◌^◌, ◌∷◌, [], length, nat_lt, map, is_some, true, false, IfSome, IfNone, IsOk, IfOk, IfErr, OnErr};
 ghost use Rattle.std.specs.Option.{option_map};
 ghost use Rattle.std.specs.Arc.{arc_str_bytes};
 ghost use Rattle.std.specs.FinMap as finmap;
@@ -7,11 +7,13 @@ ghost use Rattle.xds_resource.specs.Refusals.{Gives, unless_refused};
 ghost use Rattle.xds_resource.specs.Resources.{is_valid_name};
 ghost use Rattle.xds_catalogue.specs.Holdings.{nothing_held, IsCatalogue, IsNumbered};
 ghost use Rattle.xds_catalogue.specs.Content.{content};
-ghost use Rattle.xds_catalogue.specs.Joins.{joining};
+ghost use Rattle.xds_resource.specs.Stamps.{max_counter};
+ghost use Rattle.xds_catalogue.specs.Joins.{joined, joining};
 ghost use Rattle.xds_catalogue.specs.Local.{putting, deleting, has_live, spent_conditions, next_counter};
 ghost use Rattle.xds_catalogue.specs.Next.{IsNextChange, NoneAfter};
 
-use crate::batch::{join, join_all};
+use crate::batch::{is_spent_by, join, join_all, put_all};
+use crate::pending::PendingJoin;
 use crate::tables::Tables;
 use std::alloc::Global;
 use std::marker::Model;
@@ -23,8 +25,8 @@ use xds_resource::{Refusal, Resource, ResourceType, Stamp, Write};
 /// The greatest write of each name of the type `T`. Deletions stay for good.
 #[derive(Drop)]
 pub struct Catalogue<T: ResourceType> {
-    tables: Tables<T>,
-    alloc: Global,
+    pub(crate) tables: Tables<T>,
+    pub(crate) alloc: Global,
 }
 
 impl<T: ResourceType> Model for Catalogue<T> {
@@ -101,6 +103,36 @@ impl<T: ResourceType> Catalogue<T> {
         ensures err { OnErr result (self.new ≡ self.old) }
     {
         join_all(&mut self.tables, self.alloc, writes)
+    }
+
+    /// Whether the writes would make more changes than can be counted. It takes no memory.
+    pub fn is_spent_by(&self, writes: &[Write<T>]) -> bool
+        requires { length writes.now < 2 ^ 64 }
+        ensures { result ≡ nat_lt max_counter (joined self.now writes.now).changes }
+    {
+        is_spent_by(&self.tables, writes)
+    }
+
+    /// Joins writes, all or none, as `join_all` does, but so that they can still be taken back. Where there is no memory, the
+    /// catalogue comes back as it was.
+    pub fn start_join(self, writes: Vec<Write<T>>) -> Result<PendingJoin<T>, Catalogue<T>>
+        requires { (joined self writes.items).changes ≤ max_counter }
+        ensures ok { IfOk result (λ p. (p.before ≡ self) × (p.after ≡ joined self writes.items)) }
+        ensures err { IfErr result (λ c. c ≡ self) }
+    {
+        let Catalogue { mut tables, alloc } = self;
+        let changes = tables.changes();
+        let greatest = tables.greatest();
+        match put_all(&mut tables, alloc, writes) {
+            Ok(displaced) => Ok(PendingJoin {
+                tables,
+                displaced,
+                changes,
+                greatest,
+                alloc,
+            }),
+            Err(_) => Err(Catalogue { tables, alloc }),
+        }
     }
 
     /// Puts a resource, as a new write even where an equal body stands. `writer` is the number of this replica,

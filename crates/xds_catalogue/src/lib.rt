@@ -6,6 +6,8 @@ pub mod catalogue;
 pub mod laws;
 mod names;
 mod numbers;
+pub mod pending;
 mod tables;
 
 pub use catalogue::Catalogue;
+pub use pending::PendingJoin;

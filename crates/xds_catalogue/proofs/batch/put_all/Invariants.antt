@@ -1,7 +1,7 @@
 use Rattle.std.proofs.Common.{◌≡◌, length}
 use Rattle.std.specs.Vec.Iter.{into_iter_items, into_iter_len}
 use Rattle.xds_catalogue.proofs.Batches.{JoinsSoFar}
-use Rattle.xds_catalogue.proofs.batch.join_all.Given as goal
+use Rattle.xds_catalogue.proofs.batch.put_all.Given as goal
 
 abbrev pub invariant-loop-write : goal.invariant-loop-write
 invariant-loop-write g l = record {
