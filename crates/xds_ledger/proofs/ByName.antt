@@ -1,25 +1,23 @@
 -- Offers and beliefs, name by name.
-use Rattle.std.proofs.Common.{◌≡◌, ℕ, List, [], ◌∷◌, ◌++◌, Bool, true, false, cond, ◌||◌, ◌&&◌, not, Option, Some, None, refl, sym, ap, ◌∙◌}
-use Rattle.std.specs.Prelude.{bytes_eq, is_some, option_map, if◌then◌else◌}
+use Rattle.std.proofs.Common.{◌≡◌, ℕ, List, ◌++◌, Bool, true, false, cond, ◌||◌, ◌&&◌, not, Option, Some, None, refl, sym, ap, ◌∙◌}
+use Rattle.std.specs.Prelude.{is_some, option_map, if◌then◌else◌}
 use Rattle.std.specs.Option.{option_and_then, option_map_or}
-use Rattle.std.specs.List.{list_any}
 use Rattle.std.specs.FinMap as finmap
 use Rattle.std.specs.FinSet as set
 use Rattle.xds_resource.specs.declared.types.TypeName.{TypeName}
-use Rattle.xds_resource.specs.Writes.{text_cmp}
 use Rattle.xds_resource.proofs.NameMaps.{has_text, get-tabulated, has_text-items, absent_key, in_neither}
 use Rattle.xds_interest.specs.Interests.{Selection, covers}
-use Rattle.xds_interest.specs.Touches.{Touch, touches}
+use Rattle.xds_interest.specs.Touches.{touches}
 use Rattle.xds_catalogue.specs.Holdings.{Entries}
 use Rattle.xds_ledger.specs.declared.variant.VariantName.{VariantName}
 use Rattle.xds_ledger.specs.declared.entry.Entry.{Entry}
 use Rattle.xds_ledger.specs.declared.entry.Entry.TheVariants.{Told, Unsure}
 use Rattle.xds_ledger.specs.declared.entry.Due.{Due}
-use Rattle.xds_ledger.specs.declared.entry.Due.TheVariants.{Stated, Removed}
+use Rattle.xds_ledger.specs.declared.entry.Due.TheVariants.{Stated}
 use Rattle.xds_ledger.specs.Variants.{is_whole, is_told}
 use Rattle.xds_ledger.specs.Owed.{Beliefs, live_version, present, owed, owed_of, is_owed, something_owed, names_known}
-use Rattle.xds_ledger.specs.Offers.{offered, offer}
-use Rattle.xds_ledger.specs.Ledgers.{Sent, was_touched, believed_accepted, beliefs_accepted, believed_touched, believed_taken, beliefs_taken}
+use Rattle.xds_ledger.specs.Offers.{offered}
+use Rattle.xds_ledger.specs.Ledgers.{was_touched, believed_accepted, believed_touched, believed_taken}
 use Rattle.xds_ledger.specs.Laws.{OfferSaysIt, AcceptedByName, TakenByName, UntouchedKeepsBelief, TouchedIsNotTold, NothingOwed}
 use Rattle.xds_ledger.proofs.Choosing.{cond_same, and-false, listed_fails}
 

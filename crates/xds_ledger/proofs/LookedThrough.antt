@@ -1,5 +1,5 @@
 -- A catalogue looked through in the order of its changes: up to a number, each name without an entry is absent.
-use Rattle.std.proofs.Common.{◌≡◌, ℕ, ◌<◌, ◌≤◌, List, Bool, true, false, Option, Some, None, refl, sym, ap, subst, ◌∙◌, inl, inr, arith}
+use Rattle.std.proofs.Common.{◌≡◌, ℕ, ◌<◌, ◌≤◌, List, true, false, Option, Some, None, refl, sym, ap, subst, ◌∙◌, inl, inr, arith}
 use Rattle.std.specs.Prelude.{is_some, is_none, ◌&&◌, IfSome}
 use Rattle.std.specs.FinMap as finmap
 use Rattle.std.proofs.lemmas.Bool.{cases_lt}

@@ -1,5 +1,5 @@
 -- That what the code makes, write by write and entry by entry, is the offer.
-use Rattle.std.proofs.Common.{◌≡◌, ℕ, List, [], ◌∷◌, ◌++◌, map, Bool, true, false, cond, ◌||◌, ◌&&◌, not, Option, Some, None, refl, sym, ap, subst, ◌∙◌}
+use Rattle.std.proofs.Common.{◌≡◌, ℕ, List, [], ◌∷◌, map, Bool, true, false, cond, ◌&&◌, Option, Some, None, refl, sym, ap, subst, ◌∙◌}
 use Rattle.std.specs.Prelude.{T, bytes_eq, is_some, option_map, if◌then◌else◌, IfSome}
 use Rattle.std.specs.Option.{option_or, option_and_then, option_map_or}
 use Rattle.std.specs.Ordering.{eq_by_cmp}
@@ -23,8 +23,8 @@ use Rattle.xds_ledger.specs.declared.entry.Entry.TheVariants.{Told, Unsure}
 use Rattle.xds_ledger.specs.declared.entry.Due.{Due}
 use Rattle.xds_ledger.specs.declared.entry.Due.TheVariants.{Stated, Removed}
 use Rattle.xds_ledger.specs.Variants.{is_delta, is_whole, is_told}
-use Rattle.xds_ledger.specs.Owed.{Beliefs, live_version, present, owed, owed_of, is_owed}
-use Rattle.xds_ledger.specs.Offers.{Offer, offered, offer}
+use Rattle.xds_ledger.specs.Owed.{Beliefs, live_version, present, owed}
+use Rattle.xds_ledger.specs.Offers.{Offer, offer}
 use Rattle.xds_ledger.specs.OfferParts.{stated, put_writes, removed}
 use Rattle.xds_ledger.proofs.Choosing.{cond_same}
 use Rattle.xds_ledger.proofs.ByName.{offer_says_it}

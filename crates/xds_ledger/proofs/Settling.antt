@@ -1,23 +1,20 @@
 -- What an accepted offer settles, and that sending commutes with taking.
-use Rattle.std.proofs.Common.{◌≡◌, ℕ, List, [], ◌∷◌, ◌++◌, Bool, true, false, cond, ◌||◌, ◌&&◌, not, Option, Some, None, refl, sym, ap, subst, ◌∙◌}
+use Rattle.std.proofs.Common.{◌≡◌, ℕ, List, [], ◌∷◌, ◌++◌, Bool, true, false, ◌||◌, ◌&&◌, Option, Some, None, refl, sym, ap, subst, ◌∙◌}
 use Rattle.std.specs.Prelude.{bytes_eq, is_some, option_map, if◌then◌else◌}
 use Rattle.std.specs.Option.{option_map_or}
 use Rattle.std.specs.FinMap as finmap
 use Rattle.xds_resource.specs.declared.types.TypeName.{TypeName}
 use Rattle.xds_resource.proofs.NameMaps.{bytes_eq_same}
-use Rattle.xds_interest.specs.Interests.{Selection}
-use Rattle.xds_interest.specs.Touches.{Touch}
-use Rattle.xds_catalogue.specs.Holdings.{Entries}
 use Rattle.xds_ledger.specs.declared.variant.VariantName.{VariantName}
 use Rattle.xds_ledger.specs.declared.entry.Entry.{Entry}
 use Rattle.xds_ledger.specs.declared.entry.Entry.TheVariants.{Told, Unsure}
 use Rattle.xds_ledger.specs.declared.entry.Due.{Due}
 use Rattle.xds_ledger.specs.declared.entry.Due.TheVariants.{Stated, Removed}
 use Rattle.xds_ledger.specs.Variants.{is_whole, is_told}
-use Rattle.xds_ledger.specs.Owed.{Beliefs, present, owed, owed_after, owed_of, is_owed, something_owed, names_known}
-use Rattle.xds_ledger.specs.Offers.{Offer, offered, offer}
+use Rattle.xds_ledger.specs.Owed.{Beliefs, present, owed, is_owed, names_known}
+use Rattle.xds_ledger.specs.Offers.{offer}
 use Rattle.xds_ledger.specs.Ledgers.{Sent, Account, once_told, believed_accepted, beliefs_accepted, accept, reject, touch, resume, nonce_text}
-use Rattle.xds_ledger.specs.Sessions.{Session, Answer, Names, taken}
+use Rattle.xds_ledger.specs.Sessions.{Session}
 use Rattle.xds_ledger.specs.Laws.{AcceptedOwesNothing, SendingCommutes, with_sent}
 use Rattle.xds_ledger.proofs.Choosing.{and-false, none_passes}
 use Rattle.xds_ledger.proofs.ByName.{offer_says_it, accepted_by_name}

@@ -1,5 +1,5 @@
 -- What the proof of the headline needs to know of sessions. This project's own.
-use Rattle.std.specs.Prelude.{◌≡◌, ℕ, List, [], ◌∷◌, ◌++◌, Bool, true, false, Option, Some, None, bytes_eq}
+use Rattle.std.specs.Prelude.{◌≡◌, ℕ, List, [], ◌∷◌, ◌++◌, Bool, true, false, Some, None, bytes_eq}
 use Rattle.std.specs.FinMap as finmap
 use Rattle.std.specs.FinSet as set
 use Rattle.xds_resource.specs.declared.types.TypeName.{TypeName}
@@ -8,9 +8,8 @@ use Rattle.xds_interest.specs.Interests.{Selection}
 use Rattle.xds_interest.specs.Touches.{Touch, touches}
 use Rattle.xds_catalogue.specs.Holdings.{Entries}
 use Rattle.xds_ledger.specs.declared.variant.VariantName.{VariantName}
-use Rattle.xds_ledger.specs.declared.entry.Entry.{Entry}
-use Rattle.xds_ledger.specs.declared.entry.Entry.TheVariants.{Told, Unsure}
-use Rattle.xds_ledger.specs.Owed.{Beliefs, owed_of, is_owed, something_owed}
+use Rattle.xds_ledger.specs.declared.entry.Entry.TheVariants.{Told}
+use Rattle.xds_ledger.specs.Owed.{Beliefs, is_owed, something_owed}
 use Rattle.xds_ledger.specs.Offers.{Offer, offered, offer, same_offer}
 use Rattle.xds_ledger.specs.Ledgers.{Sent, Account, nonce_text, is_due, believed_accepted, was_touched, beliefs_accepted, beliefs_taken, believed_taken, accept}
 use Rattle.xds_ledger.specs.Sessions.{Session, Answer, Names, taken}

@@ -3,6 +3,7 @@ pub mod Owed
 pub mod Offers
 pub mod Ledgers
 pub mod Sessions
+pub mod Texts
 pub mod Parts
 pub mod OfferParts
 pub mod Laws

@@ -1,5 +1,5 @@
 -- What a client is owed of each name, from what it was told and what the catalogue holds. This project's own.
-use Rattle.std.specs.Prelude.{◌≡◌, ℕ, List, ◌++◌, Bool, true, false, ◌&&◌, ◌||◌, not, if◌then◌else◌, Option, Some, None, bytes_eq, is_some, option_map, unwrap_or, refl}
+use Rattle.std.specs.Prelude.{◌≡◌, ℕ, List, ◌++◌, Bool, false, if◌then◌else◌, Option, Some, None, bytes_eq, option_map, refl}
 use Rattle.std.specs.Option.{option_and_then, option_map_or}
 use Rattle.std.specs.List.{list_any}
 use Rattle.std.specs.FinMap as finmap

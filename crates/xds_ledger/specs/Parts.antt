@@ -1,7 +1,6 @@
 -- The parts from which what is believed is made, entry by entry: the answers of the functions that make it. This project's own.
 use Rattle.std.specs.Prelude.{ℕ, List, Bool, ◌&&◌, ◌||◌, not, if◌then◌else◌, Option, Some, None, is_some}
 use Rattle.std.specs.FinMap as finmap
-use Rattle.xds_resource.specs.Writes.{text_cmp}
 use Rattle.xds_interest.specs.Interests.{Selection, covers}
 use Rattle.xds_interest.specs.Touches.{Touch, touches}
 use Rattle.xds_ledger.specs.declared.entry.Entry.{Entry}

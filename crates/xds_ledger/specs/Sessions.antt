@@ -1,12 +1,11 @@
 -- A session is one type on one stream: what the client asked for, and the account of what it was told. One definition for
 -- both variants; a request of either says how the interest changes, what it touches, what it mentions and what it resumes from.
-use Rattle.std.specs.Prelude.{ℕ, List, [], ◌∷◌, Bool, true, false, ◌&&◌, not, if◌then◌else◌, Option, Some, None, option_map, refl}
+use Rattle.std.specs.Prelude.{◌≡◌, ℕ, ◌+◌, List, Bool, ◌&&◌, not, if◌then◌else◌, Option, Some, None, MatchOption, refl}
 use Rattle.std.specs.FinMap as finmap
 use Rattle.std.specs.FinSet as set
 use Rattle.std.specs.Coded.{Coded, code_by, coded×}
 use Rattle.xds_resource.specs.declared.types.TypeName.{TypeName}
 use Rattle.xds_resource.specs.Writes.{text_cmp}
-use Rattle.xds_interest.specs.Interests.{Selection}
 use Rattle.xds_interest.specs.Asked.{Asked, asked_code, unasked, sotw_asked, delta_asked}
 use Rattle.xds_interest.specs.Delta.{Mention}
 use Rattle.xds_interest.specs.Touches.{Touch, sotw_touch, delta_touch}
@@ -88,3 +87,10 @@ sending v t s m = if s.asked.begun then ledgers.sending v t s.asked.interest m s
 -- once that was sent as the response of this number
 abbrev pub send : Session → Offer → ℕ → Session
 send s offer nonce = record s { account = ledgers.send s.account offer nonce }
+
+-- What a poll answers and leaves, of the session and of the stream's count of responses: where an offer is to be sent, it is
+-- sent as the next response, and else nothing happens. `respond` is the response of an offer, as the one of a number.
+abbrev pub HasPolled : {R : Type 0} → VariantName → TypeName → Entries → (Offer → ℕ → R) → Session → ℕ → Option R → Session → ℕ → Type 0
+HasPolled v t m respond before count answer after count_after =
+    MatchOption (sending v t before m) ((answer ≡ None) × (after ≡ before) × (count_after ≡ count))
+    (λ o. (answer ≡ Some (respond o (count + 1))) × (after ≡ send before o (count + 1)) × (count_after ≡ count + 1))

@@ -10,6 +10,7 @@ ghost use Rattle.xds_ledger.specs.Offers.{offer as offer_of};
 ghost use Rattle.xds_ledger.specs.Variants.{is_whole};
 
 use crate::beliefs::{accepted, resumed, taken};
+use crate::copying::{copy_beliefs, copy_offer};
 use crate::entry::{Due, Entry};
 use crate::offers::{is_same_offer, offer};
 use crate::owed::something_owed;
@@ -264,5 +265,43 @@ impl<T: ResourceType, V: Variant> Ledger<T, V> {
         }
         self.beliefs = beliefs;
         Ok(())
+    }
+
+    // A copy of the unanswered response, if there is one.
+    fn copy_sent(&self, alloc: Global) -> Result<Option<Sent>, Refusal>
+        ensures ok { IfOk result (λ s. s ≡ self.now.sent) }
+        ensures err { IfErr result (λ e. e ≡ OutOfMemory) }
+    {
+        match &self.sent {
+            Some(sent) => Ok(Some(sent.try_copy(alloc)?)),
+            None => Ok(None),
+        }
+    }
+
+    // A copy of the offer that was refused last, if there is one.
+    fn copy_refused(&self, alloc: Global) -> Result<Option<NameMap<Due>>, Refusal>
+        ensures ok { IfOk result (λ o. o ≡ self.now.refused) }
+        ensures err { IfErr result (λ e. e ≡ OutOfMemory) }
+    {
+        match &self.refused {
+            Some(refused) => Ok(Some(copy_offer(alloc, refused)?)),
+            None => Ok(None),
+        }
+    }
+
+    /// An equal ledger, with memory of its own. Refused only by `OutOfMemory`.
+    pub fn try_copy(&self, alloc: Global) -> Result<Ledger<T, V>, Refusal>
+        ensures ok { IfOk result (λ l. l ≡ self.now) }
+        ensures err { IfErr result (λ e. e ≡ OutOfMemory) }
+    {
+        Ok(Ledger {
+            beliefs: copy_beliefs(alloc, &self.beliefs)?,
+            nonce: self.nonce,
+            accepted: self.accepted,
+            sent: self.copy_sent(alloc)?,
+            refused: self.copy_refused(alloc)?,
+            kind: PhantomData,
+            variant: PhantomData,
+        })
     }
 }

@@ -2,6 +2,7 @@
 #![tactic(auto)]
 
 mod beliefs;
+mod copying;
 pub mod entry;
 pub mod laws;
 pub mod ledger;
@@ -10,6 +11,7 @@ mod offers;
 pub mod outcome;
 mod owed;
 mod sent;
+pub mod texts;
 pub mod variant;
 pub mod version;
 

@@ -9,7 +9,7 @@ use xds_resource::stamp::MAX_COUNTER;
 
 /// The numbers of the responses of a stream, from 1, over all types. Contracts see the last number that was drawn, 0
 /// before the first.
-#[derive(Debug, Drop)]
+#[derive(Clone, Copy, Debug)]
 pub struct Nonces {
     last: u64,
 }
@@ -21,6 +21,8 @@ impl Model for Nonces {
     ghost Value = { ℕ };
 
     ghost view = { λ n. n.last };
+
+    ghost inverse = { λ n. record { last = n } };
 
     ghost invariant = { λ n. n.last ≤ max_counter };
 }

@@ -1,8 +1,9 @@
 // A response that was sent and isn't answered.
-ghost use Rattle.std.specs.Prelude.{◌≡◌, [], ◌∷◌, ◌++◌, IfErr, OnOk, OnErr};
+ghost use Rattle.std.specs.Prelude.{◌≡◌, [], ◌∷◌, ◌++◌, IfOk, IfErr, OnOk, OnErr};
 ghost use Rattle.xds_resource.specs.declared.refusal.Refusal.TheVariants.{OutOfMemory};
 ghost use Rattle.xds_ledger.specs.Ledgers.{was_touched, touched_since};
 
+use crate::copying::{copy_offer, copy_touches};
 use crate::entry::Due;
 use std::alloc::Global;
 use std::marker::Model;
@@ -60,5 +61,16 @@ impl Sent {
     {
         self.touched.push(touched)?;
         Ok(())
+    }
+
+    /// An equal value, with memory of its own. Refused only by `OutOfMemory`.
+    pub(crate) fn try_copy(&self, alloc: Global) -> Result<Sent, Refusal>
+        ensures ok { IfOk result (λ s. s ≡ self.now) }
+        ensures err { IfErr result (λ e. e ≡ OutOfMemory) }
+    {
+        Ok(Sent {
+            offer: copy_offer(alloc, &self.offer)?,
+            touched: copy_touches(alloc, &self.touched)?,
+        })
     }
 }

@@ -1,9 +1,8 @@
 -- That what the code makes is the response, and what it leaves is the session.
-use Rattle.std.proofs.Common.{◌≡◌, ℕ, List, [], ◌∷◌, ◌++◌, Bool, true, false, cond, Option, Some, None, refl, sym, ap, subst, ◌∙◌, append_assoc, append-nil}
-use Rattle.std.specs.Prelude.{is_some, if◌then◌else◌, MatchOption, IsSome, decimal, ◌+◌}
+use Rattle.std.proofs.Common.{◌≡◌, ℕ, List, [], ◌∷◌, ◌++◌, Bool, true, false, cond, Option, Some, None, refl, sym, ap, ◌∙◌, append_assoc, append-nil}
+use Rattle.std.specs.Prelude.{is_some, if◌then◌else◌, decimal}
 use Rattle.std.specs.List.{filter, filter_map, cons_option}
 use Rattle.std.specs.FinMap as finmap
-use Rattle.std.proofs.lemmas.List.{nil_from_length}
 use Rattle.xds_resource.specs.declared.types.TypeName.{TypeName}
 use Rattle.xds_resource.specs.Writes.{StampedWrite, text_cmp}
 use Rattle.xds_interest.specs.Asked.{Asked, sotw_asked}
@@ -15,11 +14,9 @@ use Rattle.xds_ledger.specs.Offers.{Offer}
 use Rattle.xds_ledger.specs.Ledgers.{Account, settled, touch, resume}
 use Rattle.xds_ledger.specs.Sessions.{Session, is_taken}
 use Rattle.xds_interest.specs.Interests.{Selection}
-use Rattle.xds_catalogue.specs.Holdings.{Holdings, Entries}
+use Rattle.xds_catalogue.specs.Holdings.{Holdings}
 use Rattle.xds_catalogue.specs.Content.{content}
-use Rattle.xds_ledger.specs.Ledgers as ledgers
-use Rattle.xds_ledger.specs.Sessions as sessions
-use Rattle.xds_sotw.specs.Polls.{take_list, sending, version_info, response, HasPolled}
+use Rattle.xds_sotw.specs.Polls.{take_list, version_info, response}
 use Rattle.xds_sotw.specs.Parts.{pushed_all}
 
 -- the response with more bodies
@@ -44,10 +41,6 @@ push_step o d w ws false rest = rest d
 pub pushed_together : (o : Offer) (ws : List StampedWrite) (d : Drafted) → pushed_all o d ws ≡ with_bodies d (filter_map body_of (filter (offered o) ws))
 pushed_together o [] d = λ i. record d { bodies = sym (append-nil d.bodies) i }
 pushed_together o (w ∷ ws) d = push_step o d w ws (offered o w) (pushed_together o ws)
-
--- a map with no name has no entries
-pub no_entries : [] ≡ finmap.entries (finmap.empty {X = List ℕ} {R = text_cmp})
-no_entries = sym (nil_from_length (finmap.entries finmap.empty) (sym (finmap.len-entries finmap.empty) ∙ finmap.len-empty text_cmp (List ℕ)))
 
 -- a request that is taken leaves what is kept of the names, and the account with its names taken
 pub list_taken : (t : TypeName) (s : Session) (nonce : List ℕ) (rejects : Bool) (names : List (List ℕ)) (asked : Asked) (account : Account) → is_taken s nonce ≡ true → asked ≡ sotw_asked t s.asked names
@@ -82,21 +75,3 @@ pub response_made : (replica : ℕ) (t : TypeName) (h : Holdings) (s : Selection
 response_made replica t h s o number kind version nonce start draft ws made begun shown typed versioned numbered =
     made ∙ (λ i. pushed_all o (begun i) (shown i)) ∙ pushed_together o (content h.entries s) (record { kind = kind; version_info = version; nonce = nonce; bodies = [] })
     ∙ (λ i. record { kind = typed i; version_info = versioned i; nonce = numbered i; bodies = filter_map body_of (filter (offered o) (content h.entries s)) })
-
--- a poll that sends
-pub has_polled : (replica : ℕ) (t : TypeName) (h : Holdings) (before : Session) (count : ℕ) (draft : Drafted) (after : Session) (count_after : ℕ) (o : Offer) → sending t before h.entries ≡ Some o
-    → draft ≡ response replica t h before.asked.interest o (count + 1) → after ≡ sessions.send before o (count + 1) → count_after ≡ count + 1
-    → HasPolled replica t h before count (Some draft) after count_after
-has_polled replica t h before count draft after count_after o sends made left counted =
-    subst (λ x. MatchOption x ((Some draft ≡ None) × (after ≡ before) × (count_after ≡ count))
-    (λ o. (Some draft ≡ Some (response replica t h before.asked.interest o (count + 1))) × (after ≡ sessions.send before o (count + 1)) × (count_after ≡ count + 1)))
-    (sym sends) (ap Some made, left, counted)
-
-pub is_some_sending : {X : Type 0} (o : Option X) (x : X) → o ≡ Some x → IsSome o
-is_some_sending o x is = subst IsSome (sym is) refl
-
-pub is_sending : (t : TypeName) (s before : Session) (m : Entries) (interest : Selection) (o : Option Offer) → before ≡ s → before.asked.begun ≡ true → interest ≡ before.asked.interest
-    → o ≡ ledgers.sending StateOfTheWorld t interest m before.account → o ≡ sending t s m
-is_sending t s before m interest o same begun covers is =
-    is ∙ ap (λ (i : Selection). ledgers.sending StateOfTheWorld t i m before.account) covers
-    ∙ sym (ap (λ b. if b then ledgers.sending StateOfTheWorld t before.asked.interest m before.account else None) begun) ∙ ap (λ (x : Session). sending t x m) same

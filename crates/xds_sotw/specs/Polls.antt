@@ -1,6 +1,6 @@
 -- What a state-of-the-world session takes and sends. The protocol is that of Envoy's "xDS REST and gRPC protocol"; the
 -- version is this project's own.
-use Rattle.std.specs.Prelude.{◌≡◌, ℕ, ◌+◌, List, [], ◌∷◌, ◌++◌, Bool, if◌then◌else◌, Option, Some, None, is_some, MatchOption, codes, decimal}
+use Rattle.std.specs.Prelude.{ℕ, List, [], ◌++◌, Bool, if◌then◌else◌, Option, is_some, codes, decimal}
 use Rattle.std.specs.List.{filter, filter_map}
 use Rattle.std.specs.FinMap as finmap
 use Rattle.xds_resource.specs.declared.types.TypeName.{TypeName}
@@ -14,6 +14,7 @@ use Rattle.xds_ledger.specs.declared.variant.VariantName.TheVariants.{StateOfThe
 use Rattle.xds_ledger.specs.Offers.{Offer}
 use Rattle.xds_ledger.specs.Sessions as sessions
 use Rattle.xds_ledger.specs.Sessions.{Session, sotw_names}
+use Rattle.xds_ledger.specs.Texts.{held_version}
 
 -- the session after a request with this nonce, with or without an error, and with this list of names
 abbrev pub take_list : TypeName → Session → List ℕ → Bool → List (List ℕ) → Session
@@ -30,9 +31,9 @@ sending t s m = sessions.sending StateOfTheWorld t s m
 abbrev pub owes : TypeName → Session → Entries → Bool
 owes t s m = sessions.owes StateOfTheWorld t s m
 
--- the replica and its count of changes, and `.named` where not all resources were asked for
+-- the version of all that the replica holds, and `.named` where not all resources were asked for
 abbrev pub version_info : ℕ → ℕ → Bool → List ℕ
-version_info replica changes star = decimal replica ++ 46 ∷ decimal changes ++ (if star then [] else codes ".named")
+version_info replica changes star = held_version replica changes ++ (if star then [] else codes ".named")
 
 -- the live writes that the interest covers and the offer speaks of, in ascending order of names
 abbrev pub stated_writes : Entries → Selection → Offer → List StampedWrite
@@ -47,9 +48,7 @@ response replica t h s o number = record {
   bodies = filter_map (λ w. w.body) (stated_writes h.entries s o);
 }
 
--- What a poll answers and leaves, of the session and of the stream's count of responses: where an offer is to be sent, it is
--- sent as the next response, and else nothing happens.
+-- What a poll answers and leaves, of the session and of the stream's count of responses.
 abbrev pub HasPolled : ℕ → TypeName → Holdings → Session → ℕ → Option Drafted → Session → ℕ → Type 0
 HasPolled replica t h before count answer after count_after =
-    MatchOption (sending t before h.entries) ((answer ≡ None) × (after ≡ before) × (count_after ≡ count))
-    (λ o. (answer ≡ Some (response replica t h before.asked.interest o (count + 1))) × (after ≡ sessions.send before o (count + 1)) × (count_after ≡ count + 1))
+    sessions.HasPolled StateOfTheWorld t h.entries (response replica t h before.asked.interest) before count answer after count_after

@@ -6,24 +6,20 @@ ghost use Rattle.xds_sotw.specs.Polls.{version_info, response as response_of};
 
 use std::alloc::Global;
 use xds_catalogue::Catalogue;
+use xds_draft::SotwDraft;
 use xds_interest::Interest;
 use xds_ledger::Due;
-use xds_draft::SotwDraft;
+use xds_ledger::texts::{held_version, nonce_text};
 use xds_resource::{NameMap, Refusal, ResourceType, Write};
 
+// The version of the resources, by the replica, the catalogue's count of changes, and whether all were asked for.
 fn version_text(alloc: Global, replica: u16, changes: u64, star: bool) -> Result<String, Refusal>
     ensures text { IfOk result (λ s. string_bytes s ≡ version_info replica changes star) }
     ensures refused { IfErr result (λ e. e ≡ OutOfMemory) }
 {
-    let named = if star { "" } else { ".named" };
-    Ok(format!(in alloc; "{replica}.{changes}{named}")?)
-}
-
-fn nonce_text(alloc: Global, number: u64) -> Result<String, Refusal>
-    ensures text { IfOk result (λ s. string_bytes s ≡ decimal number) }
-    ensures refused { IfErr result (λ e. e ≡ OutOfMemory) }
-{
-    Ok(format!(in alloc; "{number}")?)
+    let mut text = held_version(alloc, replica, changes)?;
+    text.push_str(if star { "" } else { ".named" })?;
+    Ok(text)
 }
 
 // Adds a write's body, if the offer speaks of its name.

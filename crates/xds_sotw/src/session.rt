@@ -10,9 +10,9 @@ use crate::response::response;
 use std::alloc::Global;
 use std::marker::Model;
 use xds_catalogue::Catalogue;
+use xds_draft::SotwDraft;
 use xds_interest::SotwNames;
 use xds_ledger::{Due, Ledger, Nonces, Outcome, StateOfTheWorld};
-use xds_draft::SotwDraft;
 use xds_message::DiscoveryRequest;
 use xds_resource::{NameMap, Refusal, ResourceType};
 
@@ -143,5 +143,16 @@ impl<T: ResourceType> Session<T> {
         nonces.next()?;
         self.ledger.send(alloc, offer, number);
         Ok(Some(draft))
+    }
+
+    /// An equal session, with memory of its own. Refused only by `OutOfMemory`.
+    pub fn try_copy(&self, alloc: Global) -> Result<Session<T>, Refusal>
+        ensures ok { IfOk result (λ s. s ≡ self.now) }
+        ensures err { IfErr result (λ e. e ≡ OutOfMemory) }
+    {
+        Ok(Session {
+            names: self.names.try_copy(alloc)?,
+            ledger: self.ledger.try_copy(alloc)?,
+        })
     }
 }

@@ -1,4 +1,4 @@
-use Rattle.std.proofs.Common.{◌≡◌, [], sym, ap, ◌∙◌, rules}
+use Rattle.std.proofs.Common.{◌≡◌, [], sym, ap, ◌∙◌}
 use Rattle.std.specs.FinMap as finmap
 use Rattle.xds_resource.specs.Names.{pairs, put_all}
 use Rattle.xds_ledger.specs.Parts.{kept_beside}

@@ -1,6 +1,5 @@
-use Rattle.std.proofs.Common.{◌≡◌, [], map, drop, sym, ap, ◌∙◌, rules, arith}
+use Rattle.std.proofs.Common.{◌≡◌, [], map, drop, sym, ap, ◌∙◌}
 use Rattle.std.proofs.lemmas.List.{drop_all}
-use Rattle.std.specs.FinMap as finmap
 use Rattle.xds_resource.specs.Names.{put_all}
 use Rattle.xds_ledger.specs.Parts.{told_as}
 use Rattle.xds_ledger.proofs.Made.{resumed_made}

@@ -1,8 +1,6 @@
-use Rattle.std.proofs.Common.{◌≡◌, map, string_bytes, drop}
-use Rattle.std.specs.FinMap as finmap
-use Rattle.xds_resource.specs.Names.{pairs, put_all, put_each}
-use Rattle.xds_ledger.specs.Ledgers.{was_touched}
-use Rattle.xds_ledger.specs.Parts.{told_unless_touched, kept_beside, left_by, made_unsure, told_as}
+use Rattle.std.proofs.Common.{◌≡◌, map, drop}
+use Rattle.xds_resource.specs.Names.{put_all}
+use Rattle.xds_ledger.specs.Parts.{told_as}
 use Rattle.xds_ledger.proofs.beliefs.resumed.Given as goal
 
 -- what is left decides

@@ -1,5 +1,4 @@
-use Rattle.std.proofs.Common.{◌≡◌, List, String, Global, [], map, string_bytes, sym, ap, ◌∙◌, rules}
-use Rattle.std.specs.FinMap as finmap
+use Rattle.std.proofs.Common.{◌≡◌, List, String, Global, [], map, string_bytes, sym, ap, ◌∙◌}
 use Rattle.xds_resource.specs.Names.{put_each}
 use Rattle.xds_ledger.specs.Parts.{made_unsure}
 use Rattle.xds_ledger.proofs.Made.{taken_made}

@@ -1,8 +1,8 @@
-use Rattle.std.proofs.Common.{◌≡◌, map, string_bytes, drop}
+use Rattle.std.proofs.Common.{◌≡◌}
 use Rattle.std.specs.FinMap as finmap
-use Rattle.xds_resource.specs.Names.{pairs, put_all, put_each}
+use Rattle.xds_resource.specs.Names.{pairs, put_all}
 use Rattle.xds_ledger.specs.Ledgers.{was_touched}
-use Rattle.xds_ledger.specs.Parts.{told_unless_touched, kept_beside, left_by, made_unsure}
+use Rattle.xds_ledger.specs.Parts.{told_unless_touched}
 use Rattle.xds_ledger.proofs.beliefs.told_by.Given as goal
 
 -- what is left decides

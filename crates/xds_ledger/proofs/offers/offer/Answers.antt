@@ -1,10 +1,10 @@
-use Rattle.std.proofs.Common.{◌≡◌, Bool, true, false, map, Bor, sym, ap, refl, ◌∙◌, rules}
+use Rattle.std.proofs.Common.{◌≡◌, true, false, map, Bor, ap, ◌∙◌, rules}
 use Rattle.std.specs.FinMap as finmap
 use Rattle.xds_resource.specs.Writes.{StampedWrite}
 use Rattle.xds_ledger.specs.Variants.{is_delta, is_whole}
 use Rattle.xds_ledger.specs.OfferParts.{put_writes, stated, removed}
 use Rattle.xds_resource.specs.Names.{put_all}
-use Rattle.xds_ledger.proofs.OfferMade.{base, sotw_offer_made, delta_offer_made}
+use Rattle.xds_ledger.proofs.OfferMade.{sotw_offer_made, delta_offer_made}
 use Rattle.xds_ledger.proofs.offers.offer.Goals as goal
 
 abbrev seen : Bor StampedWrite → StampedWrite

@@ -7,7 +7,8 @@ use Rattle.xds_resource.specs.declared.refusal.Refusal.TheVariants.{OutOfMemory,
 use Rattle.xds_ledger.specs.Ledgers as ledgers
 use Rattle.xds_ledger.specs.Sessions.{Session}
 use Rattle.xds_sotw.specs.Polls.{sending, response}
-use Rattle.xds_sotw.proofs.Made.{has_polled, is_some_sending}
+use Rattle.xds_ledger.specs.declared.variant.VariantName.TheVariants.{StateOfTheWorld}
+use Rattle.xds_ledger.proofs.Polling.{has_polled, is_some_sending}
 use Rattle.xds_sotw.proofs.session.Session.poll.Goals as goal
 
 pub returns-in_err-number-clause-refused : goal.returns-in_err-number-clause-refused
@@ -24,6 +25,6 @@ returns-clause-ok g c =
     let o = c.in-Some.offer in
     let before : Session = record { asked = c.self.inside.names; account = c.self.inside.ledger } in
     let same : before ≡ c.args.self.now = c.self.view_is in
-    has_polled c.args.replica t h c.args.self.now c.args.nonces.now c.in_ok-draft.draft _ c.next.new.self o (sym c.in_ok-offer.ensures.ok ∙ c.in-Some.is)
+    has_polled StateOfTheWorld t h.entries (response c.args.replica t h c.args.self.now.asked.interest) c.args.self.now c.args.nonces.now c.in_ok-draft.draft _ c.next.new.self o (sym c.in_ok-offer.ensures.ok ∙ c.in-Some.is)
     (c.in_ok-draft.ensures.ok ∙ (λ i. response c.args.replica t h ((c.interest-interest.ensures ∙ ap (λ (s : Session). s.asked.interest) same) i) o (c.in_ok-number.ensures.ok i)))
     (λ i. record { asked = (same i).asked; account = (c.send.ensures ∙ (λ j. ledgers.send (same j).account o (c.in_ok-number.ensures.ok j))) i }) c.in_ok-next.ensures.ok.1

@@ -4,7 +4,8 @@ use Rattle.std.specs.FinSet as set
 use Rattle.xds_interest.specs.Interests.{Selection}
 use Rattle.xds_interest.specs.Touches.{sotw_touch}
 use Rattle.xds_ledger.specs.Sessions.{Session, is_taken}
-use Rattle.xds_sotw.proofs.Made.{list_taken_by, no_entries}
+use Rattle.xds_ledger.proofs.Polling.{no_entries}
+use Rattle.xds_sotw.proofs.Made.{list_taken_by}
 use Rattle.xds_sotw.proofs.session.Session.take_list.Goals as goal
 
 pub returns-clause-ok : goal.returns-clause-ok
