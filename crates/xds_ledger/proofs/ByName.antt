@@ -28,7 +28,7 @@ present_absent s m q e = ap (λ o. if covers s q then option_and_then live_versi
 pub owed_absent : (s : Selection) (m : Entries) (b : Beliefs) (q : List ℕ) → finmap.get b q ≡ None → finmap.get m q ≡ None → owed_of s m b q ≡ None
 owed_absent s m b q unheld unknown = (λ i. owed (unheld i) (present_absent s m q unknown i))
 
-offered_absent : (v : VariantName) (t : TypeName) (s : Selection) (m : Entries) (b : Beliefs) (q : List ℕ) → finmap.get b q ≡ None → finmap.get m q ≡ None → offered v t s m b q ≡ None
+pub offered_absent : (v : VariantName) (t : TypeName) (s : Selection) (m : Entries) (b : Beliefs) (q : List ℕ) → finmap.get b q ≡ None → finmap.get m q ≡ None → offered v t s m b q ≡ None
 offered_absent v t s m b q unheld unknown =
     (λ i. if is_whole v t then option_map Stated (present_absent s m q unknown i)
     else if option_map_or (is_told v t) (owed_absent s m b q unheld unknown i) false then owed_absent s m b q unheld unknown i else None)

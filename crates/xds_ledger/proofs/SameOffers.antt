@@ -15,11 +15,11 @@ use Rattle.xds_ledger.specs.declared.entry.Due.TheVariants.{Stated, Removed}
 use Rattle.xds_ledger.specs.Offers.{Offer, same_due, is_within, same_offer}
 use Rattle.xds_ledger.specs.Laws.{OffersAreToldApart}
 
-same_due_itself : (d : Due) → same_due d d ≡ true
+pub same_due_itself : (d : Due) → same_due d d ≡ true
 same_due_itself (Stated v) = bytes_eq_same v
 same_due_itself Removed = refl
 
-same_due_tells : (d e : Due) → same_due d e ≡ true → d ≡ e
+pub same_due_tells : (d e : Due) → same_due d e ≡ true → d ≡ e
 same_due_tells (Stated v) (Stated w) is = ap Stated (bytes_eq_tells v w is)
 same_due_tells (Stated v) Removed is = absurd cc
 same_due_tells Removed (Stated w) is = absurd cc

@@ -7,3 +7,4 @@ pub mod Texts
 pub mod Parts
 pub mod OfferParts
 pub mod Laws
+pub mod Repeats

@@ -1,5 +1,5 @@
 // What a server keeps of one type on one stream, beside the interest.
-ghost use Rattle.std.specs.Prelude.{◌≡◌, if◌then◌else◌, ℕ, List, Some, map, bytes_eq, string_bytes, IfOk, IfErr, IfSome, OnOk, OnErr};
+ghost use Rattle.std.specs.Prelude.{◌≡◌, if◌then◌else◌, ℕ, List, Some, map, bytes_eq, is_some, string_bytes, IfOk, IfErr, IfSome, OnOk, OnErr};
 ghost use Rattle.std.specs.FinMap as finmap;
 ghost use Rattle.std.specs.FinSet as set;
 ghost use Rattle.xds_resource.specs.Writes.{text_cmp};
@@ -14,6 +14,7 @@ use crate::copying::{copy_beliefs, copy_offer};
 use crate::entry::{Due, Entry};
 use crate::offers::{is_same_offer, offer};
 use crate::owed::something_owed;
+use crate::repeats::repeats;
 use crate::sent::Sent;
 use crate::variant::Variant;
 use itoa::Buffer;
@@ -162,6 +163,23 @@ impl<T: ResourceType, V: Variant> Ledger<T, V> {
     {
         match &self.refused {
             Some(refused) => is_same_offer(offer, refused),
+            None => false,
+        }
+    }
+
+    /// Whether `sending` has an offer. It takes no memory.
+    pub fn sends(&self, interest: &Interest<T>, catalogue: &Catalogue<T>) -> bool
+        ensures { result ≡ is_some (ledgers.sending V.NAME T.TYPE interest.now catalogue.now.entries self.now) }
+    {
+        self.sent.is_none() && self.is_due(interest, catalogue) && !self.repeats(interest, catalogue)
+    }
+
+    // Whether the offer of the next response is the one that was refused last.
+    fn repeats(&self, interest: &Interest<T>, catalogue: &Catalogue<T>) -> bool
+        ensures { result ≡ ledgers.is_refused self.now (offer_of V.NAME T.TYPE interest.now catalogue.now.entries self.now.beliefs) }
+    {
+        match &self.refused {
+            Some(refused) => repeats(refused, V::NAME, interest, catalogue, &self.beliefs),
             None => false,
         }
     }

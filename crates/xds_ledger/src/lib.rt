@@ -10,6 +10,7 @@ pub mod nonces;
 mod offers;
 pub mod outcome;
 mod owed;
+mod repeats;
 mod sent;
 pub mod texts;
 pub mod variant;

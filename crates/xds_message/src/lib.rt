@@ -1,6 +1,7 @@
 // The messages of Envoy's discovery service in the proto3 JSON mapping: what their JSON is read as, and what is written.
 #![tactic(auto)]
 
+pub mod batch;
 pub mod delta_request;
 pub mod delta_response;
 mod fields;
@@ -12,6 +13,7 @@ pub mod status;
 pub mod versions;
 pub mod writes;
 
+pub use batch::Batch;
 pub use delta_request::DeltaDiscoveryRequest;
 pub use delta_response::{DeltaDiscoveryResponse, DeltaResource};
 pub use fields::copy_texts;

@@ -1,5 +1,5 @@
 // What a state-of-the-world client asked for of one type, and what it was told.
-ghost use Rattle.std.specs.Prelude.{◌≡◌, ◌⊎◌, map, string_bytes, IsSome, IfOk, IfErr, OnOk, OnErr};
+ghost use Rattle.std.specs.Prelude.{◌≡◌, ◌≤◌, ◌⊎◌, map, string_bytes, is_some, IsSome, IfSome, IfOk, IfErr, OnOk, OnErr};
 ghost use Rattle.xds_resource.specs.Stamps.{max_counter};
 ghost use Rattle.xds_resource.specs.declared.refusal.Refusal.TheVariants.{OutOfMemory, NonceSpent};
 ghost use Rattle.xds_ledger.specs.Sessions.{unopened, is_taken, outcome};
@@ -102,6 +102,13 @@ impl<T: ResourceType> Session<T> {
         self.names.has_begun() && self.ledger.owes(self.names.interest(), catalogue)
     }
 
+    /// Whether `poll` has a response to send, be there a nonce for it or not. It takes no memory.
+    pub fn sends(&self, catalogue: &Catalogue<T>) -> bool
+        ensures { result ≡ is_some (sending T.TYPE self.now catalogue.now.entries) }
+    {
+        self.names.has_begun() && self.ledger.sends(self.names.interest(), catalogue)
+    }
+
     // The offer of the next response, if one is to be sent.
     fn sending(
         &self,
@@ -131,6 +138,7 @@ impl<T: ResourceType> Session<T> {
         nonces: &mut Nonces,
     ) -> Result<Option<SotwDraft>, Refusal>
         ensures ok { IfOk result (λ answer. HasPolled replica T.TYPE catalogue.now self.old nonces.old answer self.new nonces.new) }
+        ensures bound { IfOk result (λ answer. IfSome answer (λ _. nonces.new ≤ max_counter)) }
         ensures err { OnErr result ((self.new ≡ self.old) × (nonces.new ≡ nonces.old)) }
         ensures refused { IfErr result (λ e. (e ≡ OutOfMemory) ⊎ ((e ≡ NonceSpent) × (nonces.old ≡ max_counter) × IsSome (sending T.TYPE self.old catalogue.now.entries))) }
     {
