@@ -1,0 +1,33 @@
+-- What happens at a replica, and what it answers. This project's own.
+use Rattle.std.specs.Prelude.{ℕ, List, Bool, Option}
+use Rattle.xds_resource.specs.declared.types.TypeName.{TypeName}
+use Rattle.xds_resource.specs.Resources.{NamedBody}
+use Rattle.xds_draft.specs.declared.draft.Draft.{Draft}
+use Rattle.xds_ledger.specs.declared.outcome.Outcome.{Outcome}
+use Rattle.xds_core.specs.Stores.{Batch}
+use Rattle.xds_core.specs.Streams.{Message}
+
+-- Streams go by their numbers; a poll or a look at what is owed is of one type, or of all.
+pub data Event : Type 0 where
+  Open : Event
+  Request : ℕ → Message → Event
+  Poll : ℕ → Option TypeName → Event
+  Owes : ℕ → Option TypeName → Event
+  Close : ℕ → Event
+  Put : TypeName → NamedBody → Event
+  Delete : TypeName → List ℕ → Event
+  Merge : Batch → Event
+  Snapshot : Event
+
+pub data Reply : Type 0 where
+  -- the number of the stream
+  Opened : ℕ → Reply
+  Answered : Outcome → Reply
+  Polled : Option Draft → Reply
+  Owed : Bool → Reply
+  Closed : Reply
+  -- the counter and the writer of the write that was made
+  Written : ℕ → ℕ → Reply
+  -- how many entries were added or replaced
+  Merged : ℕ → Reply
+  Entries : Batch → Reply

@@ -1,0 +1,43 @@
+-- Lists of records: events with their answers. This project's own.
+use Rattle.std.specs.Prelude.{◌≡◌, List, [], ◌∷◌, Result, Ok, Err, IsOk, IsSome, ⊤}
+use Rattle.std.specs.FinMap as finmap
+use Rattle.xds_resource.specs.declared.refusal.Refusal.{Refusal}
+use Rattle.xds_core.specs.Events.{Event, Poll, Owes, Close, Reply}
+use Rattle.xds_core.specs.Steps.{Core, Step, step}
+
+-- an event and what it was answered
+pub record Record : Type 0 where
+  pub event : Event
+  pub answer : Result Reply Refusal
+
+-- what a step answers
+abbrev pub answer_of : Step → Result Reply Refusal
+answer_of (Ok p) = Ok p.0
+answer_of (Err e) = Err e
+
+-- what is left after a step that began here: a refused event changes nothing
+abbrev pub left_by : Core → Step → Core
+left_by c (Ok p) = p.1
+left_by c (Err e) = c
+
+-- what a replica is after an event
+abbrev pub after : Core → Event → Core
+after c e = left_by c (step c e)
+
+-- what a replica is after these records, from a base
+abbrev pub replayed : Core → List Record → Core
+replayed c [] = c
+replayed c (r ∷ rs) = replayed (after c r.event) rs
+
+-- Each answer is the reply of the step after the records before it.
+abbrev pub IsLegal : Core → List Record → Type 0
+IsLegal c [] = ⊤
+IsLegal c (r ∷ rs) = (answer_of (step c r.event) ≡ r.answer) × IsLegal (after c r.event) rs
+
+-- What holds where an event finds no memory: no other refusal applies, but perhaps that a stream has no number left. A look and
+-- a close need no memory.
+abbrev pub IsShort : Core → Event → Type 0
+IsShort c (Poll n which) = IsSome (finmap.get c.streams n)
+IsShort c (Owes n which) = ⊥
+IsShort c (Close n) = ⊥
+IsShort c e = IsOk (step c e)

@@ -1,0 +1,10 @@
+pub mod Stores
+pub mod Pendings
+pub mod Streams
+pub mod Talks
+pub mod Events
+pub mod Steps
+pub mod Seen
+pub mod States
+pub mod Legal
+pub mod Laws

@@ -1,0 +1,41 @@
+-- How the values of the program are seen as events, replies, streams and records. This project's own.
+use Rattle.std.specs.Prelude.{string_bytes, Result, Ok, Err}
+use Rattle.xds_resource.specs.Any.{resource_type, named_body}
+use Rattle.xds_core.specs.Streams as streams
+use Rattle.xds_core.specs.Streams.{Stream, Message, opening}
+use Rattle.xds_core.specs.Events as events
+use Rattle.xds_core.specs.declared.event.Request.{Request}
+use Rattle.xds_core.specs.declared.event.Request.TheVariants as requests
+use Rattle.xds_core.specs.declared.event.Event.{Event}
+use Rattle.xds_core.specs.declared.event.Event.TheVariants as happenings
+use Rattle.xds_core.specs.declared.event.Reply.{Reply}
+use Rattle.xds_core.specs.declared.event.Reply.TheVariants as replies
+
+abbrev pub message_of : Request → Message
+message_of (requests.Sotw m) = streams.Sotw m
+message_of (requests.Delta m) = streams.Delta m
+
+abbrev pub event_of : Event → events.Event
+event_of happenings.Open = events.Open
+event_of (happenings.Request stream request) = events.Request stream (message_of request)
+event_of (happenings.Poll stream kind) = events.Poll stream kind
+event_of (happenings.Owes stream kind) = events.Owes stream kind
+event_of (happenings.Close stream) = events.Close stream
+event_of (happenings.Put resource) = events.Put (resource_type resource) (named_body resource)
+event_of (happenings.Delete kind name) = events.Delete kind (string_bytes name)
+event_of (happenings.Merge batch) = events.Merge batch
+event_of happenings.Snapshot = events.Snapshot
+
+abbrev pub reply_of : Reply → events.Reply
+reply_of (replies.Opened stream) = events.Opened stream
+reply_of (replies.Answered outcome) = events.Answered outcome
+reply_of (replies.Polled response) = events.Polled response
+reply_of (replies.Owed owed) = events.Owed owed
+reply_of replies.Closed = events.Closed
+reply_of (replies.Written stamp) = events.Written stamp.counter stamp.writer
+reply_of (replies.Merged changes) = events.Merged changes
+reply_of (replies.Entries batch) = events.Entries batch
+
+abbrev pub answer_of : {E : Type 0} → Result Reply E → Result events.Reply E
+answer_of (Ok reply) = Ok (reply_of reply)
+answer_of (Err refusal) = Err refusal

@@ -1,0 +1,283 @@
+// A replica's state, and its one step.
+ghost use Rattle.std.specs.Prelude.{◌≡◌, ◌≤◌, ℕ, [], map, Some, None, is_some, option_map, Err, All, IsOk, IfOk, IfErr, OnErr};
+ghost use Rattle.std.specs.FinMap as finmap;
+ghost use Rattle.xds_resource.specs.Any.{resource_type, named_body, write_type, stamped_write};
+ghost use Rattle.xds_resource.specs.PerType.{at, each, with_at};
+ghost use Rattle.xds_resource.specs.Refusals.{Gives};
+ghost use Rattle.xds_resource.specs.Types.{types};
+ghost use Rattle.xds_resource.specs.declared.refusal.Refusal.TheVariants.{OutOfMemory};
+ghost use Rattle.xds_core.specs.Events as events;
+ghost use Rattle.xds_core.specs.Legal.{IsShort};
+ghost use Rattle.xds_core.specs.Seen.{message_of, event_of, reply_of};
+ghost use Rattle.xds_core.specs.Steps.{fresh, step};
+ghost use Rattle.xds_core.specs.Stores.{if_done};
+ghost use Rattle.xds_core.specs.declared.event.Reply.TheVariants as replies;
+ghost use Rattle.xds_core.specs.Streams.{looked_at, owes_some, first_due};
+
+use crate::catalogues::{Catalogues, Marks};
+use crate::event::{Event, Reply, Request};
+use crate::numbered::Numbered;
+use crate::stream::Stream;
+use std::alloc::Global;
+use std::marker::Model;
+use xds_draft::Draft;
+use xds_ledger::Outcome;
+use xds_message::Batch;
+use xds_resource::stamp::MAX_COUNTER;
+use xds_resource::{AnyResource, Refusal, TypeName};
+
+/// One replica: what it holds of each type, and its open streams.
+#[derive(Drop)]
+pub struct Core {
+    replica: u16,
+    held: Catalogues,
+    // How many streams were opened.
+    opened: u64,
+    streams: Numbered<Stream>,
+    alloc: Global,
+}
+
+impl Model for Core {
+    ghost use Rattle.std.specs.Prelude.{◌≤◌};
+    ghost use Rattle.xds_resource.specs.Stamps.{max_counter};
+    ghost use Rattle.xds_core.specs.Steps as steps;
+    ghost use Rattle.xds_core.specs.Steps.{core_code};
+
+    ghost Value = { steps.Core };
+
+    ghost coded = { core_code };
+
+    ghost view = { λ c. record { replica = c.replica; store = c.held; opened = c.opened; streams = c.streams } };
+
+    ghost invariant = { λ c. record { numbered : 1 ≤ c.replica; counted : c.opened ≤ max_counter } };
+}
+
+impl Core {
+    /// A replica at which nothing happened. `replica` is its number, from 1.
+    pub fn new(alloc: Global, replica: u16) -> Core
+        requires { 1 ≤ replica }
+        ensures { result ≡ fresh replica }
+    {
+        Core {
+            replica,
+            held: Catalogues::new(alloc),
+            opened: 0,
+            streams: Numbered::new(alloc),
+            alloc,
+        }
+    }
+
+    /// What an event is answered; where it is refused, nothing changes. Refused are: a stream that isn't open
+    /// (`NoStream`); a request of the other variant than the stream's (`WrongVariant`), then one that names no type
+    /// (`BadMessage`); the deletion of a name that isn't live (`NotFound`); a stream or a write more than can be
+    /// counted (`CounterSpent`); a response more than a stream can number (`NonceSpent`); and, last, what finds no
+    /// memory (`OutOfMemory`), which `Owes` and `Close` never need.
+    pub fn step(&mut self, event: Event) -> Result<Reply, Refusal>
+        ensures steps { Gives (λ r. (reply_of r, self.new)) result (step self.old (event_of event)) }
+        ensures memory { IfErr result (λ e. e ≡ OutOfMemory → IsShort self.old (event_of event)) }
+        ensures err { OnErr result (self.new ≡ self.old) }
+    {
+        match event {
+            Event::Open => self.open(),
+            Event::Request(stream, request) => self.request(stream, &request),
+            Event::Poll(stream, which) => self.poll(stream, which),
+            Event::Owes(stream, which) => self.look(stream, which),
+            Event::Close(stream) => self.close(stream),
+            Event::Put(resource) => self.put(resource),
+            Event::Delete(kind, name) => self.delete(kind, name.as_str()),
+            Event::Merge(batch) => self.merge(batch),
+            Event::Snapshot => self.snapshot(),
+        }
+    }
+
+    fn open(&mut self) -> Result<Reply, Refusal>
+        ensures steps { Gives (λ r. (reply_of r, self.new)) result (step self.old events.Open) }
+        ensures memory { IfErr result (λ e. e ≡ OutOfMemory → IsShort self.old events.Open) }
+        ensures err { OnErr result (self.new ≡ self.old) }
+    {
+        if self.opened == MAX_COUNTER {
+            return Err(Refusal::CounterSpent);
+        }
+        let number = self.opened + 1;
+        self.streams.insert(number, Stream::opening())?;
+        self.opened = number;
+        Ok(Reply::Opened(number))
+    }
+
+    fn request(&mut self, number: u64, request: &Request) -> Result<Reply, Refusal>
+        ensures steps { Gives (λ r. (reply_of r, self.new)) result (step self.old (events.Request number (message_of request.now))) }
+        ensures memory { IfErr result (λ e. e ≡ OutOfMemory → IsShort self.old (events.Request number (message_of request.now))) }
+        ensures err { OnErr result (self.new ≡ self.old) }
+    {
+        let Some(mut stream) = self.streams.replace(number, Stream::opening()) else {
+            return Err(Refusal::NoStream);
+        };
+        let outcome = stream.request(self.alloc, request);
+        self.streams.set(number, stream);
+        answered(outcome)
+    }
+
+    fn poll(&mut self, number: u64, which: Option<TypeName>) -> Result<Reply, Refusal>
+        ensures steps { Gives (λ r. (reply_of r, self.new)) result (step self.old (events.Poll number which)) }
+        ensures memory { IfErr result (λ e. e ≡ OutOfMemory → IsShort self.old (events.Poll number which)) }
+        ensures err { OnErr result (self.new ≡ self.old) }
+    {
+        let Some(mut stream) = self.streams.replace(number, Stream::opening()) else {
+            return Err(Refusal::NoStream);
+        };
+        let draft = stream.poll(self.alloc, self.replica, &self.held, which);
+        self.streams.set(number, stream);
+        polled(draft)
+    }
+
+    fn look(&self, number: u64, which: Option<TypeName>) -> Result<Reply, Refusal>
+        ensures steps { Gives (λ r. (reply_of r, self.now)) result (step self.now (events.Owes number which)) }
+        ensures memory { IfErr result (λ e. e ≡ OutOfMemory → IsShort self.now (events.Owes number which)) }
+    {
+        match self.owes(number, which) {
+            Some(owed) => Ok(Reply::Owed(owed)),
+            None => Err(Refusal::NoStream),
+        }
+    }
+
+    fn close(&mut self, number: u64) -> Result<Reply, Refusal>
+        ensures steps { Gives (λ r. (reply_of r, self.new)) result (step self.old (events.Close number)) }
+        ensures memory { IfErr result (λ e. e ≡ OutOfMemory → IsShort self.old (events.Close number)) }
+        ensures err { OnErr result (self.new ≡ self.old) }
+    {
+        if self.streams.remove(number) {
+            Ok(Reply::Closed)
+        } else {
+            Err(Refusal::NoStream)
+        }
+    }
+
+    fn put(&mut self, resource: AnyResource) -> Result<Reply, Refusal>
+        ensures steps { Gives (λ r. (reply_of r, self.new)) result (step self.old (events.Put (resource_type resource) (named_body resource))) }
+        ensures memory { IfErr result (λ e. e ≡ OutOfMemory → IsShort self.old (events.Put (resource_type resource) (named_body resource))) }
+        ensures err { OnErr result (self.new ≡ self.old) }
+    {
+        let stamp = self.held.put(resource, self.replica)?;
+        Ok(Reply::Written(stamp))
+    }
+
+    fn delete(&mut self, kind: TypeName, name: &str) -> Result<Reply, Refusal>
+        ensures steps { Gives (λ r. (reply_of r, self.new)) result (step self.old (events.Delete kind name.now)) }
+        ensures memory { IfErr result (λ e. e ≡ OutOfMemory → IsShort self.old (events.Delete kind name.now)) }
+        ensures err { OnErr result (self.new ≡ self.old) }
+    {
+        let stamp = self.held.delete(kind, name, self.replica)?;
+        Ok(Reply::Written(stamp))
+    }
+
+    fn merge(&mut self, batch: Batch) -> Result<Reply, Refusal>
+        ensures steps { Gives (λ r. (reply_of r, self.new)) result (step self.old (events.Merge batch)) }
+        ensures memory { IfErr result (λ e. e ≡ OutOfMemory → IsShort self.old (events.Merge batch)) }
+        ensures err { OnErr result (self.new ≡ self.old) }
+    {
+        let grown = self.held.join_all(self.alloc, batch)?;
+        Ok(Reply::Merged(grown))
+    }
+
+    fn snapshot(&self) -> Result<Reply, Refusal>
+        ensures steps { Gives (λ r. (reply_of r, self.now)) result (step self.now events.Snapshot) }
+        ensures memory { IfErr result (λ e. e ≡ OutOfMemory → IsShort self.now events.Snapshot) }
+    {
+        let batch = self.held.entries(self.alloc)?;
+        Ok(Reply::Entries(batch))
+    }
+
+    /// All that the replica holds of a type, deletions included, in ascending order of names. Refused only by
+    /// `OutOfMemory`.
+    pub fn entries(&self, alloc: Global, kind: TypeName) -> Result<Batch, Refusal>
+        ensures ok { IfOk result (λ b. b ≡ with_at (each []) kind (finmap.values (at self.now.store kind).entries)) }
+        ensures refused { IfErr result (λ e. e ≡ OutOfMemory) }
+    {
+        self.held.entries_of(alloc, kind)
+    }
+
+    /// The counts of changes of all types. It takes no memory.
+    pub fn marks(&self) -> Marks
+        ensures cluster { result.cluster ≡ self.now.store.cluster.changes }
+        ensures endpoint { result.endpoint ≡ self.now.store.endpoint.changes }
+        ensures listener { result.listener ≡ self.now.store.listener.changes }
+        ensures route { result.route ≡ self.now.store.route.changes }
+    {
+        self.held.marks()
+    }
+
+    /// An equal replica, with memory of its own. Refused only by `OutOfMemory`.
+    pub fn try_copy(&self, alloc: Global) -> Result<Core, Refusal>
+        ensures ok { IfOk result (λ c. c ≡ self.now) }
+        ensures refused { IfErr result (λ e. e ≡ OutOfMemory) }
+    {
+        Ok(Core {
+            replica: self.replica,
+            held: self.held.try_copy(alloc)?,
+            opened: self.opened,
+            streams: copy_streams(alloc, &self.streams)?,
+            alloc,
+        })
+    }
+
+    /// The number of the replica.
+    pub fn replica(&self) -> u16
+        ensures { result ≡ self.now.replica }
+    {
+        self.replica
+    }
+
+    /// What the replica holds of each type.
+    pub fn catalogues(&self) -> &Catalogues
+        ensures { result.now ≡ self.now.store }
+    {
+        &self.held
+    }
+
+    /// Whether the client of a stream is owed something, of a type or at all; none where the stream isn't open. It
+    /// takes no memory.
+    pub fn owes(&self, number: u64, which: Option<TypeName>) -> Option<bool>
+        ensures { result ≡ option_map (λ s. owes_some self.now.store s (looked_at which)) (finmap.get self.now.streams number) }
+    {
+        let stream = self.streams.get(number)?;
+        Some(stream.owes(&self.held, which))
+    }
+
+    /// Whether a poll of a stream would give a response, or be refused by `NonceSpent`; none where the stream isn't
+    /// open. It takes no memory.
+    pub fn due(&self, number: u64) -> Option<bool>
+        ensures { result ≡ option_map (λ s. is_some (first_due self.now.store s types)) (finmap.get self.now.streams number) }
+    {
+        let stream = self.streams.get(number)?;
+        Some(stream.sends(&self.held))
+    }
+}
+
+fn copy_streams(alloc: Global, streams: &Numbered<Stream>) -> Result<Numbered<Stream>, Refusal>
+    ensures ok { IfOk result (λ m. m ≡ streams.now) }
+    ensures refused { IfErr result (λ e. e ≡ OutOfMemory) }
+{
+    let mut copies = Numbered::new(alloc);
+    for (number, stream) in streams.iter() {
+        copies.insert(*number, stream.try_copy(alloc)?)?;
+    }
+    Ok(copies)
+}
+
+fn answered(outcome: Result<Outcome, Refusal>) -> Result<Reply, Refusal>
+    ensures { result ≡ if_done replies.Answered outcome }
+{
+    match outcome {
+        Ok(outcome) => Ok(Reply::Answered(outcome)),
+        Err(refusal) => Err(refusal),
+    }
+}
+
+fn polled(draft: Result<Option<Draft>, Refusal>) -> Result<Reply, Refusal>
+    ensures { result ≡ if_done replies.Polled draft }
+{
+    match draft {
+        Ok(draft) => Ok(Reply::Polled(draft)),
+        Err(refusal) => Err(refusal),
+    }
+}
