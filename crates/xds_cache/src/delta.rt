@@ -1,26 +1,25 @@
 // Clients of the incremental (delta) variant.
-ghost use Rattle.std.specs.Prelude.{◌≡◌, ◌≢◌, map, None, false, string_bytes, IfOk, IfErr, Ok, Err};
+ghost use Rattle.std.specs.Prelude.{◌≡◌, ◌≢◌, map, false, string_bytes, IfOk, IfErr, Ok, Err};
 ghost use Rattle.std.specs.Option.{option_map};
 ghost use Rattle.xds_resource.specs.Types.{types};
+ghost use Rattle.xds_resource.specs.declared.refusal.Refusal.{Refusal as RefusalValue};
 ghost use Rattle.xds_resource.specs.declared.refusal.Refusal.TheVariants.{OutOfMemory};
-ghost use Rattle.xds_message.specs.Responses.{resource_of, delta_response_of};
+ghost use Rattle.xds_message.specs.Responses.{delta_response_of};
 ghost use Rattle.xds_cache.specs.Shelves.{wants_of as set_of, wants_some as some_wanted};
-ghost use Rattle.xds_cache.specs.Faults.{fault_of, and_stated, first_fault, stated_by};
-ghost use Rattle.xds_cache.specs.Deliveries.{delta_stated, delta_delivery, delivered, fault_in};
-ghost use Rattle.xds_cache.specs.Clients.{fresh, shelf as shelf_of, view as view_of, linked, unlinked, broken_off};
+ghost use Rattle.xds_cache.specs.Clients.{fresh, shelf as shelf_of, view as view_of, addressing, linked, unlinked, broken_off};
 ghost use Rattle.xds_cache.specs.Sends.{delta_request, delta_answer, held_versions as versions_held, delta_first, first_requests, is_greeted};
 ghost use Rattle.xds_cache.specs.Receives.{delta_change, delta_receive};
 
 use crate::accept::Accept;
 use crate::client::Client;
-use crate::faults::{rejection, state};
+use crate::delta_response::delivered_to;
+use crate::faults::rejection;
 use crate::holding::Holding;
 use crate::link::{Down, Link, Up};
-use crate::shelf::{Shelf, cache_after};
 use crate::wants::{Wants, texts_of, wants_after, wants_of};
 use std::alloc::Global;
 use std::marker::{Model, PhantomData};
-use xds_message::{DeltaDiscoveryRequest, DeltaDiscoveryResponse, DeltaResource, Node, Versions};
+use xds_message::{DeltaDiscoveryRequest, DeltaDiscoveryResponse, Node, Versions};
 use xds_resource::{NameMap, Refusal, TypeName};
 
 /// A client of the incremental variant, for all types. `A` is its test of what it is sent, and `L` says whether it is
@@ -97,80 +96,6 @@ fn held_versions(alloc: Global, cache: &NameMap<Holding>) -> Result<Versions, Re
         versions.insert(alloc, name.as_str(), holding.version())?;
     }
     Ok(versions)
-}
-
-// The same for a resource of a delta response.
-fn state_resource<A: Accept>(
-    alloc: Global,
-    kind: TypeName,
-    removed: &Wants,
-    before: &mut NameMap<Holding>,
-    resource: &DeltaResource,
-) -> Result<Option<String>, Refusal>
-    ensures fault { IfOk result (λ f. option_map string_bytes f
-        ≡ fault_of kind A.accepts removed.now before.old (delta_stated (resource_of resource.now))) }
-    ensures none { result ≡ Ok None → before.new ≡ and_stated kind before.old (delta_stated (resource_of resource.now)) }
-    ensures err { IfErr result (λ e. e ≡ OutOfMemory) }
-{
-    let name = resource.name.as_str();
-    let version = resource.version.as_str();
-    state::<A>(
-        alloc,
-        kind,
-        removed,
-        before,
-        Some(name),
-        version,
-        &resource.resource,
-    )
-}
-
-// Why the first resource at fault is rejected, if one is, and else what the resources state.
-fn judge<A: Accept>(
-    alloc: Global,
-    kind: TypeName,
-    removed: &Wants,
-    resources: &[DeltaResource],
-    stated: &mut NameMap<Holding>,
-) -> Result<Option<String>, Refusal>
-    ensures fault { IfOk result (λ f. option_map string_bytes f
-        ≡ first_fault kind A.accepts removed.now stated.old (map delta_stated (map resource_of resources.now))) }
-    ensures none { result ≡ Ok None → stated.new
-        ≡ stated_by kind stated.old (map delta_stated (map resource_of resources.now)) }
-    ensures err { IfErr result (λ e. e ≡ OutOfMemory) }
-{
-    for resource in resources {
-        let fault = state_resource::<A>(alloc, kind, removed, stated, resource)?;
-        if fault.is_some() {
-            return Ok(fault);
-        }
-    }
-    Ok(None)
-}
-
-// What is kept of a type after a response, and why that is rejected, if it is.
-fn delivered_to<A: Accept>(
-    alloc: Global,
-    kind: TypeName,
-    shelf: &Shelf,
-    response: &DeltaDiscoveryResponse,
-) -> Result<(Shelf, Option<String>), Refusal>
-    ensures shelf { IfOk result (λ r. r.0 ≡ delivered kind A.accepts shelf.now (delta_delivery (delta_response_of response.now))) }
-    ensures fault { IfOk result (λ r. option_map string_bytes r.1 ≡ fault_in kind A.accepts (delta_delivery (delta_response_of response.now))) }
-    ensures err { IfErr result (λ e. e ≡ OutOfMemory) }
-{
-    let removed = wants_of(alloc, response.removed_resources.as_slice())?;
-    let mut stated = NameMap::new(alloc);
-    let nonce = response.nonce.as_str();
-    let resources = response.resources.as_slice();
-    let fault = judge::<A>(alloc, kind, &removed, resources, &mut stated)?;
-    if fault.is_some() {
-        let next = shelf.rejecting(alloc, nonce)?;
-        return Ok((next, fault));
-    }
-    let cache = cache_after(alloc, kind, shelf, false, &removed, &stated)?;
-    let next = shelf.taking(alloc, cache, nonce, "")?;
-    Ok((next, None))
 }
 
 impl<A: Accept, L: Link> DeltaClient<A, L> {
@@ -315,7 +240,7 @@ impl<A: Accept> DeltaClient<A, Up> {
         ensures ok { IfOk result (λ q. delta_receive A.accepts self.old (delta_response_of response.now) ≡ Ok (self.new, q)) }
         ensures err { IfErr result (λ e. self.new ≡ self.old) }
         ensures refused { IfErr result (λ e. e ≢ OutOfMemory → delta_receive A.accepts self.old (delta_response_of response.now) ≡ Err e) }
-        ensures memory { result ≡ Err OutOfMemory → self.old.broken ≡ false }
+        ensures unasked { (e : RefusalValue) → addressing self.old (delta_response_of response.now).type_url ≡ Err e → result ≡ Err e }
     {
         let kind = self.client.addressed(response.type_url.as_str())?;
         let (next, fault) = delivered_to::<A>(alloc, kind, self.client.shelf(kind), response)?;
@@ -335,7 +260,8 @@ impl<A: Accept> DeltaClient<A, Up> {
     ) -> Result<DeltaDiscoveryRequest, Refusal>
         ensures ok { IfOk result (λ q. delta_receive A.accepts self.old (delta_response_of response.now) ≡ Ok (self.new, q)) }
         ensures refused { IfErr result (λ e. e ≢ OutOfMemory → (delta_receive A.accepts self.old (delta_response_of response.now) ≡ Err e) × (self.new ≡ self.old)) }
-        ensures memory { result ≡ Err OutOfMemory → (self.new ≡ broken_off self.old) × (self.old.broken ≡ false) }
+        ensures unasked { (e : RefusalValue) → addressing self.old (delta_response_of response.now).type_url ≡ Err e → (result ≡ Err e) × (self.new ≡ self.old) }
+        ensures memory { result ≡ Err OutOfMemory → self.new ≡ broken_off self.old }
     {
         let answer = self.answer(alloc, response);
         if let Err(Refusal::OutOfMemory) = answer {

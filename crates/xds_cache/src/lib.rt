@@ -4,6 +4,7 @@
 pub mod accept;
 mod client;
 pub mod delta;
+mod delta_response;
 mod faults;
 pub mod holding;
 pub mod laws;
@@ -11,6 +12,7 @@ pub mod link;
 mod shelf;
 mod shelves;
 pub mod sotw;
+mod sotw_response;
 mod wants;
 
 pub use accept::{Accept, AcceptAll, Marked};

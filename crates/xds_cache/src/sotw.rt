@@ -1,25 +1,23 @@
 // Clients of the state-of-the-world variant.
-ghost use Rattle.std.specs.Prelude.{◌≡◌, ◌≢◌, map, None, false, string_bytes, IfOk, IfErr, Ok, Err};
+ghost use Rattle.std.specs.Prelude.{◌≡◌, ◌≢◌, map, false, string_bytes, IfOk, IfErr, Ok, Err};
 ghost use Rattle.std.specs.Option.{option_map};
-ghost use Rattle.serde_json.specs.View.{view as value_of};
 ghost use Rattle.xds_resource.specs.Types.{types};
+ghost use Rattle.xds_resource.specs.declared.refusal.Refusal.{Refusal as RefusalValue};
 ghost use Rattle.xds_resource.specs.declared.refusal.Refusal.TheVariants.{OutOfMemory};
 ghost use Rattle.xds_message.specs.Responses.{response_of};
 ghost use Rattle.xds_cache.specs.Shelves.{wants_of as set_of, wants_some as some_wanted};
-ghost use Rattle.xds_cache.specs.Faults.{fault_of, and_stated, first_fault, stated_by};
-ghost use Rattle.xds_cache.specs.Deliveries.{sotw_stated, sotw_delivery, delivered, fault_in};
-ghost use Rattle.xds_cache.specs.Clients.{fresh, shelf as shelf_of, view as view_of, linked, unlinked, broken_off};
+ghost use Rattle.xds_cache.specs.Clients.{fresh, shelf as shelf_of, view as view_of, addressing, linked, unlinked, broken_off};
 ghost use Rattle.xds_cache.specs.Sends.{sotw_request as request_of, sotw_first, first_requests, is_greeted};
 ghost use Rattle.xds_cache.specs.Receives.{sotw_change, sotw_receive};
 
 use crate::accept::Accept;
 use crate::client::Client;
-use crate::faults::{rejection, state};
+use crate::faults::rejection;
 use crate::holding::Holding;
 use crate::link::{Down, Link, Up};
-use crate::shelf::{Shelf, cache_after};
-use crate::wants::{Wants, texts_of, wants_of};
-use serde_json::Value;
+use crate::shelf::Shelf;
+use crate::sotw_response::delivered_to;
+use crate::wants::{texts_of, wants_of};
 use std::alloc::Global;
 use std::marker::{Model, PhantomData};
 use xds_message::{DiscoveryRequest, DiscoveryResponse, Node};
@@ -65,71 +63,6 @@ fn request_for(
         response_nonce: String::from_str(alloc, nonce)?,
         error_detail: rejection(fault),
     })
-}
-
-// The same for a value of a response of the state of the world.
-fn state_value<A: Accept>(
-    alloc: Global,
-    kind: TypeName,
-    removed: &Wants,
-    before: &mut NameMap<Holding>,
-    resource: &Value,
-) -> Result<Option<String>, Refusal>
-    ensures fault { IfOk result (λ f. option_map string_bytes f
-        ≡ fault_of kind A.accepts removed.now before.old (sotw_stated (value_of resource.now))) }
-    ensures none { result ≡ Ok None → before.new ≡ and_stated kind before.old (sotw_stated (value_of resource.now)) }
-    ensures err { IfErr result (λ e. e ≡ OutOfMemory) }
-{
-    state::<A>(alloc, kind, removed, before, None, "", resource)
-}
-
-// Why the first resource at fault is rejected, if one is, and else what the resources state.
-fn judge<A: Accept>(
-    alloc: Global,
-    kind: TypeName,
-    removed: &Wants,
-    resources: &[Value],
-    stated: &mut NameMap<Holding>,
-) -> Result<Option<String>, Refusal>
-    ensures fault { IfOk result (λ f. option_map string_bytes f
-        ≡ first_fault kind A.accepts removed.now stated.old (map sotw_stated (map value_of resources.now))) }
-    ensures none { result ≡ Ok None → stated.new
-        ≡ stated_by kind stated.old (map sotw_stated (map value_of resources.now)) }
-    ensures err { IfErr result (λ e. e ≡ OutOfMemory) }
-{
-    for resource in resources {
-        let fault = state_value::<A>(alloc, kind, removed, stated, resource)?;
-        if fault.is_some() {
-            return Ok(fault);
-        }
-    }
-    Ok(None)
-}
-
-// What is kept of a type after a response, and why that is rejected, if it is.
-fn delivered_to<A: Accept>(
-    alloc: Global,
-    kind: TypeName,
-    shelf: &Shelf,
-    response: &DiscoveryResponse,
-) -> Result<(Shelf, Option<String>), Refusal>
-    ensures shelf { IfOk result (λ r. r.0 ≡ delivered kind A.accepts shelf.now (sotw_delivery kind (response_of response.now))) }
-    ensures fault { IfOk result (λ r. option_map string_bytes r.1 ≡ fault_in kind A.accepts (sotw_delivery kind (response_of response.now))) }
-    ensures err { IfErr result (λ e. e ≡ OutOfMemory) }
-{
-    let removed = NameMap::new(alloc);
-    let mut stated = NameMap::new(alloc);
-    let nonce = response.nonce.as_str();
-    let values = response.resources.as_slice();
-    let fault = judge::<A>(alloc, kind, &removed, values, &mut stated)?;
-    if fault.is_some() {
-        let next = shelf.rejecting(alloc, nonce)?;
-        return Ok((next, fault));
-    }
-    let whole = kind.is_complete();
-    let cache = cache_after(alloc, kind, shelf, whole, &removed, &stated)?;
-    let next = shelf.taking(alloc, cache, nonce, response.version_info.as_str())?;
-    Ok((next, None))
 }
 
 impl<A: Accept, L: Link> SotwClient<A, L> {
@@ -260,7 +193,7 @@ impl<A: Accept> SotwClient<A, Up> {
         ensures ok { IfOk result (λ q. sotw_receive A.accepts self.old (response_of response.now) ≡ Ok (self.new, q)) }
         ensures err { IfErr result (λ e. self.new ≡ self.old) }
         ensures refused { IfErr result (λ e. e ≢ OutOfMemory → sotw_receive A.accepts self.old (response_of response.now) ≡ Err e) }
-        ensures memory { result ≡ Err OutOfMemory → self.old.broken ≡ false }
+        ensures unasked { (e : RefusalValue) → addressing self.old (response_of response.now).type_url ≡ Err e → result ≡ Err e }
     {
         let kind = self.client.addressed(response.type_url.as_str())?;
         let (next, fault) = delivered_to::<A>(alloc, kind, self.client.shelf(kind), response)?;
@@ -280,7 +213,8 @@ impl<A: Accept> SotwClient<A, Up> {
     ) -> Result<DiscoveryRequest, Refusal>
         ensures ok { IfOk result (λ q. sotw_receive A.accepts self.old (response_of response.now) ≡ Ok (self.new, q)) }
         ensures refused { IfErr result (λ e. e ≢ OutOfMemory → (sotw_receive A.accepts self.old (response_of response.now) ≡ Err e) × (self.new ≡ self.old)) }
-        ensures memory { result ≡ Err OutOfMemory → (self.new ≡ broken_off self.old) × (self.old.broken ≡ false) }
+        ensures unasked { (e : RefusalValue) → addressing self.old (response_of response.now).type_url ≡ Err e → (result ≡ Err e) × (self.new ≡ self.old) }
+        ensures memory { result ≡ Err OutOfMemory → self.new ≡ broken_off self.old }
     {
         let answer = self.answer(alloc, response);
         if let Err(Refusal::OutOfMemory) = answer {

@@ -3,7 +3,7 @@ use Rattle.std.specs.Option.{option_map}
 use Rattle.xds_message.specs.Responses.{resource_of}
 use Rattle.xds_cache.specs.Deliveries.{delta_stated}
 use Rattle.xds_cache.proofs.Judging.{none_by_false, fault_more, stated_more}
-use Rattle.xds_cache.proofs.delta.judge.Goals as goal
+use Rattle.xds_cache.proofs.delta_response.judge.Goals as goal
 
 pub loop-resource-preserved : goal.loop-resource-preserved
 loop-resource-preserved g c =
