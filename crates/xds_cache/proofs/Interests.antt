@@ -1,21 +1,22 @@
 -- That what clients want is what a server makes of their requests.
-use Rattle.std.proofs.Common.{◌≡◌, ℕ, List, Bool, true, false, cond, ◌||◌, ◌&&◌, not, Option, Some, None, refl, sym, ap, ◌∙◌}
+use Rattle.std.proofs.Common.{◌≡◌, ℕ, List, [], ◌∷◌, map, length, Bool, true, false, cond, ◌||◌, ◌&&◌, not, Option, Some, None, refl, sym, ap, ◌∙◌}
 use Rattle.std.specs.Prelude.{is_some, if◌then◌else◌}
 use Rattle.std.specs.FinMap as finmap
 use Rattle.std.specs.FinSet as set
 use Rattle.xds_resource.specs.declared.types.TypeName.{TypeName}
 use Rattle.xds_resource.specs.Types.{row}
-use Rattle.xds_resource.proofs.NameMaps.{has_text, has_text-keys, get-tabulate}
+use Rattle.xds_resource.specs.Writes.{text_cmp}
+use Rattle.xds_resource.proofs.NameMaps.{has_text, has_text-keys, get-tabulate, same_names}
 use Rattle.xds_interest.specs.Interests.{star_text, is_star, has_name}
-use Rattle.xds_interest.specs.SotW.{listed}
+use Rattle.xds_interest.specs.SotW.{is_named, listed}
 use Rattle.xds_interest.proofs.SotwLaws.{list_any-is_star, contains-listed, list_covers_its_names}
 use Rattle.xds_interest.specs.Delta.{Mention}
-use Rattle.xds_interest.specs.Asked.{star_after, names_after}
+use Rattle.xds_interest.specs.Asked.{star_after, names_after, nothing, everything, unasked, delta_asked}
 use Rattle.xds_interest.proofs.AskedLaws.{contains-names_after}
 use Rattle.xds_interest.proofs.Texts.{same_texts}
-use Rattle.xds_cache.specs.Shelves.{Wants, texts, marked, wants_of, wants_after}
+use Rattle.xds_cache.specs.Shelves.{Wants, texts, interest, wants_some, marked, wants_of, wants_after}
 use Rattle.xds_cache.specs.Deliveries.{shown}
-use Rattle.xds_cache.specs.Laws.{WantsWhatIsCovered, ListIsInterest, ChangeIsAsked, HoldsWhatIsWanted, WantedByName, ShownByName, KeptByName}
+use Rattle.xds_cache.specs.Laws.{WantsWhatIsCovered, ListIsInterest, ListIsAsked, FirstIsAsked, FirstChangeIsAsked, ChangeIsAsked, HoldsWhatIsWanted, WantedByName, ShownByName, KeptByName}
 use Rattle.xds_cache.proofs.Making.{get-wants_after, get-cache_after, get-kept_of}
 
 pub wants_what_is_covered : WantsWhatIsCovered
@@ -93,3 +94,46 @@ change_is_asked t s u b =
     ∙ ap (λ x. (not (is_star t q) && has_name (texts s) q) || (not (has_name (texts u) q) && x)) (sym (contains-listed t (texts b) q))
     ∙ sym (contains-names_after t m (listed t (texts b)).names q)) in
     λ i. record { star = star i; names = names i }
+
+-- ---- first requests
+
+none_left : {X : Type 0} (xs : List X) → length xs ≡ 0 → xs ≡ []
+none_left [] e = refl
+none_left (x ∷ xs) e = absurd cc
+
+no_texts : texts finmap.empty ≡ []
+no_texts = ap (map (λ e. e.0)) (none_left (finmap.entries finmap.empty) (sym (finmap.len-entries finmap.empty) ∙ finmap.len-empty text_cmp (Unit {0})))
+
+pub list_is_asked : ListIsAsked
+list_is_asked t a w named = ap (λ b. if b then listed t (texts w) else everything t) named
+
+first_at : (o e : Option (Unit {0})) (b : Bool) → e ≡ None → (if is_some o then Some tt else if b then None else e) ≡ o
+first_at (Some u) e b none = refl
+first_at None e true none = refl
+first_at None e false none = none
+
+-- what is wanted first is what is subscribed
+first_wants : (s u : Wants) → wants_after s u finmap.empty ≡ s
+first_wants s u = same_names _ _ (λ q.
+    get-wants_after s u finmap.empty q ∙ first_at (finmap.get s q) (finmap.get finmap.empty q) (finmap.contains_key u q) (finmap.get-empty text_cmp q))
+
+-- a first request that subscribes something is as one after which nothing was wanted
+as_if_begun : (t : TypeName) (m : Mention) → is_named m.subscribe ≡ true
+    → (delta_asked t unasked m).interest ≡ (delta_asked t (record { begun = true; named = false; interest = nothing }) m).interest
+as_if_begun t m named = λ i. record {
+  star = (row t).is_complete && star_after m (not (named i));
+  names = set.from_list (names_after t m (set.items nothing.names));
+}
+
+pub first_change_is_asked : FirstChangeIsAsked
+first_change_is_asked t s u some =
+    let m : Mention = record { subscribe = texts s; unsubscribe = texts u } in
+    as_if_begun t m (ap wants_some (sym (first_wants s u)) ∙ some)
+    ∙ ap (λ l. (delta_asked t (record { begun = true; named = false; interest = listed t l }) m).interest) (sym no_texts)
+    ∙ sym (change_is_asked t s u finmap.empty)
+
+pub first_is_asked : FirstIsAsked
+first_is_asked t w some =
+    ap (λ l. (delta_asked t unasked (record { subscribe = texts w; unsubscribe = l })).interest) (sym no_texts)
+    ∙ first_change_is_asked t w finmap.empty (ap wants_some (first_wants w finmap.empty) ∙ some)
+    ∙ ap (interest t) (first_wants w finmap.empty)
