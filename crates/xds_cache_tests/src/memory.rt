@@ -1,7 +1,7 @@
 // Clients that find no memory for a response. `bench/fail_each.py` runs these tests with each allocation failing in turn:
 // where one fails in `receive`, what is held stays, the client is of no use until its stream is lost, and then it goes on.
 use crate::delta::Delta;
-use crate::script::{Player, ask, play_on};
+use crate::script::{NO_MEMORY, Player, ask, play_on};
 use crate::sotw::Sotw;
 use std::process::Abort;
 use std::test::Fail;
@@ -18,7 +18,7 @@ fn goes_on<P: Player, R: Abort + AllocGlobal>(
     let mut player = P::new(rt.alloc())?;
     play_on(rt, &mut player, before)?;
     let answer = ask(rt.alloc(), &mut player, response)?;
-    let is_refused = answer.as_str() == "8 OutOfMemory";
+    let is_refused = answer.as_str() == NO_MEMORY;
     if is_refused {
         play_on(rt, &mut player, refused)?;
     }

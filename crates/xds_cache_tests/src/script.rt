@@ -160,7 +160,10 @@ pub fn ask<P: Player>(alloc: Global, player: &mut P, step: &str) -> Result<Strin
     Ok(told(alloc, player, step.as_str())?)
 }
 
-// Plays one line, and compares.
+/// A client's refusal for want of memory.
+pub const NO_MEMORY: &str = "8 OutOfMemory";
+
+// Plays one line, and compares. Where the client found no memory, it ends with that refusal.
 fn play_line<P: Player, R: Abort + AllocGlobal>(
     rt: &R,
     player: &mut P,
@@ -169,6 +172,9 @@ fn play_line<P: Player, R: Abort + AllocGlobal>(
     let (step, wanted) = line.split_once(" => ").ok_or("no answer")?;
     let wanted = written_out(rt.alloc(), wanted)?;
     let answer = ask(rt.alloc(), player, step)?;
+    if answer.as_str() == NO_MEMORY {
+        return Err(Refusal::OutOfMemory.into());
+    }
     assert_eq!(rt; answer.as_str(), wanted.as_str(), "at {step}");
     Ok(())
 }
