@@ -94,20 +94,20 @@ receive {"nonce":"1","typeUrl":"RDS"} => 7 BadMessage
 change route b a b - c => {"node":{"id":"7"},"resourceNamesSubscribe":["a","b"],"resourceNamesUnsubscribe":["c"],"typeUrl":"RDS"}
 change cluster * => {"resourceNamesSubscribe":["*"],"typeUrl":"CDS"}
 receive {"nonce":"1","resources":[{"name":"b","resource":{"@type":"RDS","name":"b"},"version":"1-1"},{"name":"c","resource":{"@type":"RDS","name":"c"},"version":"2-1"},{"name":"a","resource":{"@type":"RDS","name":"a"},"version":"3-1"}],"typeUrl":"RDS"} => {"responseNonce":"1","typeUrl":"RDS"}
-receive {"nonce":"2","resources":[{"name":"x","resource":{"@type":"CDS","name":"x"},"version":"4-2"}],"typeUrl":"CDS"} => {"responseNonce":"2","typeUrl":"CDS"}
+receive {"nonce":"2","resources":[{"name":"x","resource":{"@type":"CDS","name":"x"},"version":"4-2"},{"name":"v","resource":{"@type":"CDS","name":"v"},"version":"6-2"},{"name":"w","resource":{"@type":"CDS","name":"w"},"version":"5-2"}],"typeUrl":"CDS"} => {"responseNonce":"2","typeUrl":"CDS"}
 view route => 3-1 {"@type":"RDS","name":"a"} 1-1 {"@type":"RDS","name":"b"}
-change route a - a b => {"resourceNamesSubscribe":["a"],"resourceNamesUnsubscribe":["a","b"],"typeUrl":"RDS"}
+change route a - b a => {"resourceNamesSubscribe":["a"],"resourceNamesUnsubscribe":["a","b"],"typeUrl":"RDS"}
 view route => 3-1 {"@type":"RDS","name":"a"}
-change cluster y x - * => {"resourceNamesSubscribe":["x","y"],"resourceNamesUnsubscribe":["*"],"typeUrl":"CDS"}
+change cluster y x w - u * => {"resourceNamesSubscribe":["w","x","y"],"resourceNamesUnsubscribe":["*","u"],"typeUrl":"CDS"}
 lose => none
 change cluster z => none
-view cluster => 4-2 {"@type":"CDS","name":"x"}
-connect => {"initialResourceVersions":{"x":"4-2"},"node":{"id":"7"},"resourceNamesSubscribe":["x","y","z"],"typeUrl":"CDS"} {"initialResourceVersions":{"a":"3-1"},"resourceNamesSubscribe":["a"],"typeUrl":"RDS"}
+view cluster => 5-2 {"@type":"CDS","name":"w"} 4-2 {"@type":"CDS","name":"x"}
+connect => {"initialResourceVersions":{"w":"5-2","x":"4-2"},"node":{"id":"7"},"resourceNamesSubscribe":["w","x","y","z"],"typeUrl":"CDS"} {"initialResourceVersions":{"a":"3-1"},"resourceNamesSubscribe":["a"],"typeUrl":"RDS"}
 change route - a => {"resourceNamesUnsubscribe":["a"],"typeUrl":"RDS"}
 view route => none
 change route => {"typeUrl":"RDS"}
 receive {"nonce":"1","removedResources":["a"],"typeUrl":"RDS"} => {"responseNonce":"1","typeUrl":"RDS"}
 lose => none
-connect => {"initialResourceVersions":{"x":"4-2"},"node":{"id":"7"},"resourceNamesSubscribe":["x","y","z"],"typeUrl":"CDS"}"#,
+connect => {"initialResourceVersions":{"w":"5-2","x":"4-2"},"node":{"id":"7"},"resourceNamesSubscribe":["w","x","y","z"],"typeUrl":"CDS"}"#,
     )
 }
