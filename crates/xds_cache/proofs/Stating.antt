@@ -1,5 +1,5 @@
 -- A resource that is stated beside others.
-use Rattle.std.proofs.Common.{◌≡◌, ℕ, List, Option, Result, Ok, sym, ap, ◌∙◌}
+use Rattle.std.proofs.Common.{◌≡◌, ℕ, List, Option, Ok, sym, ap, ◌∙◌}
 use Rattle.std.specs.FinMap as finmap
 use Rattle.serde_json.specs.Data.{Data}
 use Rattle.xds_resource.specs.declared.types.TypeName.{TypeName}
