@@ -1,0 +1,9 @@
+pub mod Marks
+pub mod Shelves
+pub mod Faults
+pub mod Deliveries
+pub mod Parts
+pub mod Clients
+pub mod Sends
+pub mod Receives
+pub mod Laws

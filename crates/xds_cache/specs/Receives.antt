@@ -1,0 +1,58 @@
+-- What `change` and `receive` leave of a client and give to send. This project's own.
+use Rattle.std.specs.Prelude.{Bool, if◌then◌else◌, Option, Some, None, Result, Ok, Err}
+use Rattle.std.specs.FinMap as finmap
+use Rattle.xds_resource.specs.declared.types.TypeName.{TypeName}
+use Rattle.xds_resource.specs.declared.refusal.Refusal.{Refusal}
+use Rattle.xds_resource.specs.declared.refusal.Refusal.TheVariants.{NoStream}
+use Rattle.xds_message.specs.Messages.{Request, Response}
+use Rattle.xds_message.specs.DeltaMessages.{DeltaRequest, DeltaResponse}
+use Rattle.xds_cache.specs.Shelves.{Wants, wants_after}
+use Rattle.xds_cache.specs.Faults.{Test}
+use Rattle.xds_cache.specs.Deliveries.{sotw_delivery, delta_delivery, fault_in, delivered}
+use Rattle.xds_cache.specs.Clients.{Client, shelf, with_shelf, node, is_sent, shelf_after, changed, addressing}
+use Rattle.xds_cache.specs.Sends.{sotw_request, delta_request, delta_answer}
+
+-- what a call leaves of a client, and what it gives to send
+abbrev pub Outcome : Type 0 → Type 0
+Outcome X = Result (Client × X) Refusal
+
+-- ---- change
+
+-- A client of the state of the world wants these texts, and on a stream sends them all.
+abbrev pub sotw_changed : Bool → TypeName → Wants → Client → Client × Option Request
+sotw_changed up t w c =
+    (changed up t w c, if is_sent up (shelf c t) w then Some (sotw_request t (node c.greeted c) (shelf_after up t w c) None) else None)
+
+abbrev pub sotw_change : Bool → TypeName → Wants → Client → Outcome (Option Request)
+sotw_change up t w c = if c.broken then Err NoStream else Ok (sotw_changed up t w c)
+
+-- A delta client subscribes and unsubscribes texts, and on a stream sends these two lists.
+abbrev pub delta_changed : Bool → TypeName → Wants → Wants → Client → Client × Option DeltaRequest
+delta_changed up t subscribe unsubscribe c =
+    let w = wants_after subscribe unsubscribe (shelf c t).wants in
+    (changed up t w c, if is_sent up (shelf c t) w then Some (delta_request t (node c.greeted c) subscribe unsubscribe finmap.empty) else None)
+
+abbrev pub delta_change : Bool → TypeName → Wants → Wants → Client → Outcome (Option DeltaRequest)
+delta_change up t subscribe unsubscribe c = if c.broken then Err NoStream else Ok (delta_changed up t subscribe unsubscribe c)
+
+-- ---- receive
+
+abbrev pub sotw_answered : Test → Client → Response → TypeName → Client × Request
+sotw_answered test c r t =
+    let s = delivered t test (shelf c t) (sotw_delivery t r) in
+    (with_shelf c t s, sotw_request t None s (fault_in t test (sotw_delivery t r)))
+
+abbrev pub delta_answered : Test → Client → DeltaResponse → TypeName → Client × DeltaRequest
+delta_answered test c r t =
+    (with_shelf c t (delivered t test (shelf c t) (delta_delivery r)), delta_answer t r.nonce (fault_in t test (delta_delivery r)))
+
+abbrev pub if_addressed : {X : Type 0} → (TypeName → Client × X) → Result TypeName Refusal → Outcome X
+if_addressed answered (Err e) = Err e
+if_addressed answered (Ok t) = Ok (answered t)
+
+-- A client that can't use its stream refuses a response, and so does one that didn't ask for its type on this stream.
+abbrev pub sotw_receive : Test → Client → Response → Outcome Request
+sotw_receive test c r = if_addressed (sotw_answered test c r) (addressing c r.type_url)
+
+abbrev pub delta_receive : Test → Client → DeltaResponse → Outcome DeltaRequest
+delta_receive test c r = if_addressed (delta_answered test c r) (addressing c r.type_url)

@@ -1,0 +1,149 @@
+// What clients of both variants share.
+ghost use Rattle.std.specs.Prelude.{◌≡◌, string_bytes, IfOk, IfErr};
+ghost use Rattle.xds_resource.specs.declared.refusal.Refusal.TheVariants.{OutOfMemory};
+ghost use Rattle.xds_cache.specs.Shelves.{wants_some as some_wanted};
+ghost use Rattle.xds_cache.specs.Clients.{fresh, shelf as shelf_of, with_shelf, node as node_of, is_sent as sent, changing, linked, unlinked, broken_off, addressing};
+
+use crate::shelf::Shelf;
+use crate::shelves::Shelves;
+use crate::wants::{Wants, wants_some};
+use std::alloc::Global;
+use std::marker::Model;
+use xds_message::Node;
+use xds_resource::{Refusal, TypeName};
+
+/// A client, whichever its variant, and whether it has a stream or not.
+#[derive(Drop)]
+pub(crate) struct Client {
+    node_id: String,
+    greeted: bool,
+    broken: bool,
+    shelves: Shelves,
+}
+
+impl Model for Client {
+    ghost use Rattle.std.specs.Prelude.{string_bytes};
+    ghost use Rattle.xds_cache.specs.Clients as clients;
+    ghost use Rattle.xds_cache.specs.Clients.{client_code};
+
+    ghost Value = { clients.Client };
+
+    ghost coded = { client_code };
+
+    ghost view = { λ c. record { node_id = string_bytes c.node_id; greeted = c.greeted; broken = c.broken; shelves = c.shelves } };
+}
+
+impl Client {
+    /// A client that wants nothing.
+    pub(crate) fn new(alloc: Global, node_id: String) -> Client
+        ensures { result ≡ fresh (string_bytes node_id) }
+    {
+        Client {
+            node_id,
+            greeted: false,
+            broken: false,
+            shelves: Shelves::new(alloc),
+        }
+    }
+
+    /// What the client keeps of a type.
+    pub(crate) fn shelf(&self, kind: TypeName) -> &Shelf
+        ensures { result.now ≡ shelf_of self.now kind }
+    {
+        self.shelves.get(kind)
+    }
+
+    /// Whether something of a type is wanted.
+    pub(crate) fn wants(&self, kind: TypeName) -> bool
+        ensures { result ≡ some_wanted (shelf_of self.now kind).wants }
+    {
+        wants_some(&self.shelf(kind).wants)
+    }
+
+    pub(crate) fn put_shelf(&mut self, kind: TypeName, shelf: Shelf)
+        ensures { self.new ≡ with_shelf self.old kind shelf }
+    {
+        self.shelves.put(kind, shelf);
+    }
+
+    /// Whether the client sent on this stream who it is.
+    pub(crate) fn has_greeted(&self) -> bool
+        ensures { result ≡ self.now.greeted }
+    {
+        self.greeted
+    }
+
+    /// Who asks, unless that was said before on this stream.
+    pub(crate) fn node(&self, alloc: Global, greeted: bool) -> Result<Option<Node>, Refusal>
+        ensures ok { IfOk result (λ n. n ≡ node_of greeted self.now) }
+        ensures err { IfErr result (λ e. e ≡ OutOfMemory) }
+    {
+        if greeted {
+            return Ok(None);
+        }
+        Ok(Some(Node {
+            id: String::from_str(alloc, self.node_id.as_str())?,
+            cluster: String::new(alloc),
+        }))
+    }
+
+    /// Whether the client found no memory for a response.
+    pub(crate) fn is_broken(&self) -> bool
+        ensures { result ≡ self.now.broken }
+    {
+        self.broken
+    }
+
+    /// It found no memory for a response.
+    pub(crate) fn break_off(&mut self)
+        ensures { self.new ≡ broken_off self.old }
+    {
+        self.broken = true;
+    }
+
+    /// The type of a response, by its URL. `NoStream` where the client can't use its stream, and `BadMessage` where it
+    /// asked for no such type on it.
+    pub(crate) fn addressed(&self, type_url: &str) -> Result<TypeName, Refusal>
+        ensures { result ≡ addressing self.now type_url.now }
+    {
+        if self.broken {
+            return Err(Refusal::NoStream);
+        }
+        match TypeName::from_url(type_url) {
+            Some(kind) if self.shelf(kind).asked => Ok(kind),
+            _ => Err(Refusal::BadMessage),
+        }
+    }
+
+    /// Whether a change to these is sent, where the client is on a stream or not.
+    pub(crate) fn is_sent(&self, up: bool, kind: TypeName, wants: &Wants) -> bool
+        ensures { result ≡ sent up (shelf_of self.now kind) wants.now }
+    {
+        up && (self.shelf(kind).asked || wants_some(wants))
+    }
+
+    /// The client wants other texts of a type.
+    pub(crate) fn change(&mut self, sent: bool, kind: TypeName, shelf: Shelf)
+        ensures { self.new ≡ changing sent kind shelf self.old }
+    {
+        self.greeted = self.greeted || sent;
+        self.shelves.put(kind, shelf);
+    }
+
+    /// On a new stream.
+    pub(crate) fn connect(&mut self, greeted: bool)
+        ensures { self.new ≡ linked greeted self.old }
+    {
+        self.greeted = greeted;
+        self.shelves.connect();
+    }
+
+    /// Once the stream is lost.
+    pub(crate) fn lose(&mut self)
+        ensures { self.new ≡ unlinked self.old }
+    {
+        self.greeted = false;
+        self.broken = false;
+        self.shelves.lose();
+    }
+}

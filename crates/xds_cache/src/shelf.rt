@@ -1,0 +1,244 @@
+// What a client keeps of one type.
+ghost use Rattle.std.specs.Prelude.{◌≡◌, [], string_bytes, IfOk, IfErr};
+ghost use Rattle.std.specs.FinMap as finmap;
+ghost use Rattle.xds_resource.specs.declared.refusal.Refusal.TheVariants.{OutOfMemory};
+ghost use Rattle.xds_resource.specs.Names.{put_all};
+ghost use Rattle.xds_cache.specs.Shelves.{bare, kept_of, wanting as wanting_now, connected, lost};
+ghost use Rattle.xds_cache.specs.Deliveries.{cache_after as shown_after};
+ghost use Rattle.xds_cache.specs.Parts.{left as left_by, added as added_by};
+
+use crate::holding::Holding;
+use crate::wants::{Wants, copy_wants, is_wanted, wants_some};
+use std::alloc::Global;
+use std::marker::Model;
+use xds_resource::{NameMap, Refusal, TypeName};
+
+/// What a client wants of a type, what it holds, and how far its stream is.
+#[derive(Drop)]
+pub(crate) struct Shelf {
+    pub(crate) wants: Wants,
+    pub(crate) cache: NameMap<Holding>,
+    /// The nonce of the last response of the type on this stream.
+    pub(crate) nonce: String,
+    /// The version that was accepted last, in state of the world.
+    pub(crate) accepted: String,
+    /// Whether the type was asked for on this stream.
+    pub(crate) asked: bool,
+}
+
+impl Model for Shelf {
+    ghost use Rattle.std.specs.Prelude.{string_bytes};
+    ghost use Rattle.xds_cache.specs.Shelves as shelves;
+    ghost use Rattle.xds_cache.specs.Shelves.{shelf_code};
+
+    ghost Value = { shelves.Shelf };
+
+    ghost coded = { shelf_code };
+
+    ghost view = { λ s. record {
+      wants = s.wants;
+      cache = s.cache;
+      nonce = string_bytes s.nonce;
+      accepted = string_bytes s.accepted;
+      asked = s.asked;
+    } };
+}
+
+// What is left of a name that was held, beside a response that is the whole or not, and removes these names.
+fn left_of(
+    kind: TypeName,
+    wants: &Wants,
+    whole: bool,
+    removed: &Wants,
+    name: &str,
+    holding: &Holding,
+) -> Result<Option<Holding>, Refusal>
+    ensures ok { IfOk result (λ h. h ≡ left_by kind wants.now whole removed.now name.now holding.now) }
+    ensures err { IfErr result (λ e. e ≡ OutOfMemory) }
+{
+    if is_wanted(kind, wants, name) && !(whole || removed.contains(name)) {
+        Ok(Some(holding.try_copy()?))
+    } else {
+        Ok(None)
+    }
+}
+
+// What is held of a name that a response states.
+fn added_of(
+    kind: TypeName,
+    wants: &Wants,
+    name: &str,
+    holding: &Holding,
+) -> Result<Option<Holding>, Refusal>
+    ensures ok { IfOk result (λ h. h ≡ added_by kind wants.now name.now holding.now) }
+    ensures err { IfErr result (λ e. e ≡ OutOfMemory) }
+{
+    if is_wanted(kind, wants, name) {
+        Ok(Some(holding.try_copy()?))
+    } else {
+        Ok(None)
+    }
+}
+
+// What is left of what was held.
+fn left(
+    alloc: Global,
+    kind: TypeName,
+    wants: &Wants,
+    whole: bool,
+    removed: &Wants,
+    cache: &NameMap<Holding>,
+) -> Result<NameMap<Holding>, Refusal>
+    ensures ok { IfOk result (λ m. m ≡ put_all (left_by kind wants.now whole removed.now) finmap.empty (finmap.entries cache.now)) }
+    ensures err { IfErr result (λ e. e ≡ OutOfMemory) }
+{
+    let mut next = NameMap::new(alloc);
+    for (name, holding) in cache.iter() {
+        let kept = left_of(kind, wants, whole, removed, name, holding)?;
+        next.put(alloc, name, kept)?;
+    }
+    Ok(next)
+}
+
+// What is held once what a response states is added to what is left.
+fn added(
+    alloc: Global,
+    kind: TypeName,
+    wants: &Wants,
+    stated: &NameMap<Holding>,
+    beside: NameMap<Holding>,
+) -> Result<NameMap<Holding>, Refusal>
+    ensures ok { IfOk result (λ m. m ≡ put_all (added_by kind wants.now) beside (finmap.entries stated.now)) }
+    ensures err { IfErr result (λ e. e ≡ OutOfMemory) }
+{
+    let mut next = beside;
+    for (name, holding) in stated.iter() {
+        let stated = added_of(kind, wants, name, holding)?;
+        next.put(alloc, name, stated)?;
+    }
+    Ok(next)
+}
+
+/// What is held after a response that states this, is the whole or not, and removes these names.
+pub(crate) fn cache_after(
+    alloc: Global,
+    kind: TypeName,
+    shelf: &Shelf,
+    whole: bool,
+    removed: &Wants,
+    stated: &NameMap<Holding>,
+) -> Result<NameMap<Holding>, Refusal>
+    ensures ok { IfOk result (λ m. m ≡ shown_after kind shelf.now.wants whole removed.now stated.now shelf.now.cache) }
+    ensures err { IfErr result (λ e. e ≡ OutOfMemory) }
+{
+    let beside = left(alloc, kind, &shelf.wants, whole, removed, &shelf.cache)?;
+    let next = added(alloc, kind, &shelf.wants, stated, beside)?;
+    Ok(next)
+}
+
+// What is still held once these are wanted.
+fn kept(
+    alloc: Global,
+    kind: TypeName,
+    wants: &Wants,
+    cache: &NameMap<Holding>,
+) -> Result<NameMap<Holding>, Refusal>
+    ensures ok { IfOk result (λ m. m ≡ kept_of kind wants.now cache.now) }
+    ensures err { IfErr result (λ e. e ≡ OutOfMemory) }
+{
+    let nothing = NameMap::new(alloc);
+    let next = left(alloc, kind, wants, false, &nothing, cache)?;
+    Ok(next)
+}
+
+fn copy_cache(alloc: Global, cache: &NameMap<Holding>) -> Result<NameMap<Holding>, Refusal>
+    ensures ok { IfOk result (λ m. m ≡ cache.now) }
+    ensures err { IfErr result (λ e. e ≡ OutOfMemory) }
+{
+    let mut copy = NameMap::new(alloc);
+    for (name, holding) in cache.iter() {
+        copy.put(alloc, name, Some(holding.try_copy()?))?;
+    }
+    Ok(copy)
+}
+
+impl Shelf {
+    /// Of a client that wants nothing.
+    pub(crate) fn new(alloc: Global) -> Shelf
+        ensures { result ≡ bare }
+    {
+        Shelf {
+            wants: NameMap::new(alloc),
+            cache: NameMap::new(alloc),
+            nonce: String::new(alloc),
+            accepted: String::new(alloc),
+            asked: false,
+        }
+    }
+
+    /// Once the client wants these, and asked for them or not.
+    pub(crate) fn wanting(
+        &self,
+        alloc: Global,
+        kind: TypeName,
+        wants: Wants,
+        asked: bool,
+    ) -> Result<Shelf, Refusal>
+        ensures ok { IfOk result (λ s. s ≡ wanting_now kind wants asked self.now) }
+        ensures err { IfErr result (λ e. e ≡ OutOfMemory) }
+    {
+        let cache = kept(alloc, kind, &wants, &self.cache)?;
+        Ok(Shelf {
+            wants,
+            cache,
+            nonce: String::from_str(alloc, self.nonce.as_str())?,
+            accepted: String::from_str(alloc, self.accepted.as_str())?,
+            asked,
+        })
+    }
+
+    /// With this cache, after a response of this nonce that was taken as this version.
+    pub(crate) fn taking(
+        &self,
+        alloc: Global,
+        cache: NameMap<Holding>,
+        nonce: &str,
+        version: &str,
+    ) -> Result<Shelf, Refusal>
+        ensures ok { IfOk result (λ s. s ≡ record self.now { cache = cache; nonce = nonce.now; accepted = version.now }) }
+        ensures err { IfErr result (λ e. e ≡ OutOfMemory) }
+    {
+        Ok(Shelf {
+            wants: copy_wants(alloc, &self.wants)?,
+            cache,
+            nonce: String::from_str(alloc, nonce)?,
+            accepted: String::from_str(alloc, version)?,
+            asked: self.asked,
+        })
+    }
+
+    /// After a response of this nonce that was rejected.
+    pub(crate) fn rejecting(&self, alloc: Global, nonce: &str) -> Result<Shelf, Refusal>
+        ensures ok { IfOk result (λ s. s ≡ record self.now { nonce = nonce.now }) }
+        ensures err { IfErr result (λ e. e ≡ OutOfMemory) }
+    {
+        let cache = copy_cache(alloc, &self.cache)?;
+        self.taking(alloc, cache, nonce, self.accepted.as_str())
+    }
+
+    /// At the start of a stream, on which everything that is wanted is asked for.
+    pub(crate) fn connect(&mut self)
+        ensures { self.new ≡ connected self.old }
+    {
+        self.nonce.clear();
+        self.asked = wants_some(&self.wants);
+    }
+
+    /// Once the stream is lost.
+    pub(crate) fn lose(&mut self)
+        ensures { self.new ≡ lost self.old }
+    {
+        self.nonce.clear();
+        self.asked = false;
+    }
+}

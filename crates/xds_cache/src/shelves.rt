@@ -1,0 +1,96 @@
+// The four shelves of a client.
+ghost use Rattle.std.specs.Prelude.{◌≡◌};
+ghost use Rattle.xds_resource.specs.PerType.{at, with_at, each};
+ghost use Rattle.xds_cache.specs.Shelves.{bare, connected, lost};
+
+use crate::shelf::Shelf;
+use std::alloc::Global;
+use std::marker::Model;
+use xds_resource::TypeName;
+
+#[derive(Drop)]
+pub(crate) struct Shelves {
+    cluster: Shelf,
+    endpoint: Shelf,
+    listener: Shelf,
+    route: Shelf,
+}
+
+impl Model for Shelves {
+    ghost use Rattle.xds_resource.specs.PerType.{PerType, per_type_code};
+    ghost use Rattle.xds_cache.specs.Shelves as shelves;
+    ghost use Rattle.xds_cache.specs.Shelves.{shelf_code};
+
+    ghost Value = { PerType shelves.Shelf };
+
+    ghost coded = { per_type_code shelf_code };
+
+    ghost view = { λ s. record { cluster = s.cluster; endpoint = s.endpoint; listener = s.listener; route = s.route } };
+}
+
+impl Shelves {
+    /// Those of a client that wants nothing.
+    pub(crate) fn new(alloc: Global) -> Shelves
+        ensures { result ≡ each bare }
+    {
+        Shelves {
+            cluster: Shelf::new(alloc),
+            endpoint: Shelf::new(alloc),
+            listener: Shelf::new(alloc),
+            route: Shelf::new(alloc),
+        }
+    }
+
+    pub(crate) fn get(&self, kind: TypeName) -> &Shelf
+        ensures { result.now ≡ at self.now kind }
+    {
+        match kind {
+            TypeName::Cluster => &self.cluster,
+            TypeName::Endpoint => &self.endpoint,
+            TypeName::Listener => &self.listener,
+            TypeName::Route => &self.route,
+        }
+    }
+
+    /// Puts a shelf in the place of the one of its type.
+    pub(crate) fn put(&mut self, kind: TypeName, shelf: Shelf)
+        ensures { self.new ≡ with_at self.old kind shelf }
+    {
+        match kind {
+            TypeName::Cluster => self.cluster = shelf,
+            TypeName::Endpoint => self.endpoint = shelf,
+            TypeName::Listener => self.listener = shelf,
+            TypeName::Route => self.route = shelf,
+        }
+    }
+
+    /// At the start of a stream.
+    pub(crate) fn connect(&mut self)
+        ensures { self.new ≡ record {
+          cluster = connected self.old.cluster;
+          endpoint = connected self.old.endpoint;
+          listener = connected self.old.listener;
+          route = connected self.old.route;
+        } }
+    {
+        self.cluster.connect();
+        self.endpoint.connect();
+        self.listener.connect();
+        self.route.connect();
+    }
+
+    /// Once the stream is lost.
+    pub(crate) fn lose(&mut self)
+        ensures { self.new ≡ record {
+          cluster = lost self.old.cluster;
+          endpoint = lost self.old.endpoint;
+          listener = lost self.old.listener;
+          route = lost self.old.route;
+        } }
+    {
+        self.cluster.lose();
+        self.endpoint.lose();
+        self.listener.lose();
+        self.route.lose();
+    }
+}

@@ -1,0 +1,77 @@
+// Clients that find no memory for a response. `bench/fail_each.py` runs these tests with each allocation failing in turn:
+// where one fails in `receive`, what is held stays, the client is of no use until its stream is lost, and then it goes on.
+use crate::delta::Delta;
+use crate::script::{NO_MEMORY, Player, ask, play_on};
+use crate::sotw::Sotw;
+use std::process::Abort;
+use std::test::Fail;
+
+// Plays a script, then asks for a response to be received. Where that is refused for memory, another script is played.
+// Answers whether it was. The last script holds either way.
+fn goes_on<P: Player, R: Abort + AllocGlobal>(
+    rt: &R,
+    before: &str,
+    response: &str,
+    refused: &str,
+    at_last: &str,
+) -> Result<bool, Fail> {
+    let mut player = P::new(rt.alloc())?;
+    play_on(rt, &mut player, before)?;
+    let answer = ask(rt.alloc(), &mut player, response)?;
+    let is_refused = answer.as_str() == NO_MEMORY;
+    if is_refused {
+        play_on(rt, &mut player, refused)?;
+    }
+    play_on(rt, &mut player, at_last)?;
+    Ok(is_refused)
+}
+
+#[test]
+fn state_of_the_world_without_memory(rt: HostRuntime) -> Result<(), Fail> {
+    let refused = goes_on::<Sotw, HostRuntime>(
+        &rt,
+        r#"change cluster * => none
+connect => {"node":{"id":"7"},"resourceNames":["*"],"typeUrl":"CDS"}
+receive {"nonce":"1","resources":[{"@type":"CDS","name":"a"}],"typeUrl":"CDS","versionInfo":"v1"} => {"resourceNames":["*"],"responseNonce":"1","typeUrl":"CDS","versionInfo":"v1"}"#,
+        r#"receive {"nonce":"2","resources":[{"@type":"CDS","name":"b"}],"typeUrl":"CDS","versionInfo":"v2"}"#,
+        r#"view cluster => {"@type":"CDS","name":"a"}
+receive {"nonce":"2","typeUrl":"CDS","versionInfo":"v2"} => 12 NoStream
+receive {"nonce":"2","typeUrl":"RDS","versionInfo":"v2"} => 12 NoStream
+change cluster b => 12 NoStream
+view cluster => {"@type":"CDS","name":"a"}
+lose => none
+connect => {"node":{"id":"7"},"resourceNames":["*"],"typeUrl":"CDS","versionInfo":"v1"}
+view cluster => {"@type":"CDS","name":"a"}
+receive {"nonce":"1","resources":[{"@type":"CDS","name":"b"}],"typeUrl":"CDS","versionInfo":"v2"} => {"resourceNames":["*"],"responseNonce":"1","typeUrl":"CDS","versionInfo":"v2"}"#,
+        r#"view cluster => {"@type":"CDS","name":"b"}"#,
+    )?;
+    if refused {
+        println!(rt; "refused, and went on")?;
+    }
+    Ok(())
+}
+
+#[test]
+fn delta_without_memory(rt: HostRuntime) -> Result<(), Fail> {
+    let refused = goes_on::<Delta, HostRuntime>(
+        &rt,
+        r#"change cluster * => none
+connect => {"node":{"id":"7"},"resourceNamesSubscribe":["*"],"typeUrl":"CDS"}
+receive {"nonce":"1","resources":[{"name":"a","resource":{"@type":"CDS","name":"a"},"version":"1-1"}],"typeUrl":"CDS"} => {"responseNonce":"1","typeUrl":"CDS"}"#,
+        r#"receive {"nonce":"2","removedResources":["a"],"resources":[{"name":"b","resource":{"@type":"CDS","name":"b"},"version":"2-1"}],"typeUrl":"CDS"}"#,
+        r#"view cluster => 1-1 {"@type":"CDS","name":"a"}
+receive {"nonce":"2","removedResources":["a"],"typeUrl":"CDS"} => 12 NoStream
+receive {"nonce":"2","typeUrl":"RDS"} => 12 NoStream
+change cluster b => 12 NoStream
+view cluster => 1-1 {"@type":"CDS","name":"a"}
+lose => none
+connect => {"initialResourceVersions":{"a":"1-1"},"node":{"id":"7"},"resourceNamesSubscribe":["*"],"typeUrl":"CDS"}
+view cluster => 1-1 {"@type":"CDS","name":"a"}
+receive {"nonce":"1","removedResources":["a"],"resources":[{"name":"b","resource":{"@type":"CDS","name":"b"},"version":"2-1"}],"typeUrl":"CDS"} => {"responseNonce":"1","typeUrl":"CDS"}"#,
+        r#"view cluster => 2-1 {"@type":"CDS","name":"b"}"#,
+    )?;
+    if refused {
+        println!(rt; "refused, and went on")?;
+    }
+    Ok(())
+}
