@@ -5,5 +5,6 @@ pub mod Ledgers
 pub mod Sessions
 pub mod Texts
 pub mod Parts
+pub mod Changes
 pub mod OfferParts
 pub mod Laws

@@ -2,6 +2,8 @@
 #![tactic(auto)]
 
 mod beliefs;
+mod believed;
+mod changes;
 mod copying;
 pub mod entry;
 pub mod laws;
@@ -11,6 +13,8 @@ mod offers;
 pub mod outcome;
 mod owed;
 mod sent;
+mod storing;
+mod taking;
 pub mod texts;
 pub mod variant;
 pub mod version;
