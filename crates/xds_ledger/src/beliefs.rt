@@ -132,8 +132,8 @@ pub(crate) fn made_unsure<T: ResourceType>(
     }
 }
 
-/// After a request whose names are taken: the interest then, what it touches, and the names that it mentions.
-pub(crate) fn taken<T: ResourceType>(
+// After a request whose names are taken: the interest then, what it touches, and the names that it mentions.
+fn taken<T: ResourceType>(
     alloc: Global,
     interest: &Interest<T>,
     touched: &Touched,
@@ -150,12 +150,8 @@ pub(crate) fn taken<T: ResourceType>(
     Ok(next)
 }
 
-/// After a client said which versions it holds, in ascending order of names.
-pub(crate) fn resumed(
-    alloc: Global,
-    versions: &[(&str, &str)],
-    beliefs: Beliefs,
-) -> Result<Beliefs, Refusal>
+// After a client said which versions it holds, in ascending order of names.
+fn resumed(alloc: Global, versions: &[(&str, &str)], beliefs: Beliefs) -> Result<Beliefs, Refusal>
     ensures ok { (held : finmap.FinMap text_cmp (List ℕ)) → map (λ p. (p.0.now, p.1.now)) versions.now ≡ finmap.entries held
         → IfOk result (λ m. m ≡ beliefs_resumed held beliefs) }
     ensures err { IfErr result (λ e. e ≡ OutOfMemory) }
@@ -165,5 +161,23 @@ pub(crate) fn resumed(
         let told = Entry::Told(Version::from_text(alloc, version)?);
         next.put(alloc, name, Some(told))?;
     }
+    Ok(next)
+}
+
+/// After a request, from what was believed once it settled what it answers.
+pub(crate) fn beliefs_after<T: ResourceType>(
+    alloc: Global,
+    interest: &Interest<T>,
+    touched: &Touched,
+    mentioned: Iter<'_, String>,
+    versions: &[(&str, &str)],
+    beliefs: &Beliefs,
+) -> Result<Beliefs, Refusal>
+    ensures ok { (held : finmap.FinMap text_cmp (List ℕ)) → map (λ p. (p.0.now, p.1.now)) versions.now ≡ finmap.entries held
+        → IfOk result (λ m. m ≡ beliefs_resumed held (beliefs_taken interest.now touched.now (set.from_list (map string_bytes mentioned.entry)) beliefs.now)) }
+    ensures err { IfErr result (λ e. e ≡ OutOfMemory) }
+{
+    let left = taken(alloc, interest, touched, mentioned, beliefs)?;
+    let next = resumed(alloc, versions, left)?;
     Ok(next)
 }

@@ -12,7 +12,7 @@ ghost use Rattle.xds_ledger.specs.Ledgers.{answered, beliefs_accepted, beliefs_t
 ghost use Rattle.xds_ledger.specs.Owed as owed;
 ghost use Rattle.xds_ledger.specs.Variants.{is_whole};
 
-use crate::beliefs::{accepted, resumed, taken};
+use crate::beliefs::{accepted, beliefs_after};
 use crate::believed::Beliefs;
 use crate::changes::{changes_after, changes_told};
 use crate::entry::Entry;
@@ -25,25 +25,7 @@ use std::collections::btree_set::Iter;
 use xds_interest::{Interest, Touched};
 use xds_resource::{NameMap, Refusal, ResourceType};
 
-// What is believed after a request, made anew from what was believed once it settled what it answers.
-fn beliefs_after<T: ResourceType>(
-    alloc: Global,
-    interest: &Interest<T>,
-    touched: &Touched,
-    mentioned: Iter<'_, String>,
-    versions: &[(&str, &str)],
-    beliefs: &Beliefs,
-) -> Result<Beliefs, Refusal>
-    ensures ok { (held : finmap.FinMap text_cmp (List ℕ)) → map (λ p. (p.0.now, p.1.now)) versions.now ≡ finmap.entries held
-        → IfOk result (λ m. m ≡ beliefs_resumed held (beliefs_taken interest.now touched.now (set.from_list (map string_bytes mentioned.entry)) beliefs.now)) }
-    ensures err { IfErr result (λ e. e ≡ OutOfMemory) }
-{
-    let left = taken(alloc, interest, touched, mentioned, beliefs)?;
-    let next = resumed(alloc, versions, left)?;
-    Ok(next)
-}
-
-// The same in place, for a request that doesn't touch every name; `start` has what its answer changes.
+// Changes what is believed in place, by a request that doesn't touch every name; `start` has what its answer changes.
 fn change_beliefs<T: ResourceType>(
     alloc: Global,
     interest: &Interest<T>,
@@ -69,7 +51,8 @@ impl<T: ResourceType, V: Variant> Ledger<T, V> {
     /// Takes a request: it settles the response that it answers, and then its names are taken. `interest` is the
     /// client's interest then, `touched` the names that the request touches, `mentioned` those that it mentions, and
     /// `versions` what the client says it holds, in ascending order of names. Refused only by `OutOfMemory`, and then
-    /// nothing is taken.
+    /// nothing is taken. It looks at the names that the request and the response that it answers speak of, and at all
+    /// that are believed held only where every name is touched or a whole response is accepted.
     pub fn take(
         &mut self,
         alloc: Global,
