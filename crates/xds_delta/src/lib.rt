@@ -1,6 +1,7 @@
 // An incremental (delta) session: one type on one stream.
 #![tactic(auto)]
 
+pub mod laws;
 mod response;
 pub mod session;
 

@@ -117,9 +117,13 @@ accept v t a sent = record a { beliefs = beliefs_accepted (is_whole v t) sent a.
 abbrev pub reject : Account → Sent → Account
 reject a sent = record a { sent = None; refused = Some sent.offer }
 
+-- the client accepts or rejects the response
+abbrev pub answered : VariantName → TypeName → Account → Sent → Bool → Account
+answered v t a sent rejects = if rejects then reject a sent else accept v t a sent
+
 -- once the unanswered response was settled by a request with this nonce, if it answers that response
 abbrev pub settled : VariantName → TypeName → Account → List ℕ → Bool → Account
-settled v t a nonce rejects = if answers a nonce then option_map_or (λ sent. if rejects then reject a sent else accept v t a sent) a.sent a else a
+settled v t a nonce rejects = if answers a nonce then option_map_or (λ sent. answered v t a sent rejects) a.sent a else a
 
 -- ---- names
 
@@ -140,9 +144,13 @@ beliefs_taken s touch mentioned beliefs = tabulate (believed_taken s touch menti
 abbrev pub touched_since : Sent → Touch → Sent
 touched_since sent touch = record sent { touched = sent.touched ++ touch ∷ [] }
 
+-- what a request touched is noted with the unanswered response, if there is one
+abbrev pub noted : Account → Touch → Account
+noted a touched = record a { sent = option_map (λ sent. touched_since sent touched) a.sent }
+
 -- Once a request's names are taken: its interest, what it touches, and the names that it mentions.
 abbrev pub touch : Account → Selection → Touch → set.FinSet text_cmp → Account
-touch a s touched mentioned = record a { beliefs = beliefs_taken s touched mentioned a.beliefs; sent = option_map (λ sent. touched_since sent touched) a.sent }
+touch a s touched mentioned = record (noted a touched) { beliefs = beliefs_taken s touched mentioned a.beliefs }
 
 -- what is believed once a client said which versions it holds: it was told these
 abbrev pub beliefs_resumed : finmap.FinMap text_cmp (List ℕ) → Beliefs → Beliefs

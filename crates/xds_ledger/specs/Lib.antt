@@ -5,6 +5,7 @@ pub mod Ledgers
 pub mod Sessions
 pub mod Texts
 pub mod Parts
+pub mod Changes
 pub mod OfferParts
 pub mod Laws
 pub mod Repeats

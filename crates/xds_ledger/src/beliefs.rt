@@ -9,16 +9,17 @@ ghost use Rattle.xds_resource.specs.Names.{put_all};
 ghost use Rattle.xds_ledger.specs.Ledgers.{was_touched, beliefs_accepted, beliefs_taken, beliefs_resumed};
 ghost use Rattle.xds_ledger.specs.Parts.{told_unless_touched, kept_beside, left_by, made_unsure};
 
+use crate::believed::Beliefs;
 use crate::entry::{Due, Entry};
 use crate::sent::Sent;
 use crate::version::Version;
 use std::alloc::Global;
 use std::collections::btree_set::Iter;
 use xds_interest::{Interest, Touched};
-use xds_resource::{NameMap, Refusal, ResourceType};
+use xds_resource::{Refusal, ResourceType};
 
 // What is believed of a name that an accepted response speaks of.
-fn once_told(alloc: Global, touched: bool, due: &Due) -> Result<Option<Entry>, Refusal>
+pub(crate) fn once_told(alloc: Global, touched: bool, due: &Due) -> Result<Option<Entry>, Refusal>
     ensures ok { IfOk result (λ e. e ≡ told_unless_touched touched due.now) }
     ensures err { IfErr result (λ e. e ≡ OutOfMemory) }
 {
@@ -30,11 +31,11 @@ fn once_told(alloc: Global, touched: bool, due: &Due) -> Result<Option<Entry>, R
 }
 
 // What the names of an accepted response leave.
-fn told_by(alloc: Global, sent: &Sent) -> Result<NameMap<Entry>, Refusal>
+fn told_by(alloc: Global, sent: &Sent) -> Result<Beliefs, Refusal>
     ensures ok { IfOk result (λ m. m ≡ put_all (λ name due. told_unless_touched (was_touched sent.now name) due) finmap.empty (finmap.entries sent.now.offer)) }
     ensures err { IfErr result (λ e. e ≡ OutOfMemory) }
 {
-    let mut next = NameMap::new(alloc);
+    let mut next = Beliefs::new(alloc);
     for (name, due) in sent.offer.iter() {
         let entry = once_told(alloc, sent.was_touched(name), due)?;
         next.put(alloc, name, entry)?;
@@ -65,8 +66,8 @@ pub(crate) fn accepted(
     alloc: Global,
     whole: bool,
     sent: &Sent,
-    beliefs: &NameMap<Entry>,
-) -> Result<NameMap<Entry>, Refusal>
+    beliefs: &Beliefs,
+) -> Result<Beliefs, Refusal>
     ensures ok { IfOk result (λ m. m ≡ beliefs_accepted whole sent.now beliefs.now) }
     ensures err { IfErr result (λ e. e ≡ OutOfMemory) }
 {
@@ -103,12 +104,12 @@ fn all_left<T: ResourceType>(
     alloc: Global,
     interest: &Interest<T>,
     touched: &Touched,
-    beliefs: &NameMap<Entry>,
-) -> Result<NameMap<Entry>, Refusal>
+    beliefs: &Beliefs,
+) -> Result<Beliefs, Refusal>
     ensures ok { IfOk result (λ m. m ≡ put_all (left_by interest.now touched.now) finmap.empty (finmap.entries beliefs.now)) }
     ensures err { IfErr result (λ e. e ≡ OutOfMemory) }
 {
-    let mut next = NameMap::new(alloc);
+    let mut next = Beliefs::new(alloc);
     for (name, entry) in beliefs.iter() {
         let left = left_by(alloc, interest, touched, name, entry)?;
         next.put(alloc, name, left)?;
@@ -117,7 +118,7 @@ fn all_left<T: ResourceType>(
 }
 
 // What a request makes of a name that it mentions.
-fn made_unsure<T: ResourceType>(
+pub(crate) fn made_unsure<T: ResourceType>(
     interest: &Interest<T>,
     touched: &Touched,
     name: &str,
@@ -131,14 +132,14 @@ fn made_unsure<T: ResourceType>(
     }
 }
 
-/// After a request whose names are taken: the interest then, what it touches, and the names that it mentions.
-pub(crate) fn taken<T: ResourceType>(
+// After a request whose names are taken: the interest then, what it touches, and the names that it mentions.
+fn taken<T: ResourceType>(
     alloc: Global,
     interest: &Interest<T>,
     touched: &Touched,
     mentioned: Iter<'_, String>,
-    beliefs: &NameMap<Entry>,
-) -> Result<NameMap<Entry>, Refusal>
+    beliefs: &Beliefs,
+) -> Result<Beliefs, Refusal>
     ensures ok { IfOk result (λ m. m ≡ beliefs_taken interest.now touched.now (set.from_list (map string_bytes mentioned.entry)) beliefs.now) }
     ensures err { IfErr result (λ e. e ≡ OutOfMemory) }
 {
@@ -149,12 +150,8 @@ pub(crate) fn taken<T: ResourceType>(
     Ok(next)
 }
 
-/// After a client said which versions it holds, in ascending order of names.
-pub(crate) fn resumed(
-    alloc: Global,
-    versions: &[(&str, &str)],
-    beliefs: NameMap<Entry>,
-) -> Result<NameMap<Entry>, Refusal>
+// After a client said which versions it holds, in ascending order of names.
+fn resumed(alloc: Global, versions: &[(&str, &str)], beliefs: Beliefs) -> Result<Beliefs, Refusal>
     ensures ok { (held : finmap.FinMap text_cmp (List ℕ)) → map (λ p. (p.0.now, p.1.now)) versions.now ≡ finmap.entries held
         → IfOk result (λ m. m ≡ beliefs_resumed held beliefs) }
     ensures err { IfErr result (λ e. e ≡ OutOfMemory) }
@@ -164,5 +161,23 @@ pub(crate) fn resumed(
         let told = Entry::Told(Version::from_text(alloc, version)?);
         next.put(alloc, name, Some(told))?;
     }
+    Ok(next)
+}
+
+/// After a request, from what was believed once it settled what it answers.
+pub(crate) fn beliefs_after<T: ResourceType>(
+    alloc: Global,
+    interest: &Interest<T>,
+    touched: &Touched,
+    mentioned: Iter<'_, String>,
+    versions: &[(&str, &str)],
+    beliefs: &Beliefs,
+) -> Result<Beliefs, Refusal>
+    ensures ok { (held : finmap.FinMap text_cmp (List ℕ)) → map (λ p. (p.0.now, p.1.now)) versions.now ≡ finmap.entries held
+        → IfOk result (λ m. m ≡ beliefs_resumed held (beliefs_taken interest.now touched.now (set.from_list (map string_bytes mentioned.entry)) beliefs.now)) }
+    ensures err { IfErr result (λ e. e ≡ OutOfMemory) }
+{
+    let left = taken(alloc, interest, touched, mentioned, beliefs)?;
+    let next = resumed(alloc, versions, left)?;
     Ok(next)
 }

@@ -2,19 +2,17 @@
 ghost use Rattle.std.specs.Prelude.{◌≡◌, IfOk, IfErr};
 ghost use Rattle.xds_resource.specs.declared.refusal.Refusal.TheVariants.{OutOfMemory};
 
+use crate::believed::Beliefs;
 use crate::entry::{Due, Entry};
 use std::alloc::Global;
 use xds_interest::Touched;
 use xds_resource::{NameMap, Refusal};
 
-pub(crate) fn copy_beliefs(
-    alloc: Global,
-    beliefs: &NameMap<Entry>,
-) -> Result<NameMap<Entry>, Refusal>
+pub(crate) fn copy_beliefs(alloc: Global, beliefs: &Beliefs) -> Result<Beliefs, Refusal>
     ensures ok { IfOk result (λ m. m ≡ beliefs.now) }
     ensures err { IfErr result (λ e. e ≡ OutOfMemory) }
 {
-    let mut copy = NameMap::new(alloc);
+    let mut copy = Beliefs::new(alloc);
     for (name, entry) in beliefs.iter() {
         copy.put(alloc, name, Some(entry.try_copy(alloc)?))?;
     }

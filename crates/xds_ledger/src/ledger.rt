@@ -1,17 +1,13 @@
 // What a server keeps of one type on one stream, beside the interest.
-ghost use Rattle.std.specs.Prelude.{◌≡◌, if◌then◌else◌, ℕ, List, Some, map, bytes_eq, is_some, string_bytes, IfOk, IfErr, IfSome, OnOk, OnErr};
-ghost use Rattle.std.specs.FinMap as finmap;
-ghost use Rattle.std.specs.FinSet as set;
-ghost use Rattle.xds_resource.specs.Writes.{text_cmp};
+ghost use Rattle.std.specs.Prelude.{◌≡◌, bytes_eq, is_some, IfOk, IfErr};
 ghost use Rattle.xds_resource.specs.declared.refusal.Refusal.TheVariants.{OutOfMemory};
 ghost use Rattle.xds_ledger.specs.Ledgers as ledgers;
-ghost use Rattle.xds_ledger.specs.Ledgers.{opened, nonce_text, beliefs_accepted, beliefs_taken, beliefs_resumed, settled, touch, resume};
+ghost use Rattle.xds_ledger.specs.Ledgers.{opened, nonce_text};
 ghost use Rattle.xds_ledger.specs.Offers.{offer as offer_of};
-ghost use Rattle.xds_ledger.specs.Variants.{is_whole};
 
-use crate::beliefs::{accepted, resumed, taken};
+use crate::believed::Beliefs;
 use crate::copying::{copy_beliefs, copy_offer};
-use crate::entry::{Due, Entry};
+use crate::entry::Due;
 use crate::offers::{is_same_offer, offer};
 use crate::owed::something_owed;
 use crate::repeats::repeats;
@@ -19,21 +15,20 @@ use crate::sent::Sent;
 use crate::variant::Variant;
 use itoa::Buffer;
 use std::alloc::Global;
-use std::collections::btree_set::Iter;
 use std::marker::{Model, PhantomData};
 use xds_catalogue::Catalogue;
-use xds_interest::{Interest, Touched};
+use xds_interest::Interest;
 use xds_resource::{NameMap, Refusal, ResourceType};
 
 /// What a client was told of one type on one stream, and what is unanswered. Contracts see it as an account.
 #[derive(Drop)]
 pub struct Ledger<T: ResourceType, V: Variant> {
-    beliefs: NameMap<Entry>,
+    pub(crate) beliefs: Beliefs,
     // The number of the last response of the type, 0 before the first.
     nonce: u64,
-    accepted: bool,
-    sent: Option<Sent>,
-    refused: Option<NameMap<Due>>,
+    pub(crate) accepted: bool,
+    pub(crate) sent: Option<Sent>,
+    pub(crate) refused: Option<NameMap<Due>>,
     kind: PhantomData<T>,
     variant: PhantomData<V>,
 }
@@ -59,31 +54,13 @@ fn is_nonce(number: u64, text: &str) -> bool
     text == digits.format(number)
 }
 
-// What is believed after a request, from what was believed once it settled what it answers.
-fn beliefs_after<T: ResourceType>(
-    alloc: Global,
-    interest: &Interest<T>,
-    touched: &Touched,
-    mentioned: Iter<'_, String>,
-    versions: &[(&str, &str)],
-    beliefs: &NameMap<Entry>,
-) -> Result<NameMap<Entry>, Refusal>
-    ensures ok { (held : finmap.FinMap text_cmp (List ℕ)) → map (λ p. (p.0.now, p.1.now)) versions.now ≡ finmap.entries held
-        → IfOk result (λ m. m ≡ beliefs_resumed held (beliefs_taken interest.now touched.now (set.from_list (map string_bytes mentioned.entry)) beliefs.now)) }
-    ensures err { IfErr result (λ e. e ≡ OutOfMemory) }
-{
-    let left = taken(alloc, interest, touched, mentioned, beliefs)?;
-    let next = resumed(alloc, versions, left)?;
-    Ok(next)
-}
-
 impl<T: ResourceType, V: Variant> Ledger<T, V> {
     /// Before the first request.
     pub fn new(alloc: Global) -> Ledger<T, V>
         ensures { result ≡ opened }
     {
         Ledger {
-            beliefs: NameMap::new(alloc),
+            beliefs: Beliefs::new(alloc),
             nonce: 0,
             accepted: false,
             sent: None,
@@ -190,99 +167,6 @@ impl<T: ResourceType, V: Variant> Ledger<T, V> {
     {
         self.nonce = number;
         self.sent = Some(Sent::new(alloc, offer));
-    }
-
-    /// Takes a request: it settles the response that it answers, and then its names are taken. `interest` is the
-    /// client's interest then, `touched` the names that the request touches, `mentioned` those that it mentions, and
-    /// `versions` what the client says it holds, in ascending order of names. Refused only by `OutOfMemory`, and then
-    /// nothing is taken.
-    pub fn take(
-        &mut self,
-        alloc: Global,
-        nonce: &str,
-        rejects: bool,
-        interest: &Interest<T>,
-        touched: Touched,
-        mentioned: Iter<'_, String>,
-        versions: &[(&str, &str)],
-    ) -> Result<(), Refusal>
-        ensures ok { (held : finmap.FinMap text_cmp (List ℕ)) → map (λ p. (p.0.now, p.1.now)) versions.now ≡ finmap.entries held
-            → OnOk result (self.new ≡ resume (touch (settled V.NAME T.TYPE self.old nonce.now rejects) interest.now touched (set.from_list (map string_bytes mentioned.entry))) held) }
-        ensures err { OnErr result (self.new ≡ self.old) }
-        ensures refused { IfErr result (λ e. e ≡ OutOfMemory) }
-    {
-        if !self.answers(nonce) {
-            return self.take_names(alloc, interest, touched, mentioned, versions);
-        }
-        let beliefs = if rejects {
-            beliefs_after(
-                alloc,
-                interest,
-                &touched,
-                mentioned,
-                versions,
-                &self.beliefs,
-            )?
-        } else {
-            let told = self.beliefs_accepted(alloc)?;
-            beliefs_after(alloc, interest, &touched, mentioned, versions, &told)?
-        };
-        self.settle(rejects);
-        self.beliefs = beliefs;
-        Ok(())
-    }
-
-    // What is believed once the unanswered response is accepted.
-    fn beliefs_accepted(&self, alloc: Global) -> Result<NameMap<Entry>, Refusal>
-        ensures ok { IfOk result (λ m. IfSome self.now.sent (λ sent. m ≡ beliefs_accepted (is_whole V.NAME T.TYPE) sent self.now.beliefs)) }
-        ensures err { IfErr result (λ e. e ≡ OutOfMemory) }
-    {
-        match &self.sent {
-            Some(sent) => accepted(alloc, V::NAME.is_whole(T::TYPE), sent, &self.beliefs),
-            None => Ok(NameMap::new(alloc)),
-        }
-    }
-
-    // Settles the unanswered response, but for what is believed.
-    fn settle(&mut self, rejects: bool)
-        ensures { IfSome self.old.sent (λ sent. self.new ≡ record (if rejects then ledgers.reject self.old sent else ledgers.accept V.NAME T.TYPE self.old sent) { beliefs = self.old.beliefs }) }
-    {
-        let sent = self.sent.take();
-        if rejects {
-            self.refused = sent.map(Sent::into_offer);
-        } else {
-            self.accepted = true;
-            self.refused = None;
-        }
-    }
-
-    // Takes the names of a request that answers nothing.
-    fn take_names(
-        &mut self,
-        alloc: Global,
-        interest: &Interest<T>,
-        touched: Touched,
-        mentioned: Iter<'_, String>,
-        versions: &[(&str, &str)],
-    ) -> Result<(), Refusal>
-        ensures ok { (held : finmap.FinMap text_cmp (List ℕ)) → map (λ p. (p.0.now, p.1.now)) versions.now ≡ finmap.entries held
-            → OnOk result (self.new ≡ resume (touch self.old interest.now touched (set.from_list (map string_bytes mentioned.entry))) held) }
-        ensures err { OnErr result (self.new ≡ self.old) }
-        ensures refused { IfErr result (λ e. e ≡ OutOfMemory) }
-    {
-        let beliefs = beliefs_after(
-            alloc,
-            interest,
-            &touched,
-            mentioned,
-            versions,
-            &self.beliefs,
-        )?;
-        if let Some(sent) = &mut self.sent {
-            sent.note(touched)?;
-        }
-        self.beliefs = beliefs;
-        Ok(())
     }
 
     // A copy of the unanswered response, if there is one.

@@ -2,6 +2,8 @@
 #![tactic(auto)]
 
 mod beliefs;
+mod believed;
+mod changes;
 mod copying;
 pub mod entry;
 pub mod laws;
@@ -12,6 +14,8 @@ pub mod outcome;
 mod owed;
 mod repeats;
 mod sent;
+mod storing;
+mod taking;
 pub mod texts;
 pub mod variant;
 pub mod version;

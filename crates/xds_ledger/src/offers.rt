@@ -7,6 +7,7 @@ ghost use Rattle.xds_catalogue.specs.Holdings.{IsCatalogue};
 ghost use Rattle.xds_ledger.specs.Offers.{offer, is_within, same_offer};
 ghost use Rattle.xds_ledger.specs.OfferParts.{put_writes, stated, removed, says};
 
+use crate::believed::Beliefs;
 use crate::entry::{Due, Entry};
 use crate::owed::{due_of, present};
 use crate::variant::VariantName;
@@ -20,7 +21,7 @@ use xds_resource::{NameMap, Refusal, ResourceType, Write};
 fn stated<T: ResourceType>(
     alloc: Global,
     whole: bool,
-    beliefs: &NameMap<Entry>,
+    beliefs: &Beliefs,
     write: &Write<T>,
 ) -> Result<Option<Due>, Refusal>
     ensures ok { IfOk result (λ d. d ≡ stated whole beliefs.now write.now) }
@@ -37,7 +38,7 @@ fn stated<T: ResourceType>(
 fn all_stated<T: ResourceType>(
     alloc: Global,
     whole: bool,
-    beliefs: &NameMap<Entry>,
+    beliefs: &Beliefs,
     writes: &[&Write<T>],
 ) -> Result<NameMap<Due>, Refusal>
     ensures ok { IfOk result (λ m. m ≡ put_writes (stated whole beliefs.now) finmap.empty (map (λ w. w.now) writes.now)) }
@@ -70,7 +71,7 @@ fn with_removals<T: ResourceType>(
     alloc: Global,
     interest: &Interest<T>,
     catalogue: &Catalogue<T>,
-    beliefs: &NameMap<Entry>,
+    beliefs: &Beliefs,
     stated: NameMap<Due>,
 ) -> Result<NameMap<Due>, Refusal>
     ensures ok { IfOk result (λ m. m ≡ put_all (λ name entry. removed interest.now catalogue.now.entries name) stated (finmap.entries beliefs.now)) }
@@ -89,7 +90,7 @@ pub(crate) fn offer<T: ResourceType>(
     variant: VariantName,
     interest: &Interest<T>,
     catalogue: &Catalogue<T>,
-    beliefs: &NameMap<Entry>,
+    beliefs: &Beliefs,
 ) -> Result<NameMap<Due>, Refusal>
     ensures ok { IfOk result (λ m. m ≡ offer variant T.TYPE interest.now catalogue.now.entries beliefs.now) }
     ensures err { IfErr result (λ e. e ≡ OutOfMemory) }

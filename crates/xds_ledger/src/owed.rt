@@ -8,13 +8,14 @@ ghost use Rattle.xds_resource.specs.declared.refusal.Refusal.TheVariants.{OutOfM
 ghost use Rattle.xds_ledger.specs.Owed.{present, owed, something_owed, is_owed_at};
 ghost use Rattle.xds_ledger.specs.Variants.{is_told};
 
+use crate::believed::Beliefs;
 use crate::entry::{Due, Entry};
 use crate::variant::VariantName;
 use crate::version::Version;
 use std::alloc::Global;
 use xds_catalogue::Catalogue;
 use xds_interest::Interest;
-use xds_resource::{NameMap, Refusal, ResourceType, Stamp, TypeName};
+use xds_resource::{Refusal, ResourceType, Stamp, TypeName};
 
 // The stamp at which a name is present: of the live write that the interest covers. It takes no memory.
 pub(crate) fn present<T: ResourceType>(
@@ -74,7 +75,7 @@ fn believed_owed<T: ResourceType>(
     variant: VariantName,
     interest: &Interest<T>,
     catalogue: &Catalogue<T>,
-    beliefs: &NameMap<Entry>,
+    beliefs: &Beliefs,
 ) -> bool
     ensures { result ≡ list_any (λ e. is_owed_at variant T.TYPE interest.now catalogue.now.entries e.0 e.1) (finmap.entries beliefs.now) }
 {
@@ -95,7 +96,7 @@ fn believed_owed<T: ResourceType>(
 fn is_unbelieved<T: ResourceType>(
     interest: &Interest<T>,
     catalogue: &Catalogue<T>,
-    beliefs: &NameMap<Entry>,
+    beliefs: &Beliefs,
     name: &str,
 ) -> bool
     ensures { result ≡ (is_none (finmap.get beliefs.now name.now) && is_some (present interest.now catalogue.now.entries name.now)) }
@@ -107,7 +108,7 @@ fn is_unbelieved<T: ResourceType>(
 fn unbelieved_owed<T: ResourceType>(
     interest: &Interest<T>,
     catalogue: &Catalogue<T>,
-    beliefs: &NameMap<Entry>,
+    beliefs: &Beliefs,
 ) -> bool
     ensures found { result ≡ true → (name : List ℕ) × (finmap.get beliefs.now name ≡ None) × (is_some (present interest.now catalogue.now.entries name) ≡ true) }
     ensures none { result ≡ false → (name : List ℕ) → finmap.get beliefs.now name ≡ None → present interest.now catalogue.now.entries name ≡ None }
@@ -127,7 +128,7 @@ pub(crate) fn something_owed<T: ResourceType>(
     variant: VariantName,
     interest: &Interest<T>,
     catalogue: &Catalogue<T>,
-    beliefs: &NameMap<Entry>,
+    beliefs: &Beliefs,
 ) -> bool
     ensures { result ≡ something_owed variant T.TYPE interest.now catalogue.now.entries beliefs.now }
 {

@@ -6,6 +6,7 @@ ghost use Rattle.xds_resource.specs.Stamps.{version_text};
 ghost use Rattle.xds_ledger.specs.Offers.{offer, same_offer};
 ghost use Rattle.xds_ledger.specs.Repeats.{due_said, said_of as due_of, agrees};
 
+use crate::believed::Beliefs;
 use crate::entry::{Due, Entry};
 use crate::owed::present;
 use crate::variant::VariantName;
@@ -45,7 +46,7 @@ fn agrees<T: ResourceType>(
     variant: VariantName,
     interest: &Interest<T>,
     catalogue: &Catalogue<T>,
-    beliefs: &NameMap<Entry>,
+    beliefs: &Beliefs,
     name: &str,
 ) -> bool
     ensures { result ≡ agrees refused.now variant T.TYPE interest.now catalogue.now.entries beliefs.now name.now }
@@ -65,7 +66,7 @@ fn agrees_where_said<T: ResourceType>(
     variant: VariantName,
     interest: &Interest<T>,
     catalogue: &Catalogue<T>,
-    beliefs: &NameMap<Entry>,
+    beliefs: &Beliefs,
 ) -> bool
     ensures { result ≡ list_all (λ e. agrees refused.now variant T.TYPE interest.now catalogue.now.entries beliefs.now e.0) (finmap.entries refused.now) }
 {
@@ -83,7 +84,7 @@ fn agrees_where_believed<T: ResourceType>(
     variant: VariantName,
     interest: &Interest<T>,
     catalogue: &Catalogue<T>,
-    beliefs: &NameMap<Entry>,
+    beliefs: &Beliefs,
 ) -> bool
     ensures { result ≡ list_all (λ e. agrees refused.now variant T.TYPE interest.now catalogue.now.entries beliefs.now e.0) (finmap.entries beliefs.now) }
 {
@@ -101,7 +102,7 @@ fn agrees_where_held<T: ResourceType>(
     variant: VariantName,
     interest: &Interest<T>,
     catalogue: &Catalogue<T>,
-    beliefs: &NameMap<Entry>,
+    beliefs: &Beliefs,
 ) -> bool
     ensures all { result ≡ true → (name : List ℕ) → is_some (finmap.get catalogue.now.entries name) ≡ true
         → agrees refused.now variant T.TYPE interest.now catalogue.now.entries beliefs.now name ≡ true }
@@ -130,7 +131,7 @@ pub(crate) fn repeats<T: ResourceType>(
     variant: VariantName,
     interest: &Interest<T>,
     catalogue: &Catalogue<T>,
-    beliefs: &NameMap<Entry>,
+    beliefs: &Beliefs,
 ) -> bool
     ensures { result ≡ same_offer (offer variant T.TYPE interest.now catalogue.now.entries beliefs.now) refused.now }
 {

@@ -1,6 +1,8 @@
 // A response that was sent and isn't answered.
 ghost use Rattle.std.specs.Prelude.{◌≡◌, [], ◌∷◌, ◌++◌, IfOk, IfErr, OnOk, OnErr};
 ghost use Rattle.xds_resource.specs.declared.refusal.Refusal.TheVariants.{OutOfMemory};
+ghost use Rattle.xds_interest.specs.Touches.{Touch};
+ghost use Rattle.xds_ledger.specs.Ledgers as ledgers;
 ghost use Rattle.xds_ledger.specs.Ledgers.{was_touched, touched_since};
 
 use crate::copying::{copy_offer, copy_touches};
@@ -61,6 +63,13 @@ impl Sent {
     {
         self.touched.push(touched)?;
         Ok(())
+    }
+
+    /// Takes back what was noted last. It takes no memory.
+    pub(crate) fn forget(&mut self)
+        ensures { (before : ledgers.Sent) → (touched : Touch) → self.old ≡ touched_since before touched → self.new ≡ before }
+    {
+        self.touched.pop();
     }
 
     /// An equal value, with memory of its own. Refused only by `OutOfMemory`.
