@@ -40,7 +40,9 @@ fn state_of_the_world_drafts_are_joined(rt: HostRuntime) -> Result<(), Fail> {
     let want = format!(in alloc;
         "{{\"nonce\":\"1\",\"resources\":[{BODY},{BODY}],\"typeUrl\":\"type.googleapis.com/envoy.config.cluster.v3.Cluster\",\"versionInfo\":\"1.2\"}}"
     )?;
-    let draft = Draft::Sotw(draft.try_copy(alloc)?);
+    assert_eq!(rt; draft.kind(), TypeName::Cluster);
+    assert_eq!(rt; draft.version(), "1.2");
+    let draft = Draft::Sotw(draft.try_copy(alloc)?).try_copy(alloc)?;
     assert_eq!(rt; draft.nonce(), "1");
     assert_eq!(rt; draft.write(alloc)?.as_str(), want.as_str());
     assert_eq!(rt; told(alloc, &draft)?.as_str(), want.as_str());
@@ -70,7 +72,9 @@ fn delta_drafts_are_joined(rt: HostRuntime) -> Result<(), Fail> {
     let want = format!(in alloc;
         "{{\"nonce\":\"1\",\"removedResources\":[\"r\\t\u{1f600}\",\"s\"],\"resources\":[{{\"name\":\"q\\\"\\\\\\u0001é\",\"resource\":{BODY},\"version\":\"2-1\"}}],\"systemVersionInfo\":\"1.2\",\"typeUrl\":\"type.googleapis.com/envoy.config.cluster.v3.Cluster\"}}"
     )?;
-    let draft = Draft::Delta(draft.try_copy(alloc)?);
+    assert_eq!(rt; draft.version(), "1.2");
+    assert_eq!(rt; draft.nonce(), "1");
+    let draft = Draft::Delta(draft.try_copy(alloc)?).try_copy(alloc)?;
     assert_eq!(rt; draft.kind(), TypeName::Cluster);
     assert_eq!(rt; draft.write(alloc)?.as_str(), want.as_str());
     assert_eq!(rt; told(alloc, &draft)?.as_str(), want.as_str());
