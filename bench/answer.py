@@ -1,14 +1,15 @@
 #!/usr/bin/env python3
-"""Times `xds answer` over N stamped writes of about 1 KB each, and prints its processor time, in all and a write, and its
+"""Times `xds answer` over N stamped writes of B bytes each, and prints its processor time, in all and a write, and its
 peak memory.
 
-    python3 bench/answer.py PROGRAM [N ..]
+    python3 bench/answer.py [--bytes B] PROGRAM [N ..]
 
 PROGRAM is the built program (crates/xds/out/xds after `rt run` in crates/xds); N is 1000, 10000 and 100000 if left out.
-Every write is of a name of its own, and the request asks for all of them, so that everything is read, kept and
-written. The input is made anew each time and kept in memory. Peak memory is the kernel's `VmHWM` of the process, so it
-needs Linux.
+B is 1000 and 600 if left out, one after the other, and 350 at least. Every write is of a name of its own, and the
+request asks for all of them, so that everything is read, kept and written. The input is made anew each time and kept in
+memory. Peak memory is the kernel's `VmHWM` of the process, so it needs Linux.
 """
+import argparse
 import json
 import resource
 import subprocess
@@ -19,8 +20,13 @@ import time
 URL = "type.googleapis.com/envoy.config.cluster.v3.Cluster"
 
 
-def writes(count):
-    """The input: `count` writes of about 1 KB, and a request for all of them."""
+# The bytes of a write without its padding, its number among the greatest.
+BARE = 296
+
+
+def writes(count, size):
+    """The input: `count` writes of about `size` bytes, and a request for all of them."""
+    padding = "t" * (size - BARE)
     lines = []
     for number in range(count):
         name = "cluster-%06d" % number
@@ -28,7 +34,7 @@ def writes(count):
             "@type": URL,
             "name": name,
             "connectTimeout": "0.250s",
-            "metadata": {"filterMetadata": {"owner": {"team": "t" * 650, "number": number}}},
+            "metadata": {"filterMetadata": {"owner": {"team": padding, "number": number}}},
         }
         write = {"typeUrl": URL, "name": name, "counter": number + 1, "writer": 1 + number % 2, "body": body}
         lines.append(json.dumps(write, separators=(",", ":")))
@@ -66,20 +72,26 @@ def measure(program, data):
     return seconds, max(peaks, default=0), output
 
 
-def one(program, count):
-    data = writes(count)
+def one(program, count, size):
+    data = writes(count, size)
     seconds, peak, output = measure(program, data)
     found = len(json.loads(output)["resources"])
     assert found == count, found
-    print("%6d writes, %6.1f MB in, %6.1f MB out: %7.2f s, %5.1f us a write, peak %7.1f MB (%.1f times the input)"
-          % (count, len(data) / 1e6, len(output) / 1e6, seconds, seconds / count * 1e6, peak / 1e6, peak / len(data)))
+    print("%6d writes of %4d bytes, %6.1f MB in, %6.1f MB out: %7.2f s, %5.1f us a write, peak %7.1f MB (%.1f times the input)"
+          % (count, size, len(data) / 1e6, len(output) / 1e6, seconds, seconds / count * 1e6, peak / 1e6, peak / len(data)))
 
 
 def main():
-    if len(sys.argv) < 2:
-        sys.exit(__doc__)
-    for count in [int(word) for word in sys.argv[2:]] or [1000, 10000, 100000]:
-        one(sys.argv[1], count)
+    words = argparse.ArgumentParser(description=__doc__, formatter_class=argparse.RawDescriptionHelpFormatter)
+    words.add_argument("--bytes", type=int)
+    words.add_argument("program")
+    words.add_argument("counts", metavar="N", type=int, nargs="*")
+    given = words.parse_args()
+    if given.bytes is not None and given.bytes < 350:
+        words.error("a write has at least 350 bytes")
+    for size in [given.bytes] if given.bytes else [1000, 600]:
+        for count in given.counts or [1000, 10000, 100000]:
+            one(given.program, count, size)
 
 
 main()

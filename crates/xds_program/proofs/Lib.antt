@@ -1,4 +1,5 @@
 pub mod Splits
+pub mod FirstPoll
 pub mod Responding
 pub mod Taking
 pub mod Reading

@@ -4,14 +4,16 @@ use Rattle.std.specs.Prelude.{map, slice_index, ◌==◌}
 use Rattle.std.proofs.lemmas.List.{map-append}
 use Rattle.std.proofs.lemmas.List.Elements.{filter-append}
 use Rattle.std.specs.List.{filter}
+use Rattle.std.specs.FinMap as finmap
 use Rattle.xds_resource.specs.declared.types.TypeName.{TypeName}
 use Rattle.xds_resource.specs.declared.refusal.Refusal.{Refusal}
 use Rattle.xds_resource.specs.Types.{is_same_type}
 use Rattle.xds_resource.specs.Writes.{StampedWrite}
 use Rattle.xds_resource.specs.PerType.{PerType, at, with_at}
 use Rattle.xds_resource.proofs.TypesApart.{same_type, at-with_at, at-with_at_other}
-use Rattle.xds_catalogue.specs.Holdings.{Holdings, nothing_held}
+use Rattle.xds_catalogue.specs.Holdings.{Holdings, nothing_held, IsCatalogue}
 use Rattle.xds_catalogue.specs.Joins.{joined}
+use Rattle.xds_catalogue.proofs.Catalogues.{catalogue_of-IsCatalogue}
 use Rattle.xds_catalogue.proofs.Joining.{joined_again}
 use Rattle.xds_catalogue.proofs.OneWrite.{joined-nothing}
 use Rattle.xds_message.specs.Messages.{Request}
@@ -96,6 +98,11 @@ read_more input rest next bytes line p x r split shorter is = record {
   number_is = omega (arith, r.number_is, length-append r.before (bytes ∷ []));
   short = omega (arith, r.short, shorter, length-append r.before (bytes ∷ []));
 }
+
+-- what is held once writes came has each of them under its own name
+pub held_named : (input rest : List ℕ) (line : ℕ) (held : TypeName → Holdings) → IsReadTo input rest line held → (t : TypeName) → IsCatalogue (held t).entries
+held_named input rest line held r t =
+    subst (λ (h : Holdings). IsCatalogue h.entries) (sym (r.held_are t)) (catalogue_of-IsCatalogue (finmap.values nothing_held.entries ++ writes_of t r.writes))
 
 pub read_all : (replica : ℕ) (input rest output : List ℕ) (line : ℕ) (p : PerType Holdings) (m : Request) → IsReadTo input rest line (at p) → pieces rest ≡ rest ∷ [] → IsRequestLine rest m
     → output ≡ answer_text (response_by replica (at p) m) → IsAnswer replica input output

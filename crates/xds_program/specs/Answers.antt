@@ -1,10 +1,10 @@
 -- The answer to the first request of a fresh stream, over the catalogues of the writes that came before it: Envoy's
 -- state-of-the-world response. The version and the nonce are this project's own.
-use Rattle.std.specs.Prelude.{◌≡◌, ℕ, List, [], ◌∷◌, ◌++◌, map, Bool, false, not, ◌||◌, ◌==◌, if◌then◌else◌, length, Option, Some, None, codes, decimal}
+use Rattle.std.specs.Prelude.{ℕ, List, [], ◌∷◌, ◌++◌, map, Bool, not, ◌||◌, ◌==◌, if◌then◌else◌, length, Option, Some, None, codes}
 use Rattle.std.specs.List.{filter, filter_map}
 use Rattle.std.specs.Option.{option_map, option_and_then}
 use Rattle.serde_json.specs.Data.{Data}
-use Rattle.serde_json.specs.Written.{compact_text, has_float}
+use Rattle.serde_json.specs.Written.{compact_text}
 use Rattle.xds_resource.specs.declared.types.TypeName.{TypeName}
 use Rattle.xds_resource.specs.Types.{row, type_of_url, is_same_type}
 use Rattle.xds_resource.specs.Writes.{StampedWrite}
@@ -16,6 +16,7 @@ use Rattle.xds_catalogue.specs.Joins.{joined}
 use Rattle.xds_catalogue.specs.Content.{content}
 use Rattle.xds_message.specs.Messages.{Request, Response}
 use Rattle.xds_message.specs.Written.{response_object}
+use Rattle.xds_sotw.specs.Polls.{version_info}
 
 -- a write and its type
 abbrev pub TypedWrite : Type 0
@@ -28,14 +29,6 @@ writes_of t xs = map (λ x. x.1) (filter (λ x. is_same_type x.0 t) xs)
 -- what is held of the type once these writes came, where nothing was held before
 abbrev pub held_of : List TypedWrite → TypeName → Holdings
 held_of xs t = joined nothing_held (writes_of t xs)
-
--- the replica and its count of changes, and `.named` where not all resources were asked for
-abbrev pub version_info : ℕ → ℕ → Bool → List ℕ
-version_info replica changes star = decimal replica ++ 46 ∷ decimal changes ++ (if star then [] else codes ".named")
-
--- a value whose numbers are all 64-bit integers
-abbrev pub IsWhole : Data → Type 0
-IsWhole d = has_float d ≡ false
 
 -- the objects of the writes that put one
 abbrev pub objects_of : List StampedWrite → List Data

@@ -1,23 +1,23 @@
 // `xds answer`: stamped writes and one request in, the response of a fresh stream's first poll out.
-ghost use Rattle.std.specs.Prelude.{◌≡◌, ◌≢◌, Ok, IfOk, IfErr, OnOk, Some, IfSome, All, map, string_bytes, true, ◌∷◌, []};
-ghost use Rattle.serde_json.specs.View.{view};
+ghost use Rattle.std.specs.Prelude.{◌≡◌, ◌≢◌, Ok, IfOk, IfErr, OnOk, Some, ◌∷◌, []};
 ghost use Rattle.std.specs.Option.{option_map};
 ghost use Rattle.xds_resource.specs.PerType.{at, with_at};
-ghost use Rattle.xds_resource.specs.Refusals.{Gives};
+ghost use Rattle.xds_catalogue.specs.Holdings.{IsCatalogue};
 ghost use Rattle.xds_catalogue.specs.Joins.{joined};
 ghost use Rattle.xds_message.specs.Messages.{Request};
-ghost use Rattle.xds_message.specs.Responses.{response_of};
-ghost use Rattle.xds_program.specs.Answers.{TypedWrite, IsWhole, version_info, objects_of, response_with, response_to, response_by, answer_text};
+ghost use Rattle.xds_draft.specs.Drafts.{message_of};
+ghost use Rattle.xds_program.specs.Answers.{TypedWrite, response_to, response_by, answer_text};
 ghost use Rattle.xds_program.specs.Faults.{IsWriteLine, IsRequestLine, RefusesWrite, RefusesRequest, IsAnswer, IsFault};
 
 use crate::catalogues::Catalogues;
 use crate::lines::{split_line, without_last_feed};
-use serde_json::Value;
 use std::alloc::Global;
 use xds_catalogue::Catalogue;
-use xds_interest::Interest;
-use xds_message::{DiscoveryRequest, DiscoveryResponse, read_write};
+use xds_draft::SotwDraft;
+use xds_ledger::Nonces;
+use xds_message::{DiscoveryRequest, read_write};
 use xds_resource::{AnyWrite, Refusal, ResourceType, TypeName, Write};
+use xds_sotw::Session;
 
 /// Which line of an input is refused, and why.
 #[derive(Clone, Copy, Debug, PartialEq, Eq)]
@@ -70,6 +70,7 @@ fn answer_request(
     catalogues: &Catalogues,
     line: &[u8],
 ) -> Result<Vec<u8>, Refusal>
+    requires { (t : TypeName) → IsCatalogue (at catalogues.now t).entries }
     ensures answered { IfOk result (λ output. (m : Request) × IsRequestLine line.now m
         × (output.items ≡ answer_text (response_by replica (at catalogues.now) m))) }
     ensures refused { IfErr result (λ e. RefusesRequest line.now e) }
@@ -79,18 +80,17 @@ fn answer_request(
         return Err(Refusal::BadMessage);
     }
     match respond_among(alloc, replica, catalogues, &request)? {
-        Some(response) => text_of(alloc, response),
+        Some(draft) => text_of(alloc, &draft),
         None => Ok(Vec::new(alloc)),
     }
 }
 
 // The response's text, and a line feed.
-fn text_of(alloc: Global, response: DiscoveryResponse) -> Result<Vec<u8>, Refusal>
-    requires { All IsWhole (response_of response).resources }
-    ensures text { IfOk result (λ v. v.items ≡ answer_text (Some (response_of response))) }
+fn text_of(alloc: Global, draft: &SotwDraft) -> Result<Vec<u8>, Refusal>
+    ensures text { IfOk result (λ v. v.items ≡ answer_text (Some (message_of draft.now))) }
     ensures refused { IfErr result (λ e. e ≡ Refusal.OutOfMemory) }
 {
-    let mut text = response.write(alloc)?;
+    let mut text = draft.write(alloc)?;
     text.push_str("\n")?;
     Ok(text.into_bytes())
 }
@@ -101,10 +101,10 @@ fn respond_among(
     replica: u16,
     catalogues: &Catalogues,
     request: &DiscoveryRequest,
-) -> Result<Option<DiscoveryResponse>, Refusal>
-    ensures given { IfOk result (λ o. option_map response_of o
+) -> Result<Option<SotwDraft>, Refusal>
+    requires { (t : TypeName) → IsCatalogue (at catalogues.now t).entries }
+    ensures given { IfOk result (λ o. option_map message_of o
         ≡ response_by replica (at catalogues.now) request.now) }
-    ensures whole { IfOk result (λ o. IfSome o (λ r. All IsWhole (response_of r).resources)) }
     ensures refused { IfErr result (λ e. e ≡ Refusal.OutOfMemory) }
 {
     let Some(type_name) = TypeName::from_url(request.type_url.as_str()) else {
@@ -118,77 +118,19 @@ fn respond_among(
     }
 }
 
-// The response to a request of the type `T`.
+// The response to a request of the type `T`, the first of a fresh stream.
 fn respond<T: ResourceType>(
     alloc: Global,
     replica: u16,
     catalogue: &Catalogue<T>,
     request: &DiscoveryRequest,
-) -> Result<Option<DiscoveryResponse>, Refusal>
+) -> Result<Option<SotwDraft>, Refusal>
+    requires { IsCatalogue catalogue.now.entries }
     ensures given { IfOk result
-        (λ o. option_map response_of o ≡ response_to replica T.TYPE catalogue.now request.now) }
-    ensures whole { IfOk result (λ o. IfSome o (λ r. All IsWhole (response_of r).resources)) }
+        (λ o. option_map message_of o ≡ response_to replica T.TYPE catalogue.now request.now) }
     ensures refused { IfErr result (λ e. e ≡ Refusal.OutOfMemory) }
 {
-    let interest = Interest::<T>::of_list(alloc, request.resource_names.as_slice())?;
-    let shown = catalogue.content(alloc, &interest)?;
-    if T::TYPE.is_complete() || !shown.is_empty() {
-        let star = interest.has_star();
-        let response = response_with(alloc, replica, catalogue.changes(), star, &shown)?;
-        Ok(Some(response))
-    } else {
-        Ok(None)
-    }
-}
-
-// The response with this content.
-fn response_with<T: ResourceType>(
-    alloc: Global,
-    replica: u16,
-    changes: u64,
-    star: bool,
-    shown: &Vec<&Write<T>>,
-) -> Result<DiscoveryResponse, Refusal>
-    ensures given { IfOk result
-        (λ r. response_of r ≡ response_with replica T.TYPE changes star (map (λ w. w.now) shown.now.items)) }
-    ensures whole { IfOk result (λ r. All IsWhole (response_of r).resources) }
-    ensures refused { IfErr result (λ e. e ≡ Refusal.OutOfMemory) }
-{
-    Ok(DiscoveryResponse {
-        version_info: version_of(alloc, replica, changes, star)?,
-        resources: objects_of(alloc, shown)?,
-        type_url: String::from_str(alloc, T::TYPE.url())?,
-        nonce: String::from_str(alloc, "1")?,
-    })
-}
-
-// The version of a response: the replica, its count of changes, and whether all resources were asked for.
-fn version_of(alloc: Global, replica: u16, changes: u64, star: bool) -> Result<String, Refusal>
-    ensures given { IfOk result (λ s. string_bytes s ≡ version_info replica changes star) }
-    ensures refused { IfErr result (λ e. e ≡ Refusal.OutOfMemory) }
-{
-    let mut text = format!(in alloc; "{replica}.{changes}")?;
-    if !star {
-        text.push_str(".named")?;
-    }
-    Ok(text)
-}
-
-// The objects that the writes put.
-fn objects_of<T: ResourceType>(
-    alloc: Global,
-    writes: &Vec<&Write<T>>,
-) -> Result<Vec<Value>, Refusal>
-    ensures given { IfOk result
-        (λ v. map view v.items ≡ objects_of (map (λ w. w.now) writes.now.items)) }
-    ensures whole { IfOk result (λ v. All IsWhole (map view v.items)) }
-    ensures refused { IfErr result (λ e. e ≡ Refusal.OutOfMemory) }
-{
-    let mut values = Vec::new(alloc);
-    for write in writes {
-        if let Some(value) = write.value(alloc)? {
-            values.push(value)?;
-        }
-    }
-    Ok(values)
+    let mut session = Session::new(alloc);
+    session.take(alloc, request)?;
+    session.poll(alloc, replica, catalogue, &mut Nonces::new())
 }

@@ -3,7 +3,7 @@ use Rattle.xds_resource.specs.declared.types.TypeName.{TypeName}
 use Rattle.xds_resource.specs.PerType.{PerType, at}
 use Rattle.xds_resource.proofs.TypesApart.{at-each}
 use Rattle.xds_catalogue.specs.Holdings.{Holdings, nothing_held}
-use Rattle.xds_program.proofs.Reading.{IsReadTo, read_none, read_more, read_all, read_bad_write, read_bad_request}
+use Rattle.xds_program.proofs.Reading.{IsReadTo, held_named, read_none, read_more, read_all, read_bad_write, read_bad_request}
 use Rattle.xds_program.proofs.answer.answer_lines.Goals as goal
 
 pub loop-bytes-init : goal.loop-bytes-init
@@ -32,3 +32,6 @@ returns-in-Ok-clause-answered c =
 pub returns-clause-refused : goal.returns-clause-refused
 returns-clause-refused c =
     read_bad_request c.args.input.now c.loop-bytes.rest.now c.loop-bytes.line c.loop-bytes.catalogues _ c.loop-bytes.invariant c.in_default.ensures.last c.in-Err-answer_request.ensures.refused
+
+pub answer_request-requires : goal.answer_request-requires
+answer_request-requires c = held_named c.args.input.now c.loop-bytes.rest.now c.loop-bytes.line (at c.loop-bytes.catalogues) c.loop-bytes.invariant

@@ -1,0 +1,18 @@
+use Rattle.std.proofs.Common.{◌≡◌}
+use Rattle.std.specs.Option.{option_map}
+use Rattle.std.proofs.lemmas.Result.{IfOk-weaker}
+use Rattle.xds_draft.specs.Drafts.{message_of}
+use Rattle.xds_sotw.specs.Polls.{HasPolled}
+use Rattle.xds_program.specs.Answers.{response_to}
+use Rattle.xds_program.proofs.FirstPoll.{first_poll_by}
+use Rattle.xds_program.proofs.answer.respond.Goals as goal
+
+pub returns-clause-given : goal.returns-clause-given
+returns-clause-given g c =
+    let t = g.T.ResourceType.TYPE in
+    let h = c.args.catalogue.now in
+    let r = c.args.request.now in
+    IfOk-weaker c.poll.result (λ answer. HasPolled c.args.replica t h c.take.new.self c.new.result answer c.poll.new.self c.poll.new.nonces)
+    (λ answer. option_map message_of answer ≡ response_to c.args.replica t h r)
+    (λ answer polled. first_poll_by c.args.replica t h r c.new-session.result c.take.new.self c.new.result answer c.poll.new.self c.poll.new.nonces c.requires c.new-session.ensures c.in_ok-take.ensures.ok c.new.ensures polled)
+    c.poll.ensures.ok

@@ -1,0 +1,210 @@
+// What a client of clusters was told and is owed, by scripts over a ledger of either variant.
+use crate::cases::{Script, either, hold, words_of};
+use std::alloc::Global;
+use std::test::Fail;
+use xds_catalogue::Catalogue;
+use xds_interest::Interest;
+use xds_ledger::{
+    Delta, Due, Entry, Ledger, Nonces, StateOfTheWorld, Variant, VariantName, Version,
+};
+use xds_resource::{Cluster, NameMap, Refusal, Resource, Stamp, TypeName};
+
+// What the replica holds, what a client wants, and what it was told.
+#[derive(Drop)]
+struct Client<V: Variant> {
+    catalogue: Catalogue<Cluster>,
+    interest: Interest<Cluster>,
+    ledger: Ledger<Cluster, V>,
+}
+
+// The names of an offer, each with `=` and its version, or with `-` where it is removed.
+fn offer_text(alloc: Global, offer: &NameMap<Due>) -> Result<String, Refusal> {
+    let mut all = String::from_str(alloc, "{")?;
+    for (name, due) in offer.iter() {
+        all.push_str(name.as_str())?;
+        push_due(&mut all, due)?;
+    }
+    all.push_str("}")?;
+    Ok(all)
+}
+
+fn push_due(all: &mut String, due: &Due) -> Result<(), Refusal> {
+    match due {
+        Due::Stated(version) => {
+            all.push_str("=")?;
+            all.push_str(version.as_str())?;
+        }
+        Due::Removed => all.push_str("-")?,
+    }
+    Ok(all.push_str(",")?)
+}
+
+impl<V: Variant> Client<V> {
+    // Takes a request with this nonce and these names.
+    fn taken(
+        &mut self,
+        alloc: Global,
+        nonce: &str,
+        rejects: bool,
+        names: &str,
+        versions: &[(&str, &str)],
+    ) -> Result<String, Refusal> {
+        let next = Interest::of_list(alloc, &words_of(alloc, names)?)?;
+        let touched = self.interest.touched_until(alloc, &next)?;
+        self.ledger.take(
+            alloc,
+            nonce,
+            rejects,
+            &next,
+            touched,
+            next.names(),
+            versions,
+        )?;
+        self.interest = next;
+        Ok(String::from_str(alloc, "taken")?)
+    }
+
+    fn answered(&mut self, alloc: Global, rejects: bool, rest: &str) -> Result<String, Refusal> {
+        let (nonce, names) = rest.split_once(' ').unwrap_or((rest, ""));
+        self.taken(alloc, nonce, rejects, names, &[])
+    }
+
+    fn resumed(&mut self, alloc: Global, rest: &str) -> Result<String, Refusal> {
+        let (name, version) = rest.split_once(' ').unwrap_or((rest, ""));
+        self.taken(alloc, "", false, name, &[(name, version)])
+    }
+
+    fn offered(&self, alloc: Global) -> Result<NameMap<Due>, Refusal> {
+        self.ledger.offer(alloc, &self.interest, &self.catalogue)
+    }
+
+    fn sent(&mut self, alloc: Global, number: &str) -> Result<String, Refusal> {
+        let offer = self.offered(alloc)?;
+        let number = number.parse::<u64>().map_err(|_| Refusal::BadStamp)?;
+        self.ledger.send(alloc, offer, number);
+        Ok(String::from_str(alloc, "sent")?)
+    }
+
+    fn sending(&self, alloc: Global) -> Result<String, Refusal> {
+        match self.ledger.sending(alloc, &self.interest, &self.catalogue)? {
+            Some(offer) => offer_text(alloc, &offer),
+            None => Ok(String::from_str(alloc, "none")?),
+        }
+    }
+
+    // Whether something holds of the ledger.
+    fn is(&self, alloc: Global, verb: &str, rest: &str) -> Result<bool, Refusal> {
+        Ok(match verb {
+            "answers" => self.ledger.answers(rest),
+            "stale" => self.ledger.is_stale(rest),
+            "refused" => self.ledger.is_refused(&self.offered(alloc)?),
+            "due" => self.ledger.is_due(&self.interest, &self.catalogue),
+            _ => self.ledger.owes(&self.interest, &self.catalogue),
+        })
+    }
+}
+
+impl<V: Variant> Script for Client<V> {
+    fn begin(alloc: Global) -> Client<V> {
+        Client {
+            catalogue: Catalogue::new(alloc),
+            interest: Interest::nothing(alloc),
+            ledger: Ledger::new(alloc),
+        }
+    }
+
+    fn step(&mut self, alloc: Global, verb: &str, rest: &str) -> Result<String, Refusal> {
+        match verb {
+            "put" => self
+                .catalogue
+                .put(Resource::parse(alloc, rest)?, 1)?
+                .version_text(alloc),
+            "delete" => self.catalogue.delete(rest, 1)?.version_text(alloc),
+            "take" => self.taken(alloc, "", false, rest, &[]),
+            "ack" => self.answered(alloc, false, rest),
+            "nack" => self.answered(alloc, true, rest),
+            "resume" => self.resumed(alloc, rest),
+            "offer" => offer_text(alloc, &self.offered(alloc)?),
+            "send" => self.sent(alloc, rest),
+            "sending" => self.sending(alloc),
+            _ => either(alloc, self.is(alloc, verb, rest)?, "yes", "no"),
+        }
+    }
+}
+
+#[test]
+fn a_whole_response_tells_all(rt: HostRuntime) -> Result<(), Fail> {
+    hold::<Client<StateOfTheWorld>, HostRuntime>(
+        &rt,
+        r#"owes; due; answers 1; stale ; stale 1; sending => yes yes no no yes {}
+take; put {"@type":"CDS","name":"A"}; sending; send 1; owes; sending; answers 1; answers 2; stale 2; ack 1; owes; due; stale 2; stale 1 => taken 1-1 {A=1-1,} sent yes none yes no no taken no no yes no
+take; put {"@type":"CDS","name":"A"}; send 1; nack 1; owes; offer; refused; sending; put {"@type":"CDS","name":"B"}; refused; sending; send 2; ack 2; delete A; offer; due => taken 1-1 sent taken yes {A=1-1,} yes none 2-1 no {A=1-1,B=2-1,} sent taken 3-1 {B=2-1,} yes"#,
+    )
+}
+
+#[test]
+fn a_response_tells_what_differs(rt: HostRuntime) -> Result<(), Fail> {
+    hold::<Client<Delta>, HostRuntime>(
+        &rt,
+        r#"owes; take *; put {"@type":"CDS","name":"A"}; put {"@type":"CDS","name":"B"}; sending; send 1; ack 1 *; owes; delete A; sending; send 2; take * A; ack 2 * A; sending; send 3; ack 3 * A; owes => no taken 1-1 2-1 {A=1-1,B=2-1,} sent taken no 3-1 {A-,} sent taken taken {A-,} sent taken no
+put {"@type":"CDS","name":"A"}; resume A 1-1; owes; sending => 1-1 taken no none
+put {"@type":"CDS","name":"A"}; resume A 9-1; owes; sending => 1-1 taken yes {A=1-1,}
+resume B 7-2; sending => taken {B-,}"#,
+    )
+}
+
+#[test]
+fn nonces_are_numbers_from_one(rt: HostRuntime) -> Result<(), Fail> {
+    let mut nonces = Nonces::new();
+    assert_eq!(rt; nonces.upcoming(), Ok(1));
+    assert_eq!(rt; nonces.next(), Ok(1));
+    assert_eq!(rt; nonces.next(), Ok(2));
+    assert_eq!(rt; nonces.upcoming(), Ok(3));
+    assert!(rt; !nonces.are_spent());
+    Ok(())
+}
+
+#[test]
+fn versions_are_texts(rt: HostRuntime) -> Result<(), Fail> {
+    let alloc = rt.alloc();
+    let (stamp, later) = (Stamp::new(5, 2), Stamp::new(6, 2));
+    let version = Version::of_stamp(alloc, stamp)?.try_copy(alloc)?;
+    assert_eq!(rt; version.as_str(), "5-2");
+    assert!(rt; version.is_of(stamp) && !version.is_of(later));
+    let other = Version::from_text(alloc, "05-2")?;
+    assert_eq!(rt; other.as_str(), "05-2");
+    assert!(rt; !other.is_of(stamp));
+    Ok(())
+}
+
+// The version that an entry has.
+fn told(entry: &Entry) -> &str {
+    match entry {
+        Entry::Told(version) => version.as_str(),
+        Entry::Unsure => "unsure",
+    }
+}
+
+#[test]
+fn entries_are_copied(rt: HostRuntime) -> Result<(), Fail> {
+    let alloc = rt.alloc();
+    let entry = Entry::Told(Version::from_text(alloc, "5-2")?);
+    assert_eq!(rt; told(&entry.try_copy(alloc)?), "5-2");
+    assert_eq!(rt; told(&Entry::Unsure.try_copy(alloc)?), "unsure");
+    let due = Due::Stated(Version::from_text(alloc, "5-2")?);
+    let other = Due::Stated(Version::from_text(alloc, "6-2")?);
+    assert!(rt; due.is_same(&due.try_copy(alloc)?));
+    assert!(rt; !due.is_same(&other) && !due.is_same(&Due::Removed));
+    assert!(rt; Due::Removed.is_same(&Due::Removed.try_copy(alloc)?));
+    Ok(())
+}
+
+#[test]
+fn variants_tell_removals(rt: HostRuntime) -> Result<(), Fail> {
+    let (whole, parts) = (VariantName::StateOfTheWorld, VariantName::Delta);
+    assert!(rt; parts.is_delta() && !whole.is_delta());
+    assert!(rt; whole.is_whole(TypeName::Cluster) && !whole.is_whole(TypeName::Route));
+    assert!(rt; !parts.is_whole(TypeName::Cluster) && parts.tells_removals(TypeName::Route));
+    assert!(rt; whole.tells_removals(TypeName::Cluster) && !whole.tells_removals(TypeName::Route));
+    Ok(())
+}
