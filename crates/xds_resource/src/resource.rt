@@ -1,6 +1,7 @@
 // Resources of one type, read from JSON.
 ghost use Rattle.std.specs.Prelude.{◌≡◌, ◌≤◌, IfOk, IfErr, OnOk, Some, None, Ok, true, false, string_bytes, List, ℕ};
 ghost use Rattle.std.specs.Option.{option_map};
+ghost use Rattle.std.specs.Arc.{arc_str_bytes};
 ghost use Rattle.serde_json.specs.Data.{depth};
 ghost use Rattle.serde_json.specs.Read.{read};
 ghost use Rattle.serde_json.specs.View.{view};
@@ -99,7 +100,7 @@ impl<T: ResourceType> Resource<T> {
             return Err(Refusal::BadName);
         }
         let name = ArcStr::from_str(alloc, name)?;
-        let body = ArcStr::from_string(body)?;
+        let body = shared(body)?;
         Ok(Resource {
             name,
             body,
@@ -213,4 +214,14 @@ fn resource_name(value: &Value, type_name: TypeName) -> Option<&str>
         Some(Value::String(name)) => Some(name.as_str()),
         Some(_) => None,
     }
+}
+
+// The text, to be shared, with no room to spare.
+fn shared(text: String) -> Result<ArcStr<Global>, Refusal>
+    ensures ok { IfOk result (λ s. arc_str_bytes s ≡ string_bytes text) }
+    ensures refused { IfErr result (λ e. e ≡ Refusal.OutOfMemory) }
+{
+    let mut text = text;
+    text.shrink_to_fit();
+    Ok(ArcStr::from_string(text)?)
 }
