@@ -1,7 +1,16 @@
-// Tests of sessions: worked stories of one client and one replica, step by step. Nothing else stands here.
+// Tests of sessions of both variants, of the ledger below them and of drafts of responses: worked stories of one client
+// and one replica, and each public call once where memory is ample. Nothing else stands here.
 #![tactic(auto)]
 
 #[cfg(test)]
+mod cases;
+#[cfg(test)]
 mod delta;
+#[cfg(test)]
+mod drafts;
+#[cfg(test)]
+mod ledger;
+#[cfg(test)]
+mod sotw;
 #[cfg(test)]
 mod stories;
