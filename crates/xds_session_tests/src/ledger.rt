@@ -1,5 +1,6 @@
 // What a client of clusters was told and is owed, by scripts over a ledger of either variant.
-use crate::cases::{Script, either, hold, words_of};
+use xds_cases::cases::words_of;
+use xds_cases::scripts::{either, follow, Script};
 use std::alloc::Global;
 use std::test::Fail;
 use xds_catalogue::Catalogue;
@@ -134,7 +135,7 @@ impl<V: Variant> Script for Client<V> {
 
 #[test]
 fn a_whole_response_tells_all(rt: HostRuntime) -> Result<(), Fail> {
-    hold::<Client<StateOfTheWorld>, HostRuntime>(
+    follow::<Client<StateOfTheWorld>, HostRuntime>(
         &rt,
         r#"owes; due; answers 1; stale ; stale 1; sending => yes yes no no yes {}
 take; put {"@type":"CDS","name":"A"}; sending; send 1; owes; sending; answers 1; answers 2; stale 2; ack 1; owes; due; stale 2; stale 1 => taken 1-1 {A=1-1,} sent yes none yes no no taken no no yes no
@@ -144,7 +145,7 @@ take; put {"@type":"CDS","name":"A"}; send 1; nack 1; owes; offer; refused; send
 
 #[test]
 fn a_response_tells_what_differs(rt: HostRuntime) -> Result<(), Fail> {
-    hold::<Client<Delta>, HostRuntime>(
+    follow::<Client<Delta>, HostRuntime>(
         &rt,
         r#"owes; take *; put {"@type":"CDS","name":"A"}; put {"@type":"CDS","name":"B"}; sending; send 1; ack 1 *; owes; delete A; sending; send 2; take * A; ack 2 * A; sending; send 3; ack 3 * A; owes => no taken 1-1 2-1 {A=1-1,B=2-1,} sent taken no 3-1 {A-,} sent taken taken {A-,} sent taken no
 put {"@type":"CDS","name":"A"}; resume A 1-1; owes; sending => 1-1 taken no none

@@ -1,5 +1,5 @@
 // Sessions, by scripts of what replica 1 does, and what a client asks of it and is answered.
-use crate::cases::{Script, either, hold};
+use xds_cases::scripts::{either, follow, Script};
 use std::alloc::Global;
 use std::test::Fail;
 use xds_catalogue::Catalogue;
@@ -59,7 +59,7 @@ impl<T: ResourceType> Script for Stream<T> {
 
 #[test]
 fn clusters_are_told(rt: HostRuntime) -> Result<(), Fail> {
-    hold::<Stream<Cluster>, HostRuntime>(
+    follow::<Stream<Cluster>, HostRuntime>(
         &rt,
         r#"take {"typeUrl":"CDS"}; poll => taken {"nonce":"1","typeUrl":"CDS","versionInfo":"1.0"}
 put {"@type":"CDS","name":"A"}; put {"@type":"CDS","name":"B"}; take {"typeUrl":"CDS"}; poll; take {"responseNonce":"1","typeUrl":"CDS"}; poll; take {"resourceNames":["*","A"],"responseNonce":"1","typeUrl":"CDS"}; poll; take {"resourceNames":["*","A"],"responseNonce":"2","typeUrl":"CDS"}; poll; take {"resourceNames":["A"],"responseNonce":"2","typeUrl":"CDS"}; poll; take {"resourceNames":["A"],"responseNonce":"3","typeUrl":"CDS"}; poll; take {"responseNonce":"3","typeUrl":"CDS"}; poll; owes => 1-1 2-1 taken {"nonce":"1","resources":[{"@type":"CDS","name":"A"},{"@type":"CDS","name":"B"}],"typeUrl":"CDS","versionInfo":"1.2"} taken none taken {"nonce":"2","resources":[{"@type":"CDS","name":"A"},{"@type":"CDS","name":"B"}],"typeUrl":"CDS","versionInfo":"1.2"} taken none taken {"nonce":"3","resources":[{"@type":"CDS","name":"A"}],"typeUrl":"CDS","versionInfo":"1.2.named"} taken none taken none quiet
@@ -71,7 +71,7 @@ put {"@type":"CDS","name":"A"}; take {"errorDetail":{},"responseNonce":"9","type
 
 #[test]
 fn routes_are_told(rt: HostRuntime) -> Result<(), Fail> {
-    hold::<Stream<Route>, HostRuntime>(
+    follow::<Stream<Route>, HostRuntime>(
         &rt,
         r#"take {"resourceNames":["q"],"typeUrl":"RDS"}; poll; put {"@type":"RDS","name":"q"}; poll => taken none 1-1 {"nonce":"1","resources":[{"@type":"RDS","name":"q"}],"typeUrl":"RDS","versionInfo":"1.1.named"}
 put {"@type":"RDS","name":"a"}; put {"@type":"RDS","name":"b"}; take {"resourceNames":["a"],"typeUrl":"RDS"}; poll; take {"resourceNames":["a"],"responseNonce":"1","typeUrl":"RDS"}; put {"@type":"RDS","name":"a"}; poll; take {"resourceNames":["a","b"],"responseNonce":"1","typeUrl":"RDS"}; poll; take {"resourceNames":["a","b"],"responseNonce":"2","typeUrl":"RDS"}; poll => 1-1 2-1 taken {"nonce":"1","resources":[{"@type":"RDS","name":"a"}],"typeUrl":"RDS","versionInfo":"1.2.named"} taken 3-1 {"nonce":"2","resources":[{"@type":"RDS","name":"a"}],"typeUrl":"RDS","versionInfo":"1.3.named"} taken none taken {"nonce":"3","resources":[{"@type":"RDS","name":"b"}],"typeUrl":"RDS","versionInfo":"1.3.named"}

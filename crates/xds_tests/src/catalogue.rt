@@ -1,5 +1,5 @@
 // What one replica holds, by scripts whose steps are apart by `; `, and what two replicas tell each other.
-use crate::cases::{Outcome, first_word, hold, told, words_of};
+use xds_cases::cases::{Outcome, first_word, hold, told, words_of};
 use crate::stamp::write_of;
 use std::alloc::Global;
 use std::test::Fail;

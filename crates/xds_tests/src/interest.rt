@@ -1,5 +1,5 @@
 // What a client wants of one type.
-use crate::cases::{Outcome, hold, words_of};
+use xds_cases::cases::{Outcome, hold, words_of};
 use std::alloc::Global;
 use std::test::Fail;
 use xds_interest::Interest;

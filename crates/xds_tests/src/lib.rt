@@ -3,8 +3,6 @@
 #![tactic(auto)]
 
 #[cfg(test)]
-mod cases;
-#[cfg(test)]
 mod catalogue;
 #[cfg(test)]
 mod delta;
@@ -14,8 +12,6 @@ mod interest;
 mod many_writes;
 #[cfg(test)]
 mod message;
-#[cfg(test)]
-mod program;
 #[cfg(test)]
 mod resource;
 #[cfg(test)]

@@ -1,5 +1,5 @@
 // Messages, with spellings from `discovery.proto` and the proto3 JSON mapping.
-use crate::cases::{Outcome, hold, told};
+use xds_cases::cases::{Outcome, hold, told};
 use serde_json::Value;
 use std::alloc::Global;
 use std::test::Fail;

@@ -1,5 +1,5 @@
 // Resources, and the types and refusals that tell of them.
-use crate::cases::{Outcome, first_word, hold, told};
+use xds_cases::cases::{Outcome, first_word, hold, told};
 use serde_json::Value;
 use std::alloc::Global;
 use std::test::Fail;

@@ -1,5 +1,5 @@
 // Stamps and version texts, and the order of writes.
-use crate::cases::{Outcome, first_word, hold, told};
+use xds_cases::cases::{Outcome, first_word, hold, told};
 use std::alloc::Global;
 use std::cmp::Ordering;
 use std::sync::ArcStr;

@@ -1,5 +1,5 @@
 // The stamped writes that replicas exchange.
-use crate::cases::{Outcome, hold, told};
+use xds_cases::cases::{Outcome, hold, told};
 use std::alloc::Global;
 use std::test::Fail;
 use xds_message::{read_write, write_object};

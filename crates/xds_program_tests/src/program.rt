@@ -1,5 +1,5 @@
 // Worked runs of the program, over readers and writers in memory and over some that fail.
-use crate::cases::{Outcome, hold, replaced, words_of, written_out};
+use xds_cases::cases::{Outcome, hold, replaced, words_of, written_out};
 use std::alloc::Global;
 use std::io;
 use std::io::{ErrorKind, Read, Write};

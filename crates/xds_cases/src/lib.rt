@@ -1,0 +1,5 @@
+// How the tests of the other crates are told: as tables in one text, a case a line.
+#![tactic(auto)]
+
+pub mod cases;
+pub mod scripts;

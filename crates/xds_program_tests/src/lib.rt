@@ -1,0 +1,5 @@
+// Tests of the programs, over readers and writers in memory. Nothing else stands here.
+#![tactic(auto)]
+
+#[cfg(test)]
+mod program;
