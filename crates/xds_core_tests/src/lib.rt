@@ -5,7 +5,11 @@
 #[cfg(test)]
 mod actor;
 #[cfg(test)]
+mod events;
+#[cfg(test)]
 mod many;
+#[cfg(test)]
+mod memory;
 #[cfg(test)]
 mod replies;
 #[cfg(test)]

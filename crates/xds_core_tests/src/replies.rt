@@ -1,10 +1,9 @@
 // Replies and looks as texts.
+use crate::writes::told_batch;
 use std::alloc::Global;
 use xds_core::{Marks, Reply};
 use xds_ledger::Outcome;
 use xds_resource::Refusal;
-
-use crate::writes::told_batch;
 
 /// A text of its own.
 pub fn text(alloc: Global, text: &str) -> Result<String, Refusal> {

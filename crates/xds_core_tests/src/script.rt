@@ -12,11 +12,7 @@ pub fn play<R: Abort + AllocGlobal>(rt: &R, story: &str) -> Result<(), Fail> {
 }
 
 /// Plays a story on.
-pub fn play_on<R: Abort + AllocGlobal>(
-    rt: &R,
-    actor: &mut Actor,
-    story: &str,
-) -> Result<(), Fail> {
+pub fn play_on<R: Abort + AllocGlobal>(rt: &R, actor: &mut Actor, story: &str) -> Result<(), Fail> {
     for line in story.lines() {
         play_line(rt, actor, line)?;
     }
@@ -35,8 +31,8 @@ fn play_line<R: Abort + AllocGlobal>(rt: &R, actor: &mut Actor, line: &str) -> R
     Ok(())
 }
 
-// The text, with the types' URLs in place of their abbreviations.
-fn written_out(alloc: Global, text: &str) -> Result<String, AllocError> {
+/// The text, with the types' URLs in place of their abbreviations.
+pub fn written_out(alloc: Global, text: &str) -> Result<String, AllocError> {
     let text = replaced(alloc, text, "CDS", TypeName::Cluster.url())?;
     let text = replaced(alloc, text.as_str(), "EDS", TypeName::Endpoint.url())?;
     let text = replaced(alloc, text.as_str(), "LDS", TypeName::Listener.url())?;
