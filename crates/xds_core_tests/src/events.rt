@@ -1,0 +1,99 @@
+// Events as texts.
+use crate::writes::batch_of;
+use std::alloc::Global;
+use xds_core::{Event, Request};
+use xds_message::{DeltaDiscoveryRequest, DiscoveryRequest};
+use xds_resource::{AnyResource, Refusal, TypeName};
+
+/// The event of `open`, `sotw STREAM MESSAGE`, `delta STREAM MESSAGE`, `poll STREAM [TYPE]`, `owes STREAM [TYPE]`,
+/// `close STREAM`, `put RESOURCE`, `delete TYPE NAME`, `merge [WRITE ..]` or `snapshot`.
+pub fn event_of(alloc: Global, verb: &str, rest: &str) -> Result<Event, Refusal> {
+    match verb {
+        "open" => Ok(Event::Open),
+        "snapshot" => Ok(Event::Snapshot),
+        "poll" => poll(rest),
+        "owes" => owes(rest),
+        "close" => close(rest),
+        _ => longer_event_of(alloc, verb, rest),
+    }
+}
+
+fn longer_event_of(alloc: Global, verb: &str, rest: &str) -> Result<Event, Refusal> {
+    match verb {
+        "sotw" => sotw(alloc, rest),
+        "delta" => delta(alloc, rest),
+        "put" => put(alloc, rest),
+        "delete" => delete(alloc, rest),
+        "merge" => merge(alloc, rest),
+        _ => Err(Refusal::BadScript),
+    }
+}
+
+fn poll(text: &str) -> Result<Event, Refusal> {
+    let (number, kind) = stream_of(text)?;
+    Ok(Event::Poll(number, kind))
+}
+
+fn owes(text: &str) -> Result<Event, Refusal> {
+    let (number, kind) = stream_of(text)?;
+    Ok(Event::Owes(number, kind))
+}
+
+fn close(text: &str) -> Result<Event, Refusal> {
+    let number = number_of(text)?;
+    Ok(Event::Close(number))
+}
+
+fn sotw(alloc: Global, text: &str) -> Result<Event, Refusal> {
+    let (number, message) = parted(text);
+    let number = number_of(number)?;
+    let request = DiscoveryRequest::read(alloc, message.as_bytes())?;
+    Ok(Event::Request(number, Request::Sotw(request)))
+}
+
+fn delta(alloc: Global, text: &str) -> Result<Event, Refusal> {
+    let (number, message) = parted(text);
+    let number = number_of(number)?;
+    let request = DeltaDiscoveryRequest::read(alloc, message.as_bytes())?;
+    Ok(Event::Request(number, Request::Delta(request)))
+}
+
+fn put(alloc: Global, text: &str) -> Result<Event, Refusal> {
+    let resource = AnyResource::parse(alloc, text)?;
+    Ok(Event::Put(resource))
+}
+
+fn delete(alloc: Global, text: &str) -> Result<Event, Refusal> {
+    let (kind, name) = parted(text);
+    let kind = type_of(kind)?;
+    let name = String::from_str(alloc, name)?;
+    Ok(Event::Delete(kind, name))
+}
+
+fn merge(alloc: Global, text: &str) -> Result<Event, Refusal> {
+    let batch = batch_of(alloc, text)?;
+    Ok(Event::Merge(batch))
+}
+
+fn parted(text: &str) -> (&str, &str) {
+    text.split_once(' ').unwrap_or((text, ""))
+}
+
+/// The stream, and perhaps the type, of `STREAM [TYPE]`.
+pub fn stream_of(text: &str) -> Result<(u64, Option<TypeName>), Refusal> {
+    let (number, kind) = parted(text);
+    let number = number_of(number)?;
+    if kind.is_empty() {
+        return Ok((number, None));
+    }
+    let kind = type_of(kind)?;
+    Ok((number, Some(kind)))
+}
+
+pub fn number_of(text: &str) -> Result<u64, Refusal> {
+    text.parse::<u64>().or(Err(Refusal::BadScript))
+}
+
+pub fn type_of(word: &str) -> Result<TypeName, Refusal> {
+    TypeName::from_word(word).ok_or(Refusal::BadScript)
+}

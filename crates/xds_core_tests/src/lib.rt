@@ -1,0 +1,20 @@
+// Tests of a replica's step: stories of streams and writes, with the replies as the protocol has them. Nothing else
+// stands here.
+#![tactic(auto)]
+
+#[cfg(test)]
+mod actor;
+#[cfg(test)]
+mod events;
+#[cfg(test)]
+mod many;
+#[cfg(test)]
+mod memory;
+#[cfg(test)]
+mod replies;
+#[cfg(test)]
+mod script;
+#[cfg(test)]
+mod stories;
+#[cfg(test)]
+mod writes;
