@@ -175,6 +175,38 @@ marks => 1 0 3 0"#,
     )
 }
 
+#[test]
+fn types_are_polled_in_their_order(rt: HostRuntime) -> Result<(), Fail> {
+    play(
+        &rt,
+        r#"put {"@type":"RDS","name":"r"} => 1-1
+put {"@type":"LDS","name":"l"} => 1-1
+put {"@type":"EDS","clusterName":"e"} => 1-1
+put {"@type":"CDS","name":"c"} => 1-1
+open => 1
+sotw 1 {"resourceNames":["r"],"typeUrl":"RDS"} => taken
+owes 1 => yes
+owes 1 cluster => no
+sotw 1 {"typeUrl":"LDS"} => taken
+sotw 1 {"resourceNames":["e"],"typeUrl":"EDS"} => taken
+sotw 1 {"typeUrl":"CDS"} => taken
+poll 1 => {"nonce":"1","resources":[{"@type":"CDS","name":"c"}],"typeUrl":"CDS","versionInfo":"1.1"}
+poll 1 => {"nonce":"2","resources":[{"@type":"EDS","clusterName":"e"}],"typeUrl":"EDS","versionInfo":"1.1.named"}
+poll 1 => {"nonce":"3","resources":[{"@type":"LDS","name":"l"}],"typeUrl":"LDS","versionInfo":"1.1"}
+poll 1 => {"nonce":"4","resources":[{"@type":"RDS","name":"r"}],"typeUrl":"RDS","versionInfo":"1.1.named"}
+poll 1 => none
+sotw 1 {"resourceNames":["r"],"responseNonce":"4","typeUrl":"RDS"} => taken
+sotw 1 {"responseNonce":"1","typeUrl":"CDS"} => taken
+owes 1 cluster => no
+owes 1 => yes
+sotw 1 {"responseNonce":"3","typeUrl":"LDS"} => taken
+owes 1 => yes
+sotw 1 {"resourceNames":["e"],"responseNonce":"2","typeUrl":"EDS"} => taken
+owes 1 => no
+due 1 => no"#,
+    )
+}
+
 // The first stream is of the state of the world, the second incremental.
 #[test]
 fn two_streams_of_both_variants(rt: HostRuntime) -> Result<(), Fail> {
