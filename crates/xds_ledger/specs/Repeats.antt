@@ -13,7 +13,7 @@ use Rattle.xds_ledger.specs.declared.entry.Due.TheVariants as dues
 use Rattle.xds_ledger.specs.declared.repeats.Saying.{Saying}
 use Rattle.xds_ledger.specs.declared.repeats.Saying.TheVariants as sayings
 use Rattle.xds_ledger.specs.Variants.{is_whole, is_told}
-use Rattle.xds_ledger.specs.Owed.{Beliefs, present, owed}
+use Rattle.xds_ledger.specs.Owed.{Beliefs, owed}
 use Rattle.xds_ledger.specs.Offers.{Offer, same_due, offered}
 
 abbrev pub due_said : Saying → Option Due

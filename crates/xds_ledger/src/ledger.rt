@@ -148,7 +148,9 @@ impl<T: ResourceType, V: Variant> Ledger<T, V> {
     pub fn sends(&self, interest: &Interest<T>, catalogue: &Catalogue<T>) -> bool
         ensures { result ≡ is_some (ledgers.sending V.NAME T.TYPE interest.now catalogue.now.entries self.now) }
     {
-        self.sent.is_none() && self.is_due(interest, catalogue) && !self.repeats(interest, catalogue)
+        self.sent.is_none()
+            && self.is_due(interest, catalogue)
+            && !self.repeats(interest, catalogue)
     }
 
     // Whether the offer of the next response is the one that was refused last.

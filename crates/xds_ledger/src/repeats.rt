@@ -52,7 +52,10 @@ fn agrees<T: ResourceType>(
     ensures { result ≡ agrees refused.now variant T.TYPE interest.now catalogue.now.entries beliefs.now name.now }
 {
     let stamp = present(interest, catalogue, name);
-    match (said_of(variant, T::TYPE, beliefs.get(name), stamp), refused.get(name)) {
+    match (
+        said_of(variant, T::TYPE, beliefs.get(name), stamp),
+        refused.get(name),
+    ) {
         (Saying::Nothing, None) => true,
         (Saying::Stated(stamp), Some(Due::Stated(version))) => version.is_of(stamp),
         (Saying::Removed, Some(Due::Removed)) => true,
@@ -110,14 +113,7 @@ fn agrees_where_held<T: ResourceType>(
 {
     let mut after = 0;
     while let Some((number, write)) = catalogue.next_change(after) {
-        if !agrees(
-            refused,
-            variant,
-            interest,
-            catalogue,
-            beliefs,
-            write.name(),
-        ) {
+        if !agrees(refused, variant, interest, catalogue, beliefs, write.name()) {
             return false;
         }
         after = number;

@@ -1,9 +1,9 @@
 // Worked runs of the program, over readers and writers in memory and over some that fail.
-use xds_cases::cases::{Outcome, hold, replaced, words_of, written_out};
 use std::alloc::Global;
 use std::io;
 use std::io::{ErrorKind, Read, Write};
 use std::test::Fail;
+use xds_cases::cases::{Outcome, hold, replaced, words_of, written_out};
 use xds_program::run::run;
 use xds_program::{Counted, LineFault, answer_lines};
 use xds_resource::Refusal;

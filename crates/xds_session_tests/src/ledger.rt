@@ -1,8 +1,8 @@
 // What a client of clusters was told and is owed, by scripts over a ledger of either variant.
-use xds_cases::cases::words_of;
-use xds_cases::scripts::{either, follow, Script};
 use std::alloc::Global;
 use std::test::Fail;
+use xds_cases::cases::words_of;
+use xds_cases::scripts::{Script, either, follow};
 use xds_catalogue::Catalogue;
 use xds_interest::Interest;
 use xds_ledger::{

@@ -1,7 +1,7 @@
 // Sessions, by scripts of what replica 1 does, and what a client asks of it and is answered.
-use xds_cases::scripts::{either, follow, Script};
 use std::alloc::Global;
 use std::test::Fail;
+use xds_cases::scripts::{Script, either, follow};
 use xds_catalogue::Catalogue;
 use xds_ledger::{Nonces, Outcome};
 use xds_message::DiscoveryRequest;

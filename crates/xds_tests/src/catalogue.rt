@@ -1,8 +1,8 @@
 // What one replica holds, by scripts whose steps are apart by `; `, and what two replicas tell each other.
-use xds_cases::cases::{Outcome, first_word, hold, told, words_of};
 use crate::stamp::write_of;
 use std::alloc::Global;
 use std::test::Fail;
+use xds_cases::cases::{Outcome, first_word, hold, told, words_of};
 use xds_catalogue::Catalogue;
 use xds_interest::Interest;
 use xds_resource::{Cluster, Refusal, Resource, ResourceType, Route, Write};

@@ -1,7 +1,7 @@
 // What a client wants of one type.
-use xds_cases::cases::{Outcome, hold, words_of};
 use std::alloc::Global;
 use std::test::Fail;
+use xds_cases::cases::{Outcome, hold, words_of};
 use xds_interest::Interest;
 use xds_resource::{Cluster, Endpoint, Refusal, ResourceType, Route};
 

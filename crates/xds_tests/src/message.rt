@@ -1,8 +1,8 @@
 // Messages, with spellings from `discovery.proto` and the proto3 JSON mapping.
-use xds_cases::cases::{Outcome, hold, told};
 use serde_json::Value;
 use std::alloc::Global;
 use std::test::Fail;
+use xds_cases::cases::{Outcome, hold, told};
 use xds_message::{DiscoveryRequest, DiscoveryResponse};
 use xds_resource::Refusal;
 

@@ -1,8 +1,8 @@
 // Resources, and the types and refusals that tell of them.
-use xds_cases::cases::{Outcome, first_word, hold, told};
 use serde_json::Value;
 use std::alloc::Global;
 use std::test::Fail;
+use xds_cases::cases::{Outcome, first_word, hold, told};
 use xds_resource::{
     AnyResource, Cluster, Endpoint, Listener, Refusal, Resource, ResourceType, Route, TypeName,
 };

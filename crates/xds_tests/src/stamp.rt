@@ -1,9 +1,9 @@
 // Stamps and version texts, and the order of writes.
-use xds_cases::cases::{Outcome, first_word, hold, told};
 use std::alloc::Global;
 use std::cmp::Ordering;
 use std::sync::ArcStr;
 use std::test::Fail;
+use xds_cases::cases::{Outcome, first_word, hold, told};
 use xds_resource::stamp::MAX_COUNTER;
 use xds_resource::{Cluster, Refusal, Resource, ResourceType, Stamp, Write};
 

@@ -1,7 +1,7 @@
 // What a stream's requests leave of an interest, and the names that they touch, request by request.
-use xds_cases::cases::{Outcome, hold, words_of};
 use std::alloc::{AllocError, Global};
 use std::test::Fail;
+use xds_cases::cases::{Outcome, hold, words_of};
 use xds_interest::{DeltaNames, Interest, SotwNames, Touched};
 use xds_resource::{Cluster, Refusal, ResourceType, Route};
 

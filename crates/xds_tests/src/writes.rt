@@ -1,7 +1,7 @@
 // The stamped writes that replicas exchange.
-use xds_cases::cases::{Outcome, hold, told};
 use std::alloc::Global;
 use std::test::Fail;
+use xds_cases::cases::{Outcome, hold, told};
 use xds_message::{read_write, write_object};
 use xds_resource::Refusal;
 
