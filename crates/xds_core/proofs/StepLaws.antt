@@ -194,21 +194,21 @@ unless_late : {A : Type 0} (a b d : Bool) (e f g : Refusal) (x y : A) → (if a 
 unless_late true b d e f g x y is = absurd cc
 unless_late false b d e f g x y is = unless_at b d f g x y is
 
-unless_once : {A : Type 0} (a : Bool) (e : Refusal) (x y : A) → (if a then Err e else Ok x) ≡ Ok y → y ≡ x
+pub unless_once : {A : Type 0} (a : Bool) (e : Refusal) (x y : A) → (if a then Err e else Ok x) ≡ Ok y → y ≡ x
 unless_once true e x y is = absurd cc
 unless_once false e x y is = cc
 
-done_with : {X Y : Type 0} (f : X → Y) (r : Result X Refusal) (y : Y) → if_done f r ≡ Ok y → (x : X) × (r ≡ Ok x) × (y ≡ f x)
+pub done_with : {X Y : Type 0} (f : X → Y) (r : Result X Refusal) (y : Y) → if_done f r ≡ Ok y → (x : X) × (r ≡ Ok x) × (y ≡ f x)
 done_with f (Ok x) y is = (x, refl, cc)
 done_with f (Err e) y is = absurd cc
 
-put_is : (p : Store) (t : TypeName) (r : NamedBody) (writer : ℕ) (q : ℕ × Store) → putting_at p t r writer ≡ Ok q → (q.0 ≡ next_counter (at p t)) × (q.1 ≡ with_at p t (joined (at p t) (written (next_counter (at p t)) writer r ∷ [])))
+pub put_is : (p : Store) (t : TypeName) (r : NamedBody) (writer : ℕ) (q : ℕ × Store) → putting_at p t r writer ≡ Ok q → (q.0 ≡ next_counter (at p t)) × (q.1 ≡ with_at p t (joined (at p t) (written (next_counter (at p t)) writer r ∷ [])))
 put_is p t r writer q is =
     let made = done_with (λ x. (x.0, with_at p t x.1)) (putting (at p t) r writer) q is in
     let which = unless_at (greatest_counter (at p t).entries == max_counter) ((at p t).changes == max_counter) CounterSpent CounterSpent (next_counter (at p t), joined (at p t) (written (next_counter (at p t)) writer r ∷ [])) made.0 made.1 in
     (ap (λ x. x.0) made.2 ∙ ap (λ x. x.0) which, ap (λ x. x.1) made.2 ∙ ap (λ x. with_at p t x.1) which)
 
-delete_is : (p : Store) (t : TypeName) (name : List ℕ) (writer : ℕ) (q : ℕ × Store) → deleting_at p t name writer ≡ Ok q → (q.0 ≡ next_counter (at p t)) × (q.1 ≡ with_at p t (joined (at p t) (deleted (next_counter (at p t)) writer name ∷ [])))
+pub delete_is : (p : Store) (t : TypeName) (name : List ℕ) (writer : ℕ) (q : ℕ × Store) → deleting_at p t name writer ≡ Ok q → (q.0 ≡ next_counter (at p t)) × (q.1 ≡ with_at p t (joined (at p t) (deleted (next_counter (at p t)) writer name ∷ [])))
 delete_is p t name writer q is =
     let made = done_with (λ x. (x.0, with_at p t x.1)) (deleting (at p t) name writer) q is in
     let which = unless_late (not (has_live (at p t).entries name)) (greatest_counter (at p t).entries == max_counter) ((at p t).changes == max_counter) NotFound CounterSpent CounterSpent (next_counter (at p t), joined (at p t) (deleted (next_counter (at p t)) writer name ∷ [])) made.0 made.1 in

@@ -1,0 +1,3 @@
+pub mod Replicas
+pub mod Origins
+pub mod Journals

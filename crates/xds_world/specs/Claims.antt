@@ -1,0 +1,95 @@
+-- What the headline says: when a client is settled, and that it shows then exactly what its replica knows. This project's own.
+use Rattle.std.specs.Prelude.{◌≡◌, ◌↔◌, ℕ, List, [], map, Bool, true, false, ◌&&◌, not, if◌then◌else◌, bytes_eq, Option, Some, None, option_map}
+use Rattle.std.specs.Option.{option_map_or, option_and_then}
+use Rattle.std.specs.List.{Contains, filter, list_any}
+use Rattle.std.specs.FinMap as finmap
+use Rattle.xds_resource.specs.declared.types.TypeName.{TypeName}
+use Rattle.xds_resource.specs.Types.{row, is_same_type}
+use Rattle.xds_resource.specs.PerType.{at}
+use Rattle.xds_resource.specs.Best.{best}
+use Rattle.xds_resource.specs.Writes.{StampedWrite, version_of}
+use Rattle.xds_catalogue.specs.Holdings.{catalogue_of}
+use Rattle.xds_draft.specs.DraftTexts.{kind_of}
+use Rattle.xds_core.specs.Streams.{Message, url_of, owes_of}
+use Rattle.xds_core.specs.Steps.{fresh as fresh_core}
+use Rattle.xds_core.specs.Legal.{IsLegal, replayed}
+use Rattle.xds_cache.specs.Shelves.{Cache, Holding, Wants, is_wanted}
+use Rattle.xds_cache.specs.Clients as clients
+use Rattle.xds_cache.specs.Faults.{Test}
+use Rattle.xds_world.specs.Happenings.{Delta, Happening}
+use Rattle.xds_world.specs.Worlds.{World, Site, Peer, Link, empty_world, world}
+use Rattle.xds_world.specs.Knows.{TypedWrite, knows, wants, link, made_after}
+
+-- ---- settled
+
+abbrev pub asks_for : TypeName → Message → Bool
+asks_for t m = bytes_eq (url_of m) (row t).url
+
+-- whether nothing of the type is under way, either way
+abbrev pub is_quiet : TypeName → Link → Bool
+is_quiet t l = not (list_any (asks_for t) l.up) && not (list_any (λ d. is_same_type (kind_of d) t) l.down)
+
+-- whether a replica owes nothing of the type on a stream
+abbrev pub owes_nothing : TypeName → ℕ → Site → Bool
+owes_nothing t stream s = option_map_or (λ x. not (owes_of s.core.store x t)) (finmap.get s.core.streams stream) false
+
+abbrev pub is_settled_on : World → TypeName → Link → Bool
+is_settled_on w t l = is_quiet t l && option_map_or (owes_nothing t l.stream) (finmap.get w.sites l.replica) false
+
+-- Whether a client is settled of a type: it is up, nothing of the type is under way, and its replica owes it nothing of the type.
+abbrev pub is_settled : World → ℕ → TypeName → Bool
+is_settled w c t = option_map_or (λ p. option_map_or (is_settled_on w t) p.link false) (finmap.get w.peers c) false
+
+-- ---- exact
+
+-- the writes of the type
+abbrev pub writes_of : TypeName → List TypedWrite → List StampedWrite
+writes_of t ws = map (λ x. x.1) (filter (λ x. is_same_type x.0 t) ws)
+
+-- what is held of a write that puts a resource
+abbrev pub holding_of : StampedWrite → Option Holding
+holding_of w = option_map (λ body. record { version = version_of w; body = body }) w.body
+
+-- what is live of a name among these writes
+abbrev pub live_at : List StampedWrite → List ℕ → Option Holding
+live_at ws name = option_and_then holding_of (best ws name)
+
+-- what a client that wants these is to show of a name
+abbrev pub content_at : TypeName → List StampedWrite → Wants → List ℕ → Option Holding
+content_at t ws w name = if is_wanted t w name then live_at ws name else None
+
+-- a view shows exactly what is wanted of what is live
+abbrev pub IsExact : TypeName → List StampedWrite → Wants → Cache → Type 0
+IsExact t ws w view = (name : List ℕ) → finmap.get view name ≡ content_at t ws w name
+
+-- ---- the headline
+
+-- the replicas' half: what a replica holds are the best writes of what it knows
+abbrev pub HoldsWhatItKnows : Test → List Happening → Type 0
+HoldsWhatItKnows test hs = (r : ℕ) (s : Site) (t : TypeName) → finmap.get (world test hs).sites r ≡ Some s → (at s.core.store t).entries ≡ catalogue_of (writes_of t (knows test hs r))
+
+-- the clients' half, for delta clients
+abbrev pub SettledIsExact : Test → List Happening → Type 0
+SettledIsExact test hs =
+    (c r : ℕ) (p : Peer) (t : TypeName) → finmap.get (world test hs).peers c ≡ Some p → p.kind ≡ Delta → link test hs c ≡ Some r → is_settled (world test hs) c t ≡ true
+    → IsExact t (writes_of t (knows test hs r)) (wants test hs c t) (clients.view p.client t)
+
+-- replicas that know the same writes hold the same, whatever came in which order and how often
+abbrev pub SameKnowledgeSameHoldings : Test → List Happening → Type 0
+SameKnowledgeSameHoldings test hs =
+    (r q : ℕ) (a b : Site) (t : TypeName) → finmap.get (world test hs).sites r ≡ Some a → finmap.get (world test hs).sites q ≡ Some b
+    → ((w : StampedWrite) → Contains (writes_of t (knows test hs r)) w ↔ Contains (writes_of t (knows test hs q)) w) → (at a.core.store t).entries ≡ (at b.core.store t).entries
+
+-- all writes that were made
+abbrev pub all_made : Test → List Happening → List TypedWrite
+all_made test hs = made_after test empty_world [] hs
+
+-- what is known was made somewhere, and a stamp names one write of a type
+abbrev pub OneWriteAStamp : Test → List Happening → Type 0
+OneWriteAStamp test hs =
+    ((r : ℕ) (x : TypedWrite) → Contains (knows test hs r) x → Contains (all_made test hs) x)
+    × ((x y : TypedWrite) → Contains (all_made test hs) x → Contains (all_made test hs) y → x.0 ≡ y.0 → x.1.counter ≡ y.1.counter → x.1.writer ≡ y.1.writer → x ≡ y)
+
+-- each replica's journal is legal from a replica at which nothing happened, and what the replica is now is what it leaves
+abbrev pub JournalsAreLegal : Test → List Happening → Type 0
+JournalsAreLegal test hs = (r : ℕ) (s : Site) → finmap.get (world test hs).sites r ≡ Some s → IsLegal (fresh_core r) s.journal × (replayed (fresh_core r) s.journal ≡ s.core)

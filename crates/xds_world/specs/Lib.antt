@@ -1,0 +1,4 @@
+pub mod Happenings
+pub mod Worlds
+pub mod Knows
+pub mod Claims

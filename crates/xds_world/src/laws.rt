@@ -1,0 +1,21 @@
+// Laws of worlds, over every list of what may happen. Each is a function that does nothing, whose clause is the law.
+ghost use Rattle.std.specs.Prelude.{List};
+ghost use Rattle.xds_cache.specs.Faults.{Test};
+ghost use Rattle.xds_world.specs.Happenings.{Happening};
+ghost use Rattle.xds_world.specs.Claims.{HoldsWhatItKnows, SameKnowledgeSameHoldings, OneWriteAStamp, JournalsAreLegal};
+
+/// What a replica holds are the best writes of what it knows, so replicas that know the same writes hold the same.
+pub fn replicas_hold_what_they_know()
+    ensures holds { (test : Test) (hs : List Happening) → HoldsWhatItKnows test hs }
+    ensures same { (test : Test) (hs : List Happening) → SameKnowledgeSameHoldings test hs }
+{}
+
+/// What is known was made at some replica, and no two writes of a type have the same stamp.
+pub fn a_stamp_names_one_write()
+    ensures { (test : Test) (hs : List Happening) → OneWriteAStamp test hs }
+{}
+
+/// Each replica's journal is legal, and the replica is what the journal leaves.
+pub fn journals_are_legal()
+    ensures { (test : Test) (hs : List Happening) → JournalsAreLegal test hs }
+{}

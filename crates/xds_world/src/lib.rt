@@ -1,0 +1,4 @@
+// A world of replicas and clients: what may happen in it, and what holds of it whatever does.
+#![tactic(auto)]
+
+pub mod laws;
