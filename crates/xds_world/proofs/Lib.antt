@@ -1,3 +1,4 @@
 pub mod Replicas
 pub mod Origins
 pub mod Journals
+pub mod Folding
