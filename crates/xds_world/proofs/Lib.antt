@@ -1,4 +1,3 @@
 pub mod Replicas
 pub mod Origins
 pub mod Journals
-pub mod Folding
