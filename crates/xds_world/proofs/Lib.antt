@@ -1,5 +1,3 @@
 pub mod Replicas
 pub mod Origins
 pub mod Journals
-pub mod Folding
-pub mod ByOneName
