@@ -41,7 +41,10 @@ impl Sent for DeltaDiscoveryRequest {
 }
 
 /// The text of a request, or the refusal.
-pub fn answered<Q: Sent>(alloc: Global, sent: Result<Q, Refusal>) -> Result<String, Refusal> {
+pub(crate) fn answered<Q: Sent>(
+    alloc: Global,
+    sent: Result<Q, Refusal>,
+) -> Result<String, Refusal> {
     match sent {
         Ok(request) => request.text(alloc),
         Err(refusal) => Ok(refusal.to_string(alloc)?),
@@ -49,7 +52,7 @@ pub fn answered<Q: Sent>(alloc: Global, sent: Result<Q, Refusal>) -> Result<Stri
 }
 
 /// The text of a request, `none` where there is none, or the refusal.
-pub fn perhaps_answered<Q: Sent>(
+pub(crate) fn perhaps_answered<Q: Sent>(
     alloc: Global,
     sent: Result<Option<Q>, Refusal>,
 ) -> Result<String, Refusal> {
@@ -61,7 +64,7 @@ pub fn perhaps_answered<Q: Sent>(
 }
 
 /// The texts of the requests, apart by spaces.
-pub fn joined<Q: Sent>(alloc: Global, requests: &[Q]) -> Result<String, Refusal> {
+pub(crate) fn joined<Q: Sent>(alloc: Global, requests: &[Q]) -> Result<String, Refusal> {
     let mut all = String::new(alloc);
     for request in requests {
         add(&mut all, request.text(alloc)?.as_str())?;
@@ -70,7 +73,7 @@ pub fn joined<Q: Sent>(alloc: Global, requests: &[Q]) -> Result<String, Refusal>
 }
 
 /// The words of a text.
-pub fn words_of(alloc: Global, text: &str) -> Result<Vec<String>, AllocError> {
+pub(crate) fn words_of(alloc: Global, text: &str) -> Result<Vec<String>, AllocError> {
     let mut words = Vec::new(alloc);
     for word in text.split_whitespace() {
         words.push(String::from_str(alloc, word)?)?;
@@ -155,7 +158,7 @@ fn written_out(alloc: Global, text: &str) -> Result<String, AllocError> {
 }
 
 /// What a client answers to one step. `CDS`, `EDS`, `LDS` and `RDS` stand for the URLs of the types.
-pub fn ask<P: Player>(alloc: Global, player: &mut P, step: &str) -> Result<String, Fail> {
+pub(crate) fn ask<P: Player>(alloc: Global, player: &mut P, step: &str) -> Result<String, Fail> {
     let step = written_out(alloc, step)?;
     Ok(told(alloc, player, step.as_str())?)
 }
@@ -180,7 +183,7 @@ fn play_line<P: Player, R: Abort + AllocGlobal>(
 }
 
 /// Plays a script on with a client.
-pub fn play_on<P: Player, R: Abort + AllocGlobal>(
+pub(crate) fn play_on<P: Player, R: Abort + AllocGlobal>(
     rt: &R,
     player: &mut P,
     script: &str,
@@ -192,7 +195,7 @@ pub fn play_on<P: Player, R: Abort + AllocGlobal>(
 }
 
 /// Plays a script with a new client.
-pub fn play<P: Player, R: Abort + AllocGlobal>(rt: &R, script: &str) -> Result<(), Fail> {
+pub(crate) fn play<P: Player, R: Abort + AllocGlobal>(rt: &R, script: &str) -> Result<(), Fail> {
     let mut player = P::new(rt.alloc())?;
     play_on(rt, &mut player, script)
 }

@@ -14,7 +14,7 @@ pub struct Actor {
 
 impl Actor {
     /// The first replica.
-    pub fn new(alloc: Global) -> Actor {
+    pub(crate) fn new(alloc: Global) -> Actor {
         Actor {
             core: Core::new(alloc, 1),
         }
@@ -22,7 +22,7 @@ impl Actor {
 
     /// What is answered to a step: an event, or a look at what is `due` or `owed` to a stream, at the `marks` of all types
     /// or at the `entries` of one.
-    pub fn answer(&mut self, alloc: Global, step: &str) -> Result<String, Refusal> {
+    pub(crate) fn answer(&mut self, alloc: Global, step: &str) -> Result<String, Refusal> {
         let (verb, rest) = step.split_once(' ').unwrap_or((step, ""));
         match verb {
             "marks" => told_marks(alloc, self.core.marks()),

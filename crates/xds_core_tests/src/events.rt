@@ -7,7 +7,7 @@ use xds_resource::{AnyResource, Refusal, TypeName};
 
 /// The event of `open`, `sotw STREAM MESSAGE`, `delta STREAM MESSAGE`, `poll STREAM [TYPE]`, `owes STREAM [TYPE]`,
 /// `close STREAM`, `put RESOURCE`, `delete TYPE NAME`, `merge [WRITE ..]` or `snapshot`.
-pub fn event_of(alloc: Global, verb: &str, rest: &str) -> Result<Event, Refusal> {
+pub(crate) fn event_of(alloc: Global, verb: &str, rest: &str) -> Result<Event, Refusal> {
     match verb {
         "open" => Ok(Event::Open),
         "snapshot" => Ok(Event::Snapshot),
@@ -80,7 +80,7 @@ fn parted(text: &str) -> (&str, &str) {
 }
 
 /// The stream, and perhaps the type, of `STREAM [TYPE]`.
-pub fn stream_of(text: &str) -> Result<(u64, Option<TypeName>), Refusal> {
+pub(crate) fn stream_of(text: &str) -> Result<(u64, Option<TypeName>), Refusal> {
     let (number, kind) = parted(text);
     let number = number_of(number)?;
     if kind.is_empty() {
@@ -90,10 +90,10 @@ pub fn stream_of(text: &str) -> Result<(u64, Option<TypeName>), Refusal> {
     Ok((number, Some(kind)))
 }
 
-pub fn number_of(text: &str) -> Result<u64, Refusal> {
+pub(crate) fn number_of(text: &str) -> Result<u64, Refusal> {
     text.parse::<u64>().or(Err(Refusal::BadScript))
 }
 
-pub fn type_of(word: &str) -> Result<TypeName, Refusal> {
+pub(crate) fn type_of(word: &str) -> Result<TypeName, Refusal> {
     TypeName::from_word(word).ok_or(Refusal::BadScript)
 }

@@ -6,12 +6,12 @@ use xds_ledger::Outcome;
 use xds_resource::Refusal;
 
 /// A text of its own.
-pub fn text(alloc: Global, text: &str) -> Result<String, Refusal> {
+pub(crate) fn text(alloc: Global, text: &str) -> Result<String, Refusal> {
     Ok(String::from_str(alloc, text)?)
 }
 
 /// The text of a reply, or of a refusal. That no memory was found is no answer, but ends the test.
-pub fn told(alloc: Global, answer: Result<Reply, Refusal>) -> Result<String, Refusal> {
+pub(crate) fn told(alloc: Global, answer: Result<Reply, Refusal>) -> Result<String, Refusal> {
     match answer {
         Ok(reply) => told_reply(alloc, reply),
         Err(Refusal::OutOfMemory) => Err(Refusal::OutOfMemory),
@@ -39,7 +39,7 @@ fn yes_or_no(answer: bool) -> &'static str {
 }
 
 /// The text of a look at a stream, which is `none` where it isn't open.
-pub fn told_look(alloc: Global, seen: Option<bool>) -> Result<String, Refusal> {
+pub(crate) fn told_look(alloc: Global, seen: Option<bool>) -> Result<String, Refusal> {
     match seen {
         Some(answer) => text(alloc, yes_or_no(answer)),
         None => text(alloc, "none"),
@@ -47,7 +47,7 @@ pub fn told_look(alloc: Global, seen: Option<bool>) -> Result<String, Refusal> {
 }
 
 /// The counts of changes, in the order of the types.
-pub fn told_marks(alloc: Global, marks: Marks) -> Result<String, Refusal> {
+pub(crate) fn told_marks(alloc: Global, marks: Marks) -> Result<String, Refusal> {
     let Marks {
         cluster,
         endpoint,

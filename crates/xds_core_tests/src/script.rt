@@ -6,13 +6,17 @@ use std::test::Fail;
 use xds_resource::TypeName;
 
 /// Plays a story at the first replica.
-pub fn play<R: Abort + AllocGlobal>(rt: &R, story: &str) -> Result<(), Fail> {
+pub(crate) fn play<R: Abort + AllocGlobal>(rt: &R, story: &str) -> Result<(), Fail> {
     let mut actor = Actor::new(rt.alloc());
     play_on(rt, &mut actor, story)
 }
 
 /// Plays a story on.
-pub fn play_on<R: Abort + AllocGlobal>(rt: &R, actor: &mut Actor, story: &str) -> Result<(), Fail> {
+pub(crate) fn play_on<R: Abort + AllocGlobal>(
+    rt: &R,
+    actor: &mut Actor,
+    story: &str,
+) -> Result<(), Fail> {
     for line in story.lines() {
         play_line(rt, actor, line)?;
     }
@@ -32,7 +36,7 @@ fn play_line<R: Abort + AllocGlobal>(rt: &R, actor: &mut Actor, line: &str) -> R
 }
 
 /// The text, with the types' URLs in place of their abbreviations.
-pub fn written_out(alloc: Global, text: &str) -> Result<String, AllocError> {
+pub(crate) fn written_out(alloc: Global, text: &str) -> Result<String, AllocError> {
     let text = replaced(alloc, text, "CDS", TypeName::Cluster.url())?;
     let text = replaced(alloc, text.as_str(), "EDS", TypeName::Endpoint.url())?;
     let text = replaced(alloc, text.as_str(), "LDS", TypeName::Listener.url())?;

@@ -4,7 +4,7 @@ use xds_message::{Batch, read_write, write_object};
 use xds_resource::{AnyWrite, Cluster, Endpoint, Listener, Refusal, Route, Write};
 
 /// The batch of the writes in a text.
-pub fn batch_of(alloc: Global, text: &str) -> Result<Batch, Refusal> {
+pub(crate) fn batch_of(alloc: Global, text: &str) -> Result<Batch, Refusal> {
     let mut batch = Batch::new(alloc);
     for part in text.split_whitespace() {
         push(&mut batch, read_write(alloc, part.as_bytes())?)?;
@@ -23,7 +23,7 @@ fn push(batch: &mut Batch, write: AnyWrite) -> Result<(), Refusal> {
 }
 
 /// The text of a batch, or `none` where it has no write.
-pub fn told_batch(alloc: Global, batch: Batch) -> Result<String, Refusal> {
+pub(crate) fn told_batch(alloc: Global, batch: Batch) -> Result<String, Refusal> {
     let mut all = String::new(alloc);
     add_clusters(alloc, &mut all, batch.cluster)?;
     add_endpoints(alloc, &mut all, batch.endpoint)?;

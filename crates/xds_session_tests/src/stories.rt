@@ -14,7 +14,7 @@ pub trait Actor {
 
 /// Compares the answer to each step with the one that is wanted, where the steps are done in their order. In a story
 /// `CDS` and `RDS` stand for the URLs of the types.
-pub fn hold<A: Actor + Drop, R: Abort + AllocGlobal>(
+pub(crate) fn hold<A: Actor + Drop, R: Abort + AllocGlobal>(
     rt: &R,
     replica: u16,
     story: &str,
@@ -35,12 +35,12 @@ pub fn hold<A: Actor + Drop, R: Abort + AllocGlobal>(
 }
 
 /// A text of its own.
-pub fn text(alloc: Global, text: &str) -> Result<String, Refusal> {
+pub(crate) fn text(alloc: Global, text: &str) -> Result<String, Refusal> {
     Ok(String::from_str(alloc, text)?)
 }
 
 /// What a step that changes a catalogue answers: the version of a local write, or by how much the changes grew.
-pub fn change<T: ResourceType>(
+pub(crate) fn change<T: ResourceType>(
     alloc: Global,
     catalogue: &mut Catalogue<T>,
     verb: &str,

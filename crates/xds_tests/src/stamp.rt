@@ -80,7 +80,7 @@ impl Outcome for Compared {
 }
 
 /// The write of a version that puts a body, or that deletes `a` where `-` stands in the body's place.
-pub fn write_of<T: ResourceType>(alloc: Global, given: &str) -> Result<Write<T>, Refusal> {
+pub(crate) fn write_of<T: ResourceType>(alloc: Global, given: &str) -> Result<Write<T>, Refusal> {
     let (version, body) = given.split_once(' ').ok_or(Refusal::BadMessage)?;
     let stamp = Stamp::parse_version(version)?;
     if body == "-" {
