@@ -16,9 +16,10 @@ use Rattle.xds_core.specs.Legal.{IsLegal, replayed}
 use Rattle.xds_cache.specs.Shelves.{Cache, Holding, Wants, is_wanted}
 use Rattle.xds_cache.specs.Clients as clients
 use Rattle.xds_cache.specs.Faults.{Test}
-use Rattle.xds_world.specs.Happenings.{Delta, Happening}
-use Rattle.xds_world.specs.Worlds.{World, Site, Peer, Link, empty_world, world}
-use Rattle.xds_world.specs.Knows.{TypedWrite, knows, wants, link, made_after}
+use Rattle.xds_model.specs.declared.event.ClientKind.TheVariants.{Delta}
+use Rattle.xds_model.specs.Happenings.{Happening}
+use Rattle.xds_model.specs.Worlds.{World, Site, Peer, Link, empty_world, world}
+use Rattle.xds_model.specs.Knows.{TypedWrite, knows, wants, link, made_after}
 
 -- ---- settled
 

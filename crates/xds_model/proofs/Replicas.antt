@@ -1,6 +1,6 @@
 -- The replicas' half of the headline: what a replica holds are the best writes of what it knows.
 use Rattle.std.proofs.Common.{◌≡◌, ◌≢◌, inl, inr, ℕ, zero, suc, List, [], ◌∷◌, ◌++◌, map, Bool, true, false, Option, Some, None, Result, Ok, Err, refl, sym, ap, subst, ◌∙◌, append-nil}
-use Rattle.std.specs.Prelude.{◌==◌, if◌then◌else◌, is_none, option_map, ⊤}
+use Rattle.std.specs.Prelude.{◌==◌, ◌&&◌, not, nat_lt, if◌then◌else◌, is_none, option_map, ⊤}
 use Rattle.std.specs.Option.{option_and_then, option_map_or}
 use Rattle.std.specs.List.{filter}
 use Rattle.std.specs.Ordering.{nat_cmp}
@@ -12,6 +12,7 @@ use Rattle.std.proofs.lemmas.Bool.{ne_eqb}
 use Rattle.std.proofs.lemmas.Bool.Decides.{eqb_tells}
 use Rattle.xds_resource.specs.declared.types.TypeName.{TypeName}
 use Rattle.xds_resource.specs.Types.{is_same_type}
+use Rattle.xds_resource.specs.Stamps.{max_writer}
 use Rattle.xds_resource.specs.PerType.{at, with_at, each}
 use Rattle.xds_resource.specs.declared.types.TypeName.TheVariants.{Cluster, Endpoint, Listener, Route}
 use Rattle.xds_resource.specs.declared.refusal.Refusal.{Refusal}
@@ -34,10 +35,10 @@ use Rattle.xds_core.specs.Steps.{Core, Step, step, fresh as fresh_core}
 use Rattle.xds_core.specs.Legal.{left_by}
 use Rattle.xds_core.specs.Laws.{is_write}
 use Rattle.xds_core.proofs.StepLaws.{only_writes_change_the_store, done_with, put_is, delete_is, unless_once}
-use Rattle.xds_world.specs.Worlds.{Site, Link, Peer, World, empty_world, recorded, answered_at, at_site, happened_at, placed, pooled, with_peer, new_peer, connected_to, opened, changed, wish_taken, under_way, polled, up_taken, received, taken_down, down_taken, on_link, happens, after}
-use Rattle.xds_world.specs.Knows.{TypedWrite, Knowledge, nothing_known, learning, learned, known_after, knows, made as made_of}
-use Rattle.xds_world.specs.Happenings.{Happening, AddReplica, AddClient, Put, Delete, Snapshot, Merge, Connect, Change, Up, Poll, Down, Lose}
-use Rattle.xds_world.specs.Claims.{writes_of, HoldsWhatItKnows, SameKnowledgeSameHoldings}
+use Rattle.xds_model.specs.Worlds.{Site, Link, Peer, World, empty_world, recorded, answered_at, at_site, happened_at, placed, pooled, with_peer, new_peer, connected_to, opened, changed, wish_taken, under_way, polled, up_taken, received, taken_down, down_taken, on_link, is_free, happens, after}
+use Rattle.xds_model.specs.Knows.{TypedWrite, Knowledge, nothing_known, learning, learned, known_after, knows, made as made_of}
+use Rattle.xds_model.specs.Happenings.{Happening, AddReplica, AddClient, Put, Delete, Snapshot, Merge, Connect, Change, Up, Poll, Down, Lose}
+use Rattle.xds_model.specs.Claims.{writes_of, HoldsWhatItKnows, SameKnowledgeSameHoldings}
 
 -- ---- writes of a type
 
@@ -113,6 +114,10 @@ mapped_some f (Some x) y is = (x, refl, sym (some_is (f x) y is))
 pub bound_some : {X Y : Type 0} (f : X → Option Y) (o : Option X) (y : Y) → option_and_then f o ≡ Some y → (x : X) × (o ≡ Some x) × (f x ≡ Some y)
 bound_some f None y is = absurd cc
 bound_some f (Some x) y is = (x, refl, is)
+
+pub both_parts : (a b : Bool) → (a && b) ≡ true → (a ≡ true) × (b ≡ true)
+both_parts true b is = (refl, is)
+both_parts false b is = absurd cc
 
 pub if_some : {X : Type 0} (b : Bool) (x y : X) → (if b then Some x else None) ≡ Some y → (b ≡ true) × (y ≡ x)
 if_some true x y is = (refl, sym (some_is x y is))
@@ -358,8 +363,8 @@ on_link_some w c f left is =
 -- whatever happens
 pub kept_step : (test : Test) (w left : World) (k : Knowledge) (h : Happening) → happens test w h ≡ Some left → Kept w k → Kept left (learned w h k)
 kept_step test w left k (AddReplica r) is kept =
-    let made = if_some (is_none (finmap.get w.sites r)) (record w { sites = finmap.insert w.sites r (record { core = fresh_core r; journal = [] }) }) left is in
-    subst (λ x. Kept x k) (sym made.1) (added_kept w k r (none_there (finmap.get w.sites r) made.0) kept)
+    let made = if_some (is_free w r) (record w { sites = finmap.insert w.sites r (record { core = fresh_core r; journal = [] }) }) left is in
+    subst (λ x. Kept x k) (sym made.1) (added_kept w k r (none_there (finmap.get w.sites r) (both_parts (nat_lt 0 r && not (nat_lt max_writer r)) (is_none (finmap.get w.sites r)) made.0).1) kept)
 kept_step test w left k (AddClient c kind) is kept =
     let made = if_some (is_none (finmap.get w.peers c)) (with_peer w c (new_peer c kind)) left is in
     moved w left k (finmap.insert w.peers c (new_peer c kind), made.1) kept

@@ -10,11 +10,11 @@ use Rattle.xds_core.specs.Events.{Event, Reply}
 use Rattle.xds_core.specs.Steps.{Core, step, fresh as fresh_core}
 use Rattle.xds_core.specs.Legal.{Record, IsLegal, replayed, answer_of, left_by, after as after_event}
 use Rattle.xds_cache.specs.Faults.{Test}
-use Rattle.xds_world.specs.Happenings.{Happening}
-use Rattle.xds_world.specs.Worlds.{Site, World, empty_world, recorded, happens, after}
-use Rattle.xds_world.specs.Claims.{JournalsAreLegal}
-use Rattle.xds_world.proofs.Replicas.{answered, some_is, never}
-use Rattle.xds_world.proofs.Origins.{SitesCome, sites_come}
+use Rattle.xds_model.specs.Happenings.{Happening}
+use Rattle.xds_model.specs.Worlds.{Site, World, empty_world, recorded, happens, after}
+use Rattle.xds_model.specs.Claims.{JournalsAreLegal}
+use Rattle.xds_model.proofs.Replicas.{answered, some_is, never}
+use Rattle.xds_model.proofs.Origins.{SitesCome, sites_come}
 
 -- a journal with one record more
 legal_more : (c : Core) (rs : List Record) (r : Record) → IsLegal c rs → answer_of (step (replayed c rs) r.event) ≡ r.answer → IsLegal c (rs ++ r ∷ [])

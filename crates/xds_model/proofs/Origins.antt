@@ -30,11 +30,11 @@ use Rattle.xds_core.specs.Stores.{putting_at, deleting_at}
 use Rattle.xds_core.specs.Legal.{left_by}
 use Rattle.xds_core.proofs.StepLaws.{done_with, put_is, delete_is, number_stays}
 use Rattle.xds_cache.specs.Faults.{Test}
-use Rattle.xds_world.specs.Happenings.{Happening, AddReplica, AddClient, Put, Delete, Snapshot, Merge, Connect, Change, Up, Poll, Down, Lose}
-use Rattle.xds_world.specs.Worlds.{Site, Link, Peer, World, empty_world, recorded, at_site, happened_at, placed, pooled, with_peer, new_peer, opened, changed, wish_taken, polled, up_taken, received, taken_down, down_taken, happens, after}
-use Rattle.xds_world.specs.Knows.{TypedWrite, Knowledge, nothing_known, learning, learned, known_after, made_now, made_after, made as made_of}
-use Rattle.xds_world.specs.Claims.{writes_of, OneWriteAStamp}
-use Rattle.xds_world.proofs.Replicas.{Kept, kept_start, kept_step, answered, some_is, never, mapped_some, bound_some, if_some, if_then, on_link_some, IsOf, opened_is, polled_is}
+use Rattle.xds_model.specs.Happenings.{Happening, AddReplica, AddClient, Put, Delete, Snapshot, Merge, Connect, Change, Up, Poll, Down, Lose}
+use Rattle.xds_model.specs.Worlds.{Site, Link, Peer, World, empty_world, recorded, at_site, happened_at, placed, pooled, with_peer, new_peer, opened, changed, wish_taken, polled, up_taken, received, taken_down, down_taken, is_free, happens, after}
+use Rattle.xds_model.specs.Knows.{TypedWrite, Knowledge, nothing_known, learning, learned, known_after, made_now, made_after, made as made_of}
+use Rattle.xds_model.specs.Claims.{writes_of, OneWriteAStamp}
+use Rattle.xds_model.proofs.Replicas.{Kept, kept_start, kept_step, answered, some_is, never, mapped_some, bound_some, if_some, if_then, on_link_some, IsOf, opened_is, polled_is}
 
 -- ---- lists
 
@@ -272,7 +272,7 @@ down_come test w left c p l (d ∷ rest) is = let made = mapped_some (λ q. with
 
 pub sites_come : (test : Test) (w left : World) (h : Happening) → happens test w h ≡ Some left → SitesCome w left
 sites_come test w left (AddReplica r) is =
-    inl (r, ap (λ x. x.sites) (if_some (is_none (finmap.get w.sites r)) (record w { sites = finmap.insert w.sites r (record { core = fresh_core r; journal = [] }) }) left is).1)
+    inl (r, ap (λ x. x.sites) (if_some (is_free w r) (record w { sites = finmap.insert w.sites r (record { core = fresh_core r; journal = [] }) }) left is).1)
 sites_come test w left (AddClient c kind) is = inr (inr (ap (λ x. x.sites) (if_some (is_none (finmap.get w.peers c)) (with_peer w c (new_peer c kind)) left is).1))
 sites_come test w left (Put r t body) is = let made = mapped_some (λ p. p.1) (at_site w r (events.Put t body)) left is in inr (inl (r, events.Put t body, made.0, made.1, ap (λ x. x.sites) made.2))
 sites_come test w left (Delete r t name) is = let made = mapped_some (λ p. p.1) (at_site w r (events.Delete t name)) left is in inr (inl (r, events.Delete t name, made.0, made.1, ap (λ x. x.sites) made.2))

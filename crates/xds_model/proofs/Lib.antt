@@ -1,3 +1,5 @@
 pub mod Replicas
 pub mod Origins
 pub mod Journals
+pub mod Folding
+pub mod ByOneName

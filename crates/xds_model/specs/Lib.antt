@@ -1,4 +1,5 @@
 pub mod Happenings
+pub mod Seen
 pub mod Worlds
 pub mod Knows
 pub mod Claims

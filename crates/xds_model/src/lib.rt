@@ -1,4 +1,7 @@
 // A world of replicas and clients: what may happen in it, and what holds of it whatever does.
 #![tactic(auto)]
 
+pub mod event;
 pub mod laws;
+
+pub use event::{ClientKind, Wish, WorldEvent};

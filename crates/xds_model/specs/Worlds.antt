@@ -1,11 +1,12 @@
 -- A world: replicas with their journals, clients with their streams and all that is under way on them, and the batches that were
 -- taken. What happens in it is one function; what isn't possible, or is refused, changes nothing. This project's own.
-use Rattle.std.specs.Prelude.{ℕ, zero, suc, List, [], ◌∷◌, ◌++◌, map, Bool, false, if◌then◌else◌, Option, Some, None, is_none, is_some, option_map, Ok, Err, decimal}
+use Rattle.std.specs.Prelude.{ℕ, zero, suc, List, [], ◌∷◌, ◌++◌, map, Bool, false, ◌&&◌, if◌then◌else◌, Option, Some, None, is_none, is_some, option_map, Ok, Err, decimal, nat_lt, not}
 use Rattle.std.specs.Ordering.{nat_cmp}
 use Rattle.std.specs.Option.{option_and_then, option_map_or}
 use Rattle.std.specs.FinMap as finmap
 use Rattle.xds_resource.specs.declared.types.TypeName.{TypeName}
 use Rattle.xds_resource.specs.Types.{types}
+use Rattle.xds_resource.specs.Stamps.{max_writer}
 use Rattle.xds_draft.specs.declared.draft.Draft.{Draft}
 use Rattle.xds_draft.specs.declared.draft.Draft.TheVariants as drafts
 use Rattle.xds_draft.specs.Drafts.{message_of, delta_message_of}
@@ -22,7 +23,9 @@ use Rattle.xds_cache.specs.Clients as clients
 use Rattle.xds_cache.specs.Clients.{Client, linked, unlinked}
 use Rattle.xds_cache.specs.Sends.{sotw_first, delta_first, first_requests, is_greeted}
 use Rattle.xds_cache.specs.Receives.{Outcome, sotw_change, delta_change, sotw_receive, delta_receive}
-use Rattle.xds_world.specs.Happenings.{Kind, Sotw, Delta, Wish, Names, Edits, Happening, AddReplica, AddClient, Put, Delete, Snapshot, Merge, Connect, Change, Up, Poll, Down, Lose}
+use Rattle.xds_model.specs.declared.event.ClientKind.{ClientKind}
+use Rattle.xds_model.specs.declared.event.ClientKind.TheVariants.{Sotw, Delta}
+use Rattle.xds_model.specs.Happenings.{Wish, Names, Edits, Happening, AddReplica, AddClient, Put, Delete, Snapshot, Merge, Connect, Change, Up, Poll, Down, Lose}
 
 -- a replica, and what happened at it, with the answers
 pub record Site : Type 0 where
@@ -37,7 +40,7 @@ pub record Link : Type 0 where
   pub down : List Draft
 
 pub record Peer : Type 0 where
-  pub kind : Kind
+  pub kind : ClientKind
   pub client : Client
   -- none while the client is down
   pub link : Option Link
@@ -87,11 +90,11 @@ pooled r (reply, w) = None
 abbrev pub with_peer : World → ℕ → Peer → World
 with_peer w c p = record w { peers = finmap.insert w.peers c p }
 
-abbrev pub new_peer : ℕ → Kind → Peer
+abbrev pub new_peer : ℕ → ClientKind → Peer
 new_peer c kind = record { kind = kind; client = clients.fresh (decimal c); link = None }
 
 -- the requests at the start of a stream
-abbrev pub opening_requests : Kind → Client → List Message
+abbrev pub opening_requests : ClientKind → Client → List Message
 opening_requests Sotw c = map streams.Sotw (first_requests (sotw_first c) c false types)
 opening_requests Delta c = map streams.Delta (first_requests (delta_first c) c false types)
 
@@ -117,7 +120,7 @@ abbrev pub changed_by : {X : Type 0} → (X → Message) → Outcome (Option X) 
 changed_by tag (Ok p) = Some (p.0, option_map tag p.1)
 changed_by tag (Err refusal) = None
 
-abbrev pub wish_of : Kind → Peer → Bool → TypeName → Wish → Option (Client × Option Message)
+abbrev pub wish_of : ClientKind → Peer → Bool → TypeName → Wish → Option (Client × Option Message)
 wish_of Sotw p up t (Names names) = changed_by streams.Sotw (sotw_change up t (wants_of names) p.client)
 wish_of Sotw p up t (Edits subscribe unsubscribe) = None
 wish_of Delta p up t (Names names) = None
@@ -135,7 +138,7 @@ received_by tag (Ok p) = Some (p.0, tag p.1)
 received_by tag (Err refusal) = None
 
 -- a response of the other variant isn't taken
-abbrev pub received_in : Test → Kind → Client → Draft → Option (Client × Message)
+abbrev pub received_in : Test → ClientKind → Client → Draft → Option (Client × Message)
 received_in test Sotw c (drafts.Sotw d) = received_by streams.Sotw (sotw_receive test c (message_of d))
 received_in test Sotw c (drafts.Delta d) = None
 received_in test Delta c (drafts.Sotw d) = None
@@ -176,9 +179,13 @@ abbrev pub down_taken : Test → World → ℕ → Peer → Link → List Draft 
 down_taken test w c p l [] = None
 down_taken test w c p l (d ∷ rest) = option_map (λ q. with_peer w c (taken_down p l rest q)) (received test p d)
 
+-- whether a replica may come under this number: replicas have numbers from 1 to the greatest writer, each its own
+abbrev pub is_free : World → ℕ → Bool
+is_free w r = (nat_lt 0 r && not (nat_lt max_writer r)) && is_none (finmap.get w.sites r)
+
 -- The world after something happened; none where that isn't possible or is refused.
 abbrev pub happens : Test → World → Happening → Option World
-happens test w (AddReplica r) = if is_none (finmap.get w.sites r) then Some (record w { sites = finmap.insert w.sites r (record { core = fresh_core r; journal = [] }) }) else None
+happens test w (AddReplica r) = if is_free w r then Some (record w { sites = finmap.insert w.sites r (record { core = fresh_core r; journal = [] }) }) else None
 happens test w (AddClient c kind) = if is_none (finmap.get w.peers c) then Some (with_peer w c (new_peer c kind)) else None
 happens test w (Put r t body) = happened_at w r (events.Put t body)
 happens test w (Delete r t name) = happened_at w r (events.Delete t name)

@@ -2,11 +2,7 @@
 use Rattle.std.specs.Prelude.{ℕ, List, Option}
 use Rattle.xds_resource.specs.declared.types.TypeName.{TypeName}
 use Rattle.xds_resource.specs.Resources.{NamedBody}
-
--- what kind of client
-pub data Kind : Type 0 where
-  Sotw : Kind
-  Delta : Kind
+use Rattle.xds_model.specs.declared.event.ClientKind.{ClientKind}
 
 -- What a client is told to want of a type: state of the world, a list of all texts; delta, texts to subscribe and to unsubscribe.
 pub data Wish : Type 0 where
@@ -16,7 +12,7 @@ pub data Wish : Type 0 where
 -- Replicas and clients go by their numbers, batches by their place in the pool, from 1.
 pub data Happening : Type 0 where
   AddReplica : ℕ → Happening
-  AddClient : ℕ → Kind → Happening
+  AddClient : ℕ → ClientKind → Happening
   Put : ℕ → TypeName → NamedBody → Happening
   Delete : ℕ → TypeName → List ℕ → Happening
   Snapshot : ℕ → Happening

@@ -1,8 +1,8 @@
 // Laws of worlds, over every list of what may happen. Each is a function that does nothing, whose clause is the law.
 ghost use Rattle.std.specs.Prelude.{List};
 ghost use Rattle.xds_cache.specs.Faults.{Test};
-ghost use Rattle.xds_world.specs.Happenings.{Happening};
-ghost use Rattle.xds_world.specs.Claims.{HoldsWhatItKnows, SameKnowledgeSameHoldings, OneWriteAStamp, JournalsAreLegal};
+ghost use Rattle.xds_model.specs.Happenings.{Happening};
+ghost use Rattle.xds_model.specs.Claims.{HoldsWhatItKnows, SameKnowledgeSameHoldings, OneWriteAStamp, JournalsAreLegal};
 
 /// What a replica holds are the best writes of what it knows, so replicas that know the same writes hold the same.
 pub fn replicas_hold_what_they_know()
