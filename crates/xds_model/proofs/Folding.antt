@@ -41,7 +41,7 @@ pub taken_more : (t : TypeName) (s : Session) (ms : List DeltaRequest) (m : Delt
 taken_more t s [] m all last = (last, tt)
 taken_more t s (x ∷ ms) m all last = (all.0, taken_more t (take t s x) ms m all.1 last)
 
-take_is : (t : TypeName) (s : Session) (m : DeltaRequest) → is_taken s m.response_nonce ≡ true → take t s m ≡ taken Delta t s (answer_in m) (delta_names t s.asked (mention m) m.initial_resource_versions)
+pub take_is : (t : TypeName) (s : Session) (m : DeltaRequest) → is_taken s m.response_nonce ≡ true → take t s m ≡ taken Delta t s (answer_in m) (delta_names t s.asked (mention m) m.initial_resource_versions)
 take_is t s m is = ap (λ b. if b then taken Delta t s (answer_in m) (delta_names t s.asked (mention m) m.initial_resource_versions) else s) is
 
 unsettled : (t : TypeName) (a : Account) (nonce : List ℕ) (rejects : Bool) → a.sent ≡ None → settled Delta t a nonce rejects ≡ a
@@ -61,7 +61,7 @@ still_none t s m none =
     quiet_either (is_taken s m.response_nonce) (taken Delta t s (answer_in m) (delta_names t s.asked (mention m) m.initial_resource_versions)) s
     (taken_quiet t s (answer_in m) (delta_names t s.asked (mention m) m.initial_resource_versions) none) none
 
-never_stale : (b : Bool) → not (b && false) ≡ true
+pub never_stale : (b : Bool) → not (b && false) ≡ true
 never_stale true = refl
 never_stale false = refl
 

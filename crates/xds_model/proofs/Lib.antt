@@ -3,3 +3,5 @@ pub mod Origins
 pub mod Journals
 pub mod Folding
 pub mod ByOneName
+pub mod Lanes
+pub mod LaneSteps
