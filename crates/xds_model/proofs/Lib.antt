@@ -5,3 +5,4 @@ pub mod Folding
 pub mod ByOneName
 pub mod Lanes
 pub mod LaneSteps
+pub mod Delivering
