@@ -6,3 +6,5 @@ pub mod ByOneName
 pub mod Lanes
 pub mod LaneSteps
 pub mod Delivering
+pub mod Queues
+pub mod LinkSteps

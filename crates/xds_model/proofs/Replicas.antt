@@ -333,7 +333,7 @@ down_kept test w left k c p l (d ∷ rest) is kept =
     let made = mapped_some (λ q. with_peer w c (taken_down p l rest q)) (received test p d) left is in
     moved w left k (finmap.insert w.peers c (taken_down p l rest made.0), made.2) kept
 
-none_there : {X : Type 0} (o : Option X) → is_none o ≡ true → o ≡ None
+pub none_there : {X : Type 0} (o : Option X) → is_none o ≡ true → o ≡ None
 none_there None e = refl
 none_there (Some x) e = absurd cc
 
