@@ -149,7 +149,7 @@ awaits_touched all t n (Some sent) w after touched (Some d) same is = delivers_t
 star_stands : (t : TypeName) (w : Wants) → IsStarOfComplete t (asking t w)
 star_stands t w incomplete = list_any-is_star t (texts w) ∙ ap (λ c. c && has_name (texts w) star_text) incomplete
 
-kept_made : (all : List TypedWrite) (t : TypeName) (name : List ℕ) (wanted : Bool) (held : Option Holding) (h : Holding) → ((x : Holding) → held ≡ Some x → IsMade all t name x) → (if wanted then held else None) ≡ Some h → IsMade all t name h
+pub kept_made : (all : List TypedWrite) (t : TypeName) (name : List ℕ) (wanted : Bool) (held : Option Holding) (h : Holding) → ((x : Holding) → held ≡ Some x → IsMade all t name x) → (if wanted then held else None) ≡ Some h → IsMade all t name h
 kept_made all t name true held h old is = old h is
 kept_made all t name false held h old is = absurd cc
 

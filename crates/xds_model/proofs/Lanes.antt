@@ -155,7 +155,7 @@ none_left : (es : List (List ℕ × Unit {0})) → length es ≡ 0 → es ≡ []
 none_left [] is = refl
 none_left (e ∷ es) is = absurd cc
 
-no_texts : texts finmap.empty ≡ []
+pub no_texts : texts finmap.empty ≡ []
 no_texts = ap (map (λ e. e.0)) (none_left (finmap.entries {R = text_cmp} finmap.empty) (sym (finmap.len-entries {R = text_cmp} finmap.empty) ∙ finmap.len-empty text_cmp (Unit {0})))
 
 asked_again : (t : TypeName) (w : Wants) → delta_asked t (asking t w) (record { subscribe = []; unsubscribe = [] }) ≡ asking t w

@@ -8,3 +8,4 @@ pub mod LaneSteps
 pub mod Delivering
 pub mod Queues
 pub mod LinkSteps
+pub mod LinkTakes

@@ -55,7 +55,7 @@ use Rattle.xds_model.proofs.Queues.{lane_up, lane_up-append, of_type, of_own_typ
 
 -- ---- a request is taken
 
-url_type : (t : TypeName) → type_of_url (row t).url ≡ Some t
+pub url_type : (t : TypeName) → type_of_url (row t).url ≡ Some t
 url_type Cluster = refl
 url_type Endpoint = refl
 url_type Listener = refl
