@@ -2,7 +2,7 @@
 use Rattle.std.proofs.Common.{◌≡◌, ◌≢◌, ◌⊎◌, inl, inr, ℕ, zero, suc, ◌+◌, ◌≤◌, List, [], ◌∷◌, ◌++◌, map, Bool, true, false, cond, ◌&&◌, ◌||◌, not, Option, Some, None, Result, Ok, Err, refl, sym, ap, subst, ◌∙◌, append-nil, arith}
 use Rattle.std.specs.Prelude.{bytes_eq, if◌then◌else◌, is_some, is_none, option_map, Contains, ⊤}
 use Rattle.std.specs.Option.{option_map_or, option_and_then}
-use Rattle.std.specs.List.{cons_option}
+use Rattle.std.specs.List.{cons_option, list_any}
 use Rattle.std.specs.FinMap as finmap
 use Rattle.std.proofs.Math.Bool.{and-false}
 use Rattle.xds_resource.specs.declared.types.TypeName.{TypeName}
@@ -17,6 +17,7 @@ use Rattle.xds_resource.proofs.NameMaps.{same_names, get-tabulated, absent_key}
 use Rattle.xds_resource.proofs.TypesApart.{same_type, is_same_type-same, at-with_at, at-with_at_other, at-each}
 use Rattle.xds_interest.specs.Interests.{star_text}
 use Rattle.xds_interest.specs.SotW.{is_named}
+use Rattle.xds_interest.specs.Asked.{unasked, delta_asked, IsStarOfComplete}
 use Rattle.xds_message.specs.Messages.{Identity}
 use Rattle.xds_message.specs.DeltaMessages.{DeltaRequest}
 use Rattle.xds_draft.specs.declared.draft.Draft.{Draft}
@@ -24,12 +25,13 @@ use Rattle.xds_draft.specs.declared.draft.Draft.TheVariants as drafts
 use Rattle.xds_draft.specs.Drafts.{DraftedDelta, delta_message_of}
 use Rattle.xds_draft.specs.DraftTexts.{kind_of}
 use Rattle.xds_ledger.specs.declared.entry.Entry.{Entry}
+use Rattle.xds_ledger.specs.declared.entry.Entry.TheVariants.{Told}
 use Rattle.xds_ledger.specs.Ledgers.{nonce_text}
 use Rattle.xds_ledger.specs.Sessions.{Session, unopened, is_taken}
 use Rattle.xds_delta.specs.Polls.{take, mention}
 use Rattle.xds_core.specs.Streams as streams
 use Rattle.xds_core.specs.Streams.{Stream, Message, opening}
-use Rattle.xds_cache.specs.Shelves.{Wants, Holding, Cache, Shelf, texts, is_wanted, wants_some, wants_after, wanting, kept_of, connected, lost}
+use Rattle.xds_cache.specs.Shelves.{Wants, Holding, Cache, Shelf, texts, interest, is_wanted, wants_some, wants_after, wanting, kept_of, connected, lost, bare}
 use Rattle.xds_cache.specs.Faults.{Test}
 use Rattle.xds_cache.specs.Clients.{Client, shelf, with_shelf, node, is_sent, shelf_after, changing, changed, linked, unlinked, addressing, addressed, addressed_or, if_asked}
 use Rattle.xds_cache.specs.Deliveries.{delta_delivery, fault_in, delivered}
@@ -160,3 +162,323 @@ linked_down all test c l x d rest q down is linked =
       lanes = λ t.
           down_lane all test c l x is.draft rest t (same_type s t) (subst (λ ds. Lane all t (at x.sessions t) x.count (lane_up t l.up) (lane_down t ds) (shelf c t)) (down ∙ ap (λ k. k ∷ rest) is.is) (linked.lanes t));
     })
+
+-- ---- nothing wanted
+
+no_keys : (w : Wants) (ks : List (List ℕ)) → texts w ≡ ks → is_named ks ≡ false → (q : List ℕ) → finmap.get w q ≡ None
+no_keys w [] keys none q = absent_key w q (ap (λ ks. list_any (bytes_eq q) ks) keys)
+no_keys w (k ∷ ks) keys none q = absurd cc
+
+pub empty_wants : (w : Wants) → wants_some w ≡ false → w ≡ finmap.empty
+empty_wants w none = same_names w finmap.empty (λ q. no_keys w (texts w) refl none q ∙ sym (finmap.get-empty text_cmp q))
+
+pub nothing_wanted : (t : TypeName) (w : Wants) (q : List ℕ) → wants_some w ≡ false → is_wanted t w q ≡ false
+nothing_wanted t w q none = (λ i. is_some (absent q i) || ((row t).is_complete && is_some (absent star_text i))) ∙ and-false (row t).is_complete
+  where
+    absent : (n : List ℕ) → finmap.get w n ≡ None
+    absent n = no_keys w (texts w) refl none n
+
+-- ---- a type that wasn't asked for
+
+asks_none : (t : TypeName) (s : Session) (f : Shelf) → f.asked ≡ false → Asks t s f → (s ≡ unopened) × (wants_some f.wants ≡ false)
+asks_none t s f not_asked (inl asked) = let never : false ≡ true = sym not_asked ∙ asked.0 in absurd cc
+asks_none t s f not_asked (inr never) = (never.1, never.2)
+
+-- nothing is held, and nothing is believed
+pub abreast_unopened : (all : List TypedWrite) (t : TypeName) (f : Shelf) → f.asked ≡ false → wants_some f.wants ≡ false → ((q : List ℕ) → finmap.get f.cache q ≡ None) → Abreast all t unopened None f
+abreast_unopened all t f not_asked none empty = record {
+  asks = inr (not_asked, refl, none);
+  awaits = tt;
+  told = λ q v is. let never : None ≡ Some (Told v) = sym (finmap.get-empty text_cmp q) ∙ is in absurd cc;
+  none = λ q is. empty q;
+  within = λ q unwanted. empty q;
+  made = λ q h is. let never : None ≡ Some h = sym (empty q) ∙ is in absurd cc;
+}
+
+-- ---- Change
+
+-- what is under way and kept once the client wants something else of a type, and says so
+lane_changed : (all : List TypedWrite) (t : TypeName) (who : Option Identity) (subscribe unsubscribe : Wants) (s : Session) (count : ℕ) (ups : List DeltaRequest) (downs : List Draft) (f : Shelf) → f.asked ≡ true → Lane all t s count ups downs f
+    → Lane all t s count (ups ++ delta_request t who subscribe unsubscribe finmap.empty ∷ []) downs (wanting t (wants_after subscribe unsubscribe f.wants) true f)
+lane_changed all t who subscribe unsubscribe s count ups downs f asked lane =
+    let q : DeltaRequest = delta_request t who subscribe unsubscribe finmap.empty in
+    record {
+      down = lane.down;
+      downs_are = lane.downs_are;
+      stands = lane.stands;
+      taken = taken_more t s ups q lane.taken (taken_if_plain (folded t s ups));
+      numbered = all_numbered-append count ups (q ∷ []) lane.numbered ((zero, omega arith, refl), tt);
+      answered = lane.answered;
+      abreast = subst (λ x. Abreast all t x lane.down (wanting t (wants_after subscribe unsubscribe f.wants) true f)) (sym (folded_more t s ups q)) (abreast_changed all t who subscribe unsubscribe (folded t s ups) lane.down f asked lane.abreast);
+    }
+
+-- the same for the first time on its stream
+lane_asked : (all : List TypedWrite) (t : TypeName) (who : Option Identity) (subscribe unsubscribe : Wants) (s : Session) (count : ℕ) (ups : List DeltaRequest) (downs : List Draft) (f : Shelf) → f.asked ≡ false
+    → wants_some (wants_after subscribe unsubscribe f.wants) ≡ true → Lane all t s count ups downs f
+    → Lane all t s count (ups ++ delta_request t who subscribe unsubscribe finmap.empty ∷ []) downs (wanting t (wants_after subscribe unsubscribe f.wants) true f)
+lane_asked all t who subscribe unsubscribe s count ups downs f not_asked some lane =
+    let q : DeltaRequest = delta_request t who subscribe unsubscribe finmap.empty in
+    let w : Wants = wants_after subscribe unsubscribe f.wants in
+    let before = asks_none t (folded t s ups) f not_asked lane.abreast.asks in
+    let none : lane.down ≡ None = nothing_sent all t (folded t s ups).account.nonce (folded t s ups).account.sent f.wants lane.down (ap (λ x. x.account.sent) before.0) lane.abreast.awaits in
+    let empty : f.wants ≡ finmap.empty = empty_wants f.wants before.1 in
+    let absent : (name : List ℕ) → finmap.get (kept_of t w f.cache) name ≡ None =
+    λ name. kept_by_name t w f.cache name ∙ ap (λ o. if is_wanted t w name then o else None) (lane.abreast.within name (nothing_wanted t f.wants name before.1)) ∙ if_none (is_wanted t w name) in
+    let first : Abreast all t (take t unopened q) None (wanting t w true f) =
+    abreast_first all t q (wanting t w true f) refl
+    (subst (λ (x : Wants). wants_some (wants_after subscribe unsubscribe x) ≡ true → (delta_asked t unasked (mention q)).interest ≡ interest t (wants_after subscribe unsubscribe x)) (sym empty) (first_change_is_asked t subscribe unsubscribe) some)
+    (λ name. finmap.get-empty text_cmp name ∙ ap version_held (sym (absent name))) (λ name unwanted. absent name)
+    (λ name h held. absurd (never h (sym (absent name) ∙ held))) in
+    record {
+      down = None;
+      downs_are = lane.downs_are ∙ ap listed_draft none;
+      stands = lane.stands;
+      taken = taken_more t s ups q lane.taken (taken_if_plain (folded t s ups));
+      numbered = all_numbered-append count ups (q ∷ []) lane.numbered ((zero, omega arith, refl), tt);
+      answered = λ d is. absurd (never_draft d is);
+      abreast = subst (λ x. Abreast all t x None (wanting t w true f)) (sym (folded_more t s ups q ∙ ap (λ x. take t x q) before.0)) first;
+    }
+  where
+    if_none : (b : Bool) → ◌≡◌ {A = Option Holding} (if b then None else None) None
+    if_none true = refl
+    if_none false = refl
+
+    never : (h : Holding) → ◌≡◌ {A = Option Holding} None (Some h) → ⊥
+    never h e = cc
+
+    never_draft : (d : DraftedDelta) → ◌≡◌ {A = Option DraftedDelta} None (Some d) → ⊥
+    never_draft d e = cc
+
+-- what isn't sent: nothing is wanted, and the type wasn't asked for
+lane_unsent : (all : List TypedWrite) (t : TypeName) (s : Session) (count : ℕ) (ups : List DeltaRequest) (downs : List Draft) (f : Shelf) (w : Wants) → f.asked ≡ false → wants_some w ≡ false → Lane all t s count ups downs f
+    → Lane all t s count ups downs (wanting t w f.asked f)
+lane_unsent all t s count ups downs f w not_asked some lane =
+    let before = asks_none t (folded t s ups) f not_asked lane.abreast.asks in
+    let none : lane.down ≡ None = nothing_sent all t (folded t s ups).account.nonce (folded t s ups).account.sent f.wants lane.down (ap (λ x. x.account.sent) before.0) lane.abreast.awaits in
+    let absent : (name : List ℕ) → finmap.get (kept_of t w f.cache) name ≡ None =
+    λ name. kept_by_name t w f.cache name ∙ ap (λ b. if b then finmap.get f.cache name else None) (nothing_wanted t w name some) in
+    record {
+      down = None;
+      downs_are = lane.downs_are ∙ ap listed_draft none;
+      stands = lane.stands;
+      taken = lane.taken;
+      numbered = lane.numbered;
+      answered = λ d is. absurd (never_draft d is);
+      abreast = subst (λ x. Abreast all t x None (wanting t w f.asked f)) (sym before.0) (abreast_unopened all t (wanting t w f.asked f) not_asked some absent);
+    }
+  where
+    never_draft : (d : DraftedDelta) → ◌≡◌ {A = Option DraftedDelta} None (Some d) → ⊥
+    never_draft d e = cc
+
+-- the requests that a change adds
+abbrev wished_requests : Bool → DeltaRequest → List Message
+wished_requests sent q = if sent then streams.Delta q ∷ [] else []
+
+lane_wished : (all : List TypedWrite) (t : TypeName) (who : Option Identity) (subscribe unsubscribe : Wants) (s : Session) (count : ℕ) (ms : List Message) (downs : List Draft) (f : Shelf) (asked some : Bool) → f.asked ≡ asked
+    → wants_some (wants_after subscribe unsubscribe f.wants) ≡ some → Lane all t s count (lane_up t ms) downs f
+    → let sent = (if asked then true else some) in
+    Lane all t s count (lane_up t (ms ++ wished_requests sent (delta_request t who subscribe unsubscribe finmap.empty))) downs (wanting t (wants_after subscribe unsubscribe f.wants) (if sent then true else f.asked) f)
+lane_wished all t who subscribe unsubscribe s count ms downs f true some asked is lane =
+    subst (λ ups. Lane all t s count ups downs (wanting t (wants_after subscribe unsubscribe f.wants) true f)) (sym (own_more t ms (delta_request t who subscribe unsubscribe finmap.empty) refl))
+    (lane_changed all t who subscribe unsubscribe s count (lane_up t ms) downs f asked lane)
+lane_wished all t who subscribe unsubscribe s count ms downs f false true asked is lane =
+    subst (λ ups. Lane all t s count ups downs (wanting t (wants_after subscribe unsubscribe f.wants) true f)) (sym (own_more t ms (delta_request t who subscribe unsubscribe finmap.empty) refl))
+    (lane_asked all t who subscribe unsubscribe s count (lane_up t ms) downs f asked is lane)
+lane_wished all t who subscribe unsubscribe s count ms downs f false false asked is lane =
+    subst (λ l. Lane all t s count (lane_up t l) downs (wanting t (wants_after subscribe unsubscribe f.wants) f.asked f)) (sym (append-nil ms)) (lane_unsent all t s count (lane_up t ms) downs f (wants_after subscribe unsubscribe f.wants) asked is lane)
+
+-- what a message of another type adds
+lane_beside : (all : List TypedWrite) (s t : TypeName) (k : Session) (count : ℕ) (ms : List Message) (downs : List Draft) (f : Shelf) (q : DeltaRequest) (sent : Bool) → q.type_url ≡ (row s).url → is_same_type s t ≡ false
+    → Lane all t k count (lane_up t ms) downs f → Lane all t k count (lane_up t (ms ++ wished_requests sent q)) downs f
+lane_beside all s t k count ms downs f q true url other lane = subst (λ ups. Lane all t k count ups downs f) (sym (other_more s t ms q url other)) lane
+lane_beside all s t k count ms downs f q false url other lane = subst (λ l. Lane all t k count (lane_up t l) downs f) (sym (append-nil ms)) lane
+
+change_lane : (all : List TypedWrite) (c : Client) (l : Link) (x : Stream) (s t : TypeName) (who : Option Identity) (subscribe unsubscribe : Wants) → ((s ≡ t) × (is_same_type s t ≡ true)) ⊎ ((s ≢ t) × (is_same_type s t ≡ false))
+    → Lane all t (at x.sessions t) x.count (lane_up t l.up) (lane_down t l.down) (shelf c t)
+    → let w = wants_after subscribe unsubscribe (shelf c s).wants in
+    Lane all t (at x.sessions t) x.count (lane_up t (l.up ++ wished_requests (is_sent true (shelf c s) w) (delta_request s who subscribe unsubscribe finmap.empty))) (lane_down t l.down) (at (with_at c.shelves s (shelf_after true s w c)) t)
+change_lane all c l x s t who subscribe unsubscribe (inl same) lane =
+    let w : Wants = wants_after subscribe unsubscribe (shelf c s).wants in
+    let q : DeltaRequest = delta_request s who subscribe unsubscribe finmap.empty in
+    subst (λ r. Lane all r (at x.sessions r) x.count (lane_up r (l.up ++ wished_requests (is_sent true (shelf c s) w) q)) (lane_down r l.down) (at (with_at c.shelves s (shelf_after true s w c)) r)) same.0
+    (subst (Lane all s (at x.sessions s) x.count (lane_up s (l.up ++ wished_requests (is_sent true (shelf c s) w) q)) (lane_down s l.down)) (sym (at-with_at c.shelves s (shelf_after true s w c)))
+    (lane_wished all s who subscribe unsubscribe (at x.sessions s) x.count l.up (lane_down s l.down) (shelf c s) (shelf c s).asked (wants_some w) refl refl
+    (subst (λ r. Lane all r (at x.sessions r) x.count (lane_up r l.up) (lane_down r l.down) (shelf c r)) (sym same.0) lane)))
+change_lane all c l x s t who subscribe unsubscribe (inr other) lane =
+    let w : Wants = wants_after subscribe unsubscribe (shelf c s).wants in
+    let q : DeltaRequest = delta_request s who subscribe unsubscribe finmap.empty in
+    subst (Lane all t (at x.sessions t) x.count (lane_up t (l.up ++ wished_requests (is_sent true (shelf c s) w) q)) (lane_down t l.down)) (sym (at-with_at_other c.shelves s (shelf_after true s w c) t (λ e. other.0 (sym e))))
+    (lane_beside all s t (at x.sessions t) x.count l.up (lane_down t l.down) (shelf c t) q (is_sent true (shelf c s) w) refl other.1 lane)
+
+wished_deltas : (s : TypeName) (q : DeltaRequest) (sent : Bool) → q.type_url ≡ (row s).url → AllDelta (wished_requests sent q)
+wished_deltas s q true url = ((s, q, refl, url), tt)
+wished_deltas s q false url = tt
+
+-- the client changed what it wants
+pub linked_changed : (all : List TypedWrite) (c : Client) (l : Link) (x : Stream) (s : TypeName) (subscribe unsubscribe : Wants) → Linked all c l x
+    → let w = wants_after subscribe unsubscribe (shelf c s).wants in
+    Linked all (changed true s w c) (record l { up = l.up ++ wished_requests (is_sent true (shelf c s) w) (delta_request s (node c.greeted c) subscribe unsubscribe finmap.empty) }) x
+linked_changed all c l x s subscribe unsubscribe linked =
+    let w : Wants = wants_after subscribe unsubscribe (shelf c s).wants in
+    let q : DeltaRequest = delta_request s (node c.greeted c) subscribe unsubscribe finmap.empty in
+    record {
+      variant = linked.variant;
+      counted = linked.counted;
+      deltas = all_delta-append l.up (wished_requests (is_sent true (shelf c s) w) q) linked.deltas (wished_deltas s q (is_sent true (shelf c s) w) refl);
+      lanes = λ t. change_lane all c l x s t (node c.greeted c) subscribe unsubscribe (same_type s t) (linked.lanes t);
+    }
+
+-- ---- the start of a stream
+
+-- what is kept of a type while the client has no stream
+pub record Rests (all : List TypedWrite) (t : TypeName) (f : Shelf) : Type 0 where
+  pub within : (name : List ℕ) → is_wanted t f.wants name ≡ false → finmap.get f.cache name ≡ None
+  pub made : (name : List ℕ) (h : Holding) → finmap.get f.cache name ≡ Some h → IsMade all t name h
+
+held_by_name : (cache : Cache) (q : List ℕ) → finmap.get (held_versions cache) q ≡ version_held (finmap.get cache q)
+held_by_name cache q = get-tabulated (held_version cache) (finmap.keys cache) q (λ absent. ap version_held (absent_key cache q absent))
+
+-- the first requests of a type: one if something is wanted, and else none
+abbrev one_first : TypeName → Client → Bool → List DeltaRequest
+one_first t c greeted = if wants_some (shelf c t).wants then delta_first c t greeted ∷ [] else []
+
+-- no type of a list is this one
+abbrev IsOut : TypeName → List TypeName → Type 0
+IsOut t [] = ⊤
+IsOut t (s ∷ ss) = (is_same_type s t ≡ false) × IsOut t ss
+
+-- one is, once
+abbrev IsOnce : TypeName → List TypeName → Type 0
+IsOnce t [] = ⊥
+IsOnce t (s ∷ ss) = ((s ≡ t) × IsOut t ss) ⊎ ((is_same_type s t ≡ false) × IsOnce t ss)
+
+once : (t : TypeName) → IsOnce t types
+once Cluster = inl (refl, (refl, (refl, (refl, tt))))
+once Endpoint = inr (refl, inl (refl, (refl, (refl, tt))))
+once Listener = inr (refl, inr (refl, inl (refl, (refl, tt))))
+once Route = inr (refl, inr (refl, inr (refl, inl (refl, tt))))
+
+abbrev firsts : Client → Bool → List TypeName → List Message
+firsts c greeted ts = map streams.Delta (first_requests (delta_first c) c greeted ts)
+
+abbrev firsts_by : Bool → Client → Bool → TypeName → List TypeName → List Message
+firsts_by some c greeted s ss = map streams.Delta (if some then delta_first c s greeted ∷ first_requests (delta_first c) c true ss else first_requests (delta_first c) c greeted ss)
+
+out_by : (t : TypeName) (c : Client) (greeted : Bool) (s : TypeName) (ss : List TypeName) (some : Bool) → is_same_type s t ≡ false → ((g : Bool) → lane_up t (firsts c g ss) ≡ []) → lane_up t (firsts_by some c greeted s ss) ≡ []
+out_by t c greeted s ss true other rest = ap (λ o. cons_option o (lane_up t (firsts c true ss))) (of_other_type s t (delta_first c s greeted) refl other) ∙ rest true
+out_by t c greeted s ss false other rest = rest greeted
+
+none_first : (t : TypeName) (c : Client) (greeted : Bool) (ts : List TypeName) → IsOut t ts → lane_up t (firsts c greeted ts) ≡ []
+none_first t c greeted [] out = refl
+none_first t c greeted (s ∷ ss) out = out_by t c greeted s ss (wants_some (shelf c s).wants) out.0 (λ g. none_first t c g ss out.1)
+
+own_by : (t : TypeName) (c : Client) (greeted : Bool) (ss : List TypeName) (some : Bool) → ((g : Bool) → lane_up t (firsts c g ss) ≡ []) → lane_up t (firsts_by some c greeted t ss) ≡ (if some then delta_first c t greeted ∷ [] else [])
+own_by t c greeted ss true rest = ap (λ o. cons_option o (lane_up t (firsts c true ss))) (of_own_type t t (delta_first c t greeted) refl (is_same_type-same t)) ∙ ap (λ l. delta_first c t greeted ∷ l) (rest true)
+own_by t c greeted ss false rest = rest greeted
+
+later_by : (t : TypeName) (c : Client) (greeted : Bool) (s : TypeName) (ss : List TypeName) (some : Bool) → is_same_type s t ≡ false → lane_up t (firsts_by some c greeted s ss) ≡ lane_up t (firsts c (if some then true else greeted) ss)
+later_by t c greeted s ss true other = ap (λ o. cons_option o (lane_up t (firsts c true ss))) (of_other_type s t (delta_first c s greeted) refl other)
+later_by t c greeted s ss false other = refl
+
+first_lane : (t : TypeName) (c : Client) (greeted : Bool) (ts : List TypeName) → IsOnce t ts → (g : Bool) × (lane_up t (firsts c greeted ts) ≡ one_first t c g)
+first_lane t c greeted [] is = absurd is
+first_lane t c greeted (s ∷ ss) (inl here) =
+    (greeted, ap (λ r. lane_up t (firsts_by (wants_some (shelf c r).wants) c greeted r ss)) here.0 ∙ own_by t c greeted ss (wants_some (shelf c t).wants) (λ g. none_first t c g ss here.1))
+first_lane t c greeted (s ∷ ss) (inr later) =
+    let rest = first_lane t c (if wants_some (shelf c s).wants then true else greeted) ss later.1 in
+    (rest.0, later_by t c greeted s ss (wants_some (shelf c s).wants) later.0 ∙ rest.1)
+
+-- all first requests are of types of the table
+deltas_by : (c : Client) (greeted : Bool) (s : TypeName) (ss : List TypeName) (some : Bool) → ((g : Bool) → AllDelta (firsts c g ss)) → AllDelta (firsts_by some c greeted s ss)
+deltas_by c greeted s ss true rest = ((s, delta_first c s greeted, refl, refl), rest true)
+deltas_by c greeted s ss false rest = rest greeted
+
+first_deltas : (c : Client) (greeted : Bool) (ts : List TypeName) → AllDelta (firsts c greeted ts)
+first_deltas c greeted [] = tt
+first_deltas c greeted (s ∷ ss) = deltas_by c greeted s ss (wants_some (shelf c s).wants) (λ g. first_deltas c g ss)
+
+star_of_none : (t : TypeName) → IsStarOfComplete t unopened.asked
+star_of_none t incomplete = refl
+
+-- the lane of a type at the start of a stream
+lane_opened : (all : List TypedWrite) (t : TypeName) (f : Shelf) (q : DeltaRequest) (some : Bool) → wants_some f.wants ≡ some → q.response_nonce ≡ [] → mention q ≡ record { subscribe = texts f.wants; unsubscribe = [] }
+    → ((name : List ℕ) → finmap.get q.initial_resource_versions name ≡ version_held (finmap.get f.cache name)) → Rests all t f → Lane all t unopened 0 (if some then q ∷ [] else []) [] (connected f)
+lane_opened all t f q true some nonce says held rests = record {
+  down = None;
+  downs_are = refl;
+  stands = star_of_none t;
+  taken = (refl, tt);
+  numbered = ((zero, omega arith, nonce), tt);
+  answered = λ d is. absurd (never_draft d is);
+  abreast = abreast_first all t q (connected f) some (ap (λ m. (delta_asked t unasked m).interest) says ∙ first_is_asked t f.wants some) held rests.within rests.made;
+}
+  where
+    never_draft : (d : DraftedDelta) → ◌≡◌ {A = Option DraftedDelta} None (Some d) → ⊥
+    never_draft d e = cc
+lane_opened all t f q false some nonce says held rests = record {
+  down = None;
+  downs_are = refl;
+  stands = star_of_none t;
+  taken = tt;
+  numbered = tt;
+  answered = λ d is. absurd (never_draft d is);
+  abreast = abreast_unopened all t (connected f) some some (λ name. rests.within name (nothing_wanted t f.wants name some));
+}
+  where
+    never_draft : (d : DraftedDelta) → ◌≡◌ {A = Option DraftedDelta} None (Some d) → ⊥
+    never_draft d e = cc
+
+connected_shelf : (c : Client) (greeted : Bool) (t : TypeName) → shelf (linked greeted c) t ≡ connected (shelf c t)
+connected_shelf c greeted Cluster = refl
+connected_shelf c greeted Endpoint = refl
+connected_shelf c greeted Listener = refl
+connected_shelf c greeted Route = refl
+
+-- the client connected
+pub linked_opened : (all : List TypedWrite) (c : Client) (r n : ℕ) (greeted : Bool) → ((t : TypeName) → Rests all t (shelf c t))
+    → Linked all (linked greeted c) (record { replica = r; stream = n; up = opening_requests Delta c; down = [] }) opening
+linked_opened all c r n greeted rests = record {
+  variant = inl refl;
+  counted = omega arith;
+  deltas = first_deltas c false types;
+  lanes = λ t.
+      let first = first_lane t c false types (once t) in
+      subst (λ k. Lane all t k 0 (lane_up t (firsts c false types)) [] (shelf (linked greeted c) t)) (sym (at-each unopened t))
+      (subst (λ ups. Lane all t unopened 0 ups [] (shelf (linked greeted c) t)) (sym first.1)
+      (subst (Lane all t unopened 0 (one_first t c first.0) []) (sym (connected_shelf c greeted t))
+      (lane_opened all t (shelf c t) (delta_first c t first.0) (wants_some (shelf c t).wants) refl refl (ap (λ l. record { subscribe = texts (shelf c t).wants; unsubscribe = l }) no_texts) (held_by_name (shelf c t).cache) (rests t))));
+}
+
+-- ---- its loss
+
+lost_shelf : (c : Client) (t : TypeName) → shelf (unlinked c) t ≡ lost (shelf c t)
+lost_shelf c Cluster = refl
+lost_shelf c Endpoint = refl
+lost_shelf c Listener = refl
+lost_shelf c Route = refl
+
+pub rests_lost : (all : List TypedWrite) (c : Client) (l : Link) (x : Stream) → Linked all c l x → (t : TypeName) → Rests all t (shelf (unlinked c) t)
+rests_lost all c l x linked t =
+    let lane = linked.lanes t in
+    subst (Rests all t) (sym (lost_shelf c t)) (record { within = lane.abreast.within; made = lane.abreast.made })
+
+-- and a change without a stream
+pub rests_changed : (all : List TypedWrite) (c : Client) (s : TypeName) (w : Wants) → ((t : TypeName) → Rests all t (shelf c t)) → (t : TypeName) → Rests all t (shelf (changed false s w c) t)
+rests_changed all c s w rests t = by_type (same_type s t)
+  where
+    by_type : ((s ≡ t) × (is_same_type s t ≡ true)) ⊎ ((s ≢ t) × (is_same_type s t ≡ false)) → Rests all t (shelf (changed false s w c) t)
+    by_type (inl same) =
+        subst (λ r. Rests all r (at (with_at c.shelves s (shelf_after false s w c)) r)) same.0
+        (subst (Rests all s) (sym (at-with_at c.shelves s (shelf_after false s w c)))
+        (record {
+          within = λ name unwanted. (holds_what_is_wanted s w false finmap.empty finmap.empty (shelf c s).cache name unwanted).1;
+          made = λ name h held. kept_made all s name (is_wanted s w name) (finmap.get (shelf c s).cache name) h ((rests s).made name) (sym (kept_by_name s w (shelf c s).cache name) ∙ held);
+        }))
+    by_type (inr other) = subst (Rests all t) (sym (at-with_at_other c.shelves s (shelf_after false s w c) t (λ e. other.0 (sym e)))) (rests t)
+
+-- a client that is new
+pub rests_fresh : (all : List TypedWrite) (t : TypeName) → Rests all t bare
+rests_fresh all t = record { within = λ name unwanted. finmap.get-empty text_cmp name; made = λ name h held. absurd (never h (sym (finmap.get-empty text_cmp name) ∙ held)) }
+  where
+    never : (h : Holding) → ◌≡◌ {A = Option Holding} None (Some h) → ⊥
+    never h e = cc
