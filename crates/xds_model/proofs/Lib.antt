@@ -9,3 +9,5 @@ pub mod Delivering
 pub mod Queues
 pub mod LinkSteps
 pub mod LinkTakes
+pub mod CoreSteps
+pub mod Everyone
