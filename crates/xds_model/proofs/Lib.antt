@@ -11,3 +11,4 @@ pub mod LinkSteps
 pub mod LinkTakes
 pub mod CoreSteps
 pub mod Everyone
+pub mod EveryEvent

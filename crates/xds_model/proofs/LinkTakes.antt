@@ -271,7 +271,7 @@ lane_unsent all t s count ups downs f w not_asked some lane =
     never_draft d e = cc
 
 -- the requests that a change adds
-abbrev wished_requests : Bool → DeltaRequest → List Message
+abbrev pub wished_requests : Bool → DeltaRequest → List Message
 wished_requests sent q = if sent then streams.Delta q ∷ [] else []
 
 lane_wished : (all : List TypedWrite) (t : TypeName) (who : Option Identity) (subscribe unsubscribe : Wants) (s : Session) (count : ℕ) (ms : List Message) (downs : List Draft) (f : Shelf) (asked some : Bool) → f.asked ≡ asked

@@ -1,0 +1,209 @@
+-- What is kept of all clients is kept by whatever happens.
+use Rattle.std.proofs.Common.{◌≡◌, ◌≢◌, ◌⊎◌, inl, inr, ℕ, suc, ◌+◌, ◌≤◌, List, [], ◌∷◌, ◌++◌, map, Bool, true, false, ◌&&◌, not, Option, Some, None, Result, Ok, Err, refl, sym, ap, subst, ◌∙◌, append-nil, arith}
+use Rattle.std.specs.Prelude.{if◌then◌else◌, is_none, is_some, option_map, Contains, nat_lt, decimal}
+use Rattle.std.specs.Option.{option_and_then, option_map_or}
+use Rattle.std.specs.Ordering.{nat_cmp}
+use Rattle.std.specs.Cmp.{nat_cmp_total}
+use Rattle.std.specs.FinMap as finmap
+use Rattle.std.specs.FinMap.{FinMap, nat_cmp-IsAntisymmetric}
+use Rattle.xds_resource.specs.declared.types.TypeName.{TypeName}
+use Rattle.xds_resource.specs.PerType.{at}
+use Rattle.xds_resource.proofs.TypesApart.{at-each}
+use Rattle.xds_catalogue.proofs.Lookups.{get-inserted, get-removed}
+use Rattle.xds_message.specs.DeltaMessages.{DeltaRequest}
+use Rattle.xds_draft.specs.declared.draft.Draft.{Draft}
+use Rattle.xds_ledger.specs.declared.outcome.Outcome.{Outcome}
+use Rattle.xds_core.specs.Laws.{stream_changed}
+use Rattle.xds_core.specs.Stores.{Store}
+use Rattle.xds_core.specs.Streams as streams
+use Rattle.xds_core.specs.Streams.{Stream, Message, opening, requested, polled_first, looked_at}
+use Rattle.xds_core.specs.Events as events
+use Rattle.xds_core.specs.Events.{Event, Reply, Opened, Answered, Polled, Owed, Closed, Written, Merged, Entries}
+use Rattle.xds_core.specs.Steps.{Core, step, fresh as fresh_core, with_stream}
+use Rattle.xds_cache.specs.Shelves.{Wants, Shelf, bare, wants_of, wants_after}
+use Rattle.xds_cache.specs.Faults.{Test}
+use Rattle.xds_cache.specs.Clients as clients
+use Rattle.xds_cache.specs.Clients.{Client, shelf, node, is_sent, unlinked}
+use Rattle.xds_cache.specs.Sends.{delta_request, is_greeted}
+use Rattle.xds_resource.specs.Types.{types}
+use Rattle.xds_cache.specs.Receives.{Outcome as ClientOutcome, delta_change, delta_changed}
+use Rattle.xds_model.specs.declared.event.ClientKind.{ClientKind}
+use Rattle.xds_model.specs.declared.event.ClientKind.TheVariants.{Sotw, Delta}
+use Rattle.xds_model.specs.Happenings.{Happening, Wish, Names, Edits, AddReplica, AddClient, Put, Delete, Snapshot, Merge, Connect, Change, Up, Poll, Down, Lose}
+use Rattle.xds_model.specs.Worlds.{Site, Link, Peer, World, recorded, at_site, happened_at, placed, pooled, with_peer, new_peer, connected_to, opened, sending, changed, changed_by, wish_of, wish_taken, under_way, polled, up_taken, received, received_in, taken_down, down_taken, opening_requests, on_link, is_free, happens}
+use Rattle.xds_model.specs.Knows.{TypedWrite}
+use Rattle.xds_model.proofs.Replicas.{some_is, bound_some, mapped_some, if_some, if_then, both_parts, none_there}
+use Rattle.xds_model.proofs.Queues.{Linked}
+use Rattle.xds_model.proofs.Delivering.{AllKnown}
+use Rattle.xds_model.proofs.LinkSteps.{linked_up, linked_polled, poll_sent, poll_quiet}
+use Rattle.xds_model.proofs.LinkTakes.{Rests, received_is, linked_down, wished_requests, linked_changed, linked_opened, rests_lost, rests_changed, rests_fresh}
+use Rattle.xds_model.proofs.CoreSteps.{stream_step_is, open_is, opened_to}
+use Rattle.xds_model.proofs.Everyone.{stream_at, AllCounted, AtSite, at_site_is, here_at, frame_at, counted_at, Fine, fine_sites, fine_peer}
+
+-- ---- where a client is
+
+pub link_there : (w : World) (c : ℕ) (f : Peer → Link → Option World) (left : World) → on_link w c f ≡ Some left → (p : Peer) × (l : Link) × (finmap.get w.peers c ≡ Some p) × (p.link ≡ Some l) × (f p l ≡ Some left)
+link_there w c f left is =
+    let peer = bound_some (λ p. option_and_then (f p) p.link) (finmap.get w.peers c) left is in
+    let linked = bound_some (f peer.0) peer.0.link left peer.2 in
+    (peer.0, linked.0, peer.1, linked.1, linked.2)
+
+get_put : {X : Type 0} (m : FinMap nat_cmp X) (k : ℕ) (x : X) → finmap.get (finmap.insert m k x) k ≡ Some x
+get_put m k x =
+    elim (get-inserted nat_cmp_total nat_cmp-IsAntisymmetric m k x k) [
+      | inl here ↦ here.1
+      | inr other ↦ absurd (other.0 refl)
+    ]
+
+same_peers : (w : World) (r : ℕ) (e : Event) (q : Reply × World) → AtSite w r e q → q.1.peers ≡ w.peers
+same_peers w r e q x = ap (λ y. y.peers) x.left
+
+-- a stream that a link is at is the one that is open there
+same_stream : (w : World) (r n : ℕ) (e : Event) (q : Reply × World) (x : AtSite w r e q) (o : Option Stream) → stream_at w r n ≡ o → finmap.get x.site.core.streams n ≡ o
+same_stream w r n e q x o is = ap (λ y. option_and_then (λ (s : Site). finmap.get s.core.streams n) y) (sym x.has) ∙ is
+
+module _ (w left : World) (all : List TypedWrite) (c : ℕ) (p : Peer) (l : Link) (has : finmap.get w.peers c ≡ Some p) (link : p.link ≡ Some l) (fine : Fine w all) where
+  -- another client has another stream
+  apart_from : (d : ℕ) (q : Peer) (m : Link) → c ≢ d → finmap.get w.peers d ≡ Some q → q.link ≡ Some m → m.replica ≡ l.replica → l.stream ≡ m.stream → ⊥
+  apart_from d q m other has_d link_d same_replica same_number = other (fine.apart c d p q l m has has_d link link_d (sym same_replica) same_number)
+
+  -- an event of the client's stream changes no other client's
+  stream_frame : (e : Event) (q : Reply × World) → (x : AtSite w l.replica e q) → stream_changed x.site.core e ≡ Some l.stream → left.sites ≡ q.1.sites
+      → (d : ℕ) (r : Peer) (m : Link) → c ≢ d → finmap.get w.peers d ≡ Some r → r.link ≡ Some m → stream_at left m.replica m.stream ≡ stream_at w m.replica m.stream
+  stream_frame e q x changes sites d r m other has_d link_d =
+      ap (λ (s : FinMap nat_cmp Site). option_and_then (λ (y : Site). finmap.get y.core.streams m.stream) (finmap.get s m.replica)) sites
+      ∙ frame_at w l.replica e q x m.replica m.stream (λ same_replica is. apart_from d r m other has_d link_d same_replica (some_is l.stream m.stream (sym changes ∙ is)))
+
+  still_counted : (e : Event) (q : Reply × World) → AtSite w l.replica e q → left.sites ≡ q.1.sites → AllCounted left
+  still_counted e q x sites r s at_r = counted_at w l.replica e q x fine.counted r s (ap (λ m. finmap.get m r) (sym sites) ∙ at_r)
+
+  -- the client stays where it is, or is down
+  fine_here : (after : Peer) → left.peers ≡ finmap.insert w.peers c after
+      → ((d : ℕ) (r : Peer) (m : Link) → c ≢ d → finmap.get w.peers d ≡ Some r → r.link ≡ Some m → stream_at left m.replica m.stream ≡ stream_at w m.replica m.stream)
+      → ((k : Link) → after.link ≡ Some k → (x : Stream) × (k.replica ≡ l.replica) × (k.stream ≡ l.stream) × (stream_at left l.replica l.stream ≡ Some x) × (after.kind ≡ Delta → Linked all after.client k x))
+      → (after.link ≡ None → after.kind ≡ Delta → (t : TypeName) → Rests all t (shelf after.client t)) → AllCounted left → Fine left all
+  fine_here after peers frame here down counted =
+      fine_peer w left all c after peers frame (λ k at_k. let x = here k at_k in (x.0, (λ i. stream_at left (x.1 i) (x.2 i)) ∙ x.3, x.4)) down
+      (λ d r k m other has_d at_k link_d same_replica same_number. let x = here k at_k in apart_from d r m other has_d link_d (sym same_replica ∙ x.1) (sym x.2 ∙ same_number)) counted fine
+
+never_link : (k : Link) → ◌≡◌ {A = Option Link} (Some k) None → ⊥
+never_link k is = cc
+
+no_link : (k : Link) → ◌≡◌ {A = Option Link} None (Some k) → ⊥
+no_link k is = cc
+
+-- ---- Up, Poll, Down, Lose
+
+fine_up : (w left : World) (all : List TypedWrite) (c : ℕ) (p : Peer) (l : Link) (ms : List Message) → l.up ≡ ms → finmap.get w.peers c ≡ Some p → p.link ≡ Some l → up_taken w c p l ms ≡ Some left → Fine w all → Fine left all
+fine_up w left all c p l [] up has link is fine = absurd cc
+fine_up w left all c p l (m ∷ rest) up has link is fine =
+    let e : Event = events.Request l.stream m in
+    let after : Peer = record p { link = Some (record l { up = rest }) } in
+    let made = mapped_some (λ q. with_peer q.1 c after) (at_site w l.replica e) left is in
+    let q = made.0 in
+    let x = at_site_is w l.replica e q made.1 in
+    let here = fine.ups c p l has link in
+    let at_core = stream_step_is x.site.core l.stream Answered (λ s. requested s m) (q.0, x.core) x.stepped in
+    let same : at_core.0 ≡ here.0 = some_is at_core.0 here.0 (sym at_core.2 ∙ same_stream w l.replica l.stream e q x (Some here.0) here.1) in
+    let now : stream_at left l.replica l.stream ≡ Some at_core.1.1 =
+    ap (λ y. stream_at y l.replica l.stream) made.2 ∙ here_at w l.replica l.stream e q x ∙ ap (λ y. finmap.get y.1.streams l.stream) at_core.4 ∙ get_put x.site.core.streams l.stream at_core.1.1 in
+    fine_here w left all c p l has link fine after (ap (λ y. y.peers) made.2 ∙ ap (λ y. finmap.insert y c after) (same_peers w l.replica e q x))
+    (stream_frame w left all c p l has link fine e q x refl (ap (λ y. y.sites) made.2))
+    (λ k at_k. let is_k : record l { up = rest } ≡ k = some_is (record l { up = rest }) k at_k in
+    (at_core.1.1, sym (ap (λ y. y.replica) is_k), sym (ap (λ y. y.stream) is_k), now,
+    λ kind. subst (λ y. Linked all p.client y at_core.1.1) is_k (linked_up all p.client l here.0 m rest at_core.1 up (ap (λ s. requested s m) (sym same) ∙ at_core.3) (here.2 kind))))
+    (λ none kind. absurd (never_link (record l { up = rest }) none)) (still_counted w left all c p l has link fine e q x (ap (λ y. y.sites) made.2))
+
+-- what a poll of the client's stream gave
+polled_reply : (c : ℕ) (p : Peer) (l : Link) (reply : Reply) (w left : World) (o : Option Draft) → reply ≡ Polled o → polled c p l (reply, w) ≡ Some left → left ≡ with_peer w c (record p { link = Some (record l { down = l.down ++ under_way o }) })
+polled_reply c p l reply w left o told is = sym (some_is (with_peer w c (record p { link = Some (record l { down = l.down ++ under_way o }) })) left (ap (λ r. polled c p l (r, w)) (sym told) ∙ is))
+
+linked_poll : (all : List TypedWrite) (replica : ℕ) (store : Store) (client : Client) (l : Link) (x y : Stream) (ts : List TypeName) (o : Option Draft) → ((t : TypeName) → AllKnown all t (at store t).entries) → polled_first replica store x ts ≡ Ok (o, y)
+    → Linked all client l x → Linked all client (record l { down = l.down ++ under_way o }) y
+linked_poll all replica store client l x y ts None known is linked =
+    subst (Linked all client (record l { down = l.down ++ [] })) (sym (poll_quiet replica store x y ts is)) (subst (λ ds. Linked all client (record l { down = ds }) x) (sym (append-nil l.down)) linked)
+linked_poll all replica store client l x y ts (Some d) known is linked = linked_polled all replica store client l x y d known (poll_sent replica store x y ts d is) linked
+
+abbrev pub AllSitesKnown : World → List TypedWrite → Type 0
+AllSitesKnown w all = (r : ℕ) (s : Site) (t : TypeName) → finmap.get w.sites r ≡ Some s → AllKnown all t (at s.core.store t).entries
+
+fine_poll : (w left : World) (all : List TypedWrite) (c : ℕ) (p : Peer) (l : Link) (which : Option TypeName) → AllSitesKnown w all → finmap.get w.peers c ≡ Some p
+    → p.link ≡ Some l → option_and_then (polled c p l) (at_site w l.replica (events.Poll l.stream which)) ≡ Some left → Fine w all → Fine left all
+fine_poll w left all c p l which known has link is fine =
+    let e : Event = events.Poll l.stream which in
+    let made = bound_some (polled c p l) (at_site w l.replica e) left is in
+    let q = made.0 in
+    let x = at_site_is w l.replica e q made.1 in
+    let here = fine.ups c p l has link in
+    let at_core = stream_step_is x.site.core l.stream Polled (λ s. polled_first x.site.core.replica x.site.core.store s (looked_at which)) (q.0, x.core) x.stepped in
+    let o : Option Draft = at_core.1.0 in
+    let after : Peer = record p { link = Some (record l { down = l.down ++ under_way o }) } in
+    let left_is : left ≡ with_peer q.1 c after = polled_reply c p l q.0 q.1 left o (ap (λ y. y.0) at_core.4) made.2 in
+    let same : at_core.0 ≡ here.0 = some_is at_core.0 here.0 (sym at_core.2 ∙ same_stream w l.replica l.stream e q x (Some here.0) here.1) in
+    let now : stream_at left l.replica l.stream ≡ Some at_core.1.1 =
+    ap (λ y. stream_at y l.replica l.stream) left_is ∙ here_at w l.replica l.stream e q x ∙ ap (λ y. finmap.get y.1.streams l.stream) at_core.4 ∙ get_put x.site.core.streams l.stream at_core.1.1 in
+    fine_here w left all c p l has link fine after (ap (λ y. y.peers) left_is ∙ ap (λ y. finmap.insert y c after) (same_peers w l.replica e q x))
+    (stream_frame w left all c p l has link fine e q x refl (ap (λ y. y.sites) left_is))
+    (λ k at_k. let is_k : record l { down = l.down ++ under_way o } ≡ k = some_is (record l { down = l.down ++ under_way o }) k at_k in
+    (at_core.1.1, sym (ap (λ y. y.replica) is_k), sym (ap (λ y. y.stream) is_k), now,
+    λ kind. subst (λ y. Linked all p.client y at_core.1.1) is_k
+    (linked_poll all x.site.core.replica x.site.core.store p.client l here.0 at_core.1.1 (looked_at which) o (λ t. known l.replica x.site t x.has)
+    (ap (λ s. polled_first x.site.core.replica x.site.core.store s (looked_at which)) (sym same) ∙ at_core.3) (here.2 kind))))
+    (λ none kind. absurd (never_link (record l { down = l.down ++ under_way o }) none)) (still_counted w left all c p l has link fine e q x (ap (λ y. y.sites) left_is))
+
+fine_down : (test : Test) (w left : World) (all : List TypedWrite) (c : ℕ) (p : Peer) (l : Link) (ds : List Draft) → l.down ≡ ds → finmap.get w.peers c ≡ Some p → p.link ≡ Some l → down_taken test w c p l ds ≡ Some left → Fine w all → Fine left all
+fine_down test w left all c p l [] down has link is fine = absurd cc
+fine_down test w left all c p l (d ∷ rest) down has link is fine =
+    let made = mapped_some (λ q. with_peer w c (taken_down p l rest q)) (received test p d) left is in
+    let q = made.0 in
+    let next : Link = record l { up = l.up ++ q.1 ∷ []; down = rest } in
+    let here = fine.ups c p l has link in
+    fine_here w left all c p l has link fine (taken_down p l rest q) (ap (λ y. y.peers) made.2) (λ e r m other has_e link_e. ap (λ y. stream_at y m.replica m.stream) made.2)
+    (λ k at_k. let is_k : next ≡ k = some_is next k at_k in
+    (here.0, sym (ap (λ y. y.replica) is_k), sym (ap (λ y. y.stream) is_k), ap (λ y. stream_at y l.replica l.stream) made.2 ∙ here.1,
+    λ kind. subst (λ y. Linked all q.0 y here.0) is_k (linked_down all test p.client l here.0 d rest q down (received_is test p.client d q (ap (λ y. received_in test y p.client d) (sym kind) ∙ made.1)) (here.2 kind))))
+    (λ none kind. absurd (never_link next none)) (λ r s at_r. fine.counted r s (ap (λ y. finmap.get y.sites r) (sym made.2) ∙ at_r))
+
+fine_lose : (w left : World) (all : List TypedWrite) (c : ℕ) (p : Peer) (l : Link) → finmap.get w.peers c ≡ Some p → p.link ≡ Some l
+    → option_map (λ q. with_peer q.1 c (record p { client = unlinked p.client; link = None })) (at_site w l.replica (events.Close l.stream)) ≡ Some left → Fine w all → Fine left all
+fine_lose w left all c p l has link is fine =
+    let e : Event = events.Close l.stream in
+    let after : Peer = record p { client = unlinked p.client; link = None } in
+    let made = mapped_some (λ q. with_peer q.1 c after) (at_site w l.replica e) left is in
+    let q = made.0 in
+    let x = at_site_is w l.replica e q made.1 in
+    let here = fine.ups c p l has link in
+    fine_here w left all c p l has link fine after (ap (λ y. y.peers) made.2 ∙ ap (λ y. finmap.insert y c after) (same_peers w l.replica e q x))
+    (stream_frame w left all c p l has link fine e q x refl (ap (λ y. y.sites) made.2)) (λ k at_k. absurd (no_link k at_k)) (λ none kind. rests_lost all p.client l here.0 (here.2 kind))
+    (still_counted w left all c p l has link fine e q x (ap (λ y. y.sites) made.2))
+
+-- ---- Connect
+
+opened_reply : (c r : ℕ) (p : Peer) (reply : Reply) (w left : World) (n : ℕ) → reply ≡ Opened n → opened c r p (reply, w) ≡ Some left → left ≡ with_peer w c (connected_to p r n)
+opened_reply c r p reply w left n told is = sym (some_is (with_peer w c (connected_to p r n)) left (ap (λ y. opened c r p (y, w)) (sym told) ∙ is))
+
+fine_connect : (w left : World) (all : List TypedWrite) (c r : ℕ) (p : Peer) → finmap.get w.peers c ≡ Some p → p.link ≡ None → option_and_then (opened c r p) (at_site w r events.Open) ≡ Some left → Fine w all → Fine left all
+fine_connect w left all c r p has none is fine =
+    let e : Event = events.Open in
+    let made = bound_some (opened c r p) (at_site w r e) left is in
+    let q = made.0 in
+    let x = at_site_is w r e q made.1 in
+    let at_core = open_is x.site.core (q.0, x.core) x.stepped in
+    let n : ℕ = x.site.core.opened + 1 in
+    let after : Peer = connected_to p r n in
+    let left_is : left ≡ with_peer q.1 c after = opened_reply c r p q.0 q.1 left n (ap (λ y. y.0) at_core) made.2 in
+    let counted : AllCounted left = λ k s at_k. counted_at w r e q x fine.counted k s (ap (λ y. finmap.get y.sites k) (sym left_is) ∙ at_k) in
+    let now : stream_at left r n ≡ Some opening = ap (λ y. stream_at y r n) left_is ∙ here_at w r n e q x ∙ ap (λ y. finmap.get y.1.streams n) at_core ∙ get_put x.site.core.streams n opening in
+    let below : (d : ℕ) (s : Peer) (m : Link) → finmap.get w.peers d ≡ Some s → s.link ≡ Some m → m.replica ≡ r → m.stream ≤ x.site.core.opened =
+    λ d s m has_d link_d same. let there = fine.ups d s m has_d link_d in
+    fine.counted r x.site x.has m.stream there.0 (same_stream w r m.stream e q x (Some there.0) (ap (λ k. stream_at w k m.stream) (sym same) ∙ there.1)) in
+    fine_peer w left all c after (ap (λ y. y.peers) left_is ∙ ap (λ y. finmap.insert y c after) (same_peers w r e q x))
+    (λ d s m other has_d link_d. ap (λ y. stream_at y m.replica m.stream) left_is
+    ∙ frame_at w r e q x m.replica m.stream (λ same opens. let le = below d s m has_d link_d same in let at_end = some_is n m.stream opens in absurd (omega (arith, le, at_end))))
+    (λ k at_k. let is_k = some_is (record { replica = r; stream = n; up = opening_requests p.kind p.client; down = [] }) k at_k in
+    (opening, (λ i. stream_at left (ap (λ y. y.replica) (sym is_k) i) (ap (λ y. y.stream) (sym is_k) i)) ∙ now,
+    λ kind. subst (λ y. Linked all (clients.linked (is_greeted p.client false types) p.client) y opening) (ap (λ v. record { replica = r; stream = n; up = opening_requests v p.client; down = [] }) (sym kind) ∙ is_k)
+    (linked_opened all p.client r n (is_greeted p.client false types) (fine.downs c p has none kind))))
+    (λ never kind. absurd (never_link (record { replica = r; stream = n; up = opening_requests p.kind p.client; down = [] }) never))
+    (λ d s k m other has_d at_k link_d same_replica same_number. let is_k = some_is (record { replica = r; stream = n; up = opening_requests p.kind p.client; down = [] }) k at_k in
+    let le = below d s m has_d link_d (sym same_replica ∙ ap (λ y. y.replica) (sym is_k)) in let at_end : n ≡ m.stream = ap (λ y. y.stream) is_k ∙ same_number in absurd (omega (arith, le, at_end))) counted fine
