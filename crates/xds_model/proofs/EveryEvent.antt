@@ -7,6 +7,8 @@ use Rattle.std.specs.Cmp.{nat_cmp_total}
 use Rattle.std.specs.FinMap as finmap
 use Rattle.std.specs.FinMap.{FinMap, nat_cmp-IsAntisymmetric}
 use Rattle.xds_resource.specs.declared.types.TypeName.{TypeName}
+use Rattle.xds_resource.specs.declared.refusal.Refusal.TheVariants.{NoStream}
+use Rattle.xds_resource.specs.Stamps.{max_writer}
 use Rattle.xds_resource.specs.PerType.{at}
 use Rattle.xds_resource.proofs.TypesApart.{at-each}
 use Rattle.xds_catalogue.proofs.Lookups.{get-inserted, get-removed}
@@ -30,7 +32,7 @@ use Rattle.xds_cache.specs.Receives.{Outcome as ClientOutcome, delta_change, del
 use Rattle.xds_model.specs.declared.event.ClientKind.{ClientKind}
 use Rattle.xds_model.specs.declared.event.ClientKind.TheVariants.{Sotw, Delta}
 use Rattle.xds_model.specs.Happenings.{Happening, Wish, Names, Edits, AddReplica, AddClient, Put, Delete, Snapshot, Merge, Connect, Change, Up, Poll, Down, Lose}
-use Rattle.xds_model.specs.Worlds.{Site, Link, Peer, World, recorded, at_site, happened_at, placed, pooled, with_peer, new_peer, connected_to, opened, sending, changed, changed_by, wish_of, wish_taken, under_way, polled, up_taken, received, received_in, taken_down, down_taken, opening_requests, on_link, is_free, happens}
+use Rattle.xds_model.specs.Worlds.{Site, Link, Peer, World, empty_world, recorded, at_site, happened_at, placed, pooled, with_peer, new_peer, connected_to, opened, sending, changed, changed_by, wish_of, wish_taken, under_way, polled, up_taken, received, received_in, taken_down, down_taken, opening_requests, on_link, is_free, happens}
 use Rattle.xds_model.specs.Knows.{TypedWrite}
 use Rattle.xds_model.proofs.Replicas.{some_is, bound_some, mapped_some, if_some, if_then, both_parts, none_there}
 use Rattle.xds_model.proofs.Queues.{Linked}
@@ -207,3 +209,187 @@ fine_connect w left all c r p has none is fine =
     (λ never kind. absurd (never_link (record { replica = r; stream = n; up = opening_requests p.kind p.client; down = [] }) never))
     (λ d s k m other has_d at_k link_d same_replica same_number. let is_k = some_is (record { replica = r; stream = n; up = opening_requests p.kind p.client; down = [] }) k at_k in
     let le = below d s m has_d link_d (sym same_replica ∙ ap (λ y. y.replica) (sym is_k)) in let at_end : n ≡ m.stream = ap (λ y. y.stream) is_k ∙ same_number in absurd (omega (arith, le, at_end))) counted fine
+
+-- ---- Change
+
+-- what a client's change is, where it is possible
+changed_ok : {X : Type 0} (tag : X → Message) (r : ClientOutcome (Option X)) (q : Client × Option Message) → changed_by tag r ≡ Some q → (y : Client × Option X) × (r ≡ Ok y) × (q ≡ (y.0, option_map tag y.1))
+changed_ok tag (Ok y) q is = (y, refl, sym (some_is (y.0, option_map tag y.1) q is))
+changed_ok tag (Err e) q is = absurd cc
+
+changed_once : (broken : Bool) (y z : Client × Option DeltaRequest) → ◌≡◌ {A = ClientOutcome (Option DeltaRequest)} (if broken then Err NoStream else Ok y) (Ok z) → z ≡ y
+changed_once true y z is = absurd cc
+changed_once false y z is = cc
+
+pub record IsWished (p : Peer) (up : Bool) (t : TypeName) (q : Client × Option Message) : Type 0 where
+  pub subscribe : Wants
+  pub unsubscribe : Wants
+  pub left : q.0 ≡ clients.changed up t (wants_after subscribe unsubscribe (shelf p.client t).wants) p.client
+  pub sent : q.1 ≡ (if is_sent up (shelf p.client t) (wants_after subscribe unsubscribe (shelf p.client t).wants) then Some (streams.Delta (delta_request t (node p.client.greeted p.client) subscribe unsubscribe finmap.empty)) else None)
+
+tagged_if : (b : Bool) (m : DeltaRequest) → option_map streams.Delta (if b then Some m else None) ≡ (if b then Some (streams.Delta m) else None)
+tagged_if true m = refl
+tagged_if false m = refl
+
+pub wished_is : (p : Peer) (up : Bool) (t : TypeName) (wish : Wish) (q : Client × Option Message) → wish_of Delta p up t wish ≡ Some q → IsWished p up t q
+wished_is p up t (Names names) q is = absurd cc
+wished_is p up t (Edits subscribe unsubscribe) q is =
+    let s : Wants = wants_of subscribe in
+    let u : Wants = wants_of unsubscribe in
+    let w : Wants = wants_after s u (shelf p.client t).wants in
+    let m : DeltaRequest = delta_request t (node p.client.greeted p.client) s u finmap.empty in
+    let made = changed_ok streams.Delta (delta_change up t s u p.client) q is in
+    let once = changed_once p.client.broken (delta_changed up t s u p.client) made.0 made.1 in
+    record {
+      subscribe = s;
+      unsubscribe = u;
+      left = ap (λ y. y.0) made.2 ∙ ap (λ y. y.0) once;
+      sent = ap (λ y. y.1) made.2 ∙ ap (λ y. option_map streams.Delta y.1) once ∙ tagged_if (is_sent up (shelf p.client t) w) m;
+    }
+
+sent_on : (l : Link) (b : Bool) (m : DeltaRequest) → sending (if b then Some (streams.Delta m) else None) l ≡ record l { up = l.up ++ wished_requests b m }
+sent_on l true m = refl
+sent_on l false m = λ i. record l { up = sym (append-nil l.up) i }
+
+same_replica_on : (o : Option Message) (l : Link) → (sending o l).replica ≡ l.replica
+same_replica_on None l = refl
+same_replica_on (Some m) l = refl
+
+same_stream_on : (o : Option Message) (l : Link) → (sending o l).stream ≡ l.stream
+same_stream_on None l = refl
+same_stream_on (Some m) l = refl
+
+fine_change_up : (w left : World) (all : List TypedWrite) (c : ℕ) (p : Peer) (l : Link) (t : TypeName) (wish : Wish) (q : Client × Option Message) → finmap.get w.peers c ≡ Some p → p.link ≡ Some l → wish_of p.kind p true t wish ≡ Some q
+    → left ≡ with_peer w c (changed p q) → Fine w all → Fine left all
+fine_change_up w left all c p l t wish q has link wished is fine =
+    let here = fine.ups c p l has link in
+    let next : option_map (sending q.1) p.link ≡ Some (sending q.1 l) = ap (option_map (sending q.1)) link in
+    fine_here w left all c p l has link fine (changed p q) (ap (λ y. y.peers) is) (λ e r m other has_e link_e. ap (λ y. stream_at y m.replica m.stream) is)
+    (λ k at_k. let is_k : sending q.1 l ≡ k = some_is (sending q.1 l) k (sym next ∙ at_k) in
+    (here.0, sym (ap (λ y. y.replica) is_k) ∙ same_replica_on q.1 l, sym (ap (λ y. y.stream) is_k) ∙ same_stream_on q.1 l, ap (λ y. stream_at y l.replica l.stream) is ∙ here.1,
+    λ kind.
+        let made = wished_is p true t wish q (ap (λ v. wish_of v p true t wish) (sym kind) ∙ wished) in
+        let after : Wants = wants_after made.subscribe made.unsubscribe (shelf p.client t).wants in
+        let m : DeltaRequest = delta_request t (node p.client.greeted p.client) made.subscribe made.unsubscribe finmap.empty in
+        subst (λ y. Linked all q.0 y here.0) (sym (sent_on l (is_sent true (shelf p.client t) after) m) ∙ ap (λ o. sending o l) (sym made.sent) ∙ is_k)
+        (subst (λ y. Linked all y (record l { up = l.up ++ wished_requests (is_sent true (shelf p.client t) after) m }) here.0) (sym made.left) (linked_changed all p.client l here.0 t made.subscribe made.unsubscribe (here.2 kind)))))
+    (λ none kind. absurd (never_link (sending q.1 l) (sym next ∙ none))) (λ r s at_r. fine.counted r s (ap (λ y. finmap.get y.sites r) (sym is) ∙ at_r))
+
+fine_change_down : (w left : World) (all : List TypedWrite) (c : ℕ) (p : Peer) (t : TypeName) (wish : Wish) (q : Client × Option Message) → finmap.get w.peers c ≡ Some p → p.link ≡ None → wish_of p.kind p false t wish ≡ Some q
+    → left ≡ with_peer w c (changed p q) → Fine w all → Fine left all
+fine_change_down w left all c p t wish q has link wished is fine =
+    let next : option_map (sending q.1) p.link ≡ None = ap (option_map (sending q.1)) link in
+    fine_peer w left all c (changed p q) (ap (λ y. y.peers) is) (λ e r m other has_e link_e. ap (λ y. stream_at y m.replica m.stream) is) (λ k at_k. absurd (no_link k (sym next ∙ at_k)))
+    (λ none kind u.
+        let made = wished_is p false t wish q (ap (λ v. wish_of v p false t wish) (sym kind) ∙ wished) in
+        subst (λ y. Rests all u (shelf y u)) (sym made.left) (rests_changed all p.client t (wants_after made.subscribe made.unsubscribe (shelf p.client t).wants) (fine.downs c p has link kind) u))
+    (λ d s k m other has_d at_k link_d same_replica same_number. no_link k (sym next ∙ at_k)) (λ r s at_r. fine.counted r s (ap (λ y. finmap.get y.sites r) (sym is) ∙ at_r)) fine
+
+fine_change : (w left : World) (all : List TypedWrite) (c : ℕ) (p : Peer) (t : TypeName) (wish : Wish) (q : Client × Option Message) (o : Option Link) → finmap.get w.peers c ≡ Some p → p.link ≡ o → wish_taken p t wish ≡ Some q → left ≡ with_peer w c (changed p q)
+    → Fine w all → Fine left all
+fine_change w left all c p t wish q None has link wished is fine = fine_change_down w left all c p t wish q has link (ap (λ y. wish_of p.kind p (is_some y) t wish) (sym link) ∙ wished) is fine
+fine_change w left all c p t wish q (Some l) has link wished is fine = fine_change_up w left all c p l t wish q has link (ap (λ y. wish_of p.kind p (is_some y) t wish) (sym link) ∙ wished) is fine
+
+-- ---- replicas alone
+
+-- an event that changes no stream
+fine_quiet : (w left : World) (all : List TypedWrite) (r : ℕ) (e : Event) (q : Reply × World) → ((c : Core) → stream_changed c e ≡ None) → at_site w r e ≡ Some q → left.sites ≡ q.1.sites → left.peers ≡ w.peers → Fine w all → Fine left all
+fine_quiet w left all r e q quiet is sites peers fine =
+    let x = at_site_is w r e q is in
+    fine_sites w left all peers
+    (λ k m. ap (λ (s : FinMap nat_cmp Site). option_and_then (λ (y : Site). finmap.get y.core.streams m) (finmap.get s k)) sites ∙ frame_at w r e q x k m (λ same changes. never m (sym (quiet x.site.core) ∙ changes)))
+    (λ k s at_k. counted_at w r e q x fine.counted k s (ap (λ m. finmap.get m k) (sym sites) ∙ at_k)) fine
+  where
+    never : (m : ℕ) → ◌≡◌ {A = Option ℕ} None (Some m) → ⊥
+    never m e = cc
+
+fine_added : (w left : World) (all : List TypedWrite) (r : ℕ) → finmap.get w.sites r ≡ None → left ≡ record w { sites = finmap.insert w.sites r (record { core = fresh_core r; journal = [] }) } → Fine w all → Fine left all
+fine_added w left all r none is fine =
+    fine_sites w left all (ap (λ y. y.peers) is)
+    (λ q m. ap (λ y. stream_at y q m) is
+    ∙ elim (get-inserted nat_cmp_total nat_cmp-IsAntisymmetric w.sites r (record { core = fresh_core r; journal = [] }) q) [
+      | inl here ↦
+          ap (λ o. option_and_then (λ (s : Site). finmap.get s.core.streams m) o) here.1 ∙ finmap.get-empty nat_cmp m ∙ ap (λ o. option_and_then (λ (s : Site). finmap.get s.core.streams m) o) (sym none) ∙ ap (λ k. stream_at w k m) here.0
+      | inr there ↦ ap (λ o. option_and_then (λ (s : Site). finmap.get s.core.streams m) o) there.1
+    ])
+    (λ q s has. elim (get-inserted nat_cmp_total nat_cmp-IsAntisymmetric w.sites r (record { core = fresh_core r; journal = [] }) q) [
+      | inl here ↦ (λ n x is_open. absurd (never x (sym (finmap.get-empty nat_cmp n) ∙ ap (λ (y : Site). finmap.get y.core.streams n) (some_is (record { core = fresh_core r; journal = [] }) s (sym here.1 ∙ ap (λ y. finmap.get y.sites q) (sym is) ∙ has)) ∙ is_open)))
+      | inr there ↦ fine.counted q s (sym there.1 ∙ ap (λ y. finmap.get y.sites q) (sym is) ∙ has)
+    ]) fine
+  where
+    never : (x : Stream) → ◌≡◌ {A = Option Stream} None (Some x) → ⊥
+    never x e = cc
+
+fine_joined : (w left : World) (all : List TypedWrite) (c : ℕ) (kind : ClientKind) → left ≡ with_peer w c (new_peer c kind) → Fine w all → Fine left all
+fine_joined w left all c kind is fine =
+    fine_peer w left all c (new_peer c kind) (ap (λ y. y.peers) is) (λ e r m other has_e link_e. ap (λ y. stream_at y m.replica m.stream) is) (λ k at_k. absurd (no_link k at_k))
+    (λ none delta t. subst (Rests all t) (sym (at-each bare t)) (rests_fresh all t)) (λ d s k m other has_d at_k link_d same_replica same_number. no_link k at_k)
+    (λ r s at_r. fine.counted r s (ap (λ y. finmap.get y.sites r) (sym is) ∙ at_r)) fine
+
+-- a batch that joins the pool
+pooled_is : (r : ℕ) (reply : Reply) (w left : World) → pooled r (reply, w) ≡ Some left → (left.sites ≡ w.sites) × (left.peers ≡ w.peers)
+pooled_is r (Entries b) w left is = let same = some_is (record w { pool = w.pool ++ (r, b) ∷ [] }) left is in (sym (ap (λ y. y.sites) same), sym (ap (λ y. y.peers) same))
+pooled_is r (Opened n) w left is = absurd cc
+pooled_is r (Answered o) w left is = absurd cc
+pooled_is r (Polled o) w left is = absurd cc
+pooled_is r (Owed o) w left is = absurd cc
+pooled_is r Closed w left is = absurd cc
+pooled_is r (Written n m) w left is = absurd cc
+pooled_is r (Merged n) w left is = absurd cc
+
+fine_written : (w left : World) (all : List TypedWrite) (r : ℕ) (e : Event) → ((c : Core) → stream_changed c e ≡ None) → happened_at w r e ≡ Some left → Fine w all → Fine left all
+fine_written w left all r e quiet is fine =
+    let made = mapped_some (λ p. p.1) (at_site w r e) left is in
+    let x = at_site_is w r e made.0 made.1 in
+    fine_quiet w left all r e made.0 quiet made.1 (ap (λ y. y.sites) made.2) (ap (λ y. y.peers) made.2 ∙ same_peers w r e made.0 x) fine
+
+-- ---- whatever happens
+
+pub fine_step : (test : Test) (w left : World) (all : List TypedWrite) (h : Happening) → happens test w h ≡ Some left → AllSitesKnown w all → Fine w all → Fine left all
+fine_step test w left all (AddReplica r) is known fine =
+    let made = if_some (is_free w r) (record w { sites = finmap.insert w.sites r (record { core = fresh_core r; journal = [] }) }) left is in
+    fine_added w left all r (none_there (finmap.get w.sites r) (both_parts (nat_lt 0 r && not (nat_lt max_writer r)) (is_none (finmap.get w.sites r)) made.0).1) made.1 fine
+fine_step test w left all (AddClient c kind) is known fine = fine_joined w left all c kind (if_some (is_none (finmap.get w.peers c)) (with_peer w c (new_peer c kind)) left is).1 fine
+fine_step test w left all (Put r t body) is known fine = fine_written w left all r (events.Put t body) (λ c. refl) is fine
+fine_step test w left all (Delete r t name) is known fine = fine_written w left all r (events.Delete t name) (λ c. refl) is fine
+fine_step test w left all (Snapshot r) is known fine =
+    let made = bound_some (pooled r) (at_site w r events.Snapshot) left is in
+    let same = pooled_is r made.0.0 made.0.1 left made.2 in
+    fine_quiet w left all r events.Snapshot made.0 (λ c. refl) made.1 same.0 (same.1 ∙ same_peers w r events.Snapshot made.0 (at_site_is w r events.Snapshot made.0 made.1)) fine
+fine_step test w left all (Merge r b) is known fine =
+    let place = bound_some (λ x. happened_at w r (events.Merge x.1)) (placed w.pool b) left is in
+    fine_written w left all r (events.Merge place.0.1) (λ c. refl) place.2 fine
+fine_step test w left all (Connect c r) is known fine =
+    let peer = bound_some (λ p. if is_none p.link then option_and_then (opened c r p) (at_site w r events.Open) else None) (finmap.get w.peers c) left is in
+    let down = if_both (is_none peer.0.link) (option_and_then (opened c r peer.0) (at_site w r events.Open)) left peer.2 in
+    fine_connect w left all c r peer.0 peer.1 (none_there peer.0.link down.0) down.1 fine
+  where
+    if_both : (b : Bool) (o : Option World) (y : World) → (if b then o else None) ≡ Some y → (b ≡ true) × (o ≡ Some y)
+    if_both true o y e = (refl, e)
+    if_both false o y e = absurd cc
+fine_step test w left all (Change c t wish) is known fine =
+    let peer = bound_some (λ p. option_map (λ q. with_peer w c (changed p q)) (wish_taken p t wish)) (finmap.get w.peers c) left is in
+    let made = mapped_some (λ q. with_peer w c (changed peer.0 q)) (wish_taken peer.0 t wish) left peer.2 in
+    fine_change w left all c peer.0 t wish made.0 peer.0.link peer.1 refl made.1 made.2 fine
+fine_step test w left all (Up c) is known fine = let at_link = link_there w c (λ p l. up_taken w c p l l.up) left is in fine_up w left all c at_link.0 at_link.1 at_link.1.up refl at_link.2 at_link.3 at_link.4 fine
+fine_step test w left all (Poll c which) is known fine =
+    let at_link = link_there w c (λ p l. option_and_then (polled c p l) (at_site w l.replica (events.Poll l.stream which))) left is in fine_poll w left all c at_link.0 at_link.1 which known at_link.2 at_link.3 at_link.4 fine
+fine_step test w left all (Down c) is known fine =
+    let at_link = link_there w c (λ p l. down_taken test w c p l l.down) left is in fine_down test w left all c at_link.0 at_link.1 at_link.1.down refl at_link.2 at_link.3 at_link.4 fine
+fine_step test w left all (Lose c) is known fine =
+    let at_link = link_there w c (λ p l. option_map (λ q. with_peer q.1 c (record p { client = unlinked p.client; link = None })) (at_site w l.replica (events.Close l.stream))) left is in
+    fine_lose w left all c at_link.0 at_link.1 at_link.2 at_link.3 at_link.4 fine
+
+pub fine_start : Fine empty_world []
+fine_start = record {
+  ups = λ c p l has. absurd (never p (sym (finmap.get-empty nat_cmp c) ∙ has));
+  downs = λ c p has. absurd (never p (sym (finmap.get-empty nat_cmp c) ∙ has));
+  apart = λ c d p q l m has. absurd (never p (sym (finmap.get-empty nat_cmp c) ∙ has));
+  counted = λ r s has. absurd (never_site s (sym (finmap.get-empty nat_cmp r) ∙ has));
+}
+  where
+    never : (p : Peer) → ◌≡◌ {A = Option Peer} None (Some p) → ⊥
+    never p e = cc
+
+    never_site : (s : Site) → ◌≡◌ {A = Option Site} None (Some s) → ⊥
+    never_site s e = cc
