@@ -12,3 +12,4 @@ pub mod LinkTakes
 pub mod CoreSteps
 pub mod Everyone
 pub mod EveryEvent
+pub mod Ranges

@@ -1,11 +1,12 @@
 -- What the headline says: when a client is settled, and that it shows then exactly what its replica knows. This project's own.
-use Rattle.std.specs.Prelude.{◌≡◌, ◌↔◌, ℕ, List, [], map, Bool, true, false, ◌&&◌, not, if◌then◌else◌, bytes_eq, Option, Some, None, option_map}
+use Rattle.std.specs.Prelude.{◌≡◌, ◌↔◌, ℕ, List, [], ◌∷◌, map, Bool, true, false, ◌&&◌, not, if◌then◌else◌, bytes_eq, Option, Some, None, option_map, ⊤}
 use Rattle.std.specs.Option.{option_map_or, option_and_then}
 use Rattle.std.specs.List.{Contains, filter, list_any}
 use Rattle.std.specs.FinMap as finmap
 use Rattle.xds_resource.specs.declared.types.TypeName.{TypeName}
 use Rattle.xds_resource.specs.Types.{row, is_same_type}
 use Rattle.xds_resource.specs.PerType.{at}
+use Rattle.xds_resource.specs.Resources.{IsCanonical}
 use Rattle.xds_resource.specs.Best.{best}
 use Rattle.xds_resource.specs.Writes.{StampedWrite, version_of}
 use Rattle.xds_catalogue.specs.Holdings.{catalogue_of}
@@ -17,7 +18,7 @@ use Rattle.xds_cache.specs.Shelves.{Cache, Holding, Wants, is_wanted}
 use Rattle.xds_cache.specs.Clients as clients
 use Rattle.xds_cache.specs.Faults.{Test}
 use Rattle.xds_model.specs.declared.event.ClientKind.TheVariants.{Delta}
-use Rattle.xds_model.specs.Happenings.{Happening}
+use Rattle.xds_model.specs.Happenings.{Happening, Put}
 use Rattle.xds_model.specs.Worlds.{World, Site, Peer, Link, empty_world, world}
 use Rattle.xds_model.specs.Knows.{TypedWrite, knows, wants, link, made_after}
 
@@ -62,6 +63,17 @@ content_at t ws w name = if is_wanted t w name then live_at ws name else None
 -- a view shows exactly what is wanted of what is live
 abbrev pub IsExact : TypeName → List StampedWrite → Wants → Cache → Type 0
 IsExact t ws w view = (name : List ℕ) → finmap.get view name ≡ content_at t ws w name
+
+-- ---- what is put
+
+-- what is put is a resource of its type
+abbrev pub PutsAResource : Happening → Type 0
+PutsAResource (Put r t body) = IsCanonical t body
+PutsAResource h = ⊤
+
+abbrev pub PutResources : List Happening → Type 0
+PutResources [] = ⊤
+PutResources (h ∷ hs) = PutsAResource h × PutResources hs
 
 -- ---- the headline
 
