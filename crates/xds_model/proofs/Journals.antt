@@ -46,7 +46,7 @@ put_journal sites r site is all q s has =
     ]
 
 journals_come : (w left : World) → SitesCome w left → AllJournals w.sites → AllJournals left.sites
-journals_come w left (inl added) all = subst AllJournals (sym added.1) (put_journal w.sites added.0 (record { core = fresh_core added.0; journal = [] }) (tt, refl) all)
+journals_come w left (inl added) all = subst AllJournals (sym added.2) (put_journal w.sites added.0 (record { core = fresh_core added.0; journal = [] }) (tt, refl) all)
 journals_come w left (inr (inl stepped)) all =
     let made = answered w stepped.0 stepped.1 stepped.2 stepped.3 in
     subst AllJournals (sym (stepped.4 ∙ ap (λ x. x.1.sites) made.4)) (put_journal w.sites stepped.0 (recorded made.0 stepped.1 made.1) (recorded_is stepped.0 made.0 stepped.1 made.1 made.3 (all stepped.0 made.0 made.2)) all)

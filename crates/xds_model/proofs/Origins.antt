@@ -245,7 +245,7 @@ merged_stamped w left k all r b (Some ws) is numbered stamped = stamped_learned 
 -- what happened to the replicas: one was added, one answered an event, or nothing
 abbrev pub SitesCome : World → World → Type 0
 SitesCome w left =
-    ((r : ℕ) × (left.sites ≡ finmap.insert w.sites r (record { core = fresh_core r; journal = [] }))) ⊎ ((r : ℕ) × (e : Event) × (p : Reply × World) × (at_site w r e ≡ Some p) × (left.sites ≡ p.1.sites)) ⊎ (left.sites ≡ w.sites)
+    ((r : ℕ) × (is_free w r ≡ true) × (left.sites ≡ finmap.insert w.sites r (record { core = fresh_core r; journal = [] }))) ⊎ ((r : ℕ) × (e : Event) × (p : Reply × World) × (at_site w r e ≡ Some p) × (left.sites ≡ p.1.sites)) ⊎ (left.sites ≡ w.sites)
 
 same_sites : (w left : World) → IsOf left w → left.sites ≡ w.sites
 same_sites w left is = ap (λ x. x.sites) is.1
@@ -272,7 +272,7 @@ down_come test w left c p l (d ∷ rest) is = let made = mapped_some (λ q. with
 
 pub sites_come : (test : Test) (w left : World) (h : Happening) → happens test w h ≡ Some left → SitesCome w left
 sites_come test w left (AddReplica r) is =
-    inl (r, ap (λ x. x.sites) (if_some (is_free w r) (record w { sites = finmap.insert w.sites r (record { core = fresh_core r; journal = [] }) }) left is).1)
+    let made = if_some (is_free w r) (record w { sites = finmap.insert w.sites r (record { core = fresh_core r; journal = [] }) }) left is in inl (r, made.0, ap (λ x. x.sites) made.1)
 sites_come test w left (AddClient c kind) is = inr (inr (ap (λ x. x.sites) (if_some (is_none (finmap.get w.peers c)) (with_peer w c (new_peer c kind)) left is).1))
 sites_come test w left (Put r t body) is = let made = mapped_some (λ p. p.1) (at_site w r (events.Put t body)) left is in inr (inl (r, events.Put t body, made.0, made.1, ap (λ x. x.sites) made.2))
 sites_come test w left (Delete r t name) is = let made = mapped_some (λ p. p.1) (at_site w r (events.Delete t name)) left is in inr (inl (r, events.Delete t name, made.0, made.1, ap (λ x. x.sites) made.2))
@@ -302,7 +302,7 @@ sites_come test w left (Lose c) is =
     inr (inl (at_link.1.replica, events.Close at_link.1.stream, made.0, made.1, ap (λ x. x.sites) made.2))
 
 numbered_come : (w left : World) → SitesCome w left → Numbered w → Numbered left
-numbered_come w left (inl added) numbered r s has = put_numbered w.sites added.0 (record { core = fresh_core added.0; journal = [] }) refl numbered r s (ap (λ m. finmap.get m r) (sym added.1) ∙ has)
+numbered_come w left (inl added) numbered r s has = put_numbered w.sites added.0 (record { core = fresh_core added.0; journal = [] }) refl numbered r s (ap (λ m. finmap.get m r) (sym added.2) ∙ has)
 numbered_come w left (inr (inl stepped)) numbered r s has = site_numbered w stepped.0 stepped.1 stepped.2 stepped.3 numbered r s (ap (λ m. finmap.get m r) (sym stepped.4) ∙ has)
 numbered_come w left (inr (inr same)) numbered r s has = numbered r s (ap (λ m. finmap.get m r) (sym same) ∙ has)
 

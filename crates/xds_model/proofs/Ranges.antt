@@ -1,5 +1,5 @@
 -- What is known of all writes that were made: their stamps are in range, what they put are resources; so a replica's entries are known.
-use Rattle.std.proofs.Common.{◌≡◌, ◌≢◌, ◌⊎◌, inl, inr, ℕ, suc, ◌+◌, ◌≤◌, List, [], ◌∷◌, ◌++◌, map, Bool, true, false, ◌&&◌, not, Option, Some, None, Result, Ok, Err, refl, sym, ap, subst, ◌∙◌, append-nil, arith}
+use Rattle.std.proofs.Common.{◌≡◌, ◌≢◌, ◌⊎◌, inl, inr, ℕ, suc, ◌+◌, ◌≤◌, ◌<◌, List, [], ◌∷◌, ◌++◌, map, Bool, true, false, ◌&&◌, not, Option, Some, None, Result, Ok, Err, refl, sym, ap, subst, ◌∙◌, append-nil, arith}
 use Rattle.std.specs.Prelude.{◌==◌, if◌then◌else◌, is_none, Contains, nat_lt}
 use Rattle.std.specs.Option.{option_and_then, ForSome}
 use Rattle.std.specs.List.{filter}
@@ -7,6 +7,7 @@ use Rattle.std.specs.Ordering.{nat_cmp}
 use Rattle.std.specs.Cmp.{nat_cmp_total}
 use Rattle.std.specs.FinMap as finmap
 use Rattle.std.specs.FinMap.{FinMap, nat_cmp-IsAntisymmetric}
+use Rattle.std.proofs.lemmas.Bool.{ltb-true, ltb-false}
 use Rattle.std.proofs.lemmas.Bool.Decides.{eqb_tells}
 use Rattle.std.proofs.lemmas.List.Elements.{Contains-append_left, Contains-append_cases}
 use Rattle.xds_resource.specs.declared.types.TypeName.{TypeName}
@@ -34,7 +35,7 @@ use Rattle.xds_core.specs.Steps.{Core, step, fresh as fresh_core}
 use Rattle.xds_core.proofs.StepLaws.{done_with, put_is, delete_is}
 use Rattle.xds_cache.specs.Faults.{Test}
 use Rattle.xds_model.specs.Happenings.{Happening, AddReplica, AddClient, Put, Delete, Snapshot, Merge, Connect, Change, Up, Poll, Down, Lose}
-use Rattle.xds_model.specs.Worlds.{Site, World, empty_world, at_site, happened_at, is_free, happens}
+use Rattle.xds_model.specs.Worlds.{Site, World, empty_world, recorded, at_site, happened_at, is_free, happens}
 use Rattle.xds_model.specs.Knows.{TypedWrite, Knowledge, made_now, made as made_of}
 use Rattle.xds_model.specs.Claims.{writes_of, PutsAResource}
 use Rattle.xds_model.proofs.Replicas.{Kept, some_is, mapped_some, if_some, both_parts, answered}
@@ -103,9 +104,9 @@ held_within w k all r s t has kept stamped ranged =
 
 -- ---- one write more
 
-ranged_more : (w left : World) (all : List TypedWrite) (t : TypeName) (wr : StampedWrite) → left.sites ≡ left.sites → ((r : ℕ) (s : Site) → finmap.get left.sites r ≡ Some s → (1 ≤ r) × (r ≤ max_writer)) → IsStamp wr.counter wr.writer
+ranged_more : (w left : World) (all : List TypedWrite) (t : TypeName) (wr : StampedWrite) → ((r : ℕ) (s : Site) → finmap.get left.sites r ≡ Some s → (1 ≤ r) × (r ≤ max_writer)) → IsStamp wr.counter wr.writer
     → ForSome wr.body (λ b. IsCanonical t (record { name = wr.name; body = b })) → Ranged w all → Ranged left (all ++ (t, wr) ∷ [])
-ranged_more w left all t wr same sites stamp body ranged = record {
+ranged_more w left all t wr sites stamp body ranged = record {
   sites = sites;
   stamps = λ x made.
       elim (Contains-append_cases all ((t, wr) ∷ []) x made) [
@@ -123,6 +124,37 @@ ranged_same : (w left : World) (all : List TypedWrite) → ((r : ℕ) (s : Site)
 ranged_same w left all sites ranged = subst (Ranged left) (sym (append-nil all)) (record { sites = sites; stamps = ranged.stamps; bodies = ranged.bodies })
 
 -- ---- whatever happens
+
+-- the numbers of replicas
+abbrev pub AllInRange : World → Type 0
+AllInRange w = (r : ℕ) (s : Site) → finmap.get w.sites r ≡ Some s → (1 ≤ r) × (r ≤ max_writer)
+
+opposite : (b : Bool) → not b ≡ true → b ≡ false
+opposite true is = absurd cc
+opposite false is = refl
+
+free_in_range : (w : World) (r : ℕ) → is_free w r ≡ true → (1 ≤ r) × (r ≤ max_writer)
+free_in_range w r is =
+    let free = both_parts (nat_lt 0 r && not (nat_lt max_writer r)) (is_none (finmap.get w.sites r)) is in
+    let range = both_parts (nat_lt 0 r) (not (nat_lt max_writer r)) free.0 in
+    let above : 0 < r = ltb-true 0 r range.0 in
+    let below : r ≤ max_writer = ltb-false max_writer r (opposite (nat_lt max_writer r) range.1) in
+    (omega (arith, above), below)
+
+in_range_come : (w left : World) → SitesCome w left → AllInRange w → AllInRange left
+in_range_come w left (inl added) all q s has =
+    elim (get-inserted nat_cmp_total nat_cmp-IsAntisymmetric w.sites added.0 (record { core = fresh_core added.0; journal = [] }) q) [
+      | inl here ↦ subst (λ n. (1 ≤ n) × (n ≤ max_writer)) here.0 (free_in_range w added.0 added.1)
+      | inr there ↦ all q s (sym there.1 ∙ ap (λ m. finmap.get m q) (sym added.2) ∙ has)
+    ]
+in_range_come w left (inr (inl stepped)) all q s has =
+    let made = answered w stepped.0 stepped.1 stepped.2 stepped.3 in
+    let now : finmap.get (finmap.insert w.sites stepped.0 (recorded made.0 stepped.1 made.1)) q ≡ Some s = ap (λ y. finmap.get y.1.sites q) (sym made.4) ∙ ap (λ m. finmap.get m q) (sym stepped.4) ∙ has in
+    elim (get-inserted nat_cmp_total nat_cmp-IsAntisymmetric w.sites stepped.0 (recorded made.0 stepped.1 made.1) q) [
+      | inl here ↦ subst (λ n. (1 ≤ n) × (n ≤ max_writer)) here.0 (all stepped.0 made.0 made.2)
+      | inr there ↦ all q s (sym there.1 ∙ now)
+    ]
+in_range_come w left (inr (inr same)) all q s has = all q s (ap (λ m. finmap.get m q) (sym same) ∙ has)
 
 unspent : (a b : Bool) (x y : ℕ × Holdings) → unless_refused ((a, CounterSpent) ∷ (b, CounterSpent) ∷ []) x ≡ Ok y → a ≡ false
 unspent true b x y is = absurd cc
@@ -155,7 +187,7 @@ put_ranged test w left k all r t body is canonical sites kept stamped ranged =
     let number : c.replica ≡ r = stamped.numbers r made.0 made.2 in
     let range = ranged.sites r made.0 made.2 in
     subst (λ o. Ranged left (all ++ made_of (λ counter writer. written counter writer body) t o)) (sym told)
-    (ranged_more w left all t (written x.0 c.replica body) refl sites
+    (ranged_more w left all t (written x.0 c.replica body) sites
     (record { counter_from = subst (λ n. 1 ≤ n) (sym which.0) (omega arith); counter_to = subst (λ n. n ≤ max_counter) (sym which.0) next; writer_from = subst (λ n. 1 ≤ n) (sym number) range.0; writer_to = subst (λ n. n ≤ max_writer) (sym number) range.1 })
     (λ b has. subst (λ y. IsCanonical t (record { name = body.name; body = y })) (some_is body.body b has) canonical) ranged)
 
@@ -178,9 +210,29 @@ delete_ranged test w left k all r t name is sites kept stamped ranged =
     let number : c.replica ≡ r = stamped.numbers r made.0 made.2 in
     let range = ranged.sites r made.0 made.2 in
     subst (λ o. Ranged left (all ++ made_of (λ counter writer. deleted counter writer name) t o)) (sym told)
-    (ranged_more w left all t (deleted x.0 c.replica name) refl sites
+    (ranged_more w left all t (deleted x.0 c.replica name) sites
     (record { counter_from = subst (λ n. 1 ≤ n) (sym which.0) (omega arith); counter_to = subst (λ n. n ≤ max_counter) (sym which.0) next; writer_from = subst (λ n. 1 ≤ n) (sym number) range.0; writer_to = subst (λ n. n ≤ max_writer) (sym number) range.1 })
     (λ b has. absurd (never b has)) ranged)
   where
     never : (b : List ℕ) → ◌≡◌ {A = Option (List ℕ)} None (Some b) → ⊥
     never b e = cc
+
+pub ranged_step : (test : Test) (w left : World) (k : Knowledge) (all : List TypedWrite) (h : Happening) → happens test w h ≡ Some left → PutsAResource h → Kept w k → Stamped w k all → Ranged w all → Ranged left (all ++ made_now w h)
+ranged_step test w left k all (Put r t body) is sound kept stamped ranged = put_ranged test w left k all r t body is sound (in_range_come w left (sites_come test w left (Put r t body) is) ranged.sites) kept stamped ranged
+ranged_step test w left k all (Delete r t name) is sound kept stamped ranged = delete_ranged test w left k all r t name is (in_range_come w left (sites_come test w left (Delete r t name) is) ranged.sites) kept stamped ranged
+ranged_step test w left k all (AddReplica r) is sound kept stamped ranged = ranged_same w left all (in_range_come w left (sites_come test w left (AddReplica r) is) ranged.sites) ranged
+ranged_step test w left k all (AddClient c kind) is sound kept stamped ranged = ranged_same w left all (in_range_come w left (sites_come test w left (AddClient c kind) is) ranged.sites) ranged
+ranged_step test w left k all (Snapshot r) is sound kept stamped ranged = ranged_same w left all (in_range_come w left (sites_come test w left (Snapshot r) is) ranged.sites) ranged
+ranged_step test w left k all (Merge r b) is sound kept stamped ranged = ranged_same w left all (in_range_come w left (sites_come test w left (Merge r b) is) ranged.sites) ranged
+ranged_step test w left k all (Connect c r) is sound kept stamped ranged = ranged_same w left all (in_range_come w left (sites_come test w left (Connect c r) is) ranged.sites) ranged
+ranged_step test w left k all (Change c t wish) is sound kept stamped ranged = ranged_same w left all (in_range_come w left (sites_come test w left (Change c t wish) is) ranged.sites) ranged
+ranged_step test w left k all (Up c) is sound kept stamped ranged = ranged_same w left all (in_range_come w left (sites_come test w left (Up c) is) ranged.sites) ranged
+ranged_step test w left k all (Poll c which) is sound kept stamped ranged = ranged_same w left all (in_range_come w left (sites_come test w left (Poll c which) is) ranged.sites) ranged
+ranged_step test w left k all (Down c) is sound kept stamped ranged = ranged_same w left all (in_range_come w left (sites_come test w left (Down c) is) ranged.sites) ranged
+ranged_step test w left k all (Lose c) is sound kept stamped ranged = ranged_same w left all (in_range_come w left (sites_come test w left (Lose c) is) ranged.sites) ranged
+
+pub ranged_start : Ranged empty_world []
+ranged_start = record { sites = λ r s has. absurd (never s (sym (finmap.get-empty nat_cmp r) ∙ has)); stamps = λ x made. absurd (none_in x made); bodies = λ x made. absurd (none_in x made) }
+  where
+    never : (s : Site) → ◌≡◌ {A = Option Site} None (Some s) → ⊥
+    never s e = cc
