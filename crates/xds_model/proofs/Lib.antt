@@ -13,3 +13,5 @@ pub mod CoreSteps
 pub mod Everyone
 pub mod EveryEvent
 pub mod Ranges
+pub mod More
+pub mod Settled

@@ -196,7 +196,7 @@ quiet_folded t s [] none = none
 quiet_folded t s (m ∷ ms) none = quiet_folded t (take t s m) ms (still_none t s m none)
 
 delta_due : (store : Store) (x : Stream) (t : TypeName) (o : Offer) → IsDeltaStream x → to_send store x t ≡ Some o → (x.variant ≡ Some Delta) × (sessions.sending Delta t (at x.sessions t) (at store t).entries ≡ Some o)
-delta_due store x t o (inl none) due = let never : None ≡ Some o = sym (ap (λ w. option_and_then (λ k. sessions.sending k t (at x.sessions t) (at store t).entries) w) none) ∙ due in absurd cc
+delta_due store x t o (inl none) due = let never : None ≡ Some o = sym (ap (λ w. option_and_then (λ k. sessions.sending k t (at x.sessions t) (at store t).entries) w) none.0) ∙ due in absurd cc
 delta_due store x t o (inr delta) due = (delta, sym (ap (λ w. option_and_then (λ k. sessions.sending k t (at x.sessions t) (at store t).entries) w) delta) ∙ due)
 
 -- the lane of the type of which a response was sent
@@ -270,7 +270,7 @@ linked_polled all replica store c l x y d known is linked =
     subst (λ e. Linked all c (record l { down = l.down ++ e ∷ [] }) y) (sym same)
     (subst (Linked all c (record l { down = l.down ++ drafts.Delta (response replica is.kind (at store is.kind) is.offer (suc x.count)) ∷ [] })) (sym left)
     (record {
-      variant = linked.variant;
+      variant = inr due.0;
       counted = room;
       deltas = linked.deltas;
       lanes = λ t. poll_lane all replica store x is.kind t is.offer l (shelf c t) (known is.kind) room due.1 (same_type is.kind t) (linked.lanes t);

@@ -438,7 +438,7 @@ connected_shelf c greeted Route = refl
 pub linked_opened : (all : List TypedWrite) (c : Client) (r n : ℕ) (greeted : Bool) → ((t : TypeName) → Rests all t (shelf c t))
     → Linked all (linked greeted c) (record { replica = r; stream = n; up = opening_requests Delta c; down = [] }) opening
 linked_opened all c r n greeted rests = record {
-  variant = inl refl;
+  variant = inl (refl, refl);
   counted = omega arith;
   deltas = first_deltas c false types;
   lanes = λ t.

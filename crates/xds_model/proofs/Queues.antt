@@ -6,7 +6,7 @@ use Rattle.std.proofs.lemmas.Fmt.{decimal_injective, decimal_nonempty}
 use Rattle.xds_resource.specs.declared.types.TypeName.{TypeName}
 use Rattle.xds_resource.specs.Types.{row, is_same_type}
 use Rattle.xds_resource.specs.Stamps.{max_counter}
-use Rattle.xds_resource.specs.PerType.{PerType, at, with_at}
+use Rattle.xds_resource.specs.PerType.{PerType, at, with_at, each}
 use Rattle.xds_resource.proofs.NameMaps.{bytes_eq_same, bytes_eq_tells}
 use Rattle.xds_resource.proofs.TypesApart.{same_type, is_same_type-same, at-with_at, at-with_at_other}
 use Rattle.xds_interest.specs.Asked.{IsStarOfComplete}
@@ -133,7 +133,7 @@ pub record Lane (all : List TypedWrite) (t : TypeName) (s : Session) (count : �
 
 -- a stream whose variant isn't decided has no session of any type
 abbrev pub IsDeltaStream : Stream → Type 0
-IsDeltaStream x = (x.variant ≡ None) ⊎ (x.variant ≡ Some variants.Delta)
+IsDeltaStream x = ((x.variant ≡ None) × (x.sessions ≡ each unopened)) ⊎ (x.variant ≡ Some variants.Delta)
 
 -- a link of an incremental client
 pub record Linked (all : List TypedWrite) (c : Client) (l : Link) (x : Stream) : Type 0 where
