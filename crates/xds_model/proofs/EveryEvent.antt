@@ -57,7 +57,7 @@ get_put m k x =
       | inr other ↦ absurd (other.0 refl)
     ]
 
-same_peers : (w : World) (r : ℕ) (e : Event) (q : Reply × World) → AtSite w r e q → q.1.peers ≡ w.peers
+pub same_peers : (w : World) (r : ℕ) (e : Event) (q : Reply × World) → AtSite w r e q → q.1.peers ≡ w.peers
 same_peers w r e q x = ap (λ y. y.peers) x.left
 
 -- a stream that a link is at is the one that is open there
@@ -213,7 +213,7 @@ fine_connect w left all c r p has none is fine =
 -- ---- Change
 
 -- what a client's change is, where it is possible
-changed_ok : {X : Type 0} (tag : X → Message) (r : ClientOutcome (Option X)) (q : Client × Option Message) → changed_by tag r ≡ Some q → (y : Client × Option X) × (r ≡ Ok y) × (q ≡ (y.0, option_map tag y.1))
+pub changed_ok : {X : Type 0} (tag : X → Message) (r : ClientOutcome (Option X)) (q : Client × Option Message) → changed_by tag r ≡ Some q → (y : Client × Option X) × (r ≡ Ok y) × (q ≡ (y.0, option_map tag y.1))
 changed_ok tag (Ok y) q is = (y, refl, sym (some_is (y.0, option_map tag y.1) q is))
 changed_ok tag (Err e) q is = absurd cc
 
@@ -251,7 +251,7 @@ sent_on : (l : Link) (b : Bool) (m : DeltaRequest) → sending (if b then Some (
 sent_on l true m = refl
 sent_on l false m = λ i. record l { up = sym (append-nil l.up) i }
 
-same_replica_on : (o : Option Message) (l : Link) → (sending o l).replica ≡ l.replica
+pub same_replica_on : (o : Option Message) (l : Link) → (sending o l).replica ≡ l.replica
 same_replica_on None l = refl
 same_replica_on (Some m) l = refl
 
@@ -327,7 +327,7 @@ fine_joined w left all c kind is fine =
     (λ r s at_r. fine.counted r s (ap (λ y. finmap.get y.sites r) (sym is) ∙ at_r)) fine
 
 -- a batch that joins the pool
-pooled_is : (r : ℕ) (reply : Reply) (w left : World) → pooled r (reply, w) ≡ Some left → (left.sites ≡ w.sites) × (left.peers ≡ w.peers)
+pub pooled_is : (r : ℕ) (reply : Reply) (w left : World) → pooled r (reply, w) ≡ Some left → (left.sites ≡ w.sites) × (left.peers ≡ w.peers)
 pooled_is r (Entries b) w left is = let same = some_is (record w { pool = w.pool ++ (r, b) ∷ [] }) left is in (sym (ap (λ y. y.sites) same), sym (ap (λ y. y.peers) same))
 pooled_is r (Opened n) w left is = absurd cc
 pooled_is r (Answered o) w left is = absurd cc

@@ -15,3 +15,4 @@ pub mod EveryEvent
 pub mod Ranges
 pub mod More
 pub mod Settled
+pub mod Followed

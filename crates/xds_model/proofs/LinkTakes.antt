@@ -428,7 +428,7 @@ lane_opened all t f q false some nonce says held rests = record {
     never_draft : (d : DraftedDelta) → ◌≡◌ {A = Option DraftedDelta} None (Some d) → ⊥
     never_draft d e = cc
 
-connected_shelf : (c : Client) (greeted : Bool) (t : TypeName) → shelf (linked greeted c) t ≡ connected (shelf c t)
+pub connected_shelf : (c : Client) (greeted : Bool) (t : TypeName) → shelf (linked greeted c) t ≡ connected (shelf c t)
 connected_shelf c greeted Cluster = refl
 connected_shelf c greeted Endpoint = refl
 connected_shelf c greeted Listener = refl
@@ -451,7 +451,7 @@ linked_opened all c r n greeted rests = record {
 
 -- ---- its loss
 
-lost_shelf : (c : Client) (t : TypeName) → shelf (unlinked c) t ≡ lost (shelf c t)
+pub lost_shelf : (c : Client) (t : TypeName) → shelf (unlinked c) t ≡ lost (shelf c t)
 lost_shelf c Cluster = refl
 lost_shelf c Endpoint = refl
 lost_shelf c Listener = refl
