@@ -29,7 +29,7 @@ use Rattle.xds_cache.specs.Clients as clients
 use Rattle.xds_cache.specs.Clients.{Client, shelf, with_shelf, unlinked, shelf_after, addressing}
 use Rattle.xds_cache.specs.Deliveries.{Delivery, delivered, fault_in, taking, rejecting, sotw_delivery, delta_delivery}
 use Rattle.xds_cache.specs.Sends.{is_greeted}
-use Rattle.xds_cache.specs.Receives.{Outcome, sotw_change, sotw_changed, sotw_answered, delta_answered, sotw_receive, delta_receive, if_addressed}
+use Rattle.xds_cache.specs.Receives.{Outcome, sotw_change, sotw_changed, delta_change, delta_changed, sotw_answered, delta_answered, sotw_receive, delta_receive, if_addressed}
 use Rattle.xds_model.specs.declared.event.ClientKind.{ClientKind}
 use Rattle.xds_model.specs.declared.event.ClientKind.TheVariants.{Sotw, Delta}
 use Rattle.xds_model.specs.Happenings.{Happening, Wish, Names, Edits, AddReplica, AddClient, Put, Delete, Snapshot, Merge, Connect, Change, Up, Poll, Down, Lose}
@@ -53,19 +53,21 @@ module _ {Y : Type 0} (look : Option Peer → Y) (w left : World) (d : ℕ) (aft
       ]
 
   -- and one that did
-  changed_look : (y : Y) → look (Some after) ≡ y → look (finmap.get left.peers c) ≡ (if d == c then y else look (finmap.get w.peers c))
-  changed_look y now =
+  changed_look : (g : Y → Y) (before : Peer) → finmap.get w.peers d ≡ Some before → look (Some after) ≡ g (look (Some before)) → look (finmap.get left.peers c) ≡ (if d == c then g (look (finmap.get w.peers c)) else look (finmap.get w.peers c))
+  changed_look g before has now =
       ap (λ m. look (finmap.get m c)) peers
       ∙ elim (get-inserted nat_cmp_total nat_cmp-IsAntisymmetric w.peers d after c) [
-        | inl here ↦ ap look here.1 ∙ now ∙ ap (λ b. if b then y else look (finmap.get w.peers c)) (sym (is_same here.0))
-        | inr other ↦ ap look other.1 ∙ ap (λ b. if b then y else look (finmap.get w.peers c)) (sym (is_other other.0))
+        | inl here ↦
+            ap look here.1 ∙ now ∙ ap (λ o. g (look o)) (sym has) ∙ ap (λ n. g (look (finmap.get w.peers n))) here.0
+            ∙ ap (λ b. if b then g (look (finmap.get w.peers c)) else look (finmap.get w.peers c)) (sym (is_same here.0))
+        | inr other ↦ ap look other.1 ∙ ap (λ b. if b then g (look (finmap.get w.peers c)) else look (finmap.get w.peers c)) (sym (is_other other.0))
       ]
     where
       is_same : d ≡ c → (d == c) ≡ true
-      is_same e = elim (eqb_tells d c) [ inl yes_same ↦ yes_same.0 | inr other ↦ absurd (other.1 e) ]
+      is_same e = elim (eqb_tells d c) [ inl same ↦ same.0 | inr other ↦ absurd (other.1 e) ]
 
       is_other : d ≢ c → (d == c) ≡ false
-      is_other e = elim (eqb_tells d c) [ inl same ↦ absurd (e same.1) | inr no_same ↦ no_same.0 ]
+      is_other e = elim (eqb_tells d c) [ inl same ↦ absurd (e same.1) | inr other ↦ other.0 ]
 
 abbrev replica_of : Peer → Option ℕ
 replica_of p = option_map (λ l. l.replica) p.link
@@ -178,3 +180,187 @@ down_stays test w left d p l (x ∷ rest) has at_link is =
       replica = ap (option_map (λ k. k.replica)) (sym at_link);
       wants = λ t. received_wants test p.kind p.client x made.0 t made.1;
     }
+
+-- ---- what comes
+
+-- a client that came to a stream, or to the end of it, or wants something else
+pub record Comes (w left : World) (d : ℕ) : Type 0 where
+  pub before : Peer
+  pub after : Peer
+  pub has : finmap.get w.peers d ≡ Some before
+  pub peers : left.peers ≡ finmap.insert w.peers d after
+
+connected_comes : (test : Test) (w left : World) (d r : ℕ) → happens test w (Connect d r) ≡ Some left → (x : Comes w left d) × (replica_of x.after ≡ Some r) × ((t : TypeName) → (shelf x.after.client t).wants ≡ (shelf x.before.client t).wants)
+connected_comes test w left d r is =
+    let peer = bound_some (λ p. if is_none p.link then option_and_then (opened d r p) (at_site w r events.Open) else None) (finmap.get w.peers d) left is in
+    let p = peer.0 in
+    let made = bound_some (opened d r p) (at_site w r events.Open) left (if_both (is_none p.link) (option_and_then (opened d r p) (at_site w r events.Open)) left peer.2) in
+    let opens = opened_peer p made.0.0 made.0.1 left made.2 in
+    (
+      record { before = p; after = connected_to p r opens.0; has = peer.1; peers = ap (λ y. y.peers) opens.1 ∙ ap (λ y. finmap.insert y d (connected_to p r opens.0)) (same_peers w r events.Open made.0 (at_site_is w r events.Open made.0 made.1)) },
+      refl,
+      λ t. ap (λ (f : Shelf). f.wants) (connected_shelf p.client (is_greeted p.client false types) t),
+    )
+  where
+    if_both : (b : Bool) (o : Option World) (y : World) → (if b then o else None) ≡ Some y → o ≡ Some y
+    if_both true o y e = e
+    if_both false o y e = absurd cc
+
+    opened_peer : (p : Peer) (reply : Reply) (x y : World) → opened d r p (reply, x) ≡ Some y → (n : ℕ) × (y ≡ with_peer x d (connected_to p r n))
+    opened_peer p (events.Opened n) x y e = (n, sym (some_is _ y e))
+    opened_peer p (events.Answered o) x y e = absurd cc
+    opened_peer p (events.Polled o) x y e = absurd cc
+    opened_peer p (events.Owed o) x y e = absurd cc
+    opened_peer p events.Closed x y e = absurd cc
+    opened_peer p (events.Written n m) x y e = absurd cc
+    opened_peer p (events.Merged n) x y e = absurd cc
+    opened_peer p (events.Entries b) x y e = absurd cc
+
+lost_comes : (test : Test) (w left : World) (d : ℕ) → happens test w (Lose d) ≡ Some left → (x : Comes w left d) × (replica_of x.after ≡ None) × ((t : TypeName) → (shelf x.after.client t).wants ≡ (shelf x.before.client t).wants)
+lost_comes test w left d is =
+    let at_link = link_there w d (λ p l. option_map (λ q. with_peer q.1 d (record p { client = unlinked p.client; link = None })) (at_site w l.replica (events.Close l.stream))) left is in
+    let p = at_link.0 in
+    let e : Event = events.Close at_link.1.stream in
+    let after : Peer = record p { client = unlinked p.client; link = None } in
+    let made = mapped_some (λ q. with_peer q.1 d after) (at_site w at_link.1.replica e) left at_link.4 in
+    (
+      record { before = p; after = after; has = at_link.2; peers = ap (λ y. y.peers) made.2 ∙ ap (λ y. finmap.insert y d after) (same_peers w at_link.1.replica e made.0 (at_site_is w at_link.1.replica e made.0 made.1)) },
+      refl,
+      λ t. ap (λ (f : Shelf). f.wants) (lost_shelf p.client t),
+    )
+
+-- what a client wants of each type after a change
+wanted_changed : (up : Bool) (s : TypeName) (w : Wants) (c : Client) (t : TypeName) → (shelf (clients.changed up s w c) t).wants ≡ (if is_same_type s t then w else (shelf c t).wants)
+wanted_changed up s w c t =
+    elim (same_type s t) [
+      | inl equal ↦
+          ap (λ r. (at (with_at c.shelves s (shelf_after up s w c)) r).wants) (sym equal.0) ∙ ap (λ (x : Shelf). x.wants) (at-with_at c.shelves s (shelf_after up s w c)) ∙ ap (λ b. if b then w else (shelf c t).wants) (sym equal.1)
+      | inr other ↦ ap (λ (x : Shelf). x.wants) (at-with_at_other c.shelves s (shelf_after up s w c) t (λ e. other.0 (sym e))) ∙ ap (λ b. if b then w else (shelf c t).wants) (sym other.1)
+    ]
+
+once : {X : Type 0} (broken : Bool) (y z : Client × Option X) → ◌≡◌ {A = Outcome (Option X)} (if broken then Err NoStream else Ok y) (Ok z) → z ≡ y
+once true y z is = absurd cc
+once false y z is = cc
+
+-- a change of one list, and of two
+same_wanted : (s t : TypeName) (c : Client) (wish : Wish) → (if is_same_type s t then wished wish (shelf c s).wants else (shelf c t).wants) ≡ (if is_same_type s t then wished wish (shelf c t).wants else (shelf c t).wants)
+same_wanted s t c wish =
+    elim (same_type s t) [
+      | inl equal ↦ ap (λ r. if is_same_type s t then wished wish (shelf c r).wants else (shelf c t).wants) equal.0
+      | inr other ↦ ap (λ b. if b then wished wish (shelf c s).wants else (shelf c t).wants) other.1 ∙ ap (λ b. if b then wished wish (shelf c t).wants else (shelf c t).wants) (sym other.1)
+    ]
+
+wished_wants : (k : ClientKind) (p : Peer) (up : Bool) (s : TypeName) (wish : Wish) (q : Client × Option Message) (t : TypeName) → wish_of k p up s wish ≡ Some q
+    → (shelf q.0 t).wants ≡ (if is_same_type s t then wished wish (shelf p.client t).wants else (shelf p.client t).wants)
+wished_wants Sotw p up s (Names names) q t is =
+    let made = changed_ok streams.Sotw (sotw_change up s (wants_of names) p.client) q is in
+    ap (λ (x : Client × Option Message). (shelf x.0 t).wants) made.2 ∙ ap (λ (x : Client × Option messages.Request). (shelf x.0 t).wants) (once p.client.broken (sotw_changed up s (wants_of names) p.client) made.0 made.1)
+    ∙ wanted_changed up s (wants_of names) p.client t
+wished_wants Sotw p up s (Edits subscribe unsubscribe) q t is = absurd cc
+wished_wants Delta p up s (Names names) q t is = absurd cc
+wished_wants Delta p up s (Edits subscribe unsubscribe) q t is =
+    let made = changed_ok streams.Delta (delta_change up s (wants_of subscribe) (wants_of unsubscribe) p.client) q is in
+    ap (λ (x : Client × Option Message). (shelf x.0 t).wants) made.2
+    ∙ ap (λ (x : Client × Option DeltaRequest). (shelf x.0 t).wants) (once p.client.broken (delta_changed up s (wants_of subscribe) (wants_of unsubscribe) p.client) made.0 made.1)
+    ∙ wanted_changed up s (wants_after (wants_of subscribe) (wants_of unsubscribe) (shelf p.client s).wants) p.client t ∙ same_wanted s t p.client (Edits subscribe unsubscribe)
+
+changed_comes : (test : Test) (w left : World) (d : ℕ) (s : TypeName) (wish : Wish) → happens test w (Change d s wish) ≡ Some left
+    → (x : Comes w left d) × (replica_of x.after ≡ replica_of x.before) × ((t : TypeName) → (shelf x.after.client t).wants ≡ (if is_same_type s t then wished wish (shelf x.before.client t).wants else (shelf x.before.client t).wants))
+changed_comes test w left d s wish is =
+    let peer = bound_some (λ p. option_map (λ q. with_peer w d (changed p q)) (wish_taken p s wish)) (finmap.get w.peers d) left is in
+    let p = peer.0 in
+    let made = mapped_some (λ q. with_peer w d (changed p q)) (wish_taken p s wish) left peer.2 in
+    (record { before = p; after = changed p made.0; has = peer.1; peers = ap (λ y. y.peers) made.2 }, same_place made.0.1 p.link, λ t. wished_wants p.kind p (is_some p.link) s wish made.0 t made.1)
+  where
+    same_place : (o : Option Message) (l : Option Link) → option_map (λ k. k.replica) (option_map (sending o) l) ≡ option_map (λ k. k.replica) l
+    same_place o None = refl
+    same_place o (Some l) = ap Some (same_replica_on o l)
+
+written_peers : (w left : World) (r : ℕ) (e : Event) → happened_at w r e ≡ Some left → left.peers ≡ w.peers
+written_peers w left r e is = let made = mapped_some (λ p. p.1) (at_site w r e) left is in ap (λ y. y.peers) made.2 ∙ same_peers w r e made.0 (at_site_is w r e made.0 made.1)
+
+pooled_peers : (w left : World) (r : ℕ) → option_and_then (pooled r) (at_site w r events.Snapshot) ≡ Some left → left.peers ≡ w.peers
+pooled_peers w left r is =
+    let made = bound_some (pooled r) (at_site w r events.Snapshot) left is in
+    (pooled_is r made.0.0 made.0.1 left made.2).1 ∙ same_peers w r events.Snapshot made.0 (at_site_is w r events.Snapshot made.0 made.1)
+
+merged_peers : (w left : World) (r b : ℕ) → option_and_then (λ x. happened_at w r (events.Merge x.1)) (placed w.pool b) ≡ Some left → left.peers ≡ w.peers
+merged_peers w left r b is = let place = bound_some (λ x. happened_at w r (events.Merge x.1)) (placed w.pool b) left is in written_peers w left r (events.Merge place.0.1) place.2
+
+added_peers : (w left : World) (r : ℕ) (s : Site) → (if is_free w r then Some (record w { sites = finmap.insert w.sites r s }) else None) ≡ Some left → left.peers ≡ w.peers
+added_peers w left r s is = ap (λ y. y.peers) (if_some (is_free w r) (record w { sites = finmap.insert w.sites r s }) left is).1
+
+-- ---- step by step
+
+stays_link : (w left : World) (d c : ℕ) → Stays w left d → linked_to (finmap.get left.peers c) ≡ linked_to (finmap.get w.peers c)
+stays_link w left d c x = kept_look linked_to w left d x.after x.peers c (Some x.before) x.has x.replica
+
+stays_wants : (w left : World) (d c : ℕ) (t : TypeName) → Stays w left d → wanted_of t (finmap.get left.peers c) ≡ wanted_of t (finmap.get w.peers c)
+stays_wants w left d c t x = kept_look (wanted_of t) w left d x.after x.peers c (Some x.before) x.has (x.wants t)
+
+joined_is : (w left : World) (d : ℕ) (kind : ClientKind) → (if is_none (finmap.get w.peers d) then Some (with_peer w d (new_peer d kind)) else None) ≡ Some left → (finmap.get w.peers d ≡ None) × (left.peers ≡ finmap.insert w.peers d (new_peer d kind))
+joined_is w left d kind is = let made = if_some (is_none (finmap.get w.peers d)) (with_peer w d (new_peer d kind)) left is in (none_there (finmap.get w.peers d) made.0, ap (λ y. y.peers) made.1)
+
+up_of : (test : Test) (w left : World) (d : ℕ) → happens test w (Up d) ≡ Some left → Stays w left d
+up_of test w left d is = let at_link = link_there w d (λ p l. up_taken w d p l l.up) left is in up_stays w left d at_link.0 at_link.1 at_link.1.up at_link.2 at_link.3 at_link.4
+
+poll_of : (test : Test) (w left : World) (d : ℕ) (which : Option TypeName) → happens test w (Poll d which) ≡ Some left → Stays w left d
+poll_of test w left d which is = let at_link = link_there w d (λ p l. option_and_then (polled d p l) (at_site w l.replica (events.Poll l.stream which))) left is in poll_stays w left d at_link.0 at_link.1 which at_link.2 at_link.3 at_link.4
+
+down_of : (test : Test) (w left : World) (d : ℕ) → happens test w (Down d) ≡ Some left → Stays w left d
+down_of test w left d is = let at_link = link_there w d (λ p l. down_taken test w d p l l.down) left is in down_stays test w left d at_link.0 at_link.1 at_link.1.down at_link.2 at_link.3 at_link.4
+
+link_step : (test : Test) (w left : World) (c : ℕ) (h : Happening) → happens test w h ≡ Some left → linked_to (finmap.get left.peers c) ≡ linking c h (linked_to (finmap.get w.peers c))
+link_step test w left c (AddReplica r) is = ap (λ m. linked_to (finmap.get m c)) (added_peers w left r _ is)
+link_step test w left c (AddClient d kind) is = let made = joined_is w left d kind is in kept_look linked_to w left d (new_peer d kind) made.1 c None made.0 refl
+link_step test w left c (Put r t body) is = ap (λ m. linked_to (finmap.get m c)) (written_peers w left r (events.Put t body) is)
+link_step test w left c (Delete r t name) is = ap (λ m. linked_to (finmap.get m c)) (written_peers w left r (events.Delete t name) is)
+link_step test w left c (Snapshot r) is = ap (λ m. linked_to (finmap.get m c)) (pooled_peers w left r is)
+link_step test w left c (Merge r b) is = ap (λ m. linked_to (finmap.get m c)) (merged_peers w left r b is)
+link_step test w left c (Connect d r) is = let x = connected_comes test w left d r is in changed_look linked_to w left d x.0.after x.0.peers c (λ o. Some r) x.0.before x.0.has x.1
+link_step test w left c (Change d s wish) is = let x = changed_comes test w left d s wish is in kept_look linked_to w left d x.0.after x.0.peers c (Some x.0.before) x.0.has x.1
+link_step test w left c (Up d) is = stays_link w left d c (up_of test w left d is)
+link_step test w left c (Poll d which) is = stays_link w left d c (poll_of test w left d which is)
+link_step test w left c (Down d) is = stays_link w left d c (down_of test w left d is)
+link_step test w left c (Lose d) is = let x = lost_comes test w left d is in changed_look linked_to w left d x.0.after x.0.peers c (λ o. None) x.0.before x.0.has x.1
+
+wants_step : (test : Test) (w left : World) (c : ℕ) (t : TypeName) (h : Happening) → happens test w h ≡ Some left → wanted_of t (finmap.get left.peers c) ≡ wishing c t h (wanted_of t (finmap.get w.peers c))
+wants_step test w left c t (AddReplica r) is = ap (λ m. wanted_of t (finmap.get m c)) (added_peers w left r _ is)
+wants_step test w left c t (AddClient d kind) is = let made = joined_is w left d kind is in kept_look (wanted_of t) w left d (new_peer d kind) made.1 c None made.0 (ap (λ (f : Shelf). f.wants) (at-each bare t))
+wants_step test w left c t (Put r s body) is = ap (λ m. wanted_of t (finmap.get m c)) (written_peers w left r (events.Put s body) is)
+wants_step test w left c t (Delete r s name) is = ap (λ m. wanted_of t (finmap.get m c)) (written_peers w left r (events.Delete s name) is)
+wants_step test w left c t (Snapshot r) is = ap (λ m. wanted_of t (finmap.get m c)) (pooled_peers w left r is)
+wants_step test w left c t (Merge r b) is = ap (λ m. wanted_of t (finmap.get m c)) (merged_peers w left r b is)
+wants_step test w left c t (Connect d r) is = let x = connected_comes test w left d r is in kept_look (wanted_of t) w left d x.0.after x.0.peers c (Some x.0.before) x.0.has (x.2 t)
+wants_step test w left c t (Change d s wish) is = let x = changed_comes test w left d s wish is in changed_look (wanted_of t) w left d x.0.after x.0.peers c (λ before. if is_same_type s t then wished wish before else before) x.0.before x.0.has (x.2 t)
+wants_step test w left c t (Up d) is = stays_wants w left d c t (up_of test w left d is)
+wants_step test w left c t (Poll d which) is = stays_wants w left d c t (poll_of test w left d which is)
+wants_step test w left c t (Down d) is = stays_wants w left d c t (down_of test w left d is)
+wants_step test w left c t (Lose d) is = let x = lost_comes test w left d is in kept_look (wanted_of t) w left d x.0.after x.0.peers c (Some x.0.before) x.0.has (x.2 t)
+
+-- ---- whatever list of happenings
+
+link_or : (test : Test) (w : World) (c : ℕ) (h : Happening) (hs : List Happening) (o : Option World) → happens test w h ≡ o → ((x : World) → linked_after test x c (linked_to (finmap.get x.peers c)) hs ≡ linked_to (finmap.get (after test x hs).peers c))
+    → option_map_or (λ x. linked_after test x c (linking c h (linked_to (finmap.get w.peers c))) hs) o (linked_after test w c (linked_to (finmap.get w.peers c)) hs) ≡ linked_to (finmap.get (after test (option_map_or (λ x. x) o w) hs).peers c)
+link_or test w c h hs None is later = later w
+link_or test w c h hs (Some x) is later = ap (λ o. linked_after test x c o hs) (sym (link_step test w x c h is)) ∙ later x
+
+link_after : (test : Test) (hs : List Happening) (c : ℕ) (w : World) → linked_after test w c (linked_to (finmap.get w.peers c)) hs ≡ linked_to (finmap.get (after test w hs).peers c)
+link_after test [] c w = refl
+link_after test (h ∷ hs) c w = link_or test w c h hs (happens test w h) refl (link_after test hs c)
+
+wants_or : (test : Test) (w : World) (c : ℕ) (t : TypeName) (h : Happening) (hs : List Happening) (o : Option World) → happens test w h ≡ o → ((x : World) → wanted_after test x c t (wanted_of t (finmap.get x.peers c)) hs ≡ wanted_of t (finmap.get (after test x hs).peers c))
+    → option_map_or (λ x. wanted_after test x c t (wishing c t h (wanted_of t (finmap.get w.peers c))) hs) o (wanted_after test w c t (wanted_of t (finmap.get w.peers c)) hs) ≡ wanted_of t (finmap.get (after test (option_map_or (λ x. x) o w) hs).peers c)
+wants_or test w c t h hs None is later = later w
+wants_or test w c t h hs (Some x) is later = ap (λ o. wanted_after test x c t o hs) (sym (wants_step test w x c t h is)) ∙ later x
+
+wanting_after : (test : Test) (hs : List Happening) (c : ℕ) (t : TypeName) (w : World) → wanted_after test w c t (wanted_of t (finmap.get w.peers c)) hs ≡ wanted_of t (finmap.get (after test w hs).peers c)
+wanting_after test [] c t w = refl
+wanting_after test (h ∷ hs) c t w = wants_or test w c t h hs (happens test w h) refl (wanting_after test hs c t)
+
+-- where a client is linked, and what it wants
+pub link_is : (test : Test) (hs : List Happening) (c : ℕ) → link test hs c ≡ linked_to (finmap.get (after test empty_world hs).peers c)
+link_is test hs c = ap (λ o. linked_after test empty_world c (linked_to o) hs) (sym (finmap.get-empty nat_cmp c)) ∙ link_after test hs c empty_world
+
+pub wants_are : (test : Test) (hs : List Happening) (c : ℕ) (t : TypeName) → wants test hs c t ≡ wanted_of t (finmap.get (after test empty_world hs).peers c)
+wants_are test hs c t = ap (λ o. wanted_after test empty_world c t (wanted_of t o) hs) (sym (finmap.get-empty nat_cmp c)) ∙ wanting_after test hs c t empty_world
