@@ -1,21 +1,18 @@
 -- What a step of a replica that isn't refused does to its streams.
-use Rattle.std.proofs.Common.{◌≡◌, ◌≢◌, ◌⊎◌, inl, inr, ℕ, suc, ◌+◌, ◌≤◌, List, [], ◌∷◌, Bool, true, false, Option, Some, None, Result, Ok, Err, refl, sym, ap, subst, ◌∙◌, arith}
-use Rattle.std.specs.Prelude.{◌==◌, if◌then◌else◌}
+use Rattle.std.proofs.Common.{◌≡◌, inl, inr, ℕ, ◌+◌, ◌≤◌, Bool, Option, Some, None, Result, Ok, Err, refl, sym, ap, subst, ◌∙◌, arith}
+use Rattle.std.specs.Prelude.{◌==◌}
 use Rattle.std.specs.Option.{option_map_or}
-use Rattle.std.specs.Ordering.{nat_cmp}
 use Rattle.std.specs.Cmp.{nat_cmp_total}
 use Rattle.std.specs.FinMap as finmap
-use Rattle.std.specs.FinMap.{FinMap, nat_cmp-IsAntisymmetric}
-use Rattle.xds_resource.specs.declared.types.TypeName.{TypeName}
+use Rattle.std.specs.FinMap.{nat_cmp-IsAntisymmetric}
 use Rattle.xds_resource.specs.declared.refusal.Refusal.{Refusal}
 use Rattle.xds_resource.specs.declared.refusal.Refusal.TheVariants.{CounterSpent, NoStream}
 use Rattle.xds_resource.specs.Stamps.{max_counter}
 use Rattle.xds_catalogue.proofs.Lookups.{get-inserted, get-removed}
 use Rattle.xds_core.specs.Stores.{Store, putting_at, deleting_at, merging, if_done}
 use Rattle.xds_core.specs.Streams.{Stream, opening, requested, polled_first, looked_at, owes_some}
-use Rattle.xds_core.specs.Events as events
-use Rattle.xds_core.specs.Events.{Event, Open, Request, Poll, Owes, Close, Put, Delete, Merge, Snapshot, Reply, Opened, Answered, Polled, Owed, Closed, Written, Merged, Entries}
-use Rattle.xds_core.specs.Steps.{Core, Step, step, with_stream, stream_step, opening_step, close_step}
+use Rattle.xds_core.specs.Events.{Event, Open, Request, Poll, Owes, Close, Put, Delete, Merge, Snapshot, Reply, Opened, Answered, Polled, Owed, Closed, Written, Merged}
+use Rattle.xds_core.specs.Steps.{Core, Step, step, with_stream, stream_step}
 use Rattle.xds_core.proofs.StepLaws.{done_with, unless_once}
 
 stepped_is : (p q : Reply × Core) → ◌≡◌ {A = Step} (Ok p) (Ok q) → q ≡ p

@@ -1,6 +1,6 @@
 -- What a response of the incremental variant says of each name: what its offer says.
-use Rattle.std.proofs.Common.{◌≡◌, ℕ, suc, ◌+◌, List, [], ◌∷◌, map, Bool, true, false, cond, ◌&&◌, ◌||◌, not, Option, Some, None, Result, Ok, refl, sym, ap, subst, ◌∙◌}
-use Rattle.std.specs.Prelude.{bytes_eq, if◌then◌else◌, is_some, option_map, unwrap_or, decimal, Contains, IfSome}
+use Rattle.std.proofs.Common.{◌≡◌, ℕ, List, [], ◌∷◌, map, Bool, true, false, cond, ◌&&◌, ◌||◌, not, Option, Some, None, Result, Ok, refl, sym, ap, ◌∙◌}
+use Rattle.std.specs.Prelude.{bytes_eq, if◌then◌else◌, is_some, option_map, Contains}
 use Rattle.std.specs.Option.{option_or, option_and_then, option_map_or, ForSome}
 use Rattle.std.specs.List.{filter, filter_map, cons_option}
 use Rattle.std.specs.FinMap as finmap
@@ -8,14 +8,13 @@ use Rattle.xds_resource.specs.declared.types.TypeName.{TypeName}
 use Rattle.xds_resource.specs.declared.refusal.Refusal.{Refusal}
 use Rattle.xds_resource.specs.declared.refusal.Refusal.TheVariants.{BadResource, BadName}
 use Rattle.xds_resource.specs.Refusals.{unless_refused}
-use Rattle.xds_resource.specs.Resources.{NamedBody, IsCanonical, value_of, from_object, object_conditions, resource_of, is_resource, is_valid_name, name_or_empty}
+use Rattle.xds_resource.specs.Resources.{NamedBody, IsCanonical, value_of, resource_of, is_resource, is_valid_name, name_or_empty}
 use Rattle.xds_resource.specs.Writes.{StampedWrite, text_cmp, version_of}
 use Rattle.xds_resource.proofs.NameMaps.{has_text, get-insert, get-tabulate, has_text-keys, bytes_eq_tells, bytes_eq_swap}
 use Rattle.xds_resource.proofs.MadeMaps.{EachFound, each_found}
 use Rattle.xds_interest.specs.Interests.{Selection, covers}
 use Rattle.xds_catalogue.specs.Holdings.{Holdings, Entries}
-use Rattle.xds_catalogue.specs.Content.{is_live}
-use Rattle.xds_draft.specs.Drafts.{DraftedDelta, DraftedResource, drafted_resource, delta_message_of}
+use Rattle.xds_draft.specs.Drafts.{DraftedResource, drafted_resource}
 use Rattle.xds_ledger.specs.declared.variant.VariantName.TheVariants.{Delta}
 use Rattle.xds_ledger.specs.declared.entry.Entry.{Entry}
 use Rattle.xds_ledger.specs.declared.entry.Entry.TheVariants.{Told, Unsure}
@@ -26,7 +25,7 @@ use Rattle.xds_ledger.specs.Owed.{Beliefs, live_version, present, owed, owed_of}
 use Rattle.xds_ledger.specs.Offers.{Offer, offer, stated_version}
 use Rattle.xds_ledger.proofs.ByName.{offer_says_it}
 use Rattle.xds_delta.specs.Polls.{is_statement, is_removal, names_where, resource_of as drafted_of, resource_at, response}
-use Rattle.xds_cache.specs.Shelves.{Holding, Cache, marked, wants_of}
+use Rattle.xds_cache.specs.Shelves.{Holding, Cache, marked}
 use Rattle.xds_cache.specs.Faults.{Stated as StatedResource, stated_by, and_stated}
 use Rattle.xds_cache.specs.Deliveries.{delta_stated}
 use Rattle.xds_model.specs.Knows.{TypedWrite}
@@ -96,8 +95,8 @@ stated_body all t m n q ns w before (Some body) is has known behind =
     let r : StatedResource = record { named = Some w.name; version = version_of w; resource = value_of body } in
     let same : resource_of t (value_of body) ≡ record { name = w.name; body = body } = canonical_is t (record { name = w.name; body = body }) (known.canonical body is) in
     let stated : finmap.get (and_stated t before r) q ≡ cond (bytes_eq q n) (Some h) (finmap.get before q) =
-        ap (λ (x : NamedBody). finmap.get (finmap.insert before x.name (record { version = version_of w; body = x.body })) q) same ∙ get-insert before w.name h q
-        ∙ ap (λ b. cond b (Some h) (finmap.get before q)) (ap (λ x. bytes_eq x q) known.named ∙ bytes_eq_swap n q) in
+    ap (λ (x : NamedBody). finmap.get (finmap.insert before x.name (record { version = version_of w; body = x.body })) q) same ∙ get-insert before w.name h q
+    ∙ ap (λ b. cond b (Some h) (finmap.get before q)) (ap (λ x. bytes_eq x q) known.named ∙ bytes_eq_swap n q) in
     behind (and_stated t before r) ∙ ap (option_or (cond (has_text ns q) (live m q) None)) stated
     ∙ put_on (bytes_eq q n) (has_text ns q) (live m q) (finmap.get before q) h
     (λ equal. ap (live m) (bytes_eq_tells q n equal) ∙ ap (option_and_then holding_of) has ∙ ap (option_map (λ x. record { version = version_of w; body = x })) is)

@@ -1,7 +1,7 @@
 -- What is kept of all clients is kept by whatever happens.
-use Rattle.std.proofs.Common.{◌≡◌, ◌≢◌, ◌⊎◌, inl, inr, ℕ, suc, ◌+◌, ◌≤◌, List, [], ◌∷◌, ◌++◌, map, Bool, true, false, ◌&&◌, not, Option, Some, None, Result, Ok, Err, refl, sym, ap, subst, ◌∙◌, append-nil, arith}
-use Rattle.std.specs.Prelude.{if◌then◌else◌, is_none, is_some, option_map, Contains, nat_lt, decimal}
-use Rattle.std.specs.Option.{option_and_then, option_map_or}
+use Rattle.std.proofs.Common.{◌≡◌, ◌≢◌, inl, inr, ℕ, ◌+◌, ◌≤◌, List, [], ◌∷◌, ◌++◌, Bool, true, false, ◌&&◌, not, Option, Some, None, Ok, Err, refl, sym, ap, subst, ◌∙◌, append-nil, arith}
+use Rattle.std.specs.Prelude.{if◌then◌else◌, is_none, is_some, option_map, nat_lt}
+use Rattle.std.specs.Option.{option_and_then}
 use Rattle.std.specs.Ordering.{nat_cmp}
 use Rattle.std.specs.Cmp.{nat_cmp_total}
 use Rattle.std.specs.FinMap as finmap
@@ -11,18 +11,17 @@ use Rattle.xds_resource.specs.declared.refusal.Refusal.TheVariants.{NoStream}
 use Rattle.xds_resource.specs.Stamps.{max_writer}
 use Rattle.xds_resource.specs.PerType.{at}
 use Rattle.xds_resource.proofs.TypesApart.{at-each}
-use Rattle.xds_catalogue.proofs.Lookups.{get-inserted, get-removed}
+use Rattle.xds_catalogue.proofs.Lookups.{get-inserted}
 use Rattle.xds_message.specs.DeltaMessages.{DeltaRequest}
 use Rattle.xds_draft.specs.declared.draft.Draft.{Draft}
-use Rattle.xds_ledger.specs.declared.outcome.Outcome.{Outcome}
 use Rattle.xds_core.specs.Laws.{stream_changed}
 use Rattle.xds_core.specs.Stores.{Store}
 use Rattle.xds_core.specs.Streams as streams
 use Rattle.xds_core.specs.Streams.{Stream, Message, opening, requested, polled_first, looked_at}
 use Rattle.xds_core.specs.Events as events
 use Rattle.xds_core.specs.Events.{Event, Reply, Opened, Answered, Polled, Owed, Closed, Written, Merged, Entries}
-use Rattle.xds_core.specs.Steps.{Core, step, fresh as fresh_core, with_stream}
-use Rattle.xds_cache.specs.Shelves.{Wants, Shelf, bare, wants_of, wants_after}
+use Rattle.xds_core.specs.Steps.{Core, fresh as fresh_core}
+use Rattle.xds_cache.specs.Shelves.{Wants, bare, wants_of, wants_after}
 use Rattle.xds_cache.specs.Faults.{Test}
 use Rattle.xds_cache.specs.Clients as clients
 use Rattle.xds_cache.specs.Clients.{Client, shelf, node, is_sent, unlinked}
@@ -30,16 +29,16 @@ use Rattle.xds_cache.specs.Sends.{delta_request, is_greeted}
 use Rattle.xds_resource.specs.Types.{types}
 use Rattle.xds_cache.specs.Receives.{Outcome as ClientOutcome, delta_change, delta_changed}
 use Rattle.xds_model.specs.declared.event.ClientKind.{ClientKind}
-use Rattle.xds_model.specs.declared.event.ClientKind.TheVariants.{Sotw, Delta}
+use Rattle.xds_model.specs.declared.event.ClientKind.TheVariants.{Delta}
 use Rattle.xds_model.specs.Happenings.{Happening, Wish, Names, Edits, AddReplica, AddClient, Put, Delete, Snapshot, Merge, Connect, Change, Up, Poll, Down, Lose}
-use Rattle.xds_model.specs.Worlds.{Site, Link, Peer, World, empty_world, recorded, at_site, happened_at, placed, pooled, with_peer, new_peer, connected_to, opened, sending, changed, changed_by, wish_of, wish_taken, under_way, polled, up_taken, received, received_in, taken_down, down_taken, opening_requests, on_link, is_free, happens}
+use Rattle.xds_model.specs.Worlds.{Site, Link, Peer, World, empty_world, at_site, happened_at, placed, pooled, with_peer, new_peer, connected_to, opened, sending, changed, changed_by, wish_of, wish_taken, under_way, polled, up_taken, received, received_in, taken_down, down_taken, opening_requests, on_link, is_free, happens}
 use Rattle.xds_model.specs.Knows.{TypedWrite}
-use Rattle.xds_model.proofs.Replicas.{some_is, bound_some, mapped_some, if_some, if_then, both_parts, none_there}
+use Rattle.xds_model.proofs.Replicas.{some_is, bound_some, mapped_some, if_some, both_parts, none_there}
 use Rattle.xds_model.proofs.Queues.{Linked}
 use Rattle.xds_model.proofs.Delivering.{AllKnown}
 use Rattle.xds_model.proofs.LinkSteps.{linked_up, linked_polled, poll_sent, poll_quiet}
 use Rattle.xds_model.proofs.LinkTakes.{Rests, received_is, linked_down, wished_requests, linked_changed, linked_opened, rests_lost, rests_changed, rests_fresh}
-use Rattle.xds_model.proofs.CoreSteps.{stream_step_is, open_is, opened_to}
+use Rattle.xds_model.proofs.CoreSteps.{stream_step_is, open_is}
 use Rattle.xds_model.proofs.Everyone.{stream_at, AllCounted, AtSite, at_site_is, here_at, frame_at, counted_at, Fine, fine_sites, fine_peer}
 
 -- ---- where a client is
@@ -111,9 +110,13 @@ fine_up w left all c p l (m ∷ rest) up has link is fine =
     ap (λ y. stream_at y l.replica l.stream) made.2 ∙ here_at w l.replica l.stream e q x ∙ ap (λ y. finmap.get y.1.streams l.stream) at_core.4 ∙ get_put x.site.core.streams l.stream at_core.1.1 in
     fine_here w left all c p l has link fine after (ap (λ y. y.peers) made.2 ∙ ap (λ y. finmap.insert y c after) (same_peers w l.replica e q x))
     (stream_frame w left all c p l has link fine e q x refl (ap (λ y. y.sites) made.2))
-    (λ k at_k. let is_k : record l { up = rest } ≡ k = some_is (record l { up = rest }) k at_k in
-    (at_core.1.1, sym (ap (λ y. y.replica) is_k), sym (ap (λ y. y.stream) is_k), now,
-    λ kind. subst (λ y. Linked all p.client y at_core.1.1) is_k (linked_up all p.client l here.0 m rest at_core.1 up (ap (λ s. requested s m) (sym same) ∙ at_core.3) (here.2 kind))))
+    (λ k at_k. let is_k : record l { up = rest } ≡ k = some_is (record l { up = rest }) k at_k in (
+      at_core.1.1,
+      sym (ap (λ y. y.replica) is_k),
+      sym (ap (λ y. y.stream) is_k),
+      now,
+      λ kind. subst (λ y. Linked all p.client y at_core.1.1) is_k (linked_up all p.client l here.0 m rest at_core.1 up (ap (λ s. requested s m) (sym same) ∙ at_core.3) (here.2 kind)),
+    ))
     (λ none kind. absurd (never_link (record l { up = rest }) none)) (still_counted w left all c p l has link fine e q x (ap (λ y. y.sites) made.2))
 
 -- what a poll of the client's stream gave
@@ -146,11 +149,15 @@ fine_poll w left all c p l which known has link is fine =
     ap (λ y. stream_at y l.replica l.stream) left_is ∙ here_at w l.replica l.stream e q x ∙ ap (λ y. finmap.get y.1.streams l.stream) at_core.4 ∙ get_put x.site.core.streams l.stream at_core.1.1 in
     fine_here w left all c p l has link fine after (ap (λ y. y.peers) left_is ∙ ap (λ y. finmap.insert y c after) (same_peers w l.replica e q x))
     (stream_frame w left all c p l has link fine e q x refl (ap (λ y. y.sites) left_is))
-    (λ k at_k. let is_k : record l { down = l.down ++ under_way o } ≡ k = some_is (record l { down = l.down ++ under_way o }) k at_k in
-    (at_core.1.1, sym (ap (λ y. y.replica) is_k), sym (ap (λ y. y.stream) is_k), now,
-    λ kind. subst (λ y. Linked all p.client y at_core.1.1) is_k
-    (linked_poll all x.site.core.replica x.site.core.store p.client l here.0 at_core.1.1 (looked_at which) o (λ t. known l.replica x.site t x.has)
-    (ap (λ s. polled_first x.site.core.replica x.site.core.store s (looked_at which)) (sym same) ∙ at_core.3) (here.2 kind))))
+    (λ k at_k. let is_k : record l { down = l.down ++ under_way o } ≡ k = some_is (record l { down = l.down ++ under_way o }) k at_k in (
+      at_core.1.1,
+      sym (ap (λ y. y.replica) is_k),
+      sym (ap (λ y. y.stream) is_k),
+      now,
+      λ kind. subst (λ y. Linked all p.client y at_core.1.1) is_k
+          (linked_poll all x.site.core.replica x.site.core.store p.client l here.0 at_core.1.1 (looked_at which) o (λ t. known l.replica x.site t x.has)
+          (ap (λ s. polled_first x.site.core.replica x.site.core.store s (looked_at which)) (sym same) ∙ at_core.3) (here.2 kind)),
+    ))
     (λ none kind. absurd (never_link (record l { down = l.down ++ under_way o }) none)) (still_counted w left all c p l has link fine e q x (ap (λ y. y.sites) left_is))
 
 fine_down : (test : Test) (w left : World) (all : List TypedWrite) (c : ℕ) (p : Peer) (l : Link) (ds : List Draft) → l.down ≡ ds → finmap.get w.peers c ≡ Some p → p.link ≡ Some l → down_taken test w c p l ds ≡ Some left → Fine w all → Fine left all
@@ -161,9 +168,13 @@ fine_down test w left all c p l (d ∷ rest) down has link is fine =
     let next : Link = record l { up = l.up ++ q.1 ∷ []; down = rest } in
     let here = fine.ups c p l has link in
     fine_here w left all c p l has link fine (taken_down p l rest q) (ap (λ y. y.peers) made.2) (λ e r m other has_e link_e. ap (λ y. stream_at y m.replica m.stream) made.2)
-    (λ k at_k. let is_k : next ≡ k = some_is next k at_k in
-    (here.0, sym (ap (λ y. y.replica) is_k), sym (ap (λ y. y.stream) is_k), ap (λ y. stream_at y l.replica l.stream) made.2 ∙ here.1,
-    λ kind. subst (λ y. Linked all q.0 y here.0) is_k (linked_down all test p.client l here.0 d rest q down (received_is test p.client d q (ap (λ y. received_in test y p.client d) (sym kind) ∙ made.1)) (here.2 kind))))
+    (λ k at_k. let is_k : next ≡ k = some_is next k at_k in (
+      here.0,
+      sym (ap (λ y. y.replica) is_k),
+      sym (ap (λ y. y.stream) is_k),
+      ap (λ y. stream_at y l.replica l.stream) made.2 ∙ here.1,
+      λ kind. subst (λ y. Linked all q.0 y here.0) is_k (linked_down all test p.client l here.0 d rest q down (received_is test p.client d q (ap (λ y. received_in test y p.client d) (sym kind) ∙ made.1)) (here.2 kind)),
+    ))
     (λ none kind. absurd (never_link next none)) (λ r s at_r. fine.counted r s (ap (λ y. finmap.get y.sites r) (sym made.2) ∙ at_r))
 
 fine_lose : (w left : World) (all : List TypedWrite) (c : ℕ) (p : Peer) (l : Link) → finmap.get w.peers c ≡ Some p → p.link ≡ Some l
@@ -202,10 +213,12 @@ fine_connect w left all c r p has none is fine =
     fine_peer w left all c after (ap (λ y. y.peers) left_is ∙ ap (λ y. finmap.insert y c after) (same_peers w r e q x))
     (λ d s m other has_d link_d. ap (λ y. stream_at y m.replica m.stream) left_is
     ∙ frame_at w r e q x m.replica m.stream (λ same opens. let le = below d s m has_d link_d same in let at_end = some_is n m.stream opens in absurd (omega (arith, le, at_end))))
-    (λ k at_k. let is_k = some_is (record { replica = r; stream = n; up = opening_requests p.kind p.client; down = [] }) k at_k in
-    (opening, (λ i. stream_at left (ap (λ y. y.replica) (sym is_k) i) (ap (λ y. y.stream) (sym is_k) i)) ∙ now,
-    λ kind. subst (λ y. Linked all (clients.linked (is_greeted p.client false types) p.client) y opening) (ap (λ v. record { replica = r; stream = n; up = opening_requests v p.client; down = [] }) (sym kind) ∙ is_k)
-    (linked_opened all p.client r n (is_greeted p.client false types) (fine.downs c p has none kind))))
+    (λ k at_k. let is_k = some_is (record { replica = r; stream = n; up = opening_requests p.kind p.client; down = [] }) k at_k in (
+      opening,
+      (λ i. stream_at left (ap (λ y. y.replica) (sym is_k) i) (ap (λ y. y.stream) (sym is_k) i)) ∙ now,
+      λ kind. subst (λ y. Linked all (clients.linked (is_greeted p.client false types) p.client) y opening) (ap (λ v. record { replica = r; stream = n; up = opening_requests v p.client; down = [] }) (sym kind) ∙ is_k)
+          (linked_opened all p.client r n (is_greeted p.client false types) (fine.downs c p has none kind)),
+    ))
     (λ never kind. absurd (never_link (record { replica = r; stream = n; up = opening_requests p.kind p.client; down = [] }) never))
     (λ d s k m other has_d at_k link_d same_replica same_number. let is_k = some_is (record { replica = r; stream = n; up = opening_requests p.kind p.client; down = [] }) k at_k in
     let le = below d s m has_d link_d (sym same_replica ∙ ap (λ y. y.replica) (sym is_k)) in let at_end : n ≡ m.stream = ap (λ y. y.stream) is_k ∙ same_number in absurd (omega (arith, le, at_end))) counted fine
@@ -265,14 +278,18 @@ fine_change_up w left all c p l t wish q has link wished is fine =
     let here = fine.ups c p l has link in
     let next : option_map (sending q.1) p.link ≡ Some (sending q.1 l) = ap (option_map (sending q.1)) link in
     fine_here w left all c p l has link fine (changed p q) (ap (λ y. y.peers) is) (λ e r m other has_e link_e. ap (λ y. stream_at y m.replica m.stream) is)
-    (λ k at_k. let is_k : sending q.1 l ≡ k = some_is (sending q.1 l) k (sym next ∙ at_k) in
-    (here.0, sym (ap (λ y. y.replica) is_k) ∙ same_replica_on q.1 l, sym (ap (λ y. y.stream) is_k) ∙ same_stream_on q.1 l, ap (λ y. stream_at y l.replica l.stream) is ∙ here.1,
-    λ kind.
-        let made = wished_is p true t wish q (ap (λ v. wish_of v p true t wish) (sym kind) ∙ wished) in
-        let after : Wants = wants_after made.subscribe made.unsubscribe (shelf p.client t).wants in
-        let m : DeltaRequest = delta_request t (node p.client.greeted p.client) made.subscribe made.unsubscribe finmap.empty in
-        subst (λ y. Linked all q.0 y here.0) (sym (sent_on l (is_sent true (shelf p.client t) after) m) ∙ ap (λ o. sending o l) (sym made.sent) ∙ is_k)
-        (subst (λ y. Linked all y (record l { up = l.up ++ wished_requests (is_sent true (shelf p.client t) after) m }) here.0) (sym made.left) (linked_changed all p.client l here.0 t made.subscribe made.unsubscribe (here.2 kind)))))
+    (λ k at_k. let is_k : sending q.1 l ≡ k = some_is (sending q.1 l) k (sym next ∙ at_k) in (
+      here.0,
+      sym (ap (λ y. y.replica) is_k) ∙ same_replica_on q.1 l,
+      sym (ap (λ y. y.stream) is_k) ∙ same_stream_on q.1 l,
+      ap (λ y. stream_at y l.replica l.stream) is ∙ here.1,
+      λ kind.
+          let made = wished_is p true t wish q (ap (λ v. wish_of v p true t wish) (sym kind) ∙ wished) in
+          let after : Wants = wants_after made.subscribe made.unsubscribe (shelf p.client t).wants in
+          let m : DeltaRequest = delta_request t (node p.client.greeted p.client) made.subscribe made.unsubscribe finmap.empty in
+          subst (λ y. Linked all q.0 y here.0) (sym (sent_on l (is_sent true (shelf p.client t) after) m) ∙ ap (λ o. sending o l) (sym made.sent) ∙ is_k)
+          (subst (λ y. Linked all y (record l { up = l.up ++ wished_requests (is_sent true (shelf p.client t) after) m }) here.0) (sym made.left) (linked_changed all p.client l here.0 t made.subscribe made.unsubscribe (here.2 kind))),
+    ))
     (λ none kind. absurd (never_link (sending q.1 l) (sym next ∙ none))) (λ r s at_r. fine.counted r s (ap (λ y. finmap.get y.sites r) (sym is) ∙ at_r))
 
 fine_change_down : (w left : World) (all : List TypedWrite) (c : ℕ) (p : Peer) (t : TypeName) (wish : Wish) (q : Client × Option Message) → finmap.get w.peers c ≡ Some p → p.link ≡ None → wish_of p.kind p false t wish ≡ Some q
@@ -281,8 +298,8 @@ fine_change_down w left all c p t wish q has link wished is fine =
     let next : option_map (sending q.1) p.link ≡ None = ap (option_map (sending q.1)) link in
     fine_peer w left all c (changed p q) (ap (λ y. y.peers) is) (λ e r m other has_e link_e. ap (λ y. stream_at y m.replica m.stream) is) (λ k at_k. absurd (no_link k (sym next ∙ at_k)))
     (λ none kind u.
-        let made = wished_is p false t wish q (ap (λ v. wish_of v p false t wish) (sym kind) ∙ wished) in
-        subst (λ y. Rests all u (shelf y u)) (sym made.left) (rests_changed all p.client t (wants_after made.subscribe made.unsubscribe (shelf p.client t).wants) (fine.downs c p has link kind) u))
+    let made = wished_is p false t wish q (ap (λ v. wish_of v p false t wish) (sym kind) ∙ wished) in
+    subst (λ y. Rests all u (shelf y u)) (sym made.left) (rests_changed all p.client t (wants_after made.subscribe made.unsubscribe (shelf p.client t).wants) (fine.downs c p has link kind) u))
     (λ d s k m other has_d at_k link_d same_replica same_number. no_link k (sym next ∙ at_k)) (λ r s at_r. fine.counted r s (ap (λ y. finmap.get y.sites r) (sym is) ∙ at_r)) fine
 
 fine_change : (w left : World) (all : List TypedWrite) (c : ℕ) (p : Peer) (t : TypeName) (wish : Wish) (q : Client × Option Message) (o : Option Link) → finmap.get w.peers c ≡ Some p → p.link ≡ o → wish_taken p t wish ≡ Some q → left ≡ with_peer w c (changed p q)

@@ -1,31 +1,22 @@
 -- What is kept of all clients of a world and of the streams that they are linked by, whatever happens.
-use Rattle.std.proofs.Common.{◌≡◌, ◌≢◌, ◌⊎◌, inl, inr, ℕ, suc, ◌+◌, ◌≤◌, List, [], ◌∷◌, ◌++◌, map, Bool, true, false, ◌&&◌, not, Option, Some, None, Result, Ok, Err, refl, sym, ap, subst, ◌∙◌, append-nil, arith}
-use Rattle.std.specs.Prelude.{if◌then◌else◌, is_none, is_some, option_map, Contains, nat_lt, decimal}
-use Rattle.std.specs.Option.{option_and_then, option_map_or}
-use Rattle.std.specs.Ordering.{nat_cmp}
+use Rattle.std.proofs.Common.{◌≡◌, ◌≢◌, ◌⊎◌, inl, inr, ℕ, List, Option, Some, None, Ok, refl, sym, ap, subst, ◌∙◌}
+use Rattle.std.specs.Option.{option_and_then}
 use Rattle.std.specs.Cmp.{nat_cmp_total}
 use Rattle.std.specs.FinMap as finmap
-use Rattle.std.specs.FinMap.{FinMap, nat_cmp-IsAntisymmetric}
+use Rattle.std.specs.FinMap.{nat_cmp-IsAntisymmetric}
 use Rattle.xds_resource.specs.declared.types.TypeName.{TypeName}
-use Rattle.xds_resource.specs.PerType.{at}
-use Rattle.xds_resource.proofs.TypesApart.{at-each}
-use Rattle.xds_catalogue.proofs.Lookups.{get-inserted, get-removed}
-use Rattle.xds_draft.specs.declared.draft.Draft.{Draft}
+use Rattle.xds_catalogue.proofs.Lookups.{get-inserted}
 use Rattle.xds_core.specs.Laws.{stream_changed}
-use Rattle.xds_core.specs.Streams as streams
-use Rattle.xds_core.specs.Streams.{Stream, Message, opening, requested, polled_first, looked_at}
-use Rattle.xds_core.specs.Events as events
+use Rattle.xds_core.specs.Streams.{Stream}
 use Rattle.xds_core.specs.Events.{Event, Reply}
-use Rattle.xds_core.specs.Steps.{Core, step, fresh as fresh_core, with_stream}
+use Rattle.xds_core.specs.Steps.{Core, step}
 use Rattle.xds_core.specs.Legal.{left_by}
 use Rattle.xds_core.proofs.StepLaws.{streams_stand_apart}
-use Rattle.xds_cache.specs.Shelves.{Shelf, bare}
-use Rattle.xds_cache.specs.Clients.{Client, shelf}
-use Rattle.xds_model.specs.declared.event.ClientKind.{ClientKind}
-use Rattle.xds_model.specs.declared.event.ClientKind.TheVariants.{Sotw, Delta}
+use Rattle.xds_cache.specs.Clients.{shelf}
+use Rattle.xds_model.specs.declared.event.ClientKind.TheVariants.{Delta}
 use Rattle.xds_model.specs.Worlds.{Site, Link, Peer, World, recorded, at_site}
 use Rattle.xds_model.specs.Knows.{TypedWrite}
-use Rattle.xds_model.proofs.Replicas.{answered, some_is, bound_some}
+use Rattle.xds_model.proofs.Replicas.{answered, some_is}
 use Rattle.xds_model.proofs.Queues.{Linked}
 use Rattle.xds_model.proofs.LinkTakes.{Rests}
 use Rattle.xds_model.proofs.CoreSteps.{IsCounted, step_counted}

@@ -1,11 +1,11 @@
 -- Where clients are linked and what they want, as the list of happenings tells it, is where they are linked and what they want.
-use Rattle.std.proofs.Common.{◌≡◌, ◌≢◌, ◌⊎◌, inl, inr, ℕ, List, [], ◌∷◌, ◌++◌, Bool, true, false, Option, Some, None, Result, Ok, Err, refl, sym, ap, subst, ◌∙◌}
+use Rattle.std.proofs.Common.{◌≡◌, ◌≢◌, inl, inr, ℕ, List, [], ◌∷◌, ◌++◌, Bool, true, false, Option, Some, None, Result, Ok, Err, refl, sym, ap, subst, ◌∙◌}
 use Rattle.std.specs.Prelude.{◌==◌, if◌then◌else◌, is_none, is_some, option_map}
 use Rattle.std.specs.Option.{option_and_then, option_map_or}
 use Rattle.std.specs.Ordering.{nat_cmp}
 use Rattle.std.specs.Cmp.{nat_cmp_total}
 use Rattle.std.specs.FinMap as finmap
-use Rattle.std.specs.FinMap.{FinMap, nat_cmp-IsAntisymmetric}
+use Rattle.std.specs.FinMap.{nat_cmp-IsAntisymmetric}
 use Rattle.std.proofs.lemmas.Bool.Decides.{eqb_tells}
 use Rattle.xds_resource.specs.declared.types.TypeName.{TypeName}
 use Rattle.xds_resource.specs.declared.refusal.Refusal.{Refusal}
@@ -33,12 +33,13 @@ use Rattle.xds_cache.specs.Receives.{Outcome, sotw_change, sotw_changed, delta_c
 use Rattle.xds_model.specs.declared.event.ClientKind.{ClientKind}
 use Rattle.xds_model.specs.declared.event.ClientKind.TheVariants.{Sotw, Delta}
 use Rattle.xds_model.specs.Happenings.{Happening, Wish, Names, Edits, AddReplica, AddClient, Put, Delete, Snapshot, Merge, Connect, Change, Up, Poll, Down, Lose}
-use Rattle.xds_model.specs.Worlds.{Site, Link, Peer, World, empty_world, at_site, happened_at, placed, pooled, with_peer, new_peer, connected_to, opened, sending, changed, changed_by, wish_of, wish_taken, under_way, polled, up_taken, received, received_in, received_by, taken_down, down_taken, is_free, happens, after}
+use Rattle.xds_model.specs.Worlds.{Site, Link, Peer, World, empty_world, at_site, happened_at, placed, pooled, with_peer, new_peer, connected_to, opened, sending, changed, wish_of, wish_taken, under_way, polled, up_taken, received, received_in, received_by, taken_down, down_taken, is_free, happens, after}
 use Rattle.xds_model.specs.Knows.{wished, wishing, wanted_after, wants, linking, linked_after, link}
-use Rattle.xds_model.proofs.Replicas.{some_is, bound_some, mapped_some, if_some, none_there, opened_is, polled_is}
+use Rattle.xds_model.specs.Claims.{LinksAreFollowed}
+use Rattle.xds_model.proofs.Replicas.{some_is, bound_some, mapped_some, if_some, none_there}
 use Rattle.xds_model.proofs.LinkTakes.{connected_shelf, lost_shelf}
-use Rattle.xds_model.proofs.Everyone.{AtSite, at_site_is}
-use Rattle.xds_model.proofs.EveryEvent.{link_there, changed_ok, same_peers, pooled_is, wished_is, same_replica_on}
+use Rattle.xds_model.proofs.Everyone.{at_site_is}
+use Rattle.xds_model.proofs.EveryEvent.{link_there, changed_ok, same_peers, pooled_is, same_replica_on}
 
 -- ---- looks at one client
 
@@ -195,8 +196,7 @@ connected_comes test w left d r is =
     let peer = bound_some (λ p. if is_none p.link then option_and_then (opened d r p) (at_site w r events.Open) else None) (finmap.get w.peers d) left is in
     let p = peer.0 in
     let made = bound_some (opened d r p) (at_site w r events.Open) left (if_both (is_none p.link) (option_and_then (opened d r p) (at_site w r events.Open)) left peer.2) in
-    let opens = opened_peer p made.0.0 made.0.1 left made.2 in
-    (
+    let opens = opened_peer p made.0.0 made.0.1 left made.2 in (
       record { before = p; after = connected_to p r opens.0; has = peer.1; peers = ap (λ y. y.peers) opens.1 ∙ ap (λ y. finmap.insert y d (connected_to p r opens.0)) (same_peers w r events.Open made.0 (at_site_is w r events.Open made.0 made.1)) },
       refl,
       λ t. ap (λ (f : Shelf). f.wants) (connected_shelf p.client (is_greeted p.client false types) t),
@@ -222,8 +222,7 @@ lost_comes test w left d is =
     let p = at_link.0 in
     let e : Event = events.Close at_link.1.stream in
     let after : Peer = record p { client = unlinked p.client; link = None } in
-    let made = mapped_some (λ q. with_peer q.1 d after) (at_site w at_link.1.replica e) left at_link.4 in
-    (
+    let made = mapped_some (λ q. with_peer q.1 d after) (at_site w at_link.1.replica e) left at_link.4 in (
       record { before = p; after = after; has = at_link.2; peers = ap (λ y. y.peers) made.2 ∙ ap (λ y. finmap.insert y d after) (same_peers w at_link.1.replica e made.0 (at_site_is w at_link.1.replica e made.0 made.1)) },
       refl,
       λ t. ap (λ (f : Shelf). f.wants) (lost_shelf p.client t),
@@ -364,3 +363,6 @@ link_is test hs c = ap (λ o. linked_after test empty_world c (linked_to o) hs) 
 
 pub wants_are : (test : Test) (hs : List Happening) (c : ℕ) (t : TypeName) → wants test hs c t ≡ wanted_of t (finmap.get (after test empty_world hs).peers c)
 wants_are test hs c t = ap (λ o. wanted_after test empty_world c t (wanted_of t o) hs) (sym (finmap.get-empty nat_cmp c)) ∙ wanting_after test hs c t empty_world
+
+pub links_are_followed : (test : Test) (hs : List Happening) → LinksAreFollowed test hs
+links_are_followed test hs c p has = (link_is test hs c ∙ ap linked_to has, λ t. wants_are test hs c t ∙ ap (wanted_of t) has)

@@ -1,7 +1,7 @@
 -- What keeps a lane abreast: an answer, a change, a first request, and a response that is sent.
-use Rattle.std.proofs.Common.{◌≡◌, ◌≢◌, ◌⊎◌, inl, inr, ℕ, suc, List, [], ◌∷◌, ◌++◌, Bool, true, false, ◌&&◌, ◌||◌, not, Option, Some, None, refl, sym, ap, subst, ◌∙◌, ◌<◌, ◌≤◌, length, arith}
-use Rattle.std.specs.Prelude.{bytes_eq, if◌then◌else◌, is_some, option_map, decimal, Contains}
-use Rattle.std.specs.Option.{option_or, option_map_or}
+use Rattle.std.proofs.Common.{◌≡◌, inl, inr, ℕ, suc, List, [], ◌∷◌, Bool, true, false, ◌&&◌, ◌||◌, Option, Some, None, refl, sym, ap, subst, ◌∙◌, ◌<◌, ◌≤◌, length, arith}
+use Rattle.std.specs.Prelude.{bytes_eq, if◌then◌else◌, is_some, option_map, decimal}
+use Rattle.std.specs.Option.{option_map_or}
 use Rattle.std.specs.List.{list_any}
 use Rattle.std.proofs.Math.Bool.{and-false}
 use Rattle.std.proofs.lemmas.Bool.{or_parts}
@@ -12,7 +12,6 @@ use Rattle.std.specs.FinSet as set
 use Rattle.xds_resource.specs.declared.types.TypeName.{TypeName}
 use Rattle.xds_resource.specs.Writes.{text_cmp}
 use Rattle.xds_resource.proofs.NameMaps.{bytes_eq_same}
-use Rattle.xds_resource.specs.Types.{row}
 use Rattle.xds_resource.specs.Stamps.{max_counter}
 use Rattle.xds_interest.specs.Interests.{covers, star_text, has_name}
 use Rattle.xds_interest.specs.Asked.{Asked, IsStarOfComplete, unasked, delta_asked}
@@ -22,22 +21,19 @@ use Rattle.xds_interest.proofs.AskedLaws.{kept_star_is_of_complete, untouched_ke
 use Rattle.xds_interest.proofs.SotwLaws.{list_any-is_star}
 use Rattle.xds_message.specs.Messages.{Identity}
 use Rattle.xds_message.specs.DeltaMessages.{DeltaRequest}
-use Rattle.xds_message.specs.Versions.{VersionMap}
 use Rattle.xds_draft.specs.Drafts.{DraftedDelta, delta_message_of}
 use Rattle.xds_ledger.specs.declared.variant.VariantName.TheVariants.{Delta}
 use Rattle.xds_ledger.specs.declared.entry.Entry.{Entry}
-use Rattle.xds_ledger.specs.declared.entry.Entry.TheVariants.{Told, Unsure}
-use Rattle.xds_ledger.specs.declared.entry.Due.{Due}
-use Rattle.xds_ledger.specs.declared.entry.Due.TheVariants.{Stated, Removed}
-use Rattle.xds_ledger.specs.Owed.{Beliefs}
+use Rattle.xds_ledger.specs.declared.entry.Entry.TheVariants.{Told}
+use Rattle.xds_ledger.specs.declared.entry.Due.TheVariants.{Stated}
 use Rattle.xds_ledger.specs.Offers.{Offer}
 use Rattle.xds_ledger.specs.Ledgers.{Account, Sent, nonce_text, was_touched, touched_since, settled, answered, believed_accepted}
-use Rattle.xds_ledger.specs.Sessions.{Session, Answer, Names, unopened, taken, is_taken, delta_names, send}
+use Rattle.xds_ledger.specs.Sessions.{Session, Names, unopened, taken, is_taken, delta_names, send}
 use Rattle.xds_ledger.proofs.ByName.{accepted_by_name}
 use Rattle.xds_delta.specs.Polls.{take, mention, answer_in}
-use Rattle.xds_cache.specs.Shelves.{Wants, Holding, Cache, Shelf, texts, interest, is_wanted, wants_some, wants_of, wants_after, wanting, kept, kept_of}
+use Rattle.xds_cache.specs.Shelves.{Wants, Holding, Cache, Shelf, texts, interest, is_wanted, wants_of, wants_after, wanting, kept_of}
 use Rattle.xds_cache.specs.Faults.{Test}
-use Rattle.xds_cache.specs.Deliveries.{Delivery, delta_delivery, fault_in, statements, shown_after, cache_after, taking, rejecting, delivered}
+use Rattle.xds_cache.specs.Deliveries.{delta_delivery, fault_in, cache_after, taking, rejecting, delivered}
 use Rattle.xds_cache.specs.Sends.{failure, delta_request, delta_answer}
 use Rattle.xds_cache.proofs.Interests.{wants_what_is_covered, shown_by_name, kept_by_name, holds_what_is_wanted, change_is_asked}
 use Rattle.xds_model.specs.Knows.{TypedWrite}
@@ -166,11 +162,11 @@ abreast_changed all t who subscribe unsubscribe s down f asked lane =
     let account : settled Delta t s.account [] false ≡ s.account = unsettled_by all t s.account f.wants down false s.account.sent refl lane.awaits in
     let is : take t s q ≡ taken Delta t s (answer_in q) names = take_is t s q (taken_if_plain s) ∙ ap (λ a. taken Delta t s (answer_in q) (delta_names t a m finmap.empty)) before in
     let same : (name : List ℕ) → touches names.touched name ≡ false → is_wanted t w name ≡ is_wanted t f.wants name =
-        λ name untouched. sym (wants_what_is_covered t w name) ∙ ap (λ (a : Asked). covers a.interest name) (sym after) ∙ untouched_keeps_cover_of_kept_in_delta t (asking t f.wants) m name refl (star_stands t f.wants) untouched ∙ wants_what_is_covered t f.wants name in
+    λ name untouched. sym (wants_what_is_covered t w name) ∙ ap (λ (a : Asked). covers a.interest name) (sym after) ∙ untouched_keeps_cover_of_kept_in_delta t (asking t f.wants) m name refl (star_stands t f.wants) untouched ∙ wants_what_is_covered t f.wants name in
     let believed : (name : List ℕ) → finmap.get (take t s q).account.beliefs name ≡ believed_after (touches names.touched name) (is_wanted t w name) (set.contains names.mentioned name) (finmap.get s.account.beliefs name) =
-        λ name. ap (λ x. finmap.get x.account.beliefs name) is ∙ believed_by_name t s (answer_in q) names name
-        ∙ nothing_resumed (believed_after (touches names.touched name) (covers names.asked.interest name) (set.contains names.mentioned name) (finmap.get (settled Delta t s.account [] false).beliefs name)) name
-        ∙ (λ i. believed_after (touches names.touched name) ((ap (λ (a : Asked). covers a.interest name) after ∙ wants_what_is_covered t w name) i) (set.contains names.mentioned name) (finmap.get (account i).beliefs name)) in
+    λ name. ap (λ x. finmap.get x.account.beliefs name) is ∙ believed_by_name t s (answer_in q) names name
+    ∙ nothing_resumed (believed_after (touches names.touched name) (covers names.asked.interest name) (set.contains names.mentioned name) (finmap.get (settled Delta t s.account [] false).beliefs name)) name
+    ∙ (λ i. believed_after (touches names.touched name) ((ap (λ (a : Asked). covers a.interest name) after ∙ wants_what_is_covered t w name) i) (set.contains names.mentioned name) (finmap.get (account i).beliefs name)) in
     record {
       asks = inl (refl, ap (λ x. x.asked) is ∙ after);
       awaits = subst (λ (a : Account). Awaits all t a.nonce a.sent w down) (sym (ap (λ x. x.account) is))
@@ -201,7 +197,7 @@ abreast_first all t m f asked interested versions within made =
     let names : Names = delta_names t unasked (mention m) m.initial_resource_versions in
     let before : List ℕ → Option Entry = λ name. believed_after (touches names.touched name) (covers names.asked.interest name) (set.contains names.mentioned name) None in
     let believed : (name : List ℕ) → finmap.get (take t unopened m).account.beliefs name ≡ resumed_after (version_held (finmap.get f.cache name)) (before name) =
-        λ name. believed_by_name t unopened (answer_in m) names name ∙ (λ i. resumed_after (versions name i) (believed_after (touches names.touched name) (covers names.asked.interest name) (set.contains names.mentioned name) (finmap.get-empty text_cmp name i))) in
+    λ name. believed_by_name t unopened (answer_in m) names name ∙ (λ i. resumed_after (versions name i) (believed_after (touches names.touched name) (covers names.asked.interest name) (set.contains names.mentioned name) (finmap.get-empty text_cmp name i))) in
     record {
       asks = inl (asked, ap (λ x. record { begun = true; named = false; interest = x }) interested);
       awaits = tt;

@@ -1,7 +1,7 @@
 -- One client and one type of the incremental variant: the session as it will be once all requests under way are taken, against what the client holds.
-use Rattle.std.proofs.Common.{◌≡◌, ◌≢◌, ◌⊎◌, inl, inr, ℕ, suc, List, [], ◌∷◌, ◌++◌, Bool, true, false, ◌&&◌, ◌||◌, not, Option, Some, None, refl, sym, ap, subst, ◌∙◌, ◌≤◌, length, map}
+use Rattle.std.proofs.Common.{◌≡◌, ◌⊎◌, inl, inr, ℕ, suc, List, [], ◌∷◌, Bool, true, false, ◌&&◌, not, Option, Some, None, refl, sym, ap, ◌∙◌, ◌≤◌, length, map}
 use Rattle.std.specs.Prelude.{bytes_eq, if◌then◌else◌, is_some, is_none, option_map, Contains, ⊤}
-use Rattle.std.specs.Option.{option_or, option_map_or}
+use Rattle.std.specs.Option.{option_map_or}
 use Rattle.std.specs.FinMap as finmap
 use Rattle.std.specs.FinSet as set
 use Rattle.std.proofs.Math.Bool.{and-false}
@@ -10,37 +10,29 @@ use Rattle.xds_resource.specs.Types.{row}
 use Rattle.xds_resource.specs.Stamps.{max_counter}
 use Rattle.xds_resource.specs.Writes.{StampedWrite, text_cmp}
 use Rattle.xds_resource.proofs.NameMaps.{same_names}
-use Rattle.xds_interest.specs.Interests.{covers, star_text, has_name}
-use Rattle.xds_interest.specs.Asked.{Asked, IsStarOfComplete, unasked, delta_asked}
-use Rattle.xds_interest.specs.Delta.{Mention}
-use Rattle.xds_interest.specs.Touched.{mentions}
-use Rattle.xds_interest.specs.Touches.{Touch, touches, delta_touch}
-use Rattle.xds_interest.proofs.AskedLaws.{delta_touch_is_a_set, untouched_keeps_cover_of_kept_in_delta}
-use Rattle.xds_interest.proofs.SotwLaws.{list_any-is_star}
-use Rattle.xds_message.specs.Messages.{Identity}
+use Rattle.xds_interest.specs.Interests.{covers}
+use Rattle.xds_interest.specs.Asked.{Asked, delta_asked}
+use Rattle.xds_interest.specs.Touches.{touches, delta_touch}
+use Rattle.xds_interest.proofs.AskedLaws.{delta_touch_is_a_set}
 use Rattle.xds_message.specs.DeltaMessages.{DeltaRequest}
-use Rattle.xds_message.specs.Versions.{VersionMap}
 use Rattle.xds_draft.specs.Drafts.{DraftedDelta, delta_message_of}
 use Rattle.xds_ledger.specs.declared.variant.VariantName.TheVariants.{Delta}
 use Rattle.xds_ledger.specs.declared.entry.Entry.{Entry}
-use Rattle.xds_ledger.specs.declared.entry.Entry.TheVariants.{Told, Unsure}
-use Rattle.xds_ledger.specs.declared.entry.Due.{Due}
-use Rattle.xds_ledger.specs.declared.entry.Due.TheVariants.{Stated, Removed}
+use Rattle.xds_ledger.specs.declared.entry.Due.TheVariants.{Stated}
 use Rattle.xds_ledger.specs.Owed.{Beliefs}
-use Rattle.xds_ledger.specs.Ledgers.{Account, Sent, nonce_text, was_touched, settled, answered, touched_since, beliefs_taken, believed_touched, believed_accepted}
+use Rattle.xds_ledger.specs.Ledgers.{Account, Sent, nonce_text, was_touched, settled, answered, touched_since, beliefs_taken}
 use Rattle.xds_ledger.specs.Sessions.{Session, Answer, Names, unopened, taken, is_taken, delta_names}
-use Rattle.xds_ledger.proofs.ByName.{taken_by_name, accepted_by_name}
+use Rattle.xds_ledger.proofs.ByName.{taken_by_name}
 use Rattle.xds_ledger.proofs.Made.{resumed_by_name}
 use Rattle.xds_delta.specs.Polls.{take, mention, answer_in}
-use Rattle.xds_cache.specs.Shelves.{Wants, Holding, Cache, Shelf, texts, interest, is_wanted, wants_some, wants_of, wants_after, wanting, kept, kept_of}
-use Rattle.xds_cache.specs.Faults.{Test}
-use Rattle.xds_cache.specs.Deliveries.{delta_delivery, fault_in, statements, shown_after, cache_after, taking, rejecting, delivered}
-use Rattle.xds_cache.specs.Sends.{failure, delta_request, delta_answer}
-use Rattle.xds_cache.proofs.Interests.{wants_what_is_covered, wanted_by_name, shown_by_name, kept_by_name, holds_what_is_wanted, change_is_asked}
+use Rattle.xds_cache.specs.Shelves.{Wants, Holding, Cache, Shelf, texts, interest, is_wanted, wants_some, wants_of, wants_after}
+use Rattle.xds_cache.specs.Deliveries.{delta_delivery, statements}
+use Rattle.xds_cache.specs.Sends.{failure, delta_answer}
+use Rattle.xds_cache.proofs.Interests.{wanted_by_name, change_is_asked}
 use Rattle.xds_model.specs.Knows.{TypedWrite}
 use Rattle.xds_model.specs.Claims.{holding_of}
 use Rattle.xds_model.proofs.Folding.{take_is, never_stale}
-use Rattle.xds_model.proofs.ByOneName.{Says, IsTold, IsNone, resumed_after, believed_after, version_held, held_after, told_accepted, none_accepted, told_changed, none_changed, told_resumed, none_resumed}
+use Rattle.xds_model.proofs.ByOneName.{Says, IsTold, IsNone, resumed_after, believed_after}
 
 -- ---- what is kept
 

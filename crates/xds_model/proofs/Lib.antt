@@ -16,3 +16,4 @@ pub mod Ranges
 pub mod More
 pub mod Settled
 pub mod Followed
+pub mod Headline

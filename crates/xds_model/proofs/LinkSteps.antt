@@ -1,6 +1,6 @@
 -- What keeps a link's lanes: a request that its replica takes, a response that it sends, and what the client takes, changes and asks for.
-use Rattle.std.proofs.Common.{◌≡◌, ◌≢◌, ◌⊎◌, inl, inr, ℕ, zero, suc, ◌+◌, ◌≤◌, List, [], ◌∷◌, ◌++◌, map, Bool, true, false, cond, ◌&&◌, ◌||◌, not, Option, Some, None, Result, Ok, Err, refl, sym, ap, subst, ◌∙◌, append-nil, arith}
-use Rattle.std.specs.Prelude.{◌==◌, bytes_eq, if◌then◌else◌, is_some, is_none, option_map, length, find, Contains, ⊤}
+use Rattle.std.proofs.Common.{◌≡◌, ◌≢◌, ◌⊎◌, inl, inr, ℕ, suc, ◌+◌, ◌≤◌, List, [], ◌∷◌, ◌++◌, Bool, true, false, ◌&&◌, not, Option, Some, None, Result, Ok, Err, refl, sym, ap, subst, ◌∙◌, append-nil, arith}
+use Rattle.std.specs.Prelude.{◌==◌, if◌then◌else◌, is_none, option_map, length}
 use Rattle.std.specs.Option.{option_map_or, option_and_then}
 use Rattle.std.specs.List.{cons_option}
 use Rattle.std.specs.FinMap as finmap
@@ -8,9 +8,9 @@ use Rattle.std.proofs.lemmas.Bool.Decides.{eqb_tells}
 use Rattle.xds_resource.specs.declared.types.TypeName.{TypeName}
 use Rattle.xds_resource.specs.declared.types.TypeName.TheVariants.{Cluster, Endpoint, Listener, Route}
 use Rattle.xds_resource.specs.declared.refusal.Refusal.{Refusal}
-use Rattle.xds_resource.specs.declared.refusal.Refusal.TheVariants.{BadMessage, WrongVariant, NonceSpent, NoStream}
+use Rattle.xds_resource.specs.declared.refusal.Refusal.TheVariants.{BadMessage, WrongVariant, NonceSpent}
 use Rattle.xds_resource.specs.Refusals.{unless_refused}
-use Rattle.xds_resource.specs.Types.{row, types, type_of_url, is_same_type}
+use Rattle.xds_resource.specs.Types.{row, type_of_url, is_same_type}
 use Rattle.xds_resource.specs.Stamps.{max_counter}
 use Rattle.xds_resource.specs.PerType.{PerType, at, with_at}
 use Rattle.xds_resource.proofs.TypesApart.{same_type, is_same_type-same, at-with_at, at-with_at_other}
@@ -20,11 +20,9 @@ use Rattle.xds_catalogue.specs.Holdings.{Entries}
 use Rattle.xds_message.specs.DeltaMessages.{DeltaRequest}
 use Rattle.xds_draft.specs.declared.draft.Draft.{Draft}
 use Rattle.xds_draft.specs.declared.draft.Draft.TheVariants as drafts
-use Rattle.xds_draft.specs.Drafts.{DraftedDelta, delta_message_of}
-use Rattle.xds_draft.specs.DraftTexts.{kind_of}
+use Rattle.xds_draft.specs.Drafts.{DraftedDelta}
 use Rattle.xds_ledger.specs.declared.outcome.Outcome.{Outcome}
 use Rattle.xds_ledger.specs.declared.variant.VariantName.{VariantName}
-use Rattle.xds_ledger.specs.declared.variant.VariantName.TheVariants as variants
 use Rattle.xds_ledger.specs.declared.variant.VariantName.TheVariants.{Delta}
 use Rattle.xds_ledger.specs.Offers.{Offer, offer}
 use Rattle.xds_ledger.specs.Ledgers as ledgers
@@ -37,21 +35,16 @@ use Rattle.xds_core.specs.Streams as streams
 use Rattle.xds_core.specs.Streams.{Stream, Message, url_of, variant_of, is_foreign, answered_by, answered, requested, to_send, response_of, sending, sent, polled, first_due, polled_first}
 use Rattle.xds_core.proofs.StepLaws.{unless_once, done_with}
 use Rattle.xds_cache.specs.Shelves.{Shelf}
-use Rattle.xds_cache.specs.Faults.{Test}
-use Rattle.xds_cache.specs.Clients.{Client, shelf, with_shelf, addressing, addressed, addressed_or, if_asked}
-use Rattle.xds_cache.specs.Deliveries.{delta_delivery, fault_in, delivered}
-use Rattle.xds_cache.specs.Sends.{delta_answer}
-use Rattle.xds_cache.specs.Receives.{delta_receive, delta_answered}
-use Rattle.xds_model.specs.Worlds.{Link, under_way}
+use Rattle.xds_cache.specs.Clients.{Client, shelf}
+use Rattle.xds_model.specs.Worlds.{Link}
 use Rattle.xds_model.specs.Knows.{TypedWrite}
-use Rattle.xds_model.specs.Claims.{asks_for}
 use Rattle.xds_model.proofs.Replicas.{some_is, if_some, none_there}
-use Rattle.xds_model.proofs.Folding.{folded, AllTaken, folded_more, taken_more, still_none, take_is, taken_meanwhile_all}
+use Rattle.xds_model.proofs.Folding.{folded, still_none, take_is, taken_meanwhile_all}
 use Rattle.xds_model.proofs.Lanes.{Abreast, nothing_sent, stated_in, is_removed_in}
 use Rattle.xds_model.proofs.ByOneName.{Says}
-use Rattle.xds_model.proofs.LaneSteps.{abreast_sent, abreast_delivered, taken_delivered}
+use Rattle.xds_model.proofs.LaneSteps.{abreast_sent}
 use Rattle.xds_model.proofs.Delivering.{AllKnown, response_says, response_made, stated_is_covered}
-use Rattle.xds_model.proofs.Queues.{lane_up, lane_up-append, of_type, of_own_type, of_other_type, IsDelta, AllDelta, all_delta-append, lane_down, lane_down-append, AllNumbered, all_numbered-append, all_numbered-later, none_answers, listed_draft, Lane, IsDeltaStream, Linked}
+use Rattle.xds_model.proofs.Queues.{lane_up, of_own_type, of_other_type, AllDelta, lane_down, lane_down-append, all_numbered-later, none_answers, listed_draft, Lane, IsDeltaStream, Linked}
 
 -- ---- a request is taken
 

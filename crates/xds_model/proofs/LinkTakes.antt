@@ -1,18 +1,17 @@
 -- What keeps a link's lanes on the client's side: a response that it takes, a change, the start of a stream and its loss.
-use Rattle.std.proofs.Common.{◌≡◌, ◌≢◌, ◌⊎◌, inl, inr, ℕ, zero, suc, ◌+◌, ◌≤◌, List, [], ◌∷◌, ◌++◌, map, Bool, true, false, cond, ◌&&◌, ◌||◌, not, Option, Some, None, Result, Ok, Err, refl, sym, ap, subst, ◌∙◌, append-nil, arith}
-use Rattle.std.specs.Prelude.{bytes_eq, if◌then◌else◌, is_some, is_none, option_map, Contains, ⊤}
-use Rattle.std.specs.Option.{option_map_or, option_and_then}
+use Rattle.std.proofs.Common.{◌≡◌, ◌≢◌, ◌⊎◌, inl, inr, ℕ, zero, List, [], ◌∷◌, ◌++◌, map, Bool, true, false, ◌&&◌, ◌||◌, Option, Some, None, Result, Ok, Err, refl, sym, ap, subst, ◌∙◌, append-nil, arith}
+use Rattle.std.specs.Prelude.{bytes_eq, if◌then◌else◌, is_some, ⊤}
+use Rattle.std.specs.Option.{option_and_then}
 use Rattle.std.specs.List.{cons_option, list_any}
 use Rattle.std.specs.FinMap as finmap
 use Rattle.std.proofs.Math.Bool.{and-false}
 use Rattle.xds_resource.specs.declared.types.TypeName.{TypeName}
 use Rattle.xds_resource.specs.declared.types.TypeName.TheVariants.{Cluster, Endpoint, Listener, Route}
 use Rattle.xds_resource.specs.declared.refusal.Refusal.{Refusal}
-use Rattle.xds_resource.specs.declared.refusal.Refusal.TheVariants.{BadMessage, NoStream}
-use Rattle.xds_resource.specs.Types.{row, types, type_of_url, is_same_type}
+use Rattle.xds_resource.specs.declared.refusal.Refusal.TheVariants.{NoStream}
+use Rattle.xds_resource.specs.Types.{row, types, is_same_type}
 use Rattle.xds_resource.specs.Writes.{text_cmp}
-use Rattle.xds_resource.specs.Names.{tabulate}
-use Rattle.xds_resource.specs.PerType.{PerType, at, with_at}
+use Rattle.xds_resource.specs.PerType.{at, with_at}
 use Rattle.xds_resource.proofs.NameMaps.{same_names, get-tabulated, absent_key}
 use Rattle.xds_resource.proofs.TypesApart.{same_type, is_same_type-same, at-with_at, at-with_at_other, at-each}
 use Rattle.xds_interest.specs.Interests.{star_text}
@@ -23,31 +22,27 @@ use Rattle.xds_message.specs.DeltaMessages.{DeltaRequest}
 use Rattle.xds_draft.specs.declared.draft.Draft.{Draft}
 use Rattle.xds_draft.specs.declared.draft.Draft.TheVariants as drafts
 use Rattle.xds_draft.specs.Drafts.{DraftedDelta, delta_message_of}
-use Rattle.xds_draft.specs.DraftTexts.{kind_of}
-use Rattle.xds_ledger.specs.declared.entry.Entry.{Entry}
 use Rattle.xds_ledger.specs.declared.entry.Entry.TheVariants.{Told}
-use Rattle.xds_ledger.specs.Ledgers.{nonce_text}
-use Rattle.xds_ledger.specs.Sessions.{Session, unopened, is_taken}
+use Rattle.xds_ledger.specs.Sessions.{Session, unopened}
 use Rattle.xds_delta.specs.Polls.{take, mention}
 use Rattle.xds_core.specs.Streams as streams
 use Rattle.xds_core.specs.Streams.{Stream, Message, opening}
 use Rattle.xds_cache.specs.Shelves.{Wants, Holding, Cache, Shelf, texts, interest, is_wanted, wants_some, wants_after, wanting, kept_of, connected, lost, bare}
 use Rattle.xds_cache.specs.Faults.{Test}
-use Rattle.xds_cache.specs.Clients.{Client, shelf, with_shelf, node, is_sent, shelf_after, changing, changed, linked, unlinked, addressing, addressed, addressed_or, if_asked}
+use Rattle.xds_cache.specs.Clients.{Client, shelf, with_shelf, node, is_sent, shelf_after, changed, linked, unlinked, addressing, addressed_or, if_asked}
 use Rattle.xds_cache.specs.Deliveries.{delta_delivery, fault_in, delivered}
-use Rattle.xds_cache.specs.Sends.{delta_request, delta_answer, held_version, held_versions, delta_first, first_requests, is_greeted}
+use Rattle.xds_cache.specs.Sends.{delta_request, delta_answer, held_version, held_versions, delta_first, first_requests}
 use Rattle.xds_cache.specs.Receives.{Outcome, delta_receive, delta_answered, if_addressed}
 use Rattle.xds_cache.proofs.Interests.{kept_by_name, holds_what_is_wanted, first_change_is_asked, first_is_asked}
-use Rattle.xds_model.specs.declared.event.ClientKind.TheVariants.{Sotw, Delta}
-use Rattle.xds_model.specs.Worlds.{Link, under_way, sending, received_in, received_by, opening_requests}
+use Rattle.xds_model.specs.declared.event.ClientKind.TheVariants.{Delta}
+use Rattle.xds_model.specs.Worlds.{Link, received_in, received_by, opening_requests}
 use Rattle.xds_model.specs.Knows.{TypedWrite}
-use Rattle.xds_model.specs.Claims.{asks_for}
 use Rattle.xds_model.proofs.Replicas.{some_is}
-use Rattle.xds_model.proofs.Folding.{folded, AllTaken, folded_more, taken_more}
-use Rattle.xds_model.proofs.ByOneName.{IsTold, IsNone, version_held}
-use Rattle.xds_model.proofs.Lanes.{IsMade, Asks, Awaits, Abreast, awaits_none, nothing_awaited, nothing_sent, taken_if_plain, no_texts}
+use Rattle.xds_model.proofs.Folding.{folded, folded_more, taken_more}
+use Rattle.xds_model.proofs.ByOneName.{version_held}
+use Rattle.xds_model.proofs.Lanes.{IsMade, Asks, Abreast, nothing_sent, taken_if_plain, no_texts}
 use Rattle.xds_model.proofs.LaneSteps.{abreast_delivered, taken_delivered, abreast_changed, abreast_first, kept_made}
-use Rattle.xds_model.proofs.Queues.{lane_up, lane_up-append, of_type, of_own_type, of_other_type, IsDelta, AllDelta, all_delta-append, lane_down, AllNumbered, all_numbered-append, listed_draft, Lane, Linked}
+use Rattle.xds_model.proofs.Queues.{lane_up, lane_up-append, of_own_type, of_other_type, AllDelta, all_delta-append, lane_down, all_numbered-append, listed_draft, Lane, Linked}
 use Rattle.xds_model.proofs.LinkSteps.{url_type}
 
 -- ---- Down

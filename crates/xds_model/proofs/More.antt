@@ -1,7 +1,5 @@
 -- What is kept of all clients is kept where more writes are made.
-use Rattle.std.proofs.Common.{◌≡◌, ℕ, List, ◌++◌, Option, Some, None}
-use Rattle.std.specs.Prelude.{Contains}
-use Rattle.std.specs.FinMap as finmap
+use Rattle.std.proofs.Common.{ℕ, List, ◌++◌, Option, Some, None}
 use Rattle.std.proofs.lemmas.List.Elements.{Contains-append_left}
 use Rattle.xds_resource.specs.declared.types.TypeName.{TypeName}
 use Rattle.xds_message.specs.DeltaMessages.{DeltaRequest}

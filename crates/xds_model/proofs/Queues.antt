@@ -1,14 +1,13 @@
 -- What is under way on a link, of one type: a lane for each type, and what keeps all lanes of a link.
-use Rattle.std.proofs.Common.{◌≡◌, ◌≢◌, ◌⊎◌, inl, inr, ℕ, zero, suc, ◌+◌, ◌≤◌, ◌<◌, ◌^◌, List, [], ◌∷◌, ◌++◌, map, Bool, true, false, cond, ◌&&◌, ◌||◌, not, Option, Some, None, refl, sym, ap, subst, ◌∙◌, append-nil, append_assoc, arith}
-use Rattle.std.specs.Prelude.{bytes_eq, if◌then◌else◌, is_some, option_map, decimal, Contains, ⊤, length}
-use Rattle.std.specs.List.{filter, filter_map, cons_option, list_any}
+use Rattle.std.proofs.Common.{◌≡◌, ◌⊎◌, ℕ, zero, suc, ◌≤◌, ◌<◌, List, [], ◌∷◌, ◌++◌, Bool, true, false, Option, Some, None, refl, sym, ap, ◌∙◌, arith}
+use Rattle.std.specs.Prelude.{bytes_eq, if◌then◌else◌, option_map, decimal, ⊤, length}
+use Rattle.std.specs.List.{filter, filter_map, cons_option}
 use Rattle.std.proofs.lemmas.Fmt.{decimal_injective, decimal_nonempty}
 use Rattle.xds_resource.specs.declared.types.TypeName.{TypeName}
 use Rattle.xds_resource.specs.Types.{row, is_same_type}
 use Rattle.xds_resource.specs.Stamps.{max_counter}
-use Rattle.xds_resource.specs.PerType.{PerType, at, with_at, each}
-use Rattle.xds_resource.proofs.NameMaps.{bytes_eq_same, bytes_eq_tells}
-use Rattle.xds_resource.proofs.TypesApart.{same_type, is_same_type-same, at-with_at, at-with_at_other}
+use Rattle.xds_resource.specs.PerType.{at, each}
+use Rattle.xds_resource.proofs.NameMaps.{bytes_eq_tells}
 use Rattle.xds_interest.specs.Asked.{IsStarOfComplete}
 use Rattle.xds_message.specs.DeltaMessages.{DeltaRequest}
 use Rattle.xds_draft.specs.declared.draft.Draft.{Draft}
@@ -18,7 +17,6 @@ use Rattle.xds_draft.specs.DraftTexts.{kind_of}
 use Rattle.xds_ledger.specs.declared.variant.VariantName.TheVariants as variants
 use Rattle.xds_ledger.specs.Ledgers.{nonce_text}
 use Rattle.xds_ledger.specs.Sessions.{Session, unopened}
-use Rattle.xds_delta.specs.Polls.{take}
 use Rattle.xds_core.specs.Streams as streams
 use Rattle.xds_core.specs.Streams.{Stream, Message, url_of}
 use Rattle.xds_cache.specs.Shelves.{Shelf}

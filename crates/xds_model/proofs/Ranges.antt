@@ -1,17 +1,16 @@
 -- What is known of all writes that were made: their stamps are in range, what they put are resources; so a replica's entries are known.
-use Rattle.std.proofs.Common.{◌≡◌, ◌≢◌, ◌⊎◌, inl, inr, ℕ, suc, ◌+◌, ◌≤◌, ◌<◌, List, [], ◌∷◌, ◌++◌, map, Bool, true, false, ◌&&◌, not, Option, Some, None, Result, Ok, Err, refl, sym, ap, subst, ◌∙◌, append-nil, arith}
+use Rattle.std.proofs.Common.{◌≡◌, ◌⊎◌, inl, inr, ℕ, suc, ◌+◌, ◌≤◌, ◌<◌, List, [], ◌∷◌, ◌++◌, map, Bool, true, false, ◌&&◌, not, Option, Some, None, Ok, refl, sym, ap, subst, ◌∙◌, append-nil, arith}
 use Rattle.std.specs.Prelude.{◌==◌, if◌then◌else◌, is_none, Contains, nat_lt}
-use Rattle.std.specs.Option.{option_and_then, ForSome}
+use Rattle.std.specs.Option.{ForSome}
 use Rattle.std.specs.List.{filter}
 use Rattle.std.specs.Ordering.{nat_cmp}
 use Rattle.std.specs.Cmp.{nat_cmp_total}
 use Rattle.std.specs.FinMap as finmap
-use Rattle.std.specs.FinMap.{FinMap, nat_cmp-IsAntisymmetric}
+use Rattle.std.specs.FinMap.{nat_cmp-IsAntisymmetric}
 use Rattle.std.proofs.lemmas.Bool.{ltb-true, ltb-false}
 use Rattle.std.proofs.lemmas.Bool.Decides.{eqb_tells}
-use Rattle.std.proofs.lemmas.List.Elements.{Contains-append_left, Contains-append_cases}
+use Rattle.std.proofs.lemmas.List.Elements.{Contains-append_cases}
 use Rattle.xds_resource.specs.declared.types.TypeName.{TypeName}
-use Rattle.xds_resource.specs.declared.refusal.Refusal.{Refusal}
 use Rattle.xds_resource.specs.declared.refusal.Refusal.TheVariants.{NotFound, CounterSpent}
 use Rattle.xds_resource.specs.Refusals.{unless_refused}
 use Rattle.xds_resource.specs.Types.{is_same_type}
@@ -22,25 +21,24 @@ use Rattle.xds_resource.specs.Writes.{StampedWrite}
 use Rattle.xds_resource.specs.Best.{best}
 use Rattle.xds_resource.proofs.BestWrites.{IsGreatest-best, Contains-cons_cases}
 use Rattle.xds_resource.proofs.TypesApart.{same_type}
-use Rattle.xds_catalogue.specs.Holdings.{Holdings, catalogue_of}
+use Rattle.xds_catalogue.specs.Holdings.{Holdings}
 use Rattle.xds_catalogue.specs.Joins.{joined}
-use Rattle.xds_catalogue.specs.Local.{greatest_counter, greatest_counter_of, next_counter, spent_conditions, has_live, putting, deleting}
+use Rattle.xds_catalogue.specs.Local.{greatest_counter, next_counter, has_live, putting, deleting}
 use Rattle.xds_catalogue.proofs.Catalogues.{get-catalogue_of}
 use Rattle.xds_catalogue.proofs.Counters.{greatest_counter-held, greatest_counter_of-le}
 use Rattle.xds_catalogue.proofs.Lookups.{get-inserted}
-use Rattle.xds_core.specs.Stores.{if_done, putting_at, deleting_at}
+use Rattle.xds_core.specs.Stores.{putting_at, deleting_at}
 use Rattle.xds_core.specs.Events as events
 use Rattle.xds_core.specs.Events.{Event, Reply, Written}
-use Rattle.xds_core.specs.Steps.{Core, step, fresh as fresh_core}
+use Rattle.xds_core.specs.Steps.{fresh as fresh_core}
 use Rattle.xds_core.proofs.StepLaws.{done_with, put_is, delete_is}
 use Rattle.xds_cache.specs.Faults.{Test}
 use Rattle.xds_model.specs.Happenings.{Happening, AddReplica, AddClient, Put, Delete, Snapshot, Merge, Connect, Change, Up, Poll, Down, Lose}
-use Rattle.xds_model.specs.Worlds.{Site, World, empty_world, recorded, at_site, happened_at, is_free, happens}
+use Rattle.xds_model.specs.Worlds.{Site, World, empty_world, recorded, at_site, is_free, happens}
 use Rattle.xds_model.specs.Knows.{TypedWrite, Knowledge, made_now, made as made_of}
 use Rattle.xds_model.specs.Claims.{writes_of, PutsAResource}
-use Rattle.xds_model.proofs.Replicas.{Kept, some_is, mapped_some, if_some, both_parts, answered}
+use Rattle.xds_model.proofs.Replicas.{Kept, some_is, mapped_some, both_parts, answered}
 use Rattle.xds_model.proofs.Origins.{Stamped, SitesCome, sites_come}
-use Rattle.xds_model.proofs.Delivering.{AllKnown}
 use Rattle.xds_model.proofs.EveryEvent.{AllSitesKnown}
 
 -- ---- writes of a type

@@ -1,21 +1,20 @@
 -- A client that its replica owes nothing shows exactly what is live there of what it wants.
-use Rattle.std.proofs.Common.{◌≡◌, ◌≢◌, ◌⊎◌, inl, inr, ℕ, List, [], ◌∷◌, Bool, true, false, ◌&&◌, ◌||◌, not, Option, Some, None, refl, sym, ap, subst, ◌∙◌}
-use Rattle.std.specs.Prelude.{if◌then◌else◌, is_some, option_map, Contains, bytes_eq}
+use Rattle.std.proofs.Common.{◌≡◌, inl, inr, ℕ, List, [], ◌∷◌, Bool, true, false, ◌&&◌, ◌||◌, not, Option, Some, None, refl, sym, ap, subst, ◌∙◌}
+use Rattle.std.specs.Prelude.{if◌then◌else◌, is_some, option_map, Contains}
 use Rattle.std.specs.Option.{option_and_then, option_map_or}
-use Rattle.std.specs.List.{list_any, filter, filter_map, cons_option}
+use Rattle.std.specs.List.{list_any, cons_option}
 use Rattle.std.specs.FinMap as finmap
 use Rattle.std.proofs.lemmas.Bool.{or_parts}
 use Rattle.xds_resource.specs.declared.types.TypeName.{TypeName}
-use Rattle.xds_resource.specs.Types.{row, is_same_type}
-use Rattle.xds_resource.specs.PerType.{at, each}
+use Rattle.xds_resource.specs.Types.{is_same_type}
+use Rattle.xds_resource.specs.PerType.{at}
 use Rattle.xds_resource.specs.Stamps.{IsStamp}
 use Rattle.xds_resource.specs.Writes.{StampedWrite, version_of}
 use Rattle.xds_resource.proofs.VersionTexts.{version_text_injective}
 use Rattle.xds_resource.proofs.TypesApart.{at-each}
-use Rattle.xds_interest.specs.Interests.{Selection, covers}
+use Rattle.xds_interest.specs.Interests.{covers}
 use Rattle.xds_interest.specs.Asked.{Asked}
 use Rattle.xds_catalogue.specs.Holdings.{Entries}
-use Rattle.xds_message.specs.DeltaMessages.{DeltaRequest}
 use Rattle.xds_draft.specs.declared.draft.Draft.{Draft}
 use Rattle.xds_draft.specs.Drafts.{DraftedDelta}
 use Rattle.xds_draft.specs.DraftTexts.{kind_of}
@@ -23,7 +22,7 @@ use Rattle.xds_ledger.specs.declared.variant.VariantName.TheVariants.{Delta}
 use Rattle.xds_ledger.specs.declared.entry.Due.{Due}
 use Rattle.xds_ledger.specs.declared.entry.Due.TheVariants.{Stated, Removed}
 use Rattle.xds_ledger.specs.Variants.{is_told, is_whole}
-use Rattle.xds_ledger.specs.Owed.{Beliefs, live_version, present, owed_of, something_owed}
+use Rattle.xds_ledger.specs.Owed.{live_version, present, owed_of, something_owed}
 use Rattle.xds_ledger.specs.Ledgers as ledgers
 use Rattle.xds_ledger.specs.Ledgers.{is_due}
 use Rattle.xds_ledger.specs.Sessions as sessions
@@ -31,7 +30,7 @@ use Rattle.xds_ledger.specs.Sessions.{Session, unopened}
 use Rattle.xds_ledger.proofs.ByName.{nothing_owed}
 use Rattle.xds_core.specs.Stores.{Store}
 use Rattle.xds_core.specs.Streams.{Stream, Message, owes_of}
-use Rattle.xds_cache.specs.Shelves.{Wants, Holding, Cache, Shelf, is_wanted}
+use Rattle.xds_cache.specs.Shelves.{Holding, Shelf, is_wanted}
 use Rattle.xds_cache.proofs.Interests.{wants_what_is_covered}
 use Rattle.xds_model.specs.Knows.{TypedWrite}
 use Rattle.xds_cache.specs.Clients.{Client, shelf}
@@ -43,7 +42,7 @@ use Rattle.xds_model.proofs.ByOneName.{IsShown, shown_where_not_owed}
 use Rattle.xds_model.proofs.Lanes.{IsMade, asking, Asks, Abreast}
 use Rattle.xds_model.proofs.LinkTakes.{nothing_wanted}
 use Rattle.xds_model.proofs.Delivering.{AllKnown, live}
-use Rattle.xds_model.proofs.Queues.{delta_in, lane_up, lane_down, listed_draft, Lane, IsDeltaStream, Linked}
+use Rattle.xds_model.proofs.Queues.{delta_in, lane_up, lane_down, listed_draft, IsDeltaStream, Linked}
 
 -- ---- stamps
 

@@ -106,3 +106,8 @@ OneWriteAStamp test hs =
 -- each replica's journal is legal from a replica at which nothing happened, and what the replica is now is what it leaves
 abbrev pub JournalsAreLegal : Test → List Happening → Type 0
 JournalsAreLegal test hs = (r : ℕ) (s : Site) → finmap.get (world test hs).sites r ≡ Some s → IsLegal (fresh_core r) s.journal × (replayed (fresh_core r) s.journal ≡ s.core)
+
+-- a client's link and wants, as the list of happenings tells them, are those that it has
+abbrev pub LinksAreFollowed : Test → List Happening → Type 0
+LinksAreFollowed test hs =
+    (c : ℕ) (p : Peer) → finmap.get (world test hs).peers c ≡ Some p → (link test hs c ≡ option_map (λ l. l.replica) p.link) × ((t : TypeName) → wants test hs c t ≡ (clients.shelf p.client t).wants)

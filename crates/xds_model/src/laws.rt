@@ -2,7 +2,7 @@
 ghost use Rattle.std.specs.Prelude.{List};
 ghost use Rattle.xds_cache.specs.Faults.{Test};
 ghost use Rattle.xds_model.specs.Happenings.{Happening};
-ghost use Rattle.xds_model.specs.Claims.{HoldsWhatItKnows, SameKnowledgeSameHoldings, OneWriteAStamp, JournalsAreLegal};
+ghost use Rattle.xds_model.specs.Claims.{HoldsWhatItKnows, PutResources, SameKnowledgeSameHoldings, SettledIsExact, LinksAreFollowed, OneWriteAStamp, JournalsAreLegal};
 
 /// What a replica holds are the best writes of what it knows, so replicas that know the same writes hold the same.
 pub fn replicas_hold_what_they_know()
@@ -18,4 +18,15 @@ pub fn a_stamp_names_one_write()
 /// Each replica's journal is legal, and the replica is what the journal leaves.
 pub fn journals_are_legal()
     ensures { (test : Test) (hs : List Happening) → JournalsAreLegal test hs }
+{}
+
+/// A delta client that is up, to which nothing of a type is under way and nothing owed, shows exactly what its replica knows of
+/// what it wants.
+pub fn settled_clients_are_exact()
+    ensures { (test : Test) (hs : List Happening) → PutResources hs → SettledIsExact test hs }
+{}
+
+/// A client is up exactly where it was linked last and didn't lose that link, and wants what it was told to.
+pub fn links_are_followed()
+    ensures { (test : Test) (hs : List Happening) → LinksAreFollowed test hs }
 {}

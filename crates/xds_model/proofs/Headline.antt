@@ -1,0 +1,106 @@
+-- The clients' half of the headline: a settled client shows exactly what its replica knows of what it wants.
+use Rattle.std.proofs.Common.{◌≡◌, ℕ, List, [], ◌∷◌, ◌++◌, Bool, true, false, ◌&&◌, not, Option, Some, None, refl, sym, ap, subst, ◌∙◌}
+use Rattle.std.specs.Prelude.{if◌then◌else◌, option_map}
+use Rattle.std.specs.Option.{option_and_then, option_map_or}
+use Rattle.std.specs.FinMap as finmap
+use Rattle.xds_resource.specs.declared.types.TypeName.{TypeName}
+use Rattle.xds_resource.specs.PerType.{at}
+use Rattle.xds_resource.specs.Best.{best}
+use Rattle.xds_catalogue.proofs.Catalogues.{get-catalogue_of}
+use Rattle.xds_core.specs.Streams.{Stream, owes_of}
+use Rattle.xds_cache.specs.Shelves.{is_wanted}
+use Rattle.xds_cache.specs.Clients.{shelf}
+use Rattle.xds_cache.specs.Faults.{Test}
+use Rattle.xds_model.specs.Happenings.{Happening}
+use Rattle.xds_model.specs.Worlds.{Site, Link, Peer, World, empty_world, happens, after, world}
+use Rattle.xds_model.specs.Knows.{TypedWrite, Knowledge, nothing_known, learned, known_after, knows, made_now, made_after, wants}
+use Rattle.xds_model.specs.Claims.{writes_of, holding_of, PutResources, PutsAResource, SettledIsExact, is_quiet, owes_nothing, is_settled_on, is_settled}
+use Rattle.xds_model.proofs.Replicas.{Kept, kept_start, kept_step, some_is}
+use Rattle.xds_model.proofs.Origins.{Stamped, stamped_start, stamped_step}
+use Rattle.xds_model.proofs.Ranges.{Ranged, ranged_start, ranged_step, sites_known}
+use Rattle.xds_model.proofs.Queues.{Linked}
+use Rattle.xds_model.proofs.Everyone.{stream_at, Fine}
+use Rattle.xds_model.proofs.EveryEvent.{fine_start, fine_step}
+use Rattle.xds_model.proofs.More.{fine_more}
+use Rattle.xds_model.proofs.Settled.{link_shows}
+use Rattle.xds_model.proofs.Followed.{linked_to, wanted_of, link_is, wants_are}
+
+-- all that is kept of a world
+pub record Sure (w : World) (k : Knowledge) (all : List TypedWrite) : Type 0 where
+  pub kept : Kept w k
+  pub stamped : Stamped w k all
+  pub ranged : Ranged w all
+  pub fine : Fine w all
+
+sure_step : (test : Test) (w left : World) (k : Knowledge) (all : List TypedWrite) (h : Happening) → happens test w h ≡ Some left → PutsAResource h → Sure w k all → Sure left (learned w h k) (all ++ made_now w h)
+sure_step test w left k all h is puts sure = record {
+  kept = kept_step test w left k h is sure.kept;
+  stamped = stamped_step test w left k all h is sure.kept sure.stamped;
+  ranged = ranged_step test w left k all h is puts sure.kept sure.stamped sure.ranged;
+  fine = fine_more all (made_now w h) left (fine_step test w left all h is (sites_known w k all sure.kept sure.stamped sure.ranged) sure.fine);
+}
+
+sure_or : (test : Test) (w : World) (k : Knowledge) (all : List TypedWrite) (h : Happening) (hs : List Happening) (o : Option World) → happens test w h ≡ o → PutsAResource h → Sure w k all
+    → ((x : World) (j : Knowledge) (made : List TypedWrite) → Sure x j made → Sure (after test x hs) (known_after test x j hs) (made_after test x made hs))
+    → Sure (after test (option_map_or (λ x. x) o w) hs) (option_map_or (λ x. known_after test x (learned w h k) hs) o (known_after test w k hs)) (option_map_or (λ x. made_after test x (all ++ made_now w h) hs) o (made_after test w all hs))
+sure_or test w k all h hs None is puts sure later = later w k all sure
+sure_or test w k all h hs (Some x) is puts sure later = later x (learned w h k) (all ++ made_now w h) (sure_step test w x k all h is puts sure)
+
+pub sure_after : (test : Test) (hs : List Happening) (w : World) (k : Knowledge) (all : List TypedWrite) → PutResources hs → Sure w k all → Sure (after test w hs) (known_after test w k hs) (made_after test w all hs)
+sure_after test [] w k all put sure = sure
+sure_after test (h ∷ hs) w k all put sure = sure_or test w k all h hs (happens test w h) refl put.0 sure (λ x j made. sure_after test hs x j made put.1)
+
+pub sure : (test : Test) (hs : List Happening) → PutResources hs → Sure (world test hs) (known_after test empty_world nothing_known hs) (made_after test empty_world [] hs)
+sure test hs put = sure_after test hs empty_world nothing_known [] put (record { kept = kept_start; stamped = stamped_start; ranged = ranged_start; fine = fine_start })
+
+-- ---- settled
+
+both : (a b : Bool) → (a && b) ≡ true → (a ≡ true) × (b ≡ true)
+both true b is = (refl, is)
+both false b is = absurd cc
+
+found_true : {X : Type 0} (f : X → Bool) (o : Option X) → option_map_or f o false ≡ true → (x : X) × (o ≡ Some x) × (f x ≡ true)
+found_true f None is = absurd cc
+found_true f (Some x) is = (x, refl, is)
+
+opposite : (b : Bool) → not b ≡ true → b ≡ false
+opposite true is = absurd cc
+opposite false is = refl
+
+-- what it is that a client is settled
+pub record AtRest (w : World) (p : Peer) (t : TypeName) : Type 0 where
+  pub link : Link
+  pub linked : p.link ≡ Some link
+  pub quiet : is_quiet t link ≡ true
+  pub site : Site
+  pub there : finmap.get w.sites link.replica ≡ Some site
+  pub stream : Stream
+  pub opened : finmap.get site.core.streams link.stream ≡ Some stream
+  pub nothing : owes_of site.core.store stream t ≡ false
+
+pub at_rest : (w : World) (c : ℕ) (p : Peer) (t : TypeName) → finmap.get w.peers c ≡ Some p → is_settled w c t ≡ true → AtRest w p t
+at_rest w c p t has settled =
+    let up = found_true (is_settled_on w t) p.link (ap (λ o. option_map_or (λ q. option_map_or (is_settled_on w t) q.link false) o false) (sym has) ∙ settled) in
+    let parts = both (is_quiet t up.0) (option_map_or (owes_nothing t up.0.stream) (finmap.get w.sites up.0.replica) false) up.2 in
+    let site = found_true (owes_nothing t up.0.stream) (finmap.get w.sites up.0.replica) parts.1 in
+    let stream = found_true (λ x. not (owes_of site.0.core.store x t)) (finmap.get site.0.core.streams up.0.stream) site.2 in
+    record { link = up.0; linked = up.1; quiet = parts.0; site = site.0; there = site.1; stream = stream.0; opened = stream.1; nothing = opposite (owes_of site.0.core.store stream.0 t) stream.2 }
+
+-- the clients' half, for delta clients
+pub settled_is_exact : (test : Test) (hs : List Happening) → PutResources hs → SettledIsExact test hs
+settled_is_exact test hs put c r p t has delta linked settled name =
+    let w : World = world test hs in
+    let k : Knowledge = known_after test empty_world nothing_known hs in
+    let all : List TypedWrite = made_after test empty_world [] hs in
+    let all_sure = sure test hs put in
+    let rest = at_rest w c p t has settled in
+    let here = all_sure.fine.ups c p rest.link has rest.linked in
+    let there : stream_at w rest.link.replica rest.link.stream ≡ Some rest.stream = ap (λ o. option_and_then (λ (s : Site). finmap.get s.core.streams rest.link.stream) o) rest.there ∙ rest.opened in
+    let same : here.0 ≡ rest.stream = some_is here.0 rest.stream (sym here.1 ∙ there) in
+    let replica : rest.link.replica ≡ r = some_is rest.link.replica r (ap (option_map (λ l. l.replica)) (sym rest.linked) ∙ ap linked_to (sym has) ∙ sym (link_is test hs c) ∙ linked) in
+    let wanted : wants test hs c t ≡ (shelf p.client t).wants = wants_are test hs c t ∙ ap (wanted_of t) has in
+    let held : finmap.get (at rest.site.core.store t).entries name ≡ best (writes_of t (knows test hs r)) name =
+    ap (λ m. finmap.get m name) (all_sure.kept.holds rest.link.replica rest.site t rest.there) ∙ get-catalogue_of (writes_of t (k.at rest.link.replica)) name ∙ ap (λ n. best (writes_of t (k.at n)) name) replica in
+    link_shows all t p.client rest.link rest.stream rest.site.core.store name (subst (Linked all p.client rest.link) same (here.2 delta)) all_sure.stamped.unique all_sure.ranged.stamps
+    (sites_known w k all all_sure.kept all_sure.stamped all_sure.ranged rest.link.replica rest.site t rest.there) rest.quiet rest.nothing
+    ∙ (λ i. if is_wanted t (sym wanted i) name then option_and_then holding_of (held i) else None)
