@@ -113,7 +113,7 @@ not_empty : (xs : List ℕ) → 0 < length xs → bytes_eq [] xs ≡ false
 not_empty [] some = absurd (omega (arith, some))
 not_empty (x ∷ xs) some = refl
 
-no_nonce : (k : ℕ) → suc k ≤ max_counter → bytes_eq [] (nonce_text (suc k)) ≡ false
+pub no_nonce : (k : ℕ) → suc k ≤ max_counter → bytes_eq [] (nonce_text (suc k)) ≡ false
 no_nonce k within = not_empty (decimal (suc k)) (decimal_nonempty (suc k) (omega (arith, within)))
 
 -- a request with no nonce settles nothing
@@ -164,7 +164,7 @@ abreast_changed all t who subscribe unsubscribe s down f asked lane =
     let same : (name : List ℕ) → touches names.touched name ≡ false → is_wanted t w name ≡ is_wanted t f.wants name =
     λ name untouched. sym (wants_what_is_covered t w name) ∙ ap (λ (a : Asked). covers a.interest name) (sym after) ∙ untouched_keeps_cover_of_kept_in_delta t (asking t f.wants) m name refl (star_stands t f.wants) untouched ∙ wants_what_is_covered t f.wants name in
     let believed : (name : List ℕ) → finmap.get (take t s q).account.beliefs name ≡ believed_after (touches names.touched name) (is_wanted t w name) (set.contains names.mentioned name) (finmap.get s.account.beliefs name) =
-    λ name. ap (λ x. finmap.get x.account.beliefs name) is ∙ believed_by_name t s (answer_in q) names name
+    λ name. ap (λ x. finmap.get x.account.beliefs name) is ∙ believed_by_name Delta t s (answer_in q) names name
     ∙ nothing_resumed (believed_after (touches names.touched name) (covers names.asked.interest name) (set.contains names.mentioned name) (finmap.get (settled Delta t s.account [] false).beliefs name)) name
     ∙ (λ i. believed_after (touches names.touched name) ((ap (λ (a : Asked). covers a.interest name) after ∙ wants_what_is_covered t w name) i) (set.contains names.mentioned name) (finmap.get (account i).beliefs name)) in
     record {
@@ -183,7 +183,7 @@ abreast_changed all t who subscribe unsubscribe s down f asked lane =
 
 -- ---- a first request
 
-never_told : (touched covered mentioned : Bool) (v : List ℕ) → believed_after touched covered mentioned None ≡ Some (Told v) → ⊥
+pub never_told : (touched covered mentioned : Bool) (v : List ℕ) → believed_after touched covered mentioned None ≡ Some (Told v) → ⊥
 never_told true true true v is = absurd cc
 never_told true true false v is = absurd cc
 never_told true false mentioned v is = absurd cc
@@ -197,7 +197,7 @@ abreast_first all t m f asked interested versions within made =
     let names : Names = delta_names t unasked (mention m) m.initial_resource_versions in
     let before : List ℕ → Option Entry = λ name. believed_after (touches names.touched name) (covers names.asked.interest name) (set.contains names.mentioned name) None in
     let believed : (name : List ℕ) → finmap.get (take t unopened m).account.beliefs name ≡ resumed_after (version_held (finmap.get f.cache name)) (before name) =
-    λ name. believed_by_name t unopened (answer_in m) names name ∙ (λ i. resumed_after (versions name i) (believed_after (touches names.touched name) (covers names.asked.interest name) (set.contains names.mentioned name) (finmap.get-empty text_cmp name i))) in
+    λ name. believed_by_name Delta t unopened (answer_in m) names name ∙ (λ i. resumed_after (versions name i) (believed_after (touches names.touched name) (covers names.asked.interest name) (set.contains names.mentioned name) (finmap.get-empty text_cmp name i))) in
     record {
       asks = inl (asked, ap (λ x. record { begun = true; named = false; interest = x }) interested);
       awaits = tt;

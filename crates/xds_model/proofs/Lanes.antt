@@ -16,6 +16,7 @@ use Rattle.xds_interest.specs.Touches.{touches, delta_touch}
 use Rattle.xds_interest.proofs.AskedLaws.{delta_touch_is_a_set}
 use Rattle.xds_message.specs.DeltaMessages.{DeltaRequest}
 use Rattle.xds_draft.specs.Drafts.{DraftedDelta, delta_message_of}
+use Rattle.xds_ledger.specs.declared.variant.VariantName.{VariantName}
 use Rattle.xds_ledger.specs.declared.variant.VariantName.TheVariants.{Delta}
 use Rattle.xds_ledger.specs.declared.entry.Entry.{Entry}
 use Rattle.xds_ledger.specs.declared.entry.Due.TheVariants.{Stated}
@@ -105,12 +106,12 @@ awaits_none all t n (Some sent) w is = absurd cc
 -- ---- a request that is taken
 
 -- what is believed of a name after it
-pub believed_by_name : (t : TypeName) (s : Session) (answer : Answer) (names : Names) (q : List ℕ)
-    → finmap.get (taken Delta t s answer names).account.beliefs q
+pub believed_by_name : (v : VariantName) (t : TypeName) (s : Session) (answer : Answer) (names : Names) (q : List ℕ)
+    → finmap.get (taken v t s answer names).account.beliefs q
     ≡ resumed_after (finmap.get names.versions q)
-    (believed_after (touches names.touched q) (covers names.asked.interest q) (set.contains names.mentioned q) (finmap.get (settled Delta t s.account answer.nonce answer.rejects).beliefs q))
-believed_by_name t s answer names q =
-    let before : Beliefs = (settled Delta t s.account answer.nonce answer.rejects).beliefs in
+    (believed_after (touches names.touched q) (covers names.asked.interest q) (set.contains names.mentioned q) (finmap.get (settled v t s.account answer.nonce answer.rejects).beliefs q))
+believed_by_name v t s answer names q =
+    let before : Beliefs = (settled v t s.account answer.nonce answer.rejects).beliefs in
     resumed_by_name names.versions (beliefs_taken names.asked.interest names.touched names.mentioned before) q
     ∙ ap (resumed_after (finmap.get names.versions q)) (taken_by_name names.asked.interest names.touched names.mentioned before q)
 
@@ -118,8 +119,8 @@ believed_by_name t s answer names q =
 pub nothing_resumed : (b : Option Entry) (q : List ℕ) → resumed_after (finmap.get {R = text_cmp} finmap.empty q) b ≡ b
 nothing_resumed b q = ap (λ o. resumed_after o b) (finmap.get-empty text_cmp q)
 
-settles : (t : TypeName) (a : Account) (nonce : List ℕ) (rejects : Bool) (sent : Sent) → a.sent ≡ Some sent → bytes_eq nonce (nonce_text a.nonce) ≡ true → settled Delta t a nonce rejects ≡ answered Delta t a sent rejects
-settles t a nonce rejects sent has same = λ i. if is_some (has i) && same i then option_map_or (λ x. answered Delta t a x rejects) (has i) a else a
+pub settles : (v : VariantName) (t : TypeName) (a : Account) (nonce : List ℕ) (rejects : Bool) (sent : Sent) → a.sent ≡ Some sent → bytes_eq nonce (nonce_text a.nonce) ≡ true → settled v t a nonce rejects ≡ answered v t a sent rejects
+settles v t a nonce rejects sent has same = λ i. if is_some (has i) && same i then option_map_or (λ x. answered v t a x rejects) (has i) a else a
 
 pub taken_if_sent : (s : Session) (nonce : List ℕ) (sent : Sent) → s.account.sent ≡ Some sent → is_taken s nonce ≡ true
 taken_if_sent s nonce sent has = ap (λ o. not (s.asked.begun && (is_none o && not (bytes_eq nonce []) && not (bytes_eq nonce (nonce_text s.account.nonce))))) has ∙ never_stale s.asked.begun
@@ -174,12 +175,12 @@ pub after_answer : (t : TypeName) (w : Wants) (s : Session) (nonce : List ℕ) (
 after_answer t w s nonce fault sent asked has same =
     let m : DeltaRequest = delta_answer t nonce fault in
     let is : take t s m ≡ taken Delta t s (answer_in m) (answer_names t w) = take_is t s m (taken_if_sent s nonce sent has) ∙ ap (λ a. taken Delta t s (answer_in m) (delta_names t a (mention m) finmap.empty)) asked in
-    let account : settled Delta t s.account nonce (is_some (option_map failure fault)) ≡ answered Delta t s.account sent (is_some (option_map failure fault)) = settles t s.account nonce (is_some (option_map failure fault)) sent has same in
+    let account : settled Delta t s.account nonce (is_some (option_map failure fault)) ≡ answered Delta t s.account sent (is_some (option_map failure fault)) = settles Delta t s.account nonce (is_some (option_map failure fault)) sent has same in
     record {
       asked = ap (λ x. x.asked) is ∙ asked_again t w;
       quiet = ap (λ x. x.account.sent) is ∙ ap (λ (a : Account). option_map (λ x. touched_since x (answer_names t w).touched) a.sent) account
           ∙ ap (option_map (λ x. touched_since x (answer_names t w).touched)) (answered_quiet t s.account sent (is_some (option_map failure fault)));
-      beliefs = λ q. ap (λ x. finmap.get x.account.beliefs q) is ∙ believed_by_name t s (answer_in m) (answer_names t w) q
+      beliefs = λ q. ap (λ x. finmap.get x.account.beliefs q) is ∙ believed_by_name Delta t s (answer_in m) (answer_names t w) q
           ∙ nothing_resumed (believed_after (touches (answer_names t w).touched q) (covers (answer_names t w).asked.interest q) (set.contains (answer_names t w).mentioned q) (finmap.get (settled Delta t s.account nonce (is_some (option_map failure fault))).beliefs q)) q
           ∙ ap (λ b. believed_after b (covers (answer_names t w).asked.interest q) (set.contains (answer_names t w).mentioned q) (finmap.get (settled Delta t s.account nonce (is_some (option_map failure fault))).beliefs q)) (unmentioned t q)
           ∙ ap (λ (a : Account). finmap.get a.beliefs q) account;

@@ -17,3 +17,4 @@ pub mod More
 pub mod Settled
 pub mod Followed
 pub mod Headline
+pub mod SotwFolding
