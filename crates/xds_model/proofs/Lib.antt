@@ -18,3 +18,5 @@ pub mod Settled
 pub mod Followed
 pub mod Headline
 pub mod SotwFolding
+pub mod SotwLanes
+pub mod SotwSteps

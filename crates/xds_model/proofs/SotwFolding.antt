@@ -135,7 +135,7 @@ never_told_again t s (m ∷ ms) name v all none never is =
     (λ told. not_told (touches (names_of t s.asked m).touched name) (covers (names_of t s.asked m).asked.interest name) (set.contains (names_of t s.asked m).mentioned name) (finmap.get s.account.beliefs name) v never
     (sym (believed_quiet t s m name (unsettled t s.account m.response_nonce (is_some m.error_detail) none) all.0) ∙ told)) is
 
-touched_not_told : (touched covered mentioned : Bool) (b : Option Entry) (v : List ℕ) → touched ≡ true → believed_after touched covered mentioned b ≡ Some (Told v) → ⊥
+pub touched_not_told : (touched covered mentioned : Bool) (b : Option Entry) (v : List ℕ) → touched ≡ true → believed_after touched covered mentioned b ≡ Some (Told v) → ⊥
 touched_not_told true true true b v touched is = absurd cc
 touched_not_told true true false None v touched is = absurd cc
 touched_not_told true true false (Some e) v touched is = absurd cc

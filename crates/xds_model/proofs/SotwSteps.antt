@@ -1,0 +1,243 @@
+-- What keeps a lane of the state of the world abreast: an answer, a change, a first request, and a response that is sent.
+use Rattle.std.proofs.Common.{◌≡◌, ◌≢◌, ◌⊎◌, inl, inr, ℕ, suc, List, [], ◌∷◌, ◌++◌, Bool, true, false, ◌&&◌, ◌||◌, not, Option, Some, None, refl, sym, ap, subst, ◌∙◌, ◌≤◌}
+use Rattle.std.specs.Prelude.{bytes_eq, if◌then◌else◌, is_some, is_none, option_map, Contains, ⊤}
+use Rattle.std.specs.Option.{option_or, option_map_or}
+use Rattle.std.specs.List.{list_any}
+use Rattle.std.specs.FinMap as finmap
+use Rattle.std.specs.FinSet as set
+use Rattle.std.proofs.Math.Bool.{and-false}
+use Rattle.std.proofs.lemmas.Bool.{or_parts}
+use Rattle.std.proofs.lemmas.List.Folds.{list_any-append}
+use Rattle.xds_resource.specs.declared.types.TypeName.{TypeName}
+use Rattle.xds_resource.specs.Types.{row}
+use Rattle.xds_resource.specs.Stamps.{max_counter}
+use Rattle.xds_resource.specs.Writes.{StampedWrite, version_of, text_cmp}
+use Rattle.xds_resource.proofs.NameMaps.{bytes_eq_same}
+use Rattle.xds_interest.specs.Interests.{Selection, covers, star_text}
+use Rattle.xds_interest.specs.Asked.{Asked, unasked, sotw_asked}
+use Rattle.xds_interest.specs.Touched.{exactly_one, sotw_touches}
+use Rattle.xds_interest.specs.Touches.{Touch, touches, sotw_touch}
+use Rattle.xds_interest.proofs.AskedLaws.{sotw_touch_is_a_set, untouched_keeps_cover_of_kept}
+use Rattle.xds_interest.proofs.SotwLaws.{list_any-is_star}
+use Rattle.xds_message.specs.Messages.{Identity, Request}
+use Rattle.xds_draft.specs.Drafts.{Drafted, message_of}
+use Rattle.xds_ledger.specs.declared.variant.VariantName.TheVariants.{StateOfTheWorld}
+use Rattle.xds_ledger.specs.declared.entry.Entry.{Entry}
+use Rattle.xds_ledger.specs.declared.entry.Entry.TheVariants.{Told, Unsure}
+use Rattle.xds_ledger.specs.declared.entry.Due.{Due}
+use Rattle.xds_ledger.specs.declared.entry.Due.TheVariants.{Stated, Removed}
+use Rattle.xds_ledger.specs.Offers.{Offer}
+use Rattle.xds_ledger.specs.Ledgers.{Account, Sent, nonce_text, was_touched, touched_since, settled, answered, believed_accepted}
+use Rattle.xds_ledger.specs.Sessions.{Session, Names, unopened, is_taken, taken, send}
+use Rattle.xds_ledger.proofs.ByName.{accepted_by_name}
+use Rattle.xds_sotw.specs.Polls.{take}
+use Rattle.xds_cache.specs.Shelves.{Wants, Holding, Cache, Shelf, texts, interest, is_wanted, wants_some, wanting, kept_of}
+use Rattle.xds_cache.specs.Faults.{Test}
+use Rattle.xds_cache.specs.Deliveries.{Delivery, sotw_delivery, fault_in, statements, cache_after, taking, rejecting, delivered}
+use Rattle.xds_cache.specs.Sends.{failure, sotw_request}
+use Rattle.xds_cache.proofs.Interests.{wants_what_is_covered, shown_by_name, kept_by_name, holds_what_is_wanted}
+use Rattle.xds_model.specs.Knows.{TypedWrite}
+use Rattle.xds_model.proofs.ByOneName.{believed_after}
+use Rattle.xds_model.proofs.Lanes.{believed_by_name, nothing_resumed}
+use Rattle.xds_model.proofs.LaneSteps.{never_told}
+use Rattle.xds_model.proofs.SotwFolding.{names_of, answer_of, folded, AllTaken, NoneAnswers, touched_by, take_is, unsettled, believed_quiet, quiet_folded, sending_folded, untouched_folded, touched_folded, touched_not_told}
+use Rattle.xds_model.proofs.SotwLanes.{naming, Asks, IsHeld, stated_in, Says, Delivers, Awaits, TouchedIsUnsure, Abreast, awaited, nothing_sent, awaits_none, none_sent, asks_if_sent, Answered, after_answer, held_after, told_accepted, none_accepted, no_removal}
+
+-- ---- Down
+
+rejected : (all : List TypedWrite) (t : TypeName) (s after : Session) (sent : Sent) (f : Shelf) (d : Drafted) → f.asked ≡ true → Answered t f.wants s after sent true → Delivers all t s.account.nonce sent f.wants d → Abreast all t s (Some d) f
+    → Abreast all t after None (rejecting f (sotw_delivery t (message_of d)))
+rejected all t s after sent f d asked answer delivers lane = record {
+  asks = inl (asked, answer.asked);
+  awaits = awaits_none all t after.account.nonce after.account.sent f.wants d.nonce answer.quiet (delivers.nonce ∙ ap nonce_text (sym answer.nonce));
+  touched = λ x is. absurd (none_sent after.account.sent x answer.quiet is);
+  told = λ q v is. lane.told q v (sym (answer.beliefs q) ∙ is);
+  none = λ q accepted is. lane.none q (λ complete. sym answer.accepted ∙ accepted complete) (sym (answer.beliefs q) ∙ is);
+  within = lane.within;
+}
+
+not_complete : (b : Bool) → b ≡ false → b ≡ true → ⊥
+not_complete b is not = let never : false ≡ true = sym is ∙ not in absurd cc
+
+accepted : (all : List TypedWrite) (t : TypeName) (s after : Session) (sent : Sent) (f : Shelf) (d : Drafted) → s.account.sent ≡ Some sent → f.asked ≡ true → Answered t f.wants s after sent false → Delivers all t s.account.nonce sent f.wants d → Abreast all t s (Some d) f
+    → Abreast all t after None (taking t f (sotw_delivery t (message_of d)))
+accepted all t s after sent f d has asked answer delivers lane =
+    let whole : Bool = (row t).is_complete in
+    let cache : Cache = cache_after t f.wants whole finmap.empty (stated_in t d) f.cache in
+    let shown : (q : List ℕ) → finmap.get cache q ≡ held_after whole (is_wanted t f.wants q) (finmap.get (stated_in t d) q) (finmap.get f.cache q) =
+    λ q. shown_by_name t f.wants whole finmap.empty (stated_in t d) f.cache q
+    ∙ ap (λ h. if is_wanted t f.wants q then option_or (finmap.get (stated_in t d) q) h else None) (no_removal whole finmap.empty t q (finmap.get (stated_in t d) q) (finmap.get f.cache q) refl) in
+    let believed : (q : List ℕ) → finmap.get after.account.beliefs q ≡ believed_accepted whole (was_touched sent q) (finmap.get sent.offer q) (finmap.get s.account.beliefs q) = λ q. answer.beliefs q ∙ accepted_by_name whole sent s.account.beliefs q in
+    record {
+      asks = inl (asked, answer.asked);
+      awaits = awaits_none all t after.account.nonce after.account.sent f.wants d.nonce answer.quiet (delivers.nonce ∙ ap nonce_text (sym answer.nonce));
+      touched = λ x is. absurd (none_sent after.account.sent x answer.quiet is);
+      told = λ q v is.
+          subst (IsHeld all t q v) (sym (shown q))
+          (told_accepted all t q whole (was_touched sent q) (is_wanted t f.wants q) (finmap.get sent.offer q) (finmap.get s.account.beliefs q) (finmap.get (stated_in t d) q) (finmap.get f.cache q) v (delivers.says q) (λ u. delivers.wanted q u)
+          (λ complete touched. lane.touched sent has q v complete touched) (lane.within q) (lane.told q v) (sym (believed q) ∙ is));
+      none = λ q counted is.
+          shown q
+          ∙ none_accepted all t q whole (was_touched sent q) (is_wanted t f.wants q) (finmap.get sent.offer q) (finmap.get s.account.beliefs q) (finmap.get (stated_in t d) q) (finmap.get f.cache q) (delivers.says q)
+          (λ partial. lane.none q (λ complete. absurd (not_complete whole partial complete))) (sym (believed q) ∙ is);
+      within = λ q unwanted. (holds_what_is_wanted t f.wants whole finmap.empty (stated_in t d) f.cache q unwanted).0;
+    }
+
+delivered_by : (all : List TypedWrite) (t : TypeName) (s : Session) (m : Request) (sent : Sent) (f : Shelf) (d : Drafted) (fault : Option (List ℕ)) → s.account.sent ≡ Some sent → f.asked ≡ true → Delivers all t s.account.nonce sent f.wants d
+    → Answered t f.wants s (take t s m) sent (is_some (option_map failure fault)) → Abreast all t s (Some d) f
+    → Abreast all t (take t s m) None (option_map_or (λ x. rejecting f (sotw_delivery t (message_of d))) fault (taking t f (sotw_delivery t (message_of d))))
+delivered_by all t s m sent f d None has asked delivers answer lane = accepted all t s (take t s m) sent f d has asked answer delivers lane
+delivered_by all t s m sent f d (Some x) has asked delivers answer lane = rejected all t s (take t s m) sent f d asked answer delivers lane
+
+delivered_parts : (t : TypeName) (f : Shelf) (d : Drafted) (fault : Option (List ℕ)) → let g = option_map_or (λ x. rejecting f (sotw_delivery t (message_of d))) fault (taking t f (sotw_delivery t (message_of d))) in (g.wants ≡ f.wants) × (g.nonce ≡ d.nonce)
+delivered_parts t f d None = (refl, refl)
+delivered_parts t f d (Some x) = (refl, refl)
+
+-- the answer of a client that took a response
+abbrev pub answer : TypeName → Test → Shelf → Drafted → Request
+answer t test f d = sotw_request t None (delivered t test f (sotw_delivery t (message_of d))) (fault_in t test (sotw_delivery t (message_of d)))
+
+-- the client took the response and answered it
+pub abreast_delivered : (all : List TypedWrite) (t : TypeName) (test : Test) (s : Session) (f : Shelf) (d : Drafted) → Abreast all t s (Some d) f → Abreast all t (take t s (answer t test f d)) None (delivered t test f (sotw_delivery t (message_of d)))
+abreast_delivered all t test s f d lane =
+    let fault : Option (List ℕ) = fault_in t test (sotw_delivery t (message_of d)) in
+    let sent = awaited all t s.account.nonce s.account.sent f.wants f.nonce d lane.awaits in
+    let asked = asks_if_sent t s f sent.0 sent.1 lane.asks in
+    let parts = delivered_parts t f d fault in
+    delivered_by all t s (answer t test f d) sent.0 f d fault sent.1 asked.0 sent.2
+    (after_answer t f.wants s (answer t test f d) sent.0 (ap texts parts.0) asked.1 sent.1 (ap (λ x. bytes_eq x (nonce_text s.account.nonce)) (parts.1 ∙ sent.2.nonce) ∙ bytes_eq_same (nonce_text s.account.nonce))) lane
+
+-- ---- Change
+
+-- a client's last nonce is in date
+pub taken_last : (all : List TypedWrite) (t : TypeName) (s : Session) (f : Shelf) (down : Option Drafted) → Awaits all t s.account.nonce s.account.sent f.wants f.nonce down → is_taken s f.nonce ≡ true
+taken_last all t s f down is = by_sent s.account.sent refl is
+  where
+    in_date : (b c d : Bool) → not (b && (c && d && false)) ≡ true
+    in_date true true true = refl
+    in_date true true false = refl
+    in_date true false d = refl
+    in_date false c d = refl
+
+    in_time : (b : Bool) → not (b && false) ≡ true
+    in_time true = refl
+    in_time false = refl
+
+    by_sent : (o : Option Sent) → s.account.sent ≡ o → Awaits all t s.account.nonce o f.wants f.nonce down → is_taken s f.nonce ≡ true
+    by_sent None has awaits =
+        ap (λ b. not (s.asked.begun && (is_none s.account.sent && not (bytes_eq f.nonce []) && not b))) (ap (λ x. bytes_eq x (nonce_text s.account.nonce)) (nothing_sent all t s.account.nonce None f.wants f.nonce down refl awaits).1 ∙ bytes_eq_same (nonce_text s.account.nonce))
+        ∙ in_date s.asked.begun (is_none s.account.sent) (not (bytes_eq f.nonce []))
+    by_sent (Some sent) has awaits = ap (λ o. not (s.asked.begun && (is_none o && not (bytes_eq f.nonce []) && not (bytes_eq f.nonce (nonce_text s.account.nonce))))) has ∙ in_time s.asked.begun
+
+-- and settles nothing
+unsettled_last : (all : List TypedWrite) (t : TypeName) (a : Account) (w : Wants) (last : List ℕ) (down : Option Drafted) (rejects : Bool) (o : Option Sent) → a.sent ≡ o → Awaits all t a.nonce o w last down → settled StateOfTheWorld t a last rejects ≡ a
+unsettled_last all t a w last down rejects None has is = unsettled t a last rejects has
+unsettled_last all t a w last None rejects (Some sent) has is = absurd is
+unsettled_last all t a w last (Some d) rejects (Some sent) has is =
+    ap (λ b. if b then option_map_or (λ x. answered StateOfTheWorld t a x rejects) a.sent a else a) (ap (λ b. is_some a.sent && b) is.1 ∙ and-false (is_some a.sent))
+
+delivers_touched : (all : List TypedWrite) (t : TypeName) (n : ℕ) (sent : Sent) (w after : Wants) (touched : Touch) (d : Drafted) → ((q : List ℕ) → touches touched q ≡ false → is_wanted t after q ≡ is_wanted t w q)
+    → Delivers all t n sent w d → Delivers all t n (touched_since sent touched) after d
+delivers_touched all t n sent w after touched d same is = record {
+  nonce = is.nonce;
+  says = is.says;
+  wanted = λ q v states untouched.
+      let parts = or_parts (list_any (λ x. touches x q) sent.touched) (touches touched q || false) (sym (list_any-append (λ x. touches x q) sent.touched (touched ∷ [])) ∙ untouched) in
+      same q (or_parts (touches touched q) false parts.1).0 ∙ is.wanted q v states parts.0;
+}
+
+awaits_touched : (all : List TypedWrite) (t : TypeName) (n : ℕ) (o : Option Sent) (w after : Wants) (last : List ℕ) (touched : Touch) (d : Option Drafted) → ((q : List ℕ) → touches touched q ≡ false → is_wanted t after q ≡ is_wanted t w q)
+    → Awaits all t n o w last d → Awaits all t n (option_map (λ x. touched_since x touched) o) after last d
+awaits_touched all t n None w after last touched None same is = is
+awaits_touched all t n None w after last touched (Some d) same is = absurd is
+awaits_touched all t n (Some sent) w after last touched None same is = absurd is
+awaits_touched all t n (Some sent) w after last touched (Some d) same is = (delivers_touched all t n sent w after touched d same is.0, is.1)
+
+-- what a change leaves of one name
+told_changed : (all : List TypedWrite) (t : TypeName) (name : List ℕ) (touched before wanted mentioned : Bool) (b : Option Entry) (held : Option Holding) (v : List ℕ) → (touched ≡ false → wanted ≡ before) → (before ≡ false → held ≡ None) → (b ≡ Some (Told v) → IsHeld all t name v held)
+    → believed_after touched wanted mentioned b ≡ Some (Told v) → IsHeld all t name v (if wanted then held else None)
+told_changed all t name true before wanted mentioned b held v same within told is = absurd (touched_not_told true wanted mentioned b v refl is)
+told_changed all t name false before true mentioned b held v same within told is = told is
+told_changed all t name false before false mentioned b held v same within told is = subst (IsHeld all t name v) (within (sym (same refl))) (told is)
+
+none_changed : (touched wanted mentioned : Bool) (b : Option Entry) (held : Option Holding) → (b ≡ None → held ≡ None) → believed_after touched wanted mentioned b ≡ None → (if wanted then held else None) ≡ None
+none_changed touched false mentioned b held none is = refl
+none_changed true true true b held none is = absurd cc
+none_changed true true false None held none is = none refl
+none_changed true true false (Some e) held none is = absurd cc
+none_changed false true mentioned b held none is = none is
+
+split : (a b : Bool) → (a || b) ≡ true → (a ≡ true) ⊎ (b ≡ true)
+split true b is = inl refl
+split false b is = inr is
+
+-- a name that was touched before, or is touched now
+still_unsure : (t : TypeName) (s after : Session) (sent : Sent) (touched : Touch) → ((name version : List ℕ) → touches touched name ≡ true → finmap.get after.account.beliefs name ≡ Some (Told version) → ⊥)
+    → ((name version : List ℕ) → finmap.get after.account.beliefs name ≡ Some (Told version) → (touches touched name ≡ true) ⊎ (finmap.get s.account.beliefs name ≡ Some (Told version))) → TouchedIsUnsure t s sent → TouchedIsUnsure t after (touched_since sent touched)
+still_unsure t s after sent touched now kept before name version complete was told =
+    elim (split (list_any (λ x. touches x name) sent.touched) (touches touched name || false) (sym (list_any-append (λ x. touches x name) sent.touched (touched ∷ [])) ∙ was)) [
+      | inl earlier ↦
+          elim (kept name version told) [
+            | inl new ↦ now name version new told
+            | inr old ↦ before name version complete earlier old
+          ]
+      | inr new ↦ now name version (last_of (touches touched name) new) told
+    ]
+  where
+    last_of : (b : Bool) → (b || false) ≡ true → b ≡ true
+    last_of true is = refl
+    last_of false is = is
+
+by_touch : (touched covered mentioned : Bool) (b : Option Entry) (v : List ℕ) → believed_after touched covered mentioned b ≡ Some (Told v) → (touched ≡ true) ⊎ (b ≡ Some (Told v))
+by_touch true covered mentioned b v is = inl refl
+by_touch false covered mentioned b v is = inr is
+
+asked_of : (t : TypeName) (s : Session) (f : Shelf) → f.asked ≡ true → Asks t s f → s.asked ≡ naming t f.wants
+asked_of t s f asked (inl is) = is.1
+asked_of t s f asked (inr never) = let not_asked : true ≡ false = sym asked ∙ never.0 in absurd cc
+
+mapped : (o : Option Sent) (touched : Touch) (x : Sent) → option_map (λ y. touched_since y touched) o ≡ Some x → (sent : Sent) × (o ≡ Some sent) × (x ≡ touched_since sent touched)
+mapped None touched x is = absurd cc
+mapped (Some sent) touched x is = (sent, refl, some_sent (touched_since sent touched) x is)
+  where
+    some_sent : (y z : Sent) → Some y ≡ Some z → z ≡ y
+    some_sent y z e = cc
+
+-- the client wants something else of a type that it asked for, and its request is taken
+pub abreast_changed : (all : List TypedWrite) (t : TypeName) (who : Option Identity) (w : Wants) (s : Session) (down : Option Drafted) (f : Shelf) → f.asked ≡ true → Abreast all t s down f
+    → Abreast all t (take t s (sotw_request t who (wanting t w true f) None)) down (wanting t w true f)
+abreast_changed all t who w s down f asked lane =
+    let q : Request = sotw_request t who (wanting t w true f) None in
+    let names : Names = names_of t s.asked q in
+    let before : s.asked ≡ naming t f.wants = asked_of t s f asked lane.asks in
+    let after : names.asked ≡ naming t w = ap (λ a. sotw_asked t a (texts w)) before in
+    let in_time : is_taken s f.nonce ≡ true = taken_last all t s f down lane.awaits in
+    let account : settled StateOfTheWorld t s.account f.nonce false ≡ s.account = unsettled_last all t s.account f.wants f.nonce down false s.account.sent refl lane.awaits in
+    let is : take t s q ≡ taken StateOfTheWorld t s (answer_of q) names = take_is t s q in_time in
+    let same : (name : List ℕ) → touches names.touched name ≡ false → is_wanted t w name ≡ is_wanted t f.wants name =
+    λ name untouched. sym (wants_what_is_covered t w name) ∙ ap (λ (a : Asked). covers a.interest name) (sym after) ∙ untouched_keeps_cover_of_kept t s.asked (texts w) name untouched ∙ ap (λ (a : Asked). covers a.interest name) before
+    ∙ wants_what_is_covered t f.wants name in
+    let believed : (name : List ℕ) → finmap.get (take t s q).account.beliefs name ≡ believed_after (touches names.touched name) (is_wanted t w name) (set.contains names.mentioned name) (finmap.get s.account.beliefs name) =
+    λ name. believed_quiet t s q name account in_time
+    ∙ ap (λ c. believed_after (touches names.touched name) c (set.contains names.mentioned name) (finmap.get s.account.beliefs name)) (ap (λ (a : Asked). covers a.interest name) after ∙ wants_what_is_covered t w name) in
+    let sent_is : (take t s q).account.sent ≡ option_map (λ x. touched_since x names.touched) s.account.sent = ap (λ x. x.account.sent) is ∙ ap (λ (a : Account). option_map (λ x. touched_since x names.touched) a.sent) account in
+    record {
+      asks = inl (refl, ap (λ x. x.asked) is ∙ after);
+      awaits = subst (λ n. Awaits all t n (take t s q).account.sent w f.nonce down) (sym (ap (λ x. x.account.nonce) is ∙ ap (λ (a : Account). a.nonce) account))
+          (subst (λ o. Awaits all t s.account.nonce o w f.nonce down) (sym sent_is) (awaits_touched all t s.account.nonce s.account.sent f.wants w f.nonce names.touched down same lane.awaits));
+      touched = λ x now.
+          let from = mapped s.account.sent names.touched x (sym sent_is ∙ now) in
+          subst (TouchedIsUnsure t (take t s q)) (sym from.2)
+          (still_unsure t s (take t s q) from.0 names.touched
+          (λ name v touches_it told. touched_not_told (touches names.touched name) (is_wanted t w name) (set.contains names.mentioned name) (finmap.get s.account.beliefs name) v touches_it (sym (believed name) ∙ told))
+          (λ name v told. by_touch (touches names.touched name) (is_wanted t w name) (set.contains names.mentioned name) (finmap.get s.account.beliefs name) v (sym (believed name) ∙ told)) (lane.touched from.0 from.1));
+      told = λ name v told.
+          subst (IsHeld all t name v) (sym (kept_by_name t w f.cache name))
+          (told_changed all t name (touches names.touched name) (is_wanted t f.wants name) (is_wanted t w name) (set.contains names.mentioned name) (finmap.get s.account.beliefs name) (finmap.get f.cache name) v (same name) (lane.within name) (lane.told name v)
+          (sym (believed name) ∙ told));
+      none = λ name counted nothing.
+          kept_by_name t w f.cache name
+          ∙ none_changed (touches names.touched name) (is_wanted t w name) (set.contains names.mentioned name) (finmap.get s.account.beliefs name) (finmap.get f.cache name)
+          (lane.none name (λ complete. sym (ap (λ x. x.account.accepted) is ∙ ap (λ (a : Account). a.accepted) account) ∙ counted complete)) (sym (believed name) ∙ nothing);
+      within = λ name unwanted. (holds_what_is_wanted t w false finmap.empty finmap.empty f.cache name unwanted).1;
+    }
