@@ -13,12 +13,13 @@ use Rattle.xds_resource.specs.Types.{row}
 use Rattle.xds_resource.specs.Stamps.{max_counter}
 use Rattle.xds_resource.specs.Writes.{StampedWrite, version_of, text_cmp}
 use Rattle.xds_resource.proofs.NameMaps.{bytes_eq_same}
-use Rattle.xds_interest.specs.Interests.{Selection, covers, star_text}
-use Rattle.xds_interest.specs.Asked.{Asked, unasked, sotw_asked}
+use Rattle.xds_interest.specs.Interests.{Selection, covers, star_text, has_name}
+use Rattle.xds_interest.specs.Asked.{Asked, unasked, everything, sotw_asked}
 use Rattle.xds_interest.specs.Touched.{exactly_one, sotw_touches}
 use Rattle.xds_interest.specs.Touches.{Touch, touches, sotw_touch}
 use Rattle.xds_interest.proofs.AskedLaws.{sotw_touch_is_a_set, untouched_keeps_cover_of_kept}
 use Rattle.xds_interest.proofs.SotwLaws.{list_any-is_star}
+use Rattle.xds_interest.proofs.Texts.{contains-from_texts}
 use Rattle.xds_message.specs.Messages.{Identity, Request}
 use Rattle.xds_draft.specs.Drafts.{Drafted, message_of}
 use Rattle.xds_ledger.specs.declared.variant.VariantName.TheVariants.{StateOfTheWorld}
@@ -29,6 +30,7 @@ use Rattle.xds_ledger.specs.declared.entry.Due.TheVariants.{Stated, Removed}
 use Rattle.xds_ledger.specs.Offers.{Offer}
 use Rattle.xds_ledger.specs.Ledgers.{Account, Sent, nonce_text, was_touched, touched_since, settled, answered, believed_accepted}
 use Rattle.xds_ledger.specs.Sessions.{Session, Names, unopened, is_taken, taken, send}
+use Rattle.xds_ledger.specs.Laws.{with_sent}
 use Rattle.xds_ledger.proofs.ByName.{accepted_by_name}
 use Rattle.xds_sotw.specs.Polls.{take}
 use Rattle.xds_cache.specs.Shelves.{Wants, Holding, Cache, Shelf, texts, interest, is_wanted, wants_some, wanting, kept_of}
@@ -241,3 +243,108 @@ abreast_changed all t who w s down f asked lane =
           (lane.none name (λ complete. sym (ap (λ x. x.account.accepted) is ∙ ap (λ (a : Account). a.accepted) account) ∙ counted complete)) (sym (believed name) ∙ nothing);
       within = λ name unwanted. (holds_what_is_wanted t w false finmap.empty finmap.empty f.cache name unwanted).1;
     }
+
+-- ---- a first request
+
+nothing_contained : (q : List ℕ) → set.contains {R = text_cmp} set.empty q ≡ false
+nothing_contained q = contains-from_texts [] q
+
+no_told : (touched covered mentioned : Bool) (e : Option Entry) (v : List ℕ) → e ≡ None → believed_after touched covered mentioned e ≡ Some (Told v) → ⊥
+no_told touched covered mentioned e v none is = never_told touched covered mentioned v (ap (believed_after touched covered mentioned) (sym none) ∙ is)
+
+all_true : (touched covered mentioned : Bool) (e : Option Entry) → touched ≡ true → covered ≡ true → mentioned ≡ true → believed_after touched covered mentioned e ≡ None → ⊥
+all_true touched covered mentioned e t c m is = let unsure : Some Unsure ≡ None = sym (λ i. believed_after (t i) (c i) (m i) e) ∙ is in absurd cc
+
+explicit : (star named : Bool) → star ≡ false → (star || named) ≡ true → named ≡ true
+explicit true named none is = absurd cc
+explicit false named none is = is
+
+newly : (star named : Bool) → named ≡ true → (exactly_one false star || exactly_one false named) ≡ true
+newly true named is = refl
+newly false named is = ap (λ b. exactly_one false b) is
+
+-- a name that is wanted of an incomplete type is named by the first request
+first_names : (t : TypeName) (w : Wants) (name : List ℕ) → (row t).is_complete ≡ false → is_wanted t w name ≡ true
+    → (touches (sotw_touch unasked.interest (interest t w)) name ≡ true) × (covers (interest t w) name ≡ true) × (set.contains (interest t w).names name ≡ true)
+first_names t w name partial wanted =
+    let star : (interest t w).star ≡ false = list_any-is_star t (texts w) ∙ ap (λ c. c && has_name (texts w) star_text) partial in
+    let covered : covers (interest t w) name ≡ true = wants_what_is_covered t w name ∙ wanted in
+    let named : set.contains (interest t w).names name ≡ true = explicit (interest t w).star (set.contains (interest t w).names name) star covered in
+    (
+      sotw_touch_is_a_set unasked.interest (interest t w) name ∙ ap (λ b. exactly_one false (interest t w).star || exactly_one b (set.contains (interest t w).names name)) (nothing_contained name)
+      ∙ newly (interest t w).star (set.contains (interest t w).names name) named,
+      covered,
+      named,
+    )
+
+first_none : (t : TypeName) (f : Shelf) (name : List ℕ) (accepted complete wanted : Bool) (b : Option Entry) (cached : Option Holding) → accepted ≡ false → (row t).is_complete ≡ complete → is_wanted t f.wants name ≡ wanted → ((row t).is_complete ≡ true → accepted ≡ true)
+    → (is_wanted t f.wants name ≡ false → cached ≡ None) → ((row t).is_complete ≡ false → is_wanted t f.wants name ≡ true → b ≡ None → ⊥) → b ≡ None → cached ≡ None
+first_none t f name accepted true wanted b cached never complete is counted within unsure none = let yes_accepted : false ≡ true = sym never ∙ counted complete in absurd cc
+first_none t f name accepted false false b cached never complete is counted within unsure none = within is
+first_none t f name accepted false true b cached never complete is counted within unsure none = absurd (unsure complete is none)
+
+-- the first request of a type on a stream is taken
+pub abreast_first : (all : List TypedWrite) (t : TypeName) (m : Request) (f : Shelf) → f.asked ≡ true → m.resource_names ≡ texts f.wants → wants_some f.wants ≡ true → f.nonce ≡ [] → ((name : List ℕ) → is_wanted t f.wants name ≡ false → finmap.get f.cache name ≡ None)
+    → Abreast all t (take t unopened m) None f
+abreast_first all t m f asked lists some nonce within =
+    let names : Names = names_of t unasked m in
+    let after : names.asked ≡ naming t f.wants =
+    ap (λ l. sotw_asked t unasked l) lists ∙ (λ i. record { begun = true; named = some i; interest = if some i then interest t f.wants else everything t }) in
+    let believed : (name : List ℕ) → finmap.get (take t unopened m).account.beliefs name ≡ believed_after (touches names.touched name) (covers names.asked.interest name) (set.contains names.mentioned name) None =
+    λ name. believed_quiet t unopened m name refl refl ∙ ap (believed_after (touches names.touched name) (covers names.asked.interest name) (set.contains names.mentioned name)) (finmap.get-empty text_cmp name) in
+    record {
+      asks = inl (asked, after);
+      awaits = nonce;
+      touched = λ sent is. absurd (none_sent None sent refl is);
+      told = λ name v is. absurd (never_told (touches names.touched name) (covers names.asked.interest name) (set.contains names.mentioned name) v (sym (believed name) ∙ is));
+      none = λ name counted is.
+          first_none t f name false (row t).is_complete (is_wanted t f.wants name) (finmap.get (take t unopened m).account.beliefs name) (finmap.get f.cache name) refl refl refl counted (within name)
+          (λ partial wanted none.
+              let first = first_names t f.wants name partial wanted in
+              all_true (touches names.touched name) (covers names.asked.interest name) (set.contains names.mentioned name) None (ap (λ (a : Asked). touches (sotw_touch unasked.interest a.interest) name) after ∙ first.0)
+              (ap (λ (a : Asked). covers a.interest name) after ∙ first.1) (ap (λ (a : Asked). set.contains a.interest.names name) after ∙ first.2) (sym (believed name) ∙ none)) is;
+      within = within;
+    }
+
+-- ---- a response is sent
+
+begun_either : (b : Bool) (x s : Session) → x.asked.begun ≡ true → s.asked.begun ≡ true → (if b then x else s).asked.begun ≡ true
+begun_either true x s left right = left
+begun_either false x s left right = right
+
+begun_folded : (t : TypeName) (s : Session) (ms : List Request) → s.asked.begun ≡ true → (folded t s ms).asked.begun ≡ true
+begun_folded t s [] begun = begun
+begun_folded t s (m ∷ ms) begun =
+    begun_folded t (take t s m) ms (begun_either (is_taken s m.response_nonce) (taken StateOfTheWorld t s (answer_of m) (names_of t s.asked m)) s refl begun)
+
+asks_begun : (t : TypeName) (s : Session) (f : Shelf) → s.asked.begun ≡ true → Asks t s f → (f.asked ≡ true) × (s.asked ≡ naming t f.wants)
+asks_begun t s f begun (inl asked) = asked
+asks_begun t s f begun (inr never) = let not_begun : true ≡ false = sym begun ∙ ap (λ x. x.asked.begun) never.1 in absurd cc
+
+sent_is : (x y : Sent) → ◌≡◌ {A = Option Sent} (Some x) (Some y) → x ≡ y
+sent_is x y e = cc
+
+-- the replica sent a response, while these requests are under way to it
+pub abreast_sent : (all : List TypedWrite) (t : TypeName) (s : Session) (ups : List Request) (f : Shelf) (o : Offer) (d : Drafted) (n : ℕ) → s.account.sent ≡ None → s.asked.begun ≡ true → AllTaken t s ups → NoneAnswers n ups
+    → bytes_eq f.nonce (nonce_text n) ≡ false → d.nonce ≡ nonce_text n → ((name : List ℕ) → Says all t name (finmap.get o name) (finmap.get (stated_in t d) name))
+    → ((name version : List ℕ) → finmap.get o name ≡ Some (Stated version) → covers s.asked.interest name ≡ true) → Abreast all t (folded t s ups) None f → Abreast all t (folded t (send s o n) ups) (Some d) f
+abreast_sent all t s ups f o d n none begun taken apart other nonce says covered lane =
+    let after : Session = folded t s ups in
+    let asked = asks_begun t after f (begun_folded t s ups begun) lane.asks in
+    let sent : Sent = record { offer = o; touched = touched_by t s ups } in
+    subst (λ x. Abreast all t x (Some d) f) (sym (sending_folded t s o [] n ups none taken apart))
+    (record {
+      asks = inl asked;
+      awaits = (
+        record {
+          nonce = nonce;
+          says = says;
+          wanted = λ name v states untouched. sym (wants_what_is_covered t f.wants name) ∙ ap (λ (a : Asked). covers a.interest name) (sym asked.1) ∙ untouched_folded t s ups name taken untouched ∙ covered name v states;
+        },
+        other,
+      );
+      touched = λ x is. subst (TouchedIsUnsure t (with_sent after o (touched_by t s ups) n)) (sent_is sent x is) (λ name v complete touches_it told. touched_folded t s ups name v taken none touches_it told);
+      told = lane.told;
+      none = lane.none;
+      within = lane.within;
+    })
