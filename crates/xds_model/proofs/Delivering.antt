@@ -59,7 +59,7 @@ unrefused true c e f x y is = absurd cc
 unrefused false true e f x y is = absurd cc
 unrefused false false e f x y is = some_ok x y is
 
-canonical_is : (t : TypeName) (r : NamedBody) → IsCanonical t r → resource_of t (value_of r.body) ≡ r
+pub canonical_is : (t : TypeName) (r : NamedBody) → IsCanonical t r → resource_of t (value_of r.body) ≡ r
 canonical_is t r is =
     unrefused (not (is_resource t (value_of r.body))) (not (is_valid_name (name_or_empty t (value_of r.body)))) BadResource BadName (resource_of t (value_of r.body)) r is.object
 
@@ -160,7 +160,7 @@ told_other : (same : Bool) (u version : List ℕ) → option_and_then stated_ver
 told_other true u version is = absurd cc
 told_other false u version is = is
 
-present_if_stated : (e : Option Entry) (p : Option (List ℕ)) (version : List ℕ) → option_and_then stated_version (owed e p) ≡ Some version → p ≡ Some version
+pub present_if_stated : (e : Option Entry) (p : Option (List ℕ)) (version : List ℕ) → option_and_then stated_version (owed e p) ≡ Some version → p ≡ Some version
 present_if_stated None None version is = absurd cc
 present_if_stated None (Some u) version is = is
 present_if_stated (Some (Told told)) None version is = absurd cc

@@ -20,3 +20,4 @@ pub mod Headline
 pub mod SotwFolding
 pub mod SotwLanes
 pub mod SotwSteps
+pub mod SotwDelivering
