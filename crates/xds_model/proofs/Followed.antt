@@ -103,11 +103,11 @@ with_wants c s f t same =
       | inr other ↦ ap (λ (x : Shelf). x.wants) (at-with_at_other c.shelves s f t (λ e. other.0 (sym e)))
     ]
 
-received_ok : {X : Type 0} (tag : X → Message) (r : Outcome X) (q : Client × Message) → received_by tag r ≡ Some q → (p : Client × X) × (r ≡ Ok p) × (q ≡ (p.0, tag p.1))
+pub received_ok : {X : Type 0} (tag : X → Message) (r : Outcome X) (q : Client × Message) → received_by tag r ≡ Some q → (p : Client × X) × (r ≡ Ok p) × (q ≡ (p.0, tag p.1))
 received_ok tag (Ok p) q is = (p, refl, sym (some_is (p.0, tag p.1) q is))
 received_ok tag (Err e) q is = absurd cc
 
-answered_ok : {X : Type 0} (g : TypeName → Client × X) (r : Result TypeName Refusal) (p : Client × X) → if_addressed g r ≡ Ok p → (t : TypeName) × (p ≡ g t)
+pub answered_ok : {X : Type 0} (g : TypeName → Client × X) (r : Result TypeName Refusal) (p : Client × X) → if_addressed g r ≡ Ok p → (t : TypeName) × (p ≡ g t)
 answered_ok {X} g (Ok t) p is = (t, ok_is (g t) p is)
   where
     ok_is : (x y : Client × X) → ◌≡◌ {A = Outcome X} (Ok x) (Ok y) → y ≡ x

@@ -8,6 +8,7 @@ pub mod LaneSteps
 pub mod Delivering
 pub mod Queues
 pub mod LinkSteps
+pub mod Firsts
 pub mod LinkTakes
 pub mod CoreSteps
 pub mod Everyone
@@ -21,3 +22,4 @@ pub mod SotwFolding
 pub mod SotwLanes
 pub mod SotwSteps
 pub mod SotwDelivering
+pub mod SotwLinks

@@ -54,7 +54,7 @@ url_type Endpoint = refl
 url_type Listener = refl
 url_type Route = refl
 
-taken_by : (foreign : Bool) (x : Stream) (v : VariantName) (r : Result (Outcome × PerType Session) Refusal) (z : Outcome × Stream)
+pub taken_by : (foreign : Bool) (x : Stream) (v : VariantName) (r : Result (Outcome × PerType Session) Refusal) (z : Outcome × Stream)
     → (if foreign then Err WrongVariant else if_done (λ p. (p.0, record { variant = Some v; count = x.count; sessions = p.1 })) r) ≡ Ok z
     → (a : Outcome × PerType Session) × (r ≡ Ok a) × (z.1 ≡ record { variant = Some v; count = x.count; sessions = a.1 })
 taken_by true x v r z is = absurd cc
@@ -168,7 +168,7 @@ quiet_first replica store x y (Some t) is = quiet_polled replica store x y t (to
 pub poll_quiet : (replica : ℕ) (store : Store) (x y : Stream) (ts : List TypeName) → polled_first replica store x ts ≡ Ok (None, y) → y ≡ x
 poll_quiet replica store x y ts is = quiet_first replica store x y (first_due store x ts) is
 
-all_three : (a b c : Bool) → (a && b && c) ≡ true → a ≡ true
+pub all_three : (a b c : Bool) → (a && b && c) ≡ true → a ≡ true
 all_three true b c is = refl
 all_three false true c is = is
 all_three false false c is = is
@@ -243,10 +243,10 @@ poll_lane all replica store x s t o l f known room due (inr other) lane =
     (sym (lane_down-append t l.down (drafts.Delta (response replica s (at store s) o (suc x.count)) ∷ []) ∙ ap (λ b. lane_down t l.down ++ (if b then drafts.Delta (response replica s (at store s) o (suc x.count)) ∷ [] else [])) other.1 ∙ append-nil (lane_down t l.down)))
     (lane_later all t (at x.sessions t) x.count (lane_up t l.up) (lane_down t l.down) f lane))
 
-room_is : (count : ℕ) → (count == max_counter) ≡ false → count ≤ max_counter → suc count ≤ max_counter
+pub room_is : (count : ℕ) → (count == max_counter) ≡ false → count ≤ max_counter → suc count ≤ max_counter
 room_is count not_full within = elim (eqb_tells count max_counter) [ inl same ↦ (let never : true ≡ false = sym same.0 ∙ not_full in absurd cc) | inr other ↦ omega (arith, within, other.1) ]
 
-one_more : (n : ℕ) → n + 1 ≡ suc n
+pub one_more : (n : ℕ) → n + 1 ≡ suc n
 one_more n = omega arith
 
 -- the replica sent a response

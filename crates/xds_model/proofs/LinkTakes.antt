@@ -42,8 +42,9 @@ use Rattle.xds_model.proofs.Folding.{folded, folded_more, taken_more}
 use Rattle.xds_model.proofs.ByOneName.{version_held}
 use Rattle.xds_model.proofs.Lanes.{IsMade, Asks, Abreast, nothing_sent, taken_if_plain, no_texts}
 use Rattle.xds_model.proofs.LaneSteps.{abreast_delivered, taken_delivered, abreast_changed, abreast_first, kept_made}
-use Rattle.xds_model.proofs.Queues.{lane_up, lane_up-append, of_own_type, of_other_type, AllDelta, all_delta-append, lane_down, all_numbered-append, listed_draft, Lane, Linked}
+use Rattle.xds_model.proofs.Queues.{of_type, lane_up, lane_up-append, of_own_type, of_other_type, AllDelta, all_delta-append, lane_down, all_numbered-append, listed_draft, Lane, Linked}
 use Rattle.xds_model.proofs.LinkSteps.{url_type}
+use Rattle.xds_model.proofs.Firsts.{firsts, firsts_by, one_first, once, first_lane}
 
 -- ---- Down
 
@@ -129,7 +130,7 @@ answered_ok g (Ok t) p is = (t, refl, ok_is (g t) p is)
     ok_is x y e = cc
 answered_ok g (Err e) p is = absurd cc
 
-addressed_to : (broken asked : Bool) (s t : TypeName) → ◌≡◌ {A = Result TypeName Refusal} (if broken then Err NoStream else addressed_or (if asked then Some s else None)) (Ok t) → t ≡ s
+pub addressed_to : (broken asked : Bool) (s t : TypeName) → ◌≡◌ {A = Result TypeName Refusal} (if broken then Err NoStream else addressed_or (if asked then Some s else None)) (Ok t) → t ≡ s
 addressed_to true asked s t is = absurd cc
 addressed_to false true s t is = cc
 addressed_to false false s t is = absurd cc
@@ -333,62 +334,18 @@ pub record Rests (all : List TypedWrite) (t : TypeName) (f : Shelf) : Type 0 whe
 held_by_name : (cache : Cache) (q : List ℕ) → finmap.get (held_versions cache) q ≡ version_held (finmap.get cache q)
 held_by_name cache q = get-tabulated (held_version cache) (finmap.keys cache) q (λ absent. ap version_held (absent_key cache q absent))
 
--- the first requests of a type: one if something is wanted, and else none
-abbrev one_first : TypeName → Client → Bool → List DeltaRequest
-one_first t c greeted = if wants_some (shelf c t).wants then delta_first c t greeted ∷ [] else []
+first_own : (c : Client) (t : TypeName) (g : Bool) → of_type t (streams.Delta (delta_first c t g)) ≡ Some (delta_first c t g)
+first_own c t g = of_own_type t t (delta_first c t g) refl (is_same_type-same t)
 
--- no type of a list is this one
-abbrev IsOut : TypeName → List TypeName → Type 0
-IsOut t [] = ⊤
-IsOut t (s ∷ ss) = (is_same_type s t ≡ false) × IsOut t ss
-
--- one is, once
-abbrev IsOnce : TypeName → List TypeName → Type 0
-IsOnce t [] = ⊥
-IsOnce t (s ∷ ss) = ((s ≡ t) × IsOut t ss) ⊎ ((is_same_type s t ≡ false) × IsOnce t ss)
-
-once : (t : TypeName) → IsOnce t types
-once Cluster = inl (refl, (refl, (refl, (refl, tt))))
-once Endpoint = inr (refl, inl (refl, (refl, (refl, tt))))
-once Listener = inr (refl, inr (refl, inl (refl, (refl, tt))))
-once Route = inr (refl, inr (refl, inr (refl, inl (refl, tt))))
-
-abbrev firsts : Client → Bool → List TypeName → List Message
-firsts c greeted ts = map streams.Delta (first_requests (delta_first c) c greeted ts)
-
-abbrev firsts_by : Bool → Client → Bool → TypeName → List TypeName → List Message
-firsts_by some c greeted s ss = map streams.Delta (if some then delta_first c s greeted ∷ first_requests (delta_first c) c true ss else first_requests (delta_first c) c greeted ss)
-
-out_by : (t : TypeName) (c : Client) (greeted : Bool) (s : TypeName) (ss : List TypeName) (some : Bool) → is_same_type s t ≡ false → ((g : Bool) → lane_up t (firsts c g ss) ≡ []) → lane_up t (firsts_by some c greeted s ss) ≡ []
-out_by t c greeted s ss true other rest = ap (λ o. cons_option o (lane_up t (firsts c true ss))) (of_other_type s t (delta_first c s greeted) refl other) ∙ rest true
-out_by t c greeted s ss false other rest = rest greeted
-
-none_first : (t : TypeName) (c : Client) (greeted : Bool) (ts : List TypeName) → IsOut t ts → lane_up t (firsts c greeted ts) ≡ []
-none_first t c greeted [] out = refl
-none_first t c greeted (s ∷ ss) out = out_by t c greeted s ss (wants_some (shelf c s).wants) out.0 (λ g. none_first t c g ss out.1)
-
-own_by : (t : TypeName) (c : Client) (greeted : Bool) (ss : List TypeName) (some : Bool) → ((g : Bool) → lane_up t (firsts c g ss) ≡ []) → lane_up t (firsts_by some c greeted t ss) ≡ (if some then delta_first c t greeted ∷ [] else [])
-own_by t c greeted ss true rest = ap (λ o. cons_option o (lane_up t (firsts c true ss))) (of_own_type t t (delta_first c t greeted) refl (is_same_type-same t)) ∙ ap (λ l. delta_first c t greeted ∷ l) (rest true)
-own_by t c greeted ss false rest = rest greeted
-
-later_by : (t : TypeName) (c : Client) (greeted : Bool) (s : TypeName) (ss : List TypeName) (some : Bool) → is_same_type s t ≡ false → lane_up t (firsts_by some c greeted s ss) ≡ lane_up t (firsts c (if some then true else greeted) ss)
-later_by t c greeted s ss true other = ap (λ o. cons_option o (lane_up t (firsts c true ss))) (of_other_type s t (delta_first c s greeted) refl other)
-later_by t c greeted s ss false other = refl
-
-first_lane : (t : TypeName) (c : Client) (greeted : Bool) (ts : List TypeName) → IsOnce t ts → (g : Bool) × (lane_up t (firsts c greeted ts) ≡ one_first t c g)
-first_lane t c greeted [] is = absurd is
-first_lane t c greeted (s ∷ ss) (inl here) =
-    (greeted, ap (λ r. lane_up t (firsts_by (wants_some (shelf c r).wants) c greeted r ss)) here.0 ∙ own_by t c greeted ss (wants_some (shelf c t).wants) (λ g. none_first t c g ss here.1))
-first_lane t c greeted (s ∷ ss) (inr later) =
-    let rest = first_lane t c (if wants_some (shelf c s).wants then true else greeted) ss later.1 in
-    (rest.0, later_by t c greeted s ss (wants_some (shelf c s).wants) later.0 ∙ rest.1)
+first_other : (c : Client) (s t : TypeName) (g : Bool) → is_same_type s t ≡ false → of_type t (streams.Delta (delta_first c s g)) ≡ None
+first_other c s t g other = of_other_type s t (delta_first c s g) refl other
 
 -- all first requests are of types of the table
-deltas_by : (c : Client) (greeted : Bool) (s : TypeName) (ss : List TypeName) (some : Bool) → ((g : Bool) → AllDelta (firsts c g ss)) → AllDelta (firsts_by some c greeted s ss)
+deltas_by : (c : Client) (greeted : Bool) (s : TypeName) (ss : List TypeName) (some : Bool) → ((g : Bool) → AllDelta (firsts streams.Delta (delta_first c) c g ss)) → AllDelta (firsts_by streams.Delta (delta_first c) c some greeted s ss)
 deltas_by c greeted s ss true rest = ((s, delta_first c s greeted, refl, refl), rest true)
 deltas_by c greeted s ss false rest = rest greeted
 
-first_deltas : (c : Client) (greeted : Bool) (ts : List TypeName) → AllDelta (firsts c greeted ts)
+first_deltas : (c : Client) (greeted : Bool) (ts : List TypeName) → AllDelta (firsts streams.Delta (delta_first c) c greeted ts)
 first_deltas c greeted [] = tt
 first_deltas c greeted (s ∷ ss) = deltas_by c greeted s ss (wants_some (shelf c s).wants) (λ g. first_deltas c g ss)
 
@@ -437,10 +394,10 @@ linked_opened all c r n greeted rests = record {
   counted = omega arith;
   deltas = first_deltas c false types;
   lanes = λ t.
-      let first = first_lane t c false types (once t) in
-      subst (λ k. Lane all t k 0 (lane_up t (firsts c false types)) [] (shelf (linked greeted c) t)) (sym (at-each unopened t))
+      let first = first_lane streams.Delta (delta_first c) c of_type (first_own c) (first_other c) t false types (once t) in
+      subst (λ k. Lane all t k 0 (lane_up t (firsts streams.Delta (delta_first c) c false types)) [] (shelf (linked greeted c) t)) (sym (at-each unopened t))
       (subst (λ ups. Lane all t unopened 0 ups [] (shelf (linked greeted c) t)) (sym first.1)
-      (subst (Lane all t unopened 0 (one_first t c first.0) []) (sym (connected_shelf c greeted t))
+      (subst (Lane all t unopened 0 (one_first streams.Delta (delta_first c) c t first.0) []) (sym (connected_shelf c greeted t))
       (lane_opened all t (shelf c t) (delta_first c t first.0) (wants_some (shelf c t).wants) refl refl (ap (λ l. record { subscribe = texts (shelf c t).wants; unsubscribe = l }) no_texts) (held_by_name (shelf c t).cache) (rests t))));
 }
 

@@ -106,13 +106,14 @@ nonces_apart : (k n : ℕ) → k < suc n → suc n ≤ max_counter → nonce_tex
 nonces_apart zero n below within is = empty_or_not (decimal (suc n)) (decimal_nonempty (suc n) (omega (arith, within))) is
 nonces_apart (suc k) n below within is = let same : suc k ≡ suc n = decimal_injective (suc k) (suc n) (omega (arith, below, within)) (omega (arith, within)) is in absurd (omega (arith, below, same))
 
+-- a nonce of an earlier number is another
+pub nonces_differ : (count : ℕ) (nonce : List ℕ) → suc count ≤ max_counter → (k : ℕ) × (k ≤ count) × (nonce ≡ nonce_text k) → bytes_eq nonce (nonce_text (suc count)) ≡ false
+nonces_differ count nonce within is = differs nonce (nonce_text (suc count)) (bytes_eq nonce (nonce_text (suc count))) refl (λ same. nonces_apart is.0 count (omega (arith, is.1)) within (sym is.2 ∙ same))
+
 -- a new number is none of theirs
 pub none_answers : (count : ℕ) (ms : List DeltaRequest) → suc count ≤ max_counter → AllNumbered count ms → NoneAnswers (suc count) ms
 none_answers count [] within all = tt
-none_answers count (m ∷ ms) within all = (
-  differs m.response_nonce (nonce_text (suc count)) (bytes_eq m.response_nonce (nonce_text (suc count))) refl (λ is. nonces_apart all.0.0 count (omega (arith, all.0.1)) within (sym all.0.2 ∙ is)),
-  none_answers count ms within all.1,
-)
+none_answers count (m ∷ ms) within all = (nonces_differ count m.response_nonce within all.0, none_answers count ms within all.1)
 
 -- ---- a lane
 

@@ -1,0 +1,270 @@
+-- What is under way on a link of the state of the world, of one type, and what keeps all lanes of such a link.
+use Rattle.std.proofs.Common.{◌≡◌, ◌≢◌, ◌⊎◌, inl, inr, ℕ, zero, suc, ◌+◌, ◌≤◌, ◌<◌, List, [], ◌∷◌, ◌++◌, map, Bool, true, false, cond, ◌&&◌, ◌||◌, not, Option, Some, None, Result, Ok, Err, refl, sym, ap, subst, ◌∙◌, append-nil, arith}
+use Rattle.std.specs.Prelude.{◌==◌, bytes_eq, if◌then◌else◌, is_some, is_none, option_map, length, Contains, ⊤}
+use Rattle.std.specs.Option.{option_map_or, option_and_then}
+use Rattle.std.specs.List.{filter, filter_map, cons_option}
+use Rattle.std.specs.FinMap as finmap
+use Rattle.xds_resource.specs.declared.types.TypeName.{TypeName}
+use Rattle.xds_resource.specs.declared.refusal.Refusal.{Refusal}
+use Rattle.xds_resource.specs.declared.refusal.Refusal.TheVariants.{BadMessage, WrongVariant, NoStream}
+use Rattle.xds_resource.specs.Types.{row, types, type_of_url, is_same_type}
+use Rattle.xds_resource.specs.Stamps.{max_counter}
+use Rattle.xds_resource.specs.Writes.{text_cmp}
+use Rattle.xds_resource.specs.PerType.{PerType, at, with_at, each}
+use Rattle.xds_resource.proofs.TypesApart.{same_type, is_same_type-same, at-with_at, at-with_at_other, at-each}
+use Rattle.xds_message.specs.Messages.{Identity, Request}
+use Rattle.xds_catalogue.specs.Holdings.{Entries}
+use Rattle.xds_draft.specs.declared.draft.Draft.{Draft}
+use Rattle.xds_draft.specs.declared.draft.Draft.TheVariants as drafts
+use Rattle.xds_draft.specs.Drafts.{Drafted, message_of}
+use Rattle.xds_draft.specs.DraftTexts.{kind_of}
+use Rattle.xds_ledger.specs.declared.outcome.Outcome.{Outcome}
+use Rattle.xds_ledger.specs.declared.entry.Entry.TheVariants.{Told}
+use Rattle.xds_ledger.specs.declared.variant.VariantName.TheVariants.{StateOfTheWorld}
+use Rattle.xds_ledger.specs.Offers.{Offer, offer}
+use Rattle.xds_ledger.specs.Ledgers as ledgers
+use Rattle.xds_ledger.specs.Ledgers.{nonce_text, is_due, is_refused}
+use Rattle.xds_ledger.specs.Sessions as sessions
+use Rattle.xds_ledger.specs.Sessions.{Session, unopened, is_taken, send}
+use Rattle.xds_sotw.specs.Polls.{take, response}
+use Rattle.xds_core.specs.Stores.{Store}
+use Rattle.xds_core.specs.Streams as streams
+use Rattle.xds_core.specs.Streams.{Stream, Message, opening, is_foreign, answered_by, answered, requested, to_send, response_of}
+use Rattle.xds_core.proofs.StepLaws.{unless_once}
+use Rattle.xds_cache.specs.Shelves.{Wants, Holding, Shelf, texts, is_wanted, wants_some, wanting, kept_of, connected, lost}
+use Rattle.xds_cache.specs.Faults.{Test}
+use Rattle.xds_cache.specs.Clients.{Client, shelf, with_shelf, node, is_sent, shelf_after, changed, linked, unlinked, addressing, if_asked}
+use Rattle.xds_cache.specs.Deliveries.{sotw_delivery, delivered}
+use Rattle.xds_cache.specs.Sends.{sotw_request, sotw_first, first_requests}
+use Rattle.xds_cache.specs.Receives.{sotw_receive, sotw_answered}
+use Rattle.xds_cache.proofs.Interests.{kept_by_name, holds_what_is_wanted}
+use Rattle.xds_model.specs.declared.event.ClientKind.TheVariants.{Sotw}
+use Rattle.xds_model.specs.Worlds.{Link, under_way, received_in, opening_requests}
+use Rattle.xds_model.specs.Knows.{TypedWrite}
+use Rattle.xds_model.specs.Claims.{asks_for}
+use Rattle.xds_model.proofs.Replicas.{some_is, if_some, none_there}
+use Rattle.xds_model.proofs.Queues.{lane_down, lane_down-append, nonces_differ}
+use Rattle.xds_model.proofs.LinkSteps.{url_type, taken_by, IsSent, all_three, one_more, room_is}
+use Rattle.xds_model.proofs.LinkTakes.{empty_wants, nothing_wanted, connected_shelf, lost_shelf, addressed_to}
+use Rattle.xds_model.proofs.Firsts.{firsts, firsts_by, one_first, once, first_lane}
+use Rattle.xds_model.proofs.Delivering.{AllKnown}
+use Rattle.xds_model.proofs.Followed.{received_ok, answered_ok}
+use Rattle.xds_model.proofs.SotwFolding.{folded, AllTaken, NoneAnswers, folded_more, taken_more, quiet_folded, taken_meanwhile_all}
+use Rattle.xds_model.proofs.SotwLanes.{Asks, Awaits, Abreast, IsHeld, Says, stated_in, awaited, nothing_sent}
+use Rattle.xds_model.proofs.SotwSteps.{answer, abreast_delivered, abreast_changed, abreast_first, abreast_sent, taken_last}
+use Rattle.xds_model.proofs.SotwDelivering.{response_says, stated_is_covered}
+
+-- ---- the requests of a type
+
+abbrev pub sotw_in : Message → Option Request
+sotw_in (streams.Sotw m) = Some m
+sotw_in (streams.Delta m) = None
+
+abbrev pub of_type : TypeName → Message → Option Request
+of_type t m = if asks_for t m then sotw_in m else None
+
+abbrev pub lane_up : TypeName → List Message → List Request
+lane_up t ms = filter_map (of_type t) ms
+
+cons-append : {X : Type 0} (o : Option X) (xs ys both : List X) → both ≡ xs ++ ys → cons_option o both ≡ cons_option o xs ++ ys
+cons-append None xs ys both is = is
+cons-append (Some x) xs ys both is = ap (λ l. x ∷ l) is
+
+lane_up-append : (t : TypeName) (ms ns : List Message) → lane_up t (ms ++ ns) ≡ lane_up t ms ++ lane_up t ns
+lane_up-append t [] ns = refl
+lane_up-append t (m ∷ ms) ns = cons-append (of_type t m) (lane_up t ms) (lane_up t ns) (lane_up t (ms ++ ns)) (lane_up-append t ms ns)
+
+of_own_type : (s t : TypeName) (m : Request) → m.type_url ≡ (row s).url → is_same_type s t ≡ true → of_type t (streams.Sotw m) ≡ Some m
+of_own_type s t m url same = ap (λ b. if b then Some m else None) (ap (λ u. bytes_eq u (row t).url) url ∙ same)
+
+of_other_type : (s t : TypeName) (m : Request) → m.type_url ≡ (row s).url → is_same_type s t ≡ false → of_type t (streams.Sotw m) ≡ None
+of_other_type s t m url other = ap (λ b. if b then Some m else None) (ap (λ u. bytes_eq u (row t).url) url ∙ other)
+
+own_more : (t : TypeName) (ms : List Message) (a : Request) → a.type_url ≡ (row t).url → lane_up t (ms ++ streams.Sotw a ∷ []) ≡ lane_up t ms ++ a ∷ []
+own_more t ms a url = lane_up-append t ms (streams.Sotw a ∷ []) ∙ ap (λ o. lane_up t ms ++ cons_option o []) (of_own_type t t a url (is_same_type-same t))
+
+other_more : (s t : TypeName) (ms : List Message) (a : Request) → a.type_url ≡ (row s).url → is_same_type s t ≡ false → lane_up t (ms ++ streams.Sotw a ∷ []) ≡ lane_up t ms
+other_more s t ms a url other = lane_up-append t ms (streams.Sotw a ∷ []) ∙ ap (λ o. lane_up t ms ++ cons_option o []) (of_other_type s t a url other) ∙ append-nil (lane_up t ms)
+
+-- each is of the state of the world, of a type of the table
+abbrev pub AllSotw : List Message → Type 0
+AllSotw [] = ⊤
+AllSotw (m ∷ ms) = ((t : TypeName) × (q : Request) × (m ≡ streams.Sotw q) × (q.type_url ≡ (row t).url)) × AllSotw ms
+
+all_sotw-append : (ms ns : List Message) → AllSotw ms → AllSotw ns → AllSotw (ms ++ ns)
+all_sotw-append [] ns first second = second
+all_sotw-append (m ∷ ms) ns first second = (first.0, all_sotw-append ms ns first.1 second)
+
+-- ---- nonces
+
+-- none, or that of one of the first so many responses
+abbrev pub IsNumbered : ℕ → List ℕ → Type 0
+IsNumbered count nonce = (k : ℕ) × (k ≤ count) × (nonce ≡ nonce_text k)
+
+abbrev pub AllNumbered : ℕ → List Request → Type 0
+AllNumbered count [] = ⊤
+AllNumbered count (m ∷ ms) = IsNumbered count m.response_nonce × AllNumbered count ms
+
+all_numbered-append : (count : ℕ) (ms : List Request) (m : Request) → AllNumbered count ms → IsNumbered count m.response_nonce → AllNumbered count (ms ++ m ∷ [])
+all_numbered-append count [] m first last = (last, tt)
+all_numbered-append count (x ∷ ms) m first last = (first.0, all_numbered-append count ms m first.1 last)
+
+later : (count : ℕ) (nonce : List ℕ) → IsNumbered count nonce → IsNumbered (suc count) nonce
+later count nonce is = (is.0, omega (arith, is.1), is.2)
+
+all_later : (count : ℕ) (ms : List Request) → AllNumbered count ms → AllNumbered (suc count) ms
+all_later count [] all = tt
+all_later count (m ∷ ms) all = (later count m.response_nonce all.0, all_later count ms all.1)
+
+none_answers : (count : ℕ) (ms : List Request) → suc count ≤ max_counter → AllNumbered count ms → NoneAnswers (suc count) ms
+none_answers count [] within all = tt
+none_answers count (m ∷ ms) within all = (nonces_differ count m.response_nonce within all.0, none_answers count ms within all.1)
+
+-- ---- a lane
+
+abbrev pub listed_draft : Option Drafted → List Draft
+listed_draft down = under_way (option_map drafts.Sotw down)
+
+pub record Lane (all : List TypedWrite) (t : TypeName) (s : Session) (count : ℕ) (ups : List Request) (downs : List Draft) (f : Shelf) : Type 0 where
+  pub down : Option Drafted
+  pub downs_are : downs ≡ listed_draft down
+  pub taken : AllTaken t s ups
+  pub numbered : AllNumbered count ups
+  pub answered : (d : Drafted) → down ≡ Some d → IsNumbered count d.nonce
+  pub last : IsNumbered count f.nonce
+  pub abreast : Abreast all t (folded t s ups) down f
+
+abbrev pub IsSotwStream : Stream → Type 0
+IsSotwStream x = ((x.variant ≡ None) × (x.sessions ≡ each unopened)) ⊎ (x.variant ≡ Some StateOfTheWorld)
+
+-- a link of a client of the state of the world
+pub record Linked (all : List TypedWrite) (c : Client) (l : Link) (x : Stream) : Type 0 where
+  pub variant : IsSotwStream x
+  pub counted : x.count ≤ max_counter
+  pub sotws : AllSotw l.up
+  pub lanes : (t : TypeName) → Lane all t (at x.sessions t) x.count (lane_up t l.up) (lane_down t l.down) (shelf c t)
+
+-- ---- Up
+
+request_taken : (x : Stream) (t : TypeName) (q : Request) (z : Outcome × Stream) → q.type_url ≡ (row t).url → requested x (streams.Sotw q) ≡ Ok z
+    → z.1 ≡ record { variant = Some StateOfTheWorld; count = x.count; sessions = with_at x.sessions t (take t (at x.sessions t) q) }
+request_taken x t q z url is =
+    let made = taken_by (is_foreign x (streams.Sotw q)) x StateOfTheWorld (answered x.sessions (streams.Sotw q)) z is in
+    let answer : made.0 ≡ answered_by x.sessions (streams.Sotw q) (type_of_url q.type_url) = unless_once (length q.type_url == 0) BadMessage (answered_by x.sessions (streams.Sotw q) (type_of_url q.type_url)) made.0 made.1 in
+    let typed : made.0 ≡ answered_by x.sessions (streams.Sotw q) (Some t) = answer ∙ ap (answered_by x.sessions (streams.Sotw q)) (ap type_of_url url ∙ url_type t) in
+    made.2 ∙ ap (λ (a : Outcome × PerType Session). record { variant = Some StateOfTheWorld; count = x.count; sessions = a.1 }) typed
+
+lane_taken : (all : List TypedWrite) (t : TypeName) (s : Session) (count : ℕ) (q : Request) (ups : List Request) (downs : List Draft) (f : Shelf) → Lane all t s count (q ∷ ups) downs f → Lane all t (take t s q) count ups downs f
+lane_taken all t s count q ups downs f lane =
+    record { down = lane.down; downs_are = lane.downs_are; taken = lane.taken.1; numbered = lane.numbered.1; answered = lane.answered; last = lane.last; abreast = lane.abreast }
+
+up_lane : (all : List TypedWrite) (x : Stream) (s t : TypeName) (q : Request) (rest : List Message) (downs : List Draft) (f : Shelf) → q.type_url ≡ (row s).url → ((s ≡ t) × (is_same_type s t ≡ true)) ⊎ ((s ≢ t) × (is_same_type s t ≡ false))
+    → Lane all t (at x.sessions t) x.count (lane_up t (streams.Sotw q ∷ rest)) downs f → Lane all t (at (with_at x.sessions s (take s (at x.sessions s) q)) t) x.count (lane_up t rest) downs f
+up_lane all x s t q rest downs f url (inl same) lane =
+    let asked : Lane all t (at x.sessions t) x.count (q ∷ lane_up t rest) downs f = subst (λ o. Lane all t (at x.sessions t) x.count (cons_option o (lane_up t rest)) downs f) (of_own_type s t q url same.1) lane in
+    subst (λ (k : Session). Lane all t k x.count (lane_up t rest) downs f) (sym (ap (λ r. at (with_at x.sessions r (take r (at x.sessions r) q)) t) same.0 ∙ at-with_at x.sessions t (take t (at x.sessions t) q)))
+    (lane_taken all t (at x.sessions t) x.count q (lane_up t rest) downs f asked)
+up_lane all x s t q rest downs f url (inr other) lane =
+    let asked : Lane all t (at x.sessions t) x.count (lane_up t rest) downs f = subst (λ o. Lane all t (at x.sessions t) x.count (cons_option o (lane_up t rest)) downs f) (of_other_type s t q url other.1) lane in
+    subst (λ (k : Session). Lane all t k x.count (lane_up t rest) downs f) (sym (at-with_at_other x.sessions s (take s (at x.sessions s) q) t (λ e. other.0 (sym e)))) asked
+
+-- the replica took the oldest request
+pub linked_up : (all : List TypedWrite) (c : Client) (l : Link) (x : Stream) (m : Message) (rest : List Message) (z : Outcome × Stream) → l.up ≡ m ∷ rest → requested x m ≡ Ok z → Linked all c l x → Linked all c (record l { up = rest }) z.1
+linked_up all c l x m rest z up is linked =
+    let sotws : AllSotw (m ∷ rest) = subst AllSotw up linked.sotws in
+    let first = sotws.0 in
+    let left : z.1 ≡ record { variant = Some StateOfTheWorld; count = x.count; sessions = with_at x.sessions first.0 (take first.0 (at x.sessions first.0) first.1) } = request_taken x first.0 first.1 z first.3 (sym (ap (requested x) first.2) ∙ is) in
+    subst (Linked all c (record l { up = rest })) (sym left)
+    (record {
+      variant = inr refl;
+      counted = linked.counted;
+      sotws = sotws.1;
+      lanes = λ t.
+          up_lane all x first.0 t first.1 rest (lane_down t l.down) (shelf c t) first.3 (same_type first.0 t)
+          (subst (λ ms. Lane all t (at x.sessions t) x.count (lane_up t ms) (lane_down t l.down) (shelf c t)) (up ∙ ap (λ k. k ∷ rest) first.2) (linked.lanes t));
+    })
+
+-- ---- Poll
+
+sending_facts : (t : TypeName) (s : Session) (m : Entries) (o : Offer) → sessions.sending StateOfTheWorld t s m ≡ Some o
+    → (s.asked.begun ≡ true) × (s.account.sent ≡ None) × (o ≡ offer StateOfTheWorld t s.asked.interest m s.account.beliefs)
+sending_facts t s m o is =
+    let v = StateOfTheWorld in
+    let begun = if_then s.asked.begun (ledgers.sending v t s.asked.interest m s.account) o is in
+    let sends = if_some (is_none s.account.sent && is_due v t s.asked.interest m s.account && not (is_refused s.account (offer v t s.asked.interest m s.account.beliefs))) (offer v t s.asked.interest m s.account.beliefs) o begun.1 in
+    (begun.0, none_there s.account.sent (all_three (is_none s.account.sent) (is_due v t s.asked.interest m s.account) (not (is_refused s.account (offer v t s.asked.interest m s.account.beliefs))) sends.0), sends.1)
+  where
+    if_then : (b : Bool) (x : Option Offer) (y : Offer) → (if b then x else None) ≡ Some y → (b ≡ true) × (x ≡ Some y)
+    if_then true x y e = (refl, e)
+    if_then false x y e = absurd cc
+
+sotw_due : (store : Store) (x : Stream) (t : TypeName) (o : Offer) → IsSotwStream x → to_send store x t ≡ Some o → (x.variant ≡ Some StateOfTheWorld) × (sessions.sending StateOfTheWorld t (at x.sessions t) (at store t).entries ≡ Some o)
+sotw_due store x t o (inl none) due = let never : None ≡ Some o = sym (ap (λ w. option_and_then (λ k. sessions.sending k t (at x.sessions t) (at store t).entries) w) none.0) ∙ due in absurd cc
+sotw_due store x t o (inr sotw) due = (sotw, sym (ap (λ w. option_and_then (λ k. sessions.sending k t (at x.sessions t) (at store t).entries) w) sotw) ∙ due)
+
+abbrev drafted : ℕ → Store → TypeName → Session → Offer → ℕ → Drafted
+drafted replica store t s o number = response replica t (at store t) s.asked.interest o number
+
+lane_sent : (all : List TypedWrite) (replica : ℕ) (store : Store) (t : TypeName) (s : Session) (count : ℕ) (ups : List Request) (downs : List Draft) (f : Shelf) (o : Offer) → AllKnown all t (at store t).entries → suc count ≤ max_counter
+    → sessions.sending StateOfTheWorld t s (at store t).entries ≡ Some o → Lane all t s count ups downs f
+    → Lane all t (send s o (suc count)) (suc count) ups (downs ++ drafts.Sotw (drafted replica store t s o (suc count)) ∷ []) f
+lane_sent all replica store t s count ups downs f o known room due lane =
+    let d : Drafted = drafted replica store t s o (suc count) in
+    let facts = sending_facts t s (at store t).entries o due in
+    let none : lane.down ≡ None = (nothing_sent all t (folded t s ups).account.nonce (folded t s ups).account.sent f.wants f.nonce lane.down (quiet_folded t s ups lane.taken facts.1) lane.abreast.awaits).0 in
+    let apart = none_answers count ups room lane.numbered in
+    record {
+      down = Some d;
+      downs_are = ap (λ ds. ds ++ drafts.Sotw d ∷ []) (lane.downs_are ∙ ap listed_draft none);
+      taken = taken_meanwhile_all t s o [] (suc count) ups facts.1 lane.taken apart;
+      numbered = all_later count ups lane.numbered;
+      answered = λ e is. (suc count, omega arith, ap (λ x. x.nonce) (sym (some_is d e is)));
+      last = later count f.nonce lane.last;
+      abreast = abreast_sent all t s ups f o d (suc count) facts.1 facts.0 lane.taken apart (nonces_differ count f.nonce room lane.last) refl
+          (λ name. subst (λ x. Says all t name (finmap.get x name) (finmap.get (stated_in t (drafted replica store t s x (suc count))) name)) (sym facts.2) (response_says all replica t (at store t) s.asked.interest s.account.beliefs (suc count) name known))
+          (λ name v is. stated_is_covered t s.asked.interest (at store t).entries s.account.beliefs name v (ap (λ x. finmap.get x name) (sym facts.2) ∙ is)) (subst (λ x. Abreast all t (folded t s ups) x f) none lane.abreast);
+    }
+
+lane_later : (all : List TypedWrite) (t : TypeName) (s : Session) (count : ℕ) (ups : List Request) (downs : List Draft) (f : Shelf) → Lane all t s count ups downs f → Lane all t s (suc count) ups downs f
+lane_later all t s count ups downs f lane = record {
+  down = lane.down;
+  downs_are = lane.downs_are;
+  taken = lane.taken;
+  numbered = all_later count ups lane.numbered;
+  answered = λ d is. later count d.nonce (lane.answered d is);
+  last = later count f.nonce lane.last;
+  abreast = lane.abreast;
+}
+
+poll_lane : (all : List TypedWrite) (replica : ℕ) (store : Store) (x : Stream) (s t : TypeName) (o : Offer) (l : Link) (f : Shelf) → AllKnown all s (at store s).entries → suc x.count ≤ max_counter
+    → sessions.sending StateOfTheWorld s (at x.sessions s) (at store s).entries ≡ Some o → ((s ≡ t) × (is_same_type s t ≡ true)) ⊎ ((s ≢ t) × (is_same_type s t ≡ false))
+    → Lane all t (at x.sessions t) x.count (lane_up t l.up) (lane_down t l.down) f
+    → Lane all t (at (with_at x.sessions s (send (at x.sessions s) o (suc x.count))) t) (suc x.count) (lane_up t l.up) (lane_down t (l.down ++ drafts.Sotw (drafted replica store s (at x.sessions s) o (suc x.count)) ∷ [])) f
+poll_lane all replica store x s t o l f known room due (inl same) lane =
+    let d : Draft = drafts.Sotw (drafted replica store s (at x.sessions s) o (suc x.count)) in
+    subst (λ r. Lane all r (at (with_at x.sessions s (send (at x.sessions s) o (suc x.count))) r) (suc x.count) (lane_up r l.up) (lane_down r (l.down ++ d ∷ [])) f) same.0
+    (subst (λ k. Lane all s k (suc x.count) (lane_up s l.up) (lane_down s (l.down ++ d ∷ [])) f) (sym (at-with_at x.sessions s (send (at x.sessions s) o (suc x.count))))
+    (subst (λ ds. Lane all s (send (at x.sessions s) o (suc x.count)) (suc x.count) (lane_up s l.up) ds f)
+    (sym (lane_down-append s l.down (d ∷ []) ∙ ap (λ b. lane_down s l.down ++ (if b then d ∷ [] else [])) (is_same_type-same s)))
+    (lane_sent all replica store s (at x.sessions s) x.count (lane_up s l.up) (lane_down s l.down) f o known room due (subst (λ r. Lane all r (at x.sessions r) x.count (lane_up r l.up) (lane_down r l.down) f) (sym same.0) lane))))
+poll_lane all replica store x s t o l f known room due (inr other) lane =
+    let d : Draft = drafts.Sotw (drafted replica store s (at x.sessions s) o (suc x.count)) in
+    subst (λ k. Lane all t k (suc x.count) (lane_up t l.up) (lane_down t (l.down ++ d ∷ [])) f) (sym (at-with_at_other x.sessions s (send (at x.sessions s) o (suc x.count)) t (λ e. other.0 (sym e))))
+    (subst (λ ds. Lane all t (at x.sessions t) (suc x.count) (lane_up t l.up) ds f)
+    (sym (lane_down-append t l.down (d ∷ []) ∙ ap (λ b. lane_down t l.down ++ (if b then d ∷ [] else [])) other.1 ∙ append-nil (lane_down t l.down))) (lane_later all t (at x.sessions t) x.count (lane_up t l.up) (lane_down t l.down) f lane))
+
+-- the replica sent a response
+pub linked_polled : (all : List TypedWrite) (replica : ℕ) (store : Store) (c : Client) (l : Link) (x y : Stream) (d : Draft) → ((t : TypeName) → AllKnown all t (at store t).entries) → IsSent replica store x y d → Linked all c l x
+    → Linked all c (record l { down = l.down ++ d ∷ [] }) y
+linked_polled all replica store c l x y d known is linked =
+    let due = sotw_due store x is.kind is.offer linked.variant is.due in
+    let room = room_is x.count is.room linked.counted in
+    let s : Session = at x.sessions is.kind in
+    let same : d ≡ drafts.Sotw (drafted replica store is.kind s is.offer (suc x.count)) =
+    some_is d (drafts.Sotw (drafted replica store is.kind s is.offer (x.count + 1))) (is.sends ∙ ap (option_map (response_of replica store x.sessions is.kind is.offer (x.count + 1))) due.0)
+    ∙ ap (λ n. drafts.Sotw (drafted replica store is.kind s is.offer n)) (one_more x.count) in
+    let left : y ≡ record { variant = x.variant; count = suc x.count; sessions = with_at x.sessions is.kind (send s is.offer (suc x.count)) } =
+    is.left ∙ (λ i. record { variant = x.variant; count = one_more x.count i; sessions = with_at x.sessions is.kind (send s is.offer (one_more x.count i)) }) in
+    subst (λ e. Linked all c (record l { down = l.down ++ e ∷ [] }) y) (sym same)
+    (subst (Linked all c (record l { down = l.down ++ drafts.Sotw (drafted replica store is.kind s is.offer (suc x.count)) ∷ [] })) (sym left)
+    (record { variant = inr due.0; counted = room; sotws = linked.sotws; lanes = λ t. poll_lane all replica store x is.kind t is.offer l (shelf c t) (known is.kind) room due.1 (same_type is.kind t) (linked.lanes t) }))
