@@ -37,7 +37,7 @@ use Rattle.xds_model.specs.Worlds.{Site, Link, Peer, World, empty_world, at_site
 use Rattle.xds_model.specs.Knows.{wished, wishing, wanted_after, wants, linking, linked_after, link}
 use Rattle.xds_model.specs.Claims.{LinksAreFollowed}
 use Rattle.xds_model.proofs.Replicas.{some_is, bound_some, mapped_some, if_some, none_there}
-use Rattle.xds_model.proofs.LinkTakes.{connected_shelf, lost_shelf}
+use Rattle.xds_model.proofs.LinkTakes.{received_ok, answered_ok, connected_shelf, lost_shelf}
 use Rattle.xds_model.proofs.Everyone.{at_site_is}
 use Rattle.xds_model.proofs.EveryEvent.{link_there, changed_ok, same_peers, pooled_is, same_replica_on}
 
@@ -103,22 +103,11 @@ with_wants c s f t same =
       | inr other ↦ ap (λ (x : Shelf). x.wants) (at-with_at_other c.shelves s f t (λ e. other.0 (sym e)))
     ]
 
-pub received_ok : {X : Type 0} (tag : X → Message) (r : Outcome X) (q : Client × Message) → received_by tag r ≡ Some q → (p : Client × X) × (r ≡ Ok p) × (q ≡ (p.0, tag p.1))
-received_ok tag (Ok p) q is = (p, refl, sym (some_is (p.0, tag p.1) q is))
-received_ok tag (Err e) q is = absurd cc
-
-pub answered_ok : {X : Type 0} (g : TypeName → Client × X) (r : Result TypeName Refusal) (p : Client × X) → if_addressed g r ≡ Ok p → (t : TypeName) × (p ≡ g t)
-answered_ok {X} g (Ok t) p is = (t, ok_is (g t) p is)
-  where
-    ok_is : (x y : Client × X) → ◌≡◌ {A = Outcome X} (Ok x) (Ok y) → y ≡ x
-    ok_is x y e = cc
-answered_ok g (Err e) p is = absurd cc
-
 received_wants : (test : Test) (k : ClientKind) (c : Client) (d : Draft) (q : Client × Message) (t : TypeName) → received_in test k c d ≡ Some q → (shelf q.0 t).wants ≡ (shelf c t).wants
 received_wants test Sotw c (drafts.Sotw d) q t is =
     let made = received_ok streams.Sotw (sotw_receive test c (message_of d)) q is in
     let answer = answered_ok (sotw_answered test c (message_of d)) (addressing c (message_of d).type_url) made.0 made.1 in
-    ap (λ (x : Client × Message). (shelf x.0 t).wants) made.2 ∙ ap (λ (x : Client × messages.Request). (shelf x.0 t).wants) answer.1
+    ap (λ (x : Client × Message). (shelf x.0 t).wants) made.2 ∙ ap (λ (x : Client × messages.Request). (shelf x.0 t).wants) answer.2
     ∙ with_wants c answer.0 (delivered answer.0 test (shelf c answer.0) (sotw_delivery answer.0 (message_of d))) t
     (delivered_wants answer.0 test (shelf c answer.0) (sotw_delivery answer.0 (message_of d)) (fault_in answer.0 test (sotw_delivery answer.0 (message_of d))))
 received_wants test Sotw c (drafts.Delta d) q t is = absurd cc
@@ -126,7 +115,7 @@ received_wants test Delta c (drafts.Sotw d) q t is = absurd cc
 received_wants test Delta c (drafts.Delta d) q t is =
     let made = received_ok streams.Delta (delta_receive test c (delta_message_of d)) q is in
     let answer = answered_ok (delta_answered test c (delta_message_of d)) (addressing c (delta_message_of d).type_url) made.0 made.1 in
-    ap (λ (x : Client × Message). (shelf x.0 t).wants) made.2 ∙ ap (λ (x : Client × DeltaRequest). (shelf x.0 t).wants) answer.1
+    ap (λ (x : Client × Message). (shelf x.0 t).wants) made.2 ∙ ap (λ (x : Client × DeltaRequest). (shelf x.0 t).wants) answer.2
     ∙ with_wants c answer.0 (delivered answer.0 test (shelf c answer.0) (delta_delivery (delta_message_of d))) t
     (delivered_wants answer.0 test (shelf c answer.0) (delta_delivery (delta_message_of d)) (fault_in answer.0 test (delta_delivery (delta_message_of d))))
 

@@ -119,14 +119,14 @@ pub record IsReceived (test : Test) (c : Client) (d : Draft) (q : Client × Mess
   pub is : d ≡ drafts.Delta draft
   pub left : q ≡ (with_shelf c draft.kind (delivered draft.kind test (shelf c draft.kind) (delta_delivery (delta_message_of draft))), streams.Delta (delta_answer draft.kind draft.nonce (fault_in draft.kind test (delta_delivery (delta_message_of draft)))))
 
-received_ok : (r : Outcome DeltaRequest) (q : Client × Message) → received_by streams.Delta r ≡ Some q → (p : Client × DeltaRequest) × (r ≡ Ok p) × (q ≡ (p.0, streams.Delta p.1))
-received_ok (Ok p) q is = (p, refl, sym (some_is (p.0, streams.Delta p.1) q is))
-received_ok (Err e) q is = absurd cc
+pub received_ok : {X : Type 0} (tag : X → Message) (r : Outcome X) (q : Client × Message) → received_by tag r ≡ Some q → (p : Client × X) × (r ≡ Ok p) × (q ≡ (p.0, tag p.1))
+received_ok tag (Ok p) q is = (p, refl, sym (some_is (p.0, tag p.1) q is))
+received_ok tag (Err e) q is = absurd cc
 
-answered_ok : (g : TypeName → Client × DeltaRequest) (r : Result TypeName Refusal) (p : Client × DeltaRequest) → if_addressed g r ≡ Ok p → (t : TypeName) × (r ≡ Ok t) × (p ≡ g t)
-answered_ok g (Ok t) p is = (t, refl, ok_is (g t) p is)
+pub answered_ok : {X : Type 0} (g : TypeName → Client × X) (r : Result TypeName Refusal) (p : Client × X) → if_addressed g r ≡ Ok p → (t : TypeName) × (r ≡ Ok t) × (p ≡ g t)
+answered_ok {X} g (Ok t) p is = (t, refl, ok_is (g t) p is)
   where
-    ok_is : (x y : Client × DeltaRequest) → ◌≡◌ {A = Outcome DeltaRequest} (Ok x) (Ok y) → y ≡ x
+    ok_is : (x y : Client × X) → ◌≡◌ {A = Outcome X} (Ok x) (Ok y) → y ≡ x
     ok_is x y e = cc
 answered_ok g (Err e) p is = absurd cc
 
@@ -138,7 +138,7 @@ addressed_to false false s t is = absurd cc
 pub received_is : (test : Test) (c : Client) (d : Draft) (q : Client × Message) → received_in test Delta c d ≡ Some q → IsReceived test c d q
 received_is test c (drafts.Sotw d) q is = absurd cc
 received_is test c (drafts.Delta d) q is =
-    let made = received_ok (delta_receive test c (delta_message_of d)) q is in
+    let made = received_ok streams.Delta (delta_receive test c (delta_message_of d)) q is in
     let answer = answered_ok (delta_answered test c (delta_message_of d)) (addressing c (row d.kind).url) made.0 made.1 in
     let typed : answer.0 ≡ d.kind = addressed_to c.broken (shelf c d.kind).asked d.kind answer.0 (ap (λ o. if c.broken then Err NoStream else addressed_or (option_and_then (if_asked c) o)) (sym (url_type d.kind)) ∙ answer.1) in
     record { draft = d; is = refl; left = made.2 ∙ ap (λ (p : Client × DeltaRequest). (p.0, streams.Delta p.1)) (answer.2 ∙ ap (delta_answered test c (delta_message_of d)) typed) }

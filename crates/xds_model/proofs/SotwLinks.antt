@@ -33,8 +33,8 @@ use Rattle.xds_core.specs.Streams.{Stream, Message, opening, is_foreign, answere
 use Rattle.xds_core.proofs.StepLaws.{unless_once}
 use Rattle.xds_cache.specs.Shelves.{Wants, Holding, Shelf, texts, is_wanted, wants_some, wanting, kept_of, connected, lost}
 use Rattle.xds_cache.specs.Faults.{Test}
-use Rattle.xds_cache.specs.Clients.{Client, shelf, with_shelf, node, is_sent, shelf_after, changed, linked, unlinked, addressing, if_asked}
-use Rattle.xds_cache.specs.Deliveries.{sotw_delivery, delivered}
+use Rattle.xds_cache.specs.Clients.{Client, shelf, with_shelf, node, is_sent, shelf_after, changed, linked, unlinked, addressing, addressed_or, if_asked}
+use Rattle.xds_cache.specs.Deliveries.{sotw_delivery, fault_in, taking, rejecting, delivered}
 use Rattle.xds_cache.specs.Sends.{sotw_request, sotw_first, first_requests}
 use Rattle.xds_cache.specs.Receives.{sotw_receive, sotw_answered}
 use Rattle.xds_cache.proofs.Interests.{kept_by_name, holds_what_is_wanted}
@@ -45,12 +45,12 @@ use Rattle.xds_model.specs.Claims.{asks_for}
 use Rattle.xds_model.proofs.Replicas.{some_is, if_some, none_there}
 use Rattle.xds_model.proofs.Queues.{lane_down, lane_down-append, nonces_differ}
 use Rattle.xds_model.proofs.LinkSteps.{url_type, taken_by, IsSent, all_three, one_more, room_is}
-use Rattle.xds_model.proofs.LinkTakes.{empty_wants, nothing_wanted, connected_shelf, lost_shelf, addressed_to}
+use Rattle.xds_model.proofs.LinkTakes.{received_ok, answered_ok, empty_wants, nothing_wanted, connected_shelf, lost_shelf, addressed_to}
 use Rattle.xds_model.proofs.Firsts.{firsts, firsts_by, one_first, once, first_lane}
 use Rattle.xds_model.proofs.Delivering.{AllKnown}
-use Rattle.xds_model.proofs.Followed.{received_ok, answered_ok}
 use Rattle.xds_model.proofs.SotwFolding.{folded, AllTaken, NoneAnswers, folded_more, taken_more, quiet_folded, taken_meanwhile_all}
-use Rattle.xds_model.proofs.SotwLanes.{Asks, Awaits, Abreast, IsHeld, Says, stated_in, awaited, nothing_sent}
+use Rattle.xds_model.proofs.Lanes.{taken_if_sent}
+use Rattle.xds_model.proofs.SotwLanes.{Asks, Awaits, Abreast, IsHeld, Says, stated_in, awaited, nothing_sent, none_sent}
 use Rattle.xds_model.proofs.SotwSteps.{answer, abreast_delivered, abreast_changed, abreast_first, abreast_sent, taken_last}
 use Rattle.xds_model.proofs.SotwDelivering.{response_says, stated_is_covered}
 
@@ -268,3 +268,273 @@ linked_polled all replica store c l x y d known is linked =
     subst (λ e. Linked all c (record l { down = l.down ++ e ∷ [] }) y) (sym same)
     (subst (Linked all c (record l { down = l.down ++ drafts.Sotw (drafted replica store is.kind s is.offer (suc x.count)) ∷ [] })) (sym left)
     (record { variant = inr due.0; counted = room; sotws = linked.sotws; lanes = λ t. poll_lane all replica store x is.kind t is.offer l (shelf c t) (known is.kind) room due.1 (same_type is.kind t) (linked.lanes t) }))
+
+-- ---- Down
+
+one_down : (d : Drafted) (rest : List Draft) (down : Option Drafted) → drafts.Sotw d ∷ rest ≡ listed_draft down → (down ≡ Some d) × (rest ≡ [])
+one_down d rest None is = absurd cc
+one_down d rest (Some e) is = (ap Some (sym (sotw_is (head_is (drafts.Sotw d) (drafts.Sotw e) rest [] is))), tail_is (drafts.Sotw d) (drafts.Sotw e) rest [] is)
+  where
+    head_is : (x y : Draft) (xs ys : List Draft) → x ∷ xs ≡ y ∷ ys → x ≡ y
+    head_is x y xs ys e = cc
+
+    tail_is : (x y : Draft) (xs ys : List Draft) → x ∷ xs ≡ y ∷ ys → xs ≡ ys
+    tail_is x y xs ys e = cc
+
+    sotw_is : {x y : Drafted} → drafts.Sotw x ≡ drafts.Sotw y → x ≡ y
+    sotw_is e = cc
+
+never_draft : (d : Drafted) → ◌≡◌ {A = Option Drafted} None (Some d) → ⊥
+never_draft d e = cc
+
+answer_nonce : (t : TypeName) (test : Test) (f : Shelf) (d : Drafted) (fault : Option (List ℕ)) → (option_map_or (λ x. rejecting f (sotw_delivery t (message_of d))) fault (taking t f (sotw_delivery t (message_of d)))).nonce ≡ d.nonce
+answer_nonce t test f d None = refl
+answer_nonce t test f d (Some x) = refl
+
+lane_delivered : (all : List TypedWrite) (t : TypeName) (test : Test) (s : Session) (count : ℕ) (ups : List Request) (rest : List Draft) (d : Drafted) (f : Shelf) → Lane all t s count ups (drafts.Sotw d ∷ rest) f
+    → Lane all t s count (ups ++ answer t test f d ∷ []) rest (delivered t test f (sotw_delivery t (message_of d)))
+lane_delivered all t test s count ups rest d f lane =
+    let a : Request = answer t test f d in
+    let here = one_down d rest lane.down lane.downs_are in
+    let abreast : Abreast all t (folded t s ups) (Some d) f = subst (λ x. Abreast all t (folded t s ups) x f) here.0 lane.abreast in
+    let number = lane.answered d here.0 in
+    let nonce : a.response_nonce ≡ d.nonce = answer_nonce t test f d (fault_in t test (sotw_delivery t (message_of d))) in
+    let own : IsNumbered count a.response_nonce = (number.0, number.1, nonce ∙ number.2) in
+    let sent = awaited all t (folded t s ups).account.nonce (folded t s ups).account.sent f.wants f.nonce d abreast.awaits in
+    record {
+      down = None;
+      downs_are = here.1;
+      taken = taken_more t s ups a lane.taken (taken_if_sent (folded t s ups) a.response_nonce sent.0 sent.1);
+      numbered = all_numbered-append count ups a lane.numbered own;
+      answered = λ e is. absurd (never_draft e is);
+      last = own;
+      abreast = subst (λ x. Abreast all t x None (delivered t test f (sotw_delivery t (message_of d)))) (sym (folded_more t s ups a)) (abreast_delivered all t test (folded t s ups) f d abreast);
+    }
+
+down_lane : (all : List TypedWrite) (test : Test) (c : Client) (l : Link) (x : Stream) (d : Drafted) (rest : List Draft) (t : TypeName) → ((d.kind ≡ t) × (is_same_type d.kind t ≡ true)) ⊎ ((d.kind ≢ t) × (is_same_type d.kind t ≡ false))
+    → Lane all t (at x.sessions t) x.count (lane_up t l.up) (lane_down t (drafts.Sotw d ∷ rest)) (shelf c t)
+    → let s = d.kind in
+    Lane all t (at x.sessions t) x.count (lane_up t (l.up ++ streams.Sotw (answer s test (shelf c s) d) ∷ [])) (lane_down t rest) (at (with_at c.shelves s (delivered s test (shelf c s) (sotw_delivery s (message_of d)))) t)
+down_lane all test c l x d rest t (inl same) lane =
+    let s : TypeName = d.kind in
+    let a : Request = answer s test (shelf c s) d in
+    let f : Shelf = delivered s test (shelf c s) (sotw_delivery s (message_of d)) in
+    let here : Lane all s (at x.sessions s) x.count (lane_up s l.up) (drafts.Sotw d ∷ lane_down s rest) (shelf c s) =
+    subst (λ b. Lane all s (at x.sessions s) x.count (lane_up s l.up) (if b then drafts.Sotw d ∷ lane_down s rest else lane_down s rest) (shelf c s)) (is_same_type-same s)
+    (subst (λ r. Lane all r (at x.sessions r) x.count (lane_up r l.up) (lane_down r (drafts.Sotw d ∷ rest)) (shelf c r)) (sym same.0) lane) in
+    subst (λ r. Lane all r (at x.sessions r) x.count (lane_up r (l.up ++ streams.Sotw a ∷ [])) (lane_down r rest) (at (with_at c.shelves s f) r)) same.0
+    (subst (λ ups. Lane all s (at x.sessions s) x.count ups (lane_down s rest) (at (with_at c.shelves s f) s)) (sym (own_more s l.up a refl))
+    (subst (Lane all s (at x.sessions s) x.count (lane_up s l.up ++ a ∷ []) (lane_down s rest)) (sym (at-with_at c.shelves s f)) (lane_delivered all s test (at x.sessions s) x.count (lane_up s l.up) (lane_down s rest) d (shelf c s) here)))
+down_lane all test c l x d rest t (inr other) lane =
+    let s : TypeName = d.kind in
+    let a : Request = answer s test (shelf c s) d in
+    let f : Shelf = delivered s test (shelf c s) (sotw_delivery s (message_of d)) in
+    subst (λ ups. Lane all t (at x.sessions t) x.count ups (lane_down t rest) (at (with_at c.shelves s f) t)) (sym (other_more s t l.up a refl other.1))
+    (subst (Lane all t (at x.sessions t) x.count (lane_up t l.up) (lane_down t rest)) (sym (at-with_at_other c.shelves s f t (λ e. other.0 (sym e))))
+    (subst (λ b. Lane all t (at x.sessions t) x.count (lane_up t l.up) (if b then drafts.Sotw d ∷ lane_down t rest else lane_down t rest) (shelf c t)) other.1 lane))
+
+-- what a client took
+pub record IsReceived (test : Test) (c : Client) (d : Draft) (q : Client × Message) : Type 0 where
+  pub draft : Drafted
+  pub is : d ≡ drafts.Sotw draft
+  pub left : q ≡ (with_shelf c draft.kind (delivered draft.kind test (shelf c draft.kind) (sotw_delivery draft.kind (message_of draft))), streams.Sotw (answer draft.kind test (shelf c draft.kind) draft))
+
+pub received_is : (test : Test) (c : Client) (d : Draft) (q : Client × Message) → received_in test Sotw c d ≡ Some q → IsReceived test c d q
+received_is test c (drafts.Delta d) q is = absurd cc
+received_is test c (drafts.Sotw d) q is =
+    let made = received_ok streams.Sotw (sotw_receive test c (message_of d)) q is in
+    let taken = answered_ok (sotw_answered test c (message_of d)) (addressing c (row d.kind).url) made.0 made.1 in
+    let typed : taken.0 ≡ d.kind = addressed_to c.broken (shelf c d.kind).asked d.kind taken.0 (ap (λ o. if c.broken then Err NoStream else addressed_or (option_and_then (if_asked c) o)) (sym (url_type d.kind)) ∙ taken.1) in
+    record { draft = d; is = refl; left = made.2 ∙ ap (λ (p : Client × Request). (p.0, streams.Sotw p.1)) (taken.2 ∙ ap (sotw_answered test c (message_of d)) typed) }
+
+-- the client took the oldest response
+pub linked_down : (all : List TypedWrite) (test : Test) (c : Client) (l : Link) (x : Stream) (d : Draft) (rest : List Draft) (q : Client × Message) → l.down ≡ d ∷ rest → IsReceived test c d q → Linked all c l x
+    → Linked all q.0 (record l { up = l.up ++ q.1 ∷ []; down = rest }) x
+linked_down all test c l x d rest q down is linked =
+    let s : TypeName = is.draft.kind in
+    let a : Request = answer s test (shelf c s) is.draft in
+    subst (λ (p : Client × Message). Linked all p.0 (record l { up = l.up ++ p.1 ∷ []; down = rest }) x) (sym is.left)
+    (record {
+      variant = linked.variant;
+      counted = linked.counted;
+      sotws = all_sotw-append l.up (streams.Sotw a ∷ []) linked.sotws ((s, a, refl, refl), tt);
+      lanes = λ t. down_lane all test c l x is.draft rest t (same_type s t) (subst (λ ds. Lane all t (at x.sessions t) x.count (lane_up t l.up) (lane_down t ds) (shelf c t)) (down ∙ ap (λ k. k ∷ rest) is.is) (linked.lanes t));
+    })
+
+-- ---- Change
+
+asks_none : (t : TypeName) (s : Session) (f : Shelf) → f.asked ≡ false → Asks t s f → (s ≡ unopened) × (wants_some f.wants ≡ false) × (f.nonce ≡ [])
+asks_none t s f not_asked (inl asked) = let never : false ≡ true = sym not_asked ∙ asked.0 in absurd cc
+asks_none t s f not_asked (inr never) = (never.1, never.2, never.3)
+
+none_told : (q v : List ℕ) → finmap.get unopened.account.beliefs q ≡ Some (Told v) → ⊥
+none_told q v is = let never : None ≡ Some (Told v) = sym (finmap.get-empty text_cmp q) ∙ is in absurd cc
+
+abreast_unopened : (all : List TypedWrite) (t : TypeName) (f : Shelf) → f.asked ≡ false → wants_some f.wants ≡ false → f.nonce ≡ [] → ((q : List ℕ) → finmap.get f.cache q ≡ None) → Abreast all t unopened None f
+abreast_unopened all t f not_asked none nonce empty = record {
+  asks = inr (not_asked, refl, none, nonce);
+  awaits = nonce;
+  touched = λ sent is. absurd (none_sent None sent refl is);
+  told = λ q v is. absurd (none_told q v is);
+  none = λ q counted is. empty q;
+  within = λ q unwanted. empty q;
+}
+
+lane_changed : (all : List TypedWrite) (t : TypeName) (who : Option Identity) (w : Wants) (s : Session) (count : ℕ) (ups : List Request) (downs : List Draft) (f : Shelf) → f.asked ≡ true → Lane all t s count ups downs f
+    → Lane all t s count (ups ++ sotw_request t who (wanting t w true f) None ∷ []) downs (wanting t w true f)
+lane_changed all t who w s count ups downs f asked lane =
+    let q : Request = sotw_request t who (wanting t w true f) None in
+    record {
+      down = lane.down;
+      downs_are = lane.downs_are;
+      taken = taken_more t s ups q lane.taken (taken_last all t (folded t s ups) f lane.down lane.abreast.awaits);
+      numbered = all_numbered-append count ups q lane.numbered lane.last;
+      answered = lane.answered;
+      last = lane.last;
+      abreast = subst (λ x. Abreast all t x lane.down (wanting t w true f)) (sym (folded_more t s ups q)) (abreast_changed all t who w (folded t s ups) lane.down f asked lane.abreast);
+    }
+
+lane_asked : (all : List TypedWrite) (t : TypeName) (who : Option Identity) (w : Wants) (s : Session) (count : ℕ) (ups : List Request) (downs : List Draft) (f : Shelf) → f.asked ≡ false → wants_some w ≡ true → Lane all t s count ups downs f
+    → Lane all t s count (ups ++ sotw_request t who (wanting t w true f) None ∷ []) downs (wanting t w true f)
+lane_asked all t who w s count ups downs f not_asked some lane =
+    let q : Request = sotw_request t who (wanting t w true f) None in
+    let before = asks_none t (folded t s ups) f not_asked lane.abreast.asks in
+    let none = nothing_sent all t (folded t s ups).account.nonce (folded t s ups).account.sent f.wants f.nonce lane.down (ap (λ x. x.account.sent) before.0) lane.abreast.awaits in
+    record {
+      down = None;
+      downs_are = lane.downs_are ∙ ap listed_draft none.0;
+      taken = taken_more t s ups q lane.taken (taken_last all t (folded t s ups) f lane.down lane.abreast.awaits);
+      numbered = all_numbered-append count ups q lane.numbered lane.last;
+      answered = λ d is. absurd (never_draft d is);
+      last = lane.last;
+      abreast = subst (λ x. Abreast all t x None (wanting t w true f)) (sym (folded_more t s ups q ∙ ap (λ x. take t x q) before.0))
+          (abreast_first all t q (wanting t w true f) refl refl some before.2 (λ name unwanted. (holds_what_is_wanted t w false finmap.empty finmap.empty f.cache name unwanted).1));
+    }
+
+lane_unsent : (all : List TypedWrite) (t : TypeName) (w : Wants) (s : Session) (count : ℕ) (ups : List Request) (downs : List Draft) (f : Shelf) → f.asked ≡ false → wants_some w ≡ false → Lane all t s count ups downs f → Lane all t s count ups downs (wanting t w f.asked f)
+lane_unsent all t w s count ups downs f not_asked some lane =
+    let before = asks_none t (folded t s ups) f not_asked lane.abreast.asks in
+    let none = nothing_sent all t (folded t s ups).account.nonce (folded t s ups).account.sent f.wants f.nonce lane.down (ap (λ x. x.account.sent) before.0) lane.abreast.awaits in
+    record {
+      down = None;
+      downs_are = lane.downs_are ∙ ap listed_draft none.0;
+      taken = lane.taken;
+      numbered = lane.numbered;
+      answered = λ d is. absurd (never_draft d is);
+      last = lane.last;
+      abreast = subst (λ x. Abreast all t x None (wanting t w f.asked f)) (sym before.0)
+          (abreast_unopened all t (wanting t w f.asked f) not_asked some before.2 (λ name. kept_by_name t w f.cache name ∙ ap (λ b. if b then finmap.get f.cache name else None) (nothing_wanted t w name some)));
+    }
+
+abbrev pub wished_requests : Bool → Request → List Message
+wished_requests sent q = if sent then streams.Sotw q ∷ [] else []
+
+lane_wished : (all : List TypedWrite) (t : TypeName) (who : Option Identity) (w : Wants) (s : Session) (count : ℕ) (ms : List Message) (downs : List Draft) (f : Shelf) (asked some : Bool) → f.asked ≡ asked → wants_some w ≡ some → Lane all t s count (lane_up t ms) downs f
+    → let sent = (if asked then true else some) in
+    let g = wanting t w (if sent then true else f.asked) f in
+    Lane all t s count (lane_up t (ms ++ wished_requests sent (sotw_request t who g None))) downs g
+lane_wished all t who w s count ms downs f true some asked is lane =
+    subst (λ ups. Lane all t s count ups downs (wanting t w true f)) (sym (own_more t ms (sotw_request t who (wanting t w true f) None) refl)) (lane_changed all t who w s count (lane_up t ms) downs f asked lane)
+lane_wished all t who w s count ms downs f false true asked is lane =
+    subst (λ ups. Lane all t s count ups downs (wanting t w true f)) (sym (own_more t ms (sotw_request t who (wanting t w true f) None) refl)) (lane_asked all t who w s count (lane_up t ms) downs f asked is lane)
+lane_wished all t who w s count ms downs f false false asked is lane = subst (λ l. Lane all t s count (lane_up t l) downs (wanting t w f.asked f)) (sym (append-nil ms)) (lane_unsent all t w s count (lane_up t ms) downs f asked is lane)
+
+lane_beside : (all : List TypedWrite) (s t : TypeName) (k : Session) (count : ℕ) (ms : List Message) (downs : List Draft) (f : Shelf) (q : Request) (sent : Bool) → q.type_url ≡ (row s).url → is_same_type s t ≡ false
+    → Lane all t k count (lane_up t ms) downs f → Lane all t k count (lane_up t (ms ++ wished_requests sent q)) downs f
+lane_beside all s t k count ms downs f q true url other lane = subst (λ ups. Lane all t k count ups downs f) (sym (other_more s t ms q url other)) lane
+lane_beside all s t k count ms downs f q false url other lane = subst (λ l. Lane all t k count (lane_up t l) downs f) (sym (append-nil ms)) lane
+
+change_lane : (all : List TypedWrite) (c : Client) (l : Link) (x : Stream) (s t : TypeName) (who : Option Identity) (w : Wants) → ((s ≡ t) × (is_same_type s t ≡ true)) ⊎ ((s ≢ t) × (is_same_type s t ≡ false))
+    → Lane all t (at x.sessions t) x.count (lane_up t l.up) (lane_down t l.down) (shelf c t)
+    → Lane all t (at x.sessions t) x.count (lane_up t (l.up ++ wished_requests (is_sent true (shelf c s) w) (sotw_request s who (shelf_after true s w c) None))) (lane_down t l.down) (at (with_at c.shelves s (shelf_after true s w c)) t)
+change_lane all c l x s t who w (inl same) lane =
+    let q : Request = sotw_request s who (shelf_after true s w c) None in
+    subst (λ r. Lane all r (at x.sessions r) x.count (lane_up r (l.up ++ wished_requests (is_sent true (shelf c s) w) q)) (lane_down r l.down) (at (with_at c.shelves s (shelf_after true s w c)) r)) same.0
+    (subst (Lane all s (at x.sessions s) x.count (lane_up s (l.up ++ wished_requests (is_sent true (shelf c s) w) q)) (lane_down s l.down)) (sym (at-with_at c.shelves s (shelf_after true s w c)))
+    (lane_wished all s who w (at x.sessions s) x.count l.up (lane_down s l.down) (shelf c s) (shelf c s).asked (wants_some w) refl refl (subst (λ r. Lane all r (at x.sessions r) x.count (lane_up r l.up) (lane_down r l.down) (shelf c r)) (sym same.0) lane)))
+change_lane all c l x s t who w (inr other) lane =
+    let q : Request = sotw_request s who (shelf_after true s w c) None in
+    subst (Lane all t (at x.sessions t) x.count (lane_up t (l.up ++ wished_requests (is_sent true (shelf c s) w) q)) (lane_down t l.down)) (sym (at-with_at_other c.shelves s (shelf_after true s w c) t (λ e. other.0 (sym e))))
+    (lane_beside all s t (at x.sessions t) x.count l.up (lane_down t l.down) (shelf c t) q (is_sent true (shelf c s) w) refl other.1 lane)
+
+wished_sotws : (s : TypeName) (q : Request) (sent : Bool) → q.type_url ≡ (row s).url → AllSotw (wished_requests sent q)
+wished_sotws s q true url = ((s, q, refl, url), tt)
+wished_sotws s q false url = tt
+
+-- the client changed what it wants
+pub linked_changed : (all : List TypedWrite) (c : Client) (l : Link) (x : Stream) (s : TypeName) (w : Wants) → Linked all c l x
+    → Linked all (changed true s w c) (record l { up = l.up ++ wished_requests (is_sent true (shelf c s) w) (sotw_request s (node c.greeted c) (shelf_after true s w c) None) }) x
+linked_changed all c l x s w linked =
+    let q : Request = sotw_request s (node c.greeted c) (shelf_after true s w c) None in
+    record {
+      variant = linked.variant;
+      counted = linked.counted;
+      sotws = all_sotw-append l.up (wished_requests (is_sent true (shelf c s) w) q) linked.sotws (wished_sotws s q (is_sent true (shelf c s) w) refl);
+      lanes = λ t. change_lane all c l x s t (node c.greeted c) w (same_type s t) (linked.lanes t);
+    }
+
+-- ---- the start of a stream
+
+-- what is kept of a type while the client has no stream
+abbrev pub Rests : TypeName → Shelf → Type 0
+Rests t f = (name : List ℕ) → is_wanted t f.wants name ≡ false → finmap.get f.cache name ≡ None
+
+first_own : (c : Client) (t : TypeName) (g : Bool) → of_type t (streams.Sotw (sotw_first c t g)) ≡ Some (sotw_first c t g)
+first_own c t g = of_own_type t t (sotw_first c t g) refl (is_same_type-same t)
+
+first_other : (c : Client) (s t : TypeName) (g : Bool) → is_same_type s t ≡ false → of_type t (streams.Sotw (sotw_first c s g)) ≡ None
+first_other c s t g other = of_other_type s t (sotw_first c s g) refl other
+
+sotws_by : (c : Client) (greeted : Bool) (s : TypeName) (ss : List TypeName) (some : Bool) → ((g : Bool) → AllSotw (firsts streams.Sotw (sotw_first c) c g ss)) → AllSotw (firsts_by streams.Sotw (sotw_first c) c some greeted s ss)
+sotws_by c greeted s ss true rest = ((s, sotw_first c s greeted, refl, refl), rest true)
+sotws_by c greeted s ss false rest = rest greeted
+
+first_sotws : (c : Client) (greeted : Bool) (ts : List TypeName) → AllSotw (firsts streams.Sotw (sotw_first c) c greeted ts)
+first_sotws c greeted [] = tt
+first_sotws c greeted (s ∷ ss) = sotws_by c greeted s ss (wants_some (shelf c s).wants) (λ g. first_sotws c g ss)
+
+lane_opened : (all : List TypedWrite) (t : TypeName) (f : Shelf) (q : Request) (some : Bool) → wants_some f.wants ≡ some → q.response_nonce ≡ [] → q.resource_names ≡ texts f.wants → Rests t f → Lane all t unopened 0 (if some then q ∷ [] else []) [] (connected f)
+lane_opened all t f q true some nonce lists rests = record {
+  down = None;
+  downs_are = refl;
+  taken = (refl, tt);
+  numbered = ((zero, omega arith, nonce), tt);
+  answered = λ d is. absurd (never_draft d is);
+  last = (zero, omega arith, refl);
+  abreast = abreast_first all t q (connected f) some lists some refl rests;
+}
+lane_opened all t f q false some nonce lists rests = record {
+  down = None;
+  downs_are = refl;
+  taken = tt;
+  numbered = tt;
+  answered = λ d is. absurd (never_draft d is);
+  last = (zero, omega arith, refl);
+  abreast = abreast_unopened all t (connected f) some some refl (λ name. rests name (nothing_wanted t f.wants name some));
+}
+
+-- the client connected
+pub linked_opened : (all : List TypedWrite) (c : Client) (r n : ℕ) (greeted : Bool) → ((t : TypeName) → Rests t (shelf c t)) → Linked all (linked greeted c) (record { replica = r; stream = n; up = opening_requests Sotw c; down = [] }) opening
+linked_opened all c r n greeted rests = record {
+  variant = inl (refl, refl);
+  counted = omega arith;
+  sotws = first_sotws c false types;
+  lanes = λ t.
+      let first = first_lane streams.Sotw (sotw_first c) c of_type (first_own c) (first_other c) t false types (once t) in
+      subst (λ k. Lane all t k 0 (lane_up t (firsts streams.Sotw (sotw_first c) c false types)) [] (shelf (linked greeted c) t)) (sym (at-each unopened t))
+      (subst (λ ups. Lane all t unopened 0 ups [] (shelf (linked greeted c) t)) (sym first.1)
+      (subst (Lane all t unopened 0 (one_first streams.Sotw (sotw_first c) c t first.0) []) (sym (connected_shelf c greeted t)) (lane_opened all t (shelf c t) (sotw_first c t first.0) (wants_some (shelf c t).wants) refl refl refl (rests t))));
+}
+
+-- its loss, and a change without a stream
+pub rests_lost : (all : List TypedWrite) (c : Client) (l : Link) (x : Stream) → Linked all c l x → (t : TypeName) → Rests t (shelf (unlinked c) t)
+rests_lost all c l x linked t = let lane = linked.lanes t in subst (Rests t) (sym (lost_shelf c t)) lane.abreast.within
+
+pub rests_changed : (c : Client) (s : TypeName) (w : Wants) → ((t : TypeName) → Rests t (shelf c t)) → (t : TypeName) → Rests t (shelf (changed false s w c) t)
+rests_changed c s w rests t = by_type (same_type s t)
+  where
+    by_type : ((s ≡ t) × (is_same_type s t ≡ true)) ⊎ ((s ≢ t) × (is_same_type s t ≡ false)) → Rests t (shelf (changed false s w c) t)
+    by_type (inl same) =
+        subst (λ r. Rests r (at (with_at c.shelves s (shelf_after false s w c)) r)) same.0
+        (subst (Rests s) (sym (at-with_at c.shelves s (shelf_after false s w c))) (λ name unwanted. (holds_what_is_wanted s w false finmap.empty finmap.empty (shelf c s).cache name unwanted).1))
+    by_type (inr other) = subst (Rests t) (sym (at-with_at_other c.shelves s (shelf_after false s w c) t (λ e. other.0 (sym e)))) (rests t)
