@@ -34,10 +34,8 @@ use Rattle.xds_model.specs.Happenings.{Happening, Wish, Names, Edits, AddReplica
 use Rattle.xds_model.specs.Worlds.{Site, Link, Peer, World, empty_world, at_site, happened_at, placed, pooled, with_peer, new_peer, connected_to, opened, sending, changed, changed_by, wish_of, wish_taken, under_way, polled, up_taken, received, received_in, taken_down, down_taken, opening_requests, on_link, is_free, happens}
 use Rattle.xds_model.specs.Knows.{TypedWrite}
 use Rattle.xds_model.proofs.Replicas.{some_is, bound_some, mapped_some, if_some, both_parts, none_there}
-use Rattle.xds_model.proofs.Queues.{Linked}
 use Rattle.xds_model.proofs.Delivering.{AllKnown}
-use Rattle.xds_model.proofs.LinkSteps.{linked_up, linked_polled, poll_sent, poll_quiet}
-use Rattle.xds_model.proofs.LinkTakes.{Rests, received_is, linked_down, wished_requests, linked_changed, linked_opened, rests_lost, rests_changed, rests_fresh}
+use Rattle.xds_model.proofs.ByKind.{LinkedAs, RestsAs, up_as, poll_as, down_as, opened_as, lost_as, fresh_as, changed_as, rests_as}
 use Rattle.xds_model.proofs.CoreSteps.{stream_step_is, open_is}
 use Rattle.xds_model.proofs.Everyone.{stream_at, AllCounted, AtSite, at_site_is, here_at, frame_at, counted_at, Fine, fine_sites, fine_peer}
 
@@ -81,8 +79,8 @@ module _ (w left : World) (all : List TypedWrite) (c : ℕ) (p : Peer) (l : Link
   -- the client stays where it is, or is down
   fine_here : (after : Peer) → left.peers ≡ finmap.insert w.peers c after
       → ((d : ℕ) (r : Peer) (m : Link) → c ≢ d → finmap.get w.peers d ≡ Some r → r.link ≡ Some m → stream_at left m.replica m.stream ≡ stream_at w m.replica m.stream)
-      → ((k : Link) → after.link ≡ Some k → (x : Stream) × (k.replica ≡ l.replica) × (k.stream ≡ l.stream) × (stream_at left l.replica l.stream ≡ Some x) × (after.kind ≡ Delta → Linked all after.client k x))
-      → (after.link ≡ None → after.kind ≡ Delta → (t : TypeName) → Rests all t (shelf after.client t)) → AllCounted left → Fine left all
+      → ((k : Link) → after.link ≡ Some k → (x : Stream) × (k.replica ≡ l.replica) × (k.stream ≡ l.stream) × (stream_at left l.replica l.stream ≡ Some x) × LinkedAs after.kind all after.client k x)
+      → (after.link ≡ None → (t : TypeName) → RestsAs after.kind all t (shelf after.client t)) → AllCounted left → Fine left all
   fine_here after peers frame here down counted =
       fine_peer w left all c after peers frame (λ k at_k. let x = here k at_k in (x.0, (λ i. stream_at left (x.1 i) (x.2 i)) ∙ x.3, x.4)) down
       (λ d r k m other has_d at_k link_d same_replica same_number. let x = here k at_k in apart_from d r m other has_d link_d (sym same_replica ∙ x.1) (sym x.2 ∙ same_number)) counted fine
@@ -115,19 +113,13 @@ fine_up w left all c p l (m ∷ rest) up has link is fine =
       sym (ap (λ y. y.replica) is_k),
       sym (ap (λ y. y.stream) is_k),
       now,
-      λ kind. subst (λ y. Linked all p.client y at_core.1.1) is_k (linked_up all p.client l here.0 m rest at_core.1 up (ap (λ s. requested s m) (sym same) ∙ at_core.3) (here.2 kind)),
+      subst (λ y. LinkedAs p.kind all p.client y at_core.1.1) is_k (up_as all p.kind p.client l here.0 m rest at_core.1 up (ap (λ s. requested s m) (sym same) ∙ at_core.3) here.2),
     ))
-    (λ none kind. absurd (never_link (record l { up = rest }) none)) (still_counted w left all c p l has link fine e q x (ap (λ y. y.sites) made.2))
+    (λ none. absurd (never_link (record l { up = rest }) none)) (still_counted w left all c p l has link fine e q x (ap (λ y. y.sites) made.2))
 
 -- what a poll of the client's stream gave
 polled_reply : (c : ℕ) (p : Peer) (l : Link) (reply : Reply) (w left : World) (o : Option Draft) → reply ≡ Polled o → polled c p l (reply, w) ≡ Some left → left ≡ with_peer w c (record p { link = Some (record l { down = l.down ++ under_way o }) })
 polled_reply c p l reply w left o told is = sym (some_is (with_peer w c (record p { link = Some (record l { down = l.down ++ under_way o }) })) left (ap (λ r. polled c p l (r, w)) (sym told) ∙ is))
-
-linked_poll : (all : List TypedWrite) (replica : ℕ) (store : Store) (client : Client) (l : Link) (x y : Stream) (ts : List TypeName) (o : Option Draft) → ((t : TypeName) → AllKnown all t (at store t).entries) → polled_first replica store x ts ≡ Ok (o, y)
-    → Linked all client l x → Linked all client (record l { down = l.down ++ under_way o }) y
-linked_poll all replica store client l x y ts None known is linked =
-    subst (Linked all client (record l { down = l.down ++ [] })) (sym (poll_quiet replica store x y ts is)) (subst (λ ds. Linked all client (record l { down = ds }) x) (sym (append-nil l.down)) linked)
-linked_poll all replica store client l x y ts (Some d) known is linked = linked_polled all replica store client l x y d known (poll_sent replica store x y ts d is) linked
 
 abbrev pub AllSitesKnown : World → List TypedWrite → Type 0
 AllSitesKnown w all = (r : ℕ) (s : Site) (t : TypeName) → finmap.get w.sites r ≡ Some s → AllKnown all t (at s.core.store t).entries
@@ -154,11 +146,11 @@ fine_poll w left all c p l which known has link is fine =
       sym (ap (λ y. y.replica) is_k),
       sym (ap (λ y. y.stream) is_k),
       now,
-      λ kind. subst (λ y. Linked all p.client y at_core.1.1) is_k
-          (linked_poll all x.site.core.replica x.site.core.store p.client l here.0 at_core.1.1 (looked_at which) o (λ t. known l.replica x.site t x.has)
-          (ap (λ s. polled_first x.site.core.replica x.site.core.store s (looked_at which)) (sym same) ∙ at_core.3) (here.2 kind)),
+      subst (λ y. LinkedAs p.kind all p.client y at_core.1.1) is_k
+      (poll_as all p.kind x.site.core.replica x.site.core.store p.client l here.0 at_core.1.1 (looked_at which) o (λ t. known l.replica x.site t x.has)
+      (ap (λ s. polled_first x.site.core.replica x.site.core.store s (looked_at which)) (sym same) ∙ at_core.3) here.2),
     ))
-    (λ none kind. absurd (never_link (record l { down = l.down ++ under_way o }) none)) (still_counted w left all c p l has link fine e q x (ap (λ y. y.sites) left_is))
+    (λ none. absurd (never_link (record l { down = l.down ++ under_way o }) none)) (still_counted w left all c p l has link fine e q x (ap (λ y. y.sites) left_is))
 
 fine_down : (test : Test) (w left : World) (all : List TypedWrite) (c : ℕ) (p : Peer) (l : Link) (ds : List Draft) → l.down ≡ ds → finmap.get w.peers c ≡ Some p → p.link ≡ Some l → down_taken test w c p l ds ≡ Some left → Fine w all → Fine left all
 fine_down test w left all c p l [] down has link is fine = absurd cc
@@ -173,9 +165,9 @@ fine_down test w left all c p l (d ∷ rest) down has link is fine =
       sym (ap (λ y. y.replica) is_k),
       sym (ap (λ y. y.stream) is_k),
       ap (λ y. stream_at y l.replica l.stream) made.2 ∙ here.1,
-      λ kind. subst (λ y. Linked all q.0 y here.0) is_k (linked_down all test p.client l here.0 d rest q down (received_is test p.client d q (ap (λ y. received_in test y p.client d) (sym kind) ∙ made.1)) (here.2 kind)),
+      subst (λ y. LinkedAs p.kind all q.0 y here.0) is_k (down_as all p.kind test p.client l here.0 d rest q down made.1 here.2),
     ))
-    (λ none kind. absurd (never_link next none)) (λ r s at_r. fine.counted r s (ap (λ y. finmap.get y.sites r) (sym made.2) ∙ at_r))
+    (λ none. absurd (never_link next none)) (λ r s at_r. fine.counted r s (ap (λ y. finmap.get y.sites r) (sym made.2) ∙ at_r))
 
 fine_lose : (w left : World) (all : List TypedWrite) (c : ℕ) (p : Peer) (l : Link) → finmap.get w.peers c ≡ Some p → p.link ≡ Some l
     → option_map (λ q. with_peer q.1 c (record p { client = unlinked p.client; link = None })) (at_site w l.replica (events.Close l.stream)) ≡ Some left → Fine w all → Fine left all
@@ -187,7 +179,7 @@ fine_lose w left all c p l has link is fine =
     let x = at_site_is w l.replica e q made.1 in
     let here = fine.ups c p l has link in
     fine_here w left all c p l has link fine after (ap (λ y. y.peers) made.2 ∙ ap (λ y. finmap.insert y c after) (same_peers w l.replica e q x))
-    (stream_frame w left all c p l has link fine e q x refl (ap (λ y. y.sites) made.2)) (λ k at_k. absurd (no_link k at_k)) (λ none kind. rests_lost all p.client l here.0 (here.2 kind))
+    (stream_frame w left all c p l has link fine e q x refl (ap (λ y. y.sites) made.2)) (λ k at_k. absurd (no_link k at_k)) (λ none. lost_as all p.kind p.client l here.0 here.2)
     (still_counted w left all c p l has link fine e q x (ap (λ y. y.sites) made.2))
 
 -- ---- Connect
@@ -216,53 +208,14 @@ fine_connect w left all c r p has none is fine =
     (λ k at_k. let is_k = some_is (record { replica = r; stream = n; up = opening_requests p.kind p.client; down = [] }) k at_k in (
       opening,
       (λ i. stream_at left (ap (λ y. y.replica) (sym is_k) i) (ap (λ y. y.stream) (sym is_k) i)) ∙ now,
-      λ kind. subst (λ y. Linked all (clients.linked (is_greeted p.client false types) p.client) y opening) (ap (λ v. record { replica = r; stream = n; up = opening_requests v p.client; down = [] }) (sym kind) ∙ is_k)
-          (linked_opened all p.client r n (is_greeted p.client false types) (fine.downs c p has none kind)),
+      subst (λ y. LinkedAs p.kind all (clients.linked (is_greeted p.client false types) p.client) y opening) is_k
+      (opened_as all p.kind p.client r n (is_greeted p.client false types) (fine.downs c p has none)),
     ))
-    (λ never kind. absurd (never_link (record { replica = r; stream = n; up = opening_requests p.kind p.client; down = [] }) never))
+    (λ never. absurd (never_link (record { replica = r; stream = n; up = opening_requests p.kind p.client; down = [] }) never))
     (λ d s k m other has_d at_k link_d same_replica same_number. let is_k = some_is (record { replica = r; stream = n; up = opening_requests p.kind p.client; down = [] }) k at_k in
     let le = below d s m has_d link_d (sym same_replica ∙ ap (λ y. y.replica) (sym is_k)) in let at_end : n ≡ m.stream = ap (λ y. y.stream) is_k ∙ same_number in absurd (omega (arith, le, at_end))) counted fine
 
 -- ---- Change
-
--- what a client's change is, where it is possible
-pub changed_ok : {X : Type 0} (tag : X → Message) (r : ClientOutcome (Option X)) (q : Client × Option Message) → changed_by tag r ≡ Some q → (y : Client × Option X) × (r ≡ Ok y) × (q ≡ (y.0, option_map tag y.1))
-changed_ok tag (Ok y) q is = (y, refl, sym (some_is (y.0, option_map tag y.1) q is))
-changed_ok tag (Err e) q is = absurd cc
-
-changed_once : (broken : Bool) (y z : Client × Option DeltaRequest) → ◌≡◌ {A = ClientOutcome (Option DeltaRequest)} (if broken then Err NoStream else Ok y) (Ok z) → z ≡ y
-changed_once true y z is = absurd cc
-changed_once false y z is = cc
-
-pub record IsWished (p : Peer) (up : Bool) (t : TypeName) (q : Client × Option Message) : Type 0 where
-  pub subscribe : Wants
-  pub unsubscribe : Wants
-  pub left : q.0 ≡ clients.changed up t (wants_after subscribe unsubscribe (shelf p.client t).wants) p.client
-  pub sent : q.1 ≡ (if is_sent up (shelf p.client t) (wants_after subscribe unsubscribe (shelf p.client t).wants) then Some (streams.Delta (delta_request t (node p.client.greeted p.client) subscribe unsubscribe finmap.empty)) else None)
-
-tagged_if : (b : Bool) (m : DeltaRequest) → option_map streams.Delta (if b then Some m else None) ≡ (if b then Some (streams.Delta m) else None)
-tagged_if true m = refl
-tagged_if false m = refl
-
-pub wished_is : (p : Peer) (up : Bool) (t : TypeName) (wish : Wish) (q : Client × Option Message) → wish_of Delta p up t wish ≡ Some q → IsWished p up t q
-wished_is p up t (Names names) q is = absurd cc
-wished_is p up t (Edits subscribe unsubscribe) q is =
-    let s : Wants = wants_of subscribe in
-    let u : Wants = wants_of unsubscribe in
-    let w : Wants = wants_after s u (shelf p.client t).wants in
-    let m : DeltaRequest = delta_request t (node p.client.greeted p.client) s u finmap.empty in
-    let made = changed_ok streams.Delta (delta_change up t s u p.client) q is in
-    let once = changed_once p.client.broken (delta_changed up t s u p.client) made.0 made.1 in
-    record {
-      subscribe = s;
-      unsubscribe = u;
-      left = ap (λ y. y.0) made.2 ∙ ap (λ y. y.0) once;
-      sent = ap (λ y. y.1) made.2 ∙ ap (λ y. option_map streams.Delta y.1) once ∙ tagged_if (is_sent up (shelf p.client t) w) m;
-    }
-
-sent_on : (l : Link) (b : Bool) (m : DeltaRequest) → sending (if b then Some (streams.Delta m) else None) l ≡ record l { up = l.up ++ wished_requests b m }
-sent_on l true m = refl
-sent_on l false m = λ i. record l { up = sym (append-nil l.up) i }
 
 pub same_replica_on : (o : Option Message) (l : Link) → (sending o l).replica ≡ l.replica
 same_replica_on None l = refl
@@ -283,23 +236,16 @@ fine_change_up w left all c p l t wish q has link wished is fine =
       sym (ap (λ y. y.replica) is_k) ∙ same_replica_on q.1 l,
       sym (ap (λ y. y.stream) is_k) ∙ same_stream_on q.1 l,
       ap (λ y. stream_at y l.replica l.stream) is ∙ here.1,
-      λ kind.
-          let made = wished_is p true t wish q (ap (λ v. wish_of v p true t wish) (sym kind) ∙ wished) in
-          let after : Wants = wants_after made.subscribe made.unsubscribe (shelf p.client t).wants in
-          let m : DeltaRequest = delta_request t (node p.client.greeted p.client) made.subscribe made.unsubscribe finmap.empty in
-          subst (λ y. Linked all q.0 y here.0) (sym (sent_on l (is_sent true (shelf p.client t) after) m) ∙ ap (λ o. sending o l) (sym made.sent) ∙ is_k)
-          (subst (λ y. Linked all y (record l { up = l.up ++ wished_requests (is_sent true (shelf p.client t) after) m }) here.0) (sym made.left) (linked_changed all p.client l here.0 t made.subscribe made.unsubscribe (here.2 kind))),
+      subst (λ y. LinkedAs p.kind all q.0 y here.0) is_k (changed_as all p.kind p l here.0 t wish q wished here.2),
     ))
-    (λ none kind. absurd (never_link (sending q.1 l) (sym next ∙ none))) (λ r s at_r. fine.counted r s (ap (λ y. finmap.get y.sites r) (sym is) ∙ at_r))
+    (λ none. absurd (never_link (sending q.1 l) (sym next ∙ none))) (λ r s at_r. fine.counted r s (ap (λ y. finmap.get y.sites r) (sym is) ∙ at_r))
 
 fine_change_down : (w left : World) (all : List TypedWrite) (c : ℕ) (p : Peer) (t : TypeName) (wish : Wish) (q : Client × Option Message) → finmap.get w.peers c ≡ Some p → p.link ≡ None → wish_of p.kind p false t wish ≡ Some q
     → left ≡ with_peer w c (changed p q) → Fine w all → Fine left all
 fine_change_down w left all c p t wish q has link wished is fine =
     let next : option_map (sending q.1) p.link ≡ None = ap (option_map (sending q.1)) link in
     fine_peer w left all c (changed p q) (ap (λ y. y.peers) is) (λ e r m other has_e link_e. ap (λ y. stream_at y m.replica m.stream) is) (λ k at_k. absurd (no_link k (sym next ∙ at_k)))
-    (λ none kind u.
-    let made = wished_is p false t wish q (ap (λ v. wish_of v p false t wish) (sym kind) ∙ wished) in
-    subst (λ y. Rests all u (shelf y u)) (sym made.left) (rests_changed all p.client t (wants_after made.subscribe made.unsubscribe (shelf p.client t).wants) (fine.downs c p has link kind) u))
+    (λ none. rests_as all p.kind p t wish q wished (fine.downs c p has link))
     (λ d s k m other has_d at_k link_d same_replica same_number. no_link k (sym next ∙ at_k)) (λ r s at_r. fine.counted r s (ap (λ y. finmap.get y.sites r) (sym is) ∙ at_r)) fine
 
 fine_change : (w left : World) (all : List TypedWrite) (c : ℕ) (p : Peer) (t : TypeName) (wish : Wish) (q : Client × Option Message) (o : Option Link) → finmap.get w.peers c ≡ Some p → p.link ≡ o → wish_taken p t wish ≡ Some q → left ≡ with_peer w c (changed p q)
@@ -340,7 +286,7 @@ fine_added w left all r none is fine =
 fine_joined : (w left : World) (all : List TypedWrite) (c : ℕ) (kind : ClientKind) → left ≡ with_peer w c (new_peer c kind) → Fine w all → Fine left all
 fine_joined w left all c kind is fine =
     fine_peer w left all c (new_peer c kind) (ap (λ y. y.peers) is) (λ e r m other has_e link_e. ap (λ y. stream_at y m.replica m.stream) is) (λ k at_k. absurd (no_link k at_k))
-    (λ none delta t. subst (Rests all t) (sym (at-each bare t)) (rests_fresh all t)) (λ d s k m other has_d at_k link_d same_replica same_number. no_link k at_k)
+    (λ none t. subst (RestsAs kind all t) (sym (at-each bare t)) (fresh_as all kind t)) (λ d s k m other has_d at_k link_d same_replica same_number. no_link k at_k)
     (λ r s at_r. fine.counted r s (ap (λ y. finmap.get y.sites r) (sym is) ∙ at_r)) fine
 
 -- a batch that joins the pool

@@ -17,8 +17,7 @@ use Rattle.xds_model.specs.declared.event.ClientKind.TheVariants.{Delta}
 use Rattle.xds_model.specs.Worlds.{Site, Link, Peer, World, recorded, at_site}
 use Rattle.xds_model.specs.Knows.{TypedWrite}
 use Rattle.xds_model.proofs.Replicas.{answered, some_is}
-use Rattle.xds_model.proofs.Queues.{Linked}
-use Rattle.xds_model.proofs.LinkTakes.{Rests}
+use Rattle.xds_model.proofs.ByKind.{LinkedAs, RestsAs}
 use Rattle.xds_model.proofs.CoreSteps.{IsCounted, step_counted}
 
 -- ---- streams of a world
@@ -84,8 +83,8 @@ counted_at w r e p x counted q s has =
 
 pub record Fine (w : World) (all : List TypedWrite) : Type 0 where
   -- a client that is up has a stream at its replica
-  pub ups : (c : ℕ) (p : Peer) (l : Link) → finmap.get w.peers c ≡ Some p → p.link ≡ Some l → (x : Stream) × (stream_at w l.replica l.stream ≡ Some x) × (p.kind ≡ Delta → Linked all p.client l x)
-  pub downs : (c : ℕ) (p : Peer) → finmap.get w.peers c ≡ Some p → p.link ≡ None → p.kind ≡ Delta → (t : TypeName) → Rests all t (shelf p.client t)
+  pub ups : (c : ℕ) (p : Peer) (l : Link) → finmap.get w.peers c ≡ Some p → p.link ≡ Some l → (x : Stream) × (stream_at w l.replica l.stream ≡ Some x) × LinkedAs p.kind all p.client l x
+  pub downs : (c : ℕ) (p : Peer) → finmap.get w.peers c ≡ Some p → p.link ≡ None → (t : TypeName) → RestsAs p.kind all t (shelf p.client t)
   -- no two have the same
   pub apart : (c d : ℕ) (p q : Peer) (l m : Link) → finmap.get w.peers c ≡ Some p → finmap.get w.peers d ≡ Some q → p.link ≡ Some l → q.link ≡ Some m → l.replica ≡ m.replica → l.stream ≡ m.stream → c ≡ d
   pub counted : AllCounted w
@@ -114,22 +113,22 @@ module _ (w left : World) (all : List TypedWrite) (c : ℕ) (p : Peer) (peers : 
 
   -- where it is, if it is up
   abbrev pub Here : Type 0
-  Here = (l : Link) → p.link ≡ Some l → (x : Stream) × (stream_at left l.replica l.stream ≡ Some x) × (p.kind ≡ Delta → Linked all p.client l x)
+  Here = (l : Link) → p.link ≡ Some l → (x : Stream) × (stream_at left l.replica l.stream ≡ Some x) × LinkedAs p.kind all p.client l x
 
   abbrev pub Alone : Type 0
   Alone = (d : ℕ) (q : Peer) (l m : Link) → c ≢ d → finmap.get w.peers d ≡ Some q → p.link ≡ Some l → q.link ≡ Some m → l.replica ≡ m.replica → l.stream ≡ m.stream → ⊥
 
-  pub fine_peer : Frame → Here → (p.link ≡ None → p.kind ≡ Delta → (t : TypeName) → Rests all t (shelf p.client t)) → Alone → AllCounted left → Fine w all → Fine left all
+  pub fine_peer : Frame → Here → (p.link ≡ None → (t : TypeName) → RestsAs p.kind all t (shelf p.client t)) → Alone → AllCounted left → Fine w all → Fine left all
   fine_peer frame here down alone counted fine = record {
     ups = λ d q l has link.
         elim (found d q has) [
-          | inl same ↦ subst (λ (y : Peer). (x : Stream) × (stream_at left l.replica l.stream ≡ Some x) × (y.kind ≡ Delta → Linked all y.client l x)) same.1 (here l (ap (λ y. y.link) same.1 ∙ link))
+          | inl same ↦ subst (λ (y : Peer). (x : Stream) × (stream_at left l.replica l.stream ≡ Some x) × LinkedAs y.kind all y.client l x) same.1 (here l (ap (λ y. y.link) same.1 ∙ link))
           | inr other ↦ (let x = fine.ups d q l other.1 link in (x.0, frame d q l other.0 other.1 link ∙ x.1, x.2))
         ];
-    downs = λ d q has link kind.
+    downs = λ d q has link.
         elim (found d q has) [
-          | inl same ↦ subst (λ (y : Peer). (t : TypeName) → Rests all t (shelf y.client t)) same.1 (down (ap (λ y. y.link) same.1 ∙ link) (ap (λ y. y.kind) same.1 ∙ kind))
-          | inr other ↦ fine.downs d q other.1 link kind
+          | inl same ↦ subst (λ (y : Peer). (t : TypeName) → RestsAs y.kind all t (shelf y.client t)) same.1 (down (ap (λ y. y.link) same.1 ∙ link))
+          | inr other ↦ fine.downs d q other.1 link
         ];
     apart = λ a b q r l m has_a has_b link_a link_b same_replica same_stream.
         elim (found a q has_a) [

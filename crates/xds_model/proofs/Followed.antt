@@ -38,8 +38,9 @@ use Rattle.xds_model.specs.Knows.{wished, wishing, wanted_after, wants, linking,
 use Rattle.xds_model.specs.Claims.{LinksAreFollowed}
 use Rattle.xds_model.proofs.Replicas.{some_is, bound_some, mapped_some, if_some, none_there}
 use Rattle.xds_model.proofs.LinkTakes.{received_ok, answered_ok, connected_shelf, lost_shelf}
+use Rattle.xds_model.proofs.ByKind.{changed_ok, changed_once}
 use Rattle.xds_model.proofs.Everyone.{at_site_is}
-use Rattle.xds_model.proofs.EveryEvent.{link_there, changed_ok, same_peers, pooled_is, same_replica_on}
+use Rattle.xds_model.proofs.EveryEvent.{link_there, same_peers, pooled_is, same_replica_on}
 
 -- ---- looks at one client
 
@@ -226,10 +227,6 @@ wanted_changed up s w c t =
       | inr other ↦ ap (λ (x : Shelf). x.wants) (at-with_at_other c.shelves s (shelf_after up s w c) t (λ e. other.0 (sym e))) ∙ ap (λ b. if b then w else (shelf c t).wants) (sym other.1)
     ]
 
-once : {X : Type 0} (broken : Bool) (y z : Client × Option X) → ◌≡◌ {A = Outcome (Option X)} (if broken then Err NoStream else Ok y) (Ok z) → z ≡ y
-once true y z is = absurd cc
-once false y z is = cc
-
 -- a change of one list, and of two
 same_wanted : (s t : TypeName) (c : Client) (wish : Wish) → (if is_same_type s t then wished wish (shelf c s).wants else (shelf c t).wants) ≡ (if is_same_type s t then wished wish (shelf c t).wants else (shelf c t).wants)
 same_wanted s t c wish =
@@ -242,14 +239,14 @@ wished_wants : (k : ClientKind) (p : Peer) (up : Bool) (s : TypeName) (wish : Wi
     → (shelf q.0 t).wants ≡ (if is_same_type s t then wished wish (shelf p.client t).wants else (shelf p.client t).wants)
 wished_wants Sotw p up s (Names names) q t is =
     let made = changed_ok streams.Sotw (sotw_change up s (wants_of names) p.client) q is in
-    ap (λ (x : Client × Option Message). (shelf x.0 t).wants) made.2 ∙ ap (λ (x : Client × Option messages.Request). (shelf x.0 t).wants) (once p.client.broken (sotw_changed up s (wants_of names) p.client) made.0 made.1)
+    ap (λ (x : Client × Option Message). (shelf x.0 t).wants) made.2 ∙ ap (λ (x : Client × Option messages.Request). (shelf x.0 t).wants) (changed_once p.client.broken (sotw_changed up s (wants_of names) p.client) made.0 made.1)
     ∙ wanted_changed up s (wants_of names) p.client t
 wished_wants Sotw p up s (Edits subscribe unsubscribe) q t is = absurd cc
 wished_wants Delta p up s (Names names) q t is = absurd cc
 wished_wants Delta p up s (Edits subscribe unsubscribe) q t is =
     let made = changed_ok streams.Delta (delta_change up s (wants_of subscribe) (wants_of unsubscribe) p.client) q is in
     ap (λ (x : Client × Option Message). (shelf x.0 t).wants) made.2
-    ∙ ap (λ (x : Client × Option DeltaRequest). (shelf x.0 t).wants) (once p.client.broken (delta_changed up s (wants_of subscribe) (wants_of unsubscribe) p.client) made.0 made.1)
+    ∙ ap (λ (x : Client × Option DeltaRequest). (shelf x.0 t).wants) (changed_once p.client.broken (delta_changed up s (wants_of subscribe) (wants_of unsubscribe) p.client) made.0 made.1)
     ∙ wanted_changed up s (wants_after (wants_of subscribe) (wants_of unsubscribe) (shelf p.client s).wants) p.client t ∙ same_wanted s t p.client (Edits subscribe unsubscribe)
 
 changed_comes : (test : Test) (w left : World) (d : ℕ) (s : TypeName) (wish : Wish) → happens test w (Change d s wish) ≡ Some left

@@ -19,6 +19,7 @@ use Rattle.xds_model.proofs.Replicas.{Kept, kept_start, kept_step, some_is}
 use Rattle.xds_model.proofs.Origins.{Stamped, stamped_start, stamped_step}
 use Rattle.xds_model.proofs.Ranges.{Ranged, ranged_start, ranged_step, sites_known}
 use Rattle.xds_model.proofs.Queues.{Linked}
+use Rattle.xds_model.proofs.ByKind.{LinkedAs}
 use Rattle.xds_model.proofs.Everyone.{stream_at, Fine}
 use Rattle.xds_model.proofs.EveryEvent.{fine_start, fine_step}
 use Rattle.xds_model.proofs.More.{fine_more}
@@ -101,6 +102,6 @@ settled_is_exact test hs put c r p t has delta linked settled name =
     let wanted : wants test hs c t ≡ (shelf p.client t).wants = wants_are test hs c t ∙ ap (wanted_of t) has in
     let held : finmap.get (at rest.site.core.store t).entries name ≡ best (writes_of t (knows test hs r)) name =
     ap (λ m. finmap.get m name) (all_sure.kept.holds rest.link.replica rest.site t rest.there) ∙ get-catalogue_of (writes_of t (k.at rest.link.replica)) name ∙ ap (λ n. best (writes_of t (k.at n)) name) replica in
-    link_shows all t p.client rest.link rest.stream rest.site.core.store name (subst (Linked all p.client rest.link) same (here.2 delta)) all_sure.stamped.unique all_sure.ranged.stamps
+    link_shows all t p.client rest.link rest.stream rest.site.core.store name (subst (Linked all p.client rest.link) same (subst (λ v. LinkedAs v all p.client rest.link here.0) delta here.2)) all_sure.stamped.unique all_sure.ranged.stamps
     (sites_known w k all all_sure.kept all_sure.stamped all_sure.ranged rest.link.replica rest.site t rest.there) rest.quiet rest.nothing
     ∙ (λ i. if is_wanted t (sym wanted i) name then option_and_then holding_of (held i) else None)

@@ -10,6 +10,12 @@ pub mod Queues
 pub mod LinkSteps
 pub mod Firsts
 pub mod LinkTakes
+pub mod SotwFolding
+pub mod SotwLanes
+pub mod SotwSteps
+pub mod SotwDelivering
+pub mod SotwLinks
+pub mod ByKind
 pub mod CoreSteps
 pub mod Everyone
 pub mod EveryEvent
@@ -18,8 +24,3 @@ pub mod More
 pub mod Settled
 pub mod Followed
 pub mod Headline
-pub mod SotwFolding
-pub mod SotwLanes
-pub mod SotwSteps
-pub mod SotwDelivering
-pub mod SotwLinks

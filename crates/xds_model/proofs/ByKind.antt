@@ -1,0 +1,147 @@
+-- What keeps the link of a client, whichever variant it speaks.
+use Rattle.std.proofs.Common.{◌≡◌, ℕ, List, [], ◌∷◌, ◌++◌, Bool, true, false, Option, Some, None, Result, Ok, Err, refl, sym, ap, subst, ◌∙◌, append-nil}
+use Rattle.std.specs.Prelude.{if◌then◌else◌, option_map}
+use Rattle.std.specs.FinMap as finmap
+use Rattle.xds_resource.specs.declared.types.TypeName.{TypeName}
+use Rattle.xds_resource.specs.declared.refusal.Refusal.TheVariants.{NoStream}
+use Rattle.xds_resource.specs.Types.{types}
+use Rattle.xds_resource.specs.PerType.{at}
+use Rattle.xds_resource.specs.Writes.{text_cmp}
+use Rattle.xds_message.specs.Messages as messages
+use Rattle.xds_message.specs.DeltaMessages.{DeltaRequest}
+use Rattle.xds_draft.specs.declared.draft.Draft.{Draft}
+use Rattle.xds_ledger.specs.declared.outcome.Outcome.{Outcome}
+use Rattle.xds_core.specs.Stores.{Store}
+use Rattle.xds_core.specs.Streams as streams
+use Rattle.xds_core.specs.Streams.{Stream, Message, opening, requested, polled_first}
+use Rattle.xds_cache.specs.Shelves.{Wants, Shelf, bare, wants_of, wants_after}
+use Rattle.xds_cache.specs.Faults.{Test}
+use Rattle.xds_cache.specs.Clients as clients
+use Rattle.xds_cache.specs.Clients.{Client, shelf, shelf_after, node, is_sent, unlinked}
+use Rattle.xds_cache.specs.Sends.{delta_request, sotw_request, is_greeted}
+use Rattle.xds_cache.specs.Receives.{Outcome as ClientOutcome, sotw_change, sotw_changed, delta_change, delta_changed}
+use Rattle.xds_model.specs.declared.event.ClientKind.{ClientKind}
+use Rattle.xds_model.specs.declared.event.ClientKind.TheVariants.{Sotw, Delta}
+use Rattle.xds_model.specs.Happenings.{Wish, Names, Edits}
+use Rattle.xds_model.specs.Worlds.{Link, Peer, opening_requests, sending, changed_by, wish_of, under_way, received_in}
+use Rattle.xds_model.specs.Knows.{TypedWrite}
+use Rattle.xds_model.proofs.Replicas.{some_is}
+use Rattle.xds_model.proofs.Queues as queues
+use Rattle.xds_model.proofs.LinkSteps as deltas
+use Rattle.xds_model.proofs.LinkSteps.{poll_sent, poll_quiet}
+use Rattle.xds_model.proofs.LinkTakes as takes
+use Rattle.xds_model.proofs.Delivering.{AllKnown}
+use Rattle.xds_model.proofs.SotwLinks as sotws
+
+-- the link of a client of each variant, and what it keeps without one
+abbrev pub LinkedAs : ClientKind → List TypedWrite → Client → Link → Stream → Type 0
+LinkedAs Sotw all c l x = sotws.Linked all c l x
+LinkedAs Delta all c l x = queues.Linked all c l x
+
+abbrev pub RestsAs : ClientKind → List TypedWrite → TypeName → Shelf → Type 0
+RestsAs Sotw all t f = sotws.Rests t f
+RestsAs Delta all t f = takes.Rests all t f
+
+module _ (all : List TypedWrite) where
+  pub up_as : (k : ClientKind) (c : Client) (l : Link) (x : Stream) (m : Message) (rest : List Message) (z : Outcome × Stream) → l.up ≡ m ∷ rest → requested x m ≡ Ok z → LinkedAs k all c l x → LinkedAs k all c (record l { up = rest }) z.1
+  up_as Sotw c l x m rest z up is linked = sotws.linked_up all c l x m rest z up is linked
+  up_as Delta c l x m rest z up is linked = deltas.linked_up all c l x m rest z up is linked
+
+  sent_as : (k : ClientKind) (replica : ℕ) (store : Store) (c : Client) (l : Link) (x y : Stream) (d : Draft) → ((t : TypeName) → AllKnown all t (at store t).entries) → deltas.IsSent replica store x y d → LinkedAs k all c l x
+      → LinkedAs k all c (record l { down = l.down ++ d ∷ [] }) y
+  sent_as Sotw replica store c l x y d known is linked = sotws.linked_polled all replica store c l x y d known is linked
+  sent_as Delta replica store c l x y d known is linked = deltas.linked_polled all replica store c l x y d known is linked
+
+  pub poll_as : (k : ClientKind) (replica : ℕ) (store : Store) (c : Client) (l : Link) (x y : Stream) (ts : List TypeName) (o : Option Draft) → ((t : TypeName) → AllKnown all t (at store t).entries) → polled_first replica store x ts ≡ Ok (o, y) → LinkedAs k all c l x
+      → LinkedAs k all c (record l { down = l.down ++ under_way o }) y
+  poll_as k replica store c l x y ts None known is linked =
+      subst (LinkedAs k all c (record l { down = l.down ++ [] })) (sym (poll_quiet replica store x y ts is)) (subst (λ ds. LinkedAs k all c (record l { down = ds }) x) (sym (append-nil l.down)) linked)
+  poll_as k replica store c l x y ts (Some d) known is linked = sent_as k replica store c l x y d known (poll_sent replica store x y ts d is) linked
+
+  pub down_as : (k : ClientKind) (test : Test) (c : Client) (l : Link) (x : Stream) (d : Draft) (rest : List Draft) (q : Client × Message) → l.down ≡ d ∷ rest → received_in test k c d ≡ Some q → LinkedAs k all c l x
+      → LinkedAs k all q.0 (record l { up = l.up ++ q.1 ∷ []; down = rest }) x
+  down_as Sotw test c l x d rest q down is linked = sotws.linked_down all test c l x d rest q down (sotws.received_is test c d q is) linked
+  down_as Delta test c l x d rest q down is linked = takes.linked_down all test c l x d rest q down (takes.received_is test c d q is) linked
+
+  pub opened_as : (k : ClientKind) (c : Client) (r n : ℕ) (greeted : Bool) → ((t : TypeName) → RestsAs k all t (shelf c t)) → LinkedAs k all (clients.linked greeted c) (record { replica = r; stream = n; up = opening_requests k c; down = [] }) opening
+  opened_as Sotw c r n greeted rests = sotws.linked_opened all c r n greeted rests
+  opened_as Delta c r n greeted rests = takes.linked_opened all c r n greeted rests
+
+  pub lost_as : (k : ClientKind) (c : Client) (l : Link) (x : Stream) → LinkedAs k all c l x → (t : TypeName) → RestsAs k all t (shelf (unlinked c) t)
+  lost_as Sotw c l x linked t = sotws.rests_lost all c l x linked t
+  lost_as Delta c l x linked t = takes.rests_lost all c l x linked t
+
+  pub fresh_as : (k : ClientKind) (t : TypeName) → RestsAs k all t bare
+  fresh_as Sotw t = λ name unwanted. finmap.get-empty text_cmp name
+  fresh_as Delta t = takes.rests_fresh all t
+
+-- ---- Change
+
+pub changed_ok : {X : Type 0} (tag : X → Message) (r : ClientOutcome (Option X)) (q : Client × Option Message) → changed_by tag r ≡ Some q → (y : Client × Option X) × (r ≡ Ok y) × (q ≡ (y.0, option_map tag y.1))
+changed_ok tag (Ok y) q is = (y, refl, sym (some_is (y.0, option_map tag y.1) q is))
+changed_ok tag (Err e) q is = absurd cc
+
+pub changed_once : {X : Type 0} (broken : Bool) (y z : Client × Option X) → ◌≡◌ {A = ClientOutcome (Option X)} (if broken then Err NoStream else Ok y) (Ok z) → z ≡ y
+changed_once true y z is = absurd cc
+changed_once false y z is = cc
+
+pub tagged_if : {X : Type 0} (tag : X → Message) (b : Bool) (m : X) → option_map tag (if b then Some m else None) ≡ (if b then Some (tag m) else None)
+tagged_if tag true m = refl
+tagged_if tag false m = refl
+
+sent_on : (l : Link) (b : Bool) (m : Message) → sending (if b then Some m else None) l ≡ record l { up = l.up ++ (if b then m ∷ [] else []) }
+sent_on l true m = refl
+sent_on l false m = λ i. record l { up = sym (append-nil l.up) i }
+
+-- what a client of either variant is after a change, and what it sends
+pub record IsWished (k : ClientKind) (p : Peer) (up : Bool) (t : TypeName) (wish : Wish) (q : Client × Option Message) : Type 0 where
+  pub wants : Wants
+  pub message : Message
+  pub left : q.0 ≡ clients.changed up t wants p.client
+  pub sent : q.1 ≡ (if is_sent up (shelf p.client t) wants then Some message else None)
+
+abbrev pub wished_is : (k : ClientKind) (p : Peer) (up : Bool) (t : TypeName) (wish : Wish) (q : Client × Option Message) → wish_of k p up t wish ≡ Some q → IsWished k p up t wish q
+wished_is Sotw p up t (Names names) q is =
+    let w : Wants = wants_of names in
+    let m : messages.Request = sotw_request t (node p.client.greeted p.client) (shelf_after up t w p.client) None in
+    let made = changed_ok streams.Sotw (sotw_change up t w p.client) q is in
+    let once = changed_once p.client.broken (sotw_changed up t w p.client) made.0 made.1 in
+    record {
+      wants = w;
+      message = streams.Sotw m;
+      left = ap (λ y. y.0) made.2 ∙ ap (λ y. y.0) once;
+      sent = ap (λ y. y.1) made.2 ∙ ap (λ y. option_map streams.Sotw y.1) once ∙ tagged_if streams.Sotw (is_sent up (shelf p.client t) w) m;
+    }
+wished_is Sotw p up t (Edits subscribe unsubscribe) q is = absurd cc
+wished_is Delta p up t (Names names) q is = absurd cc
+wished_is Delta p up t (Edits subscribe unsubscribe) q is =
+    let s : Wants = wants_of subscribe in
+    let u : Wants = wants_of unsubscribe in
+    let w : Wants = wants_after s u (shelf p.client t).wants in
+    let m : DeltaRequest = delta_request t (node p.client.greeted p.client) s u finmap.empty in
+    let made = changed_ok streams.Delta (delta_change up t s u p.client) q is in
+    let once = changed_once p.client.broken (delta_changed up t s u p.client) made.0 made.1 in
+    record {
+      wants = w;
+      message = streams.Delta m;
+      left = ap (λ y. y.0) made.2 ∙ ap (λ y. y.0) once;
+      sent = ap (λ y. y.1) made.2 ∙ ap (λ y. option_map streams.Delta y.1) once ∙ tagged_if streams.Delta (is_sent up (shelf p.client t) w) m;
+    }
+
+module _ (all : List TypedWrite) where
+  pub changed_as : (k : ClientKind) (p : Peer) (l : Link) (x : Stream) (t : TypeName) (wish : Wish) (q : Client × Option Message) → wish_of k p true t wish ≡ Some q → LinkedAs k all p.client l x → LinkedAs k all q.0 (sending q.1 l) x
+  changed_as Sotw p l x t (Edits subscribe unsubscribe) q is linked = absurd cc
+  changed_as Delta p l x t (Names names) q is linked = absurd cc
+  changed_as Sotw p l x t (Names names) q is linked =
+      let made = wished_is Sotw p true t (Names names) q is in
+      subst (λ y. sotws.Linked all q.0 y x) (sym (sent_on l (is_sent true (shelf p.client t) made.wants) made.message) ∙ ap (λ o. sending o l) (sym made.sent))
+      (subst (λ y. sotws.Linked all y (record l { up = l.up ++ (if is_sent true (shelf p.client t) made.wants then made.message ∷ [] else []) }) x) (sym made.left) (sotws.linked_changed all p.client l x t made.wants linked))
+  changed_as Delta p l x t (Edits subscribe unsubscribe) q is linked =
+      let made = wished_is Delta p true t (Edits subscribe unsubscribe) q is in
+      subst (λ y. queues.Linked all q.0 y x) (sym (sent_on l (is_sent true (shelf p.client t) made.wants) made.message) ∙ ap (λ o. sending o l) (sym made.sent))
+      (subst (λ y. queues.Linked all y (record l { up = l.up ++ (if is_sent true (shelf p.client t) made.wants then made.message ∷ [] else []) }) x) (sym made.left)
+      (takes.linked_changed all p.client l x t (wants_of subscribe) (wants_of unsubscribe) linked))
+
+  pub rests_as : (k : ClientKind) (p : Peer) (t : TypeName) (wish : Wish) (q : Client × Option Message) → wish_of k p false t wish ≡ Some q → ((u : TypeName) → RestsAs k all u (shelf p.client u)) → (u : TypeName) → RestsAs k all u (shelf q.0 u)
+  rests_as Sotw p t wish q is rests u = let made = wished_is Sotw p false t wish q is in subst (λ y. sotws.Rests u (shelf y u)) (sym made.left) (sotws.rests_changed p.client t made.wants rests u)
+  rests_as Delta p t wish q is rests u = let made = wished_is Delta p false t wish q is in subst (λ y. takes.Rests all u (shelf y u)) (sym made.left) (takes.rests_changed all p.client t made.wants rests u)
