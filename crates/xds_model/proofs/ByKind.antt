@@ -1,10 +1,9 @@
 -- What keeps the link of a client, whichever variant it speaks.
-use Rattle.std.proofs.Common.{◌≡◌, ℕ, List, [], ◌∷◌, ◌++◌, Bool, true, false, Option, Some, None, Result, Ok, Err, refl, sym, ap, subst, ◌∙◌, append-nil}
+use Rattle.std.proofs.Common.{◌≡◌, ℕ, List, [], ◌∷◌, ◌++◌, Bool, true, false, Option, Some, None, Ok, Err, refl, sym, ap, subst, ◌∙◌, append-nil}
 use Rattle.std.specs.Prelude.{if◌then◌else◌, option_map}
 use Rattle.std.specs.FinMap as finmap
 use Rattle.xds_resource.specs.declared.types.TypeName.{TypeName}
 use Rattle.xds_resource.specs.declared.refusal.Refusal.TheVariants.{NoStream}
-use Rattle.xds_resource.specs.Types.{types}
 use Rattle.xds_resource.specs.PerType.{at}
 use Rattle.xds_resource.specs.Writes.{text_cmp}
 use Rattle.xds_message.specs.Messages as messages
@@ -18,7 +17,7 @@ use Rattle.xds_cache.specs.Shelves.{Wants, Shelf, bare, wants_of, wants_after}
 use Rattle.xds_cache.specs.Faults.{Test}
 use Rattle.xds_cache.specs.Clients as clients
 use Rattle.xds_cache.specs.Clients.{Client, shelf, shelf_after, node, is_sent, unlinked}
-use Rattle.xds_cache.specs.Sends.{delta_request, sotw_request, is_greeted}
+use Rattle.xds_cache.specs.Sends.{delta_request, sotw_request}
 use Rattle.xds_cache.specs.Receives.{Outcome as ClientOutcome, sotw_change, sotw_changed, delta_change, delta_changed}
 use Rattle.xds_model.specs.declared.event.ClientKind.{ClientKind}
 use Rattle.xds_model.specs.declared.event.ClientKind.TheVariants.{Sotw, Delta}

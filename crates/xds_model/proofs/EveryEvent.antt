@@ -1,5 +1,5 @@
 -- What is kept of all clients is kept by whatever happens.
-use Rattle.std.proofs.Common.{◌≡◌, ◌≢◌, inl, inr, ℕ, ◌+◌, ◌≤◌, List, [], ◌∷◌, ◌++◌, Bool, true, false, ◌&&◌, not, Option, Some, None, Ok, Err, refl, sym, ap, subst, ◌∙◌, append-nil, arith}
+use Rattle.std.proofs.Common.{◌≡◌, ◌≢◌, inl, inr, ℕ, ◌+◌, ◌≤◌, List, [], ◌∷◌, ◌++◌, Bool, true, false, ◌&&◌, not, Option, Some, None, refl, sym, ap, subst, ◌∙◌, arith}
 use Rattle.std.specs.Prelude.{if◌then◌else◌, is_none, is_some, option_map, nat_lt}
 use Rattle.std.specs.Option.{option_and_then}
 use Rattle.std.specs.Ordering.{nat_cmp}
@@ -7,31 +7,25 @@ use Rattle.std.specs.Cmp.{nat_cmp_total}
 use Rattle.std.specs.FinMap as finmap
 use Rattle.std.specs.FinMap.{FinMap, nat_cmp-IsAntisymmetric}
 use Rattle.xds_resource.specs.declared.types.TypeName.{TypeName}
-use Rattle.xds_resource.specs.declared.refusal.Refusal.TheVariants.{NoStream}
 use Rattle.xds_resource.specs.Stamps.{max_writer}
 use Rattle.xds_resource.specs.PerType.{at}
 use Rattle.xds_resource.proofs.TypesApart.{at-each}
 use Rattle.xds_catalogue.proofs.Lookups.{get-inserted}
-use Rattle.xds_message.specs.DeltaMessages.{DeltaRequest}
 use Rattle.xds_draft.specs.declared.draft.Draft.{Draft}
 use Rattle.xds_core.specs.Laws.{stream_changed}
-use Rattle.xds_core.specs.Stores.{Store}
-use Rattle.xds_core.specs.Streams as streams
 use Rattle.xds_core.specs.Streams.{Stream, Message, opening, requested, polled_first, looked_at}
 use Rattle.xds_core.specs.Events as events
 use Rattle.xds_core.specs.Events.{Event, Reply, Opened, Answered, Polled, Owed, Closed, Written, Merged, Entries}
 use Rattle.xds_core.specs.Steps.{Core, fresh as fresh_core}
-use Rattle.xds_cache.specs.Shelves.{Wants, bare, wants_of, wants_after}
+use Rattle.xds_cache.specs.Shelves.{bare}
 use Rattle.xds_cache.specs.Faults.{Test}
 use Rattle.xds_cache.specs.Clients as clients
 use Rattle.xds_cache.specs.Clients.{Client, shelf, node, is_sent, unlinked}
-use Rattle.xds_cache.specs.Sends.{delta_request, is_greeted}
+use Rattle.xds_cache.specs.Sends.{is_greeted}
 use Rattle.xds_resource.specs.Types.{types}
-use Rattle.xds_cache.specs.Receives.{Outcome as ClientOutcome, delta_change, delta_changed}
 use Rattle.xds_model.specs.declared.event.ClientKind.{ClientKind}
-use Rattle.xds_model.specs.declared.event.ClientKind.TheVariants.{Delta}
-use Rattle.xds_model.specs.Happenings.{Happening, Wish, Names, Edits, AddReplica, AddClient, Put, Delete, Snapshot, Merge, Connect, Change, Up, Poll, Down, Lose}
-use Rattle.xds_model.specs.Worlds.{Site, Link, Peer, World, empty_world, at_site, happened_at, placed, pooled, with_peer, new_peer, connected_to, opened, sending, changed, changed_by, wish_of, wish_taken, under_way, polled, up_taken, received, received_in, taken_down, down_taken, opening_requests, on_link, is_free, happens}
+use Rattle.xds_model.specs.Happenings.{Happening, Wish, AddReplica, AddClient, Put, Delete, Snapshot, Merge, Connect, Change, Up, Poll, Down, Lose}
+use Rattle.xds_model.specs.Worlds.{Site, Link, Peer, World, empty_world, at_site, happened_at, placed, pooled, with_peer, new_peer, connected_to, opened, sending, changed, wish_of, wish_taken, under_way, polled, up_taken, received, taken_down, down_taken, opening_requests, on_link, is_free, happens}
 use Rattle.xds_model.specs.Knows.{TypedWrite}
 use Rattle.xds_model.proofs.Replicas.{some_is, bound_some, mapped_some, if_some, both_parts, none_there}
 use Rattle.xds_model.proofs.Delivering.{AllKnown}
@@ -147,8 +141,8 @@ fine_poll w left all c p l which known has link is fine =
       sym (ap (λ y. y.stream) is_k),
       now,
       subst (λ y. LinkedAs p.kind all p.client y at_core.1.1) is_k
-      (poll_as all p.kind x.site.core.replica x.site.core.store p.client l here.0 at_core.1.1 (looked_at which) o (λ t. known l.replica x.site t x.has)
-      (ap (λ s. polled_first x.site.core.replica x.site.core.store s (looked_at which)) (sym same) ∙ at_core.3) here.2),
+          (poll_as all p.kind x.site.core.replica x.site.core.store p.client l here.0 at_core.1.1 (looked_at which) o (λ t. known l.replica x.site t x.has)
+          (ap (λ s. polled_first x.site.core.replica x.site.core.store s (looked_at which)) (sym same) ∙ at_core.3) here.2),
     ))
     (λ none. absurd (never_link (record l { down = l.down ++ under_way o }) none)) (still_counted w left all c p l has link fine e q x (ap (λ y. y.sites) left_is))
 
@@ -209,7 +203,7 @@ fine_connect w left all c r p has none is fine =
       opening,
       (λ i. stream_at left (ap (λ y. y.replica) (sym is_k) i) (ap (λ y. y.stream) (sym is_k) i)) ∙ now,
       subst (λ y. LinkedAs p.kind all (clients.linked (is_greeted p.client false types) p.client) y opening) is_k
-      (opened_as all p.kind p.client r n (is_greeted p.client false types) (fine.downs c p has none)),
+          (opened_as all p.kind p.client r n (is_greeted p.client false types) (fine.downs c p has none)),
     ))
     (λ never. absurd (never_link (record { replica = r; stream = n; up = opening_requests p.kind p.client; down = [] }) never))
     (λ d s k m other has_d at_k link_d same_replica same_number. let is_k = some_is (record { replica = r; stream = n; up = opening_requests p.kind p.client; down = [] }) k at_k in

@@ -13,7 +13,6 @@ use Rattle.xds_core.specs.Steps.{Core, step}
 use Rattle.xds_core.specs.Legal.{left_by}
 use Rattle.xds_core.proofs.StepLaws.{streams_stand_apart}
 use Rattle.xds_cache.specs.Clients.{shelf}
-use Rattle.xds_model.specs.declared.event.ClientKind.TheVariants.{Delta}
 use Rattle.xds_model.specs.Worlds.{Site, Link, Peer, World, recorded, at_site}
 use Rattle.xds_model.specs.Knows.{TypedWrite}
 use Rattle.xds_model.proofs.Replicas.{answered, some_is}

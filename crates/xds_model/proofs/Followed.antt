@@ -1,5 +1,5 @@
 -- Where clients are linked and what they want, as the list of happenings tells it, is where they are linked and what they want.
-use Rattle.std.proofs.Common.{◌≡◌, ◌≢◌, inl, inr, ℕ, List, [], ◌∷◌, ◌++◌, Bool, true, false, Option, Some, None, Result, Ok, Err, refl, sym, ap, subst, ◌∙◌}
+use Rattle.std.proofs.Common.{◌≡◌, ◌≢◌, inl, inr, ℕ, List, [], ◌∷◌, ◌++◌, Bool, true, false, Option, Some, None, refl, sym, ap, subst, ◌∙◌}
 use Rattle.std.specs.Prelude.{◌==◌, if◌then◌else◌, is_none, is_some, option_map}
 use Rattle.std.specs.Option.{option_and_then, option_map_or}
 use Rattle.std.specs.Ordering.{nat_cmp}
@@ -8,8 +8,6 @@ use Rattle.std.specs.FinMap as finmap
 use Rattle.std.specs.FinMap.{nat_cmp-IsAntisymmetric}
 use Rattle.std.proofs.lemmas.Bool.Decides.{eqb_tells}
 use Rattle.xds_resource.specs.declared.types.TypeName.{TypeName}
-use Rattle.xds_resource.specs.declared.refusal.Refusal.{Refusal}
-use Rattle.xds_resource.specs.declared.refusal.Refusal.TheVariants.{NoStream}
 use Rattle.xds_resource.specs.Types.{types, is_same_type}
 use Rattle.xds_resource.specs.PerType.{at, with_at}
 use Rattle.xds_resource.proofs.TypesApart.{same_type, at-with_at, at-with_at_other, at-each}
@@ -29,11 +27,11 @@ use Rattle.xds_cache.specs.Clients as clients
 use Rattle.xds_cache.specs.Clients.{Client, shelf, with_shelf, unlinked, shelf_after, addressing}
 use Rattle.xds_cache.specs.Deliveries.{Delivery, delivered, fault_in, taking, rejecting, sotw_delivery, delta_delivery}
 use Rattle.xds_cache.specs.Sends.{is_greeted}
-use Rattle.xds_cache.specs.Receives.{Outcome, sotw_change, sotw_changed, delta_change, delta_changed, sotw_answered, delta_answered, sotw_receive, delta_receive, if_addressed}
+use Rattle.xds_cache.specs.Receives.{sotw_change, sotw_changed, delta_change, delta_changed, sotw_answered, delta_answered, sotw_receive, delta_receive}
 use Rattle.xds_model.specs.declared.event.ClientKind.{ClientKind}
 use Rattle.xds_model.specs.declared.event.ClientKind.TheVariants.{Sotw, Delta}
 use Rattle.xds_model.specs.Happenings.{Happening, Wish, Names, Edits, AddReplica, AddClient, Put, Delete, Snapshot, Merge, Connect, Change, Up, Poll, Down, Lose}
-use Rattle.xds_model.specs.Worlds.{Site, Link, Peer, World, empty_world, at_site, happened_at, placed, pooled, with_peer, new_peer, connected_to, opened, sending, changed, wish_of, wish_taken, under_way, polled, up_taken, received, received_in, received_by, taken_down, down_taken, is_free, happens, after}
+use Rattle.xds_model.specs.Worlds.{Site, Link, Peer, World, empty_world, at_site, happened_at, placed, pooled, with_peer, new_peer, connected_to, opened, sending, changed, wish_of, wish_taken, under_way, polled, up_taken, received, received_in, taken_down, down_taken, is_free, happens, after}
 use Rattle.xds_model.specs.Knows.{wished, wishing, wanted_after, wants, linking, linked_after, link}
 use Rattle.xds_model.specs.Claims.{LinksAreFollowed}
 use Rattle.xds_model.proofs.Replicas.{some_is, bound_some, mapped_some, if_some, none_there}

@@ -13,17 +13,18 @@ use Rattle.xds_cache.specs.Clients.{shelf}
 use Rattle.xds_cache.specs.Faults.{Test}
 use Rattle.xds_model.specs.Happenings.{Happening}
 use Rattle.xds_model.specs.Worlds.{Site, Link, Peer, World, empty_world, happens, after, world}
-use Rattle.xds_model.specs.Knows.{TypedWrite, Knowledge, nothing_known, learned, known_after, knows, made_now, made_after, wants}
-use Rattle.xds_model.specs.Claims.{writes_of, holding_of, PutResources, PutsAResource, SettledIsExact, is_quiet, owes_nothing, is_settled_on, is_settled}
+use Rattle.xds_model.specs.Knows.{TypedWrite, Knowledge, nothing_known, learned, known_after, knows, made_now, made_after, wants, link}
+use Rattle.xds_model.specs.Claims.{writes_of, holding_of, content_at, PutResources, PutsAResource, SettledIsExact, SettledAgrees, is_quiet, owes_nothing, is_settled_on, is_settled}
 use Rattle.xds_model.proofs.Replicas.{Kept, kept_start, kept_step, some_is}
 use Rattle.xds_model.proofs.Origins.{Stamped, stamped_start, stamped_step}
 use Rattle.xds_model.proofs.Ranges.{Ranged, ranged_start, ranged_step, sites_known}
-use Rattle.xds_model.proofs.Queues.{Linked}
 use Rattle.xds_model.proofs.ByKind.{LinkedAs}
 use Rattle.xds_model.proofs.Everyone.{stream_at, Fine}
 use Rattle.xds_model.proofs.EveryEvent.{fine_start, fine_step}
 use Rattle.xds_model.proofs.More.{fine_more}
+use Rattle.xds_model.proofs.Delivering.{AllKnown, live}
 use Rattle.xds_model.proofs.Settled.{link_shows}
+use Rattle.xds_model.proofs.SotwSettled.{link_shows as sotw_link_shows}
 use Rattle.xds_model.proofs.Followed.{linked_to, wanted_of, link_is, wants_are}
 
 -- all that is kept of a world
@@ -87,9 +88,20 @@ at_rest w c p t has settled =
     let stream = found_true (λ x. not (owes_of site.0.core.store x t)) (finmap.get site.0.core.streams up.0.stream) site.2 in
     record { link = up.0; linked = up.1; quiet = parts.0; site = site.0; there = site.1; stream = stream.0; opened = stream.1; nothing = opposite (owes_of site.0.core.store stream.0 t) stream.2 }
 
--- the clients' half, for delta clients
-pub settled_is_exact : (test : Test) (hs : List Happening) → PutResources hs → SettledIsExact test hs
-settled_is_exact test hs put c r p t has delta linked settled name =
+-- the same with what is kept of its link: its stream, its replica, and what that holds
+pub record Settled (test : Test) (hs : List Happening) (c r : ℕ) (p : Peer) (t : TypeName) : Type 0 where
+  pub link : Link
+  pub site : Site
+  pub stream : Stream
+  pub quiet : is_quiet t link ≡ true
+  pub nothing : owes_of site.core.store stream t ≡ false
+  pub linked : LinkedAs p.kind (made_after test empty_world [] hs) p.client link stream
+  pub known : AllKnown (made_after test empty_world [] hs) t (at site.core.store t).entries
+  pub held : (name : List ℕ) → finmap.get (at site.core.store t).entries name ≡ best (writes_of t (knows test hs r)) name
+  pub wanted : wants test hs c t ≡ (shelf p.client t).wants
+
+pub settled_link : (test : Test) (hs : List Happening) (c r : ℕ) (p : Peer) (t : TypeName) → PutResources hs → finmap.get (world test hs).peers c ≡ Some p → link test hs c ≡ Some r → is_settled (world test hs) c t ≡ true → Settled test hs c r p t
+settled_link test hs c r p t put has linked settled =
     let w : World = world test hs in
     let k : Knowledge = known_after test empty_world nothing_known hs in
     let all : List TypedWrite = made_after test empty_world [] hs in
@@ -99,9 +111,39 @@ settled_is_exact test hs put c r p t has delta linked settled name =
     let there : stream_at w rest.link.replica rest.link.stream ≡ Some rest.stream = ap (λ o. option_and_then (λ (s : Site). finmap.get s.core.streams rest.link.stream) o) rest.there ∙ rest.opened in
     let same : here.0 ≡ rest.stream = some_is here.0 rest.stream (sym here.1 ∙ there) in
     let replica : rest.link.replica ≡ r = some_is rest.link.replica r (ap (option_map (λ l. l.replica)) (sym rest.linked) ∙ ap linked_to (sym has) ∙ sym (link_is test hs c) ∙ linked) in
-    let wanted : wants test hs c t ≡ (shelf p.client t).wants = wants_are test hs c t ∙ ap (wanted_of t) has in
-    let held : finmap.get (at rest.site.core.store t).entries name ≡ best (writes_of t (knows test hs r)) name =
-    ap (λ m. finmap.get m name) (all_sure.kept.holds rest.link.replica rest.site t rest.there) ∙ get-catalogue_of (writes_of t (k.at rest.link.replica)) name ∙ ap (λ n. best (writes_of t (k.at n)) name) replica in
-    link_shows all t p.client rest.link rest.stream rest.site.core.store name (subst (Linked all p.client rest.link) same (subst (λ v. LinkedAs v all p.client rest.link here.0) delta here.2)) all_sure.stamped.unique all_sure.ranged.stamps
-    (sites_known w k all all_sure.kept all_sure.stamped all_sure.ranged rest.link.replica rest.site t rest.there) rest.quiet rest.nothing
-    ∙ (λ i. if is_wanted t (sym wanted i) name then option_and_then holding_of (held i) else None)
+    record {
+      link = rest.link;
+      site = rest.site;
+      stream = rest.stream;
+      quiet = rest.quiet;
+      nothing = rest.nothing;
+      linked = subst (LinkedAs p.kind all p.client rest.link) same here.2;
+      known = sites_known w k all all_sure.kept all_sure.stamped all_sure.ranged rest.link.replica rest.site t rest.there;
+      held = λ name.
+          ap (λ m. finmap.get m name) (all_sure.kept.holds rest.link.replica rest.site t rest.there) ∙ get-catalogue_of (writes_of t (k.at rest.link.replica)) name ∙ ap (λ n. best (writes_of t (k.at n)) name) replica;
+      wanted = wants_are test hs c t ∙ ap (wanted_of t) has;
+    }
+
+-- what is to be shown, by what the replica holds and by what it knows
+shown_is : (test : Test) (hs : List Happening) (c r : ℕ) (p : Peer) (t : TypeName) (name : List ℕ) → (s : Settled test hs c r p t)
+    → (if is_wanted t (shelf p.client t).wants name then live (at s.site.core.store t).entries name else None) ≡ content_at t (writes_of t (knows test hs r)) (wants test hs c t) name
+shown_is test hs c r p t name s = λ i. if is_wanted t (sym s.wanted i) name then option_and_then holding_of (s.held name i) else None
+
+-- the clients' half, for delta clients
+pub settled_is_exact : (test : Test) (hs : List Happening) → PutResources hs → SettledIsExact test hs
+settled_is_exact test hs put c r p t has delta linked settled name =
+    let all : List TypedWrite = made_after test empty_world [] hs in
+    let all_sure = sure test hs put in
+    let s = settled_link test hs c r p t put has linked settled in
+    link_shows all t p.client s.link s.stream s.site.core.store name (subst (λ v. LinkedAs v all p.client s.link s.stream) delta s.linked) all_sure.stamped.unique all_sure.ranged.stamps s.known s.quiet s.nothing ∙ shown_is test hs c r p t name s
+
+-- and for clients of the state of the world
+pub settled_agrees : (test : Test) (hs : List Happening) → PutResources hs → SettledAgrees test hs
+settled_agrees test hs put c r p t has sotw linked settled =
+    let all : List TypedWrite = made_after test empty_world [] hs in
+    let all_sure = sure test hs put in
+    let s = settled_link test hs c r p t put has linked settled in
+    let shows = sotw_link_shows all t p.client s.link s.stream s.site.core.store (subst (λ v. LinkedAs v all p.client s.link s.stream) sotw s.linked) all_sure.stamped.unique all_sure.ranged.stamps s.known s.quiet s.nothing in (
+      λ complete name. shows.exact name complete ∙ ap (option_map (λ h. h.body)) (shown_is test hs c r p t name s),
+      (λ name h is. shows.agrees name h (shown_is test hs c r p t name s ∙ is), λ name unwanted. shows.within name (ap (λ w. is_wanted t w name) (sym s.wanted) ∙ unwanted)),
+    )

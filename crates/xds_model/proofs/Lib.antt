@@ -22,5 +22,6 @@ pub mod EveryEvent
 pub mod Ranges
 pub mod More
 pub mod Settled
+pub mod SotwSettled
 pub mod Followed
 pub mod Headline

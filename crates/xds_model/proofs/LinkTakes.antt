@@ -1,6 +1,6 @@
 -- What keeps a link's lanes on the client's side: a response that it takes, a change, the start of a stream and its loss.
-use Rattle.std.proofs.Common.{◌≡◌, ◌≢◌, ◌⊎◌, inl, inr, ℕ, zero, List, [], ◌∷◌, ◌++◌, map, Bool, true, false, ◌&&◌, ◌||◌, Option, Some, None, Result, Ok, Err, refl, sym, ap, subst, ◌∙◌, append-nil, arith}
-use Rattle.std.specs.Prelude.{bytes_eq, if◌then◌else◌, is_some, ⊤}
+use Rattle.std.proofs.Common.{◌≡◌, ◌≢◌, ◌⊎◌, inl, inr, ℕ, zero, List, [], ◌∷◌, ◌++◌, Bool, true, false, ◌&&◌, ◌||◌, Option, Some, None, Result, Ok, Err, refl, sym, ap, subst, ◌∙◌, append-nil, arith}
+use Rattle.std.specs.Prelude.{bytes_eq, if◌then◌else◌, is_some}
 use Rattle.std.specs.Option.{option_and_then}
 use Rattle.std.specs.List.{cons_option, list_any}
 use Rattle.std.specs.FinMap as finmap
@@ -31,7 +31,7 @@ use Rattle.xds_cache.specs.Shelves.{Wants, Holding, Cache, Shelf, texts, interes
 use Rattle.xds_cache.specs.Faults.{Test}
 use Rattle.xds_cache.specs.Clients.{Client, shelf, with_shelf, node, is_sent, shelf_after, changed, linked, unlinked, addressing, addressed_or, if_asked}
 use Rattle.xds_cache.specs.Deliveries.{delta_delivery, fault_in, delivered}
-use Rattle.xds_cache.specs.Sends.{delta_request, delta_answer, held_version, held_versions, delta_first, first_requests}
+use Rattle.xds_cache.specs.Sends.{delta_request, delta_answer, held_version, held_versions, delta_first}
 use Rattle.xds_cache.specs.Receives.{Outcome, delta_receive, delta_answered, if_addressed}
 use Rattle.xds_cache.proofs.Interests.{kept_by_name, holds_what_is_wanted, first_change_is_asked, first_is_asked}
 use Rattle.xds_model.specs.declared.event.ClientKind.TheVariants.{Delta}

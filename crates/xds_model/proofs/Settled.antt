@@ -58,7 +58,7 @@ held_version_is w h None is = absurd cc
 held_version_is w h (Some body) is = ap (λ x. x.version) (sym (some_is (record { version = version_of w; body = body }) h is))
 
 -- two writes of a version are one
-one_write : (all : List TypedWrite) (t : TypeName) (w v : StampedWrite) → IsUnique all → AllStamped all → Contains all (t, w) → Contains all (t, v) → version_of w ≡ version_of v → w ≡ v
+pub one_write : (all : List TypedWrite) (t : TypeName) (w v : StampedWrite) → IsUnique all → AllStamped all → Contains all (t, w) → Contains all (t, v) → version_of w ≡ version_of v → w ≡ v
 one_write all t w v unique stamped made_w made_v same =
     let parts = version_text_injective w.counter w.writer v.counter v.writer (stamped (t, w) made_w) (stamped (t, v) made_v) same in
     ap (λ (x : TypedWrite). x.1) (unique (t, w) (t, v) made_w made_v refl parts.0 parts.1)
@@ -114,7 +114,7 @@ none_up : (t : TypeName) (ms : List Message) → list_any (asks_for t) ms ≡ fa
 none_up t [] none = refl
 none_up t (m ∷ ms) none = let parts = or_parts (asks_for t m) (list_any (asks_for t) ms) none in ap (λ o. cons_option o (lane_up t ms)) (ap (λ b. if b then delta_in m else None) parts.0) ∙ none_up t ms parts.1
 
-none_down : (t : TypeName) (ds : List Draft) → list_any (λ d. is_same_type (kind_of d) t) ds ≡ false → lane_down t ds ≡ []
+pub none_down : (t : TypeName) (ds : List Draft) → list_any (λ d. is_same_type (kind_of d) t) ds ≡ false → lane_down t ds ≡ []
 none_down t [] none = refl
 none_down t (d ∷ ds) none =
     let parts = or_parts (is_same_type (kind_of d) t) (list_any (λ e. is_same_type (kind_of e) t) ds) none in ap (λ b. if b then d ∷ lane_down t ds else lane_down t ds) parts.0 ∙ none_down t ds parts.1
@@ -123,7 +123,7 @@ none_listed : (down : Option DraftedDelta) → [] ≡ listed_draft down → down
 none_listed None is = refl
 none_listed (Some d) is = absurd cc
 
-both_false : (a b : Bool) → (not a && not b) ≡ true → (a ≡ false) × (b ≡ false)
+pub both_false : (a b : Bool) → (not a && not b) ≡ true → (a ≡ false) × (b ≡ false)
 both_false true b is = absurd cc
 both_false false true is = absurd cc
 both_false false false is = (refl, refl)

@@ -1,6 +1,6 @@
 -- What a response of the state of the world says of each name: what its offer says.
-use Rattle.std.proofs.Common.{◌≡◌, ℕ, List, [], ◌∷◌, map, Bool, true, false, cond, ◌&&◌, ◌||◌, not, Option, Some, None, refl, sym, ap, subst, ◌∙◌}
-use Rattle.std.specs.Prelude.{bytes_eq, if◌then◌else◌, is_some, option_map, Contains}
+use Rattle.std.proofs.Common.{◌≡◌, ℕ, List, [], ◌∷◌, map, Bool, true, false, cond, ◌&&◌, ◌||◌, Option, Some, None, refl, sym, ap, ◌∙◌}
+use Rattle.std.specs.Prelude.{bytes_eq, if◌then◌else◌, is_some, option_map}
 use Rattle.std.specs.Option.{option_or, option_and_then, option_map_or}
 use Rattle.std.specs.List.{filter, filter_map, cons_option}
 use Rattle.std.specs.FinMap as finmap
@@ -12,14 +12,13 @@ use Rattle.xds_resource.proofs.NameMaps.{has_text, get-insert, has_text-keys, by
 use Rattle.xds_resource.proofs.MadeMaps.{EachFound, each_found}
 use Rattle.xds_interest.specs.Interests.{Selection, covers}
 use Rattle.xds_catalogue.specs.Holdings.{Holdings, Entries}
-use Rattle.xds_catalogue.specs.Content.{is_live, is_shown, content}
-use Rattle.xds_draft.specs.Drafts.{message_of}
+use Rattle.xds_catalogue.specs.Content.{is_shown}
 use Rattle.xds_ledger.specs.declared.variant.VariantName.TheVariants.{StateOfTheWorld}
 use Rattle.xds_ledger.specs.declared.entry.Entry.{Entry}
 use Rattle.xds_ledger.specs.declared.entry.Due.{Due}
 use Rattle.xds_ledger.specs.declared.entry.Due.TheVariants.{Stated, Removed}
 use Rattle.xds_ledger.specs.Variants.{is_told}
-use Rattle.xds_ledger.specs.Owed.{Beliefs, live_version, present, owed, owed_of}
+use Rattle.xds_ledger.specs.Owed.{Beliefs, live_version, present, owed}
 use Rattle.xds_ledger.specs.Offers.{Offer, offer, stated_version}
 use Rattle.xds_ledger.proofs.ByName.{offer_says_it}
 use Rattle.xds_sotw.specs.Polls.{response, stated_writes}
@@ -144,7 +143,7 @@ module _ (all : List TypedWrite) (t : TypeName) (m : Entries) (s : Selection) (o
         some_is (version_of w) version (sym (ap (λ b. if is_some b then Some (version_of w) else None) body) ∙ is),
         body,
         states
-        ∙ (λ i. option_or (held_of ((is_some (body i) && (ap (covers s) of.named ∙ covers_it) i) && (ap (λ n. is_some (finmap.get o n)) of.named ∙ offered) i) (body i)) None),
+            ∙ (λ i. option_or (held_of ((is_some (body i) && (ap (covers s) of.named ∙ covers_it) i) && (ap (λ n. is_some (finmap.get o n)) of.named ∙ offered) i) (body i)) None),
       )
 
   -- and one that isn't

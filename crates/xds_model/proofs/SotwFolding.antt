@@ -1,6 +1,6 @@
 -- A session of the state of the world after all requests that are under way: taking them one after another, and sending meanwhile.
 use Rattle.std.proofs.Common.{◌≡◌, ℕ, List, [], ◌∷◌, ◌++◌, Bool, true, false, ◌&&◌, ◌||◌, Option, Some, None, refl, sym, ap, subst, ◌∙◌, append_assoc, append-nil}
-use Rattle.std.specs.Prelude.{bytes_eq, if◌then◌else◌, is_some, is_none, option_map, not, ⊤}
+use Rattle.std.specs.Prelude.{bytes_eq, if◌then◌else◌, is_some, option_map, ⊤}
 use Rattle.std.specs.Option.{option_map_or}
 use Rattle.std.specs.List.{list_any}
 use Rattle.std.specs.FinMap as finmap
@@ -8,8 +8,8 @@ use Rattle.std.specs.FinSet as set
 use Rattle.std.proofs.lemmas.Bool.{or_parts}
 use Rattle.xds_resource.specs.declared.types.TypeName.{TypeName}
 use Rattle.xds_interest.specs.Interests.{covers}
-use Rattle.xds_interest.specs.Asked.{Asked, sotw_asked}
-use Rattle.xds_interest.specs.Touches.{Touch, touches, sotw_touch}
+use Rattle.xds_interest.specs.Asked.{Asked}
+use Rattle.xds_interest.specs.Touches.{Touch, touches}
 use Rattle.xds_interest.proofs.AskedLaws.{untouched_keeps_cover_of_kept}
 use Rattle.xds_message.specs.Messages.{Request}
 use Rattle.xds_ledger.specs.declared.variant.VariantName.TheVariants.{StateOfTheWorld}
@@ -22,9 +22,8 @@ use Rattle.xds_ledger.specs.Laws.{with_sent}
 use Rattle.xds_ledger.proofs.Settling.{sending_commutes}
 use Rattle.xds_sotw.specs.Polls.{take}
 use Rattle.xds_model.proofs.ByOneName.{believed_after}
-use Rattle.xds_model.proofs.Folding.{never_stale, taken_meanwhile}
+use Rattle.xds_model.proofs.Folding.{taken_meanwhile}
 use Rattle.xds_model.proofs.Lanes.{believed_by_name, nothing_resumed}
-use Rattle.xds_model.proofs.LaneSteps.{never_told}
 
 -- the names and the answer of a request
 abbrev pub names_of : TypeName → Asked → Request → Names

@@ -1,46 +1,34 @@
 -- One client and one type of the state of the world: the session as it will be once all requests under way are taken, against what
 -- the client holds; and what keeps them abreast.
-use Rattle.std.proofs.Common.{◌≡◌, ◌≢◌, ◌⊎◌, inl, inr, ℕ, suc, List, [], ◌∷◌, ◌++◌, Bool, true, false, ◌&&◌, ◌||◌, not, Option, Some, None, refl, sym, ap, subst, ◌∙◌, ◌≤◌}
-use Rattle.std.specs.Prelude.{bytes_eq, if◌then◌else◌, is_some, is_none, option_map, Contains, ⊤}
-use Rattle.std.specs.Option.{option_or, option_map_or}
-use Rattle.std.specs.List.{list_any}
+use Rattle.std.proofs.Common.{◌≡◌, ◌⊎◌, inl, inr, ℕ, List, [], Bool, true, false, ◌||◌, Option, Some, None, refl, sym, ap, subst, ◌∙◌}
+use Rattle.std.specs.Prelude.{bytes_eq, if◌then◌else◌, is_some, option_map, Contains}
+use Rattle.std.specs.Option.{option_or}
 use Rattle.std.specs.FinMap as finmap
 use Rattle.std.specs.FinSet as set
-use Rattle.std.proofs.Math.Bool.{and-false}
-use Rattle.std.proofs.lemmas.Bool.{or_parts}
-use Rattle.std.proofs.lemmas.List.Folds.{list_any-append}
 use Rattle.xds_resource.specs.declared.types.TypeName.{TypeName}
 use Rattle.xds_resource.specs.Types.{row}
-use Rattle.xds_resource.specs.Stamps.{max_counter}
 use Rattle.xds_resource.specs.Writes.{StampedWrite, version_of, text_cmp}
-use Rattle.xds_resource.proofs.NameMaps.{bytes_eq_same}
-use Rattle.xds_interest.specs.Interests.{Selection, covers, star_text}
-use Rattle.xds_interest.specs.Asked.{Asked, unasked, sotw_asked}
-use Rattle.xds_interest.specs.Touched.{exactly_one, sotw_touches}
-use Rattle.xds_interest.specs.Touches.{Touch, touches, sotw_touch}
-use Rattle.xds_interest.proofs.AskedLaws.{sotw_touch_is_a_set, untouched_keeps_cover_of_kept}
-use Rattle.xds_message.specs.Messages.{Identity, Request}
+use Rattle.xds_interest.specs.Interests.{Selection, covers}
+use Rattle.xds_interest.specs.Asked.{Asked, sotw_asked}
+use Rattle.xds_interest.specs.Touched.{exactly_one}
+use Rattle.xds_interest.specs.Touches.{touches, sotw_touch}
+use Rattle.xds_interest.proofs.AskedLaws.{sotw_touch_is_a_set}
+use Rattle.xds_message.specs.Messages.{Request}
 use Rattle.xds_draft.specs.Drafts.{Drafted, message_of}
 use Rattle.xds_ledger.specs.declared.variant.VariantName.TheVariants.{StateOfTheWorld}
 use Rattle.xds_ledger.specs.declared.entry.Entry.{Entry}
-use Rattle.xds_ledger.specs.declared.entry.Entry.TheVariants.{Told, Unsure}
+use Rattle.xds_ledger.specs.declared.entry.Entry.TheVariants.{Told}
 use Rattle.xds_ledger.specs.declared.entry.Due.{Due}
 use Rattle.xds_ledger.specs.declared.entry.Due.TheVariants.{Stated, Removed}
-use Rattle.xds_ledger.specs.Offers.{Offer}
-use Rattle.xds_ledger.specs.Ledgers.{Account, Sent, nonce_text, was_touched, touched_since, settled, answered, believed_accepted, once_told}
-use Rattle.xds_ledger.specs.Sessions.{Session, Names, unopened, is_taken, taken, send}
-use Rattle.xds_ledger.proofs.ByName.{accepted_by_name}
+use Rattle.xds_ledger.specs.Ledgers.{Account, Sent, nonce_text, was_touched, touched_since, settled, answered, believed_accepted}
+use Rattle.xds_ledger.specs.Sessions.{Session, Names, unopened, taken}
 use Rattle.xds_sotw.specs.Polls.{take}
-use Rattle.xds_cache.specs.Shelves.{Wants, Holding, Cache, Shelf, texts, interest, is_wanted, wants_some, wanting, kept_of}
-use Rattle.xds_cache.specs.Faults.{Test}
-use Rattle.xds_cache.specs.Deliveries.{Delivery, sotw_delivery, fault_in, statements, cache_after, taking, rejecting, delivered}
-use Rattle.xds_cache.specs.Sends.{failure, sotw_request}
-use Rattle.xds_cache.proofs.Interests.{wants_what_is_covered, shown_by_name, kept_by_name, holds_what_is_wanted}
+use Rattle.xds_cache.specs.Shelves.{Wants, Holding, Cache, Shelf, texts, interest, is_wanted, wants_some}
+use Rattle.xds_cache.specs.Deliveries.{sotw_delivery, statements}
 use Rattle.xds_model.specs.Knows.{TypedWrite}
 use Rattle.xds_model.proofs.ByOneName.{believed_after}
 use Rattle.xds_model.proofs.Lanes.{believed_by_name, nothing_resumed, settles, taken_if_sent}
-use Rattle.xds_model.proofs.LaneSteps.{never_told}
-use Rattle.xds_model.proofs.SotwFolding.{names_of, answer_of, folded, AllTaken, NoneAnswers, touched_by, take_is, believed_quiet, quiet_folded, sending_folded, untouched_folded, touched_folded}
+use Rattle.xds_model.proofs.SotwFolding.{names_of, answer_of, take_is}
 
 -- ---- what is kept
 

@@ -1,12 +1,11 @@
 -- What is under way on a link of the state of the world, of one type, and what keeps all lanes of such a link.
-use Rattle.std.proofs.Common.{◌≡◌, ◌≢◌, ◌⊎◌, inl, inr, ℕ, zero, suc, ◌+◌, ◌≤◌, ◌<◌, List, [], ◌∷◌, ◌++◌, map, Bool, true, false, cond, ◌&&◌, ◌||◌, not, Option, Some, None, Result, Ok, Err, refl, sym, ap, subst, ◌∙◌, append-nil, arith}
-use Rattle.std.specs.Prelude.{◌==◌, bytes_eq, if◌then◌else◌, is_some, is_none, option_map, length, Contains, ⊤}
+use Rattle.std.proofs.Common.{◌≡◌, ◌≢◌, ◌⊎◌, inl, inr, ℕ, zero, suc, ◌+◌, ◌≤◌, List, [], ◌∷◌, ◌++◌, Bool, true, false, ◌&&◌, not, Option, Some, None, Ok, Err, refl, sym, ap, subst, ◌∙◌, append-nil, arith}
+use Rattle.std.specs.Prelude.{◌==◌, bytes_eq, if◌then◌else◌, is_none, option_map, length, ⊤}
 use Rattle.std.specs.Option.{option_map_or, option_and_then}
-use Rattle.std.specs.List.{filter, filter_map, cons_option}
+use Rattle.std.specs.List.{filter_map, cons_option}
 use Rattle.std.specs.FinMap as finmap
 use Rattle.xds_resource.specs.declared.types.TypeName.{TypeName}
-use Rattle.xds_resource.specs.declared.refusal.Refusal.{Refusal}
-use Rattle.xds_resource.specs.declared.refusal.Refusal.TheVariants.{BadMessage, WrongVariant, NoStream}
+use Rattle.xds_resource.specs.declared.refusal.Refusal.TheVariants.{BadMessage, NoStream}
 use Rattle.xds_resource.specs.Types.{row, types, type_of_url, is_same_type}
 use Rattle.xds_resource.specs.Stamps.{max_counter}
 use Rattle.xds_resource.specs.Writes.{text_cmp}
@@ -17,7 +16,6 @@ use Rattle.xds_catalogue.specs.Holdings.{Entries}
 use Rattle.xds_draft.specs.declared.draft.Draft.{Draft}
 use Rattle.xds_draft.specs.declared.draft.Draft.TheVariants as drafts
 use Rattle.xds_draft.specs.Drafts.{Drafted, message_of}
-use Rattle.xds_draft.specs.DraftTexts.{kind_of}
 use Rattle.xds_ledger.specs.declared.outcome.Outcome.{Outcome}
 use Rattle.xds_ledger.specs.declared.entry.Entry.TheVariants.{Told}
 use Rattle.xds_ledger.specs.declared.variant.VariantName.TheVariants.{StateOfTheWorld}
@@ -31,11 +29,11 @@ use Rattle.xds_core.specs.Stores.{Store}
 use Rattle.xds_core.specs.Streams as streams
 use Rattle.xds_core.specs.Streams.{Stream, Message, opening, is_foreign, answered_by, answered, requested, to_send, response_of}
 use Rattle.xds_core.proofs.StepLaws.{unless_once}
-use Rattle.xds_cache.specs.Shelves.{Wants, Holding, Shelf, texts, is_wanted, wants_some, wanting, kept_of, connected, lost}
+use Rattle.xds_cache.specs.Shelves.{Wants, Shelf, texts, is_wanted, wants_some, wanting, connected}
 use Rattle.xds_cache.specs.Faults.{Test}
 use Rattle.xds_cache.specs.Clients.{Client, shelf, with_shelf, node, is_sent, shelf_after, changed, linked, unlinked, addressing, addressed_or, if_asked}
 use Rattle.xds_cache.specs.Deliveries.{sotw_delivery, fault_in, taking, rejecting, delivered}
-use Rattle.xds_cache.specs.Sends.{sotw_request, sotw_first, first_requests}
+use Rattle.xds_cache.specs.Sends.{sotw_request, sotw_first}
 use Rattle.xds_cache.specs.Receives.{sotw_receive, sotw_answered}
 use Rattle.xds_cache.proofs.Interests.{kept_by_name, holds_what_is_wanted}
 use Rattle.xds_model.specs.declared.event.ClientKind.TheVariants.{Sotw}
@@ -45,12 +43,12 @@ use Rattle.xds_model.specs.Claims.{asks_for}
 use Rattle.xds_model.proofs.Replicas.{some_is, if_some, none_there}
 use Rattle.xds_model.proofs.Queues.{lane_down, lane_down-append, nonces_differ}
 use Rattle.xds_model.proofs.LinkSteps.{url_type, taken_by, IsSent, all_three, one_more, room_is}
-use Rattle.xds_model.proofs.LinkTakes.{received_ok, answered_ok, empty_wants, nothing_wanted, connected_shelf, lost_shelf, addressed_to}
+use Rattle.xds_model.proofs.LinkTakes.{received_ok, answered_ok, nothing_wanted, connected_shelf, lost_shelf, addressed_to}
 use Rattle.xds_model.proofs.Firsts.{firsts, firsts_by, one_first, once, first_lane}
 use Rattle.xds_model.proofs.Delivering.{AllKnown}
 use Rattle.xds_model.proofs.SotwFolding.{folded, AllTaken, NoneAnswers, folded_more, taken_more, quiet_folded, taken_meanwhile_all}
 use Rattle.xds_model.proofs.Lanes.{taken_if_sent}
-use Rattle.xds_model.proofs.SotwLanes.{Asks, Awaits, Abreast, IsHeld, Says, stated_in, awaited, nothing_sent, none_sent}
+use Rattle.xds_model.proofs.SotwLanes.{Asks, Abreast, Says, stated_in, awaited, nothing_sent, none_sent}
 use Rattle.xds_model.proofs.SotwSteps.{answer, abreast_delivered, abreast_changed, abreast_first, abreast_sent, taken_last}
 use Rattle.xds_model.proofs.SotwDelivering.{response_says, stated_is_covered}
 

@@ -1,6 +1,6 @@
 -- What keeps a lane of the state of the world abreast: an answer, a change, a first request, and a response that is sent.
-use Rattle.std.proofs.Common.{◌≡◌, ◌≢◌, ◌⊎◌, inl, inr, ℕ, suc, List, [], ◌∷◌, ◌++◌, Bool, true, false, ◌&&◌, ◌||◌, not, Option, Some, None, refl, sym, ap, subst, ◌∙◌, ◌≤◌}
-use Rattle.std.specs.Prelude.{bytes_eq, if◌then◌else◌, is_some, is_none, option_map, Contains, ⊤}
+use Rattle.std.proofs.Common.{◌≡◌, ◌⊎◌, inl, inr, ℕ, List, [], ◌∷◌, Bool, true, false, ◌&&◌, ◌||◌, not, Option, Some, None, refl, sym, ap, subst, ◌∙◌}
+use Rattle.std.specs.Prelude.{bytes_eq, if◌then◌else◌, is_some, is_none, option_map}
 use Rattle.std.specs.Option.{option_or, option_map_or}
 use Rattle.std.specs.List.{list_any}
 use Rattle.std.specs.FinMap as finmap
@@ -10,12 +10,11 @@ use Rattle.std.proofs.lemmas.Bool.{or_parts}
 use Rattle.std.proofs.lemmas.List.Folds.{list_any-append}
 use Rattle.xds_resource.specs.declared.types.TypeName.{TypeName}
 use Rattle.xds_resource.specs.Types.{row}
-use Rattle.xds_resource.specs.Stamps.{max_counter}
-use Rattle.xds_resource.specs.Writes.{StampedWrite, version_of, text_cmp}
+use Rattle.xds_resource.specs.Writes.{text_cmp}
 use Rattle.xds_resource.proofs.NameMaps.{bytes_eq_same}
-use Rattle.xds_interest.specs.Interests.{Selection, covers, star_text, has_name}
+use Rattle.xds_interest.specs.Interests.{covers, star_text, has_name}
 use Rattle.xds_interest.specs.Asked.{Asked, unasked, everything, sotw_asked}
-use Rattle.xds_interest.specs.Touched.{exactly_one, sotw_touches}
+use Rattle.xds_interest.specs.Touched.{exactly_one}
 use Rattle.xds_interest.specs.Touches.{Touch, touches, sotw_touch}
 use Rattle.xds_interest.proofs.AskedLaws.{sotw_touch_is_a_set, untouched_keeps_cover_of_kept}
 use Rattle.xds_interest.proofs.SotwLaws.{list_any-is_star}
@@ -25,24 +24,22 @@ use Rattle.xds_draft.specs.Drafts.{Drafted, message_of}
 use Rattle.xds_ledger.specs.declared.variant.VariantName.TheVariants.{StateOfTheWorld}
 use Rattle.xds_ledger.specs.declared.entry.Entry.{Entry}
 use Rattle.xds_ledger.specs.declared.entry.Entry.TheVariants.{Told, Unsure}
-use Rattle.xds_ledger.specs.declared.entry.Due.{Due}
-use Rattle.xds_ledger.specs.declared.entry.Due.TheVariants.{Stated, Removed}
+use Rattle.xds_ledger.specs.declared.entry.Due.TheVariants.{Stated}
 use Rattle.xds_ledger.specs.Offers.{Offer}
 use Rattle.xds_ledger.specs.Ledgers.{Account, Sent, nonce_text, was_touched, touched_since, settled, answered, believed_accepted}
 use Rattle.xds_ledger.specs.Sessions.{Session, Names, unopened, is_taken, taken, send}
 use Rattle.xds_ledger.specs.Laws.{with_sent}
 use Rattle.xds_ledger.proofs.ByName.{accepted_by_name}
 use Rattle.xds_sotw.specs.Polls.{take}
-use Rattle.xds_cache.specs.Shelves.{Wants, Holding, Cache, Shelf, texts, interest, is_wanted, wants_some, wanting, kept_of}
+use Rattle.xds_cache.specs.Shelves.{Wants, Holding, Cache, Shelf, texts, interest, is_wanted, wants_some, wanting}
 use Rattle.xds_cache.specs.Faults.{Test}
-use Rattle.xds_cache.specs.Deliveries.{Delivery, sotw_delivery, fault_in, statements, cache_after, taking, rejecting, delivered}
+use Rattle.xds_cache.specs.Deliveries.{sotw_delivery, fault_in, cache_after, taking, rejecting, delivered}
 use Rattle.xds_cache.specs.Sends.{failure, sotw_request}
 use Rattle.xds_cache.proofs.Interests.{wants_what_is_covered, shown_by_name, kept_by_name, holds_what_is_wanted}
 use Rattle.xds_model.specs.Knows.{TypedWrite}
 use Rattle.xds_model.proofs.ByOneName.{believed_after}
-use Rattle.xds_model.proofs.Lanes.{believed_by_name, nothing_resumed}
 use Rattle.xds_model.proofs.LaneSteps.{never_told}
-use Rattle.xds_model.proofs.SotwFolding.{names_of, answer_of, folded, AllTaken, NoneAnswers, touched_by, take_is, unsettled, believed_quiet, quiet_folded, sending_folded, untouched_folded, touched_folded, touched_not_told}
+use Rattle.xds_model.proofs.SotwFolding.{names_of, answer_of, folded, AllTaken, NoneAnswers, touched_by, take_is, unsettled, believed_quiet, sending_folded, untouched_folded, touched_folded, touched_not_told}
 use Rattle.xds_model.proofs.SotwLanes.{naming, Asks, IsHeld, stated_in, Says, Delivers, Awaits, TouchedIsUnsure, Abreast, awaited, nothing_sent, awaits_none, none_sent, asks_if_sent, Answered, after_answer, held_after, told_accepted, none_accepted, no_removal}
 
 -- ---- Down
@@ -269,10 +266,9 @@ first_names : (t : TypeName) (w : Wants) (name : List ℕ) → (row t).is_comple
 first_names t w name partial wanted =
     let star : (interest t w).star ≡ false = list_any-is_star t (texts w) ∙ ap (λ c. c && has_name (texts w) star_text) partial in
     let covered : covers (interest t w) name ≡ true = wants_what_is_covered t w name ∙ wanted in
-    let named : set.contains (interest t w).names name ≡ true = explicit (interest t w).star (set.contains (interest t w).names name) star covered in
-    (
+    let named : set.contains (interest t w).names name ≡ true = explicit (interest t w).star (set.contains (interest t w).names name) star covered in (
       sotw_touch_is_a_set unasked.interest (interest t w) name ∙ ap (λ b. exactly_one false (interest t w).star || exactly_one b (set.contains (interest t w).names name)) (nothing_contained name)
-      ∙ newly (interest t w).star (set.contains (interest t w).names name) named,
+          ∙ newly (interest t w).star (set.contains (interest t w).names name) named,
       covered,
       named,
     )
@@ -300,9 +296,9 @@ abreast_first all t m f asked lists some nonce within =
       none = λ name counted is.
           first_none t f name false (row t).is_complete (is_wanted t f.wants name) (finmap.get (take t unopened m).account.beliefs name) (finmap.get f.cache name) refl refl refl counted (within name)
           (λ partial wanted none.
-              let first = first_names t f.wants name partial wanted in
-              all_true (touches names.touched name) (covers names.asked.interest name) (set.contains names.mentioned name) None (ap (λ (a : Asked). touches (sotw_touch unasked.interest a.interest) name) after ∙ first.0)
-              (ap (λ (a : Asked). covers a.interest name) after ∙ first.1) (ap (λ (a : Asked). set.contains a.interest.names name) after ∙ first.2) (sym (believed name) ∙ none)) is;
+          let first = first_names t f.wants name partial wanted in
+          all_true (touches names.touched name) (covers names.asked.interest name) (set.contains names.mentioned name) None (ap (λ (a : Asked). touches (sotw_touch unasked.interest a.interest) name) after ∙ first.0)
+          (ap (λ (a : Asked). covers a.interest name) after ∙ first.1) (ap (λ (a : Asked). set.contains a.interest.names name) after ∙ first.2) (sym (believed name) ∙ none)) is;
       within = within;
     }
 

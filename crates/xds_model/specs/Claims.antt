@@ -17,7 +17,7 @@ use Rattle.xds_core.specs.Legal.{IsLegal, replayed}
 use Rattle.xds_cache.specs.Shelves.{Cache, Holding, Wants, is_wanted}
 use Rattle.xds_cache.specs.Clients as clients
 use Rattle.xds_cache.specs.Faults.{Test}
-use Rattle.xds_model.specs.declared.event.ClientKind.TheVariants.{Delta}
+use Rattle.xds_model.specs.declared.event.ClientKind.TheVariants.{Sotw, Delta}
 use Rattle.xds_model.specs.Happenings.{Happening, Put}
 use Rattle.xds_model.specs.Worlds.{World, Site, Peer, Link, empty_world, world}
 use Rattle.xds_model.specs.Knows.{TypedWrite, knows, wants, link, made_after}
@@ -64,6 +64,19 @@ content_at t ws w name = if is_wanted t w name then live_at ws name else None
 abbrev pub IsExact : TypeName → List StampedWrite → Wants → Cache → Type 0
 IsExact t ws w view = (name : List ℕ) → finmap.get view name ≡ content_at t ws w name
 
+-- State of the world tells no version of a single resource, so there a view is compared by its bodies.
+abbrev pub body_at : Cache → List ℕ → Option (List ℕ)
+body_at view name = option_map (λ h. h.body) (finmap.get view name)
+
+-- the same, compared by bodies
+abbrev pub IsExactByBody : TypeName → List StampedWrite → Wants → Cache → Type 0
+IsExactByBody t ws w view = (name : List ℕ) → body_at view name ≡ option_map (λ h. h.body) (content_at t ws w name)
+
+-- a view shows what is wanted of what is live, and nothing that isn't wanted; what isn't live any more may be there, too
+abbrev pub Agrees : TypeName → List StampedWrite → Wants → Cache → Type 0
+Agrees t ws w view =
+    ((name : List ℕ) (h : Holding) → content_at t ws w name ≡ Some h → body_at view name ≡ Some h.body) × ((name : List ℕ) → is_wanted t w name ≡ false → finmap.get view name ≡ None)
+
 -- ---- what is put
 
 -- what is put is a resource of its type
@@ -86,6 +99,12 @@ abbrev pub SettledIsExact : Test → List Happening → Type 0
 SettledIsExact test hs =
     (c r : ℕ) (p : Peer) (t : TypeName) → finmap.get (world test hs).peers c ≡ Some p → p.kind ≡ Delta → link test hs c ≡ Some r → is_settled (world test hs) c t ≡ true
     → IsExact t (writes_of t (knows test hs r)) (wants test hs c t) (clients.view p.client t)
+
+-- and for clients of the state of the world: of a complete type exactly, of another with what may remain
+abbrev pub SettledAgrees : Test → List Happening → Type 0
+SettledAgrees test hs =
+    (c r : ℕ) (p : Peer) (t : TypeName) → finmap.get (world test hs).peers c ≡ Some p → p.kind ≡ Sotw → link test hs c ≡ Some r → is_settled (world test hs) c t ≡ true
+    → ((row t).is_complete ≡ true → IsExactByBody t (writes_of t (knows test hs r)) (wants test hs c t) (clients.view p.client t)) × Agrees t (writes_of t (knows test hs r)) (wants test hs c t) (clients.view p.client t)
 
 -- replicas that know the same writes hold the same, whatever came in which order and how often
 abbrev pub SameKnowledgeSameHoldings : Test → List Happening → Type 0

@@ -2,7 +2,7 @@
 ghost use Rattle.std.specs.Prelude.{List};
 ghost use Rattle.xds_cache.specs.Faults.{Test};
 ghost use Rattle.xds_model.specs.Happenings.{Happening};
-ghost use Rattle.xds_model.specs.Claims.{HoldsWhatItKnows, PutResources, SameKnowledgeSameHoldings, SettledIsExact, LinksAreFollowed, OneWriteAStamp, JournalsAreLegal};
+ghost use Rattle.xds_model.specs.Claims.{HoldsWhatItKnows, PutResources, SameKnowledgeSameHoldings, SettledIsExact, SettledAgrees, LinksAreFollowed, OneWriteAStamp, JournalsAreLegal};
 
 /// What a replica holds are the best writes of what it knows, so replicas that know the same writes hold the same.
 pub fn replicas_hold_what_they_know()
@@ -20,10 +20,11 @@ pub fn journals_are_legal()
     ensures { (test : Test) (hs : List Happening) → JournalsAreLegal test hs }
 {}
 
-/// A delta client that is up, to which nothing of a type is under way and nothing owed, shows exactly what its replica knows of
-/// what it wants.
+/// A client that is up, to which nothing of a type is under way and nothing owed, shows exactly what its replica knows of what it
+/// wants; but of an incomplete type, in the state of the world, what is live there no longer may remain.
 pub fn settled_clients_are_exact()
-    ensures { (test : Test) (hs : List Happening) → PutResources hs → SettledIsExact test hs }
+    ensures delta { (test : Test) (hs : List Happening) → PutResources hs → SettledIsExact test hs }
+    ensures sotw { (test : Test) (hs : List Happening) → PutResources hs → SettledAgrees test hs }
 {}
 
 /// A client is up exactly where it was linked last and didn't lose that link, and wants what it was told to.
