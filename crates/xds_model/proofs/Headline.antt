@@ -14,9 +14,9 @@ use Rattle.xds_cache.specs.Faults.{Test}
 use Rattle.xds_model.specs.Happenings.{Happening}
 use Rattle.xds_model.specs.Worlds.{Site, Link, Peer, World, empty_world, happens, after, world}
 use Rattle.xds_model.specs.Knows.{TypedWrite, Knowledge, nothing_known, learned, known_after, knows, made_now, made_after, wants, link}
-use Rattle.xds_model.specs.Claims.{writes_of, holding_of, content_at, PutResources, PutsAResource, SettledIsExact, SettledAgrees, is_quiet, owes_nothing, is_settled_on, is_settled}
-use Rattle.xds_model.proofs.Replicas.{Kept, kept_start, kept_step, some_is}
-use Rattle.xds_model.proofs.Origins.{Stamped, stamped_start, stamped_step}
+use Rattle.xds_model.specs.Claims.{writes_of, holding_of, content_at, PutResources, PutsAResource, SettledIsExact, SettledAgrees, Headline, is_quiet, owes_nothing, is_settled_on, is_settled}
+use Rattle.xds_model.proofs.Replicas.{holds_what_it_knows, same_knowledge, Kept, kept_start, kept_step, some_is}
+use Rattle.xds_model.proofs.Origins.{one_write_a_stamp, Stamped, stamped_start, stamped_step}
 use Rattle.xds_model.proofs.Ranges.{Ranged, ranged_start, ranged_step, sites_known}
 use Rattle.xds_model.proofs.ByKind.{LinkedAs}
 use Rattle.xds_model.proofs.Everyone.{stream_at, Fine}
@@ -25,7 +25,8 @@ use Rattle.xds_model.proofs.More.{fine_more}
 use Rattle.xds_model.proofs.Delivering.{AllKnown, live}
 use Rattle.xds_model.proofs.Settled.{link_shows}
 use Rattle.xds_model.proofs.SotwSettled.{link_shows as sotw_link_shows}
-use Rattle.xds_model.proofs.Followed.{linked_to, wanted_of, link_is, wants_are}
+use Rattle.xds_model.proofs.Journals.{journals_are_legal}
+use Rattle.xds_model.proofs.Followed.{links_are_followed, linked_to, wanted_of, link_is, wants_are}
 
 -- all that is kept of a world
 pub record Sure (w : World) (k : Knowledge) (all : List TypedWrite) : Type 0 where
@@ -147,3 +148,20 @@ settled_agrees test hs put c r p t has sotw linked settled =
       λ complete name. shows.exact name complete ∙ ap (option_map (λ h. h.body)) (shown_is test hs c r p t name s),
       (λ name h is. shows.agrees name h (shown_is test hs c r p t name s ∙ is), λ name unwanted. shows.within name (ap (λ w. is_wanted t w name) (sym s.wanted) ∙ unwanted)),
     )
+
+-- all of it
+pub headline : (test : Test) (hs : List Happening) → PutResources hs → Headline test hs
+headline test hs put = record {
+  holds = holds_what_it_knows test hs;
+  same = same_knowledge test hs;
+  exact = settled_is_exact test hs put;
+  agrees = settled_agrees test hs put;
+  followed = links_are_followed test hs;
+  stamped = one_write_a_stamp test hs;
+  journals = journals_are_legal test hs;
+}
+
+-- one more
+pub put_more : (hs : List Happening) (h : Happening) → PutResources hs → PutsAResource h → PutResources (hs ++ h ∷ [])
+put_more [] h put puts = (puts, tt)
+put_more (x ∷ hs) h put puts = (put.0, put_more hs h put.1 puts)

@@ -130,3 +130,14 @@ JournalsAreLegal test hs = (r : ℕ) (s : Site) → finmap.get (world test hs).s
 abbrev pub LinksAreFollowed : Test → List Happening → Type 0
 LinksAreFollowed test hs =
     (c : ℕ) (p : Peer) → finmap.get (world test hs).peers c ≡ Some p → (link test hs c ≡ option_map (λ l. l.replica) p.link) × ((t : TypeName) → wants test hs c t ≡ (clients.shelf p.client t).wants)
+
+-- The headline, of one list of happenings: what replicas hold, what settled clients of both variants show, and that what is told
+-- of links, wants, stamps and journals is so.
+pub record Headline (test : Test) (hs : List Happening) : Type 0 where
+  pub holds : HoldsWhatItKnows test hs
+  pub same : SameKnowledgeSameHoldings test hs
+  pub exact : SettledIsExact test hs
+  pub agrees : SettledAgrees test hs
+  pub followed : LinksAreFollowed test hs
+  pub stamped : OneWriteAStamp test hs
+  pub journals : JournalsAreLegal test hs

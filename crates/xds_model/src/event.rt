@@ -1,6 +1,7 @@
 // What may happen in a world of replicas and clients.
-ghost use Rattle.std.specs.Prelude.{◌≡◌, IfOk, IfErr};
+ghost use Rattle.std.specs.Prelude.{◌≡◌, IfOk, IfErr, OnOk};
 ghost use Rattle.xds_resource.specs.declared.refusal.Refusal.TheVariants.{OutOfMemory};
+ghost use Rattle.xds_model.specs.Claims.{PutsAResource};
 ghost use Rattle.xds_model.specs.Seen.{happening_of, wish_of};
 
 use std::alloc::Global;
@@ -70,9 +71,10 @@ impl Wish {
 }
 
 impl WorldEvent {
-    /// An equal event, or `OutOfMemory`. No body is copied.
+    /// An equal event, or `OutOfMemory`. No body is copied. What an event puts is a resource of its type.
     pub fn try_copy(&self, alloc: Global) -> Result<WorldEvent, Refusal>
         ensures ok { IfOk result (λ e. happening_of e ≡ happening_of self.now) }
+        ensures sound { OnOk result (PutsAResource (happening_of self.now)) }
         ensures refused { IfErr result (λ e. e ≡ OutOfMemory) }
     {
         match self {
