@@ -1,0 +1,4 @@
+// A world that runs: replicas and clients, what is under way between them, and what happened.
+#![tactic(auto)]
+
+mod site;
