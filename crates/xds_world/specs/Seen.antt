@@ -1,4 +1,5 @@
--- How the records of a journal are seen. This project's own.
+-- How the parts of a world are seen. This project's own.
+use Rattle.std.specs.Prelude.{true, false}
 use Rattle.xds_core.specs.declared.event.Record.{Record}
 use Rattle.xds_core.specs.Legal as legal
 use Rattle.xds_core.specs.Seen.{event_of, answer_of}

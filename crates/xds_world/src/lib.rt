@@ -1,4 +1,5 @@
 // A world that runs: replicas and clients, what is under way between them, and what happened.
 #![tactic(auto)]
 
+mod client;
 mod site;
