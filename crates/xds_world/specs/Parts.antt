@@ -1,5 +1,6 @@
 -- What the parts of a world do, one by one: the answers of the functions that do it. This project's own.
-use Rattle.std.specs.Prelude.{◌≡◌, ℕ, List, [], Bool, true, false, Option, Some, None, option_map, Ok, Err, refl}
+use Rattle.std.specs.Prelude.{◌≡◌, ℕ, List, [], ◌∷◌, ◌++◌, Bool, true, false, if◌then◌else◌, Option, Some, None, is_none, is_some, option_map, Ok, Err, refl}
+use Rattle.std.specs.Option.{option_and_then}
 use Rattle.std.specs.Coded.{Coded, code_by, coded×, coded_bool}
 use Rattle.xds_resource.specs.declared.types.TypeName.{TypeName}
 use Rattle.xds_resource.specs.Types.{types}
@@ -13,7 +14,7 @@ use Rattle.xds_cache.specs.Clients.{Client, client_code, linked, unlinked}
 use Rattle.xds_cache.specs.Sends.{is_greeted}
 use Rattle.xds_model.specs.declared.event.ClientKind.{ClientKind}
 use Rattle.xds_model.specs.Happenings.{Wish}
-use Rattle.xds_model.specs.Worlds.{Site, Peer, recorded, wish_of, received_in}
+use Rattle.xds_model.specs.Worlds.{Site, Link, Peer, recorded, wish_of, wish_taken, changed, received_in, received, taken_down, under_way, connected_to}
 use Rattle.xds_world.specs.Codes.{kind_code}
 
 -- What a call answers, seen by view, and what it leaves; where this isn't possible, it answers nothing and leaves all as it was.
@@ -78,3 +79,62 @@ unlinked_any c = record { kind = c.kind; up = false; client = unlinked c.client 
 
 abbrev pub fresh_any : ClientKind → List ℕ → AnyClient
 fresh_any kind node_id = record { kind = kind; up = false; client = clients.fresh node_id }
+
+-- ---- streams
+
+-- Whether something happened, and what is left; where it didn't, all is as it was.
+abbrev pub Happened : {S : Type 0} → S → Bool → S → Option S → Type 0
+Happened before true after given = given ≡ Some after
+Happened before false after given = (given ≡ None) × (after ≡ before)
+
+-- the first of a list
+abbrev pub first : {X : Type 0} → List X → Option X
+first [] = None
+first (x ∷ xs) = Some x
+
+-- a list without its first, if it has one
+abbrev pub behind : {X : Type 0} → List X → List X
+behind [] = []
+behind (x ∷ xs) = xs
+
+-- ---- a client on its stream
+
+-- what f makes of the link of a client that has one
+abbrev pub with_link : (Peer → Link → Option Link) → Peer → Option Peer
+with_link f p = option_and_then (λ l. option_map (λ k. record p { link = Some k }) (f p l)) p.link
+
+-- once a change was wished
+abbrev pub peer_changed : TypeName → Wish → Peer → Option Peer
+peer_changed t wish p = option_map (changed p) (wish_taken p t wish)
+
+-- once the replica took the oldest request, if there is one
+abbrev pub link_up : Link → List Message → Option Link
+link_up l [] = None
+link_up l (m ∷ rest) = Some (record l { up = rest })
+
+abbrev pub peer_up : Peer → Option Peer
+peer_up p = with_link (λ p l. link_up l l.up) p
+
+-- once a response was sent, or none
+abbrev pub peer_polled : Option Draft → Peer → Option Peer
+peer_polled o p = with_link (λ p l. Some (record l { down = l.down ++ under_way o })) p
+
+-- once the client took the oldest response, if there is one that it takes
+abbrev pub link_down : Test → Peer → Link → List Draft → Option Peer
+link_down test p l [] = None
+link_down test p l (d ∷ rest) = option_map (taken_down p l rest) (received test p d)
+
+abbrev pub peer_down : Test → Peer → Option Peer
+peer_down test p = option_and_then (λ l. link_down test p l l.down) p.link
+
+-- once the stream is lost
+abbrev pub peer_lost : Peer → Option Peer
+peer_lost p = option_map (λ l. record p { client = unlinked p.client; link = None }) p.link
+
+-- on a new stream
+abbrev pub peer_connected : ℕ → ℕ → Peer → Option Peer
+peer_connected r n p = if is_none p.link then Some (connected_to p r n) else None
+
+-- a client on its stream, as a client alone
+abbrev pub any_of : Peer → AnyClient
+any_of p = record { kind = p.kind; up = is_some p.link; client = p.client }

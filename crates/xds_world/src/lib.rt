@@ -2,4 +2,5 @@
 #![tactic(auto)]
 
 mod client;
+mod link;
 mod site;
