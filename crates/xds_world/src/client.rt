@@ -277,6 +277,7 @@ impl<A: Accept> AnyClient<A> {
         wish: &Wish,
     ) -> Result<Option<Option<Request>>, Refusal>
         ensures ok { IfOk result (λ o. Gave (option_map message_of) self.old o self.new (changing kind (wish_of wish.now) self.old)) }
+        ensures up { self.new.up ≡ self.old.up }
         ensures refused { IfErr result (λ e. e ≡ OutOfMemory) }
     {
         match &mut self.state {
@@ -295,6 +296,7 @@ impl<A: Accept> AnyClient<A> {
     ) -> Result<Option<Request>, Refusal>
         requires { self.old.up ≡ true }
         ensures ok { IfOk result (λ o. Gave message_of self.old o self.new (receiving_any A.accepts draft.now self.old)) }
+        ensures up { self.new.up ≡ self.old.up }
         ensures refused { IfErr result (λ e. e ≡ OutOfMemory) }
     {
         match (&mut self.state, draft) {

@@ -3,4 +3,6 @@
 
 mod client;
 mod link;
+mod parts;
+mod peer;
 mod site;

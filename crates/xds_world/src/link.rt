@@ -3,8 +3,9 @@ ghost use Rattle.std.specs.Prelude.{◌≡◌, [], ◌∷◌, ◌++◌, map, opt
 ghost use Rattle.xds_resource.specs.declared.refusal.Refusal.TheVariants.{OutOfMemory};
 ghost use Rattle.xds_core.specs.Seen.{message_of};
 ghost use Rattle.xds_model.specs.Worlds.{under_way};
-ghost use Rattle.xds_world.specs.Parts.{first, behind};
+ghost use Rattle.xds_world.specs.Parts.{Happened, first, behind, link_up};
 
+use crate::parts::is_there;
 use std::alloc::Global;
 use std::collections::VecDeque;
 use std::marker::Model;
@@ -81,11 +82,11 @@ impl Link {
         }
     }
 
-    /// The oldest request is under way no longer.
-    pub(crate) fn drop_request(&mut self)
-        ensures { self.new ≡ record self.old { up = behind self.old.up } }
+    /// The oldest request is under way no longer. Answers whether there was one.
+    pub(crate) fn drop_request(&mut self) -> bool
+        ensures { Happened self.old result self.new (link_up self.old self.old.up) }
     {
-        self.up.pop_front();
+        is_there(self.up.pop_front())
     }
 
     /// A response is under way, if there is one.
