@@ -5,6 +5,7 @@ use Rattle.std.specs.Coded.{Coded, code_by, coded×, coded_bool}
 use Rattle.xds_resource.specs.declared.types.TypeName.{TypeName}
 use Rattle.xds_resource.specs.Types.{types}
 use Rattle.xds_draft.specs.declared.draft.Draft.{Draft}
+use Rattle.xds_core.specs.Stores.{Batch}
 use Rattle.xds_core.specs.Streams.{Message}
 use Rattle.xds_core.specs.Events.{Event, Reply}
 use Rattle.xds_core.specs.Steps.{Core, Step, step, fresh as fresh_core}
@@ -13,8 +14,9 @@ use Rattle.xds_cache.specs.Clients as clients
 use Rattle.xds_cache.specs.Clients.{Client, client_code, linked, unlinked}
 use Rattle.xds_cache.specs.Sends.{is_greeted}
 use Rattle.xds_model.specs.declared.event.ClientKind.{ClientKind}
+use Rattle.xds_model.specs.declared.event.ClientKind.TheVariants.{Sotw}
 use Rattle.xds_model.specs.Happenings.{Wish}
-use Rattle.xds_model.specs.Worlds.{Site, Link, Peer, recorded, wish_of, wish_taken, changed, received_in, received, taken_down, under_way, connected_to}
+use Rattle.xds_model.specs.Worlds.{Site, Link, Peer, recorded, wish_of, wish_taken, changed, received_in, received, taken_down, under_way, connected_to, World, on_peer, with_peer}
 use Rattle.xds_world.specs.Codes.{kind_code}
 
 -- What a call answers, seen by view, and what it leaves; where this isn't possible, it answers nothing and leaves all as it was.
@@ -138,3 +140,21 @@ peer_connected r n p = if is_none p.link then Some (connected_to p r n) else Non
 -- a client on its stream, as a client alone
 abbrev pub any_of : Peer → AnyClient
 any_of p = record { kind = p.kind; up = is_some p.link; client = p.client }
+
+-- ---- a world
+
+-- a client that nothing is known of
+abbrev pub blank : Peer
+blank = record { kind = Sotw; client = clients.fresh []; link = None }
+
+-- what f makes of a client, in its world
+abbrev pub peer_event : World → ℕ → (Peer → Option Peer) → Option World
+peer_event w c f = on_peer w c (λ p. option_map (with_peer w c) (f p))
+
+-- where the stream of a client leads, and its number there
+abbrev pub leads : Link → ℕ × ℕ
+leads l = (l.replica, l.stream)
+
+-- the world with a batch more
+abbrev pub with_batch : World → ℕ × Batch → World
+with_batch w b = record w { pool = w.pool ++ b ∷ [] }

@@ -6,3 +6,4 @@ mod link;
 mod parts;
 mod peer;
 mod site;
+mod state;

@@ -1,0 +1,72 @@
+-- A value of a world that is taken out, changed and put back.
+use Rattle.std.proofs.Common.{◌≡◌, ℕ, Bool, true, false, Option, Some, None, Result, Ok, Err, refl, sym, ap, subst, ◌∙◌}
+use Rattle.std.specs.Prelude.{IfOk, option_map}
+use Rattle.std.specs.Option.{option_and_then}
+use Rattle.std.specs.Ordering.{nat_cmp}
+use Rattle.std.specs.FinMap as finmap
+use Rattle.std.specs.FinMap.{FinMap}
+use Rattle.xds_resource.specs.declared.refusal.Refusal.{Refusal}
+use Rattle.xds_core.specs.Events as events
+use Rattle.xds_core.specs.Events.{Event}
+use Rattle.xds_core.specs.declared.event.Reply.{Reply}
+use Rattle.xds_core.specs.Seen.{reply_of}
+use Rattle.xds_core.specs.Steps.{Step, step}
+use Rattle.xds_core.proofs.StreamSteps.{put_twice, put_back}
+use Rattle.xds_model.specs.Worlds.{Site, Peer, World, with_peer, answered_at, at_site}
+use Rattle.xds_world.specs.Parts.{Gave, Happened, answered, if_answered, peer_event}
+
+abbrev pub with_peers : World → FinMap nat_cmp Peer → World
+with_peers w m = record w { peers = m }
+
+abbrev pub with_sites : World → FinMap nat_cmp Site → World
+with_sites w m = record w { sites = m }
+
+-- ---- a client
+
+module _ (w : World) (c : ℕ) (f : Peer → Option Peer) (p x left : Peer) (has : finmap.get w.peers c ≡ Some p) (back : FinMap nat_cmp Peer) (puts : back ≡ finmap.insert (finmap.insert w.peers c x) c left) where
+  event_is : peer_event w c f ≡ option_map (with_peer w c) (f p)
+  event_is = ap (option_and_then (λ p. option_map (with_peer w c) (f p))) has
+
+  put_peer : (b : Bool) → Happened p b left (f p) → Happened w b (with_peers w back) (peer_event w c f)
+  put_peer true is = event_is ∙ ap (option_map (with_peer w c)) is ∙ (λ i. Some (with_peers w (sym (puts ∙ put_twice w.peers c x left) i)))
+  put_peer false is = (event_is ∙ ap (option_map (with_peer w c)) is.0, (λ i. with_peers w ((puts ∙ ap (finmap.insert (finmap.insert w.peers c x) c) is.1 ∙ put_back w.peers c x p has) i)))
+
+  put_peers_at : (r : Result Bool Refusal) → IfOk r (λ b. Happened p b left (f p)) → IfOk r (λ b. Happened w b (with_peers w back) (peer_event w c f))
+  put_peers_at (Ok b) is = put_peer b is
+  put_peers_at (Err e) is = is
+
+  pub put_peers : (r : Result Bool Refusal) (after : World) → after ≡ with_peers w back → IfOk r (λ b. Happened p b left (f p)) → IfOk r (λ b. Happened w b after (peer_event w c f))
+  put_peers r after same is = subst (λ v. IfOk r (λ b. Happened w b v (peer_event w c f))) (sym same) (put_peers_at r is)
+
+-- a client that isn't there
+pub no_peer : (w after : World) (c : ℕ) (f : Peer → Option Peer) → finmap.get w.peers c ≡ None → after ≡ w → Happened w false after (peer_event w c f)
+no_peer w after c f none same = (ap (option_and_then (λ p. option_map (with_peer w c) (f p))) none, same)
+
+-- ---- a replica
+
+answered_is : (w : World) (r : ℕ) (s : Site) (e : Event) (q : Step) (back : FinMap nat_cmp Site) (left : Site) (y : events.Reply) → if_answered s e q ≡ Some (y, left) → back ≡ finmap.insert w.sites r left → answered_at w r s e q ≡ Some (y, with_sites w back)
+answered_is w r s e (Ok p) back left y is puts = ap (option_map (λ a. (a.0, with_sites w (finmap.insert w.sites r a.1)))) is ∙ (λ i. Some (y, with_sites w (sym puts i)))
+answered_is w r s e (Err refusal) back left y is puts = absurd cc
+
+refused_is : (w : World) (r : ℕ) (s : Site) (e : Event) (q : Step) → if_answered s e q ≡ None → answered_at w r s e q ≡ None
+refused_is w r s e (Ok p) is = absurd cc
+refused_is w r s e (Err refusal) is = refl
+
+module _ (w : World) (r : ℕ) (e : Event) (s x left : Site) (has : finmap.get w.sites r ≡ Some s) (back : FinMap nat_cmp Site) (puts : back ≡ finmap.insert (finmap.insert w.sites r x) r left) where
+  site_is : at_site w r e ≡ answered_at w r s e (step s.core e)
+  site_is = ap (option_and_then (λ s. answered_at w r s e (step s.core e))) has
+
+  put_site : (o : Option Reply) → Gave reply_of s o left (answered s e) → Gave reply_of w o (with_sites w back) (at_site w r e)
+  put_site (Some y) is = site_is ∙ answered_is w r s e (step s.core e) back left (reply_of y) is (puts ∙ put_twice w.sites r x left)
+  put_site None is = (site_is ∙ refused_is w r s e (step s.core e) is.0, (λ i. with_sites w ((puts ∙ ap (finmap.insert (finmap.insert w.sites r x) r) is.1 ∙ put_back w.sites r x s has) i)))
+
+  put_sites_at : (q : Result (Option Reply) Refusal) → IfOk q (λ o. Gave reply_of s o left (answered s e)) → IfOk q (λ o. Gave reply_of w o (with_sites w back) (at_site w r e))
+  put_sites_at (Ok o) is = put_site o is
+  put_sites_at (Err e) is = is
+
+  pub put_sites : (q : Result (Option Reply) Refusal) (after : World) → after ≡ with_sites w back → IfOk q (λ o. Gave reply_of s o left (answered s e)) → IfOk q (λ o. Gave reply_of w o after (at_site w r e))
+  put_sites q after same is = subst (λ v. IfOk q (λ o. Gave reply_of w o v (at_site w r e))) (sym same) (put_sites_at q is)
+
+-- a replica that isn't there
+pub no_site : (w after : World) (r : ℕ) (e : Event) → finmap.get w.sites r ≡ None → after ≡ w → Gave {Y = events.Reply} reply_of w None after (at_site w r e)
+no_site w after r e none same = (ap (option_and_then (λ s. answered_at w r s e (step s.core e))) none, same)
