@@ -27,7 +27,7 @@ module _ (w : World) (c : ℕ) (f : Peer → Option Peer) (p x left : Peer) (has
   event_is : peer_event w c f ≡ option_map (with_peer w c) (f p)
   event_is = ap (option_and_then (λ p. option_map (with_peer w c) (f p))) has
 
-  put_peer : (b : Bool) → Happened p b left (f p) → Happened w b (with_peers w back) (peer_event w c f)
+  pub put_peer : (b : Bool) → Happened p b left (f p) → Happened w b (with_peers w back) (peer_event w c f)
   put_peer true is = event_is ∙ ap (option_map (with_peer w c)) is ∙ (λ i. Some (with_peers w (sym (puts ∙ put_twice w.peers c x left) i)))
   put_peer false is = (event_is ∙ ap (option_map (with_peer w c)) is.0, (λ i. with_peers w ((puts ∙ ap (finmap.insert (finmap.insert w.peers c x) c) is.1 ∙ put_back w.peers c x p has) i)))
 

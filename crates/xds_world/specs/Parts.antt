@@ -2,11 +2,13 @@
 use Rattle.std.specs.Prelude.{◌≡◌, ℕ, List, [], ◌∷◌, ◌++◌, Bool, true, false, if◌then◌else◌, Option, Some, None, is_none, is_some, option_map, Ok, Err, refl}
 use Rattle.std.specs.Option.{option_and_then}
 use Rattle.std.specs.Coded.{Coded, code_by, coded×, coded_bool}
+use Rattle.std.specs.FinMap as finmap
 use Rattle.xds_resource.specs.declared.types.TypeName.{TypeName}
 use Rattle.xds_resource.specs.Types.{types}
 use Rattle.xds_draft.specs.declared.draft.Draft.{Draft}
 use Rattle.xds_core.specs.Stores.{Batch}
 use Rattle.xds_core.specs.Streams.{Message}
+use Rattle.xds_core.specs.Events as events
 use Rattle.xds_core.specs.Events.{Event, Reply}
 use Rattle.xds_core.specs.Steps.{Core, Step, step, fresh as fresh_core}
 use Rattle.xds_cache.specs.Faults.{Test}
@@ -158,3 +160,23 @@ leads l = (l.replica, l.stream)
 -- the world with a batch more
 abbrev pub with_batch : World → ℕ × Batch → World
 with_batch w b = record w { pool = w.pool ++ b ∷ [] }
+
+abbrev pub link_of : Option Peer → Option Link
+link_of o = option_and_then (λ p. p.link) o
+
+-- the link of a client that is up
+abbrev pub link_at : World → ℕ → Option Link
+link_at w c = link_of (finmap.get w.peers c)
+
+-- what the replies to some events say
+abbrev pub draft_in : Reply → Option (Option Draft)
+draft_in (events.Polled o) = Some o
+draft_in reply = None
+
+abbrev pub stream_in : Reply → Option ℕ
+stream_in (events.Opened n) = Some n
+stream_in reply = None
+
+abbrev pub batch_in : Reply → Option Batch
+batch_in (events.Entries b) = Some b
+batch_in reply = None

@@ -1,5 +1,6 @@
 // A client on its stream, if it has one.
 ghost use Rattle.std.specs.Prelude.{◌≡◌, Some, None, is_some, string_bytes, option_map, IsSome, IfOk, IfErr, OnOk};
+ghost use Rattle.std.specs.Option.{option_map_or};
 ghost use Rattle.xds_resource.specs.declared.refusal.Refusal.TheVariants.{OutOfMemory};
 ghost use Rattle.xds_core.specs.Seen.{message_of};
 ghost use Rattle.xds_cache.specs.Clients.{view as view_of, fresh};
@@ -159,11 +160,13 @@ impl<A: Accept> Peer<A> {
         Ok(true)
     }
 
-    /// Once the stream is lost.
+    /// Once the stream is lost, if there is one.
     pub(crate) fn lose(self) -> Peer<A>
-        requires { IsSome self.link }
-        ensures { peer_lost self ≡ Some result }
+        ensures { result ≡ option_map_or (λ p. p) (peer_lost self) self }
     {
+        if self.link.is_none() {
+            return self;
+        }
         Peer {
             client: self.client.lose(),
             link: None,

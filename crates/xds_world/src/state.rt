@@ -1,6 +1,6 @@
 // What a world is at a time.
-ghost use Rattle.std.specs.Prelude.{◌≡◌, ◌≤◌, ◌∷◌, [], Some, None, is_none, is_some, option_map, string_bytes, decimal, IfOk, IfErr, OnOk, OnErr};
-ghost use Rattle.std.specs.Option.{option_and_then};
+ghost use Rattle.std.specs.Prelude.{◌≡◌, ◌≤◌, ◌∷◌, [], false, Some, None, is_none, is_some, option_map, string_bytes, decimal, IfOk, IfErr, OnOk, OnErr};
+ghost use Rattle.std.specs.Option.{option_and_then, option_map_or};
 ghost use Rattle.std.specs.FinMap as finmap;
 ghost use Rattle.xds_resource.specs.Any.{resource_type, named_body};
 ghost use Rattle.xds_resource.specs.declared.refusal.Refusal.TheVariants.{OutOfMemory};
@@ -9,7 +9,7 @@ ghost use Rattle.xds_core.specs.Seen.{message_of, event_of, reply_of};
 ghost use Rattle.xds_model.specs.Happenings as happenings;
 ghost use Rattle.xds_model.specs.Seen.{happening_of, wish_of};
 ghost use Rattle.xds_model.specs.Worlds.{empty_world, at_site, happened_at, happens, placed};
-ghost use Rattle.xds_world.specs.Parts.{Gave, Happened, blank, peer_event, peer_changed, peer_up, peer_polled, peer_down, peer_lost, peer_connected};
+ghost use Rattle.xds_world.specs.Parts.{Gave, Happened, blank, first, leads, link_at, draft_in, stream_in, batch_in, peer_event, peer_changed, peer_up, peer_polled, peer_down, peer_lost, peer_connected};
 
 use crate::parts::is_there;
 use crate::peer::Peer;
@@ -81,6 +81,145 @@ impl<A: Accept> State<A> {
         reply
     }
 
+    // Lets an event happen at a replica. Answers whether it happened.
+    fn happened_at(
+        &mut self,
+        alloc: Global,
+        replica: u16,
+        event: Event,
+    ) -> Result<bool, Refusal>
+        ensures ok { IfOk result (λ b. Happened self.old b self.new (happened_at self.old replica (event_of event))) }
+        ensures refused { IfErr result (λ e. e ≡ OutOfMemory) }
+    {
+        let reply = self.at_site(alloc, replica, event)?;
+        Ok(is_there(reply))
+    }
+
+    // Opens a stream at a replica. Answers its number.
+    fn open_at(&mut self, alloc: Global, replica: u16) -> Result<Option<u64>, Refusal>
+        ensures ok { IfOk result (λ o. Gave events.Opened self.old o self.new (at_site self.old replica events.Open)) }
+        ensures refused { IfErr result (λ e. e ≡ OutOfMemory) }
+    {
+        let reply = self.at_site(alloc, replica, Event::Open)?;
+        Ok(stream_in(reply))
+    }
+
+    // Polls a stream of a replica. Answers the response, if there is one.
+    fn poll_at(
+        &mut self,
+        alloc: Global,
+        replica: u16,
+        stream: u64,
+        which: Option<TypeName>,
+    ) -> Result<Option<Option<Draft>>, Refusal>
+        ensures ok { IfOk result (λ o. Gave events.Polled self.old o self.new (at_site self.old replica (events.Poll stream which))) }
+        ensures refused { IfErr result (λ e. e ≡ OutOfMemory) }
+    {
+        let reply = self.at_site(alloc, replica, Event::Poll(stream, which))?;
+        Ok(draft_in(reply))
+    }
+
+    // All that a replica holds.
+    fn snapshot_at(&mut self, alloc: Global, replica: u16) -> Result<Option<Batch>, Refusal>
+        ensures ok { IfOk result (λ o. Gave events.Entries self.old o self.new (at_site self.old replica events.Snapshot)) }
+        ensures refused { IfErr result (λ e. e ≡ OutOfMemory) }
+    {
+        let reply = self.at_site(alloc, replica, Event::Snapshot)?;
+        Ok(batch_in(reply))
+    }
+
+    // The replica that a client's stream leads to, and the number of the stream there.
+    fn link_of(&self, client: u32) -> Option<(u16, u64)>
+        ensures { result ≡ option_map leads (link_at self.now client) }
+    {
+        let peer = self.peers.get(client as u64)?;
+        let link = peer.link()?;
+        Some((link.replica(), link.stream()))
+    }
+
+    // A copy of the oldest request of a client that is under way.
+    fn oldest_request(&self, alloc: Global, client: u32) -> Result<Option<Request>, Refusal>
+        ensures ok { IfOk result (λ o. option_map message_of o ≡ option_and_then (λ l. first l.up) (link_at self.now client)) }
+        ensures refused { IfErr result (λ e. e ≡ OutOfMemory) }
+    {
+        let Some(peer) = self.peers.get(client as u64) else {
+            return Ok(None);
+        };
+        let Some(link) = peer.link() else {
+            return Ok(None);
+        };
+        link.oldest_request(alloc)
+    }
+
+    // Whether there is a client that has no stream.
+    fn is_down(&self, client: u32) -> bool
+        ensures { result ≡ option_map_or (λ p. is_none p.link) (finmap.get self.now.peers client) false }
+    {
+        match self.peers.get(client as u64) {
+            Some(peer) => peer.link().is_none(),
+            None => false,
+        }
+    }
+
+    // The oldest request of a client is under way no longer.
+    fn drop_request(&mut self, alloc: Global, client: u32) -> bool
+        ensures { Happened self.old result self.new (peer_event self.old client peer_up) }
+    {
+        let number = client as u64;
+        let Some(mut peer) = self.peers.replace(number, blank_peer(alloc)) else {
+            return false;
+        };
+        let dropped = peer.drop_request();
+        self.peers.set(number, peer);
+        dropped
+    }
+
+    // A response is under way to a client, if there is one.
+    fn respond(
+        &mut self,
+        alloc: Global,
+        client: u32,
+        response: Option<Draft>,
+    ) -> Result<bool, Refusal>
+        ensures ok { IfOk result (λ b. Happened self.old b self.new (peer_event self.old client (peer_polled response))) }
+        ensures refused { IfErr result (λ e. e ≡ OutOfMemory) }
+    {
+        let number = client as u64;
+        let Some(mut peer) = self.peers.replace(number, blank_peer(alloc)) else {
+            return Ok(false);
+        };
+        let responded = peer.respond(response);
+        self.peers.set(number, peer);
+        responded
+    }
+
+    // A client takes the oldest response that is under way to it.
+    fn receive(&mut self, alloc: Global, client: u32) -> Result<bool, Refusal>
+        ensures ok { IfOk result (λ b. Happened self.old b self.new (peer_event self.old client (peer_down A.accepts))) }
+        ensures refused { IfErr result (λ e. e ≡ OutOfMemory) }
+    {
+        let number = client as u64;
+        let Some(mut peer) = self.peers.replace(number, blank_peer(alloc)) else {
+            return Ok(false);
+        };
+        let received = peer.receive(alloc);
+        self.peers.set(number, peer);
+        received
+    }
+
+    // A client loses its stream, if it has one.
+    fn lose_link(&mut self, alloc: Global, client: u32) -> bool
+        ensures { Happened self.old result self.new (peer_event self.old client peer_lost) }
+    {
+        let number = client as u64;
+        let Some(peer) = self.peers.replace(number, blank_peer(alloc)) else {
+            return false;
+        };
+        let up = peer.link().is_some();
+        self.peers.set(number, peer.lose());
+        up
+    }
+
     // A client is told to want something else of a type.
     fn change(
         &mut self,
@@ -99,6 +238,36 @@ impl<A: Accept> State<A> {
         let changed = peer.change(alloc, kind, wish);
         self.peers.set(number, peer);
         changed
+    }
+}
+
+// The number of the stream that was opened.
+fn stream_in(reply: Option<Reply>) -> Option<u64>
+    ensures { result ≡ option_and_then (λ r. stream_in (reply_of r)) reply }
+{
+    match reply {
+        Some(Reply::Opened(stream)) => Some(stream),
+        _ => None,
+    }
+}
+
+// The response that a poll gave, if it gave one.
+fn draft_in(reply: Option<Reply>) -> Option<Option<Draft>>
+    ensures { result ≡ option_and_then (λ r. draft_in (reply_of r)) reply }
+{
+    match reply {
+        Some(Reply::Polled(response)) => Some(response),
+        _ => None,
+    }
+}
+
+// All that a replica holds.
+fn batch_in(reply: Option<Reply>) -> Option<Batch>
+    ensures { result ≡ option_and_then (λ r. batch_in (reply_of r)) reply }
+{
+    match reply {
+        Some(Reply::Entries(batch)) => Some(batch),
+        _ => None,
     }
 }
 
