@@ -1,7 +1,7 @@
 -- A value of a world that is taken out, changed and put back.
 use Rattle.std.proofs.Common.{◌≡◌, ℕ, Bool, true, false, Option, Some, None, Result, Ok, Err, refl, sym, ap, subst, ◌∙◌}
-use Rattle.std.specs.Prelude.{IfOk, option_map}
-use Rattle.std.specs.Option.{option_and_then}
+use Rattle.std.specs.Prelude.{IfOk, option_map, is_some, is_none, not, if◌then◌else◌}
+use Rattle.std.specs.Option.{option_and_then, option_map_or}
 use Rattle.std.specs.Ordering.{nat_cmp}
 use Rattle.std.specs.FinMap as finmap
 use Rattle.std.specs.FinMap.{FinMap}
@@ -12,8 +12,9 @@ use Rattle.xds_core.specs.declared.event.Reply.{Reply}
 use Rattle.xds_core.specs.Seen.{reply_of}
 use Rattle.xds_core.specs.Steps.{Step, step}
 use Rattle.xds_core.proofs.StreamSteps.{put_twice, put_back}
-use Rattle.xds_model.specs.Worlds.{Site, Peer, World, with_peer, answered_at, at_site}
-use Rattle.xds_world.specs.Parts.{Gave, Happened, answered, if_answered, peer_event}
+use Rattle.xds_cache.specs.Clients.{unlinked}
+use Rattle.xds_model.specs.Worlds.{Site, Link, Peer, World, with_peer, answered_at, at_site, connected_to}
+use Rattle.xds_world.specs.Parts.{Gave, Happened, answered, if_answered, peer_event, peer_lost, peer_connected}
 
 abbrev pub with_peers : World → FinMap nat_cmp Peer → World
 with_peers w m = record w { peers = m }
@@ -70,3 +71,29 @@ module _ (w : World) (r : ℕ) (e : Event) (s x left : Site) (has : finmap.get w
 -- a replica that isn't there
 pub no_site : (w after : World) (r : ℕ) (e : Event) → finmap.get w.sites r ≡ None → after ≡ w → Gave {Y = events.Reply} reply_of w None after (at_site w r e)
 no_site w after r e none same = (ap (option_and_then (λ s. answered_at w r s e (step s.core e))) none, same)
+
+-- the same of a change that needs no memory
+pub put_one : (w : World) (c : ℕ) (f : Peer → Option Peer) (p x left : Peer) → finmap.get w.peers c ≡ Some p → (back : FinMap nat_cmp Peer) → back ≡ finmap.insert (finmap.insert w.peers c x) c left → (b : Bool) (after : World) → after ≡ with_peers w back
+    → Happened p b left (f p) → Happened w b after (peer_event w c f)
+put_one w c f p x left has back puts b after same is = subst (λ v. Happened w b v (peer_event w c f)) (sym same) (put_peer w c f p x left has back puts b is)
+
+-- a client whose stream is lost, if it had one
+lost_at : (p left : Peer) (o : Option Link) → p.link ≡ o → left ≡ option_map_or (λ p. p) (peer_lost p) p → Happened p (is_some o) left (peer_lost p)
+lost_at p left None none is = (ap (option_map (λ l. record p { client = unlinked p.client; link = None })) none, is ∙ ap (λ o. option_map_or (λ p. p) (option_map (λ l. record p { client = unlinked p.client; link = None }) o) p) none)
+lost_at p left (Some l) up is =
+    ap (option_map (λ l. record p { client = unlinked p.client; link = None })) up ∙ ap Some (sym (is ∙ ap (λ o. option_map_or (λ p. p) (option_map (λ l. record p { client = unlinked p.client; link = None }) o) p) up))
+
+pub lost : (p left : Peer) (b : Bool) → b ≡ is_some p.link → left ≡ option_map_or (λ p. p) (peer_lost p) p → Happened p b left (peer_lost p)
+lost p left b up is = subst (λ b. Happened p b left (peer_lost p)) (sym up) (lost_at p left p.link refl is)
+
+-- a client that is connected, or was up before
+pub connected_new : (r n : ℕ) (p left : Peer) → p.link ≡ None → left ≡ connected_to p r n → Happened p true left (peer_connected r n p)
+connected_new r n p left down is = ap (λ o. if is_none o then Some (connected_to p r n) else None) down ∙ ap Some (sym is)
+
+pub connected_not : (r n : ℕ) (p left : Peer) → is_some p.link ≡ true → left ≡ p → Happened p false left (peer_connected r n p)
+connected_not r n p left up is = (ap (λ b. if not b then Some (connected_to p r n) else None) up, is)
+
+-- whether there is something, however it is seen
+pub some_seen : {X Y : Type 0} (f : X → Y) (o : Option X) (p : Option Y) → option_map f o ≡ p → is_some o ≡ is_some p
+some_seen f None p is = ap is_some is
+some_seen f (Some x) p is = ap is_some is

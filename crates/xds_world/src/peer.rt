@@ -1,12 +1,12 @@
 // A client on its stream, if it has one.
-ghost use Rattle.std.specs.Prelude.{◌≡◌, Some, None, is_some, string_bytes, option_map, IsSome, IfOk, IfErr, OnOk};
+ghost use Rattle.std.specs.Prelude.{◌≡◌, Some, None, is_some, string_bytes, option_map, IfOk, IfErr, OnOk};
 ghost use Rattle.std.specs.Option.{option_map_or};
 ghost use Rattle.xds_resource.specs.declared.refusal.Refusal.TheVariants.{OutOfMemory};
 ghost use Rattle.xds_core.specs.Seen.{message_of};
 ghost use Rattle.xds_cache.specs.Clients.{view as view_of, fresh};
 ghost use Rattle.xds_model.specs.Seen.{wish_of};
-ghost use Rattle.xds_model.specs.Worlds.{sending, connected_to};
-ghost use Rattle.xds_world.specs.Parts.{Happened, peer_changed, peer_up, peer_polled, peer_down, peer_lost};
+ghost use Rattle.xds_model.specs.Worlds.{sending};
+ghost use Rattle.xds_world.specs.Parts.{Happened, peer_changed, peer_up, peer_polled, peer_down, peer_lost, peer_connected};
 
 use crate::client::AnyClient;
 use crate::link::Link;
@@ -82,22 +82,22 @@ impl<A: Accept> Peer<A> {
         self.link.as_ref()
     }
 
-    /// On a new stream to a replica.
+    /// On a new stream to a replica, unless the client has one, and whether it is there now.
     pub(crate) fn connect(
         self,
         alloc: Global,
         replica: u16,
         stream: u64,
-    ) -> Result<Peer<A>, Refusal>
-        requires { self.link ≡ None }
-        ensures ok { IfOk result (λ p. p ≡ connected_to self replica stream) }
+    ) -> Result<(Peer<A>, bool), Refusal>
+        ensures ok { IfOk result (λ q. Happened self q.1 q.0 (peer_connected replica stream self)) }
         ensures refused { IfErr result (λ e. e ≡ OutOfMemory) }
     {
+        if self.link.is_some() {
+            return Ok((self, false));
+        }
         let (client, requests) = self.client.connect(alloc)?;
-        Ok(Peer {
-            client,
-            link: Some(Link::new(alloc, replica, stream, requests)),
-        })
+        let link = Some(Link::new(alloc, replica, stream, requests));
+        Ok((Peer { client, link }, true))
     }
 
     /// The client is told to want something else of a type.

@@ -220,6 +220,204 @@ impl<A: Accept> State<A> {
         up
     }
 
+    // A client is on a new stream to a replica, unless it has one. Answers whether it is there now.
+    fn connect_link(
+        &mut self,
+        alloc: Global,
+        client: u32,
+        replica: u16,
+        stream: u64,
+    ) -> Result<bool, Refusal>
+        ensures ok { IfOk result (λ b. Happened self.old b self.new (peer_event self.old client (peer_connected replica stream))) }
+        ensures refused { IfErr result (λ e. e ≡ OutOfMemory) }
+    {
+        let number = client as u64;
+        let Some(peer) = self.peers.replace(number, blank_peer(alloc)) else {
+            return Ok(false);
+        };
+        let (peer, connected) = peer.connect(alloc, replica, stream)?;
+        self.peers.set(number, peer);
+        Ok(connected)
+    }
+
+    fn add_replica(&mut self, alloc: Global, replica: u16) -> Result<bool, Refusal>
+        ensures ok { IfOk result (λ b. Happened self.old b self.new (happens A.accepts self.old (happenings.AddReplica replica))) }
+        ensures refused { IfErr result (λ e. e ≡ OutOfMemory) }
+    {
+        let number = replica as u64;
+        if replica == 0 || self.sites.get(number).is_some() {
+            return Ok(false);
+        }
+        self.sites.insert(number, Site::new(alloc, replica))?;
+        Ok(true)
+    }
+
+    fn add_client(
+        &mut self,
+        alloc: Global,
+        client: u32,
+        kind: ClientKind,
+    ) -> Result<bool, Refusal>
+        ensures ok { IfOk result (λ b. Happened self.old b self.new (happens A.accepts self.old (happenings.AddClient client kind))) }
+        ensures refused { IfErr result (λ e. e ≡ OutOfMemory) }
+    {
+        let number = client as u64;
+        if self.peers.get(number).is_some() {
+            return Ok(false);
+        }
+        let peer = Peer::new(alloc, kind, node_id(alloc, client)?);
+        self.peers.insert(number, peer)?;
+        Ok(true)
+    }
+
+    fn snapshot(&mut self, alloc: Global, replica: u16) -> Result<bool, Refusal>
+        ensures ok { IfOk result (λ b. Happened self.old b self.new (happens A.accepts self.old (happenings.Snapshot replica))) }
+        ensures refused { IfErr result (λ e. e ≡ OutOfMemory) }
+    {
+        let Some(batch) = self.snapshot_at(alloc, replica)? else {
+            return Ok(false);
+        };
+        self.pool.push((replica, batch))?;
+        Ok(true)
+    }
+
+    // A copy of a batch of the pool, by its place from 1.
+    fn batch(&self, alloc: Global, place: u32) -> Result<Option<Batch>, Refusal>
+        ensures ok { IfOk result (λ o. o ≡ option_map (λ x. x.1) (placed self.now.pool place)) }
+        ensures refused { IfErr result (λ e. e ≡ OutOfMemory) }
+    {
+        if place == 0 {
+            return Ok(None);
+        }
+        let index = (place - 1) as usize;
+        if index >= self.pool.len() {
+            return Ok(None);
+        }
+        let (_, batch) = &self.pool[index];
+        Ok(Some(batch.try_copy(alloc)?))
+    }
+
+    fn merge(&mut self, alloc: Global, replica: u16, place: u32) -> Result<bool, Refusal>
+        ensures ok { IfOk result (λ b. Happened self.old b self.new (happens A.accepts self.old (happenings.Merge replica place))) }
+        ensures refused { IfErr result (λ e. e ≡ OutOfMemory) }
+    {
+        match self.batch(alloc, place)? {
+            Some(batch) => self.happened_at(alloc, replica, Event::Merge(batch)),
+            None => Ok(false),
+        }
+    }
+
+    fn connect(&mut self, alloc: Global, client: u32, replica: u16) -> Result<bool, Refusal>
+        ensures ok { IfOk result (λ b. Happened self.old b self.new (happens A.accepts self.old (happenings.Connect client replica))) }
+        ensures refused { IfErr result (λ e. e ≡ OutOfMemory) }
+    {
+        if !self.is_down(client) {
+            return Ok(false);
+        }
+        match self.open_at(alloc, replica)? {
+            Some(stream) => self.connect_link(alloc, client, replica, stream),
+            None => Ok(false),
+        }
+    }
+
+    fn up(&mut self, alloc: Global, client: u32) -> Result<bool, Refusal>
+        ensures ok { IfOk result (λ b. Happened self.old b self.new (happens A.accepts self.old (happenings.Up client))) }
+        ensures refused { IfErr result (λ e. e ≡ OutOfMemory) }
+    {
+        let Some((replica, stream)) = self.link_of(client) else {
+            return Ok(false);
+        };
+        let Some(request) = self.oldest_request(alloc, client)? else {
+            return Ok(false);
+        };
+        if !self.happened_at(alloc, replica, Event::Request(stream, request))? {
+            return Ok(false);
+        }
+        Ok(self.drop_request(alloc, client))
+    }
+
+    fn poll(
+        &mut self,
+        alloc: Global,
+        client: u32,
+        which: Option<TypeName>,
+    ) -> Result<bool, Refusal>
+        ensures ok { IfOk result (λ b. Happened self.old b self.new (happens A.accepts self.old (happenings.Poll client which))) }
+        ensures refused { IfErr result (λ e. e ≡ OutOfMemory) }
+    {
+        let Some((replica, stream)) = self.link_of(client) else {
+            return Ok(false);
+        };
+        match self.poll_at(alloc, replica, stream, which)? {
+            Some(response) => self.respond(alloc, client, response),
+            None => Ok(false),
+        }
+    }
+
+    fn lose(&mut self, alloc: Global, client: u32) -> Result<bool, Refusal>
+        ensures ok { IfOk result (λ b. Happened self.old b self.new (happens A.accepts self.old (happenings.Lose client))) }
+        ensures refused { IfErr result (λ e. e ≡ OutOfMemory) }
+    {
+        let Some((replica, stream)) = self.link_of(client) else {
+            return Ok(false);
+        };
+        if !self.happened_at(alloc, replica, Event::Close(stream))? {
+            return Ok(false);
+        }
+        Ok(self.lose_link(alloc, client))
+    }
+
+    fn put(
+        &mut self,
+        alloc: Global,
+        replica: u16,
+        resource: &AnyResource,
+    ) -> Result<bool, Refusal>
+        ensures ok { IfOk result (λ b. Happened self.old b self.new (happens A.accepts self.old (happenings.Put replica (resource_type resource.now) (named_body resource.now)))) }
+        ensures refused { IfErr result (λ e. e ≡ OutOfMemory) }
+    {
+        let resource = resource.try_copy(alloc)?;
+        self.happened_at(alloc, replica, Event::Put(resource))
+    }
+
+    fn delete(
+        &mut self,
+        alloc: Global,
+        replica: u16,
+        kind: TypeName,
+        name: &str,
+    ) -> Result<bool, Refusal>
+        ensures ok { IfOk result (λ b. Happened self.old b self.new (happens A.accepts self.old (happenings.Delete replica kind name.now))) }
+        ensures refused { IfErr result (λ e. e ≡ OutOfMemory) }
+    {
+        let name = String::from_str(alloc, name)?;
+        self.happened_at(alloc, replica, Event::Delete(kind, name))
+    }
+
+    /// What becomes of the world. Answers whether the event happened; where it isn't possible or is refused, nothing did. Refused
+    /// only by `OutOfMemory`, and then the world is of no use any more.
+    pub(crate) fn happen(&mut self, alloc: Global, event: &WorldEvent) -> Result<bool, Refusal>
+        ensures ok { IfOk result (λ b. Happened self.old b self.new (happens A.accepts self.old (happening_of event.now))) }
+        ensures refused { IfErr result (λ e. e ≡ OutOfMemory) }
+    {
+        match event {
+            WorldEvent::AddReplica(replica) => self.add_replica(alloc, *replica),
+            WorldEvent::AddClient(client, kind) => self.add_client(alloc, *client, *kind),
+            WorldEvent::Put(replica, resource) => self.put(alloc, *replica, resource),
+            WorldEvent::Delete(replica, kind, name) => {
+                self.delete(alloc, *replica, *kind, name.as_str())
+            }
+            WorldEvent::Snapshot(replica) => self.snapshot(alloc, *replica),
+            WorldEvent::Merge(replica, place) => self.merge(alloc, *replica, *place),
+            WorldEvent::Connect(client, replica) => self.connect(alloc, *client, *replica),
+            WorldEvent::Change(client, kind, wish) => self.change(alloc, *client, *kind, wish),
+            WorldEvent::Up(client) => self.up(alloc, *client),
+            WorldEvent::Poll(client, which) => self.poll(alloc, *client, *which),
+            WorldEvent::Down(client) => self.receive(alloc, *client),
+            WorldEvent::Lose(client) => self.lose(alloc, *client),
+        }
+    }
+
     // A client is told to want something else of a type.
     fn change(
         &mut self,
