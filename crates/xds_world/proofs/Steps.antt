@@ -301,3 +301,14 @@ change_is w c t wish (Some p) = map-twice (changed p) (with_peer w c) (wish_take
 
 pub change_done : (test : Test) (w w2 : World) (c : ℕ) (t : TypeName) (wish : happenings.Wish) (b : Bool) → Happened w b w2 (peer_event w c (peer_changed t wish)) → Happened w b w2 (happens test w (happenings.Change c t wish))
 change_done test w w2 c t wish b is = happened_same w w2 b (peer_event w c (peer_changed t wish)) (happens test w (happenings.Change c t wish)) (change_is w c t wish (finmap.get w.peers c)) is
+
+-- the same where the change may find no memory
+pub poll_within : (test : Test) (w w1 w2 : World) (c r n : ℕ) (which : Option TypeName) (o : Option Draft) → Some (r, n) ≡ option_map leads (link_at w c) → Gave events.Polled w (Some o) w1 (at_site w r (events.Poll n which))
+    → (q : Result Bool Refusal) → IfOk q (λ b. Happened w1 b w2 (peer_event w1 c (peer_polled o))) → IfOk q (λ b. Happened w b w2 (happens test w (happenings.Poll c which)))
+poll_within test w w1 w2 c r n which o led gave (Ok b) responded = poll_done test w w1 w2 c r n which o b led gave responded
+poll_within test w w1 w2 c r n which o led gave (Err e) responded = responded
+
+pub connect_within : (test : Test) (w w1 w2 : World) (c r n : ℕ) → true ≡ is_idle (finmap.get w.peers c) → Gave events.Opened w (Some n) w1 (at_site w r events.Open)
+    → (q : Result Bool Refusal) → IfOk q (λ b. Happened w1 b w2 (peer_event w1 c (peer_connected r n))) → IfOk q (λ b. Happened w b w2 (happens test w (happenings.Connect c r)))
+connect_within test w w1 w2 c r n idle gave (Ok b) connected = connect_done test w w1 w2 c r n b idle gave connected
+connect_within test w w1 w2 c r n idle gave (Err e) connected = connected

@@ -1,6 +1,6 @@
 -- What the parts of a world do, one by one: the answers of the functions that do it. This project's own.
 use Rattle.std.specs.Prelude.{◌≡◌, ℕ, List, [], ◌∷◌, ◌++◌, Bool, true, false, if◌then◌else◌, Option, Some, None, is_none, is_some, option_map, Ok, Err, refl}
-use Rattle.std.specs.Option.{option_and_then}
+use Rattle.std.specs.Option.{option_and_then, option_map_or}
 use Rattle.std.specs.Coded.{Coded, code_by, coded×, coded_bool}
 use Rattle.std.specs.FinMap as finmap
 use Rattle.xds_resource.specs.declared.types.TypeName.{TypeName}
@@ -180,3 +180,7 @@ stream_in reply = None
 abbrev pub batch_in : Reply → Option Batch
 batch_in (events.Entries b) = Some b
 batch_in reply = None
+
+-- what is left of something that may have changed
+abbrev pub or_same : {S : Type 0} → S → Option S → S
+or_same s o = option_map_or (λ x. x) o s

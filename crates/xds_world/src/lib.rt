@@ -7,3 +7,6 @@ mod parts;
 mod peer;
 mod site;
 mod state;
+pub mod world;
+
+pub use world::{World, more, play};

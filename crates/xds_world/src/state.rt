@@ -62,6 +62,20 @@ impl<A: Accept> State<A> {
         }
     }
 
+    /// A client, by its number.
+    pub(crate) fn peer(&self, client: u32) -> Option<&Peer<A>>
+        ensures { option_map (λ p. p.now) result ≡ finmap.get self.now.peers client }
+    {
+        self.peers.get(client as u64)
+    }
+
+    /// A replica, by its number.
+    pub(crate) fn site(&self, replica: u16) -> Option<&Site>
+        ensures { option_map (λ s. s.now) result ≡ finmap.get self.now.sites replica }
+    {
+        self.sites.get(replica as u64)
+    }
+
     // What a replica answers to an event; nothing where there is no such replica or the event is refused.
     fn at_site(
         &mut self,
