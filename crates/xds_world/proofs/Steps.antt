@@ -312,3 +312,13 @@ pub connect_within : (test : Test) (w w1 w2 : World) (c r n : ℕ) → true ≡ 
     → (q : Result Bool Refusal) → IfOk q (λ b. Happened w1 b w2 (peer_event w1 c (peer_connected r n))) → IfOk q (λ b. Happened w b w2 (happens test w (happenings.Connect c r)))
 connect_within test w w1 w2 c r n idle gave (Ok b) connected = connect_done test w w1 w2 c r n b idle gave connected
 connect_within test w w1 w2 c r n idle gave (Err e) connected = connected
+
+-- the same where they may find no memory
+pub down_within : (test : Test) (w w2 : World) (c : ℕ) (q : Result Bool Refusal) → IfOk q (λ b. Happened w b w2 (peer_event w c (peer_down test))) → IfOk q (λ b. Happened w b w2 (happens test w (happenings.Down c)))
+down_within test w w2 c (Ok b) is = down_done test w w2 c b is
+down_within test w w2 c (Err e) is = is
+
+pub change_within : (test : Test) (w w2 : World) (c : ℕ) (t : TypeName) (wish : happenings.Wish) (q : Result Bool Refusal) → IfOk q (λ b. Happened w b w2 (peer_event w c (peer_changed t wish)))
+    → IfOk q (λ b. Happened w b w2 (happens test w (happenings.Change c t wish)))
+change_within test w w2 c t wish (Ok b) is = change_done test w w2 c t wish b is
+change_within test w w2 c t wish (Err e) is = is

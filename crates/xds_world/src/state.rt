@@ -9,7 +9,7 @@ ghost use Rattle.xds_core.specs.Seen.{message_of, event_of, reply_of};
 ghost use Rattle.xds_model.specs.Happenings as happenings;
 ghost use Rattle.xds_model.specs.Seen.{happening_of, wish_of};
 ghost use Rattle.xds_model.specs.Worlds.{empty_world, at_site, happened_at, happens, placed};
-ghost use Rattle.xds_world.specs.Parts.{Gave, Happened, blank, first, leads, link_at, draft_in, stream_in, batch_in, peer_event, peer_changed, peer_up, peer_polled, peer_down, peer_lost, peer_connected};
+ghost use Rattle.xds_world.specs.Parts.{Gave, Happened, blank, first, leads, link_at, draft_in, stream_in, batch_in, peer_event, peer_up, peer_polled, peer_lost, peer_connected};
 
 use crate::parts::is_there;
 use crate::peer::Peer;
@@ -209,7 +209,7 @@ impl<A: Accept> State<A> {
 
     // A client takes the oldest response that is under way to it.
     fn receive(&mut self, alloc: Global, client: u32) -> Result<bool, Refusal>
-        ensures ok { IfOk result (λ b. Happened self.old b self.new (peer_event self.old client (peer_down A.accepts))) }
+        ensures ok { IfOk result (λ b. Happened self.old b self.new (happens A.accepts self.old (happenings.Down client))) }
         ensures refused { IfErr result (λ e. e ≡ OutOfMemory) }
     {
         let number = client as u64;
@@ -440,7 +440,7 @@ impl<A: Accept> State<A> {
         kind: TypeName,
         wish: &Wish,
     ) -> Result<bool, Refusal>
-        ensures ok { IfOk result (λ b. Happened self.old b self.new (peer_event self.old client (peer_changed kind (wish_of wish.now)))) }
+        ensures ok { IfOk result (λ b. Happened self.old b self.new (happens A.accepts self.old (happenings.Change client kind (wish_of wish.now)))) }
         ensures refused { IfErr result (λ e. e ≡ OutOfMemory) }
     {
         let number = client as u64;
