@@ -5,7 +5,7 @@ pub mod catalogues;
 mod delta_stream;
 pub mod event;
 pub mod laws;
-mod numbered;
+pub mod numbered;
 mod pending;
 pub mod replica;
 mod sotw_stream;
@@ -13,4 +13,5 @@ mod stream;
 
 pub use catalogues::{Catalogues, Marks};
 pub use event::{Event, Record, Reply, Request};
+pub use numbered::Numbered;
 pub use replica::Core;

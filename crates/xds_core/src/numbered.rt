@@ -14,7 +14,7 @@ use xds_resource::Refusal;
 
 /// Values by number. Contracts see the finite map.
 #[derive(Drop)]
-pub(crate) struct Numbered<V> {
+pub struct Numbered<V> {
     values: BTreeMap<u64, V>,
 }
 
@@ -32,7 +32,8 @@ impl<V> Model for Numbered<V> {
 }
 
 impl<V: Drop> Numbered<V> {
-    pub(crate) fn new(alloc: Global) -> Numbered<V>
+    /// No value at any number.
+    pub fn new(alloc: Global) -> Numbered<V>
         ensures { result ≡ finmap.empty }
     {
         Numbered {
@@ -40,14 +41,15 @@ impl<V: Drop> Numbered<V> {
         }
     }
 
-    pub(crate) fn get(&self, number: u64) -> Option<&V>
+    /// The value at a number.
+    pub fn get(&self, number: u64) -> Option<&V>
         ensures { option_map (λ v. v.now) result ≡ finmap.get self.now number }
     {
         self.values.get(&number)
     }
 
     /// Puts a value at a number. Refused only by `OutOfMemory`.
-    pub(crate) fn insert(&mut self, number: u64, value: V) -> Result<(), Refusal>
+    pub fn insert(&mut self, number: u64, value: V) -> Result<(), Refusal>
         ensures ok { OnOk result (self.new ≡ finmap.insert self.old number value) }
         ensures err { OnErr result (self.new ≡ self.old) }
         ensures refused { IfErr result (λ e. e ≡ OutOfMemory) }
@@ -57,7 +59,7 @@ impl<V: Drop> Numbered<V> {
     }
 
     /// Takes a number out, and answers whether it was there.
-    pub(crate) fn remove(&mut self, number: u64) -> bool
+    pub fn remove(&mut self, number: u64) -> bool
         ensures removed { self.new ≡ finmap.remove self.old number }
         ensures old { result ≡ is_some (finmap.get self.old number) }
         ensures none { result ≡ false → self.new ≡ self.old }
@@ -66,7 +68,7 @@ impl<V: Drop> Numbered<V> {
     }
 
     /// Puts a value at a number that has one, in its place. It takes no memory.
-    pub(crate) fn set(&mut self, number: u64, value: V)
+    pub fn set(&mut self, number: u64, value: V)
         requires { IsSome (finmap.get self.old number) }
         ensures { self.new ≡ finmap.insert self.old number value }
     {
@@ -77,7 +79,7 @@ impl<V: Drop> Numbered<V> {
 
     /// Puts a value at a number that has one, and answers that one. It takes no memory; at a number that has none it
     /// does nothing.
-    pub(crate) fn replace(&mut self, number: u64, value: V) -> Option<V>
+    pub fn replace(&mut self, number: u64, value: V) -> Option<V>
         ensures old { result ≡ finmap.get self.old number }
         ensures found { IfSome result (λ v. self.new ≡ finmap.insert self.old number value) }
         ensures none { IfNone result (self.new ≡ self.old) }
@@ -87,7 +89,7 @@ impl<V: Drop> Numbered<V> {
     }
 
     /// The numbers with their values, in ascending order.
-    pub(crate) fn iter(&self) -> Iter<'_, u64, V>
+    pub fn iter(&self) -> Iter<'_, u64, V>
         ensures { result ≡ finmap.entries self.now }
     {
         self.values.iter()

@@ -1,0 +1,20 @@
+-- Worlds after lists of happenings.
+use Rattle.std.proofs.Common.{◌≡◌, List, [], ◌∷◌, ◌++◌, Bool, true, false, Option, Some, None, refl, sym, ap, ◌∙◌}
+use Rattle.std.specs.Option.{option_map_or}
+use Rattle.xds_cache.specs.Faults.{Test}
+use Rattle.xds_model.specs.Happenings.{Happening}
+use Rattle.xds_model.specs.Worlds.{World, happens, after, world, empty_world}
+use Rattle.xds_world.specs.Parts.{Happened}
+
+after_more : (test : Test) (w : World) (hs : List Happening) (h : Happening) → after test w (hs ++ h ∷ []) ≡ option_map_or (λ x. x) (happens test (after test w hs) h) (after test w hs)
+after_more test w [] h = refl
+after_more test w (x ∷ hs) h = after_more test (option_map_or (λ x. x) (happens test w x) w) hs h
+
+left_is : (w left : World) (b : Bool) (o : Option World) → Happened w b left o → left ≡ option_map_or (λ x. x) o w
+left_is w left true o is = sym (ap (λ q. option_map_or (λ x. x) q w) is)
+left_is w left false o is = is.1 ∙ sym (ap (λ q. option_map_or (λ x. x) q w) is.0)
+
+-- one happening more
+pub and_one : (test : Test) (w left : World) (hs : List Happening) (h : Happening) (b : Bool) → w ≡ world test hs → Happened w b left (happens test w h) → left ≡ world test (hs ++ h ∷ [])
+and_one test w left hs h b is happened =
+    left_is w left b (happens test w h) happened ∙ ap (λ w. option_map_or (λ x. x) (happens test w h) w) is ∙ sym (after_more test empty_world hs h)

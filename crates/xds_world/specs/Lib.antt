@@ -1,0 +1,4 @@
+pub mod Codes
+pub mod Seen
+pub mod Parts
+pub mod States

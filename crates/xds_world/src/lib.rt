@@ -1,0 +1,12 @@
+// A world that runs: replicas and clients, what is under way between them, and what happened.
+#![tactic(auto)]
+
+mod client;
+mod link;
+mod parts;
+mod peer;
+mod site;
+mod state;
+pub mod world;
+
+pub use world::{World, more, play};

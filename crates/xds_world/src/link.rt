@@ -1,0 +1,116 @@
+// A stream from a client to a replica, with what is under way on it.
+ghost use Rattle.std.specs.Prelude.{◌≡◌, [], ◌∷◌, ◌++◌, map, option_map, IfOk, IfErr, OnOk, OnErr};
+ghost use Rattle.xds_resource.specs.declared.refusal.Refusal.TheVariants.{OutOfMemory};
+ghost use Rattle.xds_core.specs.Seen.{message_of};
+ghost use Rattle.xds_model.specs.Worlds.{under_way};
+ghost use Rattle.xds_world.specs.Parts.{Happened, first, behind, link_up};
+
+use crate::parts::is_there;
+use std::alloc::Global;
+use std::collections::VecDeque;
+use std::marker::Model;
+use xds_core::Request;
+use xds_draft::Draft;
+use xds_resource::Refusal;
+
+/// A stream from a client to a replica, with what is under way on it each way, the oldest first.
+#[derive(Drop)]
+pub(crate) struct Link {
+    replica: u16,
+    stream: u64,
+    up: VecDeque<Request>,
+    down: VecDeque<Draft>,
+}
+
+impl Model for Link {
+    ghost use Rattle.std.specs.Prelude.{map};
+    ghost use Rattle.xds_core.specs.Seen.{message_of};
+    ghost use Rattle.xds_model.specs.Worlds as worlds;
+    ghost use Rattle.xds_world.specs.Codes.{link_code};
+
+    ghost Value = { worlds.Link };
+
+    ghost coded = { link_code };
+
+    ghost view = { λ l. record { replica = l.replica; stream = l.stream; up = map message_of l.up.items; down = l.down.items } };
+}
+
+impl Link {
+    /// A new stream with the requests that are sent at its start.
+    pub(crate) fn new(alloc: Global, replica: u16, stream: u64, up: VecDeque<Request>) -> Link
+        ensures { result ≡ record { replica = replica; stream = stream; up = map message_of up.items; down = [] } }
+    {
+        Link {
+            replica,
+            stream,
+            up,
+            down: VecDeque::new(alloc),
+        }
+    }
+
+    /// The number of the replica.
+    pub(crate) fn replica(&self) -> u16
+        ensures { result ≡ self.now.replica }
+    {
+        self.replica
+    }
+
+    /// The number of the stream at the replica.
+    pub(crate) fn stream(&self) -> u64
+        ensures { result ≡ self.now.stream }
+    {
+        self.stream
+    }
+
+    /// One request more is under way.
+    pub(crate) fn send(&mut self, request: Request) -> Result<(), Refusal>
+        ensures ok { OnOk result (self.new ≡ record self.old { up = self.old.up ++ message_of request ∷ [] }) }
+        ensures refused { IfErr result (λ e. e ≡ OutOfMemory) }
+    {
+        self.up.push_back(request)?;
+        Ok(())
+    }
+
+    /// A copy of the oldest request, if one is under way.
+    pub(crate) fn oldest_request(&self, alloc: Global) -> Result<Option<Request>, Refusal>
+        ensures ok { IfOk result (λ o. option_map message_of o ≡ first self.now.up) }
+        ensures refused { IfErr result (λ e. e ≡ OutOfMemory) }
+    {
+        match self.up.front() {
+            Some(request) => Ok(Some(request.try_copy(alloc)?)),
+            None => Ok(None),
+        }
+    }
+
+    /// The oldest request is under way no longer. Answers whether there was one.
+    pub(crate) fn drop_request(&mut self) -> bool
+        ensures { Happened self.old result self.new (link_up self.old self.old.up) }
+    {
+        is_there(self.up.pop_front())
+    }
+
+    /// A response is under way, if there is one.
+    pub(crate) fn respond(&mut self, response: Option<Draft>) -> Result<(), Refusal>
+        ensures ok { OnOk result (self.new ≡ record self.old { down = self.old.down ++ under_way response }) }
+        ensures refused { IfErr result (λ e. e ≡ OutOfMemory) }
+    {
+        if let Some(draft) = response {
+            self.down.push_back(draft)?;
+        }
+        Ok(())
+    }
+
+    /// The oldest response, if one is under way.
+    pub(crate) fn oldest_response(&self) -> Option<&Draft>
+        ensures { option_map (λ d. d.now) result ≡ first self.now.down }
+    {
+        self.down.front()
+    }
+
+    /// The oldest response is under way no longer.
+    pub(crate) fn drop_response(&mut self)
+        ensures { self.new ≡ record self.old { down = behind self.old.down } }
+    {
+        self.down.pop_front();
+    }
+}

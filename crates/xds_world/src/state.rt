@@ -1,0 +1,491 @@
+// What a world is at a time.
+ghost use Rattle.std.specs.Prelude.{◌≡◌, ◌≤◌, ◌∷◌, [], false, Some, None, is_none, is_some, option_map, string_bytes, decimal, IfOk, IfErr, OnOk, OnErr};
+ghost use Rattle.std.specs.Option.{option_and_then, option_map_or};
+ghost use Rattle.std.specs.FinMap as finmap;
+ghost use Rattle.xds_resource.specs.Any.{resource_type, named_body};
+ghost use Rattle.xds_resource.specs.declared.refusal.Refusal.TheVariants.{OutOfMemory};
+ghost use Rattle.xds_core.specs.Events as events;
+ghost use Rattle.xds_core.specs.Seen.{message_of, event_of, reply_of};
+ghost use Rattle.xds_model.specs.Happenings as happenings;
+ghost use Rattle.xds_model.specs.Seen.{happening_of, wish_of};
+ghost use Rattle.xds_model.specs.Worlds.{empty_world, at_site, happened_at, happens, placed};
+ghost use Rattle.xds_world.specs.Parts.{Gave, Happened, blank, first, leads, link_at, draft_in, stream_in, batch_in, peer_event, peer_up, peer_polled, peer_lost, peer_connected};
+
+use crate::parts::is_there;
+use crate::peer::Peer;
+use crate::site::Site;
+use std::alloc::Global;
+use std::marker::Model;
+use xds_cache::Accept;
+use xds_core::{Event, Numbered, Reply, Request};
+use xds_draft::Draft;
+use xds_message::Batch;
+use xds_model::{ClientKind, Wish, WorldEvent};
+use xds_resource::{AnyResource, Refusal, TypeName};
+
+/// Replicas, clients, and the batches that were taken.
+#[derive(Drop)]
+pub(crate) struct State<A: Accept> {
+    sites: Numbered<Site>,
+    peers: Numbered<Peer<A>>,
+    pool: Vec<(u16, Batch)>,
+}
+
+impl<A: Accept> Model for State<A> {
+    ghost use Rattle.xds_model.specs.Worlds as worlds;
+    ghost use Rattle.xds_world.specs.Codes.{world_code};
+
+    ghost Value = { worlds.World };
+
+    ghost coded = { world_code };
+
+    ghost view = { λ s. record { sites = s.sites; peers = s.peers; pool = s.pool.items } };
+}
+
+// What a client says of itself.
+fn node_id(alloc: Global, client: u32) -> Result<String, Refusal>
+    ensures text { IfOk result (λ s. string_bytes s ≡ decimal client) }
+    ensures refused { IfErr result (λ e. e ≡ OutOfMemory) }
+{
+    Ok(format!(in alloc; "{client}")?)
+}
+
+impl<A: Accept> State<A> {
+    /// A world with nothing in it.
+    pub(crate) fn new(alloc: Global) -> State<A>
+        ensures { result ≡ empty_world }
+    {
+        State {
+            sites: Numbered::new(alloc),
+            peers: Numbered::new(alloc),
+            pool: Vec::new(alloc),
+        }
+    }
+
+    /// A client, by its number.
+    pub(crate) fn peer(&self, client: u32) -> Option<&Peer<A>>
+        ensures { option_map (λ p. p.now) result ≡ finmap.get self.now.peers client }
+    {
+        self.peers.get(client as u64)
+    }
+
+    /// A replica, by its number.
+    pub(crate) fn site(&self, replica: u16) -> Option<&Site>
+        ensures { option_map (λ s. s.now) result ≡ finmap.get self.now.sites replica }
+    {
+        self.sites.get(replica as u64)
+    }
+
+    // What a replica answers to an event; nothing where there is no such replica or the event is refused.
+    fn at_site(
+        &mut self,
+        alloc: Global,
+        replica: u16,
+        event: Event,
+    ) -> Result<Option<Reply>, Refusal>
+        ensures ok { IfOk result (λ o. Gave reply_of self.old o self.new (at_site self.old replica (event_of event))) }
+        ensures refused { IfErr result (λ e. e ≡ OutOfMemory) }
+    {
+        let number = replica as u64;
+        let Some(mut site) = self.sites.replace(number, Site::new(alloc, 1)) else {
+            return Ok(None);
+        };
+        let reply = site.take(alloc, event);
+        self.sites.set(number, site);
+        reply
+    }
+
+    // Lets an event happen at a replica. Answers whether it happened.
+    fn happened_at(
+        &mut self,
+        alloc: Global,
+        replica: u16,
+        event: Event,
+    ) -> Result<bool, Refusal>
+        ensures ok { IfOk result (λ b. Happened self.old b self.new (happened_at self.old replica (event_of event))) }
+        ensures refused { IfErr result (λ e. e ≡ OutOfMemory) }
+    {
+        let reply = self.at_site(alloc, replica, event)?;
+        Ok(is_there(reply))
+    }
+
+    // Opens a stream at a replica. Answers its number.
+    fn open_at(&mut self, alloc: Global, replica: u16) -> Result<Option<u64>, Refusal>
+        ensures ok { IfOk result (λ o. Gave events.Opened self.old o self.new (at_site self.old replica events.Open)) }
+        ensures refused { IfErr result (λ e. e ≡ OutOfMemory) }
+    {
+        let reply = self.at_site(alloc, replica, Event::Open)?;
+        Ok(stream_in(reply))
+    }
+
+    // Polls a stream of a replica. Answers the response, if there is one.
+    fn poll_at(
+        &mut self,
+        alloc: Global,
+        replica: u16,
+        stream: u64,
+        which: Option<TypeName>,
+    ) -> Result<Option<Option<Draft>>, Refusal>
+        ensures ok { IfOk result (λ o. Gave events.Polled self.old o self.new (at_site self.old replica (events.Poll stream which))) }
+        ensures refused { IfErr result (λ e. e ≡ OutOfMemory) }
+    {
+        let reply = self.at_site(alloc, replica, Event::Poll(stream, which))?;
+        Ok(draft_in(reply))
+    }
+
+    // All that a replica holds.
+    fn snapshot_at(&mut self, alloc: Global, replica: u16) -> Result<Option<Batch>, Refusal>
+        ensures ok { IfOk result (λ o. Gave events.Entries self.old o self.new (at_site self.old replica events.Snapshot)) }
+        ensures refused { IfErr result (λ e. e ≡ OutOfMemory) }
+    {
+        let reply = self.at_site(alloc, replica, Event::Snapshot)?;
+        Ok(batch_in(reply))
+    }
+
+    // The replica that a client's stream leads to, and the number of the stream there.
+    fn link_of(&self, client: u32) -> Option<(u16, u64)>
+        ensures { result ≡ option_map leads (link_at self.now client) }
+    {
+        let peer = self.peers.get(client as u64)?;
+        let link = peer.link()?;
+        Some((link.replica(), link.stream()))
+    }
+
+    // A copy of the oldest request of a client that is under way.
+    fn oldest_request(&self, alloc: Global, client: u32) -> Result<Option<Request>, Refusal>
+        ensures ok { IfOk result (λ o. option_map message_of o ≡ option_and_then (λ l. first l.up) (link_at self.now client)) }
+        ensures refused { IfErr result (λ e. e ≡ OutOfMemory) }
+    {
+        let Some(peer) = self.peers.get(client as u64) else {
+            return Ok(None);
+        };
+        let Some(link) = peer.link() else {
+            return Ok(None);
+        };
+        link.oldest_request(alloc)
+    }
+
+    // Whether there is a client that has no stream.
+    fn is_down(&self, client: u32) -> bool
+        ensures { result ≡ option_map_or (λ p. is_none p.link) (finmap.get self.now.peers client) false }
+    {
+        match self.peers.get(client as u64) {
+            Some(peer) => peer.link().is_none(),
+            None => false,
+        }
+    }
+
+    // The oldest request of a client is under way no longer.
+    fn drop_request(&mut self, alloc: Global, client: u32) -> bool
+        ensures { Happened self.old result self.new (peer_event self.old client peer_up) }
+    {
+        let number = client as u64;
+        let Some(mut peer) = self.peers.replace(number, blank_peer(alloc)) else {
+            return false;
+        };
+        let dropped = peer.drop_request();
+        self.peers.set(number, peer);
+        dropped
+    }
+
+    // A response is under way to a client, if there is one.
+    fn respond(
+        &mut self,
+        alloc: Global,
+        client: u32,
+        response: Option<Draft>,
+    ) -> Result<bool, Refusal>
+        ensures ok { IfOk result (λ b. Happened self.old b self.new (peer_event self.old client (peer_polled response))) }
+        ensures refused { IfErr result (λ e. e ≡ OutOfMemory) }
+    {
+        let number = client as u64;
+        let Some(mut peer) = self.peers.replace(number, blank_peer(alloc)) else {
+            return Ok(false);
+        };
+        let responded = peer.respond(response);
+        self.peers.set(number, peer);
+        responded
+    }
+
+    // A client takes the oldest response that is under way to it.
+    fn receive(&mut self, alloc: Global, client: u32) -> Result<bool, Refusal>
+        ensures ok { IfOk result (λ b. Happened self.old b self.new (happens A.accepts self.old (happenings.Down client))) }
+        ensures refused { IfErr result (λ e. e ≡ OutOfMemory) }
+    {
+        let number = client as u64;
+        let Some(mut peer) = self.peers.replace(number, blank_peer(alloc)) else {
+            return Ok(false);
+        };
+        let received = peer.receive(alloc);
+        self.peers.set(number, peer);
+        received
+    }
+
+    // A client loses its stream, if it has one.
+    fn lose_link(&mut self, alloc: Global, client: u32) -> bool
+        ensures { Happened self.old result self.new (peer_event self.old client peer_lost) }
+    {
+        let number = client as u64;
+        let Some(peer) = self.peers.replace(number, blank_peer(alloc)) else {
+            return false;
+        };
+        let up = peer.link().is_some();
+        self.peers.set(number, peer.lose());
+        up
+    }
+
+    // A client is on a new stream to a replica, unless it has one. Answers whether it is there now.
+    fn connect_link(
+        &mut self,
+        alloc: Global,
+        client: u32,
+        replica: u16,
+        stream: u64,
+    ) -> Result<bool, Refusal>
+        ensures ok { IfOk result (λ b. Happened self.old b self.new (peer_event self.old client (peer_connected replica stream))) }
+        ensures refused { IfErr result (λ e. e ≡ OutOfMemory) }
+    {
+        let number = client as u64;
+        let Some(peer) = self.peers.replace(number, blank_peer(alloc)) else {
+            return Ok(false);
+        };
+        let (peer, connected) = peer.connect(alloc, replica, stream)?;
+        self.peers.set(number, peer);
+        Ok(connected)
+    }
+
+    fn add_replica(&mut self, alloc: Global, replica: u16) -> Result<bool, Refusal>
+        ensures ok { IfOk result (λ b. Happened self.old b self.new (happens A.accepts self.old (happenings.AddReplica replica))) }
+        ensures refused { IfErr result (λ e. e ≡ OutOfMemory) }
+    {
+        let number = replica as u64;
+        if replica == 0 || self.sites.get(number).is_some() {
+            return Ok(false);
+        }
+        self.sites.insert(number, Site::new(alloc, replica))?;
+        Ok(true)
+    }
+
+    fn add_client(
+        &mut self,
+        alloc: Global,
+        client: u32,
+        kind: ClientKind,
+    ) -> Result<bool, Refusal>
+        ensures ok { IfOk result (λ b. Happened self.old b self.new (happens A.accepts self.old (happenings.AddClient client kind))) }
+        ensures refused { IfErr result (λ e. e ≡ OutOfMemory) }
+    {
+        let number = client as u64;
+        if self.peers.get(number).is_some() {
+            return Ok(false);
+        }
+        let peer = Peer::new(alloc, kind, node_id(alloc, client)?);
+        self.peers.insert(number, peer)?;
+        Ok(true)
+    }
+
+    fn snapshot(&mut self, alloc: Global, replica: u16) -> Result<bool, Refusal>
+        ensures ok { IfOk result (λ b. Happened self.old b self.new (happens A.accepts self.old (happenings.Snapshot replica))) }
+        ensures refused { IfErr result (λ e. e ≡ OutOfMemory) }
+    {
+        let Some(batch) = self.snapshot_at(alloc, replica)? else {
+            return Ok(false);
+        };
+        self.pool.push((replica, batch))?;
+        Ok(true)
+    }
+
+    // A copy of a batch of the pool, by its place from 1.
+    fn batch(&self, alloc: Global, place: u32) -> Result<Option<Batch>, Refusal>
+        ensures ok { IfOk result (λ o. o ≡ option_map (λ x. x.1) (placed self.now.pool place)) }
+        ensures refused { IfErr result (λ e. e ≡ OutOfMemory) }
+    {
+        if place == 0 {
+            return Ok(None);
+        }
+        let index = (place - 1) as usize;
+        if index >= self.pool.len() {
+            return Ok(None);
+        }
+        let (_, batch) = &self.pool[index];
+        Ok(Some(batch.try_copy(alloc)?))
+    }
+
+    fn merge(&mut self, alloc: Global, replica: u16, place: u32) -> Result<bool, Refusal>
+        ensures ok { IfOk result (λ b. Happened self.old b self.new (happens A.accepts self.old (happenings.Merge replica place))) }
+        ensures refused { IfErr result (λ e. e ≡ OutOfMemory) }
+    {
+        match self.batch(alloc, place)? {
+            Some(batch) => self.happened_at(alloc, replica, Event::Merge(batch)),
+            None => Ok(false),
+        }
+    }
+
+    fn connect(&mut self, alloc: Global, client: u32, replica: u16) -> Result<bool, Refusal>
+        ensures ok { IfOk result (λ b. Happened self.old b self.new (happens A.accepts self.old (happenings.Connect client replica))) }
+        ensures refused { IfErr result (λ e. e ≡ OutOfMemory) }
+    {
+        if !self.is_down(client) {
+            return Ok(false);
+        }
+        match self.open_at(alloc, replica)? {
+            Some(stream) => self.connect_link(alloc, client, replica, stream),
+            None => Ok(false),
+        }
+    }
+
+    fn up(&mut self, alloc: Global, client: u32) -> Result<bool, Refusal>
+        ensures ok { IfOk result (λ b. Happened self.old b self.new (happens A.accepts self.old (happenings.Up client))) }
+        ensures refused { IfErr result (λ e. e ≡ OutOfMemory) }
+    {
+        let Some((replica, stream)) = self.link_of(client) else {
+            return Ok(false);
+        };
+        let Some(request) = self.oldest_request(alloc, client)? else {
+            return Ok(false);
+        };
+        if !self.happened_at(alloc, replica, Event::Request(stream, request))? {
+            return Ok(false);
+        }
+        Ok(self.drop_request(alloc, client))
+    }
+
+    fn poll(
+        &mut self,
+        alloc: Global,
+        client: u32,
+        which: Option<TypeName>,
+    ) -> Result<bool, Refusal>
+        ensures ok { IfOk result (λ b. Happened self.old b self.new (happens A.accepts self.old (happenings.Poll client which))) }
+        ensures refused { IfErr result (λ e. e ≡ OutOfMemory) }
+    {
+        let Some((replica, stream)) = self.link_of(client) else {
+            return Ok(false);
+        };
+        match self.poll_at(alloc, replica, stream, which)? {
+            Some(response) => self.respond(alloc, client, response),
+            None => Ok(false),
+        }
+    }
+
+    fn lose(&mut self, alloc: Global, client: u32) -> Result<bool, Refusal>
+        ensures ok { IfOk result (λ b. Happened self.old b self.new (happens A.accepts self.old (happenings.Lose client))) }
+        ensures refused { IfErr result (λ e. e ≡ OutOfMemory) }
+    {
+        let Some((replica, stream)) = self.link_of(client) else {
+            return Ok(false);
+        };
+        if !self.happened_at(alloc, replica, Event::Close(stream))? {
+            return Ok(false);
+        }
+        Ok(self.lose_link(alloc, client))
+    }
+
+    fn put(
+        &mut self,
+        alloc: Global,
+        replica: u16,
+        resource: &AnyResource,
+    ) -> Result<bool, Refusal>
+        ensures ok { IfOk result (λ b. Happened self.old b self.new (happens A.accepts self.old (happenings.Put replica (resource_type resource.now) (named_body resource.now)))) }
+        ensures refused { IfErr result (λ e. e ≡ OutOfMemory) }
+    {
+        let resource = resource.try_copy(alloc)?;
+        self.happened_at(alloc, replica, Event::Put(resource))
+    }
+
+    fn delete(
+        &mut self,
+        alloc: Global,
+        replica: u16,
+        kind: TypeName,
+        name: &str,
+    ) -> Result<bool, Refusal>
+        ensures ok { IfOk result (λ b. Happened self.old b self.new (happens A.accepts self.old (happenings.Delete replica kind name.now))) }
+        ensures refused { IfErr result (λ e. e ≡ OutOfMemory) }
+    {
+        let name = String::from_str(alloc, name)?;
+        self.happened_at(alloc, replica, Event::Delete(kind, name))
+    }
+
+    /// What becomes of the world. Answers whether the event happened; where it isn't possible or is refused, nothing did. Refused
+    /// only by `OutOfMemory`, and then the world is of no use any more.
+    pub(crate) fn happen(&mut self, alloc: Global, event: &WorldEvent) -> Result<bool, Refusal>
+        ensures ok { IfOk result (λ b. Happened self.old b self.new (happens A.accepts self.old (happening_of event.now))) }
+        ensures refused { IfErr result (λ e. e ≡ OutOfMemory) }
+    {
+        match event {
+            WorldEvent::AddReplica(replica) => self.add_replica(alloc, *replica),
+            WorldEvent::AddClient(client, kind) => self.add_client(alloc, *client, *kind),
+            WorldEvent::Put(replica, resource) => self.put(alloc, *replica, resource),
+            WorldEvent::Delete(replica, kind, name) => {
+                self.delete(alloc, *replica, *kind, name.as_str())
+            }
+            WorldEvent::Snapshot(replica) => self.snapshot(alloc, *replica),
+            WorldEvent::Merge(replica, place) => self.merge(alloc, *replica, *place),
+            WorldEvent::Connect(client, replica) => self.connect(alloc, *client, *replica),
+            WorldEvent::Change(client, kind, wish) => self.change(alloc, *client, *kind, wish),
+            WorldEvent::Up(client) => self.up(alloc, *client),
+            WorldEvent::Poll(client, which) => self.poll(alloc, *client, *which),
+            WorldEvent::Down(client) => self.receive(alloc, *client),
+            WorldEvent::Lose(client) => self.lose(alloc, *client),
+        }
+    }
+
+    // A client is told to want something else of a type.
+    fn change(
+        &mut self,
+        alloc: Global,
+        client: u32,
+        kind: TypeName,
+        wish: &Wish,
+    ) -> Result<bool, Refusal>
+        ensures ok { IfOk result (λ b. Happened self.old b self.new (happens A.accepts self.old (happenings.Change client kind (wish_of wish.now)))) }
+        ensures refused { IfErr result (λ e. e ≡ OutOfMemory) }
+    {
+        let number = client as u64;
+        let Some(mut peer) = self.peers.replace(number, blank_peer(alloc)) else {
+            return Ok(false);
+        };
+        let changed = peer.change(alloc, kind, wish);
+        self.peers.set(number, peer);
+        changed
+    }
+}
+
+// The number of the stream that was opened.
+fn stream_in(reply: Option<Reply>) -> Option<u64>
+    ensures { result ≡ option_and_then (λ r. stream_in (reply_of r)) reply }
+{
+    match reply {
+        Some(Reply::Opened(stream)) => Some(stream),
+        _ => None,
+    }
+}
+
+// The response that a poll gave, if it gave one.
+fn draft_in(reply: Option<Reply>) -> Option<Option<Draft>>
+    ensures { result ≡ option_and_then (λ r. draft_in (reply_of r)) reply }
+{
+    match reply {
+        Some(Reply::Polled(response)) => Some(response),
+        _ => None,
+    }
+}
+
+// All that a replica holds.
+fn batch_in(reply: Option<Reply>) -> Option<Batch>
+    ensures { result ≡ option_and_then (λ r. batch_in (reply_of r)) reply }
+{
+    match reply {
+        Some(Reply::Entries(batch)) => Some(batch),
+        _ => None,
+    }
+}
+
+// A client that is put where another was taken out, and not kept.
+fn blank_peer<A: Accept>(alloc: Global) -> Peer<A>
+    ensures { result ≡ blank }
+{
+    Peer::new(alloc, ClientKind::Sotw, String::new(alloc))
+}

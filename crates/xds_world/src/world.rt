@@ -1,0 +1,101 @@
+// A world that runs, with the list of what happened in it.
+ghost use Rattle.std.specs.Prelude.{◌≡◌, ◌++◌, [], ◌∷◌, map, option_map, IfOk, IfErr};
+ghost use Rattle.std.specs.FinMap as finmap;
+ghost use Rattle.xds_resource.specs.declared.refusal.Refusal.TheVariants.{OutOfMemory};
+ghost use Rattle.xds_cache.specs.Clients.{view as view_of};
+ghost use Rattle.xds_model.specs.Seen.{happening_of};
+ghost use Rattle.xds_model.specs.Worlds.{world as world_of};
+
+use crate::state::State;
+use std::alloc::Global;
+use std::marker::Model;
+use xds_cache::{Accept, Holding};
+use xds_model::{ClientKind, WorldEvent};
+use xds_resource::{NameMap, Refusal, TypeName};
+
+/// A world of replicas and clients, with the list of what happened in it. `A` is the clients' test of what they are sent.
+#[derive(Drop)]
+pub struct World<A: Accept> {
+    state: State<A>,
+    events: Vec<WorldEvent>,
+}
+
+impl<A: Accept> Model for World<A> {
+    ghost use Rattle.std.specs.Prelude.{◌≡◌, List, map};
+    ghost use Rattle.xds_model.specs.Happenings.{Happening};
+    ghost use Rattle.xds_model.specs.Seen.{happening_of};
+    ghost use Rattle.xds_model.specs.Worlds as worlds;
+
+    ghost Value = { List Happening };
+
+    ghost view = { λ w. map happening_of w.events.items };
+
+    ghost invariant = { λ w. w.state ≡ worlds.world A.accepts (map happening_of w.events.items) };
+}
+
+/// The world in which these events happened, from the start. Refused only by `OutOfMemory`.
+pub fn play<A: Accept>(alloc: Global, events: &[WorldEvent]) -> Result<World<A>, Refusal>
+    ensures ok { IfOk result (λ w. w ≡ map happening_of events.now) }
+    ensures refused { IfErr result (λ e. e ≡ OutOfMemory) }
+{
+    let world = World {
+        state: State::new(alloc),
+        events: Vec::new(alloc),
+    };
+    more(alloc, world, events)
+}
+
+/// The world in which these events happened, too. Refused only by `OutOfMemory`.
+pub fn more<A: Accept>(
+    alloc: Global,
+    world: World<A>,
+    events: &[WorldEvent],
+) -> Result<World<A>, Refusal>
+    ensures ok { IfOk result (λ w. w ≡ world ++ map happening_of events.now) }
+    ensures refused { IfErr result (λ e. e ≡ OutOfMemory) }
+{
+    let mut world = world;
+    for event in events {
+        world = world.and(alloc, event)?;
+    }
+    Ok(world)
+}
+
+impl<A: Accept> World<A> {
+    // The world in which an event happened, too.
+    fn and(self, alloc: Global, event: &WorldEvent) -> Result<World<A>, Refusal>
+        ensures ok { IfOk result (λ w. w ≡ self ++ happening_of event.now ∷ []) }
+        ensures refused { IfErr result (λ e. e ≡ OutOfMemory) }
+    {
+        let World {
+            mut state,
+            mut events,
+        } = self;
+        state.happen(alloc, event)?;
+        events.push(event.try_copy(alloc)?)?;
+        Ok(World { state, events })
+    }
+
+    /// What a client holds of a type; none where there is no such client.
+    pub fn view(&self, client: u32, kind: TypeName) -> Option<&NameMap<Holding>>
+        ensures { option_map (λ v. v.now) result ≡ option_map (λ p. view_of p.client kind) (finmap.get (world_of A.accepts self.now).peers client) }
+    {
+        let peer = self.state.peer(client)?;
+        Some(peer.view(kind))
+    }
+
+    /// The variant of a client; none where there is no such client.
+    pub fn kind(&self, client: u32) -> Option<ClientKind>
+        ensures { result ≡ option_map (λ p. p.kind) (finmap.get (world_of A.accepts self.now).peers client) }
+    {
+        let peer = self.state.peer(client)?;
+        Some(peer.kind())
+    }
+
+    /// What happened, in order.
+    pub fn events(&self) -> &Vec<WorldEvent>
+        ensures { map happening_of result.now.items ≡ self.now }
+    {
+        &self.events
+    }
+}
