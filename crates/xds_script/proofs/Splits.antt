@@ -1,7 +1,8 @@
 -- The pieces between bytes of one kind, from the first of them that comes.
 use Rattle.std.proofs.Common.{◌≡◌, ◌≢◌, ℕ, zero, suc, ◌<◌, List, [], ◌∷◌, ◌++◌, length, get_or, take, drop, refl, ap, ◌∙◌, arith, ne_eqb}
 use Rattle.std.proofs.lemmas.Bool.{eq-eqb}
-use Rattle.xds_script.specs.Lines.{onto_first, pieces}
+use Rattle.std.specs.List.{onto_first}
+use Rattle.xds_script.specs.Lines.{pieces}
 
 at_mark : (m b : ℕ) (bs : List ℕ) → b ≡ m → pieces m (b ∷ bs) ≡ [] ∷ pieces m bs
 at_mark m b bs e = rw (eq-eqb b m e) refl

@@ -1,19 +1,14 @@
 -- The lines of a program's input: each is ended by a line feed, which the last may lack. This project's own.
-use Rattle.std.specs.Prelude.{ℕ, ◌-◌, length, take, slice_index, List, [], ◌∷◌, ◌==◌, if◌then◌else◌}
+use Rattle.std.specs.Prelude.{ℕ, ◌-◌, length, take, slice_index, List, ◌==◌, if◌then◌else◌}
+use Rattle.std.specs.List.{slice_split}
 
 -- a line feed
 abbrev pub feed : ℕ
 feed = 10
 
--- the bytes, with b before those of the first piece
-abbrev pub onto_first : ℕ → List (List ℕ) → List (List ℕ)
-onto_first b [] = (b ∷ []) ∷ []
-onto_first b (piece ∷ pieces) = (b ∷ piece) ∷ pieces
-
 -- what stands between bytes of one kind, and before the first and after the last of them
 abbrev pub pieces : ℕ → List ℕ → List (List ℕ)
-pieces mark [] = [] ∷ []
-pieces mark (b ∷ bs) = if b == mark then [] ∷ pieces mark bs else onto_first b (pieces mark bs)
+pieces mark bytes = slice_split (λ b. b == mark) bytes
 
 -- the bytes without the last of them, where that is a line feed
 abbrev pub without_last_feed : List ℕ → List ℕ

@@ -4,4 +4,5 @@
 pub mod command;
 pub mod lines;
 mod numbers;
+mod plain;
 mod words;
