@@ -1,3 +1,5 @@
 pub mod Splits
 pub mod ShortNumbers
 pub mod Wording
+pub mod Named
+pub mod Wishing

@@ -1,5 +1,5 @@
 -- When a word is the shortest decimal of a number in a range.
-use Rattle.std.proofs.Common.{◌≡◌, ◌≤◌, ◌<◌, ◌^◌, ℕ, List, Bool, true, false, cond, Option, Some, None, Result, Ok, Err, ◌+◌, refl, ap, sym, ◌∙◌, subst, arith}
+use Rattle.std.proofs.Common.{◌≡◌, ◌≤◌, ◌<◌, ◌^◌, ℕ, List, Bool, true, false, cond, Some, None, Result, Ok, Err, ◌+◌, refl, ap, sym, ◌∙◌, subst, arith}
 use Rattle.std.specs.Result.{result_ok}
 use Rattle.std.specs.Prelude.{bytes_eq, nat_le, decimal, ◌&&◌}
 use Rattle.std.specs.Str.Parse.{ParsesUnsigned, digits_value}
@@ -39,11 +39,11 @@ pub number_in-none : {E : Type 0} (least most k : ℕ) (w : List ℕ) (r : Resul
 number_in-none least most k w r fits short parses refuted =
     unless_true _ (digits_value 10 w)
     (λ passed.
-      let parts = each_true _ _ _ passed in
-      let e = bytes_eq_tells w (decimal (digits_value 10 w)) parts.0 in
-      let from = leb-true least (digits_value 10 w) parts.1 in
-      let to = leb-true (digits_value 10 w) most parts.2 in
-      refuted (digits_value 10 w) (parse-decimal k (digits_value 10 w) w r (omega (arith, to, fits)) (omega (arith, to, short)) e parses) e from)
+    let parts = each_true _ _ _ passed in
+    let e = bytes_eq_tells w (decimal (digits_value 10 w)) parts.0 in
+    let from = leb-true least (digits_value 10 w) parts.1 in
+    let to = leb-true (digits_value 10 w) most parts.2 in
+    refuted (digits_value 10 w) (parse-decimal k (digits_value 10 w) w r (omega (arith, to, fits)) (omega (arith, to, short)) e parses) e from)
 
 below : {E : Type 0} (k n : ℕ) (w : List ℕ) (r : Result ℕ E) → ParsesUnsigned k 10 w r → result_ok r ≡ Some n → n < 2 ^ k
 below k n w (Ok x) parses e = let same : x ≡ n = cc in omega (arith, same, parses.0.1, parses.1)

@@ -1,8 +1,8 @@
 -- The commands of scripts: one line each, the first word of which is its verb. This project's own.
-use Rattle.std.specs.Prelude.{ℕ, List, [], ◌∷◌, Bool, ◌||◌, ◌==◌, if◌then◌else◌, bytes_eq, Option, Some, None, is_some, option_map, codes, find}
+use Rattle.std.specs.Prelude.{ℕ, List, [], ◌∷◌, Bool, not, ◌&&◌, ◌||◌, ◌==◌, if◌then◌else◌, bytes_eq, Option, Some, None, is_some, option_map, codes, find}
 use Rattle.std.specs.Option.{option_and_then}
 use Rattle.std.specs.Result.{result_ok}
-use Rattle.std.specs.List.{filter_map, list_all, join_with_byte}
+use Rattle.std.specs.List.{filter_map, list_all}
 use Rattle.xds_resource.specs.declared.types.TypeName.{TypeName}
 use Rattle.xds_resource.specs.Types.{type_of_word}
 use Rattle.xds_resource.specs.Resources.{NamedBody, named_type, parsed, value_of}
@@ -15,7 +15,7 @@ use Rattle.xds_script.specs.declared.command.Command.{Command}
 use Rattle.xds_script.specs.declared.command.Command.TheVariants as commands
 use Rattle.xds_script.specs.declared.command.Verb.{Verb}
 use Rattle.xds_script.specs.declared.command.Verb.TheVariants.{Replica, Client, Put, Delete, Snapshot, Merge, Connect, Names, Change, Up, Down, Lose, Poll, Settle, View, Content}
-use Rattle.xds_script.specs.Words.{Text, space, split_first, only, two, replica_number, whole_number}
+use Rattle.xds_script.specs.Words.{Text, is_empty, text_of, split_first, only, two, replica_number, whole_number}
 
 -- ---- verbs
 
@@ -74,9 +74,12 @@ abbrev pub name_in : Text → Option Text
 name_in [] = None
 name_in (b ∷ bs) = Some (b ∷ bs)
 
+abbrev pub is_name : Text → Bool
+is_name w = is_some (name_in w)
+
 -- names, perhaps none
 abbrev pub names_in : List Text → Option Wish
-names_in ws = if list_all (λ w. is_some (name_in w)) ws then Some (happenings.Names ws) else None
+names_in ws = if list_all is_name ws then Some (happenings.Names ws) else None
 
 -- the name behind a mark
 abbrev pub name_behind : ℕ → Text → Option Text
@@ -96,19 +99,13 @@ is_edit w = is_some (subscribed_in w) || is_some (unsubscribed_in w)
 
 -- names to subscribe and to unsubscribe, one at least
 abbrev pub edits_in : List Text → Option Wish
-edits_in [] = None
-edits_in (w ∷ ws) = if list_all is_edit (w ∷ ws) then Some (happenings.Edits (filter_map subscribed_in (w ∷ ws)) (filter_map unsubscribed_in (w ∷ ws))) else None
+edits_in ws = if not (is_empty ws) && list_all is_edit ws then Some (happenings.Edits (filter_map subscribed_in ws) (filter_map unsubscribed_in ws)) else None
 
 -- a type, if a word stands there
 abbrev pub type_if_any : List Text → Option (Option TypeName)
 type_if_any [] = Some None
 type_if_any (w ∷ []) = option_map Some (type_of_word w)
 type_if_any (w ∷ x ∷ ws) = None
-
--- the text whose words these are
-abbrev pub text_of : List Text → Option Text
-text_of [] = None
-text_of (w ∷ ws) = Some (join_with_byte space (w ∷ ws))
 
 -- the resource that a text is, and its type
 abbrev pub resource_in : Text → Option (TypeName × NamedBody)

@@ -1,5 +1,6 @@
 -- The words of a line: one space stands between each two of them. This project's own.
-use Rattle.std.specs.Prelude.{ℕ, List, [], ◌∷◌, Bool, ◌&&◌, if◌then◌else◌, bytes_eq, nat_le, Option, Some, None, decimal}
+use Rattle.std.specs.Prelude.{ℕ, List, [], ◌∷◌, Bool, true, false, ◌&&◌, if◌then◌else◌, bytes_eq, nat_le, Option, Some, None, decimal}
+use Rattle.std.specs.List.{join_with_byte}
 use Rattle.std.specs.Str.Parse.{digits_value}
 use Rattle.xds_script.specs.Lines.{pieces}
 
@@ -24,6 +25,11 @@ abbrev pub split_first : List Text → Option (Text × List Text)
 split_first [] = None
 split_first (w ∷ ws) = Some (w, ws)
 
+-- whether no word is there
+abbrev pub is_empty : List Text → Bool
+is_empty [] = true
+is_empty (w ∷ ws) = false
+
 -- the word, where it stands alone
 abbrev pub only : List Text → Option Text
 only [] = None
@@ -36,6 +42,11 @@ two [] = None
 two (w ∷ []) = None
 two (w ∷ x ∷ []) = Some (w, x)
 two (w ∷ x ∷ y ∷ ws) = None
+
+-- the text whose words these are
+abbrev pub text_of : List Text → Option Text
+text_of [] = None
+text_of (w ∷ ws) = Some (join_with_byte space (w ∷ ws))
 
 -- the number that a word spells in decimal without leading zeros, if it isn't below the least nor above the most
 abbrev pub number_in : ℕ → ℕ → Text → Option ℕ

@@ -5,4 +5,5 @@ pub mod command;
 pub mod lines;
 mod numbers;
 mod plain;
+mod texts;
 mod words;

@@ -1,7 +1,7 @@
 // The words of a line that are left to read.
-ghost use Rattle.std.specs.Prelude.{◌≡◌, List, ℕ, length, ◌<◌};
+ghost use Rattle.std.specs.Prelude.{◌≡◌};
 ghost use Rattle.std.specs.Option.{option_map};
-ghost use Rattle.xds_script.specs.Words.{words, split_first, only, two};
+ghost use Rattle.xds_script.specs.Words.{words, is_empty, split_first, only, two, text_of};
 
 use std::marker::Model;
 
@@ -27,6 +27,12 @@ impl<'a> Words<'a> {
         ensures { result ≡ words line.now }
     {
         Words { rest: Some(line) }
+    }
+
+    pub(crate) fn is_empty(&self) -> bool
+        ensures { result ≡ is_empty self.now }
+    {
+        self.rest.is_none()
     }
 
     /// The first word, and the words behind it.
@@ -58,5 +64,11 @@ impl<'a> Words<'a> {
         let (first, rest) = self.split_first()?;
         let second = rest.only()?;
         Some((first, second))
+    }
+    /// The text that the words are of, spaces and all; none where there is no word.
+    pub(crate) fn text(self) -> Option<&'a str>
+        ensures { option_map (λ s. s.now) result ≡ text_of self.entry }
+    {
+        self.rest
     }
 }

@@ -1,5 +1,5 @@
 -- The text of a number that fits is read as that number, so no number is missed.
-use Rattle.std.proofs.Common.{◌≡◌, Ok, Some, true, nat_eq, ◌∙◌, sym, ap, arith}
+use Rattle.std.proofs.Common.{◌≡◌, Some, true, nat_eq, ◌∙◌, sym, arith}
 use Rattle.std.specs.Cmp.Lexicographic.{nat_list_eq_equiv, pointwise}
 use Rattle.xds_script.proofs.ShortNumbers.{number_in-read, number_in-none}
 use Rattle.xds_script.proofs.numbers.whole_number.Goals as goal
@@ -23,13 +23,13 @@ returns-else-number-gt0 c =
     let was = c.in_ok-number.was in
     sym (number_in-none 1 4294967295 32 c.args.word.now c.parse.result (omega arith) (omega arith) c.parse.ensures.value.0
     (λ n read e from.
-      let there : c.ok.result ≡ Some n = rw read at c.ok.ensures.value in
-      let same : c.in_ok-number.number ≡ n = cc in
-      elim c.else-number-gt0.branch [
-        | else-number-gt0-via-then-number-gt0+else-eq w ↦
-            let printed : w.format.result.now ≡ c.args.word.now = rw same at w.format.ensures.text ∙ sym e in
-            let equal : pointwise nat_eq w.format.result.now c.args.word.now ≡ true = rw printed (nat_list_eq_equiv.refl c.args.word.now) in
-            let differs = w.if-eq.ensures in
-            cc
-        | else-number-gt0-via-else-number-gt0 w ↦ omega (arith, same, from, w.if-number-gt0.false)
-      ]))
+    let there : c.ok.result ≡ Some n = rw read at c.ok.ensures.value in
+    let same : c.in_ok-number.number ≡ n = cc in
+    elim c.else-number-gt0.branch [
+      | else-number-gt0-via-then-number-gt0+else-eq w ↦
+          let printed : w.format.result.now ≡ c.args.word.now = rw same at w.format.ensures.text ∙ sym e in
+          let equal : pointwise nat_eq w.format.result.now c.args.word.now ≡ true = rw printed (nat_list_eq_equiv.refl c.args.word.now) in
+          let differs = w.if-eq.ensures in
+          cc
+      | else-number-gt0-via-else-number-gt0 w ↦ omega (arith, same, from, w.if-number-gt0.false)
+    ]))

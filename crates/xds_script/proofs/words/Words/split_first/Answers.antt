@@ -1,7 +1,5 @@
-use Rattle.std.proofs.Common.{◌≡◌, List, ap, sym, ◌∙◌, arith, Option, Bor}
-use Rattle.std.specs.Option.{option_map}
+use Rattle.std.proofs.Common.{arith}
 use Rattle.std.proofs.lemmas.Str.Pattern.{split_parts}
-use Rattle.xds_script.specs.Words.{Text, words, words_in}
 use Rattle.xds_script.proofs.Wording.{split_first-space, split_first-all}
 use Rattle.xds_script.proofs.words.Words.split_first.Goals as goal
 
