@@ -3,3 +3,4 @@ pub mod ShortNumbers
 pub mod Wording
 pub mod Named
 pub mod Wishing
+pub mod Scripting

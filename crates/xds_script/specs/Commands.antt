@@ -148,6 +148,6 @@ says Settle ws = option_map (λ p. Settles p.0 p.1) (client_and_type ws)
 says View ws = option_map (λ p. Shows p.0 p.1) (client_and_type ws)
 says Content ws = option_map (λ p. Lists p.0 p.1) (read_two replica_number type_of_word ws)
 
--- what a line of words says
-abbrev pub says_line : List Text → Option Said
-says_line ws = option_and_then (λ p. option_and_then (λ v. says v p.1) (verb_of p.0)) (split_first ws)
+-- what the words of a line say, of which the first is the verb
+abbrev pub says_words : List Text → Option Said
+says_words ws = option_and_then (λ p. option_and_then (λ v. says v p.1) (verb_of p.0)) (split_first ws)

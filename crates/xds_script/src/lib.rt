@@ -5,5 +5,9 @@ pub mod command;
 pub mod lines;
 mod numbers;
 mod plain;
+pub mod script;
 mod texts;
 mod words;
+
+pub use command::Command;
+pub use script::{ScriptFault, read_script};
