@@ -1,4 +1,4 @@
-use Rattle.std.proofs.Common.{◌≡◌, Err, Option, ap, subst}
+use Rattle.std.proofs.Common.{Option, ap, subst}
 use Rattle.std.specs.Option.{ok_or, option_map}
 use Rattle.xds_resource.specs.declared.refusal.Refusal.TheVariants.{BadScript}
 use Rattle.xds_resource.specs.Refusals.{Gives}

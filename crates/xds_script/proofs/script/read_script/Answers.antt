@@ -1,5 +1,5 @@
 use Rattle.xds_script.specs.Lines.{feed, pieces}
-use Rattle.std.proofs.Common.{[], arith, map}
+use Rattle.std.proofs.Common.{[], map}
 use Rattle.xds_script.specs.Commands.{said_of}
 use Rattle.xds_script.proofs.Scripting.{read_more, read_all, read_bad}
 use Rattle.xds_script.proofs.script.read_script.Goals as goal

@@ -1,10 +1,9 @@
-use Rattle.std.proofs.Common.{◌≡◌, Option, List, ◌++◌, append-nil, map, ap, sym, ◌∙◌}
+use Rattle.std.proofs.Common.{Option, List, ◌++◌, append-nil, map, ap, sym, ◌∙◌}
 use Rattle.std.specs.Option.{option_map, option_to_list}
 use Rattle.std.proofs.lemmas.List.{map-append}
 use Rattle.std.proofs.lemmas.Result.{err_from_is_err_and}
 use Rattle.xds_script.specs.declared.command.Command.{Command}
 use Rattle.xds_script.specs.Commands.{Said, said_of}
-use Rattle.xds_script.specs.Scripts.{said_in}
 use Rattle.xds_script.proofs.Scripting.{refused_line, read_line_says}
 use Rattle.xds_script.proofs.script.take_line.Goals as goal
 
