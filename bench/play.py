@@ -529,7 +529,7 @@ def played(script):
 
 # ---- random scripts
 
-NAMES = ["a", "b", "c", "\u00e9", "B", "zz"]
+NAMES = ["a", "b", "\u00e9", "B"]
 BAD_LINES = [" ", "up", "up 0", "up 01", "replica 65536", "client 1 rest", "names 1 cluster ", "change 1 cluster", "change 1 cluster a",
              "change 1 cluster +", "put 1 {}", "poll 1 x", "view 1", "Replica 1", "up +1", "merge 1  1", "lose 4294967296", "\u00e9"]
 
@@ -549,7 +549,7 @@ def some_body(pick, kind, name):
 
 
 def some_wish(pick, client, kind, is_delta):
-    names = NAMES + ["*", "*", "missing"]
+    names = NAMES + ["*", "*", "*", "missing"]
     if is_delta == (pick.random() < 0.97):
         words = [pick.choice("++-") + pick.choice(names) for _ in range(pick.randrange(1, 4))]
         return " ".join(["change", str(client), kind, *words])
@@ -562,7 +562,7 @@ def some_line(pick, replicas, clients, kinds):
     kind = pick.choice(kinds)
     verb = pick.choices(
         ["put", "delete", "snapshot", "merge", "connect", "wish", "up", "poll", "down", "lose", "settle", "view", "content"],
-        [14, 5, 4, 5, 7, 8, 16, 14, 13, 2, 6, 6, 2],
+        [14, 5, 3, 5, 12, 8, 18, 16, 16, 2, 6, 7, 2],
     )[0]
     if verb == "put":
         return "put %d %s" % (replica, some_body(pick, kind, pick.choice(NAMES)))
@@ -588,10 +588,12 @@ def some_line(pick, replicas, clients, kinds):
 def some_script(pick):
     replicas = pick.sample([1, 2, 3, 65535], pick.randrange(1, 4))
     clients = [(client, pick.random() < 0.5) for client in pick.sample([1, 2, 3, 4294967295], pick.randrange(1, 4))]
-    kinds = list(TYPES) if pick.random() < 0.3 else pick.sample(list(TYPES), pick.randrange(1, 3))
+    kinds = list(TYPES) if pick.random() < 0.3 else pick.sample(list(TYPES), pick.choice([1, 1, 2]))
     lines = ["replica %d" % replica for replica in replicas]
     lines += ["client %d %s" % (client, "delta" if is_delta else "sotw") for client, is_delta in clients]
     lines += [some_wish(pick, client, kind, is_delta) for client, is_delta in clients for kind in kinds if pick.random() < 0.7]
+    lines += ["put %d %s" % (pick.choice(replicas), some_body(pick, pick.choice(kinds), pick.choice(NAMES))) for _ in range(pick.randrange(8))]
+    lines += ["connect %d %d" % (client, pick.choice(replicas)) for client, _ in clients if pick.random() < 0.85]
     lines += [some_line(pick, replicas, clients, kinds) for _ in range(pick.randrange(5, 90))]
     lines += ["%s %d %s" % (verb, client, kind) for client, _ in clients for kind in kinds for verb in ("view", "settle", "view")]
     lines += ["content %d %s" % (replica, kind) for replica in replicas for kind in kinds]
