@@ -1,0 +1,4 @@
+// What a script of a world prints.
+#![tactic(auto)]
+
+pub mod show;
