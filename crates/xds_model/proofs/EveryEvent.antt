@@ -27,7 +27,7 @@ use Rattle.xds_model.specs.declared.event.ClientKind.{ClientKind}
 use Rattle.xds_model.specs.Happenings.{Happening, Wish, AddReplica, AddClient, Put, Delete, Snapshot, Merge, Connect, Change, Up, Poll, Down, Lose}
 use Rattle.xds_model.specs.Worlds.{Site, Link, Peer, World, empty_world, at_site, happened_at, placed, pooled, with_peer, new_peer, connected_to, opened, sending, changed, wish_of, wish_taken, under_way, polled, up_taken, received, taken_down, down_taken, opening_requests, on_link, is_free, happens}
 use Rattle.xds_model.specs.Knows.{TypedWrite}
-use Rattle.xds_model.proofs.Replicas.{some_is, bound_some, mapped_some, if_some, both_parts, none_there}
+use Rattle.xds_model.proofs.Replicas.{some_is, bound_some, mapped_some, if_some, if_both, both_parts, none_there}
 use Rattle.xds_model.proofs.Delivering.{AllKnown}
 use Rattle.xds_model.proofs.ByKind.{LinkedAs, RestsAs, up_as, poll_as, down_as, opened_as, lost_as, fresh_as, changed_as, rests_as}
 use Rattle.xds_model.proofs.CoreSteps.{stream_step_is, open_is}
@@ -320,10 +320,6 @@ fine_step test w left all (Connect c r) is known fine =
     let peer = bound_some (λ p. if is_none p.link then option_and_then (opened c r p) (at_site w r events.Open) else None) (finmap.get w.peers c) left is in
     let down = if_both (is_none peer.0.link) (option_and_then (opened c r peer.0) (at_site w r events.Open)) left peer.2 in
     fine_connect w left all c r peer.0 peer.1 (none_there peer.0.link down.0) down.1 fine
-  where
-    if_both : (b : Bool) (o : Option World) (y : World) → (if b then o else None) ≡ Some y → (b ≡ true) × (o ≡ Some y)
-    if_both true o y e = (refl, e)
-    if_both false o y e = absurd cc
 fine_step test w left all (Change c t wish) is known fine =
     let peer = bound_some (λ p. option_map (λ q. with_peer w c (changed p q)) (wish_taken p t wish)) (finmap.get w.peers c) left is in
     let made = mapped_some (λ q. with_peer w c (changed peer.0 q)) (wish_taken peer.0 t wish) left peer.2 in

@@ -34,7 +34,7 @@ use Rattle.xds_model.specs.Happenings.{Happening, Wish, Names, Edits, AddReplica
 use Rattle.xds_model.specs.Worlds.{Site, Link, Peer, World, empty_world, at_site, happened_at, placed, pooled, with_peer, new_peer, connected_to, opened, sending, changed, wish_of, wish_taken, under_way, polled, up_taken, received, received_in, taken_down, down_taken, is_free, happens, after}
 use Rattle.xds_model.specs.Knows.{wished, wishing, wanted_after, wants, linking, linked_after, link}
 use Rattle.xds_model.specs.Claims.{LinksAreFollowed}
-use Rattle.xds_model.proofs.Replicas.{some_is, bound_some, mapped_some, if_some, none_there}
+use Rattle.xds_model.proofs.Replicas.{if_then, some_is, bound_some, mapped_some, if_some, none_there}
 use Rattle.xds_model.proofs.LinkTakes.{received_ok, answered_ok, connected_shelf, lost_shelf}
 use Rattle.xds_model.proofs.ByKind.{changed_ok, changed_once}
 use Rattle.xds_model.proofs.Everyone.{at_site_is}
@@ -183,17 +183,13 @@ connected_comes : (test : Test) (w left : World) (d r : ℕ) → happens test w 
 connected_comes test w left d r is =
     let peer = bound_some (λ p. if is_none p.link then option_and_then (opened d r p) (at_site w r events.Open) else None) (finmap.get w.peers d) left is in
     let p = peer.0 in
-    let made = bound_some (opened d r p) (at_site w r events.Open) left (if_both (is_none p.link) (option_and_then (opened d r p) (at_site w r events.Open)) left peer.2) in
+    let made = bound_some (opened d r p) (at_site w r events.Open) left (if_then (is_none p.link) (option_and_then (opened d r p) (at_site w r events.Open)) left peer.2) in
     let opens = opened_peer p made.0.0 made.0.1 left made.2 in (
       record { before = p; after = connected_to p r opens.0; has = peer.1; peers = ap (λ y. y.peers) opens.1 ∙ ap (λ y. finmap.insert y d (connected_to p r opens.0)) (same_peers w r events.Open made.0 (at_site_is w r events.Open made.0 made.1)) },
       refl,
       λ t. ap (λ (f : Shelf). f.wants) (connected_shelf p.client (is_greeted p.client false types) t),
     )
   where
-    if_both : (b : Bool) (o : Option World) (y : World) → (if b then o else None) ≡ Some y → o ≡ Some y
-    if_both true o y e = e
-    if_both false o y e = absurd cc
-
     opened_peer : (p : Peer) (reply : Reply) (x y : World) → opened d r p (reply, x) ≡ Some y → (n : ℕ) × (y ≡ with_peer x d (connected_to p r n))
     opened_peer p (events.Opened n) x y e = (n, sym (some_is _ y e))
     opened_peer p (events.Answered o) x y e = absurd cc

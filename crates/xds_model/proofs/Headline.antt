@@ -15,9 +15,9 @@ use Rattle.xds_model.specs.Happenings.{Happening}
 use Rattle.xds_model.specs.Worlds.{Site, Link, Peer, World, empty_world, happens, after, world}
 use Rattle.xds_model.specs.Knows.{TypedWrite, Knowledge, nothing_known, learned, known_after, knows, made_now, made_after, wants, link}
 use Rattle.xds_model.specs.Claims.{writes_of, holding_of, content_at, PutResources, PutsAResource, SettledIsExact, SettledAgrees, Headline, is_quiet, owes_nothing, is_settled_on, is_settled}
-use Rattle.xds_model.proofs.Replicas.{holds_what_it_knows, same_knowledge, Kept, kept_start, kept_step, some_is}
+use Rattle.xds_model.proofs.Replicas.{both_parts, holds_what_it_knows, same_knowledge, Kept, kept_start, kept_step, some_is}
 use Rattle.xds_model.proofs.Origins.{one_write_a_stamp, Stamped, stamped_start, stamped_step}
-use Rattle.xds_model.proofs.Ranges.{Ranged, ranged_start, ranged_step, sites_known}
+use Rattle.xds_model.proofs.Ranges.{opposite, Ranged, ranged_start, ranged_step, sites_known}
 use Rattle.xds_model.proofs.ByKind.{LinkedAs}
 use Rattle.xds_model.proofs.Everyone.{stream_at, Fine}
 use Rattle.xds_model.proofs.EveryEvent.{fine_start, fine_step}
@@ -58,17 +58,9 @@ sure test hs put = sure_after test hs empty_world nothing_known [] put (record {
 
 -- ---- settled
 
-both : (a b : Bool) → (a && b) ≡ true → (a ≡ true) × (b ≡ true)
-both true b is = (refl, is)
-both false b is = absurd cc
-
 found_true : {X : Type 0} (f : X → Bool) (o : Option X) → option_map_or f o false ≡ true → (x : X) × (o ≡ Some x) × (f x ≡ true)
 found_true f None is = absurd cc
 found_true f (Some x) is = (x, refl, is)
-
-opposite : (b : Bool) → not b ≡ true → b ≡ false
-opposite true is = absurd cc
-opposite false is = refl
 
 -- what it is that a client is settled
 pub record AtRest (w : World) (p : Peer) (t : TypeName) : Type 0 where
@@ -84,7 +76,7 @@ pub record AtRest (w : World) (p : Peer) (t : TypeName) : Type 0 where
 pub at_rest : (w : World) (c : ℕ) (p : Peer) (t : TypeName) → finmap.get w.peers c ≡ Some p → is_settled w c t ≡ true → AtRest w p t
 at_rest w c p t has settled =
     let up = found_true (is_settled_on w t) p.link (ap (λ o. option_map_or (λ q. option_map_or (is_settled_on w t) q.link false) o false) (sym has) ∙ settled) in
-    let parts = both (is_quiet t up.0) (option_map_or (owes_nothing t up.0.stream) (finmap.get w.sites up.0.replica) false) up.2 in
+    let parts = both_parts (is_quiet t up.0) (option_map_or (owes_nothing t up.0.stream) (finmap.get w.sites up.0.replica) false) up.2 in
     let site = found_true (owes_nothing t up.0.stream) (finmap.get w.sites up.0.replica) parts.1 in
     let stream = found_true (λ x. not (owes_of site.0.core.store x t)) (finmap.get site.0.core.streams up.0.stream) site.2 in
     record { link = up.0; linked = up.1; quiet = parts.0; site = site.0; there = site.1; stream = stream.0; opened = stream.1; nothing = opposite (owes_of site.0.core.store stream.0 t) stream.2 }

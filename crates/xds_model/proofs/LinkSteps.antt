@@ -38,7 +38,7 @@ use Rattle.xds_cache.specs.Shelves.{Shelf}
 use Rattle.xds_cache.specs.Clients.{Client, shelf}
 use Rattle.xds_model.specs.Worlds.{Link}
 use Rattle.xds_model.specs.Knows.{TypedWrite}
-use Rattle.xds_model.proofs.Replicas.{some_is, if_some, none_there}
+use Rattle.xds_model.proofs.Replicas.{if_both, some_is, if_some, none_there}
 use Rattle.xds_model.proofs.Folding.{folded, still_none, take_is, taken_meanwhile_all}
 use Rattle.xds_model.proofs.Lanes.{Abreast, nothing_sent, stated_in, is_removed_in}
 use Rattle.xds_model.proofs.ByOneName.{Says}
@@ -122,18 +122,15 @@ pub record IsSent (replica : ℕ) (store : Store) (x y : Stream) (d : Draft) : T
   pub sends : Some d ≡ option_map (response_of replica store x.sessions kind offer (x.count + 1)) x.variant
   pub left : y ≡ sent x kind offer
 
+ok_same : (p q : Option Draft × Stream) → ◌≡◌ {A = Result (Option Draft × Stream) Refusal} (Ok p) (Ok q) → p ≡ q
+ok_same p q e = cc
+
 sending_is : (replica : ℕ) (store : Store) (x : Stream) (t : TypeName) (o : Offer) (spent : Bool) (d : Draft) (y : Stream) → (x.count == max_counter) ≡ spent → to_send store x t ≡ Some o
     → unless_refused {A = Option Draft × Stream} ((spent, NonceSpent) ∷ []) (option_map (response_of replica store x.sessions t o (x.count + 1)) x.variant, sent x t o) ≡ Ok (Some d, y) → IsSent replica store x y d
 sending_is replica store x t o true d y full due is = absurd cc
 sending_is replica store x t o false d y full due is =
-    let same = ok_is (option_map (response_of replica store x.sessions t o (x.count + 1)) x.variant, sent x t o) (Some d, y) is in
+    let same = ok_same (option_map (response_of replica store x.sessions t o (x.count + 1)) x.variant, sent x t o) (Some d, y) is in
     record { kind = t; offer = o; due = due; room = full; sends = sym (ap (λ p. p.0) same); left = sym (ap (λ p. p.1) same) }
-  where
-    ok_is : (p q : Option Draft × Stream) → ◌≡◌ {A = Result (Option Draft × Stream) Refusal} (Ok p) (Ok q) → p ≡ q
-    ok_is p q e = cc
-
-ok_same : (p q : Option Draft × Stream) → ◌≡◌ {A = Result (Option Draft × Stream) Refusal} (Ok p) (Ok q) → p ≡ q
-ok_same p q e = cc
 
 never_some : (d : Draft) → ◌≡◌ {A = Option Draft} None (Some d) → ⊥
 never_some d e = cc
@@ -174,15 +171,12 @@ all_three false true c is = is
 all_three false false c is = is
 
 -- what a session is that sends an offer
-pub sending_facts : (t : TypeName) (s : Session) (m : Entries) (o : Offer) → sessions.sending Delta t s m ≡ Some o → (s.asked.begun ≡ true) × (s.account.sent ≡ None) × (o ≡ offer Delta t s.asked.interest m s.account.beliefs)
-sending_facts t s m o is =
-    let begun = if_then s.asked.begun (ledgers.sending Delta t s.asked.interest m s.account) o is in
-    let sends = if_some (is_none s.account.sent && is_due Delta t s.asked.interest m s.account && not (is_refused s.account (offer Delta t s.asked.interest m s.account.beliefs))) (offer Delta t s.asked.interest m s.account.beliefs) o begun.1 in
-    (begun.0, none_there s.account.sent (all_three (is_none s.account.sent) (is_due Delta t s.asked.interest m s.account) (not (is_refused s.account (offer Delta t s.asked.interest m s.account.beliefs))) sends.0), sends.1)
-  where
-    if_then : (b : Bool) (x : Option Offer) (y : Offer) → (if b then x else None) ≡ Some y → (b ≡ true) × (x ≡ Some y)
-    if_then true x y e = (refl, e)
-    if_then false x y e = absurd cc
+pub sending_facts : (v : VariantName) (t : TypeName) (s : Session) (m : Entries) (o : Offer) → sessions.sending v t s m ≡ Some o → (s.asked.begun ≡ true) × (s.account.sent ≡ None) × (o ≡ offer v t s.asked.interest m s.account.beliefs)
+sending_facts v t s m o is =
+    let now : Offer = offer v t s.asked.interest m s.account.beliefs in
+    let begun = if_both s.asked.begun (ledgers.sending v t s.asked.interest m s.account) o is in
+    let sends = if_some (is_none s.account.sent && is_due v t s.asked.interest m s.account && not (is_refused s.account now)) now o begun.1 in
+    (begun.0, none_there s.account.sent (all_three (is_none s.account.sent) (is_due v t s.asked.interest m s.account) (not (is_refused s.account now)) sends.0), sends.1)
 
 pub quiet_folded : (t : TypeName) (s : Session) (ms : List DeltaRequest) → s.account.sent ≡ None → (folded t s ms).account.sent ≡ None
 quiet_folded t s [] none = none
@@ -198,7 +192,7 @@ lane_sent : (all : List TypedWrite) (replica : ℕ) (store : Store) (t : TypeNam
     → Lane all t (send s o (suc count)) (suc count) ups (downs ++ drafts.Delta (response replica t (at store t) o (suc count)) ∷ []) f
 lane_sent all replica store t s count ups downs f o known room due lane =
     let d : DraftedDelta = response replica t (at store t) o (suc count) in
-    let facts = sending_facts t s (at store t).entries o due in
+    let facts = sending_facts Delta t s (at store t).entries o due in
     let none : lane.down ≡ None = nothing_sent all t (folded t s ups).account.nonce (folded t s ups).account.sent f.wants lane.down (quiet_folded t s ups facts.1) lane.abreast.awaits in
     let apart = none_answers count ups room lane.numbered in
     record {

@@ -38,16 +38,16 @@ use Rattle.xds_model.proofs.Replicas.{Kept, kept_start, kept_step, answered, som
 
 -- ---- lists
 
-in_front : {X : Type 0} (x : X) (xs : List X) → Contains (x ∷ xs) x
+pub in_front : {X : Type 0} (x : X) (xs : List X) → Contains (x ∷ xs) x
 in_front x xs = (0, omega arith, refl)
 
-behind : {X : Type 0} (x y : X) (xs : List X) → Contains xs y → Contains (x ∷ xs) y
+pub behind : {X : Type 0} (x y : X) (xs : List X) → Contains xs y → Contains (x ∷ xs) y
 behind x y xs h = (suc h.0, omega (arith, h.1), h.2)
 
-none_in : {X : Type 0} (x : X) → Contains [] x → ⊥
+pub none_in : {X : Type 0} (x : X) → Contains [] x → ⊥
 none_in x h = let below = h.1 in absurd (omega (arith, below))
 
-alone : {X : Type 0} (x y : X) → Contains (x ∷ []) y → x ≡ y
+pub alone : {X : Type 0} (x y : X) → Contains (x ∷ []) y → x ≡ y
 alone x y h = elim (Contains-cons_cases x y [] h) [ inl same ↦ same | inr rest ↦ absurd (none_in y rest) ]
 
 kept_front : (b : Bool) (x : TypedWrite) (ws : List TypedWrite) → b ≡ true → Contains (map (λ y. y.1) (if b then x ∷ ws else ws)) x.1

@@ -39,7 +39,7 @@ of_type t m = if asks_for t m then delta_in m else None
 abbrev pub lane_up : TypeName → List Message → List DeltaRequest
 lane_up t ms = filter_map (of_type t) ms
 
-cons-append : {X : Type 0} (o : Option X) (xs ys both : List X) → both ≡ xs ++ ys → cons_option o both ≡ cons_option o xs ++ ys
+pub cons-append : {X : Type 0} (o : Option X) (xs ys both : List X) → both ≡ xs ++ ys → cons_option o both ≡ cons_option o xs ++ ys
 cons-append None xs ys both is = is
 cons-append (Some x) xs ys both is = ap (λ l. x ∷ l) is
 

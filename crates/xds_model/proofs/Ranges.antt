@@ -38,7 +38,7 @@ use Rattle.xds_model.specs.Worlds.{Site, World, empty_world, recorded, at_site, 
 use Rattle.xds_model.specs.Knows.{TypedWrite, Knowledge, made_now, made as made_of}
 use Rattle.xds_model.specs.Claims.{writes_of, PutsAResource}
 use Rattle.xds_model.proofs.Replicas.{Kept, some_is, mapped_some, both_parts, answered}
-use Rattle.xds_model.proofs.Origins.{Stamped, SitesCome, sites_come}
+use Rattle.xds_model.proofs.Origins.{in_front, behind, none_in, alone, Stamped, SitesCome, sites_come}
 use Rattle.xds_model.proofs.EveryEvent.{AllSitesKnown}
 
 -- ---- writes of a type
@@ -50,18 +50,6 @@ front_of true x ws w h =
       | inr rest ↦ inr rest
     ]
 front_of false x ws w h = inr h
-
-none_in : {X : Type 0} (x : X) → Contains [] x → ⊥
-none_in x h = let below = h.1 in absurd (omega (arith, below))
-
-in_front : {X : Type 0} (x : X) (xs : List X) → Contains (x ∷ xs) x
-in_front x xs = (0, omega arith, refl)
-
-behind : {X : Type 0} (x y : X) (xs : List X) → Contains xs y → Contains (x ∷ xs) y
-behind x y xs h = (suc h.0, omega (arith, h.1), h.2)
-
-alone : {X : Type 0} (x y : X) → Contains (x ∷ []) y → x ≡ y
-alone x y h = elim (Contains-cons_cases x y [] h) [ inl same ↦ same | inr rest ↦ absurd (none_in y rest) ]
 
 typed_front : (t : TypeName) (x : TypedWrite) (ws : List TypedWrite) (w : StampedWrite) → is_same_type x.0 t ≡ true → x.1 ≡ w → Contains (x ∷ ws) (t, w)
 typed_front t x ws w same is =
@@ -127,7 +115,7 @@ ranged_same w left all sites ranged = subst (Ranged left) (sym (append-nil all))
 abbrev pub AllInRange : World → Type 0
 AllInRange w = (r : ℕ) (s : Site) → finmap.get w.sites r ≡ Some s → (1 ≤ r) × (r ≤ max_writer)
 
-opposite : (b : Bool) → not b ≡ true → b ≡ false
+pub opposite : (b : Bool) → not b ≡ true → b ≡ false
 opposite true is = absurd cc
 opposite false is = refl
 

@@ -354,6 +354,10 @@ pub if_then : {X : Type 0} (b : Bool) (o : Option X) (y : X) → (if b then o el
 if_then true o y is = is
 if_then false o y is = absurd cc
 
+pub if_both : {X : Type 0} (b : Bool) (o : Option X) (y : X) → (if b then o else None) ≡ Some y → (b ≡ true) × (o ≡ Some y)
+if_both true o y is = (refl, is)
+if_both false o y is = absurd cc
+
 pub on_link_some : (w : World) (c : ℕ) (f : Peer → Link → Option World) (left : World) → on_link w c f ≡ Some left → (p : Peer) × (l : Link) × (f p l ≡ Some left)
 on_link_some w c f left is =
     let peer = bound_some (λ p. option_and_then (f p) p.link) (finmap.get w.peers c) left is in

@@ -84,9 +84,6 @@ shown_name all t m name held false o has unique stamped known origin shown = sho
 shown_name all t m name held true None has unique stamped known origin shown = shown
 shown_name all t m name held true (Some w) has unique stamped known origin shown = shown_live all t name w held w.body refl unique stamped (known name w has).made origin shown
 
-not_begun : (t : TypeName) (s : Session) (f : Shelf) → s.asked.begun ≡ false → s.asked ≡ asking t f.wants → ⊥
-not_begun t s f never asked = let is : false ≡ true = sym never ∙ ap (λ (a : Asked). a.begun) asked in absurd cc
-
 -- what a client shows of a type, where nothing is under way and nothing is owed
 pub shows_exactly : (all : List TypedWrite) (t : TypeName) (s : Session) (f : Shelf) (m : Entries) (name : List ℕ) → Asks t s f → Abreast all t s None f → IsUnique all → AllStamped all → AllKnown all t m → (s.asked.begun ≡ true → sessions.owes Delta t s m ≡ false)
     → finmap.get f.cache name ≡ (if is_wanted t f.wants name then live m name else None)
@@ -127,10 +124,6 @@ pub both_false : (a b : Bool) → (not a && not b) ≡ true → (a ≡ false) ×
 both_false true b is = absurd cc
 both_false false true is = absurd cc
 both_false false false is = (refl, refl)
-
-not_true : (b : Bool) → not b ≡ true → b ≡ false
-not_true true is = absurd cc
-not_true false is = refl
 
 -- a stream that owes nothing of a type
 owed_by : (x : Stream) (store : Store) (t : TypeName) (f : Shelf) → IsDeltaStream x → Asks t (at x.sessions t) f → owes_of store x t ≡ false → (at x.sessions t).asked.begun ≡ true → sessions.owes Delta t (at x.sessions t) (at store t).entries ≡ false

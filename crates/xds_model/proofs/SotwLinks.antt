@@ -41,8 +41,8 @@ use Rattle.xds_model.specs.Worlds.{Link, under_way, received_in, opening_request
 use Rattle.xds_model.specs.Knows.{TypedWrite}
 use Rattle.xds_model.specs.Claims.{asks_for}
 use Rattle.xds_model.proofs.Replicas.{some_is, if_some, none_there}
-use Rattle.xds_model.proofs.Queues.{lane_down, lane_down-append, nonces_differ}
-use Rattle.xds_model.proofs.LinkSteps.{url_type, taken_by, IsSent, all_three, one_more, room_is}
+use Rattle.xds_model.proofs.Queues.{cons-append, lane_down, lane_down-append, nonces_differ}
+use Rattle.xds_model.proofs.LinkSteps.{sending_facts, url_type, taken_by, IsSent, all_three, one_more, room_is}
 use Rattle.xds_model.proofs.LinkTakes.{received_ok, answered_ok, nothing_wanted, connected_shelf, lost_shelf, addressed_to}
 use Rattle.xds_model.proofs.Firsts.{firsts, firsts_by, one_first, once, first_lane}
 use Rattle.xds_model.proofs.Delivering.{AllKnown}
@@ -63,10 +63,6 @@ of_type t m = if asks_for t m then sotw_in m else None
 
 abbrev pub lane_up : TypeName → List Message → List Request
 lane_up t ms = filter_map (of_type t) ms
-
-cons-append : {X : Type 0} (o : Option X) (xs ys both : List X) → both ≡ xs ++ ys → cons_option o both ≡ cons_option o xs ++ ys
-cons-append None xs ys both is = is
-cons-append (Some x) xs ys both is = ap (λ l. x ∷ l) is
 
 lane_up-append : (t : TypeName) (ms ns : List Message) → lane_up t (ms ++ ns) ≡ lane_up t ms ++ lane_up t ns
 lane_up-append t [] ns = refl
@@ -184,18 +180,6 @@ linked_up all c l x m rest z up is linked =
 
 -- ---- Poll
 
-sending_facts : (t : TypeName) (s : Session) (m : Entries) (o : Offer) → sessions.sending StateOfTheWorld t s m ≡ Some o
-    → (s.asked.begun ≡ true) × (s.account.sent ≡ None) × (o ≡ offer StateOfTheWorld t s.asked.interest m s.account.beliefs)
-sending_facts t s m o is =
-    let v = StateOfTheWorld in
-    let begun = if_then s.asked.begun (ledgers.sending v t s.asked.interest m s.account) o is in
-    let sends = if_some (is_none s.account.sent && is_due v t s.asked.interest m s.account && not (is_refused s.account (offer v t s.asked.interest m s.account.beliefs))) (offer v t s.asked.interest m s.account.beliefs) o begun.1 in
-    (begun.0, none_there s.account.sent (all_three (is_none s.account.sent) (is_due v t s.asked.interest m s.account) (not (is_refused s.account (offer v t s.asked.interest m s.account.beliefs))) sends.0), sends.1)
-  where
-    if_then : (b : Bool) (x : Option Offer) (y : Offer) → (if b then x else None) ≡ Some y → (b ≡ true) × (x ≡ Some y)
-    if_then true x y e = (refl, e)
-    if_then false x y e = absurd cc
-
 sotw_due : (store : Store) (x : Stream) (t : TypeName) (o : Offer) → IsSotwStream x → to_send store x t ≡ Some o → (x.variant ≡ Some StateOfTheWorld) × (sessions.sending StateOfTheWorld t (at x.sessions t) (at store t).entries ≡ Some o)
 sotw_due store x t o (inl none) due = let never : None ≡ Some o = sym (ap (λ w. option_and_then (λ k. sessions.sending k t (at x.sessions t) (at store t).entries) w) none.0) ∙ due in absurd cc
 sotw_due store x t o (inr sotw) due = (sotw, sym (ap (λ w. option_and_then (λ k. sessions.sending k t (at x.sessions t) (at store t).entries) w) sotw) ∙ due)
@@ -208,7 +192,7 @@ lane_sent : (all : List TypedWrite) (replica : ℕ) (store : Store) (t : TypeNam
     → Lane all t (send s o (suc count)) (suc count) ups (downs ++ drafts.Sotw (drafted replica store t s o (suc count)) ∷ []) f
 lane_sent all replica store t s count ups downs f o known room due lane =
     let d : Drafted = drafted replica store t s o (suc count) in
-    let facts = sending_facts t s (at store t).entries o due in
+    let facts = sending_facts StateOfTheWorld t s (at store t).entries o due in
     let none : lane.down ≡ None = (nothing_sent all t (folded t s ups).account.nonce (folded t s ups).account.sent f.wants f.nonce lane.down (quiet_folded t s ups lane.taken facts.1) lane.abreast.awaits).0 in
     let apart = none_answers count ups room lane.numbered in
     record {
