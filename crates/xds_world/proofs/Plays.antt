@@ -1,5 +1,6 @@
 -- Worlds after lists of happenings.
-use Rattle.std.proofs.Common.{◌≡◌, List, [], ◌∷◌, ◌++◌, Bool, true, false, Option, Some, None, refl, sym, ap, ◌∙◌}
+use Rattle.std.proofs.Common.{◌≡◌, List, [], ◌∷◌, ◌++◌, map, Bool, true, false, Option, Some, None, refl, sym, ap, ◌∙◌}
+use Rattle.std.proofs.lemmas.List.{map-append}
 use Rattle.std.specs.Option.{option_map_or}
 use Rattle.xds_cache.specs.Faults.{Test}
 use Rattle.xds_model.specs.Happenings.{Happening}
@@ -18,3 +19,7 @@ left_is w left false o is = is.1 ∙ sym (ap (λ q. option_map_or (λ x. x) q w)
 pub and_one : (test : Test) (w left : World) (hs : List Happening) (h : Happening) (b : Bool) → w ≡ world test hs → Happened w b left (happens test w h) → left ≡ world test (hs ++ h ∷ [])
 and_one test w left hs h b is happened =
     left_is w left b (happens test w h) happened ∙ ap (λ w. option_map_or (λ x. x) (happens test w h) w) is ∙ sym (after_more test empty_world hs h)
+
+-- what a list is seen as, with one item more
+pub map_pushed : {X Y : Type 0} (f : X → Y) (xs ys : List X) (x : X) (y : Y) → ys ≡ xs ++ x ∷ [] → f x ≡ y → map f ys ≡ map f xs ++ y ∷ []
+map_pushed f xs ys x y pushed is = ap (map f) pushed ∙ map-append f xs (x ∷ []) ∙ ap (λ z. map f xs ++ z ∷ []) is

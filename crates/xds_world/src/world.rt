@@ -2,14 +2,18 @@
 ghost use Rattle.std.specs.Prelude.{◌≡◌, ◌++◌, [], ◌∷◌, map, option_map, IfOk, IfErr};
 ghost use Rattle.std.specs.FinMap as finmap;
 ghost use Rattle.xds_resource.specs.declared.refusal.Refusal.TheVariants.{OutOfMemory};
+ghost use Rattle.xds_resource.specs.PerType.{at, each, with_at};
 ghost use Rattle.xds_cache.specs.Clients.{view as view_of};
 ghost use Rattle.xds_model.specs.Seen.{happening_of};
-ghost use Rattle.xds_model.specs.Worlds.{world as world_of};
+ghost use Rattle.xds_model.specs.Worlds.{Site as SiteValue, world as world_of};
+ghost use Rattle.xds_world.specs.Seen.{record_of};
 
 use crate::state::State;
 use std::alloc::Global;
 use std::marker::Model;
 use xds_cache::{Accept, Holding};
+use xds_core::Record;
+use xds_message::Batch;
 use xds_model::{ClientKind, WorldEvent};
 use xds_resource::{NameMap, Refusal, TypeName};
 
@@ -90,6 +94,31 @@ impl<A: Accept> World<A> {
     {
         let peer = self.state.peer(client)?;
         Some(peer.kind())
+    }
+
+    /// What happened at a replica, with the answers; none where there is no such replica.
+    pub fn journal(&self, replica: u16) -> Option<&Vec<Record>>
+        ensures { option_map (λ v. map record_of v.now.items) result ≡ option_map (λ s. s.journal) (finmap.get (world_of A.accepts self.now).sites replica) }
+    {
+        let site = self.state.site(replica)?;
+        Some(site.journal())
+    }
+
+    /// All that a replica holds of a type, deletions included, in ascending order of names; none where there is no such replica.
+    /// Refused only by `OutOfMemory`.
+    pub fn entries(
+        &self,
+        alloc: Global,
+        replica: u16,
+        kind: TypeName,
+    ) -> Result<Option<Batch>, Refusal>
+        ensures ok { IfOk result (λ o. o ≡ option_map (λ (s : SiteValue). with_at (each []) kind (finmap.values (at s.core.store kind).entries)) (finmap.get (world_of A.accepts self.now).sites replica)) }
+        ensures refused { IfErr result (λ e. e ≡ OutOfMemory) }
+    {
+        match self.state.site(replica) {
+            Some(site) => Ok(Some(site.core().entries(alloc, kind)?)),
+            None => Ok(None),
+        }
     }
 
     /// What happened, in order.

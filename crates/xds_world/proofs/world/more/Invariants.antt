@@ -3,4 +3,4 @@ use Rattle.xds_model.specs.Seen.{happening_of}
 use Rattle.xds_world.proofs.world.more.Given as goal
 
 abbrev pub invariant-loop-event : goal.invariant-loop-event
-invariant-loop-event g l = l.world ++ map happening_of (drop l.event-index l.events.now) ≡ l.fn.world ++ map happening_of l.fn.events.now
+invariant-loop-event g l = l.world ++ map happening_of (drop l.event-index l.events) ≡ l.fn.world ++ map happening_of l.events
