@@ -252,10 +252,7 @@ impl<A: Accept> AnyClient<A> {
     }
 
     /// On a new stream, with the requests to send there.
-    pub(crate) fn connect(
-        self,
-        alloc: Global,
-    ) -> Result<(AnyClient<A>, VecDeque<Request>), Refusal>
+    pub(crate) fn connect(self, alloc: Global) -> Result<(AnyClient<A>, VecDeque<Request>), Refusal>
         requires { self.up ≡ false }
         ensures up { IfOk result (λ r. r.0 ≡ linked_any self) }
         ensures requests { IfOk result (λ r. map message_of r.1.items ≡ opening_requests self.kind self.client) }

@@ -52,7 +52,10 @@ impl Site {
         match self.core.step(event) {
             Ok(reply) => {
                 let answer = Ok(reply.try_copy(alloc)?);
-                self.journal.push(Record { event: copy, answer })?;
+                self.journal.push(Record {
+                    event: copy,
+                    answer,
+                })?;
                 Ok(Some(reply))
             }
             Err(Refusal::OutOfMemory) => Err(Refusal::OutOfMemory),

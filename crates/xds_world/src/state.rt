@@ -96,12 +96,7 @@ impl<A: Accept> State<A> {
     }
 
     // Lets an event happen at a replica. Answers whether it happened.
-    fn happened_at(
-        &mut self,
-        alloc: Global,
-        replica: u16,
-        event: Event,
-    ) -> Result<bool, Refusal>
+    fn happened_at(&mut self, alloc: Global, replica: u16, event: Event) -> Result<bool, Refusal>
         ensures ok { IfOk result (λ b. Happened self.old b self.new (happened_at self.old replica (event_of event))) }
         ensures refused { IfErr result (λ e. e ≡ OutOfMemory) }
     {
@@ -266,12 +261,7 @@ impl<A: Accept> State<A> {
         Ok(true)
     }
 
-    fn add_client(
-        &mut self,
-        alloc: Global,
-        client: u32,
-        kind: ClientKind,
-    ) -> Result<bool, Refusal>
+    fn add_client(&mut self, alloc: Global, client: u32, kind: ClientKind) -> Result<bool, Refusal>
         ensures ok { IfOk result (λ b. Happened self.old b self.new (happens A.accepts self.old (happenings.AddClient client kind))) }
         ensures refused { IfErr result (λ e. e ≡ OutOfMemory) }
     {
@@ -350,12 +340,7 @@ impl<A: Accept> State<A> {
         Ok(self.drop_request(alloc, client))
     }
 
-    fn poll(
-        &mut self,
-        alloc: Global,
-        client: u32,
-        which: Option<TypeName>,
-    ) -> Result<bool, Refusal>
+    fn poll(&mut self, alloc: Global, client: u32, which: Option<TypeName>) -> Result<bool, Refusal>
         ensures ok { IfOk result (λ b. Happened self.old b self.new (happens A.accepts self.old (happenings.Poll client which))) }
         ensures refused { IfErr result (λ e. e ≡ OutOfMemory) }
     {
@@ -381,12 +366,7 @@ impl<A: Accept> State<A> {
         Ok(self.lose_link(alloc, client))
     }
 
-    fn put(
-        &mut self,
-        alloc: Global,
-        replica: u16,
-        resource: &AnyResource,
-    ) -> Result<bool, Refusal>
+    fn put(&mut self, alloc: Global, replica: u16, resource: &AnyResource) -> Result<bool, Refusal>
         ensures ok { IfOk result (λ b. Happened self.old b self.new (happens A.accepts self.old (happenings.Put replica (resource_type resource.now) (named_body resource.now)))) }
         ensures refused { IfErr result (λ e. e ≡ OutOfMemory) }
     {

@@ -1,5 +1,5 @@
 // A world that runs, with the list of what happened in it.
-ghost use Rattle.std.specs.Prelude.{◌≡◌, ◌++◌, [], ◌∷◌, map, option_map, IfOk, IfErr};
+ghost use Rattle.std.specs.Prelude.{◌≡◌, ◌++◌, [], ◌∷◌, map, is_some, option_map, IfOk, IfErr};
 ghost use Rattle.std.specs.FinMap as finmap;
 ghost use Rattle.xds_resource.specs.declared.refusal.Refusal.TheVariants.{OutOfMemory};
 ghost use Rattle.xds_resource.specs.PerType.{at, each, with_at};
@@ -94,6 +94,14 @@ impl<A: Accept> World<A> {
     {
         let peer = self.state.peer(client)?;
         Some(peer.kind())
+    }
+
+    /// Whether a client has a stream; none where there is no such client.
+    pub fn is_up(&self, client: u32) -> Option<bool>
+        ensures { result ≡ option_map (λ p. is_some p.link) (finmap.get (world_of A.accepts self.now).peers client) }
+    {
+        let peer = self.state.peer(client)?;
+        Some(peer.link().is_some())
     }
 
     /// What happened at a replica, with the answers; none where there is no such replica.
