@@ -1,7 +1,6 @@
 // What may happen in a world of replicas and clients.
-ghost use Rattle.std.specs.Prelude.{◌≡◌, IfOk, IfErr, OnOk};
+ghost use Rattle.std.specs.Prelude.{◌≡◌, IfOk, IfErr};
 ghost use Rattle.xds_resource.specs.declared.refusal.Refusal.TheVariants.{OutOfMemory};
-ghost use Rattle.xds_model.specs.Claims.{PutsAResource};
 ghost use Rattle.xds_model.specs.Seen.{happening_of, wish_of};
 
 use std::alloc::Global;
@@ -71,10 +70,9 @@ impl Wish {
 }
 
 impl WorldEvent {
-    /// An equal event, or `OutOfMemory`. No body is copied. What an event puts is a resource of its type.
+    /// An equal event, or `OutOfMemory`. No body is copied.
     pub fn try_copy(&self, alloc: Global) -> Result<WorldEvent, Refusal>
         ensures ok { IfOk result (λ e. happening_of e ≡ happening_of self.now) }
-        ensures sound { OnOk result (PutsAResource (happening_of self.now)) }
         ensures refused { IfErr result (λ e. e ≡ OutOfMemory) }
     {
         match self {

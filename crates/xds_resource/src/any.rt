@@ -4,7 +4,7 @@ ghost use Rattle.std.specs.Option.{option_map};
 ghost use Rattle.serde_json.specs.Data.{depth};
 ghost use Rattle.serde_json.specs.View.{view};
 ghost use Rattle.serde_json.specs.Written.{compact_text, has_float};
-ghost use Rattle.xds_resource.specs.Resources.{value_of, max_nesting, parsed, IsRefused, named_type as type_named, IsCanonical};
+ghost use Rattle.xds_resource.specs.Resources.{value_of, max_nesting, parsed, IsRefused, named_type as type_named};
 ghost use Rattle.xds_resource.specs.Any.{resource_type, named_body, write_type, stamped_write};
 
 use crate::refusal::Refusal;
@@ -84,10 +84,9 @@ impl AnyResource {
         }
     }
 
-    /// An equal resource, or `OutOfMemory`. Each resource is one of its type.
+    /// An equal resource, or `OutOfMemory`.
     pub fn try_copy(&self, alloc: Global) -> Result<AnyResource, Refusal>
         ensures copy { IfOk result (λ r. r ≡ self.now) }
-        ensures canonical { IsCanonical (resource_type self.now) (named_body self.now) }
         ensures refused { IfErr result (λ e. e ≡ Refusal.OutOfMemory) }
     {
         Ok(match self {

@@ -7,7 +7,7 @@ ghost use Rattle.serde_json.specs.Read.{read};
 ghost use Rattle.serde_json.specs.View.{view};
 ghost use Rattle.serde_json.specs.Written.{compact_text, has_float};
 ghost use Rattle.xds_resource.specs.Refusals.{Gives, unless_refused};
-ghost use Rattle.xds_resource.specs.Resources.{ReadsAs, is_valid_name as is_valid, has_type as names_type, resource_name as name_of, value_of, max_nesting, front_conditions, from_object, parsed, from_value as valued, IsCanonical};
+ghost use Rattle.xds_resource.specs.Resources.{ReadsAs, is_valid_name as is_valid, has_type as names_type, resource_name as name_of, value_of, max_nesting, front_conditions, from_object, parsed, from_value as valued};
 
 use crate::json::{field, is_whole, nests_within};
 use crate::refusal::Refusal;
@@ -132,10 +132,9 @@ impl<T: ResourceType> Resource<T> {
         read_body(alloc, self.body.as_str())
     }
 
-    /// An equal resource, or `OutOfMemory`. Each resource is one of its type.
+    /// An equal resource, or `OutOfMemory`.
     pub fn try_copy(&self, _alloc: Global) -> Result<Resource<T>, Refusal>
         ensures copy { IfOk result (λ r. r ≡ self.now) }
-        ensures canonical { IsCanonical T.TYPE self.now }
         ensures refused { IfErr result (λ e. e ≡ Refusal.OutOfMemory) }
     {
         Ok(Resource {

@@ -4,6 +4,7 @@ ghost use Rattle.std.specs.FinMap as finmap;
 ghost use Rattle.xds_resource.specs.declared.refusal.Refusal.TheVariants.{OutOfMemory};
 ghost use Rattle.xds_resource.specs.PerType.{at, each, with_at};
 ghost use Rattle.xds_cache.specs.Clients.{view as view_of};
+ghost use Rattle.xds_model.specs.Claims.{PutResources, Headline};
 ghost use Rattle.xds_model.specs.Seen.{happening_of};
 ghost use Rattle.xds_model.specs.Worlds.{Site as SiteValue, world as world_of};
 ghost use Rattle.xds_world.specs.Seen.{record_of};
@@ -37,9 +38,12 @@ impl<A: Accept> Model for World<A> {
     ghost invariant = { λ w. w.state ≡ worlds.world A.accepts (map happening_of w.events.items) };
 }
 
-/// The world in which these events happened, from the start. Refused only by `OutOfMemory`.
+/// The world in which these events happened, from the start. Where what is put are resources, the headline holds of it: what
+/// replicas hold are the best writes of what they know, and clients that are settled show what their replica knows of what they
+/// want. Refused only by `OutOfMemory`.
 pub fn play<A: Accept>(alloc: Global, events: &[WorldEvent]) -> Result<World<A>, Refusal>
     ensures ok { IfOk result (λ w. w ≡ map happening_of events.now) }
+    ensures headline { IfOk result (λ w. PutResources w → Headline A.accepts w) }
     ensures refused { IfErr result (λ e. e ≡ OutOfMemory) }
 {
     let world = World {
@@ -49,13 +53,15 @@ pub fn play<A: Accept>(alloc: Global, events: &[WorldEvent]) -> Result<World<A>,
     more(alloc, world, events)
 }
 
-/// The world in which these events happened, too. Refused only by `OutOfMemory`.
+/// The world in which these events happened, too. The headline holds of it as of that of `play`. Refused only by
+/// `OutOfMemory`.
 pub fn more<A: Accept>(
     alloc: Global,
     world: World<A>,
     events: &[WorldEvent],
 ) -> Result<World<A>, Refusal>
     ensures ok { IfOk result (λ w. w ≡ world ++ map happening_of events.now) }
+    ensures headline { IfOk result (λ w. PutResources w → Headline A.accepts w) }
     ensures refused { IfErr result (λ e. e ≡ OutOfMemory) }
 {
     let mut world = world;
