@@ -1,9 +1,11 @@
 // A world that runs, with the list of what happened in it.
-ghost use Rattle.std.specs.Prelude.{◌≡◌, ◌++◌, [], ◌∷◌, map, option_map, IfOk, IfErr};
+ghost use Rattle.std.specs.Prelude.{◌≡◌, ◌++◌, [], ◌∷◌, map, false, option_map, IfOk, IfErr};
+ghost use Rattle.std.specs.Option.{option_map_or};
 ghost use Rattle.std.specs.FinMap as finmap;
 ghost use Rattle.xds_resource.specs.declared.refusal.Refusal.TheVariants.{OutOfMemory};
 ghost use Rattle.xds_resource.specs.PerType.{at, each, with_at};
 ghost use Rattle.xds_cache.specs.Clients.{view as view_of};
+ghost use Rattle.xds_model.specs.Claims.{is_settled_on};
 ghost use Rattle.xds_model.specs.Seen.{happening_of};
 ghost use Rattle.xds_model.specs.Worlds.{Site as SiteValue, world as world_of};
 ghost use Rattle.xds_world.specs.Seen.{record_of};
@@ -104,6 +106,18 @@ impl<A: Accept> World<A> {
     {
         let peer = self.state.peer(client)?;
         Some(peer.status())
+    }
+
+    /// Whether a client is settled of a type: it is up, nothing of the type is under way, and its replica owes it nothing of the
+    /// type; none where there is no such client.
+    pub fn settled(&self, client: u32, kind: TypeName) -> Option<bool>
+        ensures { result ≡ option_map (λ p. option_map_or (is_settled_on (world_of A.accepts self.now) kind) p.link false) (finmap.get (world_of A.accepts self.now).peers client) }
+    {
+        let peer = self.state.peer(client)?;
+        match peer.link() {
+            Some(link) => Some(self.state.is_settled_on(link, kind)),
+            None => Some(false),
+        }
     }
 
     /// What happened at a replica, with the answers; none where there is no such replica.
