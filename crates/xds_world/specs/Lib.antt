@@ -2,3 +2,4 @@ pub mod Codes
 pub mod Seen
 pub mod Parts
 pub mod States
+pub mod Statuses

@@ -9,4 +9,5 @@ mod site;
 mod state;
 pub mod world;
 
+pub use peer::Status;
 pub use world::{World, more, play};

@@ -1,7 +1,11 @@
 // A stream from a client to a replica, with what is under way on it.
 ghost use Rattle.std.specs.Prelude.{◌≡◌, [], ◌∷◌, ◌++◌, map, option_map, IfOk, IfErr, OnOk, OnErr};
+ghost use Rattle.std.specs.List.{list_any};
 ghost use Rattle.xds_resource.specs.declared.refusal.Refusal.TheVariants.{OutOfMemory};
+ghost use Rattle.xds_resource.specs.Types.{is_same_type};
 ghost use Rattle.xds_core.specs.Seen.{message_of};
+ghost use Rattle.xds_draft.specs.DraftTexts.{kind_of};
+ghost use Rattle.xds_model.specs.Claims.{asks_for, is_quiet};
 ghost use Rattle.xds_model.specs.Worlds.{under_way};
 ghost use Rattle.xds_world.specs.Parts.{Happened, first, behind, link_up};
 
@@ -11,7 +15,7 @@ use std::collections::VecDeque;
 use std::marker::Model;
 use xds_core::Request;
 use xds_draft::Draft;
-use xds_resource::Refusal;
+use xds_resource::{Refusal, TypeName};
 
 /// A stream from a client to a replica, with what is under way on it each way, the oldest first.
 #[derive(Drop)]
@@ -33,6 +37,23 @@ impl Model for Link {
     ghost coded = { link_code };
 
     ghost view = { λ l. record { replica = l.replica; stream = l.stream; up = map message_of l.up.items; down = l.down.items } };
+}
+
+// Whether a request is of a type.
+fn is_request_of(request: &Request, kind: TypeName) -> bool
+    ensures { result ≡ asks_for kind (message_of request.now) }
+{
+    match request {
+        Request::Sotw(request) => request.type_url.as_str() == kind.url(),
+        Request::Delta(request) => request.type_url.as_str() == kind.url(),
+    }
+}
+
+// Whether a response is of a type.
+fn is_response_of(draft: &Draft, kind: TypeName) -> bool
+    ensures { result ≡ is_same_type (kind_of draft.now) kind }
+{
+    draft.kind().url() == kind.url()
 }
 
 impl Link {
@@ -112,5 +133,36 @@ impl Link {
         ensures { self.new ≡ record self.old { down = behind self.old.down } }
     {
         self.down.pop_front();
+    }
+
+    // Whether a request of a type is under way.
+    fn asks_for(&self, kind: TypeName) -> bool
+        ensures { result ≡ list_any (asks_for kind) self.now.up }
+    {
+        for request in self.up.iter() {
+            if is_request_of(request, kind) {
+                return true;
+            }
+        }
+        false
+    }
+
+    // Whether a response of a type is under way.
+    fn brings(&self, kind: TypeName) -> bool
+        ensures { result ≡ list_any (λ d. is_same_type (kind_of d) kind) self.now.down }
+    {
+        for draft in self.down.iter() {
+            if is_response_of(draft, kind) {
+                return true;
+            }
+        }
+        false
+    }
+
+    /// Whether nothing of a type is under way, either way.
+    pub(crate) fn is_quiet(&self, kind: TypeName) -> bool
+        ensures { result ≡ is_quiet kind self.now }
+    {
+        !self.asks_for(kind) && !self.brings(kind)
     }
 }

@@ -7,6 +7,7 @@ ghost use Rattle.xds_cache.specs.Clients.{view as view_of, fresh};
 ghost use Rattle.xds_model.specs.Seen.{wish_of};
 ghost use Rattle.xds_model.specs.Worlds.{sending};
 ghost use Rattle.xds_world.specs.Parts.{Happened, peer_changed, peer_up, peer_polled, peer_down, peer_lost, peer_connected};
+ghost use Rattle.xds_world.specs.Statuses.{status_of};
 
 use crate::client::AnyClient;
 use crate::link::Link;
@@ -17,6 +18,15 @@ use xds_core::Request;
 use xds_draft::Draft;
 use xds_model::{ClientKind, Wish};
 use xds_resource::{NameMap, Refusal, TypeName};
+
+/// Whether a client has a stream.
+#[derive(Clone, Copy, Debug, PartialEq, Eq)]
+pub enum Status {
+    /// It has a stream to a replica.
+    Up,
+    /// It has none.
+    Down,
+}
 
 /// A client, and its stream if it has one.
 #[derive(Drop)]
@@ -73,6 +83,17 @@ impl<A: Accept> Peer<A> {
         ensures { result.now ≡ view_of self.now.client kind }
     {
         self.client.view(kind)
+    }
+
+    /// Whether the client has a stream.
+    pub(crate) fn status(&self) -> Status
+        ensures { result ≡ status_of self.now }
+    {
+        if self.link.is_some() {
+            Status::Up
+        } else {
+            Status::Down
+        }
     }
 
     /// The stream.

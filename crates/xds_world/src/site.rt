@@ -2,13 +2,14 @@
 ghost use Rattle.std.specs.Prelude.{◌≡◌, ◌≤◌, map, IfOk, IfErr};
 ghost use Rattle.xds_resource.specs.declared.refusal.Refusal.TheVariants.{OutOfMemory};
 ghost use Rattle.xds_core.specs.Seen.{event_of, reply_of};
+ghost use Rattle.xds_model.specs.Claims.{owes_nothing};
 ghost use Rattle.xds_world.specs.Parts.{Gave, fresh_site, answered};
 ghost use Rattle.xds_world.specs.Seen.{record_of};
 
 use std::alloc::Global;
 use std::marker::Model;
 use xds_core::{Core, Event, Record, Reply};
-use xds_resource::Refusal;
+use xds_resource::{Refusal, TypeName};
 
 /// A replica, and what happened at it, with the answers.
 #[derive(Drop)]
@@ -73,5 +74,15 @@ impl Site {
         ensures { map record_of result.now.items ≡ self.now.journal }
     {
         &self.journal
+    }
+
+    /// Whether the replica owes nothing of a type on a stream; false where the stream isn't open.
+    pub(crate) fn owes_nothing(&self, stream: u64, kind: TypeName) -> bool
+        ensures { result ≡ owes_nothing kind stream self.now }
+    {
+        match self.core.owes(stream, Some(kind)) {
+            Some(owes) => !owes,
+            None => false,
+        }
     }
 }

@@ -6,11 +6,13 @@ ghost use Rattle.xds_resource.specs.Any.{resource_type, named_body};
 ghost use Rattle.xds_resource.specs.declared.refusal.Refusal.TheVariants.{OutOfMemory};
 ghost use Rattle.xds_core.specs.Events as events;
 ghost use Rattle.xds_core.specs.Seen.{message_of, event_of, reply_of};
+ghost use Rattle.xds_model.specs.Claims.{is_settled_on};
 ghost use Rattle.xds_model.specs.Happenings as happenings;
 ghost use Rattle.xds_model.specs.Seen.{happening_of, wish_of};
 ghost use Rattle.xds_model.specs.Worlds.{empty_world, at_site, happened_at, happens, placed};
 ghost use Rattle.xds_world.specs.Parts.{Gave, Happened, blank, first, leads, link_at, draft_in, stream_in, batch_in, peer_event, peer_up, peer_polled, peer_lost, peer_connected};
 
+use crate::link::Link;
 use crate::parts::is_there;
 use crate::peer::Peer;
 use crate::site::Site;
@@ -74,6 +76,17 @@ impl<A: Accept> State<A> {
         ensures { option_map (λ s. s.now) result ≡ finmap.get self.now.sites replica }
     {
         self.sites.get(replica as u64)
+    }
+
+    /// Whether nothing of a type is under way on a stream, and its replica owes nothing of the type there.
+    pub(crate) fn is_settled_on(&self, link: &Link, kind: TypeName) -> bool
+        ensures { result ≡ is_settled_on self.now kind link.now }
+    {
+        link.is_quiet(kind)
+            && match self.site(link.replica()) {
+                Some(site) => site.owes_nothing(link.stream(), kind),
+                None => false,
+            }
     }
 
     // What a replica answers to an event; nothing where there is no such replica or the event is refused.

@@ -1,14 +1,17 @@
 // A world that runs, with the list of what happened in it.
-ghost use Rattle.std.specs.Prelude.{◌≡◌, ◌++◌, [], ◌∷◌, map, is_some, option_map, IfOk, IfErr};
+ghost use Rattle.std.specs.Prelude.{◌≡◌, ◌++◌, [], ◌∷◌, map, false, option_map, IfOk, IfErr};
+ghost use Rattle.std.specs.Option.{option_map_or};
 ghost use Rattle.std.specs.FinMap as finmap;
 ghost use Rattle.xds_resource.specs.declared.refusal.Refusal.TheVariants.{OutOfMemory};
 ghost use Rattle.xds_resource.specs.PerType.{at, each, with_at};
 ghost use Rattle.xds_cache.specs.Clients.{view as view_of};
-ghost use Rattle.xds_model.specs.Claims.{PutResources, Headline};
+ghost use Rattle.xds_model.specs.Claims.{PutResources, Headline, is_settled_on};
 ghost use Rattle.xds_model.specs.Seen.{happening_of};
 ghost use Rattle.xds_model.specs.Worlds.{Site as SiteValue, world as world_of};
 ghost use Rattle.xds_world.specs.Seen.{record_of};
+ghost use Rattle.xds_world.specs.Statuses.{status_of};
 
+use crate::peer::Status;
 use crate::state::State;
 use std::alloc::Global;
 use std::marker::Model;
@@ -102,12 +105,24 @@ impl<A: Accept> World<A> {
         Some(peer.kind())
     }
 
-    /// Whether a client has a stream; none where there is no such client.
-    pub fn is_up(&self, client: u32) -> Option<bool>
-        ensures { result ≡ option_map (λ p. is_some p.link) (finmap.get (world_of A.accepts self.now).peers client) }
+    /// Whether a client is up or down; none where there is no such client.
+    pub fn status(&self, client: u32) -> Option<Status>
+        ensures { result ≡ option_map status_of (finmap.get (world_of A.accepts self.now).peers client) }
     {
         let peer = self.state.peer(client)?;
-        Some(peer.link().is_some())
+        Some(peer.status())
+    }
+
+    /// Whether a client is settled of a type: it is up, nothing of the type is under way, and its replica owes it nothing of the
+    /// type; none where there is no such client.
+    pub fn settled(&self, client: u32, kind: TypeName) -> Option<bool>
+        ensures { result ≡ option_map (λ p. option_map_or (is_settled_on (world_of A.accepts self.now) kind) p.link false) (finmap.get (world_of A.accepts self.now).peers client) }
+    {
+        let peer = self.state.peer(client)?;
+        match peer.link() {
+            Some(link) => Some(self.state.is_settled_on(link, kind)),
+            None => Some(false),
+        }
     }
 
     /// What happened at a replica, with the answers; none where there is no such replica.
