@@ -1,4 +1,0 @@
-// What a script of a world prints.
-#![tactic(auto)]
-
-pub mod show;
