@@ -3,3 +3,4 @@ pub mod Seen
 pub mod Worlds
 pub mod Knows
 pub mod Claims
+pub mod Settling

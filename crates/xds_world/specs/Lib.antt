@@ -3,3 +3,4 @@ pub mod Seen
 pub mod Parts
 pub mod States
 pub mod Statuses
+pub mod Settled

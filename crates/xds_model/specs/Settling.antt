@@ -1,0 +1,106 @@
+-- Settling a client of a type: its replica takes what the client asked for, answers until it owes nothing of the type, and the
+-- client takes the answers. This project's own.
+use Rattle.std.specs.Prelude.{◌≡◌, ◌⊎◌, ℕ, ◌+◌, List, [], ◌∷◌, ◌++◌, Bool, true, false, not, if◌then◌else◌, Option, Some, None, is_some, option_map, ⊥}
+use Rattle.std.specs.Option.{option_and_then, option_map_or}
+use Rattle.std.specs.List.{list_any}
+use Rattle.std.specs.FinMap as finmap
+use Rattle.xds_resource.specs.declared.types.TypeName.{TypeName}
+use Rattle.xds_resource.specs.Types.{is_same_type}
+use Rattle.xds_draft.specs.declared.draft.Draft.{Draft}
+use Rattle.xds_draft.specs.DraftTexts.{kind_of}
+use Rattle.xds_core.specs.Streams.{Message}
+use Rattle.xds_cache.specs.Faults.{Test}
+use Rattle.xds_model.specs.Happenings.{Happening, Up, Poll, Down}
+use Rattle.xds_model.specs.Worlds.{World, Link, world, happens}
+use Rattle.xds_model.specs.Claims.{is_settled}
+
+-- whether a response of the type is under way
+abbrev pub brings : TypeName → Link → Bool
+brings t l = list_any (λ d. is_same_type (kind_of d) t) l.down
+
+abbrev pub polls_unless : Bool → ℕ → TypeName → Happening
+polls_unless true c t = Down c
+polls_unless false c t = Poll c (Some t)
+
+-- while a request is under way, the replica takes it; else while a response of the type is, the client takes what comes first;
+-- else the replica is polled for the type
+abbrev pub next_on : ℕ → TypeName → Link → List Message → Happening
+next_on c t l (m ∷ ms) = Up c
+next_on c t l [] = polls_unless (brings t l) c t
+
+-- the stream of a client that has one
+abbrev pub link_in : World → ℕ → Option Link
+link_in w c = option_and_then (λ p. p.link) (finmap.get w.peers c)
+
+-- what is done next to settle a client of a type; nothing once it is settled, or where it has no stream
+abbrev pub next_to_settle : World → ℕ → TypeName → Option Happening
+next_to_settle w c t = if is_settled w c t then None else option_map (λ l. next_on c t l l.up) (link_in w c)
+
+-- whether a poll was the last that happened, and gave no response
+abbrev pub gave_nothing : TypeName → Happening → Option Link → Bool
+gave_nothing t (Poll c which) (Some l) = not (brings t l)
+gave_nothing t h o = false
+
+abbrev pub Then : {S : Type 0} → Option S → (S → Type 0) → Type 0
+Then None P = ⊥
+Then (Some x) P = P x
+
+-- That these are done, one after the other, in a world in which the last poll gave nothing or not, and that `Ends` holds where they
+-- end. Each is what is done next, and possible; nothing is done once a poll gave nothing.
+abbrev pub Done : (Bool → World → Type 0) → Test → ℕ → TypeName → Bool → World → List Happening → Type 0
+Done Ends test c t held w [] = Ends held w
+Done Ends test c t held w (h ∷ hs) = (held ≡ false) × ((next_to_settle w c t ≡ Some h) × Then (happens test w h) (λ x. Done Ends test c t (gave_nothing t h (link_in x c)) x hs))
+
+-- where settling ends: a poll gave nothing, or nothing is to be done
+abbrev pub IsAtEnd : ℕ → TypeName → Bool → World → Type 0
+IsAtEnd c t held w = (held ≡ true) ⊎ (next_to_settle w c t ≡ None)
+
+-- where settling gets no further: what is to be done isn't possible
+abbrev pub IsAtStop : Test → ℕ → TypeName → Bool → World → Type 0
+IsAtStop test c t held w = (held ≡ false) × ((is_some (next_to_settle w c t) ≡ true) × (option_and_then (happens test w) (next_to_settle w c t) ≡ None))
+
+-- That these settle a client of a type, as far as polls help: until it is settled, or a poll gives nothing, since what the replica
+-- would send is what the client refused.
+abbrev pub IsSettling : Test → ℕ → TypeName → World → List Happening → Type 0
+IsSettling test c t w hs = Done (IsAtEnd c t) test c t false w hs
+
+-- that these are done to settle a client of a type, and what is to be done next isn't possible
+abbrev pub IsStopped : Test → ℕ → TypeName → World → List Happening → Type 0
+IsStopped test c t w hs = Done (IsAtStop test c t) test c t false w hs
+
+-- What a line of a script that settles a client of a type adds to what happened: nothing where the client has no stream, and else
+-- what settles it, as far as possible.
+abbrev pub IsAddedToSettle : Test → ℕ → TypeName → List Happening → List Happening → Type 0
+IsAddedToSettle test c t hs more =
+    ((link_in (world test hs) c ≡ None) × (more ≡ [])) ⊎ (IsSettling test c t (world test hs) more ⊎ IsStopped test c t (world test hs) more)
+
+-- ---- how many responses of the type were taken
+
+abbrev pub takes_one : TypeName → List Draft → ℕ
+takes_one t [] = 0
+takes_one t (d ∷ ds) = if is_same_type (kind_of d) t then 1 else 0
+
+-- responses of the type that the client takes in what happens
+abbrev pub taken_now : ℕ → TypeName → World → Happening → ℕ
+taken_now c t w (Down d) = option_map_or (λ l. takes_one t l.down) (link_in w c) 0
+taken_now c t w h = 0
+
+-- responses of the type that a client takes while it is settled
+abbrev pub responses_taken : Test → ℕ → TypeName → World → List Happening → ℕ
+responses_taken test c t w [] = 0
+responses_taken test c t w (h ∷ hs) = taken_now c t w h + option_map_or (λ x. responses_taken test c t x hs) (happens test w h) 0
+
+-- What settling a client of a type leaves, in words of what happened: what was added, whether the client is settled, and how many
+-- responses of the type it took.
+pub record HasSettled (test : Test) (c : ℕ) (t : TypeName) (before : List Happening) (after : List Happening) (settled : Bool) (responses : ℕ) : Type 0 where
+  pub more : List Happening
+  pub longer : after ≡ before ++ more
+  pub steps : IsSettling test c t (world test before) more
+  pub tells : settled ≡ is_settled (world test after) c t
+  pub counts : responses ≡ responses_taken test c t (world test before) more
+
+-- what settling leaves where it gets no further
+pub record HasStopped (test : Test) (c : ℕ) (t : TypeName) (before : List Happening) (after : List Happening) : Type 0 where
+  pub more : List Happening
+  pub longer : after ≡ before ++ more
+  pub steps : IsStopped test c t (world test before) more
