@@ -1,12 +1,12 @@
 -- Why a client wasn't settled. This project's own.
-use Rattle.std.specs.Prelude.{◌≡◌, List, None, ⊤}
+use Rattle.std.specs.Prelude.{◌≡◌, ℕ, List, None, ⊤}
 use Rattle.xds_resource.specs.declared.types.TypeName.{TypeName}
 use Rattle.xds_cache.specs.Faults.{Test}
 use Rattle.xds_model.specs.Worlds.{world}
 use Rattle.xds_model.specs.Settling.{link_in, HasStopped}
 use Rattle.xds_model.specs.Happenings.{Happening}
-use Rattle.xds_world.specs.declared.settle.Unsettled.{Unsettled}
-use Rattle.xds_world.specs.declared.settle.Unsettled.TheVariants as unsettled
+use Rattle.xds_world.specs.declared.settling.Unsettled.{Unsettled}
+use Rattle.xds_world.specs.declared.settling.Unsettled.TheVariants as unsettled
 
 -- without a stream the world is as it was; with all responses spent it is what happened until then
 abbrev pub HasFailed : {A : Type 0} → Test → ℕ → TypeName → List Happening → Unsettled A → Type 0

@@ -5,11 +5,11 @@ mod client;
 mod link;
 mod parts;
 mod peer;
-pub mod settle;
+pub mod settling;
 mod site;
 mod state;
 pub mod world;
 
 pub use peer::Status;
-pub use settle::{Settlement, Unsettled, settle};
+pub use settling::{Settlement, Unsettled, settle};
 pub use world::{World, more, play};
