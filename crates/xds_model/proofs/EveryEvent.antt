@@ -41,7 +41,7 @@ link_there w c f left is =
     let linked = bound_some (f peer.0) peer.0.link left peer.2 in
     (peer.0, linked.0, peer.1, linked.1, linked.2)
 
-get_put : {X : Type 0} (m : FinMap nat_cmp X) (k : ℕ) (x : X) → finmap.get (finmap.insert m k x) k ≡ Some x
+pub get_put : {X : Type 0} (m : FinMap nat_cmp X) (k : ℕ) (x : X) → finmap.get (finmap.insert m k x) k ≡ Some x
 get_put m k x =
     elim (get-inserted nat_cmp_total nat_cmp-IsAntisymmetric m k x k) [
       | inl here ↦ here.1

@@ -1,10 +1,12 @@
 // What may happen in a world of replicas and clients.
 ghost use Rattle.std.specs.Prelude.{◌≡◌, IfOk, IfErr};
 ghost use Rattle.xds_resource.specs.declared.refusal.Refusal.TheVariants.{OutOfMemory};
+ghost use Rattle.xds_model.specs.Claims.{PutsAResource};
 ghost use Rattle.xds_model.specs.Seen.{happening_of, wish_of};
 
 use std::alloc::Global;
 use xds_message::copy_texts;
+use xds_resource::laws::resources_are_canonical;
 use xds_resource::{AnyResource, Refusal, TypeName};
 
 /// The variant that a client speaks.
@@ -96,6 +98,15 @@ impl WorldEvent {
             WorldEvent::Poll(client, which) => Ok(WorldEvent::Poll(*client, *which)),
             WorldEvent::Down(client) => Ok(WorldEvent::Down(*client)),
             WorldEvent::Lose(client) => Ok(WorldEvent::Lose(*client)),
+        }
+    }
+
+    /// What an event puts is a resource of its type, as every resource is.
+    pub fn puts_a_resource(&self)
+        ensures { PutsAResource (happening_of self.now) }
+    {
+        if let WorldEvent::Put(_, resource) = self {
+            resources_are_canonical(resource);
         }
     }
 }

@@ -9,7 +9,10 @@ ghost use Rattle.xds_resource.specs.PerType.{PerType, at, each, PutsAtOneType};
 ghost use Rattle.xds_resource.specs.declared.types.TypeName.{TypeName};
 ghost use Rattle.std.specs.Prelude.{Option};
 ghost use Rattle.xds_resource.specs.Types.{types, type_cmp};
+ghost use Rattle.xds_resource.specs.Resources.{IsCanonical};
+ghost use Rattle.xds_resource.specs.Any.{resource_type, named_body};
 
+use crate::any::AnyResource;
 use crate::types::TypeName;
 
 /// The order of writes is total, and two writes that tie are the same.
@@ -58,3 +61,15 @@ pub fn types_stand_in_order()
     ensures all { TypeName.ALL ≡ types }
     ensures order { (s t : TypeName) → ⟦<TypeName as Ord>⟧.cmp s t ≡ type_cmp s t }
 {}
+
+/// What is held as a resource is one: its text is the compact text of an object of its type, with its name.
+pub fn resources_are_canonical(resource: &AnyResource)
+    ensures { IsCanonical (resource_type resource.now) (named_body resource.now) }
+{
+    match resource {
+        AnyResource::Cluster(resource) => resource.is_canonical(),
+        AnyResource::Endpoint(resource) => resource.is_canonical(),
+        AnyResource::Listener(resource) => resource.is_canonical(),
+        AnyResource::Route(resource) => resource.is_canonical(),
+    }
+}

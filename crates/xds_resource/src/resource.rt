@@ -7,7 +7,7 @@ ghost use Rattle.serde_json.specs.Read.{read};
 ghost use Rattle.serde_json.specs.View.{view};
 ghost use Rattle.serde_json.specs.Written.{compact_text, has_float};
 ghost use Rattle.xds_resource.specs.Refusals.{Gives, unless_refused};
-ghost use Rattle.xds_resource.specs.Resources.{ReadsAs, is_valid_name as is_valid, has_type as names_type, resource_name as name_of, value_of, max_nesting, front_conditions, from_object, parsed, from_value as valued};
+ghost use Rattle.xds_resource.specs.Resources.{IsCanonical, ReadsAs, is_valid_name as is_valid, has_type as names_type, resource_name as name_of, value_of, max_nesting, front_conditions, from_object, parsed, from_value as valued};
 
 use crate::json::{field, is_whole, nests_within};
 use crate::refusal::Refusal;
@@ -130,6 +130,13 @@ impl<T: ResourceType> Resource<T> {
         ensures refused { IfErr result (λ e. e ≡ Refusal.OutOfMemory) }
     {
         read_body(alloc, self.body.as_str())
+    }
+
+    // What is held is a resource of the type.
+    pub(crate) fn is_canonical(&self)
+        ensures { IsCanonical T.TYPE self.now }
+    {
+        let _ = &self.kind;
     }
 
     /// An equal resource, or `OutOfMemory`.

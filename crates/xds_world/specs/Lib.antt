@@ -3,4 +3,5 @@ pub mod Seen
 pub mod Parts
 pub mod States
 pub mod Statuses
+pub mod Played
 pub mod Settled

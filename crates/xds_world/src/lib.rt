@@ -5,6 +5,7 @@ mod client;
 mod link;
 mod parts;
 mod peer;
+mod run;
 pub mod settling;
 mod site;
 mod state;

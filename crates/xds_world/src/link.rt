@@ -1,5 +1,5 @@
 // A stream from a client to a replica, with what is under way on it.
-ghost use Rattle.std.specs.Prelude.{◌≡◌, [], ◌∷◌, ◌++◌, map, option_map, IfOk, IfErr, OnOk, OnErr};
+ghost use Rattle.std.specs.Prelude.{◌≡◌, ℕ, [], ◌∷◌, ◌++◌, map, option_map, IfOk, IfErr, OnOk, OnErr};
 ghost use Rattle.std.specs.List.{list_any};
 ghost use Rattle.xds_resource.specs.declared.refusal.Refusal.TheVariants.{OutOfMemory};
 ghost use Rattle.xds_resource.specs.Types.{is_same_type};
@@ -7,7 +7,10 @@ ghost use Rattle.xds_core.specs.Seen.{message_of};
 ghost use Rattle.xds_draft.specs.DraftTexts.{kind_of};
 ghost use Rattle.xds_model.specs.Claims.{asks_for, is_quiet};
 ghost use Rattle.xds_model.specs.Worlds.{under_way};
+ghost use Rattle.xds_model.specs.Seen.{happening_of};
+ghost use Rattle.xds_model.specs.Settling.{brings, takes_one, next_on};
 ghost use Rattle.xds_world.specs.Parts.{Happened, first, behind, link_up};
+ghost use Rattle.xds_world.specs.Played.{event_for, count};
 
 use crate::parts::is_there;
 use std::alloc::Global;
@@ -15,7 +18,32 @@ use std::collections::VecDeque;
 use std::marker::Model;
 use xds_core::Request;
 use xds_draft::Draft;
+use xds_model::WorldEvent;
 use xds_resource::{Refusal, TypeName};
+
+/// What is done next to settle a client of a type.
+#[derive(Clone, Copy)]
+pub(crate) enum Step {
+    /// The replica takes the client's oldest request.
+    Up,
+    /// The replica is polled for the type.
+    Poll,
+    /// The client takes the oldest response.
+    Down,
+}
+
+impl Step {
+    /// What happens in the step.
+    pub(crate) fn event(self, client: u32, kind: TypeName) -> WorldEvent
+        ensures { happening_of result ≡ event_for client kind self }
+    {
+        match self {
+            Step::Up => WorldEvent::Up(client),
+            Step::Poll => WorldEvent::Poll(client, Some(kind)),
+            Step::Down => WorldEvent::Down(client),
+        }
+    }
+}
 
 /// A stream from a client to a replica, with what is under way on it each way, the oldest first.
 #[derive(Drop)]
@@ -147,9 +175,9 @@ impl Link {
         false
     }
 
-    // Whether a response of a type is under way.
-    fn brings(&self, kind: TypeName) -> bool
-        ensures { result ≡ list_any (λ d. is_same_type (kind_of d) kind) self.now.down }
+    /// Whether a response of a type is under way.
+    pub(crate) fn brings(&self, kind: TypeName) -> bool
+        ensures { result ≡ brings kind self.now }
     {
         for draft in self.down.iter() {
             if is_response_of(draft, kind) {
@@ -164,5 +192,28 @@ impl Link {
         ensures { result ≡ is_quiet kind self.now }
     {
         !self.asks_for(kind) && !self.brings(kind)
+    }
+
+    /// Whether the oldest response is of a type.
+    pub(crate) fn brings_first(&self, kind: TypeName) -> bool
+        ensures { count result ≡ takes_one kind self.now.down }
+    {
+        match self.down.front() {
+            Some(draft) => is_response_of(draft, kind),
+            None => false,
+        }
+    }
+
+    /// What is done next to settle the client of a type, where it isn't settled.
+    pub(crate) fn next_step(&self, kind: TypeName) -> Step
+        ensures { (client : ℕ) → event_for client kind result ≡ next_on client kind self.now self.now.up }
+    {
+        if !self.up.is_empty() {
+            Step::Up
+        } else if self.brings(kind) {
+            Step::Down
+        } else {
+            Step::Poll
+        }
     }
 }

@@ -1,12 +1,17 @@
 // Settling a client of a type.
-ghost use Rattle.std.specs.Prelude.{◌≡◌, IfOk, IfErr};
+ghost use Rattle.std.specs.Prelude.{◌≡◌, map, IfOk, IfErr, OnOk};
+ghost use Rattle.xds_resource.specs.declared.refusal.Refusal.TheVariants.{OutOfMemory};
+ghost use Rattle.xds_model.specs.Seen.{happening_of};
 ghost use Rattle.xds_model.specs.Settling.{HasSettled};
+ghost use Rattle.xds_world.specs.Played.{IsPlayed, HasEnded};
 ghost use Rattle.xds_world.specs.Settled.{HasFailed};
 
+use crate::peer::Status;
+use crate::run::Run;
 use crate::world::World;
 use std::alloc::Global;
 use xds_cache::Accept;
-use xds_resource::TypeName;
+use xds_resource::{Refusal, TypeName};
 
 /// What settling a client of a type came to.
 #[derive(Drop)]
@@ -33,7 +38,7 @@ pub enum Unsettled<A: Accept> {
 /// is, the client takes what comes first; else the replica is polled for the type. It ends where the client is settled, or a poll
 /// gives no response, since what the replica would send is what the client refused.
 pub fn settle<A: Accept>(
-    _alloc: Global,
+    alloc: Global,
     world: World<A>,
     client: u32,
     kind: TypeName,
@@ -41,5 +46,57 @@ pub fn settle<A: Accept>(
     ensures settled { IfOk result (λ s. HasSettled A.accepts client kind world s.world s.settled s.responses) }
     ensures unsettled { IfErr result (λ e. HasFailed A.accepts client kind world e) }
 {
-    Err(Unsettled::OutOfMemory)
+    match world.status(client) {
+        Some(Status::Up) => settle_linked(alloc, world, client, kind),
+        _ => Err(Unsettled::NoStream(world)),
+    }
+}
+
+// The same of a client that has a stream.
+fn settle_linked<A: Accept>(
+    alloc: Global,
+    world: World<A>,
+    client: u32,
+    kind: TypeName,
+) -> Result<Settlement<A>, Unsettled<A>>
+    ensures settled { IfOk result (λ s. HasSettled A.accepts client kind world s.world s.settled s.responses) }
+    ensures stopped { IfErr result (λ e. HasFailed A.accepts client kind world e) }
+{
+    let World { mut run } = world;
+    match settle_run(alloc, &mut run, client, kind) {
+        Ok(Some((settled, responses))) => Ok(Settlement {
+            world: World { run },
+            settled,
+            responses,
+        }),
+        Ok(None) => Err(Unsettled::NonceSpent(World { run })),
+        Err(_) => Err(Unsettled::OutOfMemory),
+    }
+}
+
+// Settles a client. Answers whether it is settled and how many responses of the type it took; none where what was to be done next
+// wasn't possible.
+fn settle_run<A: Accept>(
+    alloc: Global,
+    run: &mut Run<A>,
+    client: u32,
+    kind: TypeName,
+) -> Result<Option<(bool, u64)>, Refusal>
+    requires { IsPlayed A.accepts run.old.state (map happening_of run.old.events.items) }
+    ensures played { OnOk result (IsPlayed A.accepts run.new.state (map happening_of run.new.events.items)) }
+    ensures ended { IfOk result (λ o. HasEnded A.accepts client kind (map happening_of run.old.events.items) (map happening_of run.new.events.items) o) }
+    ensures refused { IfErr result (λ e. e ≡ OutOfMemory) }
+{
+    let mut responses = 0;
+    while let Some(step) = run.state.next_to_settle(client, kind) {
+        let taken = run.state.taken_in(client, kind, step);
+        if !run.step(alloc, client, kind, step)? {
+            return Ok(None);
+        }
+        responses += taken;
+        if run.state.gave_nothing(client, kind, step) {
+            return Ok(Some((run.state.is_settled(client, kind), responses)));
+        }
+    }
+    Ok(Some((run.state.is_settled(client, kind), responses)))
 }

@@ -6,13 +6,15 @@ ghost use Rattle.xds_resource.specs.Any.{resource_type, named_body};
 ghost use Rattle.xds_resource.specs.declared.refusal.Refusal.TheVariants.{OutOfMemory};
 ghost use Rattle.xds_core.specs.Events as events;
 ghost use Rattle.xds_core.specs.Seen.{message_of, event_of, reply_of};
-ghost use Rattle.xds_model.specs.Claims.{is_settled_on};
+ghost use Rattle.xds_model.specs.Claims.{is_settled_on, is_settled};
 ghost use Rattle.xds_model.specs.Happenings as happenings;
 ghost use Rattle.xds_model.specs.Seen.{happening_of, wish_of};
+ghost use Rattle.xds_model.specs.Settling.{link_in, next_to_settle, taken_now, gave_nothing};
+ghost use Rattle.xds_world.specs.Played.{event_for};
 ghost use Rattle.xds_model.specs.Worlds.{empty_world, at_site, happened_at, happens, placed};
 ghost use Rattle.xds_world.specs.Parts.{Gave, Happened, blank, first, leads, link_at, draft_in, stream_in, batch_in, peer_event, peer_up, peer_polled, peer_lost, peer_connected};
 
-use crate::link::Link;
+use crate::link::{Link, Step};
 use crate::parts::is_there;
 use crate::peer::Peer;
 use crate::site::Site;
@@ -87,6 +89,56 @@ impl<A: Accept> State<A> {
                 Some(site) => site.owes_nothing(link.stream(), kind),
                 None => false,
             }
+    }
+
+    // The stream of a client that has one.
+    fn link(&self, client: u32) -> Option<&Link>
+        ensures { option_map (λ l. l.now) result ≡ link_in self.now client }
+    {
+        let peer = self.peer(client)?;
+        peer.link()
+    }
+
+    /// Whether a client is settled of a type.
+    pub(crate) fn is_settled(&self, client: u32, kind: TypeName) -> bool
+        ensures { result ≡ is_settled self.now client kind }
+    {
+        match self.link(client) {
+            Some(link) => self.is_settled_on(link, kind),
+            None => false,
+        }
+    }
+
+    /// What is done next to settle a client of a type; none once it is settled, or where it has no stream.
+    pub(crate) fn next_to_settle(&self, client: u32, kind: TypeName) -> Option<Step>
+        ensures { option_map (event_for client kind) result ≡ next_to_settle self.now client kind }
+    {
+        let link = self.link(client)?;
+        if self.is_settled_on(link, kind) {
+            return None;
+        }
+        Some(link.next_step(kind))
+    }
+
+    /// How many responses of a type a client takes in a step of settling it.
+    pub(crate) fn taken_in(&self, client: u32, kind: TypeName, step: Step) -> u64
+        ensures counts { result ≡ taken_now client kind self.now (event_for client kind step) }
+        ensures small { result ≤ 1 }
+    {
+        match (step, self.link(client)) {
+            (Step::Down, Some(link)) => u64::from(link.brings_first(kind)),
+            _ => 0,
+        }
+    }
+
+    /// Whether a step of settling a client of a type, after which the world is this one, was a poll that gave no response.
+    pub(crate) fn gave_nothing(&self, client: u32, kind: TypeName, step: Step) -> bool
+        ensures { result ≡ gave_nothing kind (event_for client kind step) (link_in self.now client) }
+    {
+        match (step, self.link(client)) {
+            (Step::Poll, Some(link)) => !link.brings(kind),
+            _ => false,
+        }
     }
 
     // What a replica answers to an event; nothing where there is no such replica or the event is refused.

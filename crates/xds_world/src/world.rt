@@ -5,14 +5,14 @@ ghost use Rattle.std.specs.FinMap as finmap;
 ghost use Rattle.xds_resource.specs.declared.refusal.Refusal.TheVariants.{OutOfMemory};
 ghost use Rattle.xds_resource.specs.PerType.{at, each, with_at};
 ghost use Rattle.xds_cache.specs.Clients.{view as view_of};
-ghost use Rattle.xds_model.specs.Claims.{PutResources, Headline, is_settled_on};
+ghost use Rattle.xds_model.specs.Claims.{Headline, is_settled_on};
 ghost use Rattle.xds_model.specs.Seen.{happening_of};
 ghost use Rattle.xds_model.specs.Worlds.{Site as SiteValue, world as world_of};
 ghost use Rattle.xds_world.specs.Seen.{record_of};
 ghost use Rattle.xds_world.specs.Statuses.{status_of};
 
 use crate::peer::Status;
-use crate::state::State;
+use crate::run::Run;
 use std::alloc::Global;
 use std::marker::Model;
 use xds_cache::{Accept, Holding};
@@ -24,36 +24,31 @@ use xds_resource::{NameMap, Refusal, TypeName};
 /// A world of replicas and clients, with the list of what happened in it. `A` is the clients' test of what they are sent.
 #[derive(Drop)]
 pub struct World<A: Accept> {
-    state: State<A>,
-    events: Vec<WorldEvent>,
+    pub(crate) run: Run<A>,
 }
 
 impl<A: Accept> Model for World<A> {
     ghost use Rattle.std.specs.Prelude.{◌≡◌, List, map};
     ghost use Rattle.xds_model.specs.Happenings.{Happening};
     ghost use Rattle.xds_model.specs.Seen.{happening_of};
-    ghost use Rattle.xds_model.specs.Worlds as worlds;
+    ghost use Rattle.xds_world.specs.Played.{IsPlayed};
 
     ghost Value = { List Happening };
 
-    ghost view = { λ w. map happening_of w.events.items };
+    ghost view = { λ w. map happening_of w.run.events.items };
 
-    ghost invariant = { λ w. w.state ≡ worlds.world A.accepts (map happening_of w.events.items) };
+    ghost invariant = { λ w. IsPlayed A.accepts w.run.state (map happening_of w.run.events.items) };
 }
 
-/// The world in which these events happened, from the start. Where what is put are resources, the headline holds of it: what
-/// replicas hold are the best writes of what they know, and clients that are settled show what their replica knows of what they
-/// want. Refused only by `OutOfMemory`.
+/// The world in which these events happened, from the start. The headline holds of it: what replicas hold are the best writes of
+/// what they know, and clients that are settled show what their replica knows of what they want. Refused only by `OutOfMemory`.
 pub fn play<A: Accept>(alloc: Global, events: &[WorldEvent]) -> Result<World<A>, Refusal>
     ensures ok { IfOk result (λ w. w ≡ map happening_of events.now) }
-    ensures headline { IfOk result (λ w. PutResources w → Headline A.accepts w) }
+    ensures headline { IfOk result (λ w. Headline A.accepts w) }
     ensures refused { IfErr result (λ e. e ≡ OutOfMemory) }
 {
-    let world = World {
-        state: State::new(alloc),
-        events: Vec::new(alloc),
-    };
-    more(alloc, world, events)
+    let run = Run::new(alloc);
+    more(alloc, World { run }, events)
 }
 
 /// The world in which these events happened, too. The headline holds of it as of that of `play`. Refused only by
@@ -64,36 +59,22 @@ pub fn more<A: Accept>(
     events: &[WorldEvent],
 ) -> Result<World<A>, Refusal>
     ensures ok { IfOk result (λ w. w ≡ world ++ map happening_of events.now) }
-    ensures headline { IfOk result (λ w. PutResources w → Headline A.accepts w) }
+    ensures headline { IfOk result (λ w. Headline A.accepts w) }
     ensures refused { IfErr result (λ e. e ≡ OutOfMemory) }
 {
-    let mut world = world;
+    let World { mut run } = world;
     for event in events {
-        world = world.and(alloc, event)?;
+        run.play(alloc, event)?;
     }
-    Ok(world)
+    Ok(World { run })
 }
 
 impl<A: Accept> World<A> {
-    // The world in which an event happened, too.
-    fn and(self, alloc: Global, event: &WorldEvent) -> Result<World<A>, Refusal>
-        ensures ok { IfOk result (λ w. w ≡ self ++ happening_of event.now ∷ []) }
-        ensures refused { IfErr result (λ e. e ≡ OutOfMemory) }
-    {
-        let World {
-            mut state,
-            mut events,
-        } = self;
-        state.happen(alloc, event)?;
-        events.push(event.try_copy(alloc)?)?;
-        Ok(World { state, events })
-    }
-
     /// What a client holds of a type; none where there is no such client.
     pub fn view(&self, client: u32, kind: TypeName) -> Option<&NameMap<Holding>>
         ensures { option_map (λ v. v.now) result ≡ option_map (λ p. view_of p.client kind) (finmap.get (world_of A.accepts self.now).peers client) }
     {
-        let peer = self.state.peer(client)?;
+        let peer = self.run.state.peer(client)?;
         Some(peer.view(kind))
     }
 
@@ -101,7 +82,7 @@ impl<A: Accept> World<A> {
     pub fn kind(&self, client: u32) -> Option<ClientKind>
         ensures { result ≡ option_map (λ p. p.kind) (finmap.get (world_of A.accepts self.now).peers client) }
     {
-        let peer = self.state.peer(client)?;
+        let peer = self.run.state.peer(client)?;
         Some(peer.kind())
     }
 
@@ -109,7 +90,7 @@ impl<A: Accept> World<A> {
     pub fn status(&self, client: u32) -> Option<Status>
         ensures { result ≡ option_map status_of (finmap.get (world_of A.accepts self.now).peers client) }
     {
-        let peer = self.state.peer(client)?;
+        let peer = self.run.state.peer(client)?;
         Some(peer.status())
     }
 
@@ -118,9 +99,9 @@ impl<A: Accept> World<A> {
     pub fn settled(&self, client: u32, kind: TypeName) -> Option<bool>
         ensures { result ≡ option_map (λ p. option_map_or (is_settled_on (world_of A.accepts self.now) kind) p.link false) (finmap.get (world_of A.accepts self.now).peers client) }
     {
-        let peer = self.state.peer(client)?;
+        let peer = self.run.state.peer(client)?;
         match peer.link() {
-            Some(link) => Some(self.state.is_settled_on(link, kind)),
+            Some(link) => Some(self.run.state.is_settled_on(link, kind)),
             None => Some(false),
         }
     }
@@ -129,7 +110,7 @@ impl<A: Accept> World<A> {
     pub fn journal(&self, replica: u16) -> Option<&Vec<Record>>
         ensures { option_map (λ v. map record_of v.now.items) result ≡ option_map (λ s. s.journal) (finmap.get (world_of A.accepts self.now).sites replica) }
     {
-        let site = self.state.site(replica)?;
+        let site = self.run.state.site(replica)?;
         Some(site.journal())
     }
 
@@ -144,7 +125,7 @@ impl<A: Accept> World<A> {
         ensures ok { IfOk result (λ o. o ≡ option_map (λ (s : SiteValue). with_at (each []) kind (finmap.values (at s.core.store kind).entries)) (finmap.get (world_of A.accepts self.now).sites replica)) }
         ensures refused { IfErr result (λ e. e ≡ OutOfMemory) }
     {
-        match self.state.site(replica) {
+        match self.run.state.site(replica) {
             Some(site) => Ok(Some(site.core().entries(alloc, kind)?)),
             None => Ok(None),
         }
@@ -154,6 +135,6 @@ impl<A: Accept> World<A> {
     pub fn events(&self) -> &Vec<WorldEvent>
         ensures { map happening_of result.now.items ≡ self.now }
     {
-        &self.events
+        &self.run.events
     }
 }
