@@ -30,12 +30,15 @@ weight_at w c p l has linked = ap (λ o. option_map_or weight_on (option_and_the
 weight_then : (w x : World) (c : ℕ) (p : Peer) (l : Link) → x ≡ with_peer w c p → p.link ≡ Some l → weight x c ≡ weight_on l
 weight_then w x c p l is linked = ap (λ y. weight y c) is ∙ weight_at (with_peer w c p) c p l (get_put w.peers c p) linked
 
+one_less : (n k : ℕ) → suc (n + k) ≡ suc n + k
+one_less n k = omega arith
+
 up_falls : (w x : World) (c : ℕ) (p : Peer) (l : Link) (ms : List Message) → l.up ≡ ms → up_taken w c p l ms ≡ Some x → suc (weight x c) ≡ weight_on l
 up_falls w x c p l [] up is = absurd cc
 up_falls w x c p l (m ∷ rest) up is =
     let after : Peer = record p { link = Some (record l { up = rest }) } in
     let made = mapped_some (λ q. with_peer q.1 c after) (at_site w l.replica (events.Request l.stream m)) x is in
-    ap suc (weight_then made.0.1 x c after (record l { up = rest }) made.2 refl) ∙ ap (λ ys. length ys + (length l.down + length l.down)) (sym up)
+    ap suc (weight_then made.0.1 x c after (record l { up = rest }) made.2 refl) ∙ one_less (length rest) (length l.down + length l.down) ∙ ap (λ ys. length ys + (length l.down + length l.down)) (sym up)
 
 -- a request is taken
 pub up_lightens : (test : Test) (w x : World) (c : ℕ) → happens test w (Up c) ≡ Some x → suc (weight x c) ≡ weight w c
