@@ -25,3 +25,4 @@ pub mod Settled
 pub mod SotwSettled
 pub mod Followed
 pub mod Headline
+pub mod SettlingWalks
