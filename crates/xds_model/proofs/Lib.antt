@@ -26,3 +26,4 @@ pub mod SotwSettled
 pub mod Followed
 pub mod Headline
 pub mod SettlingWalks
+pub mod SettlingSessions
