@@ -27,3 +27,4 @@ pub mod Followed
 pub mod Headline
 pub mod SettlingWalks
 pub mod SettlingSessions
+pub mod SettlingSteps
