@@ -28,3 +28,4 @@ pub mod Headline
 pub mod SettlingWalks
 pub mod SettlingSessions
 pub mod SettlingSteps
+pub mod SettlingMoves

@@ -92,7 +92,7 @@ linked_at w all c s fine =
 pub at_spot : (w : World) (c : ℕ) (f : Peer → Link → Option World) (y : World) (s : Spot w c) → on_link w c f ≡ Some y → f s.peer s.link ≡ Some y
 at_spot w c f y s is = sym (ap (option_and_then (λ p. option_and_then (f p) p.link)) s.has ∙ ap (option_and_then (f s.peer)) s.linked) ∙ is
 
-get_put : {X : Type 0} (m : FinMap nat_cmp X) (k : ℕ) (x : X) → finmap.get (finmap.insert m k x) k ≡ Some x
+pub get_put : {X : Type 0} (m : FinMap nat_cmp X) (k : ℕ) (x : X) → finmap.get (finmap.insert m k x) k ≡ Some x
 get_put m k x =
     elim (get-inserted nat_cmp_total nat_cmp-IsAntisymmetric m k x k) [
       | inl here ↦ here.1
@@ -100,7 +100,7 @@ get_put m k x =
     ]
 
 -- the spot once the client, its stream and its replica changed
-pub moved : (w : World) (c r : ℕ) (site : Site) (stream : Stream) (after : Peer) (l : Link) → after.link ≡ Some l → r ≡ l.replica → finmap.get site.core.streams l.stream ≡ Some stream
+abbrev pub moved : (w : World) (c r : ℕ) (site : Site) (stream : Stream) (after : Peer) (l : Link) → after.link ≡ Some l → r ≡ l.replica → finmap.get site.core.streams l.stream ≡ Some stream
     → Spot (with_peer (record w { sites = finmap.insert w.sites r site }) c after) c
 moved w c r site stream after l linked replica opened = record {
   peer = after;
