@@ -29,3 +29,4 @@ pub mod SettlingWalks
 pub mod SettlingSessions
 pub mod SettlingSteps
 pub mod SettlingMoves
+pub mod SettlingPolls

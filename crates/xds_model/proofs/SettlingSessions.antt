@@ -77,7 +77,7 @@ sending_parts v t s m o is =
     was_false true is = absurd cc
     was_false false is = refl
 
-never_both : (b : Bool) → b ≡ true → b ≡ false → ⊥
+pub never_both : (b : Bool) → b ≡ true → b ≡ false → ⊥
 never_both true is not = absurd cc
 never_both false is not = absurd cc
 
