@@ -25,3 +25,8 @@ pub mod Settled
 pub mod SotwSettled
 pub mod Followed
 pub mod Headline
+pub mod SettlingWalks
+pub mod SettlingSessions
+pub mod SettlingSteps
+pub mod SettlingMoves
+pub mod SettlingPolls
