@@ -40,9 +40,13 @@ puts_nothing c t steps.Up = tt
 puts_nothing c t steps.Poll = tt
 puts_nothing c t steps.Down = tt
 
-pub settles_more : (test : Test) (c : ℕ) (t : TypeName) (before now then : List Happening) (x y : World) (responses taken : ℕ) (step : Step) → Settles test c t before now x responses → next_to_settle x c t ≡ Some (event_for c t step)
-    → HasStepped test x now true y then (event_for c t step) → gave_nothing t (event_for c t step) (link_in y c) ≡ false → taken ≡ taken_now c t x (event_for c t step) → Settles test c t before then y (responses + taken)
-settles_more test c t before now then x y responses taken step is next stepped gave takes =
+-- and so all is still played
+pub still_played : (test : Test) (c : ℕ) (t : TypeName) (now later : List Happening) (x y : World) (step : Step) → IsPlayed test x now → HasStepped test x now true y later (event_for c t step) → IsPlayed test y later
+still_played test c t now later x y step is stepped = played_one test x y now later (event_for c t step) true is (puts_nothing c t step) stepped.0 stepped.1
+
+pub settles_more : (test : Test) (c : ℕ) (t : TypeName) (before now later : List Happening) (x y : World) (responses taken : ℕ) (step : Step) → Settles test c t before now x responses → next_to_settle x c t ≡ Some (event_for c t step)
+    → HasStepped test x now true y later (event_for c t step) → gave_nothing t (event_for c t step) (link_in y c) ≡ false → taken ≡ taken_now c t x (event_for c t step) → Settles test c t before later y (responses + taken)
+settles_more test c t before now later x y responses taken step is next stepped gave takes =
     let h : Happening = event_for c t step in
     record {
       more = is.more ++ h ∷ [];
@@ -50,7 +54,7 @@ settles_more test c t before now then x y responses taken step is next stepped g
       walked = walked_more test c t (world test before) is.more x h y is.walked next stepped.0 gave;
       counts = (λ i. is.counts i + takes i) ∙ sym (taken_more test c t (world test before) is.more x h is.walked);
       put = is.put;
-      played = played_one test x y now then h true is.played (puts_nothing c t step) stepped.0 stepped.1;
+      played = still_played test c t now later x y step is.played stepped;
     }
 
 -- a client takes few responses
@@ -70,12 +74,12 @@ settles_done test c t before now x responses settled is nothing tells = record {
 }
 
 -- a poll gave nothing
-pub settles_held : (test : Test) (c : ℕ) (t : TypeName) (before now then : List Happening) (x y : World) (responses taken : ℕ) (settled : Bool) (step : Step) → Settles test c t before now x responses → next_to_settle x c t ≡ Some (event_for c t step)
-    → HasStepped test x now true y then (event_for c t step) → gave_nothing t (event_for c t step) (link_in y c) ≡ true → taken ≡ taken_now c t x (event_for c t step) → settled ≡ is_settled y c t
-    → HasSettled test c t before then settled (responses + taken)
-settles_held test c t before now then x y responses taken settled step is next stepped gave takes tells =
+pub settles_held : (test : Test) (c : ℕ) (t : TypeName) (before now later : List Happening) (x y : World) (responses taken : ℕ) (settled : Bool) (step : Step) → Settles test c t before now x responses → next_to_settle x c t ≡ Some (event_for c t step)
+    → HasStepped test x now true y later (event_for c t step) → gave_nothing t (event_for c t step) (link_in y c) ≡ true → taken ≡ taken_now c t x (event_for c t step) → settled ≡ is_settled y c t
+    → HasSettled test c t before later settled (responses + taken)
+settles_held test c t before now later x y responses taken settled step is next stepped gave takes tells =
     let h : Happening = event_for c t step in
-    let played : IsPlayed test y then = played_one test x y now then h true is.played (puts_nothing c t step) stepped.0 stepped.1 in
+    let played : IsPlayed test y later = still_played test c t now later x y step is.played stepped in
     record {
       more = is.more ++ h ∷ [];
       longer = stepped.1 ∙ ap (λ l. l ++ h ∷ []) is.longer ∙ append_assoc before is.more (h ∷ []);
@@ -86,18 +90,14 @@ settles_held test c t before now then x y responses taken settled step is next s
     }
 
 -- what is to be done next isn't possible
-pub settles_stopped : (test : Test) (c : ℕ) (t : TypeName) (before now then : List Happening) (x y : World) (responses : ℕ) (step : Step) → Settles test c t before now x responses → next_to_settle x c t ≡ Some (event_for c t step)
-    → HasStepped test x now false y then (event_for c t step) → HasStopped test c t before then
-settles_stopped test c t before now then x y responses step is next stepped = record {
+pub settles_stopped : (test : Test) (c : ℕ) (t : TypeName) (before now later : List Happening) (x y : World) (responses : ℕ) (step : Step) → Settles test c t before now x responses → next_to_settle x c t ≡ Some (event_for c t step)
+    → HasStepped test x now false y later (event_for c t step) → HasStopped test c t before later
+settles_stopped test c t before now later x y responses step is next stepped = record {
   more = is.more;
   longer = stepped.2 ∙ is.longer;
   steps = subst (IsStopped test c t (world test before)) (append-nil is.more)
       (walked_then (IsAtStop test c t) test c t (world test before) is.more x [] is.walked (refl, (ap is_some next, ap (option_and_then (happens test x)) next ∙ stepped.0)));
 }
-
--- and all is still played
-pub settles_same : (test : Test) (x y : World) (now then : List Happening) (h : Happening) → IsPlayed test x now → HasStepped test x now false y then h → IsPlayed test y then
-settles_same test x y now then h is stepped = subst (IsPlayed test y) (sym stepped.2) (subst (λ w. IsPlayed test w now) (sym stepped.1) is)
 
 -- ---- that it ends
 
@@ -144,10 +144,10 @@ falls_by test c t before now x y responses steps.Poll is next happened gave =
     by_polls true polled = absurd (never_both (gave_nothing t (Poll c (Some t)) (link_in y c)) (second_poll_is_the_last test c t before is.more x y is.put is.walked polled next happened) gave)
     by_polls false polled = let more = poll_burdens test x y c (Some t) happened in omega (arith, more)
 
-pub falls : (test : Test) (c : ℕ) (t : TypeName) (before now then : List Happening) (x y : World) (responses : ℕ) (step : Step) → Settles test c t before now x responses → next_to_settle x c t ≡ Some (event_for c t step)
-    → HasStepped test x now true y then (event_for c t step) → gave_nothing t (event_for c t step) (link_in y c) ≡ false → left_to_do c before then y < left_to_do c before now x
-falls test c t before now then x y responses step is next stepped gave =
+pub falls : (test : Test) (c : ℕ) (t : TypeName) (before now later : List Happening) (x y : World) (responses : ℕ) (step : Step) → Settles test c t before now x responses → next_to_settle x c t ≡ Some (event_for c t step)
+    → HasStepped test x now true y later (event_for c t step) → gave_nothing t (event_for c t step) (link_in y c) ≡ false → left_to_do c before later y < left_to_do c before now x
+falls test c t before now later x y responses step is next stepped gave =
     let h : Happening = event_for c t step in
     let longer = stepped.1 ∙ ap (λ l. l ++ h ∷ []) is.longer ∙ append_assoc before is.more (h ∷ []) in
-    subst (λ n. left_to_do c before then y < n) (sym (left_is c before now is.more x is.longer))
-    (subst (λ n. n < load (polls is.more) (weight x c)) (sym (left_is c before then (is.more ++ h ∷ []) y longer)) (falls_by test c t before now x y responses step is next stepped.0 gave))
+    subst (λ n. left_to_do c before later y < n) (sym (left_is c before now is.more x is.longer))
+    (subst (λ n. n < load (polls is.more) (weight x c)) (sym (left_is c before later (is.more ++ h ∷ []) y longer)) (falls_by test c t before now x y responses step is next stepped.0 gave))
