@@ -30,3 +30,4 @@ pub mod SettlingSessions
 pub mod SettlingSteps
 pub mod SettlingMoves
 pub mod SettlingPolls
+pub mod SettlingEnds

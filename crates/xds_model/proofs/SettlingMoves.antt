@@ -1,7 +1,8 @@
 -- What is done next to settle a client of a type, and what that does to the session of the type.
-use Rattle.std.proofs.Common.{◌≡◌, ◌⊎◌, inl, inr, ℕ, List, [], ◌∷◌, ◌++◌, Bool, true, false, ◌||◌, not, Option, Some, None, refl, sym, ap, subst, ◌∙◌}
+use Rattle.std.proofs.Common.{◌≡◌, ◌⊎◌, inl, inr, ℕ, List, [], ◌∷◌, ◌++◌, Bool, true, false, ◌||◌, ◌&&◌, not, Option, Some, None, refl, sym, ap, subst, ◌∙◌}
 use Rattle.std.specs.Prelude.{if◌then◌else◌, option_map}
 use Rattle.std.specs.Option.{option_and_then, option_map_or}
+use Rattle.std.specs.List.{list_any}
 use Rattle.std.specs.FinMap as finmap
 use Rattle.xds_resource.specs.declared.types.TypeName.{TypeName}
 use Rattle.xds_resource.specs.Types.{is_same_type}
@@ -21,7 +22,7 @@ use Rattle.xds_cache.specs.Clients.{Client}
 use Rattle.xds_model.specs.Happenings.{Happening, Up, Poll, Down}
 use Rattle.xds_model.specs.Worlds.{Link, Peer, World, at_site, with_peer, up_taken, under_way, polled, received, taken_down, down_taken, happens}
 use Rattle.xds_model.specs.Knows.{TypedWrite}
-use Rattle.xds_model.specs.Claims.{asks_for, is_settled, PutsAResource}
+use Rattle.xds_model.specs.Claims.{asks_for, is_quiet, is_settled, PutsAResource}
 use Rattle.xds_model.specs.Settling.{brings, polls_unless, next_on, link_in, next_to_settle, gave_nothing, takes_one, taken_now}
 use Rattle.xds_model.proofs.Replicas.{some_is, bound_some, mapped_some}
 use Rattle.xds_model.proofs.ByKind.{LinkedAs}
@@ -79,11 +80,11 @@ held_at w c t s = (at s.site.core.store t).entries
 
 -- nothing of the type
 abbrev pub Stays : (w y : World) (c : ℕ) → TypeName → Happening → Spot w c → Spot y c → Type 0
-Stays w y c t h s z = (is_poll h ≡ false) × (taken_now c t w h ≡ 0) × (session_at y c t z ≡ session_at w c t s) × (brings t z.link ≡ brings t s.link)
+Stays w y c t h s z = (is_poll h ≡ false) × (taken_now c t w h ≡ 0) × (session_at y c t z ≡ session_at w c t s) × (brings t z.link ≡ brings t s.link) × (gave_nothing t h (link_in y c) ≡ false)
 
 -- the client takes the response of the type
 abbrev pub Takes : (w y : World) (c : ℕ) → TypeName → Happening → Spot w c → Spot y c → Type 0
-Takes w y c t h s z = (is_poll h ≡ false) × (taken_now c t w h ≡ 1) × HasAnswer (spoken s.peer.kind) t (session_at w c t s) (session_at y c t z) × (brings t s.link ≡ true) × (brings t z.link ≡ false)
+Takes w y c t h s z = (is_poll h ≡ false) × (taken_now c t w h ≡ 1) × HasAnswer (spoken s.peer.kind) t (session_at w c t s) (session_at y c t z) × (brings t s.link ≡ true) × (brings t z.link ≡ false) × (gave_nothing t h (link_in y c) ≡ false)
 
 -- the replica sends one
 pub record Sends (w y : World) (c : ℕ) (t : TypeName) (h : Happening) (s : Spot w c) (z : Spot y c) : Type 0 where
@@ -94,10 +95,11 @@ pub record Sends (w y : World) (c : ℕ) (t : TypeName) (h : Happening) (s : Spo
   pub left : session_at y c t z ≡ send (session_at w c t s) offer number
   pub before : brings t s.link ≡ false
   pub after : brings t z.link ≡ true
+  pub gave : gave_nothing t h (link_in y c) ≡ false
 
 -- or is polled and sends none
 abbrev pub Ends : (w y : World) (c : ℕ) → TypeName → Happening → Spot w c → Spot y c → Type 0
-Ends w y c t h s z = (taken_now c t w h ≡ 0) × (gave_nothing t h (link_in y c) ≡ true)
+Ends w y c t h s z = (taken_now c t w h ≡ 0) × (gave_nothing t h (link_in y c) ≡ true) × (is_quiet t z.link ≡ true)
 
 pub record Moved (w y : World) (c : ℕ) (t : TypeName) (h : Happening) (s : Spot w c) : Type 0 where
   pub spot : Spot y c
@@ -119,7 +121,7 @@ up_moved test w y all c t s m rest up is fine =
       spot = moved w c s.link.replica x.site x.stream after (record s.link { up = rest }) refl refl x.opened;
       kind = refl;
       held = ap (λ (p : Store). (at p t).entries) x.store;
-      how = inl (refl, refl, up_ahead s.peer.kind all s.peer.client s.link s.stream t m rest (x.answer, x.stream) up x.made (linked_at w all c s fine), refl);
+      how = inl (refl, refl, up_ahead s.peer.kind all s.peer.client s.link s.stream t m rest (x.answer, x.stream) up x.made (linked_at w all c s fine), refl, refl);
     })
 
 -- ---- Poll
@@ -136,6 +138,8 @@ poll_moved test w y all c t s up none is fine =
     let after : Peer = record s.peer { link = Some next } in
     let left : y ≡ with_peer (record w { sites = finmap.insert w.sites s.link.replica x.site }) c after = polled_reply c s.peer s.link made.0.0 made.0.1 y x.answer x.told made.2 ∙ ap (λ k. with_peer k c after) x.left in
     let spot = moved w c s.link.replica x.site x.stream after next refl refl x.opened in
+    let told : gave_nothing t (Poll c (Some t)) (link_in (with_peer (record w { sites = finmap.insert w.sites s.link.replica x.site }) c after) c) ≡ not (brings t next) =
+    ap (gave_nothing t (Poll c (Some t))) (link_at (with_peer (record w { sites = finmap.insert w.sites s.link.replica x.site }) c after) c spot) in
     let here : session_at w c t s ≡ at s.stream.sessions t = ap (ahead t (at s.stream.sessions t)) up in
     let behind : ahead t (at x.stream.sessions t) s.link.up ≡ at x.stream.sessions t = ap (ahead t (at x.stream.sessions t)) up in
     subst (λ k. Moved w k c t (Poll c (Some t)) s) (sym left)
@@ -154,13 +158,11 @@ poll_moved test w y all c t s up none is fine =
                   left = behind ∙ sent.left ∙ ap (λ a. send a sent.offer sent.number) (sym here);
                   before = none;
                   after = one_more t s.link.down x.answer sent.draft sent.gave sent.kind;
+                  gave = told ∙ ap not (one_more t s.link.down x.answer sent.draft sent.gave sent.kind);
                 })
             | inr quiet ↦
-                inr (
-                  refl,
-                  ap (gave_nothing t (Poll c (Some t))) (link_at (with_peer (record w { sites = finmap.insert w.sites s.link.replica x.site }) c after) c spot)
-                      ∙ ap not (none_more t s.link.down x.answer quiet.0 ∙ none),
-                )
+                (let none_under : brings t next ≡ false = none_more t s.link.down x.answer quiet.0 ∙ none in
+                inr (refl, told ∙ ap not none_under, λ i. not (list_any (asks_for t) (up i)) && not (none_under i)))
           ]));
     })
 
@@ -193,8 +195,9 @@ down_how test w all c t s d rest q true up down is kind takes here behind before
           (subst (HasAnswer (spoken s.peer.kind) t was) (sym behind) (down_answers s.peer.kind all test s.peer.client s.link s.stream d rest q t up down is kind linked)),
       before,
       none_behind s.peer.kind all s.peer.client s.link s.stream t d rest down kind linked,
+      refl,
     ))
-down_how test w all c t s d rest q false up down is kind takes here behind before linked = inl (refl, takes, behind ∙ sym here, sym before)
+down_how test w all c t s d rest q false up down is kind takes here behind before linked = inl (refl, takes, behind ∙ sym here, sym before, refl)
 
 down_by : (test : Test) (w : World) (all : List TypedWrite) (c : ℕ) (t : TypeName) (s : Spot w c) (d : Draft) (rest : List Draft) (q : Client × Message) (own : Bool) → s.link.up ≡ [] → s.link.down ≡ d ∷ rest → received test s.peer d ≡ Some q
     → is_same_type (kind_of d) t ≡ own → Fine w all → Moved w (with_peer w c (taken_down s.peer s.link rest q)) c t (Down c) s

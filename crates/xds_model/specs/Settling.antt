@@ -1,6 +1,6 @@
 -- Settling a client of a type: its replica takes what the client asked for, answers until it owes nothing of the type, and the
 -- client takes the answers. This project's own.
-use Rattle.std.specs.Prelude.{◌≡◌, ◌⊎◌, ℕ, ◌+◌, List, [], ◌∷◌, ◌++◌, Bool, true, false, not, if◌then◌else◌, Option, Some, None, is_some, option_map}
+use Rattle.std.specs.Prelude.{◌≡◌, ◌⊎◌, ℕ, ◌+◌, ◌≤◌, List, [], ◌∷◌, ◌++◌, Bool, true, false, not, if◌then◌else◌, Option, Some, None, is_some, option_map}
 use Rattle.std.specs.Option.{option_and_then, option_map_or}
 use Rattle.std.specs.List.{list_any}
 use Rattle.std.specs.FinMap as finmap
@@ -11,8 +11,8 @@ use Rattle.xds_draft.specs.DraftTexts.{kind_of}
 use Rattle.xds_core.specs.Streams.{Message}
 use Rattle.xds_cache.specs.Faults.{Test}
 use Rattle.xds_model.specs.Happenings.{Happening, Up, Poll, Down}
-use Rattle.xds_model.specs.Worlds.{World, Link, world, happens}
-use Rattle.xds_model.specs.Claims.{is_settled}
+use Rattle.xds_model.specs.Worlds.{World, Link, world, after, happens}
+use Rattle.xds_model.specs.Claims.{is_quiet, is_settled}
 
 -- whether a response of the type is under way
 abbrev pub brings : TypeName → Link → Bool
@@ -104,3 +104,15 @@ pub record HasStopped (test : Test) (c : ℕ) (t : TypeName) (before : List Happ
   pub more : List Happening
   pub longer : after ≡ before ++ more
   pub steps : IsStopped test c t (world test before) more
+
+-- ---- what settling comes to
+
+-- Settling a client of a type takes at most two of its responses: one that may be under way, and one of what its replica holds.
+abbrev pub TwoResponsesSuffice : Test → List Happening → Type 0
+TwoResponsesSuffice test hs =
+    (c : ℕ) (t : TypeName) (more : List Happening) → IsSettling test c t (world test hs) more → responses_taken test c t (world test hs) more ≤ 2
+
+-- and where it ends nothing of the type is under way
+abbrev pub QuietAtTheEnd : Test → List Happening → Type 0
+QuietAtTheEnd test hs =
+    (c : ℕ) (t : TypeName) (more : List Happening) (l : Link) → IsSettling test c t (world test hs) more → link_in (after test (world test hs) more) c ≡ Some l → is_quiet t l ≡ true

@@ -3,6 +3,7 @@ ghost use Rattle.std.specs.Prelude.{List};
 ghost use Rattle.xds_cache.specs.Faults.{Test};
 ghost use Rattle.xds_model.specs.Happenings.{Happening};
 ghost use Rattle.xds_model.specs.Claims.{HoldsWhatItKnows, PutResources, SameKnowledgeSameHoldings, SettledIsExact, SettledAgrees, LinksAreFollowed, OneWriteAStamp, JournalsAreLegal};
+ghost use Rattle.xds_model.specs.Settling.{TwoResponsesSuffice, QuietAtTheEnd};
 
 /// What a replica holds are the best writes of what it knows, so replicas that know the same writes hold the same.
 pub fn replicas_hold_what_they_know()
@@ -30,4 +31,11 @@ pub fn settled_clients_are_exact()
 /// A client is up exactly where it was linked last and didn't lose that link, and wants what it was told to.
 pub fn links_are_followed()
     ensures { (test : Test) (hs : List Happening) → LinksAreFollowed test hs }
+{}
+
+/// Settling a client of a type takes at most two of its responses: one that may be under way before its replica is polled, and one of
+/// what the replica holds. Where it ends nothing of the type is under way.
+pub fn two_responses_suffice()
+    ensures two { (test : Test) (hs : List Happening) → PutResources hs → TwoResponsesSuffice test hs }
+    ensures quiet { (test : Test) (hs : List Happening) → PutResources hs → QuietAtTheEnd test hs }
 {}

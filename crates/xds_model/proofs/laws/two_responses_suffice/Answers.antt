@@ -1,0 +1,8 @@
+use Rattle.xds_model.proofs.SettlingEnds.{two_responses_suffice, quiet_at_the_end}
+use Rattle.xds_model.proofs.laws.two_responses_suffice.Goals as goal
+
+pub returns-clause-two : goal.returns-clause-two
+returns-clause-two c = two_responses_suffice
+
+pub returns-clause-quiet : goal.returns-clause-quiet
+returns-clause-quiet c = quiet_at_the_end
