@@ -99,6 +99,10 @@ pub record HasSettled (test : Test) (c : ℕ) (t : TypeName) (before : List Happ
   pub tells : settled ≡ is_settled (world test after) c t
   pub counts : responses ≡ responses_taken test c t (world test before) more
 
+-- nothing of the type is under way to or from a client
+abbrev pub IsQuietFor : World → ℕ → TypeName → Type 0
+IsQuietFor w c t = (l : Link) → link_in w c ≡ Some l → is_quiet t l ≡ true
+
 -- what settling leaves where it gets no further
 pub record HasStopped (test : Test) (c : ℕ) (t : TypeName) (before : List Happening) (after : List Happening) : Type 0 where
   pub more : List Happening

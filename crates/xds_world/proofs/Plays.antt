@@ -14,6 +14,11 @@ after_more : (test : Test) (w : World) (hs : List Happening) (h : Happening) →
 after_more test w [] h = refl
 after_more test w (x ∷ hs) h = after_more test (option_map_or (λ x. x) (happens test w x) w) hs h
 
+-- one list after another
+pub after_both : (test : Test) (w : World) (hs ks : List Happening) → after test w (hs ++ ks) ≡ after test (after test w hs) ks
+after_both test w [] ks = refl
+after_both test w (x ∷ hs) ks = after_both test (option_map_or (λ x. x) (happens test w x) w) hs ks
+
 left_is : (w left : World) (b : Bool) (o : Option World) → Happened w b left o → left ≡ option_map_or (λ x. x) o w
 left_is w left true o is = sym (ap (λ q. option_map_or (λ x. x) q w) is)
 left_is w left false o is = is.1 ∙ sym (ap (λ q. option_map_or (λ x. x) q w) is.0)

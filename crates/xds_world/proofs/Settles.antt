@@ -9,17 +9,18 @@ use Rattle.std.proofs.Math.Seq.{drop-append_seam}
 use Rattle.xds_resource.specs.declared.types.TypeName.{TypeName}
 use Rattle.xds_cache.specs.Faults.{Test}
 use Rattle.xds_model.specs.Happenings.{Happening, Up, Poll, Down}
-use Rattle.xds_model.specs.Worlds.{World, happens, world}
+use Rattle.xds_model.specs.Worlds.{World, happens, empty_world, world}
 use Rattle.xds_model.specs.Claims.{PutResources, PutsAResource, is_settled}
-use Rattle.xds_model.specs.Settling.{next_to_settle, gave_nothing, link_in, taken_now, responses_taken, Then, Done, IsAtEnd, IsAtStop, IsSettling, IsStopped, HasSettled, HasStopped}
+use Rattle.xds_model.specs.Settling.{next_to_settle, gave_nothing, link_in, taken_now, responses_taken, Then, Done, IsAtEnd, IsAtStop, IsSettling, IsStopped, HasSettled, HasStopped, IsQuietFor}
 use Rattle.xds_model.proofs.Headline.{put_more}
 use Rattle.xds_model.proofs.SettlingWalks.{Walked, walked_then, walked_more}
+use Rattle.xds_model.proofs.SettlingEnds.{two_responses_suffice, quiet_at_the_end}
 use Rattle.xds_model.proofs.SettlingMoves.{is_poll}
 use Rattle.xds_model.proofs.SettlingPolls.{walked_takes_two, taken_more, polls, second_poll_is_the_last}
 use Rattle.xds_world.specs.declared.link.Step.{Step}
 use Rattle.xds_world.specs.declared.link.Step.TheVariants as steps
 use Rattle.xds_world.specs.Played.{IsPlayed, HasStepped, event_for}
-use Rattle.xds_world.proofs.Plays.{played_one}
+use Rattle.xds_world.proofs.Plays.{played_one, after_both}
 use Rattle.xds_world.proofs.Weights.{weight, up_lightens, down_lightens, poll_burdens}
 
 -- what was done since, from the world of a list to another, with how many responses of the type taken
@@ -98,6 +99,15 @@ settles_stopped test c t before now later x y responses step is next stepped = r
   steps = subst (IsStopped test c t (world test before)) (append-nil is.more)
       (walked_then (IsAtStop test c t) test c t (world test before) is.more x [] is.walked (refl, (ap is_some next, ap (option_and_then (happens test x)) next ∙ stepped.0)));
 }
+
+-- ---- what it comes to
+
+pub settled_few : (test : Test) (c : ℕ) (t : TypeName) (before later : List Happening) (settled : Bool) (responses : ℕ) → PutResources before → HasSettled test c t before later settled responses → responses ≤ 2
+settled_few test c t before later settled responses put is = subst (λ n. n ≤ 2) (sym is.counts) (two_responses_suffice test before put c t is.more is.steps)
+
+pub settled_quiet : (test : Test) (c : ℕ) (t : TypeName) (before later : List Happening) (settled : Bool) (responses : ℕ) → PutResources before → HasSettled test c t before later settled responses → IsQuietFor (world test later) c t
+settled_quiet test c t before later settled responses put is l linked =
+    quiet_at_the_end test before put c t is.more l is.steps (ap (λ w. link_in w c) (sym (after_both test empty_world before is.more) ∙ ap (world test) (sym is.longer)) ∙ linked)
 
 -- ---- that it ends
 

@@ -2,14 +2,15 @@
 use Rattle.std.specs.Prelude.{◌≡◌, ℕ, List, None, ⊤}
 use Rattle.xds_resource.specs.declared.types.TypeName.{TypeName}
 use Rattle.xds_cache.specs.Faults.{Test}
+use Rattle.xds_model.specs.Claims.{Headline}
 use Rattle.xds_model.specs.Worlds.{world}
 use Rattle.xds_model.specs.Settling.{link_in, HasStopped}
 use Rattle.xds_model.specs.Happenings.{Happening}
 use Rattle.xds_world.specs.declared.settling.Unsettled.{Unsettled}
 use Rattle.xds_world.specs.declared.settling.Unsettled.TheVariants as unsettled
 
--- without a stream the world is as it was; with all responses spent it is what happened until then
+-- without a stream the world is as it was; with all responses spent it is what happened until then, and the headline holds of it
 abbrev pub HasFailed : {A : Type 0} → Test → ℕ → TypeName → List Happening → Unsettled A → Type 0
 HasFailed test c t before (unsettled.NoStream w) = (link_in (world test before) c ≡ None) × (w ≡ before)
-HasFailed test c t before (unsettled.NonceSpent w) = HasStopped test c t before w
+HasFailed test c t before (unsettled.NonceSpent w) = HasStopped test c t before w × Headline test w
 HasFailed test c t before unsettled.OutOfMemory = ⊤

@@ -1,8 +1,10 @@
 // Settling a client of a type.
-ghost use Rattle.std.specs.Prelude.{◌≡◌, map, IfOk, IfErr, OnOk};
+ghost use Rattle.std.specs.Prelude.{◌≡◌, ◌≤◌, map, IfOk, IfErr, OnOk};
 ghost use Rattle.xds_resource.specs.declared.refusal.Refusal.TheVariants.{OutOfMemory};
 ghost use Rattle.xds_model.specs.Seen.{happening_of};
-ghost use Rattle.xds_model.specs.Settling.{HasSettled};
+ghost use Rattle.xds_model.specs.Claims.{Headline};
+ghost use Rattle.xds_model.specs.Settling.{HasSettled, IsQuietFor};
+ghost use Rattle.xds_model.specs.Worlds.{world as world_of};
 ghost use Rattle.xds_world.specs.Played.{IsPlayed, HasEnded};
 ghost use Rattle.xds_world.specs.Settled.{HasFailed};
 
@@ -36,7 +38,8 @@ pub enum Unsettled<A: Accept> {
 
 /// Settles a client of a type: while a request of the client is under way, its replica takes it; else while a response of the type
 /// is, the client takes what comes first; else the replica is polled for the type. It ends where the client is settled, or a poll
-/// gives no response, since what the replica would send is what the client refused.
+/// gives no response, since what the replica would send is what the client refused. The client takes two responses of the type at
+/// most, and nothing of the type is under way then.
 pub fn settle<A: Accept>(
     alloc: Global,
     world: World<A>,
@@ -44,6 +47,9 @@ pub fn settle<A: Accept>(
     kind: TypeName,
 ) -> Result<Settlement<A>, Unsettled<A>>
     ensures settled { IfOk result (λ s. HasSettled A.accepts client kind world s.world s.settled s.responses) }
+    ensures few { IfOk result (λ s. s.responses ≤ 2) }
+    ensures quiet { IfOk result (λ s. IsQuietFor (world_of A.accepts s.world) client kind) }
+    ensures headline { IfOk result (λ s. Headline A.accepts s.world) }
     ensures unsettled { IfErr result (λ e. HasFailed A.accepts client kind world e) }
 {
     match world.status(client) {
@@ -60,6 +66,9 @@ fn settle_linked<A: Accept>(
     kind: TypeName,
 ) -> Result<Settlement<A>, Unsettled<A>>
     ensures settled { IfOk result (λ s. HasSettled A.accepts client kind world s.world s.settled s.responses) }
+    ensures few { IfOk result (λ s. s.responses ≤ 2) }
+    ensures quiet { IfOk result (λ s. IsQuietFor (world_of A.accepts s.world) client kind) }
+    ensures headline { IfOk result (λ s. Headline A.accepts s.world) }
     ensures stopped { IfErr result (λ e. HasFailed A.accepts client kind world e) }
 {
     let World { mut run } = world;

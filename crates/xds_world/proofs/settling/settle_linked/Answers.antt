@@ -1,0 +1,27 @@
+use Rattle.std.proofs.Common.{map, subst}
+use Rattle.xds_model.specs.Seen.{happening_of}
+use Rattle.xds_model.specs.Settling.{HasStopped}
+use Rattle.xds_model.proofs.Headline.{headline}
+use Rattle.xds_world.specs.Played.{HasEnded}
+use Rattle.xds_world.proofs.Settles.{settled_few, settled_quiet}
+use Rattle.xds_world.proofs.settling.settle_linked.Goals as goal
+
+pub returns-in-Ok-Some-clause-few : goal.returns-in-Ok-Some-clause-few
+returns-in-Ok-Some-clause-few g c =
+    settled_few g.A.Accept.accepts c.args.client c.args.kind (map happening_of c.world.inside.run.events.items) (map happening_of c.settle_run.new.run.events.items) c.in-Ok-Some.settled c.in-Ok-Some.responses c.world.invariant.put
+    (subst (HasEnded g.A.Accept.accepts c.args.client c.args.kind (map happening_of c.world.inside.run.events.items) (map happening_of c.settle_run.new.run.events.items)) c.in-Ok-Some.field-0-is c.in-Ok-Some.ensures.ended)
+
+pub returns-in-Ok-Some-clause-quiet : goal.returns-in-Ok-Some-clause-quiet
+returns-in-Ok-Some-clause-quiet g c =
+    settled_quiet g.A.Accept.accepts c.args.client c.args.kind (map happening_of c.world.inside.run.events.items) (map happening_of c.settle_run.new.run.events.items) c.in-Ok-Some.settled c.in-Ok-Some.responses c.world.invariant.put
+    (subst (HasEnded g.A.Accept.accepts c.args.client c.args.kind (map happening_of c.world.inside.run.events.items) (map happening_of c.settle_run.new.run.events.items)) c.in-Ok-Some.field-0-is c.in-Ok-Some.ensures.ended)
+
+pub returns-in-Ok-Some-clause-headline : goal.returns-in-Ok-Some-clause-headline
+returns-in-Ok-Some-clause-headline g c = headline g.A.Accept.accepts (map happening_of c.settle_run.new.run.events.items) c.in-Ok-Some.ensures.played.put
+
+pub returns-in-Ok-None-clause-stopped : goal.returns-in-Ok-None-clause-stopped
+returns-in-Ok-None-clause-stopped g c = (
+  subst (λ hs. HasStopped g.A.Accept.accepts c.args.client c.args.kind hs (map happening_of c.settle_run.new.run.events.items)) c.world.view_is
+      (subst (HasEnded g.A.Accept.accepts c.args.client c.args.kind (map happening_of c.world.inside.run.events.items) (map happening_of c.settle_run.new.run.events.items)) c.in-Ok-None.field-0-is c.in-Ok-None.ensures.ended),
+  headline g.A.Accept.accepts (map happening_of c.settle_run.new.run.events.items) c.in-Ok-None.ensures.played.put,
+)
