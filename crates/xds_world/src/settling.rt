@@ -1,9 +1,9 @@
 // Settling a client of a type.
-ghost use Rattle.std.specs.Prelude.{◌≡◌, ◌≤◌, map, IfOk, IfErr, OnOk};
+ghost use Rattle.std.specs.Prelude.{◌≡◌, ◌≤◌, true, is_some, map, IfOk, IfErr, OnOk};
 ghost use Rattle.xds_resource.specs.declared.refusal.Refusal.TheVariants.{OutOfMemory};
 ghost use Rattle.xds_model.specs.Seen.{happening_of};
 ghost use Rattle.xds_model.specs.Claims.{Headline};
-ghost use Rattle.xds_model.specs.Settling.{HasSettled, IsQuietFor};
+ghost use Rattle.xds_model.specs.Settling.{HasSettled, IsQuietFor, link_in};
 ghost use Rattle.xds_model.specs.Worlds.{world as world_of};
 ghost use Rattle.xds_world.specs.Played.{IsPlayed, HasEnded};
 ghost use Rattle.xds_world.specs.Settled.{HasFailed};
@@ -46,6 +46,7 @@ pub fn settle<A: Accept>(
     client: u32,
     kind: TypeName,
 ) -> Result<Settlement<A>, Unsettled<A>>
+    ensures linked { IfOk result (λ s. is_some (link_in (world_of A.accepts world) client) ≡ true) }
     ensures settled { IfOk result (λ s. HasSettled A.accepts client kind world s.world s.settled s.responses) }
     ensures few { IfOk result (λ s. s.responses ≤ 2) }
     ensures quiet { IfOk result (λ s. IsQuietFor (world_of A.accepts s.world) client kind) }
