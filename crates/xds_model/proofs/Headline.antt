@@ -25,7 +25,7 @@ use Rattle.xds_model.proofs.More.{fine_more}
 use Rattle.xds_model.proofs.Delivering.{AllKnown, live}
 use Rattle.xds_model.proofs.Settled.{link_shows}
 use Rattle.xds_model.proofs.SotwSettled.{link_shows as sotw_link_shows}
-use Rattle.xds_model.proofs.Journals.{journals_are_legal}
+use Rattle.xds_model.proofs.Journals.{journals_are_legal, journals_tell_all}
 use Rattle.xds_model.proofs.Followed.{links_are_followed, linked_to, wanted_of, link_is, wants_are}
 
 -- all that is kept of a world
@@ -151,6 +151,7 @@ headline test hs put = record {
   followed = links_are_followed test hs;
   stamped = one_write_a_stamp test hs;
   journals = journals_are_legal test hs;
+  told = journals_tell_all test hs;
 }
 
 -- one more
