@@ -296,7 +296,8 @@ sites_come test w left (Change c t wish) is =
     let peer = bound_some (λ p. option_map (λ q. with_peer w c (changed p q)) (wish_taken p t wish)) (finmap.get w.peers c) left is in
     let made = mapped_some (λ q. with_peer w c (changed peer.0 q)) (wish_taken peer.0 t wish) left peer.2 in
     inr (inr (ap (λ x. x.sites) made.2, refl))
-sites_come test w left (Up c) is = let at_link = on_link_some w c (λ p l. up_taken w c p l l.up) left is in
+sites_come test w left (Up c) is =
+    let at_link = on_link_some w c (λ p l. up_taken w c p l l.up) left is in
     subst (SitesCome w left) (sym (stream_event w c at_link.0 at_link.1 (λ l. option_map (Request l.stream) (oldest l.up)) at_link.3 at_link.4)) (up_come w left c at_link.0 at_link.1 at_link.1.up at_link.2)
 sites_come test w left (Poll c which) is =
     let at_link = on_link_some w c (λ p l. option_and_then (polled c p l) (at_site w l.replica (events.Poll l.stream which))) left is in
