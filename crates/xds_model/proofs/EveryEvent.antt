@@ -1,5 +1,5 @@
 -- What is kept of all clients is kept by whatever happens.
-use Rattle.std.proofs.Common.{◌≡◌, ◌≢◌, inl, inr, ℕ, ◌+◌, ◌≤◌, List, [], ◌∷◌, ◌++◌, Bool, true, false, ◌&&◌, not, Option, Some, None, refl, sym, ap, subst, ◌∙◌, arith}
+use Rattle.std.proofs.Common.{◌≡◌, ◌≢◌, inl, inr, ℕ, ◌+◌, ◌≤◌, List, [], ◌∷◌, ◌++◌, true, false, ◌&&◌, not, Option, Some, None, refl, sym, ap, subst, ◌∙◌, arith}
 use Rattle.std.specs.Prelude.{if◌then◌else◌, is_none, is_some, option_map, nat_lt}
 use Rattle.std.specs.Option.{option_and_then}
 use Rattle.std.specs.Ordering.{nat_cmp}
@@ -27,7 +27,7 @@ use Rattle.xds_model.specs.declared.event.ClientKind.{ClientKind}
 use Rattle.xds_model.specs.Happenings.{Happening, Wish, AddReplica, AddClient, Put, Delete, Snapshot, Merge, Connect, Change, Up, Poll, Down, Lose}
 use Rattle.xds_model.specs.Worlds.{Site, Link, Peer, World, empty_world, at_site, happened_at, placed, pooled, with_peer, new_peer, connected_to, opened, sending, changed, wish_of, wish_taken, under_way, polled, up_taken, received, taken_down, down_taken, opening_requests, on_link, is_free, happens}
 use Rattle.xds_model.specs.Knows.{TypedWrite}
-use Rattle.xds_model.proofs.Replicas.{some_is, bound_some, mapped_some, if_some, if_both, both_parts, none_there}
+use Rattle.xds_model.proofs.Replicas.{some_is, bound_some, mapped_some, if_some, if_both, both_parts, none_there, on_link_some}
 use Rattle.xds_model.proofs.Delivering.{AllKnown}
 use Rattle.xds_model.proofs.ByKind.{LinkedAs, RestsAs, up_as, poll_as, down_as, opened_as, lost_as, fresh_as, changed_as, rests_as}
 use Rattle.xds_model.proofs.CoreSteps.{stream_step_is, open_is}
@@ -36,10 +36,7 @@ use Rattle.xds_model.proofs.Everyone.{stream_at, AllCounted, AtSite, at_site_is,
 -- ---- where a client is
 
 pub link_there : (w : World) (c : ℕ) (f : Peer → Link → Option World) (left : World) → on_link w c f ≡ Some left → (p : Peer) × (l : Link) × (finmap.get w.peers c ≡ Some p) × (p.link ≡ Some l) × (f p l ≡ Some left)
-link_there w c f left is =
-    let peer = bound_some (λ p. option_and_then (f p) p.link) (finmap.get w.peers c) left is in
-    let linked = bound_some (f peer.0) peer.0.link left peer.2 in
-    (peer.0, linked.0, peer.1, linked.1, linked.2)
+link_there w c f left is = let x = on_link_some w c f left is in (x.0, x.1, x.3, x.4, x.2)
 
 pub get_put : {X : Type 0} (m : FinMap nat_cmp X) (k : ℕ) (x : X) → finmap.get (finmap.insert m k x) k ≡ Some x
 get_put m k x =

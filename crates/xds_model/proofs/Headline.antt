@@ -1,5 +1,5 @@
 -- The clients' half of the headline: a settled client shows exactly what its replica knows of what it wants.
-use Rattle.std.proofs.Common.{◌≡◌, ℕ, List, [], ◌∷◌, ◌++◌, Bool, true, false, ◌&&◌, not, Option, Some, None, refl, sym, ap, subst, ◌∙◌}
+use Rattle.std.proofs.Common.{◌≡◌, ℕ, List, [], ◌∷◌, ◌++◌, Bool, true, false, not, Option, Some, None, refl, sym, ap, subst, ◌∙◌}
 use Rattle.std.specs.Prelude.{if◌then◌else◌, option_map}
 use Rattle.std.specs.Option.{option_and_then, option_map_or}
 use Rattle.std.specs.FinMap as finmap
@@ -25,7 +25,7 @@ use Rattle.xds_model.proofs.More.{fine_more}
 use Rattle.xds_model.proofs.Delivering.{AllKnown, live}
 use Rattle.xds_model.proofs.Settled.{link_shows}
 use Rattle.xds_model.proofs.SotwSettled.{link_shows as sotw_link_shows}
-use Rattle.xds_model.proofs.Journals.{journals_are_legal}
+use Rattle.xds_model.proofs.Journals.{journals_are_legal, journals_tell_all}
 use Rattle.xds_model.proofs.Followed.{links_are_followed, linked_to, wanted_of, link_is, wants_are}
 
 -- all that is kept of a world
@@ -151,6 +151,7 @@ headline test hs put = record {
   followed = links_are_followed test hs;
   stamped = one_write_a_stamp test hs;
   journals = journals_are_legal test hs;
+  told = journals_tell_all test hs;
 }
 
 -- one more

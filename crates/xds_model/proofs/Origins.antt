@@ -33,6 +33,7 @@ use Rattle.xds_cache.specs.Faults.{Test}
 use Rattle.xds_model.specs.Happenings.{Happening, AddReplica, AddClient, Put, Delete, Snapshot, Merge, Connect, Change, Up, Poll, Down, Lose}
 use Rattle.xds_model.specs.Worlds.{Site, Link, Peer, World, empty_world, recorded, at_site, happened_at, placed, pooled, with_peer, new_peer, opened, changed, wish_taken, polled, up_taken, received, taken_down, down_taken, is_free, happens, after}
 use Rattle.xds_model.specs.Knows.{TypedWrite, Knowledge, nothing_known, learning, learned, known_after, made_now, made_after, made as made_of}
+use Rattle.xds_model.specs.Journal.{oldest, on_stream, event_at}
 use Rattle.xds_model.specs.Claims.{writes_of, OneWriteAStamp}
 use Rattle.xds_model.proofs.Replicas.{Kept, kept_start, kept_step, answered, some_is, never, mapped_some, bound_some, if_some, if_then, on_link_some, IsOf, opened_is, polled_is}
 
@@ -242,10 +243,11 @@ merged_stamped : (w left : World) (k : Knowledge) (all : List TypedWrite) (r b :
 merged_stamped w left k all r b None is numbered stamped = stamped_quiet w left k all numbered stamped
 merged_stamped w left k all r b (Some ws) is numbered stamped = stamped_learned w left k all r ws numbered (λ x among. stamped.batched ws x (placed_among k.batches b ws is) among) stamped
 
--- what happened to the replicas: one was added, one answered an event, or nothing
-abbrev pub SitesCome : World → World → Type 0
-SitesCome w left =
-    ((r : ℕ) × (is_free w r ≡ true) × (left.sites ≡ finmap.insert w.sites r (record { core = fresh_core r; journal = [] }))) ⊎ ((r : ℕ) × (e : Event) × (p : Reply × World) × (at_site w r e ≡ Some p) × (left.sites ≡ p.1.sites)) ⊎ (left.sites ≡ w.sites)
+-- what happened to the replicas, by the event that was at one of them: one was added, one answered the event, or nothing
+abbrev pub SitesCome : World → World → Option (ℕ × Event) → Type 0
+SitesCome w left o =
+    ((r : ℕ) × (is_free w r ≡ true) × (left.sites ≡ finmap.insert w.sites r (record { core = fresh_core r; journal = [] })) × (o ≡ None))
+    ⊎ ((r : ℕ) × (e : Event) × (p : Reply × World) × (at_site w r e ≡ Some p) × (left.sites ≡ p.1.sites) × (o ≡ Some (r, e))) ⊎ ((left.sites ≡ w.sites) × (o ≡ None))
 
 same_sites : (w left : World) → IsOf left w → left.sites ≡ w.sites
 same_sites w left is = ap (λ x. x.sites) is.1
@@ -260,55 +262,61 @@ pooled_sites r Closed w left is = absurd cc
 pooled_sites r (Written n m) w left is = absurd cc
 pooled_sites r (Merged n) w left is = absurd cc
 
-up_come : (w left : World) (c : ℕ) (p : Peer) (l : Link) (ms : List Message) → up_taken w c p l ms ≡ Some left → SitesCome w left
+-- the event of a stream
+stream_event : (w : World) (c : ℕ) (p : Peer) (l : Link) (f : Link → Option Event) → finmap.get w.peers c ≡ Some p → p.link ≡ Some l → on_stream w c f ≡ option_map (λ e. (l.replica, e)) (f l)
+stream_event w c p l f has at_link = ap (option_and_then (λ q. option_and_then (λ k. option_map (λ e. (k.replica, e)) (f k)) q.link)) has ∙ ap (option_and_then (λ k. option_map (λ e. (k.replica, e)) (f k))) at_link
+
+up_come : (w left : World) (c : ℕ) (p : Peer) (l : Link) (ms : List Message) → up_taken w c p l ms ≡ Some left → SitesCome w left (option_map (λ e. (l.replica, e)) (option_map (Request l.stream) (oldest ms)))
 up_come w left c p l [] is = absurd cc
 up_come w left c p l (m ∷ rest) is =
     let made = mapped_some (λ q. with_peer q.1 c (record p { link = Some (record l { up = rest }) })) (at_site w l.replica (Request l.stream m)) left is in
-    inr (inl (l.replica, Request l.stream m, made.0, made.1, ap (λ x. x.sites) made.2))
+    inr (inl (l.replica, Request l.stream m, made.0, made.1, ap (λ x. x.sites) made.2, refl))
 
-down_come : (test : Test) (w left : World) (c : ℕ) (p : Peer) (l : Link) (ds : List Draft) → down_taken test w c p l ds ≡ Some left → SitesCome w left
+down_come : (test : Test) (w left : World) (c : ℕ) (p : Peer) (l : Link) (ds : List Draft) → down_taken test w c p l ds ≡ Some left → SitesCome w left None
 down_come test w left c p l [] is = absurd cc
-down_come test w left c p l (d ∷ rest) is = let made = mapped_some (λ q. with_peer w c (taken_down p l rest q)) (received test p d) left is in inr (inr (ap (λ x. x.sites) made.2))
+down_come test w left c p l (d ∷ rest) is = let made = mapped_some (λ q. with_peer w c (taken_down p l rest q)) (received test p d) left is in inr (inr (ap (λ x. x.sites) made.2, refl))
 
-pub sites_come : (test : Test) (w left : World) (h : Happening) → happens test w h ≡ Some left → SitesCome w left
+pub sites_come : (test : Test) (w left : World) (h : Happening) → happens test w h ≡ Some left → SitesCome w left (event_at w h)
 sites_come test w left (AddReplica r) is =
-    let made = if_some (is_free w r) (record w { sites = finmap.insert w.sites r (record { core = fresh_core r; journal = [] }) }) left is in inl (r, made.0, ap (λ x. x.sites) made.1)
-sites_come test w left (AddClient c kind) is = inr (inr (ap (λ x. x.sites) (if_some (is_none (finmap.get w.peers c)) (with_peer w c (new_peer c kind)) left is).1))
-sites_come test w left (Put r t body) is = let made = mapped_some (λ p. p.1) (at_site w r (events.Put t body)) left is in inr (inl (r, events.Put t body, made.0, made.1, ap (λ x. x.sites) made.2))
-sites_come test w left (Delete r t name) is = let made = mapped_some (λ p. p.1) (at_site w r (events.Delete t name)) left is in inr (inl (r, events.Delete t name, made.0, made.1, ap (λ x. x.sites) made.2))
-sites_come test w left (Snapshot r) is = let made = bound_some (pooled r) (at_site w r events.Snapshot) left is in inr (inl (r, events.Snapshot, made.0, made.1, pooled_sites r made.0.0 made.0.1 left made.2))
+    let made = if_some (is_free w r) (record w { sites = finmap.insert w.sites r (record { core = fresh_core r; journal = [] }) }) left is in inl (r, made.0, ap (λ x. x.sites) made.1, refl)
+sites_come test w left (AddClient c kind) is = inr (inr (ap (λ x. x.sites) (if_some (is_none (finmap.get w.peers c)) (with_peer w c (new_peer c kind)) left is).1, refl))
+sites_come test w left (Put r t body) is = let made = mapped_some (λ p. p.1) (at_site w r (events.Put t body)) left is in inr (inl (r, events.Put t body, made.0, made.1, ap (λ x. x.sites) made.2, refl))
+sites_come test w left (Delete r t name) is = let made = mapped_some (λ p. p.1) (at_site w r (events.Delete t name)) left is in inr (inl (r, events.Delete t name, made.0, made.1, ap (λ x. x.sites) made.2, refl))
+sites_come test w left (Snapshot r) is = let made = bound_some (pooled r) (at_site w r events.Snapshot) left is in inr (inl (r, events.Snapshot, made.0, made.1, pooled_sites r made.0.0 made.0.1 left made.2, refl))
 sites_come test w left (Merge r b) is =
     let place = bound_some (λ x. happened_at w r (events.Merge x.1)) (placed w.pool b) left is in
     let made = mapped_some (λ p. p.1) (at_site w r (events.Merge place.0.1)) left place.2 in
-    inr (inl (r, events.Merge place.0.1, made.0, made.1, ap (λ x. x.sites) made.2))
+    inr (inl (r, events.Merge place.0.1, made.0, made.1, ap (λ x. x.sites) made.2, ap (option_map (λ x. (r, events.Merge x.1))) place.1))
 sites_come test w left (Connect c r) is =
     let peer = bound_some (λ p. if is_none p.link then option_and_then (opened c r p) (at_site w r events.Open) else None) (finmap.get w.peers c) left is in
     let down = if_then (is_none peer.0.link) (option_and_then (opened c r peer.0) (at_site w r events.Open)) left peer.2 in
     let made = bound_some (opened c r peer.0) (at_site w r events.Open) left down in
-    inr (inl (r, events.Open, made.0, made.1, same_sites made.0.1 left (opened_is c r peer.0 made.0.0 made.0.1 left made.2)))
+    inr (inl (r, events.Open, made.0, made.1, same_sites made.0.1 left (opened_is c r peer.0 made.0.0 made.0.1 left made.2), refl))
 sites_come test w left (Change c t wish) is =
     let peer = bound_some (λ p. option_map (λ q. with_peer w c (changed p q)) (wish_taken p t wish)) (finmap.get w.peers c) left is in
     let made = mapped_some (λ q. with_peer w c (changed peer.0 q)) (wish_taken peer.0 t wish) left peer.2 in
-    inr (inr (ap (λ x. x.sites) made.2))
-sites_come test w left (Up c) is = let at_link = on_link_some w c (λ p l. up_taken w c p l l.up) left is in up_come w left c at_link.0 at_link.1 at_link.1.up at_link.2
+    inr (inr (ap (λ x. x.sites) made.2, refl))
+sites_come test w left (Up c) is =
+    let at_link = on_link_some w c (λ p l. up_taken w c p l l.up) left is in
+    subst (SitesCome w left) (sym (stream_event w c at_link.0 at_link.1 (λ l. option_map (Request l.stream) (oldest l.up)) at_link.3 at_link.4)) (up_come w left c at_link.0 at_link.1 at_link.1.up at_link.2)
 sites_come test w left (Poll c which) is =
     let at_link = on_link_some w c (λ p l. option_and_then (polled c p l) (at_site w l.replica (events.Poll l.stream which))) left is in
     let made = bound_some (polled c at_link.0 at_link.1) (at_site w at_link.1.replica (events.Poll at_link.1.stream which)) left at_link.2 in
-    inr (inl (at_link.1.replica, events.Poll at_link.1.stream which, made.0, made.1, same_sites made.0.1 left (polled_is c at_link.0 at_link.1 made.0.0 made.0.1 left made.2)))
+    inr (inl (at_link.1.replica, events.Poll at_link.1.stream which, made.0, made.1, same_sites made.0.1 left (polled_is c at_link.0 at_link.1 made.0.0 made.0.1 left made.2), stream_event w c at_link.0 at_link.1 (λ l. Some (events.Poll l.stream which)) at_link.3 at_link.4))
 sites_come test w left (Down c) is = let at_link = on_link_some w c (λ p l. down_taken test w c p l l.down) left is in down_come test w left c at_link.0 at_link.1 at_link.1.down at_link.2
 sites_come test w left (Lose c) is =
     let at_link = on_link_some w c (λ p l. option_map (λ q. with_peer q.1 c (record p { client = unlinked p.client; link = None })) (at_site w l.replica (events.Close l.stream))) left is in
     let made = mapped_some (λ q. with_peer q.1 c (record at_link.0 { client = unlinked at_link.0.client; link = None })) (at_site w at_link.1.replica (events.Close at_link.1.stream)) left at_link.2 in
-    inr (inl (at_link.1.replica, events.Close at_link.1.stream, made.0, made.1, ap (λ x. x.sites) made.2))
+    inr (inl (at_link.1.replica, events.Close at_link.1.stream, made.0, made.1, ap (λ x. x.sites) made.2, stream_event w c at_link.0 at_link.1 (λ l. Some (events.Close l.stream)) at_link.3 at_link.4))
 
-numbered_come : (w left : World) → SitesCome w left → Numbered w → Numbered left
-numbered_come w left (inl added) numbered r s has = put_numbered w.sites added.0 (record { core = fresh_core added.0; journal = [] }) refl numbered r s (ap (λ m. finmap.get m r) (sym added.2) ∙ has)
-numbered_come w left (inr (inl stepped)) numbered r s has = site_numbered w stepped.0 stepped.1 stepped.2 stepped.3 numbered r s (ap (λ m. finmap.get m r) (sym stepped.4) ∙ has)
-numbered_come w left (inr (inr same)) numbered r s has = numbered r s (ap (λ m. finmap.get m r) (sym same) ∙ has)
+numbered_come : (w left : World) (o : Option (ℕ × Event)) → SitesCome w left o → Numbered w → Numbered left
+numbered_come w left o (inl added) numbered r s has = put_numbered w.sites added.0 (record { core = fresh_core added.0; journal = [] }) refl numbered r s (ap (λ m. finmap.get m r) (sym added.2) ∙ has)
+numbered_come w left o (inr (inl stepped)) numbered r s has = site_numbered w stepped.0 stepped.1 stepped.2 stepped.3 numbered r s (ap (λ m. finmap.get m r) (sym stepped.4) ∙ has)
+numbered_come w left o (inr (inr same)) numbered r s has = numbered r s (ap (λ m. finmap.get m r) (sym same.0) ∙ has)
 
 -- the numbers of replicas after whatever happens
 pub numbered_step : (test : Test) (w left : World) (h : Happening) → happens test w h ≡ Some left → Numbered w → Numbered left
-numbered_step test w left h is numbered = numbered_come w left (sites_come test w left h is) numbered
+numbered_step test w left h is numbered = numbered_come w left (event_at w h) (sites_come test w left h is) numbered
 
 -- whatever happens
 pub stamped_step : (test : Test) (w left : World) (k : Knowledge) (all : List TypedWrite) (h : Happening) → happens test w h ≡ Some left → Kept w k → Stamped w k all → Stamped left (learned w h k) (all ++ made_now w h)

@@ -1,5 +1,5 @@
 -- What is known of all writes that were made: their stamps are in range, what they put are resources; so a replica's entries are known.
-use Rattle.std.proofs.Common.{◌≡◌, ◌⊎◌, inl, inr, ℕ, suc, ◌+◌, ◌≤◌, ◌<◌, List, [], ◌∷◌, ◌++◌, map, Bool, true, false, ◌&&◌, not, Option, Some, None, Ok, refl, sym, ap, subst, ◌∙◌, append-nil, arith}
+use Rattle.std.proofs.Common.{◌≡◌, ◌⊎◌, inl, inr, ℕ, ◌+◌, ◌≤◌, ◌<◌, List, [], ◌∷◌, ◌++◌, map, Bool, true, false, ◌&&◌, not, Option, Some, None, Ok, refl, sym, ap, subst, ◌∙◌, append-nil, arith}
 use Rattle.std.specs.Prelude.{◌==◌, if◌then◌else◌, is_none, Contains, nat_lt}
 use Rattle.std.specs.Option.{ForSome}
 use Rattle.std.specs.List.{filter}
@@ -36,6 +36,7 @@ use Rattle.xds_cache.specs.Faults.{Test}
 use Rattle.xds_model.specs.Happenings.{Happening, AddReplica, AddClient, Put, Delete, Snapshot, Merge, Connect, Change, Up, Poll, Down, Lose}
 use Rattle.xds_model.specs.Worlds.{Site, World, empty_world, recorded, at_site, is_free, happens}
 use Rattle.xds_model.specs.Knows.{TypedWrite, Knowledge, made_now, made as made_of}
+use Rattle.xds_model.specs.Journal.{event_at}
 use Rattle.xds_model.specs.Claims.{writes_of, PutsAResource}
 use Rattle.xds_model.proofs.Replicas.{Kept, some_is, mapped_some, both_parts, answered}
 use Rattle.xds_model.proofs.Origins.{in_front, behind, none_in, alone, Stamped, SitesCome, sites_come}
@@ -127,20 +128,23 @@ free_in_range w r is =
     let below : r ≤ max_writer = ltb-false max_writer r (opposite (nat_lt max_writer r) range.1) in
     (omega (arith, above), below)
 
-in_range_come : (w left : World) → SitesCome w left → AllInRange w → AllInRange left
-in_range_come w left (inl added) all q s has =
+in_range_come : (w left : World) (o : Option (ℕ × Event)) → SitesCome w left o → AllInRange w → AllInRange left
+in_range_come w left o (inl added) all q s has =
     elim (get-inserted nat_cmp_total nat_cmp-IsAntisymmetric w.sites added.0 (record { core = fresh_core added.0; journal = [] }) q) [
       | inl here ↦ subst (λ n. (1 ≤ n) × (n ≤ max_writer)) here.0 (free_in_range w added.0 added.1)
       | inr there ↦ all q s (sym there.1 ∙ ap (λ m. finmap.get m q) (sym added.2) ∙ has)
     ]
-in_range_come w left (inr (inl stepped)) all q s has =
+in_range_come w left o (inr (inl stepped)) all q s has =
     let made = answered w stepped.0 stepped.1 stepped.2 stepped.3 in
     let now : finmap.get (finmap.insert w.sites stepped.0 (recorded made.0 stepped.1 made.1)) q ≡ Some s = ap (λ y. finmap.get y.1.sites q) (sym made.4) ∙ ap (λ m. finmap.get m q) (sym stepped.4) ∙ has in
     elim (get-inserted nat_cmp_total nat_cmp-IsAntisymmetric w.sites stepped.0 (recorded made.0 stepped.1 made.1) q) [
       | inl here ↦ subst (λ n. (1 ≤ n) × (n ≤ max_writer)) here.0 (all stepped.0 made.0 made.2)
       | inr there ↦ all q s (sym there.1 ∙ now)
     ]
-in_range_come w left (inr (inr same)) all q s has = all q s (ap (λ m. finmap.get m q) (sym same) ∙ has)
+in_range_come w left o (inr (inr same)) all q s has = all q s (ap (λ m. finmap.get m q) (sym same.0) ∙ has)
+
+in_range_step : (test : Test) (w left : World) (h : Happening) → happens test w h ≡ Some left → AllInRange w → AllInRange left
+in_range_step test w left h is all = in_range_come w left (event_at w h) (sites_come test w left h is) all
 
 unspent : (a b : Bool) (x y : ℕ × Holdings) → unless_refused ((a, CounterSpent) ∷ (b, CounterSpent) ∷ []) x ≡ Ok y → a ≡ false
 unspent true b x y is = absurd cc
@@ -204,18 +208,18 @@ delete_ranged test w left k all r t name is sites kept stamped ranged =
     never b e = cc
 
 pub ranged_step : (test : Test) (w left : World) (k : Knowledge) (all : List TypedWrite) (h : Happening) → happens test w h ≡ Some left → PutsAResource h → Kept w k → Stamped w k all → Ranged w all → Ranged left (all ++ made_now w h)
-ranged_step test w left k all (Put r t body) is sound kept stamped ranged = put_ranged test w left k all r t body is sound (in_range_come w left (sites_come test w left (Put r t body) is) ranged.sites) kept stamped ranged
-ranged_step test w left k all (Delete r t name) is sound kept stamped ranged = delete_ranged test w left k all r t name is (in_range_come w left (sites_come test w left (Delete r t name) is) ranged.sites) kept stamped ranged
-ranged_step test w left k all (AddReplica r) is sound kept stamped ranged = ranged_same w left all (in_range_come w left (sites_come test w left (AddReplica r) is) ranged.sites) ranged
-ranged_step test w left k all (AddClient c kind) is sound kept stamped ranged = ranged_same w left all (in_range_come w left (sites_come test w left (AddClient c kind) is) ranged.sites) ranged
-ranged_step test w left k all (Snapshot r) is sound kept stamped ranged = ranged_same w left all (in_range_come w left (sites_come test w left (Snapshot r) is) ranged.sites) ranged
-ranged_step test w left k all (Merge r b) is sound kept stamped ranged = ranged_same w left all (in_range_come w left (sites_come test w left (Merge r b) is) ranged.sites) ranged
-ranged_step test w left k all (Connect c r) is sound kept stamped ranged = ranged_same w left all (in_range_come w left (sites_come test w left (Connect c r) is) ranged.sites) ranged
-ranged_step test w left k all (Change c t wish) is sound kept stamped ranged = ranged_same w left all (in_range_come w left (sites_come test w left (Change c t wish) is) ranged.sites) ranged
-ranged_step test w left k all (Up c) is sound kept stamped ranged = ranged_same w left all (in_range_come w left (sites_come test w left (Up c) is) ranged.sites) ranged
-ranged_step test w left k all (Poll c which) is sound kept stamped ranged = ranged_same w left all (in_range_come w left (sites_come test w left (Poll c which) is) ranged.sites) ranged
-ranged_step test w left k all (Down c) is sound kept stamped ranged = ranged_same w left all (in_range_come w left (sites_come test w left (Down c) is) ranged.sites) ranged
-ranged_step test w left k all (Lose c) is sound kept stamped ranged = ranged_same w left all (in_range_come w left (sites_come test w left (Lose c) is) ranged.sites) ranged
+ranged_step test w left k all (Put r t body) is sound kept stamped ranged = put_ranged test w left k all r t body is sound (in_range_step test w left (Put r t body) is ranged.sites) kept stamped ranged
+ranged_step test w left k all (Delete r t name) is sound kept stamped ranged = delete_ranged test w left k all r t name is (in_range_step test w left (Delete r t name) is ranged.sites) kept stamped ranged
+ranged_step test w left k all (AddReplica r) is sound kept stamped ranged = ranged_same w left all (in_range_step test w left (AddReplica r) is ranged.sites) ranged
+ranged_step test w left k all (AddClient c kind) is sound kept stamped ranged = ranged_same w left all (in_range_step test w left (AddClient c kind) is ranged.sites) ranged
+ranged_step test w left k all (Snapshot r) is sound kept stamped ranged = ranged_same w left all (in_range_step test w left (Snapshot r) is ranged.sites) ranged
+ranged_step test w left k all (Merge r b) is sound kept stamped ranged = ranged_same w left all (in_range_step test w left (Merge r b) is ranged.sites) ranged
+ranged_step test w left k all (Connect c r) is sound kept stamped ranged = ranged_same w left all (in_range_step test w left (Connect c r) is ranged.sites) ranged
+ranged_step test w left k all (Change c t wish) is sound kept stamped ranged = ranged_same w left all (in_range_step test w left (Change c t wish) is ranged.sites) ranged
+ranged_step test w left k all (Up c) is sound kept stamped ranged = ranged_same w left all (in_range_step test w left (Up c) is ranged.sites) ranged
+ranged_step test w left k all (Poll c which) is sound kept stamped ranged = ranged_same w left all (in_range_step test w left (Poll c which) is ranged.sites) ranged
+ranged_step test w left k all (Down c) is sound kept stamped ranged = ranged_same w left all (in_range_step test w left (Down c) is ranged.sites) ranged
+ranged_step test w left k all (Lose c) is sound kept stamped ranged = ranged_same w left all (in_range_step test w left (Lose c) is ranged.sites) ranged
 
 pub ranged_start : Ranged empty_world []
 ranged_start = record { sites = λ r s has. absurd (never s (sym (finmap.get-empty nat_cmp r) ∙ has)); stamps = λ x made. absurd (none_in x made); bodies = λ x made. absurd (none_in x made) }

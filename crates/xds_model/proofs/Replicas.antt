@@ -358,11 +358,11 @@ pub if_both : {X : Type 0} (b : Bool) (o : Option X) (y : X) → (if b then o el
 if_both true o y is = (refl, is)
 if_both false o y is = absurd cc
 
-pub on_link_some : (w : World) (c : ℕ) (f : Peer → Link → Option World) (left : World) → on_link w c f ≡ Some left → (p : Peer) × (l : Link) × (f p l ≡ Some left)
+pub on_link_some : (w : World) (c : ℕ) (f : Peer → Link → Option World) (left : World) → on_link w c f ≡ Some left → (p : Peer) × (l : Link) × (f p l ≡ Some left) × (finmap.get w.peers c ≡ Some p) × (p.link ≡ Some l)
 on_link_some w c f left is =
     let peer = bound_some (λ p. option_and_then (f p) p.link) (finmap.get w.peers c) left is in
     let linked = bound_some (f peer.0) peer.0.link left peer.2 in
-    (peer.0, linked.0, linked.2)
+    (peer.0, linked.0, linked.2, peer.1, linked.1)
 
 -- whatever happens
 pub kept_step : (test : Test) (w left : World) (k : Knowledge) (h : Happening) → happens test w h ≡ Some left → Kept w k → Kept left (learned w h k)

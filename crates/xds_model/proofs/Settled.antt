@@ -39,7 +39,7 @@ use Rattle.xds_model.specs.Claims.{holding_of, asks_for, is_quiet}
 use Rattle.xds_model.proofs.Folding.{folded}
 use Rattle.xds_model.proofs.Replicas.{some_is}
 use Rattle.xds_model.proofs.ByOneName.{IsShown, shown_where_not_owed}
-use Rattle.xds_model.proofs.Lanes.{IsMade, asking, Asks, Abreast}
+use Rattle.xds_model.proofs.Lanes.{IsMade, Asks, Abreast}
 use Rattle.xds_model.proofs.LinkTakes.{nothing_wanted}
 use Rattle.xds_model.proofs.Delivering.{AllKnown, live}
 use Rattle.xds_model.proofs.Queues.{delta_in, lane_up, lane_down, listed_draft, IsDeltaStream, Linked}

@@ -1,6 +1,6 @@
 -- What is under way on a link of the state of the world, of one type, and what keeps all lanes of such a link.
-use Rattle.std.proofs.Common.{◌≡◌, ◌≢◌, ◌⊎◌, inl, inr, ℕ, zero, suc, ◌+◌, ◌≤◌, List, [], ◌∷◌, ◌++◌, Bool, true, false, ◌&&◌, not, Option, Some, None, Ok, Err, refl, sym, ap, subst, ◌∙◌, append-nil, arith}
-use Rattle.std.specs.Prelude.{◌==◌, bytes_eq, if◌then◌else◌, is_none, option_map, length, ⊤}
+use Rattle.std.proofs.Common.{◌≡◌, ◌≢◌, ◌⊎◌, inl, inr, ℕ, zero, suc, ◌+◌, ◌≤◌, List, [], ◌∷◌, ◌++◌, Bool, true, false, Option, Some, None, Ok, Err, refl, sym, ap, subst, ◌∙◌, append-nil, arith}
+use Rattle.std.specs.Prelude.{◌==◌, bytes_eq, if◌then◌else◌, option_map, length, ⊤}
 use Rattle.std.specs.Option.{option_map_or, option_and_then}
 use Rattle.std.specs.List.{filter_map, cons_option}
 use Rattle.std.specs.FinMap as finmap
@@ -12,16 +12,14 @@ use Rattle.xds_resource.specs.Writes.{text_cmp}
 use Rattle.xds_resource.specs.PerType.{PerType, at, with_at, each}
 use Rattle.xds_resource.proofs.TypesApart.{same_type, is_same_type-same, at-with_at, at-with_at_other, at-each}
 use Rattle.xds_message.specs.Messages.{Identity, Request}
-use Rattle.xds_catalogue.specs.Holdings.{Entries}
 use Rattle.xds_draft.specs.declared.draft.Draft.{Draft}
 use Rattle.xds_draft.specs.declared.draft.Draft.TheVariants as drafts
 use Rattle.xds_draft.specs.Drafts.{Drafted, message_of}
 use Rattle.xds_ledger.specs.declared.outcome.Outcome.{Outcome}
 use Rattle.xds_ledger.specs.declared.entry.Entry.TheVariants.{Told}
 use Rattle.xds_ledger.specs.declared.variant.VariantName.TheVariants.{StateOfTheWorld}
-use Rattle.xds_ledger.specs.Offers.{Offer, offer}
-use Rattle.xds_ledger.specs.Ledgers as ledgers
-use Rattle.xds_ledger.specs.Ledgers.{nonce_text, is_due, is_refused}
+use Rattle.xds_ledger.specs.Offers.{Offer}
+use Rattle.xds_ledger.specs.Ledgers.{nonce_text}
 use Rattle.xds_ledger.specs.Sessions as sessions
 use Rattle.xds_ledger.specs.Sessions.{Session, unopened, is_taken, send}
 use Rattle.xds_sotw.specs.Polls.{take, response}
@@ -40,9 +38,9 @@ use Rattle.xds_model.specs.declared.event.ClientKind.TheVariants.{Sotw}
 use Rattle.xds_model.specs.Worlds.{Link, under_way, received_in, opening_requests}
 use Rattle.xds_model.specs.Knows.{TypedWrite}
 use Rattle.xds_model.specs.Claims.{asks_for}
-use Rattle.xds_model.proofs.Replicas.{some_is, if_some, none_there}
+use Rattle.xds_model.proofs.Replicas.{some_is}
 use Rattle.xds_model.proofs.Queues.{cons-append, lane_down, lane_down-append, nonces_differ}
-use Rattle.xds_model.proofs.LinkSteps.{sending_facts, url_type, taken_by, IsSent, all_three, one_more, room_is}
+use Rattle.xds_model.proofs.LinkSteps.{sending_facts, url_type, taken_by, IsSent, one_more, room_is}
 use Rattle.xds_model.proofs.LinkTakes.{received_ok, answered_ok, nothing_wanted, connected_shelf, lost_shelf, addressed_to}
 use Rattle.xds_model.proofs.Firsts.{firsts, firsts_by, one_first, once, first_lane}
 use Rattle.xds_model.proofs.Delivering.{AllKnown}

@@ -21,6 +21,7 @@ use Rattle.xds_model.specs.declared.event.ClientKind.TheVariants.{Sotw, Delta}
 use Rattle.xds_model.specs.Happenings.{Happening, Put}
 use Rattle.xds_model.specs.Worlds.{World, Site, Peer, Link, empty_world, world}
 use Rattle.xds_model.specs.Knows.{TypedWrite, knows, wants, link, made_after}
+use Rattle.xds_model.specs.Journal.{events_at}
 
 -- ---- settled
 
@@ -126,6 +127,10 @@ OneWriteAStamp test hs =
 abbrev pub JournalsAreLegal : Test → List Happening → Type 0
 JournalsAreLegal test hs = (r : ℕ) (s : Site) → finmap.get (world test hs).sites r ≡ Some s → IsLegal (fresh_core r) s.journal × (replayed (fresh_core r) s.journal ≡ s.core)
 
+-- each replica's journal tells exactly what happened there: its events are those of the list, one for one and in order
+abbrev pub JournalsTellAll : Test → List Happening → Type 0
+JournalsTellAll test hs = (r : ℕ) (s : Site) → finmap.get (world test hs).sites r ≡ Some s → map (λ x. x.event) s.journal ≡ events_at test hs r
+
 -- a client's link and wants, as the list of happenings tells them, are those that it has
 abbrev pub LinksAreFollowed : Test → List Happening → Type 0
 LinksAreFollowed test hs =
@@ -141,3 +146,4 @@ pub record Headline (test : Test) (hs : List Happening) : Type 0 where
   pub followed : LinksAreFollowed test hs
   pub stamped : OneWriteAStamp test hs
   pub journals : JournalsAreLegal test hs
+  pub told : JournalsTellAll test hs

@@ -2,7 +2,7 @@
 ghost use Rattle.std.specs.Prelude.{List};
 ghost use Rattle.xds_cache.specs.Faults.{Test};
 ghost use Rattle.xds_model.specs.Happenings.{Happening};
-ghost use Rattle.xds_model.specs.Claims.{HoldsWhatItKnows, PutResources, SameKnowledgeSameHoldings, SettledIsExact, SettledAgrees, LinksAreFollowed, OneWriteAStamp, JournalsAreLegal};
+ghost use Rattle.xds_model.specs.Claims.{HoldsWhatItKnows, PutResources, SameKnowledgeSameHoldings, SettledIsExact, SettledAgrees, LinksAreFollowed, OneWriteAStamp, JournalsAreLegal, JournalsTellAll};
 ghost use Rattle.xds_model.specs.Settling.{TwoResponsesSuffice, QuietAtTheEnd};
 
 /// What a replica holds are the best writes of what it knows, so replicas that know the same writes hold the same.
@@ -16,9 +16,10 @@ pub fn a_stamp_names_one_write()
     ensures { (test : Test) (hs : List Happening) → OneWriteAStamp test hs }
 {}
 
-/// Each replica's journal is legal, and the replica is what the journal leaves.
+/// Each replica's journal is legal, the replica is what the journal leaves, and the journal tells exactly what happened there.
 pub fn journals_are_legal()
-    ensures { (test : Test) (hs : List Happening) → JournalsAreLegal test hs }
+    ensures legal { (test : Test) (hs : List Happening) → JournalsAreLegal test hs }
+    ensures told { (test : Test) (hs : List Happening) → JournalsTellAll test hs }
 {}
 
 /// A client that is up, to which nothing of a type is under way and nothing owed, shows exactly what its replica knows of what it
