@@ -1,5 +1,5 @@
 // A replica with its journal.
-ghost use Rattle.std.specs.Prelude.{◌≡◌, ◌≤◌, map, IfOk, IfErr};
+ghost use Rattle.std.specs.Prelude.{◌≡◌, ◌≤◌, ◌++◌, [], ◌∷◌, map, Ok, IfOk, IfErr, OnOk};
 ghost use Rattle.xds_resource.specs.declared.refusal.Refusal.TheVariants.{OutOfMemory};
 ghost use Rattle.xds_core.specs.Seen.{event_of, reply_of};
 ghost use Rattle.xds_model.specs.Claims.{owes_nothing};
@@ -31,6 +31,21 @@ impl Model for Site {
     ghost view = { λ s. record { core = s.core; journal = map record_of s.journal.items } };
 }
 
+// Puts an event that was answered at the end of a journal.
+fn record(
+    alloc: Global,
+    journal: &mut Vec<Record>,
+    event: Event,
+    reply: &Reply,
+) -> Result<(), Refusal>
+    ensures ok { OnOk result (map record_of journal.new.items ≡ map record_of journal.old.items ++ record { event = event_of event; answer = Ok (reply_of reply.now) } ∷ []) }
+    ensures refused { IfErr result (λ e. e ≡ OutOfMemory) }
+{
+    let answer = Ok(reply.try_copy(alloc)?);
+    journal.push(Record { event, answer })?;
+    Ok(())
+}
+
 impl Site {
     /// A replica at which nothing happened. `replica` is its number, from 1.
     pub(crate) fn new(alloc: Global, replica: u16) -> Site
@@ -52,11 +67,7 @@ impl Site {
         let copy = event.try_copy(alloc)?;
         match self.core.step(event) {
             Ok(reply) => {
-                let answer = Ok(reply.try_copy(alloc)?);
-                self.journal.push(Record {
-                    event: copy,
-                    answer,
-                })?;
+                record(alloc, &mut self.journal, copy, &reply)?;
                 Ok(Some(reply))
             }
             Err(Refusal::OutOfMemory) => Err(Refusal::OutOfMemory),
