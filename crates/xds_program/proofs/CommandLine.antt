@@ -15,3 +15,7 @@ command_line-is_free = refl
 -- the text that is read as the replica's number
 abbrev pub replica_read : List Text → Option (Option Text)
 replica_read words = option_map (λ p. one_of (codes "replica") p.1) (subcommand_of command_line words)
+
+-- the name of the subcommand
+abbrev pub name_read : List Text → Option Text
+name_read words = option_map (λ p. p.0) (subcommand_of command_line words)

@@ -1,5 +1,5 @@
--- Only the words that ask for the task are without a fault.
-use Rattle.std.proofs.Common.{◌≡◌, ◌⊎◌, ◌||◌, ◌&&◌, ◌==◌, ◌∙◌, ℕ, zero, suc, List, [], ◌∷◌, ◌++◌, codes, length, Bool, true, false, cond, fold}
+-- Only the words that ask for a task are without a fault.
+use Rattle.std.proofs.Common.{◌≡◌, ◌⊎◌, ◌||◌, ◌&&◌, ◌==◌, ◌∙◌, ℕ, zero, suc, List, [], ◌∷◌, ◌++◌, codes, length, Bool, true, false, cond, drop, fold}
 use Rattle.std.proofs.Common.{refl, sym, ap, subst, inl, inr, ⊎_elim, arith, Option, Some, None, option_map, append-nil, append_assoc, true≢false}
 use Rattle.std.specs.Prelude.{if◌then◌else◌, pos, slice_get}
 use Rattle.std.specs.Option.{option_map_or}
@@ -22,7 +22,9 @@ use Rattle.clap.specs.declared.error.kind.ErrorKind.{ErrorKind}
 use Rattle.clap.specs.declared.error.kind.ErrorKind.TheVariants as kind
 use Rattle.clap.proofs.OnLiterals.{clap_on_literals}
 use Rattle.clap.proofs.ValueTestLemmas.{accepts-Accepts}
-use Rattle.xds_program.specs.Words.{AreOptions, AsksAnswer, IsReplicaText}
+use Rattle.xds_program.specs.declared.words.Task.{Task}
+use Rattle.xds_program.specs.declared.words.Task.TheVariants.{Answer, Play}
+use Rattle.xds_program.specs.Words.{AreOptions, Asks, AsksAnswer, AsksPlay, IsReplicaText}
 use Rattle.xds_program.specs.CommandLine.{command_line, faults, replica_option}
 use Rattle.xds_program.proofs.LongWords.{joined, long_of-joined}
 
@@ -326,7 +328,7 @@ answer_words (word ∷ rest) fine = go (idle_turn [] None word rest fine)
         let end = ended (word ∷ v ∷ []) more.1 (last_words [] (Some (replica_id, v ∷ [])) refl more.1 more.3) in
         (number.0, word ∷ v ∷ [], inr (v, number.1, inl (ap (λ w. w ∷ v ∷ []) is)), subst (λ (r : List Text). EndsOptions (word ∷ v ∷ []) (word ∷ r)) (sym more.2) end)
 
--- ---- the first word
+-- ---- commands with no option
 
 -- what a parse reads of the program, and the names of its subcommands
 abbrev top_shape : Shape
@@ -335,45 +337,87 @@ top_shape = (built command_line).top
 abbrev top_names : Names
 top_names = names_of (built command_line)
 
--- the program's one flag of one letter asks for help
-top_flags_fail : (rows : List Row) (pending : Option (Text × List Text)) → FlagsFail top_shape.rules (holding rows pending)
-top_flags_fail rows pending x rest next e = go (104 == x) e
+-- what a parse reads of a command whose only rule is the flag that asks for help
+abbrev only_help : Shape → Bool → Shape
+only_help s leaf = record s { rules = filled help_rule ∷ []; is_leaf = leaf }
+
+-- its one flag of one letter asks for help
+help_flags_fail : (rows : List Row) (pending : Option (Text × List Text)) → FlagsFail (filled help_rule ∷ []) (holding rows pending)
+help_flags_fail rows pending x rest next e = go (104 == x) e
   where
-    go : (t : Bool) → short_fault top_shape.rules false (cond (t || false) (Some (filled help_rule)) None) rest (holding rows pending) next ≡ [] → ⊥
+    go : (t : Bool) → short_fault (filled help_rule ∷ []) false (cond (t || false) (Some (filled help_rule)) None) rest (holding rows pending) next ≡ [] → ⊥
     go true f = second_kind _ _ _ (or_else-none _ _ f).0
     go false f = some_kind _ _ f
 
--- a long word before the subcommand is a fault
-top_long : (word : Text) (v : Option Text) (is_help : Bool) → long_kinds_by top_shape idle word (holding [] None) (cond (is_help || false) (Some (filled help_rule)) None) v ≡ [] → ⊥
-top_long word None true none = some_kind _ _ none
-top_long word (Some v) true none = some_kind _ _ none
-top_long word v false none = some_kind _ _ none
+-- a word that nothing takes is a fault
+stray_some : (leaf : Bool) → (if leaf then kind.UnknownArgument ∷ [] else kind.UnknownArgument ∷ kind.InvalidSubcommand ∷ []) ≡ [] → ⊥
+stray_some true none = some_kind _ _ none
+stray_some false none = some_kind _ _ none
 
--- a word that names no subcommand is a fault, but for `--`
-top_other : (word : Text) (dashes : Bool) (long : Option (Text × Option Text)) → kinds_by top_shape idle (holding [] None) word dashes long ≡ [] → dashes ≡ true
-top_other word true long none = refl
-top_other word false (Some p) none = absurd (top_long word p.1 (bytes_eq (codes "help") p.0) none)
-top_other word false None none =
+module _ (s : Shape) (leaf : Bool) (word : Text) where
+  -- a long word is a fault
+  help_long : (v : Option Text) (is_help : Bool)
+      → long_kinds_by (only_help s leaf) idle word (holding [] None) (cond (is_help || false) (Some (filled help_rule)) None) v ≡ [] → ⊥
+  help_long None true none = some_kind _ _ none
+  help_long (Some v) true none = some_kind _ _ none
+  help_long v false none = some_kind _ _ none
+
+  -- and so is any other that names no subcommand, but for `--`
+  help_other : (dashes : Bool) (long : Option (Text × Option Text)) → kinds_by (only_help s leaf) idle (holding [] None) word dashes long ≡ [] → dashes ≡ true
+  help_other true long none = refl
+  help_other false (Some p) none = absurd (help_long p.1 (bytes_eq (codes "help") p.0) none)
+  help_other false None none =
+      let parts = or_else-none _ _ none in
+      let as_plain = short_plain (filled help_rule ∷ []) [] None (help_flags_fail [] None) idle word (short_of word) parts.0 in
+      absurd (stray_some leaf (ap (λ (met : Held × Step). step_fault (only_help s leaf) 1 met.0 met.1) (sym as_plain) ∙ parts.1))
+
+-- ---- the words of `play`
+
+-- what a parse reads of `play`
+abbrev play_shape : Shape
+play_shape = first_shape (drop 1 (built command_line).subs)
+
+-- its first word without a fault is `--`
+play_turn : (word : Text) → turn_fault play_shape [] (standing (holding [] None) idle false) word ≡ [] → word ≡ codes "--"
+play_turn word none = (bytes_eq-Decides word (codes "--")).0 (help_other play_shape true word (bytes_eq word (codes "--")) (long_of word) none)
+
+-- after which none comes
+play_end : (words : List Text) → walk_fault play_shape [] (standing (holding [] None) idle true) words ≡ [] → words ≡ []
+unfolding walk_fault
+play_end [] none = refl
+play_end (word ∷ rest) none = absurd (some_kind _ _ none)
+
+-- only these words of `play` are without a fault
+play_words : (words : List Text) → walk_fault play_shape [] (standing (holding [] None) idle false) words ≡ [] → (words ≡ []) ⊎ (words ≡ codes "--" ∷ [])
+unfolding walk_fault walked
+play_words [] none = inl refl
+play_words (word ∷ rest) none =
     let parts = or_else-none _ _ none in
-    let as_plain = short_plain top_shape.rules [] None (top_flags_fail [] None) idle word (short_of word) parts.0 in
-    absurd (some_kind _ _ (ap (λ (met : Held × Step). step_fault top_shape 1 met.0 met.1) (sym as_plain) ∙ parts.1))
+    let is = play_turn word parts.0 in
+    let ends = play_end rest (subst (λ (w : Text). walk_fault play_shape [] (walked play_shape.rules [] (standing (holding [] None) idle false) w) rest ≡ []) is parts.1) in
+    inr (λ i. is i ∷ ends i)
+
+-- ---- the first word
 
 -- the subcommand that a word names, by the tests on it
-abbrev named_by : Bool → Bool → Option Text
-named_by is_answer is_help = option_map (λ (s : Text × List Text). s.0) (cond (is_answer || false) (Some (codes "answer", [])) (cond (is_help || false) (Some (codes "help", [])) None))
+abbrev named_by : Bool → Bool → Bool → Option Text
+named_by is_answer is_play is_help =
+    option_map (λ (s : Text × List Text). s.0)
+    (cond (is_answer || false) (Some (codes "answer", [])) (cond (is_play || false) (Some (codes "play", [])) (cond (is_help || false) (Some (codes "help", [])) None)))
 
--- the first word without a fault is `answer` or `--`
-top_turn : (word : Text) → turn_fault top_shape top_names (standing (holding [] None) idle false) word ≡ [] → (word ≡ codes "answer") ⊎ (word ≡ codes "--")
-top_turn word none = go (bytes_eq (codes "answer") word) (bytes_eq (codes "help") word) refl none
+-- the first word without a fault is `answer`, `play` or `--`
+top_turn : (word : Text) → turn_fault top_shape top_names (standing (holding [] None) idle false) word ≡ [] → (word ≡ codes "answer") ⊎ ((word ≡ codes "play") ⊎ (word ≡ codes "--"))
+top_turn word none = go (bytes_eq (codes "answer") word) (bytes_eq (codes "play") word) (bytes_eq (codes "help") word) refl refl none
   where
-    go : (is_answer is_help : Bool) → bytes_eq (codes "answer") word ≡ is_answer
-        → or_else (other_fault top_shape (named_by is_answer is_help) word (holding [] None))
-        (step_fault top_shape 1 (subcommand_or_other top_shape.rules (named_by is_answer is_help) idle 1 word (holding [] None)).0
-        (subcommand_or_other top_shape.rules (named_by is_answer is_help) idle 1 word (holding [] None)).1) ≡ []
-        → (word ≡ codes "answer") ⊎ (word ≡ codes "--")
-    go true is_help is e = inl (sym ((bytes_eq-Decides (codes "answer") word).0 is))
-    go false true is e = absurd (some_kind _ _ e)
-    go false false is e = inr ((bytes_eq-Decides word (codes "--")).0 (top_other word (bytes_eq word (codes "--")) (long_of word) e))
+    go : (is_answer is_play is_help : Bool) → bytes_eq (codes "answer") word ≡ is_answer → bytes_eq (codes "play") word ≡ is_play
+        → or_else (other_fault top_shape (named_by is_answer is_play is_help) word (holding [] None))
+        (step_fault top_shape 1 (subcommand_or_other top_shape.rules (named_by is_answer is_play is_help) idle 1 word (holding [] None)).0
+        (subcommand_or_other top_shape.rules (named_by is_answer is_play is_help) idle 1 word (holding [] None)).1) ≡ []
+        → (word ≡ codes "answer") ⊎ ((word ≡ codes "play") ⊎ (word ≡ codes "--"))
+    go true is_play is_help is other e = inl (sym ((bytes_eq-Decides (codes "answer") word).0 is))
+    go false true is_help not is e = inr (inl (sym ((bytes_eq-Decides (codes "play") word).0 is)))
+    go false false true not other e = absurd (some_kind _ _ e)
+    go false false false not other e = inr (inr ((bytes_eq-Decides word (codes "--")).0 (help_other top_shape false word (bytes_eq word (codes "--")) (long_of word) e)))
 
 -- with no word but the program's name a subcommand is missing
 no_word : faults [] ≡ [] → ⊥
@@ -414,21 +458,43 @@ after_answer p rest e =
     let parts = or_else-none _ _ level in
     (parts.0, (or_else-none _ _ parts.1).0)
 
--- only the words that ask for an answer are without a fault
-pub only_right : (words : List Text) → faults words ≡ [] → (n : ℕ) × AsksAnswer words n
+-- and so after `play`
+after_play : (p : Text) (rest : List Text) → faults (p ∷ codes "play" ∷ rest) ≡ [] → walk_fault play_shape [] (standing (holding [] None) idle false) rest ≡ []
+unfolding walked
+after_play p rest e =
+    let below = (or_else-none _ _ (or_else-none _ _ e).1).0 in
+    let stop = stopped_walk top_shape.rules top_names (standing (holding [] None) idle false) (codes "play") [] rest in
+    let level : entered_fault (built command_line) (Some (codes "play", rest)) ≡ [] = ap (entered_fault (built command_line)) (sym stop) ∙ below in
+    (or_else-none _ _ level).0
+
+-- the words that ask for an answer
+asks_answer : (p word : Text) (rest : List Text) → word ≡ codes "answer" → faults (p ∷ word ∷ rest) ≡ [] → (n : ℕ) × AsksAnswer (p ∷ word ∷ rest) n
+asks_answer p word rest is e =
+    let own = answer_words rest (after_answer p rest (subst (λ w. faults (p ∷ w ∷ rest) ≡ []) is e)) in (
+      own.0,
+      record {
+        program = p;
+        options = own.1;
+        are_options = own.2;
+        words_are = ⊎_elim (λ same. inl (λ i. p ∷ is i ∷ same i)) (λ same. inr (λ i. p ∷ is i ∷ same i)) own.3;
+      },
+    )
+
+-- the words that ask for a script to be played
+asks_play : (p word : Text) (rest : List Text) → word ≡ codes "play" → faults (p ∷ word ∷ rest) ≡ [] → AsksPlay (p ∷ word ∷ rest)
+asks_play p word rest is e =
+    let own = play_words rest (after_play p rest (subst (λ w. faults (p ∷ w ∷ rest) ≡ []) is e)) in
+    record { program = p; words_are = ⊎_elim (λ same. inl (λ i. p ∷ is i ∷ same i)) (λ same. inr (λ i. p ∷ is i ∷ same i)) own }
+
+-- only the words that ask for a task are without a fault
+pub only_right : (words : List Text) → faults words ≡ [] → (task : Task) × Asks words task
 only_right [] e = absurd (no_word e)
 only_right (p ∷ []) e = absurd (name_alone p e)
 only_right (p ∷ word ∷ rest) e = go (top_turn word (first_word p word rest e))
   where
-    go : (word ≡ codes "answer") ⊎ (word ≡ codes "--") → (n : ℕ) × AsksAnswer (p ∷ word ∷ rest) n
+    go : (word ≡ codes "answer") ⊎ ((word ≡ codes "play") ⊎ (word ≡ codes "--")) → (task : Task) × Asks (p ∷ word ∷ rest) task
     go (inl is) =
-        let own = answer_words rest (after_answer p rest (subst (λ w. faults (p ∷ w ∷ rest) ≡ []) is e)) in (
-          own.0,
-          record {
-            program = p;
-            options = own.1;
-            are_options = own.2;
-            words_are = ⊎_elim (λ same. inl (λ i. p ∷ is i ∷ same i)) (λ same. inr (λ i. p ∷ is i ∷ same i)) own.3;
-          },
-        )
-    go (inr is) = absurd (dashes_first p rest (subst (λ w. faults (p ∷ w ∷ rest) ≡ []) is e))
+        let asked = asks_answer p word rest is e in
+        (Answer asked.0, asked.1)
+    go (inr (inl is)) = (Play, asks_play p word rest is e)
+    go (inr (inr is)) = absurd (dashes_first p rest (subst (λ w. faults (p ∷ w ∷ rest) ≡ []) is e))

@@ -3,16 +3,14 @@ use Rattle.std.proofs.Common.{◌≡◌, ◌++◌, ap, sym, arith, codes, refl, 
 use Rattle.xds_resource.specs.declared.refusal.Refusal.{Refusal}
 use Rattle.xds_resource.specs.declared.refusal.Refusal.TheVariants.{Device as DeviceRefusal, OutOfMemory}
 use Rattle.clap.proofs.CountText.{decimal-count_text}
-use Rattle.xds_program.specs.Outcomes.{HasRun, IsCause, IsShown, IsUnable, RunsAnswer, fault_text, refusal_text}
+use Rattle.xds_program.specs.Outcomes.{HasRun, IsCause, IsShown, IsUnable, RunsTask, fault_text, refusal_text}
 use Rattle.xds_program.specs.declared.words.Task.{Task}
-use Rattle.xds_program.specs.declared.words.Task.TheVariants.{Answer}
 use Rattle.xds_program.specs.Words.{Asks, Text}
 use Rattle.xds_program.specs.CommandLine.{faults}
 use Rattle.clap.specs.declared.error.Error.{Error}
 use Rattle.clap.specs.declared.error.kind.ErrorKind.TheVariants as kind
 use Rattle.clap.specs.Words.{HasKind, kind_of}
 use Rattle.std.specs.Prelude.{◌≢◌}
-use Rattle.xds_program.specs.Faults.{IsAnswer, IsFault}
 use Rattle.xds_program.specs.Devices.{Device, HasFailed, Stays, Tells, Wrote, WrotePart}
 
 -- what was written whole, or up to a call that failed, is told
@@ -43,12 +41,6 @@ pub no_memory : (May : List ℕ → Type 0) (input output errors : Device) (stat
     → IsUnable May status (record { input = input; output = output; errors = errors })
 no_memory May input output errors status stays told is = unable May input output errors OutOfMemory status (inl refl) stays told is
 
--- for want of its input
-pub not_read : (replica : ℕ) (input output errors : Device) (refusal : Refusal) (status : ℕ) → (refusal ≡ OutOfMemory) ⊎ ((refusal ≡ DeviceRefusal) × HasFailed input) → Stays output
-    → Tells errors (refusal_text refusal) → status ≡ 1 → RunsAnswer replica status (record { input = input; output = output; errors = errors })
-not_read replica input output errors refusal status (inl memory) stays told is = inr (unable _ input output errors refusal status (inl memory) stays told is)
-not_read replica input output errors refusal status (inr failed) stays told is = inr (unable _ input output errors refusal status (inr (failed.0, inl failed.1)) stays told is)
-
 -- a run whose output failed in the midst of a text
 pub part_written : (May : List ℕ → Type 0) (input output errors : Device) (text : List ℕ) (refusal : Refusal) (status : ℕ) → May text
     → (refusal ≡ DeviceRefusal) × WrotePart output text → Tells errors (refusal_text refusal) → status ≡ 1
@@ -66,37 +58,49 @@ of_input : (P : List ℕ → Type 0) (before : Option (List ℕ)) (bytes : List 
 of_input P None bytes same h = tt
 of_input P (Some all) bytes same h = subst P same h
 
--- the answer to the bytes that were read, written whole
-pub answer_written : (replica : ℕ) (input output errors : Device) (bytes given answer written : List ℕ) → IfSome input.before (λ all. bytes ≡ all)
-    → given ≡ bytes → IsAnswer replica given answer → written ≡ answer → Wrote output written → Stays errors → RunsAnswer replica 0 (record { input = input; output = output; errors = errors })
-answer_written replica input output errors bytes given answer written same lent is all wrote stays =
-    inl (of_input _ input.before bytes same (inl (
-      refl,
-      record {
-        answer = answer;
-        is_answer = subst (λ (b : List ℕ). IsAnswer replica b answer) lent is;
-        written = subst (Wrote output) all wrote;
-      },
-      stays,
-    )))
+-- a task over its input: what is called for, and what is refused
+module _ (Is : List ℕ → List ℕ → Type 0) (Refuses : List ℕ → ℕ → Refusal → Type 0) (input output errors : Device) where
+  -- for want of its input
+  pub not_read : (refusal : Refusal) (status : ℕ) → (refusal ≡ OutOfMemory) ⊎ ((refusal ≡ DeviceRefusal) × HasFailed input) → Stays output
+      → Tells errors (refusal_text refusal) → status ≡ 1 → RunsTask Is Refuses status (record { input = input; output = output; errors = errors })
+  not_read refusal status (inl memory) stays told is = inr (unable _ input output errors refusal status (inl memory) stays told is)
+  not_read refusal status (inr failed) stays told is = inr (unable _ input output errors refusal status (inr (failed.0, inl failed.1)) stays told is)
 
--- the answer to the bytes that were read, written in part
-pub answer_begun : (replica : ℕ) (input output errors : Device) (bytes given answer written : List ℕ) (refusal : Refusal) (status : ℕ) → IfSome input.before (λ all. bytes ≡ all)
-    → given ≡ bytes → IsAnswer replica given answer → written ≡ answer → (refusal ≡ DeviceRefusal) × WrotePart output written → Tells errors (refusal_text refusal) → status ≡ 1
-    → RunsAnswer replica status (record { input = input; output = output; errors = errors })
-answer_begun replica input output errors bytes given answer written refusal status same lent is all failed told one =
-    let of_bytes = of_input (λ b. IsAnswer replica b answer) input.before bytes same (subst (λ (b : List ℕ). IsAnswer replica b answer) lent is) in
-    let part = subst (λ (t : List ℕ). (refusal ≡ DeviceRefusal) × WrotePart output t) all failed in
-    inr (part_written _ input output errors answer refusal status of_bytes part told one)
+  -- for want of memory, once the input was read
+  pub no_room : (status : ℕ) → Stays output → Tells errors (refusal_text OutOfMemory) → status ≡ 1 → RunsTask Is Refuses status (record { input = input; output = output; errors = errors })
+  no_room status stays told is = inr (no_memory _ input output errors status stays told is)
 
--- the first line that is refused, told, or no memory to tell it
-pub fault_told : (replica : ℕ) (input output errors : Device) (bytes given : List ℕ) (line : ℕ) (refusal : Refusal) (status : ℕ)
-    → IfSome input.before (λ all. bytes ≡ all) → given ≡ bytes → IsFault given line refusal → Tells errors (fault_text line refusal) ⊎ Tells errors (refusal_text OutOfMemory) → Stays output → status ≡ 1
-    → RunsAnswer replica status (record { input = input; output = output; errors = errors })
-fault_told replica input output errors bytes given line refusal status same lent is (inl told) stays one =
-    let of_bytes = subst (λ (b : List ℕ). IsFault b line refusal) lent is in
-    inl (of_input _ input.before bytes same (inr (one, record { line = line; refusal = refusal; is_fault = of_bytes; told = told }, stays)))
-fault_told replica input output errors bytes given line refusal status same lent is (inr told) stays one = inr (no_memory _ input output errors status stays told one)
+  -- what the bytes that were read call for, written whole
+  pub text_written : (bytes given text written : List ℕ) → IfSome input.before (λ all. bytes ≡ all)
+      → given ≡ bytes → Is given text → written ≡ text → Wrote output written → Stays errors → RunsTask Is Refuses 0 (record { input = input; output = output; errors = errors })
+  text_written bytes given text written same lent is all wrote stays =
+      inl (of_input _ input.before bytes same (inl (
+        refl,
+        record {
+          text = text;
+          is = subst (λ (b : List ℕ). Is b text) lent is;
+          written = subst (Wrote output) all wrote;
+        },
+        stays,
+      )))
+
+  -- what the bytes that were read call for, written in part
+  pub text_begun : (bytes given text written : List ℕ) (refusal : Refusal) (status : ℕ) → IfSome input.before (λ all. bytes ≡ all)
+      → given ≡ bytes → Is given text → written ≡ text → (refusal ≡ DeviceRefusal) × WrotePart output written → Tells errors (refusal_text refusal) → status ≡ 1
+      → RunsTask Is Refuses status (record { input = input; output = output; errors = errors })
+  text_begun bytes given text written refusal status same lent is all failed told one =
+      let of_bytes = of_input (λ b. Is b text) input.before bytes same (subst (λ (b : List ℕ). Is b text) lent is) in
+      let part = subst (λ (t : List ℕ). (refusal ≡ DeviceRefusal) × WrotePart output t) all failed in
+      inr (part_written _ input output errors text refusal status of_bytes part told one)
+
+  -- the first line that is refused, told, or no memory to tell it
+  pub fault_told : (bytes given : List ℕ) (line : ℕ) (refusal : Refusal) (status : ℕ)
+      → IfSome input.before (λ all. bytes ≡ all) → given ≡ bytes → Refuses given line refusal → Tells errors (fault_text line refusal) ⊎ Tells errors (refusal_text OutOfMemory) → Stays output → status ≡ 1
+      → RunsTask Is Refuses status (record { input = input; output = output; errors = errors })
+  fault_told bytes given line refusal status same lent is (inl told) stays one =
+      let of_bytes = subst (λ (b : List ℕ). Refuses b line refusal) lent is in
+      inl (of_input _ input.before bytes same (inr (one, record { line = line; refusal = refusal; refuses = of_bytes; told = told }, stays)))
+  fault_told bytes given line refusal status same lent is (inr told) stays one = inr (no_memory _ input output errors status stays told one)
 
 -- what may be begun may be begun under a weaker name
 weaker : (P Q : List ℕ → Type 0) (output : Device) → ((text : List ℕ) → P text → Q text)
@@ -113,7 +117,7 @@ pub words_shown : (words : List Text) (input output errors : Device) (e : Error)
 words_shown words input output errors e status found right unread (inl unable) = inr (inr (record {
   refusal = unable.refusal;
   is_cause = unable.is_cause;
-  output = weaker _ _ output (λ text other replica asked. other (right (Answer replica) asked)) unable.output;
+  output = weaker _ _ output (λ text other task asked. other (right task asked)) unable.output;
   told = unable.told;
   status_is = unable.status_is;
 }))
@@ -121,7 +125,7 @@ words_shown words input output errors e status (inl memory) right unread (inr sh
 words_shown words input output errors e status (inr among) right unread (inr shown) = inr (inl (record {
   kind = kind_of e;
   is_fault = among;
-  asks_none = λ replica asked. shown.0 (right (Answer replica) asked);
+  asks_none = λ task asked. shown.0 (right task asked);
   unread = unread;
   shown = shown.1;
 }))

@@ -13,9 +13,17 @@ replica_option = record (new_rule (codes "replica")) {
   defaults = codes "1" ∷ [];
 }
 
--- `xds`, which wants a subcommand, with its subcommand `answer`
+-- `xds answer`
+abbrev pub answer_command : App
+answer_command = with_rule (new_app (codes "answer")) replica_option
+
+-- `xds play`, which has no options
+abbrev pub play_command : App
+play_command = new_app (codes "play")
+
+-- `xds`, which wants one of the two
 abbrev pub command_line : App
-command_line = with_subcommand (on_top (λ s. record s { subcommand_required = true }) (new_app (codes "xds"))) (with_rule (new_app (codes "answer")) replica_option).top
+command_line = with_subcommand (with_subcommand (on_top (λ s. record s { subcommand_required = true }) (new_app (codes "xds"))) answer_command.top) play_command.top
 
 -- what `clap` may find wrong with the words, the call for help among it; nothing where they are right
 abbrev pub faults : List Text → Kinds

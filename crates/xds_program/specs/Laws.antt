@@ -1,12 +1,13 @@
 -- What the words of a command line are, in other words. This project's own.
-use Rattle.std.specs.Prelude.{◌≡◌, ◌↔◌, ℕ, List, []}
-use Rattle.xds_program.specs.Words.{AsksAnswer, Text}
+use Rattle.std.specs.Prelude.{◌≡◌, ◌↔◌, List, []}
+use Rattle.xds_program.specs.declared.words.Task.{Task}
+use Rattle.xds_program.specs.Words.{Asks, Text}
 use Rattle.xds_program.specs.CommandLine.{faults}
 
--- words ask one replica at most
-abbrev pub AskOneReplica : Type 0
-AskOneReplica = (words : List Text) (n m : ℕ) → AsksAnswer words n → AsksAnswer words m → n ≡ m
+-- words ask for one task at most
+abbrev pub AskOneTask : Type 0
+AskOneTask = (words : List Text) (one other : Task) → Asks words one → Asks words other → one ≡ other
 
--- `clap` finds nothing wrong exactly with the words that ask a replica
+-- `clap` finds nothing wrong exactly with the words that ask for a task
 abbrev pub FaultlessWordsAsk : Type 0
-FaultlessWordsAsk = (words : List Text) → faults words ≡ [] ↔ (replica : ℕ) × AsksAnswer words replica
+FaultlessWordsAsk = (words : List Text) → faults words ≡ [] ↔ (task : Task) × Asks words task

@@ -2,7 +2,7 @@
 use Rattle.std.specs.Prelude.{◌≡◌, ◌⊎◌, ◌≤◌, ℕ, List, [], ◌∷◌, ◌++◌, codes}
 use Rattle.std.specs.Str.Parse.{IsNumeral, digits_value, without_leading_plus}
 use Rattle.xds_program.specs.declared.words.Task.{Task}
-use Rattle.xds_program.specs.declared.words.Task.TheVariants.{Answer}
+use Rattle.xds_program.specs.declared.words.Task.TheVariants.{Answer, Play}
 
 abbrev pub Text : Type 0
 Text = List ℕ
@@ -30,6 +30,12 @@ pub record AsksAnswer (words : List Text) (replica : ℕ) : Type 0 where
   pub are_options : AreOptions options replica
   pub words_are : (words ≡ program ∷ codes "answer" ∷ options) ⊎ (words ≡ program ∷ codes "answer" ∷ options ++ codes "--" ∷ [])
 
+-- The words ask for a script to be played: the program's name, `play`, and perhaps `--`.
+pub record AsksPlay (words : List Text) : Type 0 where
+  pub program : Text
+  pub words_are : (words ≡ program ∷ codes "play" ∷ []) ⊎ (words ≡ program ∷ codes "play" ∷ codes "--" ∷ [])
+
 -- the words ask for the task
 abbrev pub Asks : List Text → Task → Type 0
 Asks words (Answer replica) = AsksAnswer words replica
+Asks words Play = AsksPlay words

@@ -1,8 +1,8 @@
 //! What the words are, as statements that the prover checks. The functions do nothing.
-ghost use Rattle.xds_program.specs.Laws.{AskOneReplica, FaultlessWordsAsk};
+ghost use Rattle.xds_program.specs.Laws.{AskOneTask, FaultlessWordsAsk};
 
-/// Words ask one replica at most, and `clap` finds nothing wrong exactly with those that ask one.
-pub fn words_ask_one_replica()
-    ensures one { AskOneReplica }
+/// Words ask for one task at most, and `clap` finds nothing wrong exactly with those that ask for one.
+pub fn words_ask_for_one_task()
+    ensures one { AskOneTask }
     ensures faultless { FaultlessWordsAsk }
 {}

@@ -2,7 +2,7 @@
 ghost use Rattle.std.specs.Prelude.{◌≡◌, ◌≢◌, ◌⊎◌, map, string_bytes};
 ghost use Rattle.clap.specs.Words.{kind_of};
 ghost use Rattle.xds_program.specs.Devices.{Device, Tells, seen};
-ghost use Rattle.xds_program.specs.Outcomes.{HasRun, IsShown, IsUnable, RunsAnswer, fault_text, refusal_text};
+ghost use Rattle.xds_program.specs.Outcomes.{HasRun, IsShown, IsUnable, RunsAnswer, RunsPlay, fault_text, refusal_text};
 
 use crate::answer::{LineFault, answer_lines};
 use crate::counted::{Counted, read_whole, write_whole};
@@ -10,6 +10,7 @@ use crate::words::{Task, task_of};
 use clap::error::ErrorKind;
 use std::alloc::Global;
 use std::io::{Read, Write};
+use xds_play::{Unplayed, play_script};
 use xds_resource::Refusal;
 
 /// The status of a run that did what it was asked.
@@ -38,6 +39,7 @@ pub fn run<I: Read, O: Write, E: Write>(
 {
     match task_of(alloc, words) {
         Ok(Task::Answer { replica }) => answer(alloc, replica, input, output, errors),
+        Ok(Task::Play) => play(alloc, input, output, errors),
         Err(error) => show(alloc, &error, output, errors),
     }
 }
@@ -66,6 +68,37 @@ pub fn answer<I: Read, O: Write, E: Write>(
             Err(refusal) => tell(refusal, errors),
         },
         Err(fault) => tell_fault(alloc, fault, errors),
+    }
+}
+
+/// Runs `xds play`: what the script of the input prints goes to the output, and its first bad line to the error output.
+pub fn play<I: Read, O: Write, E: Write>(
+    alloc: Global,
+    input: &mut Counted<I>,
+    output: &mut Counted<O>,
+    errors: &mut Counted<E>,
+) -> u8
+    ensures { RunsPlay result (record {
+      input = seen I.remaining input.old input.new;
+      output = seen O.contents output.old output.new;
+      errors = seen E.contents errors.old errors.new;
+    }) }
+{
+    let bytes = match read_whole(alloc, input) {
+        Ok(bytes) => bytes,
+        Err(refusal) => return tell(refusal, errors),
+    };
+    let text = match play_script(alloc, bytes.as_slice()) {
+        Ok(text) => text,
+        Err(Unplayed::OutOfMemory) => return tell(Refusal::OutOfMemory, errors),
+        Err(Unplayed::BadScript(line)) => {
+            let refusal = Refusal::BadScript;
+            return tell_fault(alloc, LineFault { line, refusal }, errors);
+        }
+    };
+    match write_whole(output, text.as_bytes()) {
+        Ok(()) => DONE,
+        Err(refusal) => tell(refusal, errors),
     }
 }
 

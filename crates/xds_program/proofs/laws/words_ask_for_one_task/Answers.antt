@@ -1,6 +1,6 @@
 use Rattle.xds_program.proofs.OnlyRight.{only_right}
 use Rattle.xds_program.proofs.RightWords.{ask_one, faultless_right}
-use Rattle.xds_program.proofs.laws.words_ask_one_replica.Goals as goal
+use Rattle.xds_program.proofs.laws.words_ask_for_one_task.Goals as goal
 
 pub returns-clause-one : goal.returns-clause-one
 returns-clause-one c = ask_one

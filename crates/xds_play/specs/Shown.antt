@@ -1,0 +1,76 @@
+-- What is printed of a client's view and of a replica's content. This project's own.
+use Rattle.std.specs.Prelude.{ℕ, List, [], ◌++◌, length, Bool, if◌then◌else◌, codes, decimal, unwrap_or, is_some, filter}
+use Rattle.std.specs.List.{flat_map}
+use Rattle.std.specs.Option.{option_map_or}
+use Rattle.std.specs.FinMap as finmap
+use Rattle.xds_resource.specs.declared.types.TypeName.{TypeName}
+use Rattle.xds_resource.specs.Types.{row}
+use Rattle.xds_resource.specs.PerType.{at}
+use Rattle.xds_resource.specs.Writes.{StampedWrite, version_of}
+use Rattle.xds_catalogue.specs.Holdings.{Holdings}
+use Rattle.xds_cache.specs.Shelves.{Cache, Holding}
+use Rattle.xds_cache.specs.Clients as clients
+use Rattle.xds_model.specs.declared.event.ClientKind.{ClientKind}
+use Rattle.xds_model.specs.declared.event.ClientKind.TheVariants.{Sotw, Delta}
+use Rattle.xds_model.specs.Worlds.{World, Peer}
+use Rattle.xds_model.specs.Claims.{is_settled}
+use Rattle.xds_world.specs.declared.peer.Status.{Status}
+use Rattle.xds_world.specs.declared.peer.Status.TheVariants.{Up, Down}
+use Rattle.xds_world.specs.Statuses.{status_of}
+
+-- what is printed of a client or a replica that isn't there
+abbrev pub none_text : List ℕ
+none_text = codes "none\n"
+
+-- ---- views
+
+-- a resource that a client holds, with its version where the client was told one
+abbrev pub holding_line : ClientKind → Holding → List ℕ
+holding_line Sotw h = h.body ++ codes "\n"
+holding_line Delta h = h.version ++ codes " " ++ h.body ++ codes "\n"
+
+-- what a client holds, in the order of names
+abbrev pub holding_lines : ClientKind → List Holding → List ℕ
+holding_lines kind held = flat_map (holding_line kind) held
+
+abbrev pub view_head : ℕ → TypeName → List ℕ → ℕ → List ℕ
+view_head client t state count = codes "view " ++ decimal client ++ codes " " ++ (row t).word ++ codes " " ++ state ++ codes " " ++ decimal count ++ codes "\n"
+
+abbrev pub view_text : ℕ → TypeName → List ℕ → ClientKind → Cache → List ℕ
+view_text client t state kind view = view_head client t state (length (finmap.values view)) ++ holding_lines kind (finmap.values view)
+
+-- the word for whether a client is up, and settled of a type
+abbrev pub state_of : Status → Bool → List ℕ
+state_of Down settled = codes "down"
+state_of Up settled = if settled then codes "settled" else codes "open"
+
+-- how a client stands to a type
+abbrev pub state_word : World → ℕ → TypeName → Peer → List ℕ
+state_word w client t p = state_of (status_of p) (is_settled w client t)
+
+-- what is printed of a client's view of a type
+abbrev pub view_shown : World → ℕ → TypeName → List ℕ
+view_shown w client t = option_map_or (λ p. view_text client t (state_word w client t p) p.kind (clients.view p.client t)) (finmap.get w.peers client) none_text
+
+-- ---- content
+
+-- a write that puts a resource
+abbrev pub is_live : StampedWrite → Bool
+is_live w = is_some w.body
+
+abbrev pub write_line : StampedWrite → List ℕ
+write_line w = version_of w ++ codes " " ++ unwrap_or w.body [] ++ codes "\n"
+
+abbrev pub write_lines : List StampedWrite → List ℕ
+write_lines writes = flat_map write_line writes
+
+abbrev pub content_head : ℕ → TypeName → ℕ → List ℕ
+content_head replica t count = codes "content " ++ decimal replica ++ codes " " ++ (row t).word ++ codes " " ++ decimal count ++ codes "\n"
+
+-- the live ones of these writes
+abbrev pub content_text : ℕ → TypeName → List StampedWrite → List ℕ
+content_text replica t writes = content_head replica t (length (filter is_live writes)) ++ write_lines (filter is_live writes)
+
+-- what is printed of a replica's content of a type
+abbrev pub content_shown : World → ℕ → TypeName → List ℕ
+content_shown w replica t = option_map_or (λ s. content_text replica t (finmap.values (at {X = Holdings} s.core.store t).entries)) (finmap.get w.sites replica) none_text
