@@ -31,3 +31,4 @@ pub mod SettlingSteps
 pub mod SettlingMoves
 pub mod SettlingPolls
 pub mod SettlingEnds
+pub mod SettlingFaults
