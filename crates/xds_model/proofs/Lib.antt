@@ -32,3 +32,4 @@ pub mod SettlingMoves
 pub mod SettlingPolls
 pub mod SettlingEnds
 pub mod SettlingFaults
+pub mod SettlingBlame

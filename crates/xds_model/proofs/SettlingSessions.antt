@@ -113,7 +113,7 @@ done_once_answered v t s after m waits answer =
     let account : after.account ≡ answered v t s.account (record { offer = offer_now v t s m; touched = [] }) answer.rejects = answer.account ∙ ap (λ x. answered v t s.account x answer.rejects) sent in
     subst (λ (x : Session). IsDone v t x m) (λ i. record { asked = sym answer.asked i; account = sym account i }) (done_by v t s m answer.rejects)
 
-answered_quiet : (v : VariantName) (t : TypeName) (a : Account) (sent : Sent) (rejects : Bool) → (answered v t a sent rejects).sent ≡ None
+pub answered_quiet : (v : VariantName) (t : TypeName) (a : Account) (sent : Sent) (rejects : Bool) → (answered v t a sent rejects).sent ≡ None
 answered_quiet v t a sent true = refl
 answered_quiet v t a sent false = refl
 

@@ -202,7 +202,7 @@ pub speaks : (k : ClientKind) (all : List TypedWrite) (c : Client) (l : Link) (x
 speaks Sotw all c l x linked = linked.variant
 speaks Delta all c l x linked = linked.variant
 
-due_as : (v : VariantName) (store : Store) (x : Stream) (t : TypeName) (o : Offer) → Speaks v x → to_send store x t ≡ Some o → (x.variant ≡ Some v) × (sessions.sending v t (at x.sessions t) (at store t).entries ≡ Some o)
+pub due_as : (v : VariantName) (store : Store) (x : Stream) (t : TypeName) (o : Offer) → Speaks v x → to_send store x t ≡ Some o → (x.variant ≡ Some v) × (sessions.sending v t (at x.sessions t) (at store t).entries ≡ Some o)
 due_as v store x t o (inl fresh) due = let never : None ≡ Some o = sym (ap (option_and_then (λ k. sessions.sending k t (at x.sessions t) (at store t).entries)) fresh.0) ∙ due in absurd cc
 due_as v store x t o (inr is) due = (is, sym (ap (option_and_then (λ k. sessions.sending k t (at x.sessions t) (at store t).entries)) is) ∙ due)
 
@@ -280,7 +280,7 @@ no_lane : (t : TypeName) (ds : List Draft) → lane_down t ds ≡ [] → among t
 no_lane t [] none = refl
 no_lane t (d ∷ ds) none = none_first t d ds (is_same_type (kind_of d) t) refl none (no_lane t ds)
 
-last_one : (d : Draft) (ds : List Draft) (o : Option Draft) → d ∷ ds ≡ under_way o → ds ≡ []
+pub last_one : (d : Draft) (ds : List Draft) (o : Option Draft) → d ∷ ds ≡ under_way o → ds ≡ []
 last_one d ds None is = absurd cc
 last_one d ds (Some e) is = tail_is d e ds [] is
   where
@@ -319,7 +319,7 @@ delta_down d rest (Some e) is = ap Some (sym (draft_is (head_is (drafts.Delta d)
     draft_is : {x y : DraftedDelta} → drafts.Delta x ≡ drafts.Delta y → x ≡ y
     draft_is e = cc
 
-first_down : (t : TypeName) (d : Draft) (rest ds : List Draft) → ds ≡ d ∷ rest → is_same_type (kind_of d) t ≡ true → lane_down t ds ≡ d ∷ lane_down t rest
+pub first_down : (t : TypeName) (d : Draft) (rest ds : List Draft) → ds ≡ d ∷ rest → is_same_type (kind_of d) t ≡ true → lane_down t ds ≡ d ∷ lane_down t rest
 first_down t d rest ds is own = ap (lane_down t) is ∙ ap (λ b. if b then d ∷ lane_down t rest else lane_down t rest) own
 
 kind_same : (s t : TypeName) → is_same_type s t ≡ true → ((s ≡ t) × (is_same_type s t ≡ true)) ⊎ ((s ≢ t) × (is_same_type s t ≡ false)) → s ≡ t
@@ -341,7 +341,7 @@ some_mapped None = refl
 some_mapped (Some x) = refl
 
 -- the session ahead of requests of one variant is as they leave it
-delta_folded : (t : TypeName) (s : Session) (ms : List Message) → queues.AllDelta ms → folded t s (queues.lane_up t ms) ≡ ahead t s ms
+pub delta_folded : (t : TypeName) (s : Session) (ms : List Message) → queues.AllDelta ms → folded t s (queues.lane_up t ms) ≡ ahead t s ms
 delta_folded t s [] deltas = refl
 delta_folded t s (m ∷ ms) deltas =
     let first = deltas.0 in
@@ -353,7 +353,7 @@ sotw_first t s q ms true is later =
     ap (λ b. sotw_folded t s (cons_option (if b then Some q else None) (sotws.lane_up t ms))) is ∙ later (session_after t s (streams.Sotw q)) ∙ ap (λ b. ahead t (if b then session_after t s (streams.Sotw q) else s) ms) (sym is)
 sotw_first t s q ms false is later = ap (λ b. sotw_folded t s (cons_option (if b then Some q else None) (sotws.lane_up t ms))) is ∙ later s ∙ ap (λ b. ahead t (if b then session_after t s (streams.Sotw q) else s) ms) (sym is)
 
-sotw_ahead : (t : TypeName) (s : Session) (ms : List Message) → sotws.AllSotw ms → sotw_folded t s (sotws.lane_up t ms) ≡ ahead t s ms
+pub sotw_ahead : (t : TypeName) (s : Session) (ms : List Message) → sotws.AllSotw ms → sotw_folded t s (sotws.lane_up t ms) ≡ ahead t s ms
 sotw_ahead t s [] all = refl
 sotw_ahead t s (m ∷ ms) all =
     let first = all.0 in subst (λ x. sotw_folded t s (sotws.lane_up t (x ∷ ms)) ≡ ahead t s (x ∷ ms)) (sym first.2) (sotw_first t s first.1 ms (asks_for t (streams.Sotw first.1)) refl (λ k. sotw_ahead t k ms all.1))
