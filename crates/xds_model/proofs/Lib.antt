@@ -33,3 +33,4 @@ pub mod SettlingPolls
 pub mod SettlingEnds
 pub mod SettlingFaults
 pub mod SettlingBlame
+pub mod SettlingFair
