@@ -14,11 +14,11 @@ use Rattle.xds_ledger.specs.Offers.{Offer}
 use Rattle.xds_ledger.specs.Sessions as sessions
 use Rattle.xds_ledger.specs.Sessions.{Session, send}
 use Rattle.xds_core.specs.Stores.{Store}
-use Rattle.xds_core.specs.Streams.{Message, session_after, requested, polled_first, looked_at}
+use Rattle.xds_core.specs.Streams.{Stream, Message, session_after, requested, polled_first, looked_at}
 use Rattle.xds_core.specs.Events as events
 use Rattle.xds_core.specs.Events.{Reply, Answered, Polled}
 use Rattle.xds_cache.specs.Faults.{Test}
-use Rattle.xds_cache.specs.Clients.{Client}
+use Rattle.xds_cache.specs.Clients.{Client, shelf}
 use Rattle.xds_model.specs.Happenings.{Happening, Up, Poll, Down}
 use Rattle.xds_model.specs.Worlds.{Link, Peer, World, at_site, with_peer, up_taken, under_way, polled, received, taken_down, down_taken, happens}
 use Rattle.xds_model.specs.Knows.{TypedWrite}
@@ -28,7 +28,7 @@ use Rattle.xds_model.proofs.Replicas.{some_is, bound_some, mapped_some}
 use Rattle.xds_model.proofs.ByKind.{LinkedAs}
 use Rattle.xds_model.proofs.Everyone.{Fine}
 use Rattle.xds_model.proofs.SettlingSessions.{HasAnswer}
-use Rattle.xds_model.proofs.SettlingSteps.{Spot, spot_of, link_at, linked_at, at_spot, get_put, moved, at_stream, ahead, ahead_more, up_ahead, spoken, speaks, Sent, poll_is, among, none_more, one_more, none_behind, answer_asks, down_answers}
+use Rattle.xds_model.proofs.SettlingSteps.{Spot, spot_of, link_at, linked_at, at_spot, get_put, moved, at_stream, ahead, ahead_more, up_ahead, spoken, speaks, Sent, poll_is, among, none_more, one_more, none_behind, answer_asks, down_answers, received_wants}
 
 -- ---- what is done next
 
@@ -99,12 +99,15 @@ pub record Sends (w y : World) (c : ℕ) (t : TypeName) (h : Happening) (s : Spo
 
 -- or is polled and sends none
 abbrev pub Ends : (w y : World) (c : ℕ) → TypeName → Happening → Spot w c → Spot y c → Type 0
-Ends w y c t h s z = (taken_now c t w h ≡ 0) × (gave_nothing t h (link_in y c) ≡ true) × (is_quiet t z.link ≡ true)
+Ends w y c t h s z =
+    (taken_now c t w h ≡ 0) × (gave_nothing t h (link_in y c) ≡ true) × (is_quiet t z.link ≡ true) × (session_at y c t z ≡ session_at w c t s)
+    × (sessions.sending (spoken s.peer.kind) t (session_at w c t s) (held_at w c t s) ≡ None)
 
 pub record Moved (w y : World) (c : ℕ) (t : TypeName) (h : Happening) (s : Spot w c) : Type 0 where
   pub spot : Spot y c
   pub kind : spot.peer.kind ≡ s.peer.kind
   pub held : held_at y c t spot ≡ held_at w c t s
+  pub wants : (shelf spot.peer.client t).wants ≡ (shelf s.peer.client t).wants
   pub how : Stays w y c t h s spot ⊎ (Takes w y c t h s spot ⊎ (Sends w y c t h s spot ⊎ Ends w y c t h s spot))
 
 -- ---- Up
@@ -121,6 +124,7 @@ up_moved test w y all c t s m rest up is fine =
       spot = moved w c s.link.replica x.site x.stream after (record s.link { up = rest }) refl refl x.opened;
       kind = refl;
       held = ap (λ (p : Store). (at p t).entries) x.store;
+      wants = refl;
       how = inl (refl, refl, up_ahead s.peer.kind all s.peer.client s.link s.stream t m rest (x.answer, x.stream) up x.made (linked_at w all c s fine), refl, refl);
     })
 
@@ -147,6 +151,7 @@ poll_moved test w y all c t s up none is fine =
       spot = spot;
       kind = refl;
       held = ap (λ (p : Store). (at p t).entries) x.store;
+      wants = refl;
       how = inr (inr
           (elim (poll_is (spoken s.peer.kind) s.site.core.replica s.site.core.store s.stream t (x.answer, x.stream) (speaks s.peer.kind all s.peer.client s.link s.stream (linked_at w all c s fine)) x.made) [
             | inl sent ↦
@@ -162,7 +167,13 @@ poll_moved test w y all c t s up none is fine =
                 })
             | inr quiet ↦
                 (let none_under : brings t next ≡ false = none_more t s.link.down x.answer quiet.0 ∙ none in
-                inr (refl, told ∙ ap not none_under, λ i. not (list_any (asks_for t) (up i)) && not (none_under i)))
+                inr (
+                  refl,
+                  told ∙ ap not none_under,
+                  (λ i. not (list_any (asks_for t) (up i)) && not (none_under i)),
+                  behind ∙ ap (λ (z : Stream). at z.sessions t) quiet.1 ∙ sym here,
+                  ap (λ a. sessions.sending (spoken s.peer.kind) t a (at s.site.core.store t).entries) here ∙ quiet.2,
+                ))
           ]));
     })
 
@@ -205,7 +216,7 @@ down_by test w all c t s d rest q own down is kind fine =
     ahead_more t (at s.stream.sessions t) s.link.up q.1 ∙ ap (λ b. if b then session_after t (session_at w c t s) q.1 else session_at w c t s) asks in
     let takes : taken_now c t w (Down c) ≡ (if own then 1 else 0) = ap (λ o. option_map_or (λ (l : Link). takes_one t l.down) o 0) (link_at w c s) ∙ ap (takes_one t) down ∙ ap (λ b. if b then 1 else 0) kind in
     let before : brings t s.link ≡ (own || among t rest) = ap (among t) down ∙ ap (λ b. b || among t rest) kind in
-    record { spot = down_spot w c s rest q; kind = refl; held = refl; how = down_how test w all c t s d rest q own down is kind takes after before (linked_at w all c s fine) }
+    record { spot = down_spot w c s rest q; kind = refl; held = refl; wants = received_wants s.peer.kind test s.peer.client d q t is; how = down_how test w all c t s d rest q own down is kind takes after before (linked_at w all c s fine) }
 
 down_moved : (test : Test) (w y : World) (all : List TypedWrite) (c : ℕ) (t : TypeName) (s : Spot w c) (ds : List Draft) → s.link.down ≡ ds → down_taken test w c s.peer s.link ds ≡ Some y → Fine w all → Moved w y c t (Down c) s
 down_moved test w y all c t s [] down is fine = absurd cc

@@ -14,7 +14,7 @@ use Rattle.xds_resource.specs.declared.refusal.Refusal.TheVariants.{BadMessage, 
 use Rattle.xds_resource.specs.Types.{row, type_of_url, is_same_type}
 use Rattle.xds_resource.specs.Stamps.{max_counter}
 use Rattle.xds_resource.specs.PerType.{PerType, at, with_at, each}
-use Rattle.xds_resource.proofs.TypesApart.{same_type, is_same_type-same, at-with_at, at-with_at_other}
+use Rattle.xds_resource.proofs.TypesApart.{same_type, is_same_type-same, at-with_at, at-with_at_other, at-each}
 use Rattle.xds_catalogue.specs.Holdings.{Entries}
 use Rattle.xds_catalogue.proofs.Lookups.{get-inserted}
 use Rattle.xds_message.specs.Messages.{Request}
@@ -38,8 +38,8 @@ use Rattle.xds_core.specs.Steps.{Core, Step, step, stream_step}
 use Rattle.xds_core.proofs.StepLaws.{unless_once}
 use Rattle.xds_cache.specs.Shelves.{Shelf, texts}
 use Rattle.xds_cache.specs.Faults.{Test}
-use Rattle.xds_cache.specs.Clients.{Client, shelf}
-use Rattle.xds_cache.specs.Deliveries.{sotw_delivery, delta_delivery, fault_in, taking, rejecting}
+use Rattle.xds_cache.specs.Clients.{Client, shelf, with_shelf}
+use Rattle.xds_cache.specs.Deliveries.{Delivery, sotw_delivery, delta_delivery, fault_in, taking, rejecting, delivered}
 use Rattle.xds_cache.specs.Sends.{failure}
 use Rattle.xds_model.specs.declared.event.ClientKind.{ClientKind}
 use Rattle.xds_model.specs.declared.event.ClientKind.TheVariants.{Sotw, Delta}
@@ -229,9 +229,13 @@ kind_is replica store ss t o n variants.Delta = refl
 ok_is : (p q : Option Draft × Stream) → ◌≡◌ {A = Result (Option Draft × Stream) Refusal} (Ok p) (Ok q) → q ≡ p
 ok_is p q e = cc
 
+not_due : (v : VariantName) (store : Store) (x : Stream) (t : TypeName) → Speaks v x → to_send store x t ≡ None → sessions.sending v t (at x.sessions t) (at store t).entries ≡ None
+not_due v store x t (inl fresh) none = ap (λ s. sessions.sending v t s (at store t).entries) (ap (λ p. at p t) fresh.1 ∙ at-each unopened t)
+not_due v store x t (inr is) none = sym (ap (option_and_then (λ k. sessions.sending k t (at x.sessions t) (at store t).entries)) is) ∙ none
+
 poll_by : (v : VariantName) (replica : ℕ) (store : Store) (x : Stream) (t : TypeName) (q : Option Draft × Stream) (o : Option Offer) → Speaks v x → to_send store x t ≡ o → option_map_or (sending replica store x t) o (Ok (None, x)) ≡ Ok q
-    → Sent v t store x q.1 q.0 ⊎ ((q.0 ≡ None) × (q.1 ≡ x))
-poll_by v replica store x t q None speaking due is = let same = ok_is (None, x) q is in inr (ap (λ p. p.0) same, ap (λ p. p.1) same)
+    → Sent v t store x q.1 q.0 ⊎ ((q.0 ≡ None) × (q.1 ≡ x) × (sessions.sending v t (at x.sessions t) (at store t).entries ≡ None))
+poll_by v replica store x t q None speaking due is = let same = ok_is (None, x) q is in inr (ap (λ p. p.0) same, ap (λ p. p.1) same, not_due v store x t speaking due)
 poll_by v replica store x t q (Some o) speaking due is =
     let facts = due_as v store x t o speaking due in
     let same : q ≡ (option_map (response_of replica store x.sessions t o (x.count + 1)) x.variant, sent x t o) =
@@ -247,7 +251,8 @@ poll_by v replica store x t q (Some o) speaking due is =
       kind = kind_is replica store x.sessions t o (x.count + 1) v;
     })
 
-pub poll_is : (v : VariantName) (replica : ℕ) (store : Store) (x : Stream) (t : TypeName) (q : Option Draft × Stream) → Speaks v x → polled_first replica store x (looked_at (Some t)) ≡ Ok q → Sent v t store x q.1 q.0 ⊎ ((q.0 ≡ None) × (q.1 ≡ x))
+pub poll_is : (v : VariantName) (replica : ℕ) (store : Store) (x : Stream) (t : TypeName) (q : Option Draft × Stream) → Speaks v x → polled_first replica store x (looked_at (Some t)) ≡ Ok q
+    → Sent v t store x q.1 q.0 ⊎ ((q.0 ≡ None) × (q.1 ≡ x) × (sessions.sending v t (at x.sessions t) (at store t).entries ≡ None))
 poll_is v replica store x t q speaking is = poll_by v replica store x t q (to_send store x t) speaking refl (sym (poll_one replica store x t (to_send store x t) refl) ∙ is)
 
 -- ---- responses under way
@@ -388,3 +393,20 @@ down_answers Delta all test c l x d rest q t down is own linked =
     let rejects : is_some (option_map failure fault) ≡ is_some (fault_at test t d) = some_mapped fault ∙ ap (λ k. is_some (fault_in k test (delta_delivery (delta_message_of e)))) kind ∙ ap (λ y. is_some (fault_at test t y)) (sym made.is) in
     let given = delta_answers all t a (shelf c t) e fault abreast in
     subst (λ (p : Client × Message). (h : HasAnswer variants.Delta t a (session_after t a p.1)) × (h.rejects ≡ is_some (fault_at test t d))) (sym made.left) (given.0, given.1 ∙ rejects)
+
+-- and the client wants what it wanted
+taken_wants : (t : TypeName) (f : Shelf) (d : Delivery) (fault : Option (List ℕ)) → (option_map_or (λ x. rejecting f d) fault (taking t f d)).wants ≡ f.wants
+taken_wants t f d None = refl
+taken_wants t f d (Some x) = refl
+
+shelf_wants : (test : Test) (c : Client) (s t : TypeName) (d : Delivery) → ((s ≡ t) × (is_same_type s t ≡ true)) ⊎ ((s ≢ t) × (is_same_type s t ≡ false)) → (shelf (with_shelf c s (delivered s test (shelf c s) d)) t).wants ≡ (shelf c t).wants
+shelf_wants test c s t d (inl same) =
+    ap (λ r. (at (with_at c.shelves s (delivered s test (shelf c s) d)) r).wants) (sym same.0) ∙ ap (λ (f : Shelf). f.wants) (at-with_at c.shelves s (delivered s test (shelf c s) d)) ∙ taken_wants s (shelf c s) d (fault_in s test d)
+    ∙ ap (λ r. (shelf c r).wants) same.0
+shelf_wants test c s t d (inr other) = ap (λ (f : Shelf). f.wants) (at-with_at_other c.shelves s (delivered s test (shelf c s) d) t (λ e. other.0 (sym e)))
+
+pub received_wants : (k : ClientKind) (test : Test) (c : Client) (d : Draft) (q : Client × Message) (t : TypeName) → received_in test k c d ≡ Some q → (shelf q.0 t).wants ≡ (shelf c t).wants
+received_wants Sotw test c d q t is =
+    let made = sotws.received_is test c d q is in ap (λ p. (shelf p.0 t).wants) made.left ∙ shelf_wants test c made.draft.kind t (sotw_delivery made.draft.kind (message_of made.draft)) (same_type made.draft.kind t)
+received_wants Delta test c d q t is =
+    let made = takes.received_is test c d q is in ap (λ p. (shelf p.0 t).wants) made.left ∙ shelf_wants test c made.draft.kind t (delta_delivery (delta_message_of made.draft)) (same_type made.draft.kind t)
