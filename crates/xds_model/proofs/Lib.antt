@@ -34,3 +34,4 @@ pub mod SettlingEnds
 pub mod SettlingFaults
 pub mod SettlingBlame
 pub mod SettlingFair
+pub mod SettlingSettles

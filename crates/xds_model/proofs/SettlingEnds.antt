@@ -21,7 +21,7 @@ two_responses_suffice test hs put c t more settling = takes_two (IsAtEnd c t) te
 
 -- ---- nothing is under way
 
-link_settled : (w : World) (c : ℕ) (t : TypeName) (l : Link) → link_in w c ≡ Some l → is_settled w c t ≡ is_settled_on w t l
+pub link_settled : (w : World) (c : ℕ) (t : TypeName) (l : Link) → link_in w c ≡ Some l → is_settled w c t ≡ is_settled_on w t l
 link_settled w c t l is =
     let peer = bound_some (λ (p : Peer). p.link) (finmap.get w.peers c) l is in
     ap (λ o. option_map_or (λ (p : Peer). option_map_or (is_settled_on w t) p.link false) o false) peer.1 ∙ ap (λ o. option_map_or (is_settled_on w t) o false) peer.2
