@@ -1,12 +1,12 @@
 -- What a session has refused, and what a client will reject, states what its test refuses: what keeps this of a link.
-use Rattle.std.proofs.Common.{◌≡◌, ◌≢◌, ◌⊎◌, inl, inr, ℕ, suc, ◌+◌, ◌≤◌, List, [], ◌∷◌, ◌++◌, map, Bool, true, false, not, Option, Some, None, Ok, refl, sym, ap, subst, ◌∙◌, append-nil}
+use Rattle.std.proofs.Common.{◌≡◌, ◌≢◌, ◌⊎◌, inl, inr, ℕ, suc, ◌+◌, ◌≤◌, List, [], ◌∷◌, ◌++◌, Bool, true, false, Option, Some, None, Ok, refl, sym, ap, subst, ◌∙◌, append-nil}
 use Rattle.std.specs.Prelude.{if◌then◌else◌, is_some, option_map, ⊤}
 use Rattle.std.specs.Option.{option_map_or}
 use Rattle.std.proofs.lemmas.List.Elements.{Contains-append_left}
 use Rattle.xds_resource.specs.declared.types.TypeName.{TypeName}
 use Rattle.xds_resource.specs.Types.{types, is_same_type}
 use Rattle.xds_resource.specs.Stamps.{max_counter}
-use Rattle.xds_resource.specs.PerType.{at, with_at}
+use Rattle.xds_resource.specs.PerType.{at}
 use Rattle.xds_resource.proofs.TypesApart.{same_type, is_same_type-same, at-with_at, at-with_at_other, at-each}
 use Rattle.xds_interest.specs.Touches.{Touch}
 use Rattle.xds_message.specs.Messages as messages
@@ -16,7 +16,7 @@ use Rattle.xds_ledger.specs.declared.outcome.Outcome.{Outcome}
 use Rattle.xds_ledger.specs.declared.variant.VariantName.{VariantName}
 use Rattle.xds_ledger.specs.declared.variant.VariantName.TheVariants as variants
 use Rattle.xds_ledger.specs.Offers.{Offer}
-use Rattle.xds_ledger.specs.Ledgers.{Account, Sent, settled, answers, answered, accept, reject, touched_since}
+use Rattle.xds_ledger.specs.Ledgers.{Account, Sent, settled, answers, answered, touched_since}
 use Rattle.xds_ledger.specs.Sessions as sessions
 use Rattle.xds_ledger.specs.Sessions.{Session, Answer, Names, unopened, is_taken, taken, send, sotw_names, delta_names}
 use Rattle.xds_ledger.specs.Laws.{with_sent}

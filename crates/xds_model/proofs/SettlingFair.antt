@@ -1,14 +1,12 @@
 -- In every world, what was refused states what the client's test refuses.
-use Rattle.std.proofs.Common.{◌≡◌, ◌≢◌, ◌⊎◌, inl, inr, ℕ, ◌+◌, ◌≤◌, List, [], ◌∷◌, ◌++◌, Bool, true, false, Option, Some, None, Ok, refl, sym, ap, subst, ◌∙◌, arith}
+use Rattle.std.proofs.Common.{◌≡◌, ◌≢◌, inl, inr, ℕ, ◌+◌, ◌≤◌, List, [], ◌∷◌, ◌++◌, true, Option, Some, None, refl, sym, ap, subst, ◌∙◌, arith}
 use Rattle.std.specs.Prelude.{if◌then◌else◌, is_none, is_some, option_map}
-use Rattle.std.specs.Option.{option_and_then, option_map_or}
+use Rattle.std.specs.Option.{option_and_then}
 use Rattle.std.specs.Ordering.{nat_cmp}
 use Rattle.std.specs.Cmp.{nat_cmp_total}
 use Rattle.std.specs.FinMap as finmap
 use Rattle.std.specs.FinMap.{FinMap, nat_cmp-IsAntisymmetric}
 use Rattle.xds_resource.specs.declared.types.TypeName.{TypeName}
-use Rattle.xds_resource.specs.Types.{types}
-use Rattle.xds_resource.specs.PerType.{at}
 use Rattle.xds_catalogue.proofs.Lookups.{get-inserted}
 use Rattle.xds_draft.specs.declared.draft.Draft.{Draft}
 use Rattle.xds_core.specs.Laws.{stream_changed}
@@ -20,13 +18,14 @@ use Rattle.xds_cache.specs.Faults.{Test}
 use Rattle.xds_cache.specs.Clients.{Client, unlinked}
 use Rattle.xds_model.specs.Happenings.{Happening, Wish, AddReplica, AddClient, Put, Delete, Snapshot, Merge, Connect, Change, Up, Poll, Down, Lose}
 use Rattle.xds_model.specs.Worlds.{Site, Link, Peer, World, empty_world, at_site, happened_at, placed, pooled, with_peer, new_peer, connected_to, opened, sending, changed, wish_of, wish_taken, under_way, polled, up_taken, received, taken_down, down_taken, opening_requests, is_free, happens, after}
-use Rattle.xds_model.specs.Knows.{TypedWrite, made_now, made_after}
+use Rattle.xds_model.specs.Knows.{TypedWrite, made_now}
 use Rattle.xds_model.specs.Settling.{link_in}
 use Rattle.xds_model.proofs.Replicas.{some_is, bound_some, mapped_some, if_some, if_both, both_parts, none_there}
 use Rattle.xds_model.proofs.CoreSteps.{open_is}
 use Rattle.xds_model.proofs.Everyone.{stream_at, AtSite, at_site_is, here_at, frame_at, Fine}
 use Rattle.xds_model.proofs.EveryEvent.{link_there, same_peers, pooled_is, same_replica_on, AllSitesKnown}
 use Rattle.xds_model.proofs.SettlingSteps.{Spot, spot_of, link_at, linked_at, at_spot, get_put, at_stream}
+use Rattle.xds_model.proofs.SettlingMoves.{polled_reply}
 use Rattle.xds_model.proofs.SettlingBlame.{FairOn, fair_more, fair_up, fair_poll, fair_down, fair_changed, fair_opened}
 
 -- of every client that is up
@@ -99,9 +98,6 @@ fair_took test w left all c s (m ∷ rest) up is fine fair =
     (subst (FairOn all test next) is_z (fair_up s.peer.kind all test s.peer.client s.link s.stream m rest (x.answer, x.stream) up x.made (linked_at w all c s fine) (fair_here w all test c s fair)))) fair
 
 -- ---- Poll
-
-polled_reply : (c : ℕ) (p : Peer) (l : Link) (reply : Reply) (w left : World) (o : Option Draft) → reply ≡ Polled o → polled c p l (reply, w) ≡ Some left → left ≡ with_peer w c (record p { link = Some (record l { down = l.down ++ under_way o }) })
-polled_reply c p l reply w left o told is = sym (some_is (with_peer w c (record p { link = Some (record l { down = l.down ++ under_way o }) })) left (ap (λ r. polled c p l (r, w)) (sym told) ∙ is))
 
 fair_polled : (test : Test) (w left : World) (all : List TypedWrite) (c : ℕ) (s : Spot w c) (which : Option TypeName) → AllSitesKnown w all → option_and_then (polled c s.peer s.link) (at_site w s.link.replica (events.Poll s.link.stream which)) ≡ Some left → Fine w all
     → IsFairWorld all test w → IsFairWorld all test left

@@ -1,5 +1,5 @@
 -- Why a client rejects a response: its test refuses a resource that the response states, or that resource is too long to be taken.
-use Rattle.std.proofs.Common.{◌≡◌, ◌⊎◌, inl, inr, ℕ, ◌≤◌, ◌<◌, List, [], ◌∷◌, map, length, Bool, true, false, cond, ◌&&◌, ◌||◌, not, Option, Some, None, Ok, refl, sym, ap, subst, ◌∙◌, arith}
+use Rattle.std.proofs.Common.{◌≡◌, ◌⊎◌, inl, inr, ℕ, ◌≤◌, ◌<◌, List, [], ◌∷◌, map, length, Bool, true, false, cond, ◌||◌, not, Option, Some, None, Ok, refl, sym, ap, subst, ◌∙◌, arith}
 use Rattle.std.specs.Prelude.{T, bytes_eq, if◌then◌else◌, is_some, option_map, Contains, ⊤}
 use Rattle.std.specs.Option.{option_or, option_and_then, option_map_or}
 use Rattle.std.specs.Ordering.{is_lt}
@@ -15,7 +15,7 @@ use Rattle.xds_resource.specs.Resources.{NamedBody, IsCanonical, max_text, max_n
 use Rattle.xds_resource.specs.Writes.{StampedWrite, text_cmp, version_of}
 use Rattle.xds_resource.specs.PerType.{PerType, at}
 use Rattle.xds_resource.proofs.Naming.{from_value-from_object}
-use Rattle.xds_resource.proofs.NameMaps.{has_text, get-insert, get-tabulate, bytes_eq_same, bytes_eq_tells, bytes_eq_swap}
+use Rattle.xds_resource.proofs.NameMaps.{has_text, get-insert, get-tabulate, bytes_eq_same, bytes_eq_tells}
 use Rattle.xds_resource.proofs.MadeMaps.{EachFound, each_found, holds_first, holds_second, less_is_no_tie}
 use Rattle.xds_interest.specs.Interests.{Selection, covers}
 use Rattle.xds_catalogue.specs.Holdings.{Holdings, Entries}
@@ -27,7 +27,7 @@ use Rattle.xds_ledger.specs.declared.variant.VariantName.{VariantName}
 use Rattle.xds_ledger.specs.declared.variant.VariantName.TheVariants as variants
 use Rattle.xds_ledger.specs.declared.entry.Due.{Due}
 use Rattle.xds_ledger.specs.declared.entry.Due.TheVariants.{Stated, Removed}
-use Rattle.xds_ledger.specs.Variants.{is_whole, is_told}
+use Rattle.xds_ledger.specs.Variants.{is_whole}
 use Rattle.xds_ledger.specs.Owed.{Beliefs, live_version, present, is_owed, owed_of}
 use Rattle.xds_ledger.specs.Offers.{Offer, offer, stated_version}
 use Rattle.xds_ledger.specs.Sessions as sessions
@@ -38,7 +38,7 @@ use Rattle.xds_delta.specs.Polls as delta
 use Rattle.xds_delta.specs.Polls.{is_statement, is_removal, names_where, resource_of as drafted_of, resource_at}
 use Rattle.xds_core.specs.Stores.{Store}
 use Rattle.xds_core.specs.Streams.{response_of}
-use Rattle.xds_cache.specs.Shelves.{Holding, Cache, Wants, wants_of, marked}
+use Rattle.xds_cache.specs.Shelves.{Cache, Wants, wants_of, marked}
 use Rattle.xds_cache.specs.Faults.{Test, Stated as StatedResource, first_reason, is_misnamed, fault_by, fault_of, and_stated, first_fault, holding_of}
 use Rattle.xds_cache.specs.Deliveries.{sotw_stated, delta_stated, sotw_delivery, delta_delivery, fault_in}
 use Rattle.xds_model.specs.Knows.{TypedWrite}

@@ -28,7 +28,7 @@ use Rattle.xds_model.proofs.Replicas.{some_is, bound_some, mapped_some}
 use Rattle.xds_model.proofs.ByKind.{LinkedAs}
 use Rattle.xds_model.proofs.Everyone.{Fine}
 use Rattle.xds_model.proofs.SettlingSessions.{HasAnswer}
-use Rattle.xds_model.proofs.SettlingSteps.{Spot, spot_of, link_at, linked_at, at_spot, get_put, moved, at_stream, ahead, ahead_more, up_ahead, spoken, speaks, Sent, poll_is, among, none_more, one_more, none_behind, answer_asks, down_answers, received_wants}
+use Rattle.xds_model.proofs.SettlingSteps.{Spot, link_at, linked_at, at_spot, get_put, moved, at_stream, ahead, ahead_more, up_ahead, spoken, speaks, poll_is, among, none_more, one_more, none_behind, answer_asks, down_answers, received_wants}
 
 -- ---- what is done next
 
@@ -130,7 +130,8 @@ up_moved test w y all c t s m rest up is fine =
 
 -- ---- Poll
 
-polled_reply : (c : ℕ) (p : Peer) (l : Link) (reply : Reply) (w left : World) (o : Option Draft) → reply ≡ Polled o → polled c p l (reply, w) ≡ Some left → left ≡ with_peer w c (record p { link = Some (record l { down = l.down ++ under_way o }) })
+-- what a poll of the client's stream leaves
+pub polled_reply : (c : ℕ) (p : Peer) (l : Link) (reply : Reply) (w left : World) (o : Option Draft) → reply ≡ Polled o → polled c p l (reply, w) ≡ Some left → left ≡ with_peer w c (record p { link = Some (record l { down = l.down ++ under_way o }) })
 polled_reply c p l reply w left o told is = sym (some_is (with_peer w c (record p { link = Some (record l { down = l.down ++ under_way o }) })) left (ap (λ r. polled c p l (r, w)) (sym told) ∙ is))
 
 pub poll_moved : (test : Test) (w y : World) (all : List TypedWrite) (c : ℕ) (t : TypeName) (s : Spot w c) → s.link.up ≡ [] → brings t s.link ≡ false → happens test w (Poll c (Some t)) ≡ Some y → Fine w all → Moved w y c t (Poll c (Some t)) s

@@ -1,5 +1,5 @@
 -- A session to which a response of its type was sent: once that was answered, nothing is sent any more by the same entries.
-use Rattle.std.proofs.Common.{◌≡◌, ◌⊎◌, inl, inr, ℕ, List, [], ◌∷◌, Bool, true, false, ◌&&◌, ◌||◌, not, Option, Some, None, refl, sym, ap, subst, ◌∙◌}
+use Rattle.std.proofs.Common.{◌≡◌, ◌⊎◌, inl, inr, ℕ, List, [], Bool, true, false, ◌&&◌, ◌||◌, not, Option, Some, None, refl, sym, ap, subst, ◌∙◌}
 use Rattle.std.specs.Prelude.{bytes_eq, if◌then◌else◌, is_none, is_some, option_map}
 use Rattle.std.specs.Option.{option_map_or}
 use Rattle.std.specs.FinMap as finmap
@@ -12,7 +12,7 @@ use Rattle.xds_resource.proofs.NameMaps.{bytes_eq_same, same_names}
 use Rattle.xds_interest.specs.Interests.{Selection}
 use Rattle.xds_interest.specs.Asked.{Asked, sotw_asked}
 use Rattle.xds_interest.specs.Touched.{exactly_one}
-use Rattle.xds_interest.specs.Touches.{Touch, touches, sotw_touch, delta_touch}
+use Rattle.xds_interest.specs.Touches.{touches, sotw_touch, delta_touch}
 use Rattle.xds_interest.proofs.AskedLaws.{sotw_touch_is_a_set, delta_touch_is_a_set}
 use Rattle.xds_catalogue.specs.Holdings.{Entries}
 use Rattle.xds_message.specs.Messages.{Request}

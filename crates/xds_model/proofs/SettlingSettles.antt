@@ -1,6 +1,6 @@
 -- A client whose test takes all that it is to show of what its replica knows is settled where settling ends.
 use Rattle.std.proofs.Common.{◌≡◌, ◌⊎◌, inl, inr, ℕ, ◌≤◌, List, [], ◌∷◌, ◌++◌, length, Bool, true, false, ◌&&◌, ◌||◌, not, Option, Some, None, refl, sym, ap, subst, ◌∙◌}
-use Rattle.std.specs.Prelude.{if◌then◌else◌, is_none, is_some, option_map, Contains}
+use Rattle.std.specs.Prelude.{if◌then◌else◌, is_none, is_some, option_map}
 use Rattle.std.specs.Option.{option_and_then, option_map_or}
 use Rattle.std.specs.List.{list_any}
 use Rattle.std.specs.FinMap as finmap
@@ -15,11 +15,10 @@ use Rattle.xds_interest.specs.Interests.{covers}
 use Rattle.xds_interest.specs.Asked.{Asked}
 use Rattle.xds_catalogue.specs.Holdings.{Entries}
 use Rattle.xds_catalogue.proofs.Catalogues.{get-catalogue_of}
-use Rattle.xds_draft.specs.declared.draft.Draft.{Draft}
 use Rattle.xds_draft.specs.Drafts.{Drafted, DraftedDelta}
 use Rattle.xds_ledger.specs.declared.variant.VariantName.{VariantName}
 use Rattle.xds_ledger.specs.Owed.{live_version, present}
-use Rattle.xds_ledger.specs.Offers.{Offer, offer, same_offer}
+use Rattle.xds_ledger.specs.Offers.{Offer, same_offer}
 use Rattle.xds_ledger.specs.Ledgers as ledgers
 use Rattle.xds_ledger.specs.Ledgers.{Sent, nonce_text, is_due, is_refused}
 use Rattle.xds_ledger.specs.Sessions as sessions
@@ -34,9 +33,9 @@ use Rattle.xds_model.specs.declared.event.ClientKind.{ClientKind}
 use Rattle.xds_model.specs.declared.event.ClientKind.TheVariants.{Sotw, Delta}
 use Rattle.xds_model.specs.Happenings.{Happening}
 use Rattle.xds_model.specs.Worlds.{Site, Link, Peer, World, empty_world, happens, after, world}
-use Rattle.xds_model.specs.Knows.{TypedWrite, Knowledge, nothing_known, learned, known_after, knows, made_now, made_after, wants, link}
-use Rattle.xds_model.specs.Claims.{holding_of, writes_of, content_at, PutResources, PutsAResource, asks_for, is_quiet, owes_nothing, is_settled_on, is_settled}
-use Rattle.xds_model.specs.Settling.{link_in, gave_nothing, Done, IsAtEnd, TakesAll, SettlesWhereAllIsTaken}
+use Rattle.xds_model.specs.Knows.{TypedWrite, Knowledge, nothing_known, learned, knows, made_now, wants}
+use Rattle.xds_model.specs.Claims.{holding_of, writes_of, PutResources, PutsAResource, asks_for, is_quiet, owes_nothing, is_settled}
+use Rattle.xds_model.specs.Settling.{link_in, gave_nothing, Done, IsAtEnd, SettlesWhereAllIsTaken}
 use Rattle.xds_model.proofs.Replicas.{some_is, bound_some, mapped_some, kept_start}
 use Rattle.xds_model.proofs.Origins.{stamped_start}
 use Rattle.xds_model.proofs.Ranges.{ranged_start, sites_known}
@@ -49,8 +48,7 @@ use Rattle.xds_model.proofs.Settled.{IsUnique, AllStamped, one_write, both_false
 use Rattle.xds_model.proofs.Delivering.{AllKnown, live}
 use Rattle.xds_model.proofs.ByKind.{LinkedAs}
 use Rattle.xds_model.proofs.EveryEvent.{fine_start}
-use Rattle.xds_model.proofs.Everyone.{stream_at}
-use Rattle.xds_model.proofs.Followed.{link_is, wants_are, linked_to, wanted_of}
+use Rattle.xds_model.proofs.Followed.{link_is, wants_are, wanted_of}
 use Rattle.xds_model.proofs.Headline.{Sure, sure as world_sure, sure_after}
 use Rattle.xds_model.proofs.SettlingWalks.{then_there}
 use Rattle.xds_model.proofs.SettlingSessions.{offer_now, never_both}
@@ -58,7 +56,7 @@ use Rattle.xds_model.proofs.SettlingSteps.{Spot, spot_of, link_at, linked_at, ah
 use Rattle.xds_model.proofs.SettlingMoves.{session_at, held_at, puts_nothing, next_moved}
 use Rattle.xds_model.proofs.SettlingPolls.{three_at}
 use Rattle.xds_model.proofs.SettlingEnds.{link_settled, done_if_settled}
-use Rattle.xds_model.proofs.SettlingFaults.{IsBlamed, IsRefused, stated_present, present_version}
+use Rattle.xds_model.proofs.SettlingFaults.{IsBlamed, stated_present, present_version}
 use Rattle.xds_model.proofs.SettlingFair.{IsFairWorld, fair_step, fair_start}
 
 -- ---- worlds as they come

@@ -1,5 +1,5 @@
 -- What each step that settles a client of a type does to the session of the type, and to what is under way of it.
-use Rattle.std.proofs.Common.{◌≡◌, ◌≢◌, ◌⊎◌, inl, inr, ℕ, ◌+◌, List, [], ◌∷◌, ◌++◌, Bool, true, false, ◌||◌, not, Option, Some, None, Result, Ok, Err, refl, sym, ap, subst, ◌∙◌, append-nil}
+use Rattle.std.proofs.Common.{◌≡◌, ◌≢◌, ◌⊎◌, inl, inr, ℕ, ◌+◌, List, [], ◌∷◌, ◌++◌, Bool, true, false, ◌||◌, Option, Some, None, Result, Ok, refl, sym, ap, subst, ◌∙◌, append-nil}
 use Rattle.std.specs.Prelude.{◌==◌, bytes_eq, if◌then◌else◌, is_some, option_map, length}
 use Rattle.std.specs.Option.{option_and_then, option_map_or}
 use Rattle.std.specs.List.{list_any, cons_option}
@@ -15,7 +15,6 @@ use Rattle.xds_resource.specs.Types.{row, type_of_url, is_same_type}
 use Rattle.xds_resource.specs.Stamps.{max_counter}
 use Rattle.xds_resource.specs.PerType.{PerType, at, with_at, each}
 use Rattle.xds_resource.proofs.TypesApart.{same_type, is_same_type-same, at-with_at, at-with_at_other, at-each}
-use Rattle.xds_catalogue.specs.Holdings.{Entries}
 use Rattle.xds_catalogue.proofs.Lookups.{get-inserted}
 use Rattle.xds_message.specs.Messages.{Request}
 use Rattle.xds_message.specs.DeltaMessages.{DeltaRequest}
@@ -32,9 +31,8 @@ use Rattle.xds_ledger.specs.Sessions.{Session, unopened, send}
 use Rattle.xds_core.specs.Stores.{Store}
 use Rattle.xds_core.specs.Streams as streams
 use Rattle.xds_core.specs.Streams.{Stream, Message, url_of, variant_of, is_foreign, session_after, answered_by, answered, requested, to_send, response_of, sending, sent, polled_first, looked_at}
-use Rattle.xds_core.specs.Events as events
-use Rattle.xds_core.specs.Events.{Event, Reply, Answered, Polled}
-use Rattle.xds_core.specs.Steps.{Core, Step, step, stream_step}
+use Rattle.xds_core.specs.Events.{Event, Reply}
+use Rattle.xds_core.specs.Steps.{Core, step, stream_step}
 use Rattle.xds_core.proofs.StepLaws.{unless_once}
 use Rattle.xds_cache.specs.Shelves.{Shelf, texts}
 use Rattle.xds_cache.specs.Faults.{Test}
@@ -46,7 +44,7 @@ use Rattle.xds_model.specs.declared.event.ClientKind.TheVariants.{Sotw, Delta}
 use Rattle.xds_model.specs.Worlds.{Site, Link, Peer, World, recorded, at_site, with_peer, under_way, received_in, on_link}
 use Rattle.xds_model.specs.Knows.{TypedWrite}
 use Rattle.xds_model.specs.Claims.{asks_for}
-use Rattle.xds_model.specs.Settling.{brings, link_in}
+use Rattle.xds_model.specs.Settling.{link_in}
 use Rattle.xds_model.proofs.Replicas.{some_is, bound_some}
 use Rattle.xds_model.proofs.Queues as queues
 use Rattle.xds_model.proofs.Queues.{lane_down}
@@ -60,7 +58,7 @@ use Rattle.xds_model.proofs.SotwLinks as sotws
 use Rattle.xds_model.proofs.SotwSteps.{answer}
 use Rattle.xds_model.proofs.ByKind.{LinkedAs}
 use Rattle.xds_model.proofs.CoreSteps.{stream_step_is}
-use Rattle.xds_model.proofs.Everyone.{AtSite, at_site_is, Fine}
+use Rattle.xds_model.proofs.Everyone.{at_site_is, Fine}
 use Rattle.xds_model.proofs.SettlingSessions.{HasAnswer, delta_answers, sotw_answers}
 use Rattle.xds_model.proofs.SettlingFaults.{fault_at}
 

@@ -121,7 +121,8 @@ abbrev pub QuietAtTheEnd : Test → List Happening → Type 0
 QuietAtTheEnd test hs =
     (c : ℕ) (t : TypeName) (more : List Happening) (l : Link) → IsSettling test c t (world test hs) more → link_in (after test (world test hs) more) c ≡ Some l → is_quiet t l ≡ true
 
--- that a client's test takes what it is to show of these writes where it wants these, and that no such body is too long for it
+-- That a client's test takes what it is to show of these writes where it wants these, and that no such body is too long: a client
+-- refuses a longer one, whatever its test answers.
 abbrev pub TakesAll : Test → TypeName → List StampedWrite → Wants → Type 0
 TakesAll test t ws w =
     (name : List ℕ) (h : Holding) → content_at t ws w name ≡ Some h → (length h.body ≤ max_text) × (test (row t).url name (value_of h.body) ≡ true)
