@@ -27,7 +27,11 @@ pub mod Followed
 pub mod Headline
 pub mod SettlingWalks
 pub mod SettlingSessions
+pub mod SettlingFaults
 pub mod SettlingSteps
 pub mod SettlingMoves
 pub mod SettlingPolls
 pub mod SettlingEnds
+pub mod SettlingBlame
+pub mod SettlingFair
+pub mod SettlingSettles

@@ -1,15 +1,14 @@
 -- Where settling a client of a type ends.
-use Rattle.std.proofs.Common.{◌≡◌, ◌⊎◌, inl, inr, ℕ, List, [], ◌∷◌, ◌++◌, Bool, true, false, ◌&&◌, not, Option, Some, None, refl, sym, ap, subst, ◌∙◌}
+use Rattle.std.proofs.Common.{◌≡◌, inl, inr, ℕ, List, [], ◌∷◌, Bool, true, false, Some, None, refl, sym, ap, subst, ◌∙◌}
 use Rattle.std.specs.Prelude.{if◌then◌else◌, option_map}
-use Rattle.std.specs.Option.{option_and_then, option_map_or}
-use Rattle.std.specs.List.{list_any}
+use Rattle.std.specs.Option.{option_map_or}
 use Rattle.std.specs.FinMap as finmap
 use Rattle.xds_resource.specs.declared.types.TypeName.{TypeName}
 use Rattle.xds_cache.specs.Faults.{Test}
-use Rattle.xds_model.specs.Happenings.{Happening, Up, Poll, Down}
+use Rattle.xds_model.specs.Happenings.{Happening}
 use Rattle.xds_model.specs.Worlds.{World, Link, Peer, happens, after, world}
-use Rattle.xds_model.specs.Claims.{PutResources, asks_for, is_quiet, owes_nothing, is_settled_on, is_settled}
-use Rattle.xds_model.specs.Settling.{brings, next_on, link_in, next_to_settle, gave_nothing, Then, Done, IsAtEnd, IsSettling, TwoResponsesSuffice, QuietAtTheEnd}
+use Rattle.xds_model.specs.Claims.{PutResources, is_quiet, owes_nothing, is_settled_on, is_settled}
+use Rattle.xds_model.specs.Settling.{next_on, link_in, gave_nothing, Done, IsAtEnd, TwoResponsesSuffice, QuietAtTheEnd}
 use Rattle.xds_model.proofs.Replicas.{some_is, bound_some, both_parts}
 use Rattle.xds_model.proofs.SettlingWalks.{then_there}
 use Rattle.xds_model.proofs.SettlingSteps.{Spot, link_at}
@@ -21,7 +20,7 @@ two_responses_suffice test hs put c t more settling = takes_two (IsAtEnd c t) te
 
 -- ---- nothing is under way
 
-link_settled : (w : World) (c : ℕ) (t : TypeName) (l : Link) → link_in w c ≡ Some l → is_settled w c t ≡ is_settled_on w t l
+pub link_settled : (w : World) (c : ℕ) (t : TypeName) (l : Link) → link_in w c ≡ Some l → is_settled w c t ≡ is_settled_on w t l
 link_settled w c t l is =
     let peer = bound_some (λ (p : Peer). p.link) (finmap.get w.peers c) l is in
     ap (λ o. option_map_or (λ (p : Peer). option_map_or (is_settled_on w t) p.link false) o false) peer.1 ∙ ap (λ o. option_map_or (is_settled_on w t) o false) peer.2

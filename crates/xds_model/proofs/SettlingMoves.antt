@@ -14,11 +14,11 @@ use Rattle.xds_ledger.specs.Offers.{Offer}
 use Rattle.xds_ledger.specs.Sessions as sessions
 use Rattle.xds_ledger.specs.Sessions.{Session, send}
 use Rattle.xds_core.specs.Stores.{Store}
-use Rattle.xds_core.specs.Streams.{Message, session_after, requested, polled_first, looked_at}
+use Rattle.xds_core.specs.Streams.{Stream, Message, session_after, requested, polled_first, looked_at}
 use Rattle.xds_core.specs.Events as events
 use Rattle.xds_core.specs.Events.{Reply, Answered, Polled}
 use Rattle.xds_cache.specs.Faults.{Test}
-use Rattle.xds_cache.specs.Clients.{Client}
+use Rattle.xds_cache.specs.Clients.{Client, shelf}
 use Rattle.xds_model.specs.Happenings.{Happening, Up, Poll, Down}
 use Rattle.xds_model.specs.Worlds.{Link, Peer, World, at_site, with_peer, up_taken, under_way, polled, received, taken_down, down_taken, happens}
 use Rattle.xds_model.specs.Knows.{TypedWrite}
@@ -28,7 +28,7 @@ use Rattle.xds_model.proofs.Replicas.{some_is, bound_some, mapped_some}
 use Rattle.xds_model.proofs.ByKind.{LinkedAs}
 use Rattle.xds_model.proofs.Everyone.{Fine}
 use Rattle.xds_model.proofs.SettlingSessions.{HasAnswer}
-use Rattle.xds_model.proofs.SettlingSteps.{Spot, spot_of, link_at, linked_at, at_spot, get_put, moved, at_stream, ahead, up_ahead, spoken, speaks, Sent, poll_is, among, none_more, one_more, none_behind, answer_asks, down_answers}
+use Rattle.xds_model.proofs.SettlingSteps.{Spot, link_at, linked_at, at_spot, get_put, moved, at_stream, ahead, ahead_more, up_ahead, spoken, speaks, poll_is, among, none_more, one_more, none_behind, answer_asks, down_answers, received_wants}
 
 -- ---- what is done next
 
@@ -99,12 +99,15 @@ pub record Sends (w y : World) (c : ℕ) (t : TypeName) (h : Happening) (s : Spo
 
 -- or is polled and sends none
 abbrev pub Ends : (w y : World) (c : ℕ) → TypeName → Happening → Spot w c → Spot y c → Type 0
-Ends w y c t h s z = (taken_now c t w h ≡ 0) × (gave_nothing t h (link_in y c) ≡ true) × (is_quiet t z.link ≡ true)
+Ends w y c t h s z =
+    (taken_now c t w h ≡ 0) × (gave_nothing t h (link_in y c) ≡ true) × (is_quiet t z.link ≡ true) × (session_at y c t z ≡ session_at w c t s)
+    × (sessions.sending (spoken s.peer.kind) t (session_at w c t s) (held_at w c t s) ≡ None)
 
 pub record Moved (w y : World) (c : ℕ) (t : TypeName) (h : Happening) (s : Spot w c) : Type 0 where
   pub spot : Spot y c
   pub kind : spot.peer.kind ≡ s.peer.kind
   pub held : held_at y c t spot ≡ held_at w c t s
+  pub wants : (shelf spot.peer.client t).wants ≡ (shelf s.peer.client t).wants
   pub how : Stays w y c t h s spot ⊎ (Takes w y c t h s spot ⊎ (Sends w y c t h s spot ⊎ Ends w y c t h s spot))
 
 -- ---- Up
@@ -121,12 +124,14 @@ up_moved test w y all c t s m rest up is fine =
       spot = moved w c s.link.replica x.site x.stream after (record s.link { up = rest }) refl refl x.opened;
       kind = refl;
       held = ap (λ (p : Store). (at p t).entries) x.store;
+      wants = refl;
       how = inl (refl, refl, up_ahead s.peer.kind all s.peer.client s.link s.stream t m rest (x.answer, x.stream) up x.made (linked_at w all c s fine), refl, refl);
     })
 
 -- ---- Poll
 
-polled_reply : (c : ℕ) (p : Peer) (l : Link) (reply : Reply) (w left : World) (o : Option Draft) → reply ≡ Polled o → polled c p l (reply, w) ≡ Some left → left ≡ with_peer w c (record p { link = Some (record l { down = l.down ++ under_way o }) })
+-- what a poll of the client's stream leaves
+pub polled_reply : (c : ℕ) (p : Peer) (l : Link) (reply : Reply) (w left : World) (o : Option Draft) → reply ≡ Polled o → polled c p l (reply, w) ≡ Some left → left ≡ with_peer w c (record p { link = Some (record l { down = l.down ++ under_way o }) })
 polled_reply c p l reply w left o told is = sym (some_is (with_peer w c (record p { link = Some (record l { down = l.down ++ under_way o }) })) left (ap (λ r. polled c p l (r, w)) (sym told) ∙ is))
 
 pub poll_moved : (test : Test) (w y : World) (all : List TypedWrite) (c : ℕ) (t : TypeName) (s : Spot w c) → s.link.up ≡ [] → brings t s.link ≡ false → happens test w (Poll c (Some t)) ≡ Some y → Fine w all → Moved w y c t (Poll c (Some t)) s
@@ -147,6 +152,7 @@ poll_moved test w y all c t s up none is fine =
       spot = spot;
       kind = refl;
       held = ap (λ (p : Store). (at p t).entries) x.store;
+      wants = refl;
       how = inr (inr
           (elim (poll_is (spoken s.peer.kind) s.site.core.replica s.site.core.store s.stream t (x.answer, x.stream) (speaks s.peer.kind all s.peer.client s.link s.stream (linked_at w all c s fine)) x.made) [
             | inl sent ↦
@@ -162,7 +168,13 @@ poll_moved test w y all c t s up none is fine =
                 })
             | inr quiet ↦
                 (let none_under : brings t next ≡ false = none_more t s.link.down x.answer quiet.0 ∙ none in
-                inr (refl, told ∙ ap not none_under, λ i. not (list_any (asks_for t) (up i)) && not (none_under i)))
+                inr (
+                  refl,
+                  told ∙ ap not none_under,
+                  (λ i. not (list_any (asks_for t) (up i)) && not (none_under i)),
+                  behind ∙ ap (λ (z : Stream). at z.sessions t) quiet.1 ∙ sym here,
+                  ap (λ a. sessions.sending (spoken s.peer.kind) t a (at s.site.core.store t).entries) here ∙ quiet.2,
+                ))
           ]));
     })
 
@@ -180,41 +192,38 @@ down_spot w c s rest q = record {
   opened = s.opened;
 }
 
-down_how : (test : Test) (w : World) (all : List TypedWrite) (c : ℕ) (t : TypeName) (s : Spot w c) (d : Draft) (rest : List Draft) (q : Client × Message) (own : Bool) → s.link.up ≡ [] → s.link.down ≡ d ∷ rest → received test s.peer d ≡ Some q
-    → is_same_type (kind_of d) t ≡ own → taken_now c t w (Down c) ≡ (if own then 1 else 0) → session_at w c t s ≡ at s.stream.sessions t
-    → ahead t (at s.stream.sessions t) (s.link.up ++ q.1 ∷ []) ≡ (if own then session_after t (at s.stream.sessions t) q.1 else at s.stream.sessions t) → brings t s.link ≡ (own || among t rest) → LinkedAs s.peer.kind all s.peer.client s.link s.stream
+down_how : (test : Test) (w : World) (all : List TypedWrite) (c : ℕ) (t : TypeName) (s : Spot w c) (d : Draft) (rest : List Draft) (q : Client × Message) (own : Bool) → s.link.down ≡ d ∷ rest → received test s.peer d ≡ Some q → is_same_type (kind_of d) t ≡ own
+    → taken_now c t w (Down c) ≡ (if own then 1 else 0) → ahead t (at s.stream.sessions t) (s.link.up ++ q.1 ∷ []) ≡ (if own then session_after t (session_at w c t s) q.1 else session_at w c t s) → brings t s.link ≡ (own || among t rest)
+    → LinkedAs s.peer.kind all s.peer.client s.link s.stream
     → let y = with_peer w c (taken_down s.peer s.link rest q) in
     let z = down_spot w c s rest q in
     Stays w y c t (Down c) s z ⊎ (Takes w y c t (Down c) s z ⊎ (Sends w y c t (Down c) s z ⊎ Ends w y c t (Down c) s z))
-down_how test w all c t s d rest q true up down is kind takes here behind before linked =
-    let was : Session = at s.stream.sessions t in
+down_how test w all c t s d rest q true down is kind takes after before linked =
     inr (inl (
       refl,
       takes,
-      subst (λ a. HasAnswer (spoken s.peer.kind) t a (ahead t was (s.link.up ++ q.1 ∷ []))) (sym here)
-          (subst (HasAnswer (spoken s.peer.kind) t was) (sym behind) (down_answers s.peer.kind all test s.peer.client s.link s.stream d rest q t up down is kind linked)),
+      subst (HasAnswer (spoken s.peer.kind) t (session_at w c t s)) (sym after) (down_answers s.peer.kind all test s.peer.client s.link s.stream d rest q t down is kind linked).0,
       before,
       none_behind s.peer.kind all s.peer.client s.link s.stream t d rest down kind linked,
       refl,
     ))
-down_how test w all c t s d rest q false up down is kind takes here behind before linked = inl (refl, takes, behind ∙ sym here, sym before, refl)
+down_how test w all c t s d rest q false down is kind takes after before linked = inl (refl, takes, after, sym before, refl)
 
-down_by : (test : Test) (w : World) (all : List TypedWrite) (c : ℕ) (t : TypeName) (s : Spot w c) (d : Draft) (rest : List Draft) (q : Client × Message) (own : Bool) → s.link.up ≡ [] → s.link.down ≡ d ∷ rest → received test s.peer d ≡ Some q
-    → is_same_type (kind_of d) t ≡ own → Fine w all → Moved w (with_peer w c (taken_down s.peer s.link rest q)) c t (Down c) s
-down_by test w all c t s d rest q own up down is kind fine =
-    let was : Session = at s.stream.sessions t in
-    let here : session_at w c t s ≡ was = ap (ahead t was) up in
+down_by : (test : Test) (w : World) (all : List TypedWrite) (c : ℕ) (t : TypeName) (s : Spot w c) (d : Draft) (rest : List Draft) (q : Client × Message) (own : Bool) → s.link.down ≡ d ∷ rest → received test s.peer d ≡ Some q → is_same_type (kind_of d) t ≡ own → Fine w all
+    → Moved w (with_peer w c (taken_down s.peer s.link rest q)) c t (Down c) s
+down_by test w all c t s d rest q own down is kind fine =
     let asks : asks_for t q.1 ≡ own = answer_asks s.peer.kind test s.peer.client d q t is ∙ kind in
-    let behind : ahead t was (s.link.up ++ q.1 ∷ []) ≡ (if own then session_after t was q.1 else was) = ap (λ ms. ahead t was (ms ++ q.1 ∷ [])) up ∙ ap (λ b. if b then session_after t was q.1 else was) asks in
+    let after : ahead t (at s.stream.sessions t) (s.link.up ++ q.1 ∷ []) ≡ (if own then session_after t (session_at w c t s) q.1 else session_at w c t s) =
+    ahead_more t (at s.stream.sessions t) s.link.up q.1 ∙ ap (λ b. if b then session_after t (session_at w c t s) q.1 else session_at w c t s) asks in
     let takes : taken_now c t w (Down c) ≡ (if own then 1 else 0) = ap (λ o. option_map_or (λ (l : Link). takes_one t l.down) o 0) (link_at w c s) ∙ ap (takes_one t) down ∙ ap (λ b. if b then 1 else 0) kind in
     let before : brings t s.link ≡ (own || among t rest) = ap (among t) down ∙ ap (λ b. b || among t rest) kind in
-    record { spot = down_spot w c s rest q; kind = refl; held = refl; how = down_how test w all c t s d rest q own up down is kind takes here behind before (linked_at w all c s fine) }
+    record { spot = down_spot w c s rest q; kind = refl; held = refl; wants = received_wants s.peer.kind test s.peer.client d q t is; how = down_how test w all c t s d rest q own down is kind takes after before (linked_at w all c s fine) }
 
-down_moved : (test : Test) (w y : World) (all : List TypedWrite) (c : ℕ) (t : TypeName) (s : Spot w c) (ds : List Draft) → s.link.up ≡ [] → s.link.down ≡ ds → down_taken test w c s.peer s.link ds ≡ Some y → Fine w all → Moved w y c t (Down c) s
-down_moved test w y all c t s [] up down is fine = absurd cc
-down_moved test w y all c t s (d ∷ rest) up down is fine =
+down_moved : (test : Test) (w y : World) (all : List TypedWrite) (c : ℕ) (t : TypeName) (s : Spot w c) (ds : List Draft) → s.link.down ≡ ds → down_taken test w c s.peer s.link ds ≡ Some y → Fine w all → Moved w y c t (Down c) s
+down_moved test w y all c t s [] down is fine = absurd cc
+down_moved test w y all c t s (d ∷ rest) down is fine =
     let made = mapped_some (λ q. with_peer w c (taken_down s.peer s.link rest q)) (received test s.peer d) y is in
-    subst (λ k. Moved w k c t (Down c) s) (sym made.2) (down_by test w all c t s d rest made.0 (is_same_type (kind_of d) t) up down made.1 refl fine)
+    subst (λ k. Moved w k c t (Down c) s) (sym made.2) (down_by test w all c t s d rest made.0 (is_same_type (kind_of d) t) down made.1 refl fine)
 
 -- ---- each of the three
 
@@ -222,5 +231,5 @@ pub next_moved : (test : Test) (w y : World) (all : List TypedWrite) (c : ℕ) (
 next_moved test w y all c t h s (inl up) is fine = subst (λ k. Moved w y c t k s) (sym up.3) (up_moved test w y all c t s up.0 up.1 up.2 (ap (happens test w) (sym up.3) ∙ is) fine)
 next_moved test w y all c t h s (inr (inl down)) is fine =
     subst (λ k. Moved w y c t k s) (sym down.1)
-    (down_moved test w y all c t s s.link.down down.0 refl (at_spot w c (λ p l. down_taken test w c p l l.down) y s (ap (happens test w) (sym down.1) ∙ is)) fine)
+    (down_moved test w y all c t s s.link.down refl (at_spot w c (λ p l. down_taken test w c p l l.down) y s (ap (happens test w) (sym down.1) ∙ is)) fine)
 next_moved test w y all c t h s (inr (inr poll)) is fine = subst (λ k. Moved w y c t k s) (sym poll.2) (poll_moved test w y all c t s poll.0 poll.1 (ap (happens test w) (sym poll.2) ∙ is) fine)

@@ -1,15 +1,15 @@
 -- Settling a client of a type takes at most two of its responses, and the second poll is the last.
-use Rattle.std.proofs.Common.{◌≡◌, ◌⊎◌, inl, inr, ℕ, ◌+◌, ◌≤◌, List, [], ◌∷◌, ◌++◌, Bool, true, false, ◌||◌, Option, Some, None, refl, sym, ap, subst, ◌∙◌, arith, append-nil}
+use Rattle.std.proofs.Common.{◌≡◌, inl, inr, ℕ, ◌+◌, ◌≤◌, List, [], ◌∷◌, ◌++◌, Bool, true, false, ◌||◌, Option, Some, None, refl, sym, ap, subst, ◌∙◌, arith, append-nil}
 use Rattle.std.specs.Prelude.{if◌then◌else◌}
 use Rattle.std.specs.Option.{option_map_or}
 use Rattle.std.specs.List.{list_any}
 use Rattle.xds_resource.specs.declared.types.TypeName.{TypeName}
 use Rattle.xds_cache.specs.Faults.{Test}
 use Rattle.xds_model.specs.Happenings.{Happening, Poll}
-use Rattle.xds_model.specs.Worlds.{World, empty_world, happens, after, world}
+use Rattle.xds_model.specs.Worlds.{World, empty_world, happens, world}
 use Rattle.xds_model.specs.Knows.{TypedWrite, Knowledge, nothing_known, known_after, made_after}
 use Rattle.xds_model.specs.Claims.{PutResources}
-use Rattle.xds_model.specs.Settling.{brings, link_in, next_to_settle, gave_nothing, Then, Done, taken_now, responses_taken}
+use Rattle.xds_model.specs.Settling.{brings, link_in, next_to_settle, gave_nothing, Done, taken_now, responses_taken}
 use Rattle.xds_model.proofs.Headline.{Sure, sure, sure_after}
 use Rattle.xds_model.proofs.SettlingWalks.{Walked, then_there, walked_then}
 use Rattle.xds_model.proofs.SettlingSessions.{IsReady, never_both, ready_sends_none, waits_once_sent, done_once_answered}

@@ -1,5 +1,5 @@
 -- A session to which a response of its type was sent: once that was answered, nothing is sent any more by the same entries.
-use Rattle.std.proofs.Common.{◌≡◌, ◌⊎◌, inl, inr, ℕ, List, [], ◌∷◌, Bool, true, false, ◌&&◌, ◌||◌, not, Option, Some, None, refl, sym, ap, subst, ◌∙◌}
+use Rattle.std.proofs.Common.{◌≡◌, ◌⊎◌, inl, inr, ℕ, List, [], Bool, true, false, ◌&&◌, ◌||◌, not, Option, Some, None, refl, sym, ap, subst, ◌∙◌}
 use Rattle.std.specs.Prelude.{bytes_eq, if◌then◌else◌, is_none, is_some, option_map}
 use Rattle.std.specs.Option.{option_map_or}
 use Rattle.std.specs.FinMap as finmap
@@ -12,7 +12,7 @@ use Rattle.xds_resource.proofs.NameMaps.{bytes_eq_same, same_names}
 use Rattle.xds_interest.specs.Interests.{Selection}
 use Rattle.xds_interest.specs.Asked.{Asked, sotw_asked}
 use Rattle.xds_interest.specs.Touched.{exactly_one}
-use Rattle.xds_interest.specs.Touches.{Touch, touches, sotw_touch, delta_touch}
+use Rattle.xds_interest.specs.Touches.{touches, sotw_touch, delta_touch}
 use Rattle.xds_interest.proofs.AskedLaws.{sotw_touch_is_a_set, delta_touch_is_a_set}
 use Rattle.xds_catalogue.specs.Holdings.{Entries}
 use Rattle.xds_message.specs.Messages.{Request}
@@ -113,7 +113,7 @@ done_once_answered v t s after m waits answer =
     let account : after.account ≡ answered v t s.account (record { offer = offer_now v t s m; touched = [] }) answer.rejects = answer.account ∙ ap (λ x. answered v t s.account x answer.rejects) sent in
     subst (λ (x : Session). IsDone v t x m) (λ i. record { asked = sym answer.asked i; account = sym account i }) (done_by v t s m answer.rejects)
 
-answered_quiet : (v : VariantName) (t : TypeName) (a : Account) (sent : Sent) (rejects : Bool) → (answered v t a sent rejects).sent ≡ None
+pub answered_quiet : (v : VariantName) (t : TypeName) (a : Account) (sent : Sent) (rejects : Bool) → (answered v t a sent rejects).sent ≡ None
 answered_quiet v t a sent true = refl
 answered_quiet v t a sent false = refl
 
@@ -143,20 +143,23 @@ delta_asks : (t : TypeName) (s : Session) (f : Shelf) (sent : Sent) → s.accoun
 delta_asks t s f sent has (inl asked) = asked.1
 delta_asks t s f sent has (inr never) = let nothing : None ≡ Some sent = ap (λ x. x.account.sent) (sym never.1) ∙ has in absurd cc
 
-pub delta_answers : (all : List TypedWrite) (t : TypeName) (s : Session) (f : Shelf) (d : DraftedDelta) (fault : Option (List ℕ)) → deltas.Abreast all t s (Some d) f → HasAnswer Delta t s (delta_take t s (delta_answer t d.nonce fault))
+pub delta_answers : (all : List TypedWrite) (t : TypeName) (s : Session) (f : Shelf) (d : DraftedDelta) (fault : Option (List ℕ)) → deltas.Abreast all t s (Some d) f
+    → (h : HasAnswer Delta t s (delta_take t s (delta_answer t d.nonce fault))) × (h.rejects ≡ is_some (option_map failure fault))
 delta_answers all t s f d fault lane =
     let m : DeltaRequest = delta_answer t d.nonce fault in
     let sent = deltas.awaited all t s.account.nonce s.account.sent f.wants d lane.awaits in
     let asked : s.asked ≡ asking t f.wants = delta_asks t s f sent.0 sent.1 lane.asks in
-    let same : bytes_eq d.nonce (nonce_text s.account.nonce) ≡ true = ap (λ x. bytes_eq x (nonce_text s.account.nonce)) sent.2.nonce ∙ bytes_eq_same (nonce_text s.account.nonce) in
-    record {
-      sent = sent.0;
-      rejects = is_some (option_map failure fault);
-      has = sent.1;
-      asked = (deltas.after_answer t f.wants s d.nonce fault sent.0 asked sent.1 same).asked ∙ sym asked;
-      account = ap (λ x. x.account) (take_is t s m (taken_if_sent s d.nonce sent.0 sent.1))
-          ∙ answers_alone Delta t s (answer_in m) (delta_names t s.asked (mention m) finmap.empty) sent.0 sent.1 same (delta_untouched t) (no_versions s.asked.begun);
-    }
+    let same : bytes_eq d.nonce (nonce_text s.account.nonce) ≡ true = ap (λ x. bytes_eq x (nonce_text s.account.nonce)) sent.2.nonce ∙ bytes_eq_same (nonce_text s.account.nonce) in (
+      record {
+        sent = sent.0;
+        rejects = is_some (option_map failure fault);
+        has = sent.1;
+        asked = (deltas.after_answer t f.wants s d.nonce fault sent.0 asked sent.1 same).asked ∙ sym asked;
+        account = ap (λ x. x.account) (take_is t s m (taken_if_sent s d.nonce sent.0 sent.1))
+            ∙ answers_alone Delta t s (answer_in m) (delta_names t s.asked (mention m) finmap.empty) sent.0 sent.1 same (delta_untouched t) (no_versions s.asked.begun);
+      },
+      refl,
+    )
 
 -- ---- and of one of the state of the world
 
@@ -168,7 +171,7 @@ listed_again : (s : Selection) (q : List ℕ) → touches (sotw_touch s s) q ≡
 listed_again s q = sotw_touch_is_a_set s s q ∙ (λ i. same_twice s.star i || same_twice (set.contains s.names q) i)
 
 pub sotw_answers : (all : List TypedWrite) (t : TypeName) (s : Session) (f : Shelf) (d : Drafted) (m : Request) → m.resource_names ≡ texts f.wants → m.response_nonce ≡ d.nonce → sotws.Abreast all t s (Some d) f
-    → HasAnswer StateOfTheWorld t s (sotw_take t s m)
+    → (h : HasAnswer StateOfTheWorld t s (sotw_take t s m)) × (h.rejects ≡ is_some m.error_detail)
 sotw_answers all t s f d m lists nonce lane =
     let names : Names = names_of t s.asked m in
     let sent = sotws.awaited all t s.account.nonce s.account.sent f.wants f.nonce d lane.awaits in
@@ -176,11 +179,13 @@ sotw_answers all t s f d m lists nonce lane =
     let same : bytes_eq m.response_nonce (nonce_text s.account.nonce) ≡ true = ap (λ x. bytes_eq x (nonce_text s.account.nonce)) (nonce ∙ sent.2.nonce) ∙ bytes_eq_same (nonce_text s.account.nonce) in
     let after : names.asked ≡ naming t f.wants = λ i. sotw_asked t (asked i) (lists i) in
     let untouched : (q : List ℕ) → touches names.touched q ≡ false =
-    λ q. ap (λ (a : Asked). touches (sotw_touch a.interest names.asked.interest) q) asked ∙ ap (λ (a : Asked). touches (sotw_touch (interest t f.wants) a.interest) q) after ∙ listed_again (interest t f.wants) q in
-    record {
-      sent = sent.0;
-      rejects = is_some m.error_detail;
-      has = sent.1;
-      asked = (sotws.after_answer t f.wants s m sent.0 lists asked sent.1 same).asked ∙ sym asked;
-      account = ap (λ x. x.account) (sotw_take_is t s m (taken_if_sent s m.response_nonce sent.0 sent.1)) ∙ answers_alone StateOfTheWorld t s (answer_of m) names sent.0 sent.1 same untouched refl;
-    }
+    λ q. ap (λ (a : Asked). touches (sotw_touch a.interest names.asked.interest) q) asked ∙ ap (λ (a : Asked). touches (sotw_touch (interest t f.wants) a.interest) q) after ∙ listed_again (interest t f.wants) q in (
+      record {
+        sent = sent.0;
+        rejects = is_some m.error_detail;
+        has = sent.1;
+        asked = (sotws.after_answer t f.wants s m sent.0 lists asked sent.1 same).asked ∙ sym asked;
+        account = ap (λ x. x.account) (sotw_take_is t s m (taken_if_sent s m.response_nonce sent.0 sent.1)) ∙ answers_alone StateOfTheWorld t s (answer_of m) names sent.0 sent.1 same untouched refl;
+      },
+      refl,
+    )

@@ -1,8 +1,8 @@
 -- What each step that settles a client of a type does to the session of the type, and to what is under way of it.
-use Rattle.std.proofs.Common.{◌≡◌, ◌≢◌, ◌⊎◌, inl, inr, ℕ, ◌+◌, List, [], ◌∷◌, ◌++◌, Bool, true, false, ◌||◌, not, Option, Some, None, Result, Ok, Err, refl, sym, ap, subst, ◌∙◌, append-nil}
+use Rattle.std.proofs.Common.{◌≡◌, ◌≢◌, ◌⊎◌, inl, inr, ℕ, ◌+◌, List, [], ◌∷◌, ◌++◌, Bool, true, false, ◌||◌, Option, Some, None, Result, Ok, refl, sym, ap, subst, ◌∙◌, append-nil}
 use Rattle.std.specs.Prelude.{◌==◌, bytes_eq, if◌then◌else◌, is_some, option_map, length}
 use Rattle.std.specs.Option.{option_and_then, option_map_or}
-use Rattle.std.specs.List.{list_any}
+use Rattle.std.specs.List.{list_any, cons_option}
 use Rattle.std.specs.Ordering.{nat_cmp}
 use Rattle.std.specs.Cmp.{nat_cmp_total}
 use Rattle.std.specs.FinMap as finmap
@@ -14,9 +14,10 @@ use Rattle.xds_resource.specs.declared.refusal.Refusal.TheVariants.{BadMessage, 
 use Rattle.xds_resource.specs.Types.{row, type_of_url, is_same_type}
 use Rattle.xds_resource.specs.Stamps.{max_counter}
 use Rattle.xds_resource.specs.PerType.{PerType, at, with_at, each}
-use Rattle.xds_resource.proofs.TypesApart.{same_type, is_same_type-same, at-with_at, at-with_at_other}
-use Rattle.xds_catalogue.specs.Holdings.{Entries}
+use Rattle.xds_resource.proofs.TypesApart.{same_type, is_same_type-same, at-with_at, at-with_at_other, at-each}
 use Rattle.xds_catalogue.proofs.Lookups.{get-inserted}
+use Rattle.xds_message.specs.Messages.{Request}
+use Rattle.xds_message.specs.DeltaMessages.{DeltaRequest}
 use Rattle.xds_draft.specs.declared.draft.Draft.{Draft}
 use Rattle.xds_draft.specs.declared.draft.Draft.TheVariants as drafts
 use Rattle.xds_draft.specs.Drafts.{Drafted, DraftedDelta, message_of, delta_message_of}
@@ -30,20 +31,20 @@ use Rattle.xds_ledger.specs.Sessions.{Session, unopened, send}
 use Rattle.xds_core.specs.Stores.{Store}
 use Rattle.xds_core.specs.Streams as streams
 use Rattle.xds_core.specs.Streams.{Stream, Message, url_of, variant_of, is_foreign, session_after, answered_by, answered, requested, to_send, response_of, sending, sent, polled_first, looked_at}
-use Rattle.xds_core.specs.Events as events
-use Rattle.xds_core.specs.Events.{Event, Reply, Answered, Polled}
-use Rattle.xds_core.specs.Steps.{Core, Step, step, stream_step}
+use Rattle.xds_core.specs.Events.{Event, Reply}
+use Rattle.xds_core.specs.Steps.{Core, step, stream_step}
 use Rattle.xds_core.proofs.StepLaws.{unless_once}
 use Rattle.xds_cache.specs.Shelves.{Shelf, texts}
 use Rattle.xds_cache.specs.Faults.{Test}
-use Rattle.xds_cache.specs.Clients.{Client, shelf}
-use Rattle.xds_cache.specs.Deliveries.{sotw_delivery, delta_delivery, fault_in, taking, rejecting}
+use Rattle.xds_cache.specs.Clients.{Client, shelf, with_shelf}
+use Rattle.xds_cache.specs.Deliveries.{Delivery, sotw_delivery, delta_delivery, fault_in, taking, rejecting, delivered}
+use Rattle.xds_cache.specs.Sends.{failure}
 use Rattle.xds_model.specs.declared.event.ClientKind.{ClientKind}
 use Rattle.xds_model.specs.declared.event.ClientKind.TheVariants.{Sotw, Delta}
 use Rattle.xds_model.specs.Worlds.{Site, Link, Peer, World, recorded, at_site, with_peer, under_way, received_in, on_link}
 use Rattle.xds_model.specs.Knows.{TypedWrite}
 use Rattle.xds_model.specs.Claims.{asks_for}
-use Rattle.xds_model.specs.Settling.{brings, link_in}
+use Rattle.xds_model.specs.Settling.{link_in}
 use Rattle.xds_model.proofs.Replicas.{some_is, bound_some}
 use Rattle.xds_model.proofs.Queues as queues
 use Rattle.xds_model.proofs.Queues.{lane_down}
@@ -57,8 +58,9 @@ use Rattle.xds_model.proofs.SotwLinks as sotws
 use Rattle.xds_model.proofs.SotwSteps.{answer}
 use Rattle.xds_model.proofs.ByKind.{LinkedAs}
 use Rattle.xds_model.proofs.CoreSteps.{stream_step_is}
-use Rattle.xds_model.proofs.Everyone.{AtSite, at_site_is, Fine}
+use Rattle.xds_model.proofs.Everyone.{at_site_is, Fine}
 use Rattle.xds_model.proofs.SettlingSessions.{HasAnswer, delta_answers, sotw_answers}
+use Rattle.xds_model.proofs.SettlingFaults.{fault_at}
 
 -- ---- where a client is
 
@@ -151,6 +153,10 @@ abbrev pub ahead : TypeName → Session → List Message → Session
 ahead t s [] = s
 ahead t s (m ∷ ms) = ahead t (if asks_for t m then session_after t s m else s) ms
 
+pub ahead_more : (t : TypeName) (s : Session) (ms : List Message) (m : Message) → ahead t s (ms ++ m ∷ []) ≡ (if asks_for t m then session_after t (ahead t s ms) m else ahead t s ms)
+ahead_more t s [] m = refl
+ahead_more t s (x ∷ ms) m = ahead_more t (if asks_for t x then session_after t s x else s) ms m
+
 pub requested_is : (x : Stream) (s : TypeName) (m : Message) (z : Outcome × Stream) → url_of m ≡ (row s).url → requested x m ≡ Ok z → z.1.sessions ≡ with_at x.sessions s (session_after s (at x.sessions s) m)
 requested_is x s m z url is =
     let made = taken_by (is_foreign x m) x (variant_of m) (answered x.sessions m) z is in
@@ -194,7 +200,7 @@ pub speaks : (k : ClientKind) (all : List TypedWrite) (c : Client) (l : Link) (x
 speaks Sotw all c l x linked = linked.variant
 speaks Delta all c l x linked = linked.variant
 
-due_as : (v : VariantName) (store : Store) (x : Stream) (t : TypeName) (o : Offer) → Speaks v x → to_send store x t ≡ Some o → (x.variant ≡ Some v) × (sessions.sending v t (at x.sessions t) (at store t).entries ≡ Some o)
+pub due_as : (v : VariantName) (store : Store) (x : Stream) (t : TypeName) (o : Offer) → Speaks v x → to_send store x t ≡ Some o → (x.variant ≡ Some v) × (sessions.sending v t (at x.sessions t) (at store t).entries ≡ Some o)
 due_as v store x t o (inl fresh) due = let never : None ≡ Some o = sym (ap (option_and_then (λ k. sessions.sending k t (at x.sessions t) (at store t).entries)) fresh.0) ∙ due in absurd cc
 due_as v store x t o (inr is) due = (is, sym (ap (option_and_then (λ k. sessions.sending k t (at x.sessions t) (at store t).entries)) is) ∙ due)
 
@@ -221,9 +227,13 @@ kind_is replica store ss t o n variants.Delta = refl
 ok_is : (p q : Option Draft × Stream) → ◌≡◌ {A = Result (Option Draft × Stream) Refusal} (Ok p) (Ok q) → q ≡ p
 ok_is p q e = cc
 
+not_due : (v : VariantName) (store : Store) (x : Stream) (t : TypeName) → Speaks v x → to_send store x t ≡ None → sessions.sending v t (at x.sessions t) (at store t).entries ≡ None
+not_due v store x t (inl fresh) none = ap (λ s. sessions.sending v t s (at store t).entries) (ap (λ p. at p t) fresh.1 ∙ at-each unopened t)
+not_due v store x t (inr is) none = sym (ap (option_and_then (λ k. sessions.sending k t (at x.sessions t) (at store t).entries)) is) ∙ none
+
 poll_by : (v : VariantName) (replica : ℕ) (store : Store) (x : Stream) (t : TypeName) (q : Option Draft × Stream) (o : Option Offer) → Speaks v x → to_send store x t ≡ o → option_map_or (sending replica store x t) o (Ok (None, x)) ≡ Ok q
-    → Sent v t store x q.1 q.0 ⊎ ((q.0 ≡ None) × (q.1 ≡ x))
-poll_by v replica store x t q None speaking due is = let same = ok_is (None, x) q is in inr (ap (λ p. p.0) same, ap (λ p. p.1) same)
+    → Sent v t store x q.1 q.0 ⊎ ((q.0 ≡ None) × (q.1 ≡ x) × (sessions.sending v t (at x.sessions t) (at store t).entries ≡ None))
+poll_by v replica store x t q None speaking due is = let same = ok_is (None, x) q is in inr (ap (λ p. p.0) same, ap (λ p. p.1) same, not_due v store x t speaking due)
 poll_by v replica store x t q (Some o) speaking due is =
     let facts = due_as v store x t o speaking due in
     let same : q ≡ (option_map (response_of replica store x.sessions t o (x.count + 1)) x.variant, sent x t o) =
@@ -239,7 +249,8 @@ poll_by v replica store x t q (Some o) speaking due is =
       kind = kind_is replica store x.sessions t o (x.count + 1) v;
     })
 
-pub poll_is : (v : VariantName) (replica : ℕ) (store : Store) (x : Stream) (t : TypeName) (q : Option Draft × Stream) → Speaks v x → polled_first replica store x (looked_at (Some t)) ≡ Ok q → Sent v t store x q.1 q.0 ⊎ ((q.0 ≡ None) × (q.1 ≡ x))
+pub poll_is : (v : VariantName) (replica : ℕ) (store : Store) (x : Stream) (t : TypeName) (q : Option Draft × Stream) → Speaks v x → polled_first replica store x (looked_at (Some t)) ≡ Ok q
+    → Sent v t store x q.1 q.0 ⊎ ((q.0 ≡ None) × (q.1 ≡ x) × (sessions.sending v t (at x.sessions t) (at store t).entries ≡ None))
 poll_is v replica store x t q speaking is = poll_by v replica store x t q (to_send store x t) speaking refl (sym (poll_one replica store x t (to_send store x t) refl) ∙ is)
 
 -- ---- responses under way
@@ -272,7 +283,7 @@ no_lane : (t : TypeName) (ds : List Draft) → lane_down t ds ≡ [] → among t
 no_lane t [] none = refl
 no_lane t (d ∷ ds) none = none_first t d ds (is_same_type (kind_of d) t) refl none (no_lane t ds)
 
-last_one : (d : Draft) (ds : List Draft) (o : Option Draft) → d ∷ ds ≡ under_way o → ds ≡ []
+pub last_one : (d : Draft) (ds : List Draft) (o : Option Draft) → d ∷ ds ≡ under_way o → ds ≡ []
 last_one d ds None is = absurd cc
 last_one d ds (Some e) is = tail_is d e ds [] is
   where
@@ -311,7 +322,7 @@ delta_down d rest (Some e) is = ap Some (sym (draft_is (head_is (drafts.Delta d)
     draft_is : {x y : DraftedDelta} → drafts.Delta x ≡ drafts.Delta y → x ≡ y
     draft_is e = cc
 
-first_down : (t : TypeName) (d : Draft) (rest ds : List Draft) → ds ≡ d ∷ rest → is_same_type (kind_of d) t ≡ true → lane_down t ds ≡ d ∷ lane_down t rest
+pub first_down : (t : TypeName) (d : Draft) (rest ds : List Draft) → ds ≡ d ∷ rest → is_same_type (kind_of d) t ≡ true → lane_down t ds ≡ d ∷ lane_down t rest
 first_down t d rest ds is own = ap (lane_down t) is ∙ ap (λ b. if b then d ∷ lane_down t rest else lane_down t rest) own
 
 kind_same : (s t : TypeName) → is_same_type s t ≡ true → ((s ≡ t) × (is_same_type s t ≡ true)) ⊎ ((s ≢ t) × (is_same_type s t ≡ false)) → s ≡ t
@@ -322,26 +333,78 @@ kept_wants : (t : TypeName) (f : Shelf) (d : Drafted) (fault : Option (List ℕ)
 kept_wants t f d None = (refl, refl)
 kept_wants t f d (Some x) = (refl, refl)
 
+delta_first : (t : TypeName) (s : Session) (q : DeltaRequest) (ms : List Message) (asks : Bool) → asks_for t (streams.Delta q) ≡ asks → ((k : Session) → folded t k (queues.lane_up t ms) ≡ ahead t k ms)
+    → folded t s (queues.lane_up t (streams.Delta q ∷ ms)) ≡ ahead t s (streams.Delta q ∷ ms)
+delta_first t s q ms true is later =
+    ap (λ b. folded t s (cons_option (if b then Some q else None) (queues.lane_up t ms))) is ∙ later (session_after t s (streams.Delta q)) ∙ ap (λ b. ahead t (if b then session_after t s (streams.Delta q) else s) ms) (sym is)
+delta_first t s q ms false is later = ap (λ b. folded t s (cons_option (if b then Some q else None) (queues.lane_up t ms))) is ∙ later s ∙ ap (λ b. ahead t (if b then session_after t s (streams.Delta q) else s) ms) (sym is)
+
+some_mapped : (o : Option (List ℕ)) → is_some (option_map failure o) ≡ is_some o
+some_mapped None = refl
+some_mapped (Some x) = refl
+
+-- the session ahead of requests of one variant is as they leave it
+pub delta_folded : (t : TypeName) (s : Session) (ms : List Message) → queues.AllDelta ms → folded t s (queues.lane_up t ms) ≡ ahead t s ms
+delta_folded t s [] deltas = refl
+delta_folded t s (m ∷ ms) deltas =
+    let first = deltas.0 in
+    subst (λ x. folded t s (queues.lane_up t (x ∷ ms)) ≡ ahead t s (x ∷ ms)) (sym first.2) (delta_first t s first.1 ms (asks_for t (streams.Delta first.1)) refl (λ k. delta_folded t k ms deltas.1))
+
+sotw_first : (t : TypeName) (s : Session) (q : Request) (ms : List Message) (asks : Bool) → asks_for t (streams.Sotw q) ≡ asks → ((k : Session) → sotw_folded t k (sotws.lane_up t ms) ≡ ahead t k ms)
+    → sotw_folded t s (sotws.lane_up t (streams.Sotw q ∷ ms)) ≡ ahead t s (streams.Sotw q ∷ ms)
+sotw_first t s q ms true is later =
+    ap (λ b. sotw_folded t s (cons_option (if b then Some q else None) (sotws.lane_up t ms))) is ∙ later (session_after t s (streams.Sotw q)) ∙ ap (λ b. ahead t (if b then session_after t s (streams.Sotw q) else s) ms) (sym is)
+sotw_first t s q ms false is later = ap (λ b. sotw_folded t s (cons_option (if b then Some q else None) (sotws.lane_up t ms))) is ∙ later s ∙ ap (λ b. ahead t (if b then session_after t s (streams.Sotw q) else s) ms) (sym is)
+
+pub sotw_ahead : (t : TypeName) (s : Session) (ms : List Message) → sotws.AllSotw ms → sotw_folded t s (sotws.lane_up t ms) ≡ ahead t s ms
+sotw_ahead t s [] all = refl
+sotw_ahead t s (m ∷ ms) all =
+    let first = all.0 in subst (λ x. sotw_folded t s (sotws.lane_up t (x ∷ ms)) ≡ ahead t s (x ∷ ms)) (sym first.2) (sotw_first t s first.1 ms (asks_for t (streams.Sotw first.1)) refl (λ k. sotw_ahead t k ms all.1))
+
 -- and answers what was sent
-pub down_answers : (k : ClientKind) (all : List TypedWrite) (test : Test) (c : Client) (l : Link) (x : Stream) (d : Draft) (rest : List Draft) (q : Client × Message) (t : TypeName) → l.up ≡ [] → l.down ≡ d ∷ rest → received_in test k c d ≡ Some q → is_same_type (kind_of d) t ≡ true
-    → LinkedAs k all c l x → HasAnswer (spoken k) t (at x.sessions t) (session_after t (at x.sessions t) q.1)
-down_answers Sotw all test c l x d rest q t up down is own linked =
+pub down_answers : (k : ClientKind) (all : List TypedWrite) (test : Test) (c : Client) (l : Link) (x : Stream) (d : Draft) (rest : List Draft) (q : Client × Message) (t : TypeName) → l.down ≡ d ∷ rest → received_in test k c d ≡ Some q → is_same_type (kind_of d) t ≡ true → LinkedAs k all c l x
+    → let a = ahead t (at x.sessions t) l.up in (h : HasAnswer (spoken k) t a (session_after t a q.1)) × (h.rejects ≡ is_some (fault_at test t d))
+down_answers Sotw all test c l x d rest q t down is own linked =
     let made = sotws.received_is test c d q is in
     let lane = linked.lanes t in
     let e : Drafted = made.draft in
+    let a : Session = ahead t (at x.sessions t) l.up in
     let kind : e.kind ≡ t = kind_same e.kind t (ap (λ y. is_same_type (kind_of y) t) (sym made.is) ∙ own) (same_type e.kind t) in
     let here : lane.down ≡ Some e = sotw_down e (lane_down t rest) lane.down (ap (λ y. y ∷ lane_down t rest) (sym made.is) ∙ sym (first_down t d rest l.down down own) ∙ lane.downs_are) in
-    let abreast : sotw_lanes.Abreast all t (at x.sessions t) (Some e) (shelf c t) =
-    subst (λ y. sotw_lanes.Abreast all t (at x.sessions t) y (shelf c t)) here (subst (λ ms. sotw_lanes.Abreast all t (sotw_folded t (at x.sessions t) (sotws.lane_up t ms)) lane.down (shelf c t)) up lane.abreast) in
-    let parts = kept_wants e.kind (shelf c e.kind) e (fault_in e.kind test (sotw_delivery e.kind (message_of e))) in
-    subst (λ (p : Client × Message). HasAnswer variants.StateOfTheWorld t (at x.sessions t) (session_after t (at x.sessions t) p.1)) (sym made.left)
-    (sotw_answers all t (at x.sessions t) (shelf c t) e (answer e.kind test (shelf c e.kind) e) (ap texts parts.0 ∙ ap (λ k. texts (shelf c k).wants) kind) parts.1 abreast)
-down_answers Delta all test c l x d rest q t up down is own linked =
+    let abreast : sotw_lanes.Abreast all t a (Some e) (shelf c t) =
+    subst (λ y. sotw_lanes.Abreast all t a y (shelf c t)) here (subst (λ (y : Session). sotw_lanes.Abreast all t y lane.down (shelf c t)) (sotw_ahead t (at x.sessions t) l.up linked.sotws) lane.abreast) in
+    let fault : Option (List ℕ) = fault_in e.kind test (sotw_delivery e.kind (message_of e)) in
+    let parts = kept_wants e.kind (shelf c e.kind) e fault in
+    let rejects : is_some (option_map failure fault) ≡ is_some (fault_at test t d) = some_mapped fault ∙ ap (λ k. is_some (fault_in k test (sotw_delivery k (message_of e)))) kind ∙ ap (λ y. is_some (fault_at test t y)) (sym made.is) in
+    let given = sotw_answers all t a (shelf c t) e (answer e.kind test (shelf c e.kind) e) (ap texts parts.0 ∙ ap (λ k. texts (shelf c k).wants) kind) parts.1 abreast in
+    subst (λ (p : Client × Message). (h : HasAnswer variants.StateOfTheWorld t a (session_after t a p.1)) × (h.rejects ≡ is_some (fault_at test t d))) (sym made.left) (given.0, given.1 ∙ rejects)
+down_answers Delta all test c l x d rest q t down is own linked =
     let made = takes.received_is test c d q is in
     let lane = linked.lanes t in
     let e : DraftedDelta = made.draft in
+    let a : Session = ahead t (at x.sessions t) l.up in
+    let kind : e.kind ≡ t = kind_same e.kind t (ap (λ y. is_same_type (kind_of y) t) (sym made.is) ∙ own) (same_type e.kind t) in
     let here : lane.down ≡ Some e = delta_down e (lane_down t rest) lane.down (ap (λ y. y ∷ lane_down t rest) (sym made.is) ∙ sym (first_down t d rest l.down down own) ∙ lane.downs_are) in
-    let abreast : lanes.Abreast all t (at x.sessions t) (Some e) (shelf c t) =
-    subst (λ y. lanes.Abreast all t (at x.sessions t) y (shelf c t)) here (subst (λ ms. lanes.Abreast all t (folded t (at x.sessions t) (queues.lane_up t ms)) lane.down (shelf c t)) up lane.abreast) in
-    subst (λ (p : Client × Message). HasAnswer variants.Delta t (at x.sessions t) (session_after t (at x.sessions t) p.1)) (sym made.left)
-    (delta_answers all t (at x.sessions t) (shelf c t) e (fault_in e.kind test (delta_delivery (delta_message_of e))) abreast)
+    let abreast : lanes.Abreast all t a (Some e) (shelf c t) =
+    subst (λ y. lanes.Abreast all t a y (shelf c t)) here (subst (λ (y : Session). lanes.Abreast all t y lane.down (shelf c t)) (delta_folded t (at x.sessions t) l.up linked.deltas) lane.abreast) in
+    let fault : Option (List ℕ) = fault_in e.kind test (delta_delivery (delta_message_of e)) in
+    let rejects : is_some (option_map failure fault) ≡ is_some (fault_at test t d) = some_mapped fault ∙ ap (λ k. is_some (fault_in k test (delta_delivery (delta_message_of e)))) kind ∙ ap (λ y. is_some (fault_at test t y)) (sym made.is) in
+    let given = delta_answers all t a (shelf c t) e fault abreast in
+    subst (λ (p : Client × Message). (h : HasAnswer variants.Delta t a (session_after t a p.1)) × (h.rejects ≡ is_some (fault_at test t d))) (sym made.left) (given.0, given.1 ∙ rejects)
+
+-- and the client wants what it wanted
+taken_wants : (t : TypeName) (f : Shelf) (d : Delivery) (fault : Option (List ℕ)) → (option_map_or (λ x. rejecting f d) fault (taking t f d)).wants ≡ f.wants
+taken_wants t f d None = refl
+taken_wants t f d (Some x) = refl
+
+shelf_wants : (test : Test) (c : Client) (s t : TypeName) (d : Delivery) → ((s ≡ t) × (is_same_type s t ≡ true)) ⊎ ((s ≢ t) × (is_same_type s t ≡ false)) → (shelf (with_shelf c s (delivered s test (shelf c s) d)) t).wants ≡ (shelf c t).wants
+shelf_wants test c s t d (inl same) =
+    ap (λ r. (at (with_at c.shelves s (delivered s test (shelf c s) d)) r).wants) (sym same.0) ∙ ap (λ (f : Shelf). f.wants) (at-with_at c.shelves s (delivered s test (shelf c s) d)) ∙ taken_wants s (shelf c s) d (fault_in s test d)
+    ∙ ap (λ r. (shelf c r).wants) same.0
+shelf_wants test c s t d (inr other) = ap (λ (f : Shelf). f.wants) (at-with_at_other c.shelves s (delivered s test (shelf c s) d) t (λ e. other.0 (sym e)))
+
+pub received_wants : (k : ClientKind) (test : Test) (c : Client) (d : Draft) (q : Client × Message) (t : TypeName) → received_in test k c d ≡ Some q → (shelf q.0 t).wants ≡ (shelf c t).wants
+received_wants Sotw test c d q t is =
+    let made = sotws.received_is test c d q is in ap (λ p. (shelf p.0 t).wants) made.left ∙ shelf_wants test c made.draft.kind t (sotw_delivery made.draft.kind (message_of made.draft)) (same_type made.draft.kind t)
+received_wants Delta test c d q t is =
+    let made = takes.received_is test c d q is in ap (λ p. (shelf p.0 t).wants) made.left ∙ shelf_wants test c made.draft.kind t (delta_delivery (delta_message_of made.draft)) (same_type made.draft.kind t)

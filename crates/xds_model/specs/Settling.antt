@@ -1,18 +1,22 @@
 -- Settling a client of a type: its replica takes what the client asked for, answers until it owes nothing of the type, and the
 -- client takes the answers. This project's own.
-use Rattle.std.specs.Prelude.{◌≡◌, ◌⊎◌, ℕ, ◌+◌, ◌≤◌, List, [], ◌∷◌, ◌++◌, Bool, true, false, not, if◌then◌else◌, Option, Some, None, is_some, option_map}
+use Rattle.std.specs.Prelude.{◌≡◌, ◌⊎◌, ℕ, ◌+◌, ◌≤◌, List, [], ◌∷◌, ◌++◌, length, Bool, true, false, not, if◌then◌else◌, Option, Some, None, is_some, option_map}
 use Rattle.std.specs.Option.{option_and_then, option_map_or}
 use Rattle.std.specs.List.{list_any}
 use Rattle.std.specs.FinMap as finmap
 use Rattle.xds_resource.specs.declared.types.TypeName.{TypeName}
-use Rattle.xds_resource.specs.Types.{is_same_type}
+use Rattle.xds_resource.specs.Types.{row, is_same_type}
+use Rattle.xds_resource.specs.Resources.{max_text, value_of}
+use Rattle.xds_resource.specs.Writes.{StampedWrite}
 use Rattle.xds_draft.specs.declared.draft.Draft.{Draft}
 use Rattle.xds_draft.specs.DraftTexts.{kind_of}
 use Rattle.xds_core.specs.Streams.{Message}
+use Rattle.xds_cache.specs.Shelves.{Holding, Wants}
 use Rattle.xds_cache.specs.Faults.{Test}
 use Rattle.xds_model.specs.Happenings.{Happening, Up, Poll, Down}
 use Rattle.xds_model.specs.Worlds.{World, Link, world, after, happens}
-use Rattle.xds_model.specs.Claims.{is_quiet, is_settled}
+use Rattle.xds_model.specs.Knows.{knows, wants, link}
+use Rattle.xds_model.specs.Claims.{writes_of, content_at, is_quiet, is_settled}
 
 -- whether a response of the type is under way
 abbrev pub brings : TypeName → Link → Bool
@@ -120,3 +124,15 @@ TwoResponsesSuffice test hs =
 abbrev pub QuietAtTheEnd : Test → List Happening → Type 0
 QuietAtTheEnd test hs =
     (c : ℕ) (t : TypeName) (more : List Happening) (l : Link) → IsSettling test c t (world test hs) more → link_in (after test (world test hs) more) c ≡ Some l → is_quiet t l ≡ true
+
+-- That a client's test takes what it is to show of these writes where it wants these, and that no such body is too long: a client
+-- refuses a longer one, whatever its test answers.
+abbrev pub TakesAll : Test → TypeName → List StampedWrite → Wants → Type 0
+TakesAll test t ws w =
+    (name : List ℕ) (h : Holding) → content_at t ws w name ≡ Some h → (length h.body ≤ max_text) × (test (row t).url name (value_of h.body) ≡ true)
+
+-- A client whose test takes all that it is to show of what its replica knows is settled where settling ends.
+abbrev pub SettlesWhereAllIsTaken : Test → List Happening → Type 0
+SettlesWhereAllIsTaken test hs =
+    (c r : ℕ) (t : TypeName) (more : List Happening) → link test hs c ≡ Some r → TakesAll test t (writes_of t (knows test hs r)) (wants test hs c t)
+    → IsSettling test c t (world test hs) more → is_settled (after test (world test hs) more) c t ≡ true

@@ -3,7 +3,7 @@ ghost use Rattle.std.specs.Prelude.{List};
 ghost use Rattle.xds_cache.specs.Faults.{Test};
 ghost use Rattle.xds_model.specs.Happenings.{Happening};
 ghost use Rattle.xds_model.specs.Claims.{HoldsWhatItKnows, PutResources, SameKnowledgeSameHoldings, SettledIsExact, SettledAgrees, LinksAreFollowed, OneWriteAStamp, JournalsAreLegal, JournalsTellAll};
-ghost use Rattle.xds_model.specs.Settling.{TwoResponsesSuffice, QuietAtTheEnd};
+ghost use Rattle.xds_model.specs.Settling.{TwoResponsesSuffice, QuietAtTheEnd, SettlesWhereAllIsTaken};
 
 /// What a replica holds are the best writes of what it knows, so replicas that know the same writes hold the same.
 pub fn replicas_hold_what_they_know()
@@ -39,4 +39,9 @@ pub fn links_are_followed()
 pub fn two_responses_suffice()
     ensures two { (test : Test) (hs : List Happening) → PutResources hs → TwoResponsesSuffice test hs }
     ensures quiet { (test : Test) (hs : List Happening) → PutResources hs → QuietAtTheEnd test hs }
+{}
+
+/// A client whose test takes all that it is to show of what its replica knows, none of it too long, is settled where settling ends.
+pub fn settling_settles()
+    ensures { (test : Test) (hs : List Happening) → PutResources hs → SettlesWhereAllIsTaken test hs }
 {}
