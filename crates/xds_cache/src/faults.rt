@@ -1,5 +1,6 @@
 // Why a client rejects a response: the first of its resources that is at fault.
 ghost use Rattle.std.specs.Prelude.{◌≡◌, ◌++◌, Some, None, Ok, string_bytes, IfOk, IfErr};
+ghost use Rattle.std.specs.FinMap as finmap;
 ghost use Rattle.std.specs.Option.{option_map};
 ghost use Rattle.serde_json.specs.View.{view};
 ghost use Rattle.xds_resource.specs.declared.refusal.Refusal.TheVariants.{OutOfMemory};
@@ -88,6 +89,33 @@ fn reason_against<A: Accept>(
     Ok(None)
 }
 
+// The same of a resource that is one.
+fn state_read<A: Accept>(
+    alloc: Global,
+    kind: TypeName,
+    removed: &Wants,
+    before: &mut NameMap<Holding>,
+    named: Option<&str>,
+    version: &str,
+    body: &Value,
+    resource: &AnyResource,
+) -> Result<Option<String>, Refusal>
+    ensures fault { IfOk result (λ f. option_map string_bytes f
+        ≡ first_reason (reasons kind A.accepts removed.now before.old (option_map (λ s. s.now) named.entry) (view body.now) (named_body resource.now).name)) }
+    ensures none { result ≡ Ok None → before.new
+        ≡ finmap.insert before.old (named_body resource.now).name (record { version = version.now; body = (named_body resource.now).body }) }
+    ensures err { IfErr result (λ e. e ≡ OutOfMemory) }
+{
+    let name = resource.name();
+    let fault = reason_against::<A>(alloc, kind, removed, before, named, body, name)?;
+    if fault.is_some() {
+        return Ok(fault);
+    }
+    let holding = Holding::new(alloc, version, resource.body())?;
+    before.insert(String::from_str(alloc, name)?, holding)?;
+    Ok(None)
+}
+
 /// Why a resource is at fault, if it is. Else it is put beside those that the response states before it.
 pub(crate) fn state<A: Accept>(
     alloc: Global,
@@ -104,19 +132,13 @@ pub(crate) fn state<A: Accept>(
         ≡ and_stated kind before.old (record { named = option_map (λ s. s.now) named.entry; version = version.now; resource = view body.now }) }
     ensures err { IfErr result (λ e. e ≡ OutOfMemory) }
 {
-    let resource = match read_resource(alloc, kind, body.clone()?) {
-        Ok(resource) => resource,
-        Err(Refusal::OutOfMemory) => return Err(Refusal::OutOfMemory),
-        Err(refusal) => return Ok(Some(refusal_text(alloc, refusal)?)),
-    };
-    let name = resource.name();
-    let fault = reason_against::<A>(alloc, kind, removed, before, named, body, name)?;
-    if fault.is_some() {
-        return Ok(fault);
+    match read_resource(alloc, kind, body.clone()?) {
+        Ok(resource) => state_read::<A>(
+            alloc, kind, removed, before, named, version, body, &resource,
+        ),
+        Err(Refusal::OutOfMemory) => Err(Refusal::OutOfMemory),
+        Err(refusal) => Ok(Some(refusal_text(alloc, refusal)?)),
     }
-    let holding = Holding::new(alloc, version, resource.body())?;
-    before.insert(String::from_str(alloc, name)?, holding)?;
-    Ok(None)
 }
 
 /// The status of a request that rejects a response, if it does.
