@@ -9,7 +9,7 @@ ghost use Rattle.xds_cache.specs.Deliveries.{delta_stated, delta_delivery, deliv
 use crate::accept::Accept;
 use crate::faults::state;
 use crate::holding::Holding;
-use crate::shelf::{Shelf, cache_after};
+use crate::shelf::Shelf;
 use crate::wants::{Wants, wants_of};
 use std::alloc::Global;
 use xds_message::{DeltaDiscoveryResponse, DeltaResource};
@@ -84,7 +84,6 @@ pub(crate) fn delivered_to<A: Accept>(
         let next = shelf.rejecting(alloc, nonce)?;
         return Ok((next, fault));
     }
-    let cache = cache_after(alloc, kind, shelf, false, &removed, &stated)?;
-    let next = shelf.taking(alloc, cache, nonce, "")?;
+    let next = shelf.stating(alloc, kind, false, &removed, &stated, nonce, "")?;
     Ok((next, None))
 }

@@ -28,6 +28,13 @@ impl Model for Shelves {
     ghost view = { λ s. record { cluster = s.cluster; endpoint = s.endpoint; listener = s.listener; route = s.route } };
 }
 
+// Puts a value in the place of another, which is dropped here, where its parts aren't looked at.
+fn set<S>(place: &mut S, value: S)
+    ensures { place.new ≡ value }
+{
+    *place = value;
+}
+
 impl Shelves {
     /// Those of a client that wants nothing.
     pub(crate) fn new(alloc: Global) -> Shelves
@@ -57,10 +64,10 @@ impl Shelves {
         ensures { self.new ≡ with_at self.old kind shelf }
     {
         match kind {
-            TypeName::Cluster => self.cluster = shelf,
-            TypeName::Endpoint => self.endpoint = shelf,
-            TypeName::Listener => self.listener = shelf,
-            TypeName::Route => self.route = shelf,
+            TypeName::Cluster => set(&mut self.cluster, shelf),
+            TypeName::Endpoint => set(&mut self.endpoint, shelf),
+            TypeName::Listener => set(&mut self.listener, shelf),
+            TypeName::Route => set(&mut self.route, shelf),
         }
     }
 

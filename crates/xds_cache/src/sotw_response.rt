@@ -10,7 +10,7 @@ ghost use Rattle.xds_cache.specs.Deliveries.{sotw_stated, sotw_delivery, deliver
 use crate::accept::Accept;
 use crate::faults::state;
 use crate::holding::Holding;
-use crate::shelf::{Shelf, cache_after};
+use crate::shelf::Shelf;
 use crate::wants::Wants;
 use serde_json::Value;
 use std::alloc::Global;
@@ -77,7 +77,7 @@ pub(crate) fn delivered_to<A: Accept>(
         return Ok((next, fault));
     }
     let whole = kind.is_complete();
-    let cache = cache_after(alloc, kind, shelf, whole, &removed, &stated)?;
-    let next = shelf.taking(alloc, cache, nonce, response.version_info.as_str())?;
+    let version = response.version_info.as_str();
+    let next = shelf.stating(alloc, kind, whole, &removed, &stated, nonce, version)?;
     Ok((next, None))
 }

@@ -1,5 +1,5 @@
 // The texts that a client asks for. In a complete type `*` is the star.
-ghost use Rattle.std.specs.Prelude.{◌≡◌, map, string_bytes, IfOk, IfErr};
+ghost use Rattle.std.specs.Prelude.{◌≡◌, [], ◌∷◌, ◌++◌, map, string_bytes, IfOk, IfErr, OnOk};
 ghost use Rattle.std.specs.FinMap as finmap;
 ghost use Rattle.xds_resource.specs.declared.refusal.Refusal.TheVariants.{OutOfMemory};
 ghost use Rattle.xds_resource.specs.Names.{put_all};
@@ -76,6 +76,15 @@ pub(crate) fn copy_wants(alloc: Global, wants: &Wants) -> Result<Wants, Refusal>
     Ok(copy)
 }
 
+// Puts a copy of a text behind others.
+fn push_text(alloc: Global, texts: &mut Vec<String>, text: &str) -> Result<(), Refusal>
+    ensures ok { OnOk result (map string_bytes texts.new.items ≡ map string_bytes texts.old.items ++ text.now ∷ []) }
+    ensures err { IfErr result (λ e. e ≡ OutOfMemory) }
+{
+    texts.push(String::from_str(alloc, text)?)?;
+    Ok(())
+}
+
 /// The texts in ascending order, as requests list them.
 pub(crate) fn texts_of(alloc: Global, wants: &Wants) -> Result<Vec<String>, Refusal>
     ensures ok { IfOk result (λ v. map string_bytes v.items ≡ texts wants.now) }
@@ -83,7 +92,7 @@ pub(crate) fn texts_of(alloc: Global, wants: &Wants) -> Result<Vec<String>, Refu
 {
     let mut texts = Vec::new(alloc);
     for (name, _) in wants.iter() {
-        texts.push(String::from_str(alloc, name.as_str())?)?;
+        push_text(alloc, &mut texts, name.as_str())?;
     }
     Ok(texts)
 }

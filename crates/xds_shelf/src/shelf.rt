@@ -1,8 +1,8 @@
 // What a client keeps of one type.
-ghost use Rattle.std.specs.Prelude.{◌≡◌, [], string_bytes, IfOk, IfErr};
+ghost use Rattle.std.specs.Prelude.{◌≡◌, [], Some, string_bytes, IfOk, IfErr, OnOk};
 ghost use Rattle.std.specs.FinMap as finmap;
 ghost use Rattle.xds_resource.specs.declared.refusal.Refusal.TheVariants.{OutOfMemory};
-ghost use Rattle.xds_resource.specs.Names.{put_all};
+ghost use Rattle.xds_resource.specs.Names.{put_all, put_some};
 ghost use Rattle.xds_cache.specs.Shelves.{bare, kept_of, wanting as wanting_now, connected, lost};
 ghost use Rattle.xds_cache.specs.Deliveries.{cache_after as shown_after};
 ghost use Rattle.xds_cache.specs.Parts.{left as left_by, added as added_by};
@@ -44,39 +44,57 @@ impl Model for Shelf {
     } };
 }
 
-// What is left of a name that was held, beside a response that is the whole or not, and removes these names.
-fn left_of(
+// Puts a copy of what is held of a name.
+fn put_copy(
+    alloc: Global,
+    next: &mut NameMap<Holding>,
+    name: &str,
+    holding: &Holding,
+) -> Result<(), Refusal>
+    ensures ok { OnOk result (next.new ≡ put_some next.old name.now (Some holding.now)) }
+    ensures err { IfErr result (λ e. e ≡ OutOfMemory) }
+{
+    let copy = holding.try_copy()?;
+    next.put(alloc, name, Some(copy))
+}
+
+// Puts what is left of a name that was held, beside a response that is the whole or not, and removes these names.
+fn put_left(
+    alloc: Global,
     kind: TypeName,
     wants: &Wants,
     whole: bool,
     removed: &Wants,
+    next: &mut NameMap<Holding>,
     name: &str,
     holding: &Holding,
-) -> Result<Option<Holding>, Refusal>
-    ensures ok { IfOk result (λ h. h ≡ left_by kind wants.now whole removed.now name.now holding.now) }
+) -> Result<(), Refusal>
+    ensures ok { OnOk result (next.new ≡ put_some next.old name.now (left_by kind wants.now whole removed.now name.now holding.now)) }
     ensures err { IfErr result (λ e. e ≡ OutOfMemory) }
 {
     if is_wanted(kind, wants, name) && !(whole || removed.contains(name)) {
-        Ok(Some(holding.try_copy()?))
+        put_copy(alloc, next, name, holding)
     } else {
-        Ok(None)
+        Ok(())
     }
 }
 
-// What is held of a name that a response states.
-fn added_of(
+// Puts what is held of a name that a response states.
+fn put_added(
+    alloc: Global,
     kind: TypeName,
     wants: &Wants,
+    next: &mut NameMap<Holding>,
     name: &str,
     holding: &Holding,
-) -> Result<Option<Holding>, Refusal>
-    ensures ok { IfOk result (λ h. h ≡ added_by kind wants.now name.now holding.now) }
+) -> Result<(), Refusal>
+    ensures ok { OnOk result (next.new ≡ put_some next.old name.now (added_by kind wants.now name.now holding.now)) }
     ensures err { IfErr result (λ e. e ≡ OutOfMemory) }
 {
     if is_wanted(kind, wants, name) {
-        Ok(Some(holding.try_copy()?))
+        put_copy(alloc, next, name, holding)
     } else {
-        Ok(None)
+        Ok(())
     }
 }
 
@@ -94,8 +112,9 @@ fn left(
 {
     let mut next = NameMap::new(alloc);
     for (name, holding) in cache.iter() {
-        let kept = left_of(kind, wants, whole, removed, name, holding)?;
-        next.put(alloc, name, kept)?;
+        put_left(
+            alloc, kind, wants, whole, removed, &mut next, name, holding,
+        )?;
     }
     Ok(next)
 }
@@ -113,14 +132,13 @@ fn added(
 {
     let mut next = beside;
     for (name, holding) in stated.iter() {
-        let stated = added_of(kind, wants, name, holding)?;
-        next.put(alloc, name, stated)?;
+        put_added(alloc, kind, wants, &mut next, name, holding)?;
     }
     Ok(next)
 }
 
-/// What is held after a response that states this, is the whole or not, and removes these names.
-pub(crate) fn cache_after(
+// What is held after a response that states this, is the whole or not, and removes these names.
+fn cache_after(
     alloc: Global,
     kind: TypeName,
     shelf: &Shelf,
@@ -157,7 +175,7 @@ fn copy_cache(alloc: Global, cache: &NameMap<Holding>) -> Result<NameMap<Holding
 {
     let mut copy = NameMap::new(alloc);
     for (name, holding) in cache.iter() {
-        copy.put(alloc, name, Some(holding.try_copy()?))?;
+        put_copy(alloc, &mut copy, name, holding)?;
     }
     Ok(copy)
 }
@@ -215,6 +233,25 @@ impl Shelf {
             accepted: String::from_str(alloc, version)?,
             asked: self.asked,
         })
+    }
+
+    /// After a response of this nonce that was taken as this version: it states this, is the whole or not, and removes
+    /// these names.
+    pub(crate) fn stating(
+        &self,
+        alloc: Global,
+        kind: TypeName,
+        whole: bool,
+        removed: &Wants,
+        stated: &NameMap<Holding>,
+        nonce: &str,
+        version: &str,
+    ) -> Result<Shelf, Refusal>
+        ensures ok { IfOk result (λ s. s ≡ record self.now { cache = shown_after kind self.now.wants whole removed.now stated.now self.now.cache; nonce = nonce.now; accepted = version.now }) }
+        ensures err { IfErr result (λ e. e ≡ OutOfMemory) }
+    {
+        let cache = cache_after(alloc, kind, self, whole, removed, stated)?;
+        self.taking(alloc, cache, nonce, version)
     }
 
     /// After a response of this nonce that was rejected.
