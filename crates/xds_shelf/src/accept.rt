@@ -6,7 +6,7 @@ use serde_json::Value;
 
 /// Which resources a client takes. The answer depends on the type URL, the name and the body alone.
 pub trait Accept {
-    ghost use Rattle.xds_cache.specs.Faults.{Test};
+    ghost use Rattle.xds_shelf.specs.Faults.{Test};
 
     ghost accepts: { Test };
 
@@ -34,7 +34,7 @@ impl Accept for AcceptAll {
 }
 
 impl Accept for Marked {
-    ghost use Rattle.xds_cache.specs.Marks.{is_unmarked};
+    ghost use Rattle.xds_shelf.specs.Marks.{is_unmarked};
 
     ghost accepts = { λ _ _ body. is_unmarked body };
 

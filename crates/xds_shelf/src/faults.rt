@@ -7,19 +7,14 @@ ghost use Rattle.xds_resource.specs.declared.refusal.Refusal.TheVariants.{OutOfM
 ghost use Rattle.xds_resource.specs.Any.{named_body};
 ghost use Rattle.xds_resource.specs.Refusals.{Gives};
 ghost use Rattle.xds_resource.specs.Resources.{from_value as valued};
-ghost use Rattle.xds_cache.specs.Faults.{refusal_text as text_of, is_misnamed as misnamed, first_reason, reasons, fault_of, and_stated};
-ghost use Rattle.xds_cache.specs.Sends.{failure};
+ghost use Rattle.xds_shelf.specs.Faults.{refusal_text as text_of, is_misnamed as misnamed, first_reason, reasons, fault_of, and_stated};
 
 use crate::accept::Accept;
 use crate::holding::Holding;
 use crate::wants::Wants;
 use serde_json::Value;
 use std::alloc::Global;
-use xds_message::Status;
 use xds_resource::{AnyResource, NameMap, Refusal, Resource, TypeName};
-
-// `INVALID_ARGUMENT` of `google.rpc.Code`.
-const INVALID_ARGUMENT: i32 = 3;
 
 // The resource of a type that a value is.
 fn read_resource(alloc: Global, kind: TypeName, value: Value) -> Result<AnyResource, Refusal>
@@ -117,7 +112,7 @@ fn state_read<A: Accept>(
 }
 
 /// Why a resource is at fault, if it is. Else it is put beside those that the response states before it.
-pub(crate) fn state<A: Accept>(
+pub fn state<A: Accept>(
     alloc: Global,
     kind: TypeName,
     removed: &Wants,
@@ -138,18 +133,5 @@ pub(crate) fn state<A: Accept>(
         ),
         Err(Refusal::OutOfMemory) => Err(Refusal::OutOfMemory),
         Err(refusal) => Ok(Some(refusal_text(alloc, refusal)?)),
-    }
-}
-
-/// The status of a request that rejects a response, if it does.
-pub(crate) fn rejection(fault: Option<String>) -> Option<Status>
-    ensures { result ≡ option_map failure (option_map string_bytes fault) }
-{
-    match fault {
-        Some(message) => Some(Status {
-            code: INVALID_ARGUMENT,
-            message,
-        }),
-        None => None,
     }
 }

@@ -16,8 +16,8 @@ pub struct Holding {
 
 impl Model for Holding {
     ghost use Rattle.std.specs.Arc.{arc_str_bytes};
-    ghost use Rattle.xds_cache.specs.Shelves as shelves;
-    ghost use Rattle.xds_cache.specs.Shelves.{holding_code};
+    ghost use Rattle.xds_shelf.specs.Shelves as shelves;
+    ghost use Rattle.xds_shelf.specs.Shelves.{holding_code};
 
     ghost Value = { shelves.Holding };
 
@@ -27,7 +27,7 @@ impl Model for Holding {
 }
 
 impl Holding {
-    pub(crate) fn new(alloc: Global, version: &str, body: &str) -> Result<Holding, Refusal>
+    pub fn new(alloc: Global, version: &str, body: &str) -> Result<Holding, Refusal>
         ensures ok { IfOk result (λ h. h ≡ record { version = version.now; body = body.now }) }
         ensures refused { IfErr result (λ e. e ≡ OutOfMemory) }
     {
@@ -51,7 +51,7 @@ impl Holding {
         self.body.as_str()
     }
 
-    pub(crate) fn try_copy(&self) -> Result<Holding, Refusal>
+    pub fn try_copy(&self) -> Result<Holding, Refusal>
         ensures ok { IfOk result (λ h. h ≡ self.now) }
         ensures refused { IfErr result (λ e. e ≡ OutOfMemory) }
     {

@@ -3,9 +3,9 @@ ghost use Rattle.std.specs.Prelude.{◌≡◌, [], Some, string_bytes, IfOk, IfE
 ghost use Rattle.std.specs.FinMap as finmap;
 ghost use Rattle.xds_resource.specs.declared.refusal.Refusal.TheVariants.{OutOfMemory};
 ghost use Rattle.xds_resource.specs.Names.{put_all, put_some};
-ghost use Rattle.xds_cache.specs.Shelves.{bare, kept_of, wanting as wanting_now, connected, lost};
-ghost use Rattle.xds_cache.specs.Deliveries.{cache_after as shown_after};
-ghost use Rattle.xds_cache.specs.Parts.{left as left_by, added as added_by};
+ghost use Rattle.xds_shelf.specs.Shelves.{bare, kept_of, wanting as wanting_now, connected, lost};
+ghost use Rattle.xds_shelf.specs.Deliveries.{cache_after as shown_after};
+ghost use Rattle.xds_shelf.specs.Parts.{left as left_by, added as added_by};
 
 use crate::holding::Holding;
 use crate::wants::{Wants, copy_wants, is_wanted, wants_some};
@@ -15,21 +15,21 @@ use xds_resource::{NameMap, Refusal, TypeName};
 
 /// What a client wants of a type, what it holds, and how far its stream is.
 #[derive(Drop)]
-pub(crate) struct Shelf {
-    pub(crate) wants: Wants,
-    pub(crate) cache: NameMap<Holding>,
+pub struct Shelf {
+    pub wants: Wants,
+    pub cache: NameMap<Holding>,
     /// The nonce of the last response of the type on this stream.
-    pub(crate) nonce: String,
+    pub nonce: String,
     /// The version that was accepted last, in state of the world.
-    pub(crate) accepted: String,
+    pub accepted: String,
     /// Whether the type was asked for on this stream.
-    pub(crate) asked: bool,
+    pub asked: bool,
 }
 
 impl Model for Shelf {
     ghost use Rattle.std.specs.Prelude.{string_bytes};
-    ghost use Rattle.xds_cache.specs.Shelves as shelves;
-    ghost use Rattle.xds_cache.specs.Shelves.{shelf_code};
+    ghost use Rattle.xds_shelf.specs.Shelves as shelves;
+    ghost use Rattle.xds_shelf.specs.Shelves.{shelf_code};
 
     ghost Value = { shelves.Shelf };
 
@@ -112,9 +112,7 @@ fn left(
 {
     let mut next = NameMap::new(alloc);
     for (name, holding) in cache.iter() {
-        put_left(
-            alloc, kind, wants, whole, removed, &mut next, name, holding,
-        )?;
+        put_left(alloc, kind, wants, whole, removed, &mut next, name, holding)?;
     }
     Ok(next)
 }
@@ -182,7 +180,7 @@ fn copy_cache(alloc: Global, cache: &NameMap<Holding>) -> Result<NameMap<Holding
 
 impl Shelf {
     /// Of a client that wants nothing.
-    pub(crate) fn new(alloc: Global) -> Shelf
+    pub fn new(alloc: Global) -> Shelf
         ensures { result ≡ bare }
     {
         Shelf {
@@ -195,7 +193,7 @@ impl Shelf {
     }
 
     /// Once the client wants these, and asked for them or not.
-    pub(crate) fn wanting(
+    pub fn wanting(
         &self,
         alloc: Global,
         kind: TypeName,
@@ -216,7 +214,7 @@ impl Shelf {
     }
 
     /// With this cache, after a response of this nonce that was taken as this version.
-    pub(crate) fn taking(
+    pub fn taking(
         &self,
         alloc: Global,
         cache: NameMap<Holding>,
@@ -237,7 +235,7 @@ impl Shelf {
 
     /// After a response of this nonce that was taken as this version: it states this, is the whole or not, and removes
     /// these names.
-    pub(crate) fn stating(
+    pub fn stating(
         &self,
         alloc: Global,
         kind: TypeName,
@@ -255,7 +253,7 @@ impl Shelf {
     }
 
     /// After a response of this nonce that was rejected.
-    pub(crate) fn rejecting(&self, alloc: Global, nonce: &str) -> Result<Shelf, Refusal>
+    pub fn rejecting(&self, alloc: Global, nonce: &str) -> Result<Shelf, Refusal>
         ensures ok { IfOk result (λ s. s ≡ record self.now { nonce = nonce.now }) }
         ensures err { IfErr result (λ e. e ≡ OutOfMemory) }
     {
@@ -264,7 +262,7 @@ impl Shelf {
     }
 
     /// At the start of a stream, on which everything that is wanted is asked for.
-    pub(crate) fn connect(&mut self)
+    pub fn connect(&mut self)
         ensures { self.new ≡ connected self.old }
     {
         self.nonce.clear();
@@ -272,7 +270,7 @@ impl Shelf {
     }
 
     /// Once the stream is lost.
-    pub(crate) fn lose(&mut self)
+    pub fn lose(&mut self)
         ensures { self.new ≡ lost self.old }
     {
         self.nonce.clear();

@@ -3,17 +3,17 @@ ghost use Rattle.std.specs.Prelude.{◌≡◌, [], ◌∷◌, ◌++◌, map, str
 ghost use Rattle.std.specs.FinMap as finmap;
 ghost use Rattle.xds_resource.specs.declared.refusal.Refusal.TheVariants.{OutOfMemory};
 ghost use Rattle.xds_resource.specs.Names.{put_all};
-ghost use Rattle.xds_cache.specs.Shelves.{texts, is_wanted as is_wanted_by, wants_some as some_wanted, wants_of as set_of, wants_after as set_after};
-ghost use Rattle.xds_cache.specs.Parts.{unless_dropped as dropping};
+ghost use Rattle.xds_shelf.specs.Shelves.{texts, is_wanted as is_wanted_by, wants_some as some_wanted, wants_of as set_of, wants_after as set_after};
+ghost use Rattle.xds_shelf.specs.Parts.{unless_dropped as dropping};
 
 use std::alloc::Global;
 use xds_resource::{NameMap, Refusal, TypeName};
 
 /// A set of texts.
-pub(crate) type Wants = NameMap<()>;
+pub type Wants = NameMap<()>;
 
 /// The texts of a list.
-pub(crate) fn wants_of(alloc: Global, names: &[String]) -> Result<Wants, Refusal>
+pub fn wants_of(alloc: Global, names: &[String]) -> Result<Wants, Refusal>
     ensures ok { IfOk result (λ w. w ≡ set_of (map string_bytes names.now)) }
     ensures err { IfErr result (λ e. e ≡ OutOfMemory) }
 {
@@ -48,7 +48,7 @@ fn without(alloc: Global, before: &Wants, unsubscribe: &Wants) -> Result<Wants, 
 }
 
 /// What is wanted after a change. A text that is both subscribed and unsubscribed is wanted.
-pub(crate) fn wants_after(
+pub fn wants_after(
     alloc: Global,
     before: &Wants,
     subscribe: &Wants,
@@ -65,7 +65,7 @@ pub(crate) fn wants_after(
 }
 
 /// The same texts.
-pub(crate) fn copy_wants(alloc: Global, wants: &Wants) -> Result<Wants, Refusal>
+pub fn copy_wants(alloc: Global, wants: &Wants) -> Result<Wants, Refusal>
     ensures ok { IfOk result (λ w. w ≡ wants.now) }
     ensures err { IfErr result (λ e. e ≡ OutOfMemory) }
 {
@@ -86,7 +86,7 @@ fn push_text(alloc: Global, texts: &mut Vec<String>, text: &str) -> Result<(), R
 }
 
 /// The texts in ascending order, as requests list them.
-pub(crate) fn texts_of(alloc: Global, wants: &Wants) -> Result<Vec<String>, Refusal>
+pub fn texts_of(alloc: Global, wants: &Wants) -> Result<Vec<String>, Refusal>
     ensures ok { IfOk result (λ v. map string_bytes v.items ≡ texts wants.now) }
     ensures err { IfErr result (λ e. e ≡ OutOfMemory) }
 {
@@ -98,14 +98,14 @@ pub(crate) fn texts_of(alloc: Global, wants: &Wants) -> Result<Vec<String>, Refu
 }
 
 /// Whether something is wanted.
-pub(crate) fn wants_some(wants: &Wants) -> bool
+pub fn wants_some(wants: &Wants) -> bool
     ensures { result ≡ some_wanted wants.now }
 {
     wants.iter().next().is_some()
 }
 
 /// Whether the resource of a name is wanted: by its name, or by the star.
-pub(crate) fn is_wanted(kind: TypeName, wants: &Wants, name: &str) -> bool
+pub fn is_wanted(kind: TypeName, wants: &Wants, name: &str) -> bool
     ensures { result ≡ is_wanted_by kind wants.now name.now }
 {
     wants.contains(name) || (kind.is_complete() && wants.contains("*"))

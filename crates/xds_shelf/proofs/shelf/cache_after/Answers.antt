@@ -1,10 +1,10 @@
 use Rattle.std.proofs.Common.{ap, ◌∙◌}
 use Rattle.std.specs.FinMap as finmap
 use Rattle.xds_resource.specs.Names.{put_all}
-use Rattle.xds_cache.specs.Deliveries.{cache_after}
-use Rattle.xds_cache.specs.Parts.{added}
-use Rattle.xds_cache.proofs.Making.{put_all-cache_after}
-use Rattle.xds_cache.proofs.shelf.cache_after.Goals as goal
+use Rattle.xds_shelf.specs.Deliveries.{cache_after}
+use Rattle.xds_shelf.specs.Parts.{added}
+use Rattle.xds_shelf.proofs.Making.{put_all-cache_after}
+use Rattle.xds_shelf.proofs.shelf.cache_after.Goals as goal
 
 pub returns-clause-ok : goal.returns-clause-ok
 returns-clause-ok c =

@@ -1,9 +1,9 @@
 use Rattle.std.proofs.Common.{false, ap, ◌∙◌}
 use Rattle.std.specs.FinMap as finmap
 use Rattle.xds_resource.specs.Names.{put_all}
-use Rattle.xds_cache.specs.Parts.{left}
-use Rattle.xds_cache.proofs.Making.{put_all-kept_of}
-use Rattle.xds_cache.proofs.shelf.kept.Goals as goal
+use Rattle.xds_shelf.specs.Parts.{left}
+use Rattle.xds_shelf.proofs.Making.{put_all-kept_of}
+use Rattle.xds_shelf.proofs.shelf.kept.Goals as goal
 
 pub returns-clause-ok : goal.returns-clause-ok
 returns-clause-ok c =

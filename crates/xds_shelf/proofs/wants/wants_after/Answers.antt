@@ -1,9 +1,9 @@
 use Rattle.std.proofs.Common.{ap, ◌∙◌}
 use Rattle.std.specs.FinMap as finmap
 use Rattle.xds_resource.specs.Names.{put_all}
-use Rattle.xds_cache.specs.Parts.{as_before}
-use Rattle.xds_cache.proofs.Making.{put_all-wants_after}
-use Rattle.xds_cache.proofs.wants.wants_after.Goals as goal
+use Rattle.xds_shelf.specs.Parts.{as_before}
+use Rattle.xds_shelf.proofs.Making.{put_all-wants_after}
+use Rattle.xds_shelf.proofs.wants.wants_after.Goals as goal
 
 pub returns-clause-ok : goal.returns-clause-ok
 returns-clause-ok c =

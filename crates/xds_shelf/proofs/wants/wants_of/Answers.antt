@@ -1,9 +1,9 @@
 use Rattle.std.proofs.Common.{map, string_bytes, sym, ap, ◌∙◌}
 use Rattle.xds_resource.specs.Names.{put_each}
 use Rattle.std.proofs.lemmas.List.{drop_all}
-use Rattle.xds_cache.specs.Shelves.{marked}
-use Rattle.xds_cache.proofs.Making.{put_each-wants_of}
-use Rattle.xds_cache.proofs.wants.wants_of.Goals as goal
+use Rattle.xds_shelf.specs.Shelves.{marked}
+use Rattle.xds_shelf.proofs.Making.{put_each-wants_of}
+use Rattle.xds_shelf.proofs.wants.wants_of.Goals as goal
 
 pub returns-clause-ok : goal.returns-clause-ok
 returns-clause-ok c =

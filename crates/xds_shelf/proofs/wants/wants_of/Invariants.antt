@@ -1,8 +1,8 @@
 use Rattle.std.proofs.Common.{◌≡◌, map, string_bytes, drop}
 use Rattle.std.specs.FinMap as finmap
 use Rattle.xds_resource.specs.Names.{put_each}
-use Rattle.xds_cache.specs.Shelves.{marked}
-use Rattle.xds_cache.proofs.wants.wants_of.Given as goal
+use Rattle.xds_shelf.specs.Shelves.{marked}
+use Rattle.xds_shelf.proofs.wants.wants_of.Given as goal
 
 -- what is left decides
 abbrev pub invariant-loop-name : goal.invariant-loop-name

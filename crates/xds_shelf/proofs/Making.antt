@@ -8,10 +8,10 @@ use Rattle.xds_resource.specs.Writes.{text_cmp}
 use Rattle.xds_resource.specs.Names.{put_all, put_each}
 use Rattle.xds_resource.proofs.NameMaps.{has_text, same_names, get-tabulate, get-tabulated, in_neither, absent_key}
 use Rattle.xds_resource.proofs.MadeMaps.{get-put_all, get-put_each}
-use Rattle.xds_cache.specs.Shelves.{Wants, Cache, Holding, marked, wants_of, wanted_after, wants_after, is_wanted, kept, kept_of}
-use Rattle.xds_cache.specs.Deliveries.{shown_after, cache_after}
-use Rattle.xds_cache.specs.Sends.{held_version, held_versions}
-use Rattle.xds_cache.specs.Parts.{unless_dropped, as_before, left, added, version_told}
+use Rattle.xds_shelf.specs.Shelves.{Wants, Cache, Holding, marked, wants_of, wanted_after, wants_after, is_wanted, kept, kept_of}
+use Rattle.xds_shelf.specs.Deliveries.{shown_after, cache_after}
+use Rattle.xds_shelf.specs.Shelves.{held_version, held_versions}
+use Rattle.xds_shelf.specs.Parts.{unless_dropped, as_before, left, added, version_told}
 
 or_none : {X : Type 0} (o : Option X) → option_or o None ≡ o
 or_none None = refl

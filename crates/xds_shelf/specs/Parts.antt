@@ -3,7 +3,7 @@
 use Rattle.std.specs.Prelude.{ℕ, List, Bool, ◌&&◌, ◌||◌, not, if◌then◌else◌, Option, Some, None}
 use Rattle.std.specs.FinMap as finmap
 use Rattle.xds_resource.specs.declared.types.TypeName.{TypeName}
-use Rattle.xds_cache.specs.Shelves.{Wants, Holding, is_wanted}
+use Rattle.xds_shelf.specs.Shelves.{Wants, Holding, is_wanted}
 
 -- of a text that was wanted, by a change that doesn't subscribe it
 abbrev pub unless_dropped : Wants → List ℕ → Unit {0} → Option (Unit {0})

@@ -4,8 +4,8 @@ use Rattle.std.specs.Prelude.{is_some}
 use Rattle.std.specs.Option.{option_or}
 use Rattle.std.proofs.lemmas.List.{drop_more, drop_all}
 use Rattle.xds_resource.specs.declared.types.TypeName.{TypeName}
-use Rattle.xds_cache.specs.Shelves.{Wants, Cache}
-use Rattle.xds_cache.specs.Faults.{Test, Stated, fault_of, and_stated, first_fault, stated_by}
+use Rattle.xds_shelf.specs.Shelves.{Wants, Cache}
+use Rattle.xds_shelf.specs.Faults.{Test, Stated, fault_of, and_stated, first_fault, stated_by}
 
 pub none_by_false : {X : Type 0} (o : Option X) → is_some o ≡ false → o ≡ None
 none_by_false None e = refl

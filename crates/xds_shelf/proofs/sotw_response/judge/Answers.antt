@@ -1,9 +1,9 @@
 use Rattle.std.proofs.Common.{Ok, string_bytes, sym, ap, ◌∙◌}
 use Rattle.std.specs.Option.{option_map}
 use Rattle.serde_json.specs.View.{view}
-use Rattle.xds_cache.specs.Deliveries.{sotw_stated}
-use Rattle.xds_cache.proofs.Judging.{none_by_false, fault_more, stated_more}
-use Rattle.xds_cache.proofs.sotw_response.judge.Goals as goal
+use Rattle.xds_shelf.specs.Deliveries.{sotw_stated}
+use Rattle.xds_shelf.proofs.Judging.{none_by_false, fault_more, stated_more}
+use Rattle.xds_shelf.proofs.sotw_response.judge.Goals as goal
 
 pub loop-resource-preserved : goal.loop-resource-preserved
 loop-resource-preserved g c =

@@ -8,8 +8,8 @@ use Rattle.xds_resource.specs.Types.{row}
 use Rattle.xds_resource.specs.Names.{tabulate}
 use Rattle.xds_message.specs.Messages.{Response}
 use Rattle.xds_message.specs.DeltaMessages.{VersionedResource, DeltaResponse}
-use Rattle.xds_cache.specs.Shelves.{Holding, Cache, Wants, Shelf, wants_of, is_wanted}
-use Rattle.xds_cache.specs.Faults.{Test, Stated, first_fault, stated_by}
+use Rattle.xds_shelf.specs.Shelves.{Holding, Cache, Wants, Shelf, wants_of, is_wanted}
+use Rattle.xds_shelf.specs.Faults.{Test, Stated, first_fault, stated_by}
 
 -- a response of either variant
 pub record Delivery : Type 0 where

@@ -1,5 +1,5 @@
 -- What a client keeps of each type: what it wants, what it holds, and how far its stream is. This project's own.
-use Rattle.std.specs.Prelude.{ℕ, List, [], ◌++◌, Bool, false, ◌&&◌, ◌||◌, if◌then◌else◌, Option, Some, None, refl}
+use Rattle.std.specs.Prelude.{ℕ, List, [], ◌++◌, Bool, false, ◌&&◌, ◌||◌, if◌then◌else◌, Option, Some, None, option_map, refl}
 use Rattle.std.specs.FinMap as finmap
 use Rattle.std.specs.FinSet as set
 use Rattle.std.specs.Coded.{Coded, code_by, coded×, coded_ℕ, coded_bool, coded_list}
@@ -7,6 +7,7 @@ use Rattle.xds_resource.specs.declared.types.TypeName.{TypeName}
 use Rattle.xds_resource.specs.Types.{row}
 use Rattle.xds_resource.specs.Writes.{text_cmp}
 use Rattle.xds_resource.specs.Names.{tabulate}
+use Rattle.xds_message.specs.Versions.{VersionMap}
 use Rattle.xds_interest.specs.Interests.{Selection, star_text}
 use Rattle.xds_interest.specs.SotW.{is_named, listed}
 
@@ -87,6 +88,14 @@ kept t w cache name = if is_wanted t w name then finmap.get cache name else None
 
 abbrev pub kept_of : TypeName → Wants → Cache → Cache
 kept_of t w cache = tabulate (kept t w cache) (finmap.keys cache)
+
+-- the version that is held of a name
+abbrev pub held_version : Cache → List ℕ → Option (List ℕ)
+held_version cache name = option_map (λ h. h.version) (finmap.get cache name)
+
+-- the versions that are held
+abbrev pub held_versions : Cache → VersionMap
+held_versions cache = tabulate (held_version cache) (finmap.keys cache)
 
 -- once the client wants these, and asked for them or not
 abbrev pub wanting : TypeName → Wants → Bool → Shelf → Shelf

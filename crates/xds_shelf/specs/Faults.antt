@@ -9,7 +9,7 @@ use Rattle.xds_resource.specs.declared.refusal.Refusal.{Refusal}
 use Rattle.xds_resource.specs.Types.{row}
 use Rattle.xds_resource.specs.Refusals.{number_of, name_of}
 use Rattle.xds_resource.specs.Resources.{NamedBody, from_value, resource_of}
-use Rattle.xds_cache.specs.Shelves.{Wants, Holding, Cache}
+use Rattle.xds_shelf.specs.Shelves.{Wants, Holding, Cache}
 
 -- What a client's test answers, by the type URL, the name and the body: whether it takes the resource.
 abbrev pub Test : Type 0

@@ -2,8 +2,8 @@ use Rattle.std.proofs.Common.{refl}
 use Rattle.std.specs.Option.{option_map}
 use Rattle.serde_json.specs.View.{view}
 use Rattle.xds_resource.specs.Any.{named_body}
-use Rattle.xds_cache.proofs.Stating.{stated_now}
-use Rattle.xds_cache.proofs.faults.state.Goals as goal
+use Rattle.xds_shelf.proofs.Stating.{stated_now}
+use Rattle.xds_shelf.proofs.faults.state.Goals as goal
 
 pub returns-in-Ok-clause-none : goal.returns-in-Ok-clause-none
 returns-in-Ok-clause-none g c = λ none.

@@ -5,8 +5,8 @@ use Rattle.serde_json.specs.Data.{Data}
 use Rattle.xds_resource.specs.declared.types.TypeName.{TypeName}
 use Rattle.xds_resource.specs.Resources.{NamedBody, from_value, resource_of, value_conditions}
 use Rattle.xds_resource.proofs.Refusing.{unless_refused-value}
-use Rattle.xds_cache.specs.Shelves.{Cache, Holding}
-use Rattle.xds_cache.specs.Faults.{and_stated}
+use Rattle.xds_shelf.specs.Shelves.{Cache, Holding}
+use Rattle.xds_shelf.specs.Faults.{and_stated}
 
 value_is : (t : TypeName) (d : Data) (b : NamedBody) → from_value t d ≡ Ok b → resource_of t d ≡ b
 value_is t d b is = unless_refused-value (value_conditions t d) (resource_of t d) b is

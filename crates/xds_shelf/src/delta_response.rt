@@ -3,8 +3,8 @@ ghost use Rattle.std.specs.Prelude.{◌≡◌, map, None, string_bytes, IfOk, If
 ghost use Rattle.std.specs.Option.{option_map};
 ghost use Rattle.xds_resource.specs.declared.refusal.Refusal.TheVariants.{OutOfMemory};
 ghost use Rattle.xds_message.specs.Responses.{resource_of, delta_response_of};
-ghost use Rattle.xds_cache.specs.Faults.{fault_of, and_stated, first_fault, stated_by};
-ghost use Rattle.xds_cache.specs.Deliveries.{delta_stated, delta_delivery, delivered, fault_in};
+ghost use Rattle.xds_shelf.specs.Faults.{fault_of, and_stated, first_fault, stated_by};
+ghost use Rattle.xds_shelf.specs.Deliveries.{delta_stated, delta_delivery, delivered, fault_in};
 
 use crate::accept::Accept;
 use crate::faults::state;
@@ -65,7 +65,7 @@ fn judge<A: Accept>(
 }
 
 /// What is kept of a type after a response, and why that is rejected, if it is.
-pub(crate) fn delivered_to<A: Accept>(
+pub fn delivered_to<A: Accept>(
     alloc: Global,
     kind: TypeName,
     shelf: &Shelf,

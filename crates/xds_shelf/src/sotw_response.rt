@@ -4,8 +4,8 @@ ghost use Rattle.std.specs.Option.{option_map};
 ghost use Rattle.serde_json.specs.View.{view as value_of};
 ghost use Rattle.xds_resource.specs.declared.refusal.Refusal.TheVariants.{OutOfMemory};
 ghost use Rattle.xds_message.specs.Responses.{response_of};
-ghost use Rattle.xds_cache.specs.Faults.{fault_of, and_stated, first_fault, stated_by};
-ghost use Rattle.xds_cache.specs.Deliveries.{sotw_stated, sotw_delivery, delivered, fault_in};
+ghost use Rattle.xds_shelf.specs.Faults.{fault_of, and_stated, first_fault, stated_by};
+ghost use Rattle.xds_shelf.specs.Deliveries.{sotw_stated, sotw_delivery, delivered, fault_in};
 
 use crate::accept::Accept;
 use crate::faults::state;
@@ -57,7 +57,7 @@ fn judge<A: Accept>(
 }
 
 /// What is kept of a type after a response, and why that is rejected, if it is.
-pub(crate) fn delivered_to<A: Accept>(
+pub fn delivered_to<A: Accept>(
     alloc: Global,
     kind: TypeName,
     shelf: &Shelf,
