@@ -1,14 +1,15 @@
 // What the server believes that a client holds, after an answer and after a request. Each function makes the whole
 // anew, so that a refusal leaves what was.
-ghost use Rattle.std.specs.Prelude.{◌≡◌, ℕ, List, map, string_bytes, IfOk, IfErr};
+ghost use Rattle.std.specs.Prelude.{◌≡◌, ℕ, List, map, string_bytes, IfOk, IfErr, OnOk};
 ghost use Rattle.std.specs.FinMap as finmap;
 ghost use Rattle.std.specs.FinSet as set;
 ghost use Rattle.xds_resource.specs.declared.refusal.Refusal.TheVariants.{OutOfMemory};
 ghost use Rattle.xds_resource.specs.Writes.{text_cmp};
-ghost use Rattle.xds_resource.specs.Names.{put_all};
+ghost use Rattle.xds_resource.specs.Names.{put_all, put_some};
 ghost use Rattle.xds_beliefs.specs.Believing.{was_touched, beliefs_accepted, beliefs_taken, beliefs_resumed};
 ghost use Rattle.xds_beliefs.specs.Parts.{told_unless_touched, kept_beside, left_by, made_unsure};
 
+use crate::copying::put_entry;
 use crate::sent::Sent;
 use std::alloc::Global;
 use std::collections::btree_set::Iter;
@@ -28,6 +29,21 @@ pub fn once_told(alloc: Global, touched: bool, due: &Due) -> Result<Option<Entry
     }
 }
 
+// Puts what is believed of a name that an accepted response speaks of.
+fn put_told(
+    alloc: Global,
+    sent: &Sent,
+    next: &mut Beliefs,
+    name: &str,
+    due: &Due,
+) -> Result<(), Refusal>
+    ensures ok { OnOk result (next.new ≡ put_some next.old name.now (told_unless_touched (was_touched sent.now name.now) due.now)) }
+    ensures err { IfErr result (λ e. e ≡ OutOfMemory) }
+{
+    let entry = once_told(alloc, sent.was_touched(name), due)?;
+    next.put(alloc, name, entry)
+}
+
 // What the names of an accepted response leave.
 fn told_by(alloc: Global, sent: &Sent) -> Result<Beliefs, Refusal>
     ensures ok { IfOk result (λ m. m ≡ put_all (λ name due. told_unless_touched (was_touched sent.now name) due) finmap.empty (finmap.entries sent.now.offer)) }
@@ -35,27 +51,27 @@ fn told_by(alloc: Global, sent: &Sent) -> Result<Beliefs, Refusal>
 {
     let mut next = Beliefs::new(alloc);
     for (name, due) in sent.offer.iter() {
-        let entry = once_told(alloc, sent.was_touched(name), due)?;
-        next.put(alloc, name, entry)?;
+        put_told(alloc, sent, &mut next, name, due)?;
     }
     Ok(next)
 }
 
-// What is believed of a name of which an accepted response doesn't speak.
-fn kept_beside(
+// Puts what is believed of a name of which an accepted response doesn't speak.
+fn put_kept(
     alloc: Global,
     whole: bool,
     sent: &Sent,
+    next: &mut Beliefs,
     name: &str,
     entry: &Entry,
-) -> Result<Option<Entry>, Refusal>
-    ensures ok { IfOk result (λ e. e ≡ kept_beside whole sent.now name.now entry.now) }
+) -> Result<(), Refusal>
+    ensures ok { OnOk result (next.new ≡ put_some next.old name.now (kept_beside whole sent.now name.now entry.now)) }
     ensures err { IfErr result (λ e. e ≡ OutOfMemory) }
 {
     if sent.offer.contains(name) || (whole && !sent.was_touched(name)) {
-        Ok(None)
+        Ok(())
     } else {
-        Ok(Some(entry.try_copy(alloc)?))
+        put_entry(alloc, next, name, entry)
     }
 }
 
@@ -71,29 +87,29 @@ pub fn accepted(
 {
     let mut next = told_by(alloc, sent)?;
     for (name, entry) in beliefs.iter() {
-        let kept = kept_beside(alloc, whole, sent, name, entry)?;
-        next.put(alloc, name, kept)?;
+        put_kept(alloc, whole, sent, &mut next, name, entry)?;
     }
     Ok(next)
 }
 
-// What is left of an entry by a request that doesn't mention its name.
-fn left_by<T: ResourceType>(
+// Puts what is left of an entry by a request that doesn't mention its name.
+fn put_left<T: ResourceType>(
     alloc: Global,
     interest: &Interest<T>,
     touched: &Touched,
+    next: &mut Beliefs,
     name: &str,
     entry: &Entry,
-) -> Result<Option<Entry>, Refusal>
-    ensures ok { IfOk result (λ e. e ≡ left_by interest.now touched.now name.now entry.now) }
+) -> Result<(), Refusal>
+    ensures ok { OnOk result (next.new ≡ put_some next.old name.now (left_by interest.now touched.now name.now entry.now)) }
     ensures err { IfErr result (λ e. e ≡ OutOfMemory) }
 {
     if !touched.touches(name) {
-        Ok(Some(entry.try_copy(alloc)?))
+        put_entry(alloc, next, name, entry)
     } else if interest.covers(name) {
-        Ok(Some(Entry::Unsure))
+        next.put(alloc, name, Some(Entry::Unsure))
     } else {
-        Ok(None)
+        Ok(())
     }
 }
 
@@ -109,8 +125,7 @@ fn all_left<T: ResourceType>(
 {
     let mut next = Beliefs::new(alloc);
     for (name, entry) in beliefs.iter() {
-        let left = left_by(alloc, interest, touched, name, entry)?;
-        next.put(alloc, name, left)?;
+        put_left(alloc, interest, touched, &mut next, name, entry)?;
     }
     Ok(next)
 }

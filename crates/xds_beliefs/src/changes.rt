@@ -9,7 +9,7 @@ ghost use Rattle.xds_resource.specs.Writes.{text_cmp};
 ghost use Rattle.xds_interest.specs.Interests.{covers};
 ghost use Rattle.xds_beliefs.specs.Changes as specs;
 ghost use Rattle.xds_beliefs.specs.Changes.{believed_now, left_touched, changes_left, changes_unsure, change_as};
-ghost use Rattle.xds_beliefs.specs.Believing.{beliefs_taken, beliefs_resumed};
+ghost use Rattle.xds_beliefs.specs.Believing.{was_touched, beliefs_taken, beliefs_resumed};
 ghost use Rattle.xds_owed.specs.Owed as owed;
 ghost use Rattle.xds_beliefs.specs.Parts as parts;
 
@@ -18,8 +18,23 @@ use crate::sent::Sent;
 use std::alloc::Global;
 use std::collections::btree_set::Iter;
 use xds_interest::{Interest, Touched};
-use xds_owed::{Beliefs, Entry, Version};
+use xds_owed::{Beliefs, Due, Entry, Version};
 use xds_resource::{NameMap, Refusal, ResourceType};
+
+// By an accepted response, of a name that it speaks of.
+fn put_told(
+    alloc: Global,
+    sent: &Sent,
+    changes: &mut NameMap<Option<Entry>>,
+    name: &str,
+    due: &Due,
+) -> Result<(), Refusal>
+    ensures ok { OnOk result (changes.new ≡ put_some changes.old name.now (Some (parts.told_unless_touched (was_touched sent.now name.now) due.now))) }
+    ensures err { IfErr result (λ e. e ≡ OutOfMemory) }
+{
+    let entry = once_told(alloc, sent.was_touched(name), due)?;
+    changes.put(alloc, name, Some(entry))
+}
 
 /// By an accepted response that isn't the whole.
 pub fn changes_told(alloc: Global, sent: &Sent) -> Result<NameMap<Option<Entry>>, Refusal>
@@ -28,8 +43,7 @@ pub fn changes_told(alloc: Global, sent: &Sent) -> Result<NameMap<Option<Entry>>
 {
     let mut changes = NameMap::new(alloc);
     for (name, due) in sent.offer.iter() {
-        let entry = once_told(alloc, sent.was_touched(name), due)?;
-        changes.put(alloc, name, Some(entry))?;
+        put_told(alloc, sent, &mut changes, name, due)?;
     }
     Ok(changes)
 }

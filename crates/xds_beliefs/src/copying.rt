@@ -1,11 +1,26 @@
 // Copies of what a ledger holds.
-ghost use Rattle.std.specs.Prelude.{◌≡◌, IfOk, IfErr};
+ghost use Rattle.std.specs.Prelude.{◌≡◌, Some, IfOk, IfErr, OnOk};
 ghost use Rattle.xds_resource.specs.declared.refusal.Refusal.TheVariants.{OutOfMemory};
+ghost use Rattle.xds_resource.specs.Names.{put_some};
 
 use std::alloc::Global;
 use xds_interest::Touched;
-use xds_owed::{Beliefs, Due};
+use xds_owed::{Beliefs, Due, Entry};
 use xds_resource::{NameMap, Refusal};
+
+/// Puts a copy of what is believed of a name.
+pub fn put_entry(
+    alloc: Global,
+    next: &mut Beliefs,
+    name: &str,
+    entry: &Entry,
+) -> Result<(), Refusal>
+    ensures ok { OnOk result (next.new ≡ put_some next.old name.now (Some entry.now)) }
+    ensures err { IfErr result (λ e. e ≡ OutOfMemory) }
+{
+    let copy = entry.try_copy(alloc)?;
+    next.put(alloc, name, Some(copy))
+}
 
 pub fn copy_beliefs(alloc: Global, beliefs: &Beliefs) -> Result<Beliefs, Refusal>
     ensures ok { IfOk result (λ m. m ≡ beliefs.now) }
@@ -13,9 +28,18 @@ pub fn copy_beliefs(alloc: Global, beliefs: &Beliefs) -> Result<Beliefs, Refusal
 {
     let mut copy = Beliefs::new(alloc);
     for (name, entry) in beliefs.iter() {
-        copy.put(alloc, name, Some(entry.try_copy(alloc)?))?;
+        put_entry(alloc, &mut copy, name, entry)?;
     }
     Ok(copy)
+}
+
+// Puts a copy of what an offer says of a name.
+fn put_due(alloc: Global, next: &mut NameMap<Due>, name: &str, due: &Due) -> Result<(), Refusal>
+    ensures ok { OnOk result (next.new ≡ put_some next.old name.now (Some due.now)) }
+    ensures err { IfErr result (λ e. e ≡ OutOfMemory) }
+{
+    let copy = due.try_copy(alloc)?;
+    next.put(alloc, name, Some(copy))
 }
 
 pub fn copy_offer(alloc: Global, offer: &NameMap<Due>) -> Result<NameMap<Due>, Refusal>
@@ -24,7 +48,7 @@ pub fn copy_offer(alloc: Global, offer: &NameMap<Due>) -> Result<NameMap<Due>, R
 {
     let mut copy = NameMap::new(alloc);
     for (name, due) in offer.iter() {
-        copy.put(alloc, name, Some(due.try_copy(alloc)?))?;
+        put_due(alloc, &mut copy, name, due)?;
     }
     Ok(copy)
 }

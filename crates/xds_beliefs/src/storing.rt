@@ -1,5 +1,5 @@
 // Changes of what is believed, made in place, all or none: what needs memory comes first, and is undone by removals.
-ghost use Rattle.std.specs.Prelude.{◌≡◌, ℕ, List, Some, map, string_bytes, IfOk, IfErr, OnOk, OnErr};
+ghost use Rattle.std.specs.Prelude.{◌≡◌, ℕ, List, [], ◌∷◌, ◌++◌, Some, map, string_bytes, IfOk, IfErr, OnOk, OnErr};
 ghost use Rattle.std.specs.FinMap as finmap;
 ghost use Rattle.xds_resource.specs.declared.refusal.Refusal.TheVariants.{OutOfMemory};
 ghost use Rattle.xds_resource.specs.Names.{put_each};
@@ -10,6 +10,15 @@ use std::alloc::Global;
 use xds_owed::{Beliefs, Entry};
 use xds_resource::{NameMap, Refusal};
 
+// Puts a copy of a name behind others.
+fn push_name(alloc: Global, names: &mut Vec<String>, name: &str) -> Result<(), Refusal>
+    ensures ok { OnOk result (map string_bytes names.new.items ≡ map string_bytes names.old.items ++ name.now ∷ []) }
+    ensures err { IfErr result (λ e. e ≡ OutOfMemory) }
+{
+    names.push(String::from_str(alloc, name)?)?;
+    Ok(())
+}
+
 // The names of which the changes speak.
 fn names_of(alloc: Global, changes: &NameMap<Option<Entry>>) -> Result<Vec<String>, Refusal>
     ensures ok { IfOk result (λ v. map string_bytes v.items ≡ finmap.keys changes.now) }
@@ -17,7 +26,7 @@ fn names_of(alloc: Global, changes: &NameMap<Option<Entry>>) -> Result<Vec<Strin
 {
     let mut names = Vec::new(alloc);
     for (name, _change) in changes.iter() {
-        names.push(String::from_str(alloc, name)?)?;
+        push_name(alloc, &mut names, name)?;
     }
     Ok(names)
 }
