@@ -1,5 +1,2 @@
-pub mod Making
-pub mod Stating
 pub mod Interests
-pub mod Judging
 pub mod Opening

@@ -1,8 +1,3 @@
-pub mod Marks
-pub mod Shelves
-pub mod Faults
-pub mod Deliveries
-pub mod Parts
 pub mod Clients
 pub mod Sends
 pub mod Receives

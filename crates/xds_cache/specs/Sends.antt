@@ -3,11 +3,11 @@ use Rattle.std.specs.Prelude.{ℕ, List, [], ◌∷◌, Bool, true, if◌then◌
 use Rattle.std.specs.FinMap as finmap
 use Rattle.xds_resource.specs.declared.types.TypeName.{TypeName}
 use Rattle.xds_resource.specs.Types.{row}
-use Rattle.xds_resource.specs.Names.{tabulate}
 use Rattle.xds_message.specs.Messages.{Identity, Failure, Request}
 use Rattle.xds_message.specs.DeltaMessages.{DeltaRequest}
 use Rattle.xds_message.specs.Versions.{VersionMap}
-use Rattle.xds_cache.specs.Shelves.{Wants, Cache, Shelf, texts, wants_some, connected}
+pub use Rattle.xds_shelf.specs.Shelves.{held_version, held_versions}
+use Rattle.xds_shelf.specs.Shelves.{Wants, Shelf, texts, wants_some, connected}
 use Rattle.xds_cache.specs.Clients.{Client, shelf, node}
 
 -- why a response is rejected, as `INVALID_ARGUMENT` of google.rpc.Code
@@ -42,13 +42,6 @@ delta_request t who subscribe unsubscribe versions = record {
   response_nonce = [];
   error_detail = None;
 }
-
-abbrev pub held_version : Cache → List ℕ → Option (List ℕ)
-held_version cache name = option_map (λ h. h.version) (finmap.get cache name)
-
--- the versions that are held
-abbrev pub held_versions : Cache → VersionMap
-held_versions cache = tabulate (held_version cache) (finmap.keys cache)
 
 -- The first request of a type on a stream subscribes all that is wanted, and says which versions are held.
 abbrev pub delta_first : Client → TypeName → Bool → DeltaRequest

@@ -1,26 +1,26 @@
 // Clients of the incremental (delta) variant.
-ghost use Rattle.std.specs.Prelude.{◌≡◌, ◌≢◌, map, false, string_bytes, IfOk, IfErr, Ok, Err};
+ghost use Rattle.std.specs.Prelude.{◌≡◌, ◌≢◌, map, false, Some, None, if◌then◌else◌, string_bytes, IfOk, IfErr, Ok, Err};
+ghost use Rattle.std.specs.FinMap as finmap;
 ghost use Rattle.std.specs.Option.{option_map};
 ghost use Rattle.xds_resource.specs.Types.{types};
 ghost use Rattle.xds_resource.specs.declared.refusal.Refusal.{Refusal as RefusalValue};
 ghost use Rattle.xds_resource.specs.declared.refusal.Refusal.TheVariants.{OutOfMemory};
 ghost use Rattle.xds_message.specs.Responses.{delta_response_of};
-ghost use Rattle.xds_cache.specs.Shelves.{wants_of as set_of, wants_some as some_wanted};
-ghost use Rattle.xds_cache.specs.Clients.{fresh, shelf as shelf_of, view as view_of, addressing, linked, unlinked, broken_off};
+ghost use Rattle.xds_shelf.specs.Shelves.{wants_of as set_of, wants_some as some_wanted};
+ghost use Rattle.xds_cache.specs.Clients.{fresh, shelf as shelf_of, view as view_of, node as node_of, addressing, linked, unlinked, broken_off};
 ghost use Rattle.xds_cache.specs.Sends.{delta_request, delta_answer, held_versions as versions_held, delta_first, first_requests, is_greeted};
-ghost use Rattle.xds_cache.specs.Receives.{delta_change, delta_receive};
+ghost use Rattle.xds_cache.specs.Receives.{delta_change, delta_changed, delta_receive};
 
-use crate::accept::Accept;
 use crate::client::Client;
-use crate::delta_response::delivered_to;
-use crate::faults::rejection;
-use crate::holding::Holding;
 use crate::link::{Down, Link, Up};
-use crate::wants::{Wants, texts_of, wants_after, wants_of};
+use crate::rejection::rejection;
 use std::alloc::Global;
 use std::marker::{Model, PhantomData};
 use xds_message::{DeltaDiscoveryRequest, DeltaDiscoveryResponse, Node, Versions};
 use xds_resource::{NameMap, Refusal, TypeName};
+use xds_shelf::delta_response::delivered_to;
+use xds_shelf::wants::{Wants, texts_of, wants_after, wants_of};
+use xds_shelf::{Accept, Holding};
 
 /// A client of the incremental variant, for all types. `A` is its test of what it is sent, and `L` says whether it is
 /// [`Down`] or [`Up`].
@@ -99,6 +99,48 @@ fn held_versions(alloc: Global, cache: &NameMap<Holding>) -> Result<Versions, Re
 }
 
 impl<A: Accept, L: Link> DeltaClient<A, L> {
+    // The request that a change sends, if it sends one.
+    fn request_after(
+        &self,
+        alloc: Global,
+        sent: bool,
+        kind: TypeName,
+        subscribed: &Wants,
+        unsubscribed: &Wants,
+    ) -> Result<Option<DeltaDiscoveryRequest>, Refusal>
+        ensures ok { IfOk result (λ q. q ≡ (if sent then Some (delta_request kind (node_of self.now.greeted self.now) subscribed.now unsubscribed.now finmap.empty) else None)) }
+        ensures err { IfErr result (λ e. e ≡ OutOfMemory) }
+    {
+        if !sent {
+            return Ok(None);
+        }
+        let node = self.client.node(alloc, self.client.has_greeted())?;
+        let versions = Versions::new(alloc);
+        let request = request_for(alloc, kind, node, subscribed, unsubscribed, versions)?;
+        Ok(Some(request))
+    }
+
+    // Subscribes and unsubscribes these sets of texts.
+    fn change_by(
+        &mut self,
+        alloc: Global,
+        kind: TypeName,
+        subscribed: &Wants,
+        unsubscribed: &Wants,
+    ) -> Result<Option<DeltaDiscoveryRequest>, Refusal>
+        ensures ok { IfOk result (λ q. delta_changed L.IS_UP kind subscribed.now unsubscribed.now self.old ≡ (self.new, q)) }
+        ensures err { IfErr result (λ e. self.new ≡ self.old) }
+        ensures refused { IfErr result (λ e. e ≡ OutOfMemory) }
+    {
+        let before = self.client.shelf(kind);
+        let wants = wants_after(alloc, &before.wants, subscribed, unsubscribed)?;
+        let sent = self.client.is_sent(L::IS_UP, kind, &wants);
+        let next = self.client.wanting(alloc, sent, kind, wants)?;
+        let request = self.request_after(alloc, sent, kind, subscribed, unsubscribed)?;
+        self.client.change(sent, kind, next);
+        Ok(request)
+    }
+
     /// What the client holds of a type.
     pub fn view(&self, kind: TypeName) -> &NameMap<Holding>
         ensures { result.now ≡ view_of self.now kind }
@@ -127,19 +169,7 @@ impl<A: Accept, L: Link> DeltaClient<A, L> {
         }
         let subscribed = wants_of(alloc, subscribe)?;
         let unsubscribed = wants_of(alloc, unsubscribe)?;
-        let before = self.client.shelf(kind);
-        let wants = wants_after(alloc, &before.wants, &subscribed, &unsubscribed)?;
-        let sent = self.client.is_sent(L::IS_UP, kind, &wants);
-        let next = before.wanting(alloc, kind, wants, before.asked || sent)?;
-        let request = if sent {
-            let node = self.client.node(alloc, self.client.has_greeted())?;
-            let versions = Versions::new(alloc);
-            Some(request_for(alloc, kind, node, &subscribed, &unsubscribed, versions)?)
-        } else {
-            None
-        };
-        self.client.change(sent, kind, next);
-        Ok(request)
+        self.change_by(alloc, kind, &subscribed, &unsubscribed)
     }
 }
 

@@ -1,12 +1,12 @@
 // The four shelves of a client.
 ghost use Rattle.std.specs.Prelude.{◌≡◌};
 ghost use Rattle.xds_resource.specs.PerType.{at, with_at, each};
-ghost use Rattle.xds_cache.specs.Shelves.{bare, connected, lost};
+ghost use Rattle.xds_shelf.specs.Shelves.{bare, connected, lost};
 
-use crate::shelf::Shelf;
 use std::alloc::Global;
 use std::marker::Model;
 use xds_resource::TypeName;
+use xds_shelf::shelf::Shelf;
 
 #[derive(Drop)]
 pub(crate) struct Shelves {
@@ -18,14 +18,21 @@ pub(crate) struct Shelves {
 
 impl Model for Shelves {
     ghost use Rattle.xds_resource.specs.PerType.{PerType, per_type_code};
-    ghost use Rattle.xds_cache.specs.Shelves as shelves;
-    ghost use Rattle.xds_cache.specs.Shelves.{shelf_code};
+    ghost use Rattle.xds_shelf.specs.Shelves as shelves;
+    ghost use Rattle.xds_shelf.specs.Shelves.{shelf_code};
 
     ghost Value = { PerType shelves.Shelf };
 
     ghost coded = { per_type_code shelf_code };
 
     ghost view = { λ s. record { cluster = s.cluster; endpoint = s.endpoint; listener = s.listener; route = s.route } };
+}
+
+// Puts a value in the place of another, which is dropped here, where its parts aren't looked at.
+fn set<S: Drop>(place: &mut S, value: S)
+    ensures { place.new ≡ value }
+{
+    *place = value;
 }
 
 impl Shelves {
@@ -57,10 +64,10 @@ impl Shelves {
         ensures { self.new ≡ with_at self.old kind shelf }
     {
         match kind {
-            TypeName::Cluster => self.cluster = shelf,
-            TypeName::Endpoint => self.endpoint = shelf,
-            TypeName::Listener => self.listener = shelf,
-            TypeName::Route => self.route = shelf,
+            TypeName::Cluster => set(&mut self.cluster, shelf),
+            TypeName::Endpoint => set(&mut self.endpoint, shelf),
+            TypeName::Listener => set(&mut self.listener, shelf),
+            TypeName::Route => set(&mut self.route, shelf),
         }
     }
 

@@ -1,27 +1,26 @@
 // Clients of the state-of-the-world variant.
-ghost use Rattle.std.specs.Prelude.{◌≡◌, ◌≢◌, map, false, string_bytes, IfOk, IfErr, Ok, Err};
+ghost use Rattle.std.specs.Prelude.{◌≡◌, ◌≢◌, map, false, Some, None, if◌then◌else◌, string_bytes, IfOk, IfErr, Ok, Err};
 ghost use Rattle.std.specs.Option.{option_map};
 ghost use Rattle.xds_resource.specs.Types.{types};
 ghost use Rattle.xds_resource.specs.declared.refusal.Refusal.{Refusal as RefusalValue};
 ghost use Rattle.xds_resource.specs.declared.refusal.Refusal.TheVariants.{OutOfMemory};
 ghost use Rattle.xds_message.specs.Responses.{response_of};
-ghost use Rattle.xds_cache.specs.Shelves.{wants_of as set_of, wants_some as some_wanted};
-ghost use Rattle.xds_cache.specs.Clients.{fresh, shelf as shelf_of, view as view_of, addressing, linked, unlinked, broken_off};
+ghost use Rattle.xds_shelf.specs.Shelves.{wants_of as set_of, wants_some as some_wanted};
+ghost use Rattle.xds_cache.specs.Clients.{fresh, shelf as shelf_of, view as view_of, node as node_of, addressing, linked, unlinked, broken_off};
 ghost use Rattle.xds_cache.specs.Sends.{sotw_request as request_of, sotw_first, first_requests, is_greeted};
 ghost use Rattle.xds_cache.specs.Receives.{sotw_change, sotw_receive};
 
-use crate::accept::Accept;
 use crate::client::Client;
-use crate::faults::rejection;
-use crate::holding::Holding;
 use crate::link::{Down, Link, Up};
-use crate::shelf::Shelf;
-use crate::sotw_response::delivered_to;
-use crate::wants::{texts_of, wants_of};
+use crate::rejection::rejection;
 use std::alloc::Global;
 use std::marker::{Model, PhantomData};
 use xds_message::{DiscoveryRequest, DiscoveryResponse, Node};
 use xds_resource::{NameMap, Refusal, TypeName};
+use xds_shelf::shelf::Shelf;
+use xds_shelf::sotw_response::delivered_to;
+use xds_shelf::wants::{texts_of, wants_of};
+use xds_shelf::{Accept, Holding};
 
 /// A client of the state-of-the-world variant, for all types. `A` is its test of what it is sent, and `L` says whether it
 /// is [`Down`] or [`Up`].
@@ -66,6 +65,25 @@ fn request_for(
 }
 
 impl<A: Accept, L: Link> SotwClient<A, L> {
+    // The request that a change sends, if it sends one.
+    fn request_after(
+        &self,
+        alloc: Global,
+        sent: bool,
+        kind: TypeName,
+        next: &Shelf,
+    ) -> Result<Option<DiscoveryRequest>, Refusal>
+        ensures ok { IfOk result (λ q. q ≡ (if sent then Some (request_of kind (node_of self.now.greeted self.now) next.now None) else None)) }
+        ensures err { IfErr result (λ e. e ≡ OutOfMemory) }
+    {
+        if !sent {
+            return Ok(None);
+        }
+        let node = self.client.node(alloc, self.client.has_greeted())?;
+        let request = request_for(alloc, kind, node, next, next.nonce.as_str(), None)?;
+        Ok(Some(request))
+    }
+
     /// What the client holds of a type.
     pub fn view(&self, kind: TypeName) -> &NameMap<Holding>
         ensures { result.now ≡ view_of self.now kind }
@@ -92,14 +110,8 @@ impl<A: Accept, L: Link> SotwClient<A, L> {
         }
         let wants = wants_of(alloc, names)?;
         let sent = self.client.is_sent(L::IS_UP, kind, &wants);
-        let before = self.client.shelf(kind);
-        let next = before.wanting(alloc, kind, wants, before.asked || sent)?;
-        let request = if sent {
-            let node = self.client.node(alloc, self.client.has_greeted())?;
-            Some(request_for(alloc, kind, node, &next, next.nonce.as_str(), None)?)
-        } else {
-            None
-        };
+        let next = self.client.wanting(alloc, sent, kind, wants)?;
+        let request = self.request_after(alloc, sent, kind, &next)?;
         self.client.change(sent, kind, next);
         Ok(request)
     }

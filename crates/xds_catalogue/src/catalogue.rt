@@ -1,12 +1,13 @@
 // The catalogue of one type.
 ghost use Rattle.std.specs.Prelude.{◌≡◌, ◌≤◌, ◌<◌, ◌^◌, ◌∷◌, [], length, nat_lt, map, is_some, true, false, IfSome, IfNone, IsOk, IfOk, IfErr, OnErr};
+ghost use Rattle.std.specs.List.{filter};
 ghost use Rattle.std.specs.Option.{option_map};
 ghost use Rattle.std.specs.Arc.{arc_str_bytes};
 ghost use Rattle.std.specs.FinMap as finmap;
 ghost use Rattle.xds_resource.specs.Refusals.{Gives, unless_refused};
 ghost use Rattle.xds_resource.specs.Resources.{is_valid_name};
 ghost use Rattle.xds_catalogue.specs.Holdings.{nothing_held, IsCatalogue, IsNumbered};
-ghost use Rattle.xds_catalogue.specs.Content.{content};
+ghost use Rattle.xds_catalogue.specs.Content.{content, is_shown};
 ghost use Rattle.xds_resource.specs.Stamps.{max_counter};
 ghost use Rattle.xds_catalogue.specs.Joins.{joined, joining};
 ghost use Rattle.xds_catalogue.specs.Local.{putting, deleting, has_live, spent_conditions, next_counter};
@@ -40,6 +41,24 @@ impl<T: ResourceType> Model for Catalogue<T> {
     ghost view = { λ c. held_by c.tables };
 
     ghost invariant = { λ c. IsSound c.tables };
+}
+
+// Those of some writes that are live and covered.
+fn shown_of<'a, T: ResourceType>(
+    alloc: Global,
+    writes: &[&'a Write<T>],
+    interest: &Interest<T>,
+) -> Result<Vec<&'a Write<T>>, Refusal>
+    ensures ok { IfOk result (λ v. map (λ w. w.now) v.items ≡ filter (is_shown interest.now) (map (λ w. w.now) writes.now)) }
+    ensures err { IfErr result (λ e. e ≡ Refusal.OutOfMemory) }
+{
+    let mut shown = Vec::new(alloc);
+    for write in writes {
+        if write.body().is_some() && interest.covers(write.name()) {
+            shown.push(*write)?;
+        }
+    }
+    Ok(shown)
 }
 
 impl<T: ResourceType> Catalogue<T> {
@@ -209,13 +228,7 @@ impl<T: ResourceType> Catalogue<T> {
             return self.tables.names().shown(alloc, interest);
         }
         let entries = self.entries(alloc)?;
-        let mut shown = Vec::new(alloc);
-        for write in &entries {
-            if write.body().is_some() && interest.covers(write.name()) {
-                shown.push(*write)?;
-            }
-        }
-        Ok(shown)
+        shown_of(alloc, &entries, interest)
     }
 
     /// An equal catalogue, with memory of its own. Refused only by `OutOfMemory`.

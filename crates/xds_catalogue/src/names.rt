@@ -9,6 +9,7 @@ ghost use Rattle.xds_catalogue.specs.Tables.{no_names, with_name, with_former};
 use std::alloc::{AllocError, Global};
 use std::collections::BTreeMap;
 use std::marker::Model;
+use std::mem;
 use xds_interest::Interest;
 use xds_resource::{Refusal, ResourceType, Write};
 
@@ -96,11 +97,11 @@ impl<T: ResourceType> Names<T> {
         ensures refused { IfErr result (λ e. e ≡ Refusal.OutOfMemory) }
     {
         if let Some(held) = self.by_name.get_mut(entry.write().name()) {
-            *held = entry;
+            drop(mem::replace(held, entry));
             return Ok(());
         }
         let name = String::from_str(self.alloc, entry.write().name())?;
-        self.by_name.insert(name, entry)?;
+        drop(self.by_name.insert(name, entry)?);
         Ok(())
     }
 
@@ -111,12 +112,10 @@ impl<T: ResourceType> Names<T> {
         match former {
             Some(entry) => {
                 if let Some(held) = self.by_name.get_mut(name) {
-                    *held = entry;
+                    drop(mem::replace(held, entry));
                 }
             }
-            None => {
-                self.by_name.remove(name);
-            }
+            None => drop(self.by_name.remove(name)),
         }
     }
 

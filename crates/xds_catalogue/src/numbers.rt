@@ -43,14 +43,14 @@ impl Numbers {
         ensures err { OnErr result (self.new ≡ self.old) }
         ensures refused { IfErr result (λ e. e ≡ Refusal.OutOfMemory) }
     {
-        self.names.insert(number, name)?;
+        drop(self.names.insert(number, name)?);
         Ok(())
     }
 
     pub(crate) fn remove(&mut self, number: u64)
         ensures { self.new ≡ finmap.remove self.old number }
     {
-        self.names.remove(&number);
+        drop(self.names.remove(&number));
     }
 
     // The least number from this one on, with its name.

@@ -6,7 +6,7 @@ use Rattle.xds_resource.specs.declared.types.TypeName.{TypeName}
 use Rattle.xds_resource.specs.declared.refusal.Refusal.{Refusal}
 use Rattle.xds_resource.specs.Refusals.{Gives}
 use Rattle.xds_draft.specs.declared.draft.Draft.{Draft}
-use Rattle.xds_ledger.specs.Offers.{Offer}
+use Rattle.xds_owed.specs.Offers.{Offer}
 use Rattle.xds_core.specs.Stores.{Store}
 use Rattle.xds_core.specs.Streams.{Stream, opening, looked_at, to_send, sending, polled, polled_first}
 use Rattle.xds_core.specs.States.{tagged}

@@ -1,7 +1,7 @@
 -- How the states of a stream are seen. This project's own.
 use Rattle.std.specs.Prelude.{Option, option_map, Result, Ok, Err}
 use Rattle.xds_draft.specs.declared.draft.Draft.{Draft}
-use Rattle.xds_ledger.specs.declared.variant.VariantName.TheVariants as variants
+use Rattle.xds_owed.specs.declared.variant.VariantName.TheVariants as variants
 use Rattle.xds_core.specs.declared.stream.State.{State}
 use Rattle.xds_core.specs.declared.stream.State.TheVariants as states
 use Rattle.xds_core.specs.Streams.{Stream, opening}

@@ -3,7 +3,7 @@ use Rattle.std.specs.Prelude.{ℕ, Some, refl}
 use Rattle.std.specs.Coded.{Coded, code_by, coded×, coded_ℕ}
 use Rattle.xds_resource.specs.declared.types.TypeName.{TypeName}
 use Rattle.xds_resource.specs.PerType.{PerType, per_type_code, each, with_at}
-use Rattle.xds_ledger.specs.declared.variant.VariantName.{VariantName}
+use Rattle.xds_owed.specs.declared.variant.VariantName.{VariantName}
 use Rattle.xds_ledger.specs.Sessions.{Session, session_code, unopened}
 use Rattle.xds_core.specs.Streams.{Stream}
 

@@ -5,7 +5,7 @@ ghost use Rattle.xds_resource.specs.PerType.{at};
 ghost use Rattle.xds_resource.specs.Refusals.{Gives};
 ghost use Rattle.xds_resource.specs.declared.refusal.Refusal.TheVariants.{OutOfMemory};
 ghost use Rattle.xds_draft.specs.declared.draft.Draft.TheVariants as drafts;
-ghost use Rattle.xds_ledger.specs.declared.variant.VariantName.TheVariants.{StateOfTheWorld};
+ghost use Rattle.xds_owed.specs.declared.variant.VariantName.TheVariants.{StateOfTheWorld};
 ghost use Rattle.xds_ledger.specs.Sessions as sessions;
 ghost use Rattle.xds_core.specs.Streams.{Sotw, answered, owes_of, to_send, polled};
 ghost use Rattle.xds_core.specs.Talks.{begun, stream_in, with_session};

@@ -7,8 +7,8 @@ use Rattle.xds_resource.specs.declared.types.TypeName.{TypeName}
 use Rattle.xds_resource.specs.Writes.{text_cmp}
 use Rattle.xds_interest.specs.Interests.{Selection}
 use Rattle.xds_catalogue.specs.Holdings.{Entries}
-use Rattle.xds_ledger.specs.declared.variant.VariantName.{VariantName}
-use Rattle.xds_ledger.specs.Offers.{Offer}
+use Rattle.xds_owed.specs.declared.variant.VariantName.{VariantName}
+use Rattle.xds_owed.specs.Offers.{Offer}
 use Rattle.xds_ledger.specs.Ledgers as ledgers
 use Rattle.xds_ledger.specs.Sessions.{Session, sending, send, HasPolled}
 

@@ -1,29 +1,21 @@
 -- What a server keeps of one type on one stream, beside the interest: what it told, what is unanswered, what was refused. This project's own.
-use Rattle.std.specs.Prelude.{ℕ, zero, suc, List, [], ◌∷◌, ◌++◌, Bool, true, false, ◌&&◌, ◌||◌, not, if◌then◌else◌, Option, Some, None, bytes_eq, is_some, is_none, option_map, decimal, refl}
-use Rattle.std.specs.Option.{option_map_or, option_or}
-use Rattle.std.specs.List.{list_any}
+use Rattle.std.specs.Prelude.{ℕ, zero, suc, List, [], Bool, true, false, ◌&&◌, ◌||◌, not, if◌then◌else◌, Option, Some, None, bytes_eq, is_some, is_none, option_map, decimal, refl}
+use Rattle.std.specs.Option.{option_map_or}
 use Rattle.std.specs.FinMap as finmap
 use Rattle.std.specs.FinSet as set
 use Rattle.xds_resource.specs.declared.types.TypeName.{TypeName}
 use Rattle.xds_resource.specs.Writes.{text_cmp}
-use Rattle.xds_resource.specs.Names.{tabulate}
-use Rattle.xds_interest.specs.Interests.{Selection, covers}
+use Rattle.xds_interest.specs.Interests.{Selection}
 use Rattle.std.specs.Coded.{Coded, code_by, coded×, coded_ℕ, coded_bool, coded_list, coded_option}
-use Rattle.xds_interest.specs.Touches.{Touch, touch_code, touches}
+use Rattle.xds_interest.specs.Touches.{Touch}
 use Rattle.xds_catalogue.specs.Holdings.{Entries}
-use Rattle.xds_ledger.specs.declared.variant.VariantName.{VariantName}
-use Rattle.xds_ledger.specs.declared.entry.Entry.{Entry}
-use Rattle.xds_ledger.specs.declared.entry.Entry.TheVariants.{Told, Unsure}
-use Rattle.xds_ledger.specs.declared.entry.Due.{Due}
-use Rattle.xds_ledger.specs.declared.entry.Due.TheVariants.{Stated, Removed}
-use Rattle.xds_ledger.specs.Variants.{is_whole}
-use Rattle.xds_ledger.specs.Owed.{Beliefs, entry_code, something_owed}
-use Rattle.xds_ledger.specs.Offers.{Offer, due_code, offer, same_offer}
-
--- a response that was sent and isn't answered: what it offers, and what the requests touched that were taken since
-pub record Sent : Type 0 where
-  pub offer : finmap.FinMap text_cmp Due
-  pub touched : List Touch
+use Rattle.xds_owed.specs.declared.variant.VariantName.{VariantName}
+use Rattle.xds_owed.specs.declared.entry.Entry.{Entry}
+use Rattle.xds_owed.specs.declared.entry.Due.{Due}
+pub use Rattle.xds_beliefs.specs.Believing.{Sent, sent_code, touched_since, was_touched, once_told, believed_accepted, beliefs_accepted, believed_touched, believed_taken, beliefs_taken, beliefs_resumed}
+use Rattle.xds_owed.specs.Variants.{is_whole}
+use Rattle.xds_owed.specs.Owed.{entry_code, something_owed}
+use Rattle.xds_owed.specs.Offers.{Offer, due_code, offer, same_offer}
 
 pub record Account : Type 0 where
   -- what the client is believed to hold
@@ -35,11 +27,6 @@ pub record Account : Type 0 where
   pub sent : Option Sent
   -- the offer that was refused last, where none was accepted since
   pub refused : Option (finmap.FinMap text_cmp Due)
-
-abbrev pub sent_code : Coded Sent
-sent_code =
-    code_by (finmap.FinMap text_cmp Due × List Touch) (coded× (finmap.code (coded_list coded_ℕ) due_code) (coded_list touch_code)) (λ s. (s.offer, s.touched))
-    (λ p. record { offer = p.0; touched = p.1 }) (λ _. refl)
 
 abbrev pub account_code : Coded Account
 account_code =
@@ -90,25 +77,6 @@ is_stale a nonce = is_none a.sent && not (bytes_eq nonce []) && not (bytes_eq no
 
 -- ---- answers
 
--- whether a request touched the name since the response was sent
-abbrev pub was_touched : Sent → List ℕ → Bool
-was_touched sent name = list_any (λ touch. touches touch name) sent.touched
-
--- what is believed of a name that was told
-abbrev pub once_told : Due → Option Entry
-once_told (Stated v) = Some (Told v)
-once_told Removed = None
-
--- What is believed of a name once the response is accepted, from what the response says of it and what was believed before.
--- A name that was touched meanwhile is unsure; a whole response leaves no other name that wasn't touched.
-abbrev pub believed_accepted : Bool → Bool → Option Due → Option Entry → Option Entry
-believed_accepted whole touched (Some due) before = if touched then Some Unsure else once_told due
-believed_accepted whole touched None before = if whole && not touched then None else before
-
-abbrev pub beliefs_accepted : Bool → Sent → Beliefs → Beliefs
-beliefs_accepted whole sent beliefs =
-    tabulate (λ name. believed_accepted whole (was_touched sent name) (finmap.get sent.offer name) (finmap.get beliefs name)) (finmap.keys sent.offer ++ finmap.keys beliefs)
-
 -- the client accepts the response
 abbrev pub accept : VariantName → TypeName → Account → Sent → Account
 accept v t a sent = record a { beliefs = beliefs_accepted (is_whole v t) sent a.beliefs; accepted = true; sent = None; refused = None }
@@ -127,23 +95,6 @@ settled v t a nonce rejects = if answers a nonce then option_map_or (λ sent. an
 
 -- ---- names
 
--- What is believed of a name that a request touches: nothing if the interest doesn't cover it, and else unsure if the
--- request mentions it or it was believed held.
-abbrev pub believed_touched : Bool → Bool → Option Entry → Option Entry
-believed_touched covered mentioned before = if covered && (mentioned || is_some before) then Some Unsure else None
-
--- the same of any name: one that isn't touched keeps what is believed of it
-abbrev pub believed_taken : Selection → Touch → set.FinSet text_cmp → Beliefs → List ℕ → Option Entry
-believed_taken s touch mentioned beliefs name =
-    if touches touch name then believed_touched (covers s name) (set.contains mentioned name) (finmap.get beliefs name) else finmap.get beliefs name
-
-abbrev pub beliefs_taken : Selection → Touch → set.FinSet text_cmp → Beliefs → Beliefs
-beliefs_taken s touch mentioned beliefs = tabulate (believed_taken s touch mentioned beliefs) (set.items mentioned ++ finmap.keys beliefs)
-
--- the response that is unanswered, once a request touched names
-abbrev pub touched_since : Sent → Touch → Sent
-touched_since sent touch = record sent { touched = sent.touched ++ touch ∷ [] }
-
 -- what a request touched is noted with the unanswered response, if there is one
 abbrev pub noted : Account → Touch → Account
 noted a touched = record a { sent = option_map (λ sent. touched_since sent touched) a.sent }
@@ -151,11 +102,6 @@ noted a touched = record a { sent = option_map (λ sent. touched_since sent touc
 -- Once a request's names are taken: its interest, what it touches, and the names that it mentions.
 abbrev pub touch : Account → Selection → Touch → set.FinSet text_cmp → Account
 touch a s touched mentioned = record (noted a touched) { beliefs = beliefs_taken s touched mentioned a.beliefs }
-
--- what is believed once a client said which versions it holds: it was told these
-abbrev pub beliefs_resumed : finmap.FinMap text_cmp (List ℕ) → Beliefs → Beliefs
-beliefs_resumed versions beliefs =
-    tabulate (λ name. option_or (option_map Told (finmap.get versions name)) (finmap.get beliefs name)) (finmap.keys versions ++ finmap.keys beliefs)
 
 abbrev pub resume : Account → finmap.FinMap text_cmp (List ℕ) → Account
 resume a versions = record a { beliefs = beliefs_resumed versions a.beliefs }

@@ -1,11 +1,4 @@
-pub mod Variants
-pub mod Owed
-pub mod Offers
 pub mod Ledgers
 pub mod Sessions
 pub mod Texts
-pub mod Parts
-pub mod Changes
-pub mod OfferParts
 pub mod Laws
-pub mod Repeats

@@ -3,21 +3,17 @@ ghost use Rattle.std.specs.Prelude.{◌≡◌, bytes_eq, is_some, IfOk, IfErr};
 ghost use Rattle.xds_resource.specs.declared.refusal.Refusal.TheVariants.{OutOfMemory};
 ghost use Rattle.xds_ledger.specs.Ledgers as ledgers;
 ghost use Rattle.xds_ledger.specs.Ledgers.{opened, nonce_text};
-ghost use Rattle.xds_ledger.specs.Offers.{offer as offer_of};
+ghost use Rattle.xds_owed.specs.Offers.{offer as offer_of};
 
-use crate::believed::Beliefs;
-use crate::copying::{copy_beliefs, copy_offer};
-use crate::entry::Due;
-use crate::offers::{is_same_offer, offer};
-use crate::owed::something_owed;
-use crate::repeats::repeats;
-use crate::sent::Sent;
-use crate::variant::Variant;
 use itoa::Buffer;
 use std::alloc::Global;
 use std::marker::{Model, PhantomData};
+use xds_beliefs::Sent;
+use xds_beliefs::copying::{copy_beliefs, copy_offer};
 use xds_catalogue::Catalogue;
 use xds_interest::Interest;
+use xds_owed::repeats::repeats;
+use xds_owed::{Beliefs, Due, Variant, is_same_offer, offer, something_owed};
 use xds_resource::{NameMap, Refusal, ResourceType};
 
 /// What a client was told of one type on one stream, and what is unanswered. Contracts see it as an account.

@@ -15,19 +15,19 @@ use Rattle.xds_resource.proofs.MadeMaps.{EachFound, each_found}
 use Rattle.xds_interest.specs.Interests.{Selection, covers}
 use Rattle.xds_catalogue.specs.Holdings.{Holdings, Entries}
 use Rattle.xds_draft.specs.Drafts.{DraftedResource, drafted_resource}
-use Rattle.xds_ledger.specs.declared.variant.VariantName.TheVariants.{Delta}
-use Rattle.xds_ledger.specs.declared.entry.Entry.{Entry}
-use Rattle.xds_ledger.specs.declared.entry.Entry.TheVariants.{Told, Unsure}
-use Rattle.xds_ledger.specs.declared.entry.Due.{Due}
-use Rattle.xds_ledger.specs.declared.entry.Due.TheVariants.{Stated, Removed}
-use Rattle.xds_ledger.specs.Variants.{is_told}
-use Rattle.xds_ledger.specs.Owed.{Beliefs, live_version, present, owed, owed_of}
-use Rattle.xds_ledger.specs.Offers.{Offer, offer, stated_version}
-use Rattle.xds_ledger.proofs.ByName.{offer_says_it}
+use Rattle.xds_owed.specs.declared.variant.VariantName.TheVariants.{Delta}
+use Rattle.xds_owed.specs.declared.entry.Entry.{Entry}
+use Rattle.xds_owed.specs.declared.entry.Entry.TheVariants.{Told, Unsure}
+use Rattle.xds_owed.specs.declared.entry.Due.{Due}
+use Rattle.xds_owed.specs.declared.entry.Due.TheVariants.{Stated, Removed}
+use Rattle.xds_owed.specs.Variants.{is_told}
+use Rattle.xds_owed.specs.Owed.{Beliefs, live_version, present, owed, owed_of}
+use Rattle.xds_owed.specs.Offers.{Offer, offer, stated_version}
+use Rattle.xds_owed.proofs.ByName.{offer_says_it}
 use Rattle.xds_delta.specs.Polls.{is_statement, is_removal, names_where, resource_of as drafted_of, resource_at, response}
-use Rattle.xds_cache.specs.Shelves.{Holding, Cache, marked}
-use Rattle.xds_cache.specs.Faults.{Stated as StatedResource, stated_by, and_stated}
-use Rattle.xds_cache.specs.Deliveries.{delta_stated}
+use Rattle.xds_shelf.specs.Shelves.{Holding, Cache, marked}
+use Rattle.xds_shelf.specs.Faults.{Stated as StatedResource, stated_by, and_stated}
+use Rattle.xds_shelf.specs.Deliveries.{delta_stated}
 use Rattle.xds_model.specs.Knows.{TypedWrite}
 use Rattle.xds_model.specs.Claims.{holding_of}
 use Rattle.xds_model.proofs.Replicas.{some_is}

@@ -22,9 +22,9 @@ use Rattle.xds_draft.specs.declared.draft.Draft.{Draft}
 use Rattle.xds_draft.specs.declared.draft.Draft.TheVariants as drafts
 use Rattle.xds_draft.specs.Drafts.{DraftedDelta}
 use Rattle.xds_ledger.specs.declared.outcome.Outcome.{Outcome}
-use Rattle.xds_ledger.specs.declared.variant.VariantName.{VariantName}
-use Rattle.xds_ledger.specs.declared.variant.VariantName.TheVariants.{Delta}
-use Rattle.xds_ledger.specs.Offers.{Offer, offer}
+use Rattle.xds_owed.specs.declared.variant.VariantName.{VariantName}
+use Rattle.xds_owed.specs.declared.variant.VariantName.TheVariants.{Delta}
+use Rattle.xds_owed.specs.Offers.{Offer, offer}
 use Rattle.xds_ledger.specs.Ledgers as ledgers
 use Rattle.xds_ledger.specs.Ledgers.{nonce_text, is_due, is_refused}
 use Rattle.xds_ledger.specs.Sessions as sessions
@@ -34,7 +34,7 @@ use Rattle.xds_core.specs.Stores.{Store, if_done}
 use Rattle.xds_core.specs.Streams as streams
 use Rattle.xds_core.specs.Streams.{Stream, Message, url_of, variant_of, is_foreign, answered_by, answered, requested, to_send, response_of, sending, sent, polled, first_due, polled_first}
 use Rattle.xds_core.proofs.StepLaws.{unless_once, done_with}
-use Rattle.xds_cache.specs.Shelves.{Shelf}
+use Rattle.xds_shelf.specs.Shelves.{Shelf}
 use Rattle.xds_cache.specs.Clients.{Client, shelf}
 use Rattle.xds_model.specs.Worlds.{Link}
 use Rattle.xds_model.specs.Knows.{TypedWrite}

@@ -22,15 +22,15 @@ use Rattle.xds_message.specs.DeltaMessages.{DeltaRequest}
 use Rattle.xds_draft.specs.declared.draft.Draft.{Draft}
 use Rattle.xds_draft.specs.declared.draft.Draft.TheVariants as drafts
 use Rattle.xds_draft.specs.Drafts.{DraftedDelta, delta_message_of}
-use Rattle.xds_ledger.specs.declared.entry.Entry.TheVariants.{Told}
+use Rattle.xds_owed.specs.declared.entry.Entry.TheVariants.{Told}
 use Rattle.xds_ledger.specs.Sessions.{Session, unopened}
 use Rattle.xds_delta.specs.Polls.{take, mention}
 use Rattle.xds_core.specs.Streams as streams
 use Rattle.xds_core.specs.Streams.{Stream, Message, opening}
-use Rattle.xds_cache.specs.Shelves.{Wants, Holding, Cache, Shelf, texts, interest, is_wanted, wants_some, wants_after, wanting, kept_of, connected, lost, bare}
-use Rattle.xds_cache.specs.Faults.{Test}
+use Rattle.xds_shelf.specs.Shelves.{Wants, Holding, Cache, Shelf, texts, interest, is_wanted, wants_some, wants_after, wanting, kept_of, connected, lost, bare}
+use Rattle.xds_shelf.specs.Faults.{Test}
 use Rattle.xds_cache.specs.Clients.{Client, shelf, with_shelf, node, is_sent, shelf_after, changed, linked, unlinked, addressing, addressed_or, if_asked}
-use Rattle.xds_cache.specs.Deliveries.{delta_delivery, fault_in, delivered}
+use Rattle.xds_shelf.specs.Deliveries.{delta_delivery, fault_in, delivered}
 use Rattle.xds_cache.specs.Sends.{delta_request, delta_answer, held_version, held_versions, delta_first}
 use Rattle.xds_cache.specs.Receives.{Outcome, delta_receive, delta_answered, if_addressed}
 use Rattle.xds_cache.proofs.Interests.{kept_by_name, holds_what_is_wanted, first_change_is_asked, first_is_asked}

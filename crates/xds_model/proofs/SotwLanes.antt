@@ -15,16 +15,16 @@ use Rattle.xds_interest.specs.Touches.{touches, sotw_touch}
 use Rattle.xds_interest.proofs.AskedLaws.{sotw_touch_is_a_set}
 use Rattle.xds_message.specs.Messages.{Request}
 use Rattle.xds_draft.specs.Drafts.{Drafted, message_of}
-use Rattle.xds_ledger.specs.declared.variant.VariantName.TheVariants.{StateOfTheWorld}
-use Rattle.xds_ledger.specs.declared.entry.Entry.{Entry}
-use Rattle.xds_ledger.specs.declared.entry.Entry.TheVariants.{Told}
-use Rattle.xds_ledger.specs.declared.entry.Due.{Due}
-use Rattle.xds_ledger.specs.declared.entry.Due.TheVariants.{Stated, Removed}
+use Rattle.xds_owed.specs.declared.variant.VariantName.TheVariants.{StateOfTheWorld}
+use Rattle.xds_owed.specs.declared.entry.Entry.{Entry}
+use Rattle.xds_owed.specs.declared.entry.Entry.TheVariants.{Told}
+use Rattle.xds_owed.specs.declared.entry.Due.{Due}
+use Rattle.xds_owed.specs.declared.entry.Due.TheVariants.{Stated, Removed}
 use Rattle.xds_ledger.specs.Ledgers.{Account, Sent, nonce_text, was_touched, touched_since, settled, answered, believed_accepted}
 use Rattle.xds_ledger.specs.Sessions.{Session, Names, unopened, taken}
 use Rattle.xds_sotw.specs.Polls.{take}
-use Rattle.xds_cache.specs.Shelves.{Wants, Holding, Cache, Shelf, texts, interest, is_wanted, wants_some}
-use Rattle.xds_cache.specs.Deliveries.{sotw_delivery, statements}
+use Rattle.xds_shelf.specs.Shelves.{Wants, Holding, Cache, Shelf, texts, interest, is_wanted, wants_some}
+use Rattle.xds_shelf.specs.Deliveries.{sotw_delivery, statements}
 use Rattle.xds_model.specs.Knows.{TypedWrite}
 use Rattle.xds_model.proofs.ByOneName.{believed_after}
 use Rattle.xds_model.proofs.Lanes.{believed_by_name, nothing_resumed, settles, taken_if_sent}

@@ -16,9 +16,9 @@ use Rattle.xds_draft.specs.declared.draft.Draft.{Draft}
 use Rattle.xds_draft.specs.declared.draft.Draft.TheVariants as drafts
 use Rattle.xds_draft.specs.Drafts.{Drafted, message_of}
 use Rattle.xds_ledger.specs.declared.outcome.Outcome.{Outcome}
-use Rattle.xds_ledger.specs.declared.entry.Entry.TheVariants.{Told}
-use Rattle.xds_ledger.specs.declared.variant.VariantName.TheVariants.{StateOfTheWorld}
-use Rattle.xds_ledger.specs.Offers.{Offer}
+use Rattle.xds_owed.specs.declared.entry.Entry.TheVariants.{Told}
+use Rattle.xds_owed.specs.declared.variant.VariantName.TheVariants.{StateOfTheWorld}
+use Rattle.xds_owed.specs.Offers.{Offer}
 use Rattle.xds_ledger.specs.Ledgers.{nonce_text}
 use Rattle.xds_ledger.specs.Sessions as sessions
 use Rattle.xds_ledger.specs.Sessions.{Session, unopened, is_taken, send}
@@ -27,10 +27,10 @@ use Rattle.xds_core.specs.Stores.{Store}
 use Rattle.xds_core.specs.Streams as streams
 use Rattle.xds_core.specs.Streams.{Stream, Message, opening, is_foreign, answered_by, answered, requested, to_send, response_of}
 use Rattle.xds_core.proofs.StepLaws.{unless_once}
-use Rattle.xds_cache.specs.Shelves.{Wants, Shelf, texts, is_wanted, wants_some, wanting, connected}
-use Rattle.xds_cache.specs.Faults.{Test}
+use Rattle.xds_shelf.specs.Shelves.{Wants, Shelf, texts, is_wanted, wants_some, wanting, connected}
+use Rattle.xds_shelf.specs.Faults.{Test}
 use Rattle.xds_cache.specs.Clients.{Client, shelf, with_shelf, node, is_sent, shelf_after, changed, linked, unlinked, addressing, addressed_or, if_asked}
-use Rattle.xds_cache.specs.Deliveries.{sotw_delivery, fault_in, taking, rejecting, delivered}
+use Rattle.xds_shelf.specs.Deliveries.{sotw_delivery, fault_in, taking, rejecting, delivered}
 use Rattle.xds_cache.specs.Sends.{sotw_request, sotw_first}
 use Rattle.xds_cache.specs.Receives.{sotw_receive, sotw_answered}
 use Rattle.xds_cache.proofs.Interests.{kept_by_name, holds_what_is_wanted}

@@ -16,21 +16,21 @@ use Rattle.xds_interest.specs.Asked.{Asked}
 use Rattle.xds_catalogue.specs.Holdings.{Entries}
 use Rattle.xds_draft.specs.Drafts.{Drafted}
 use Rattle.xds_draft.specs.DraftTexts.{kind_of}
-use Rattle.xds_ledger.specs.declared.variant.VariantName.TheVariants.{StateOfTheWorld}
-use Rattle.xds_ledger.specs.declared.entry.Entry.{Entry}
-use Rattle.xds_ledger.specs.declared.entry.Entry.TheVariants.{Told, Unsure}
-use Rattle.xds_ledger.specs.declared.entry.Due.{Due}
-use Rattle.xds_ledger.specs.declared.entry.Due.TheVariants.{Stated, Removed}
-use Rattle.xds_ledger.specs.Variants.{is_told, is_whole}
-use Rattle.xds_ledger.specs.Owed.{live_version, present, owed, something_owed}
+use Rattle.xds_owed.specs.declared.variant.VariantName.TheVariants.{StateOfTheWorld}
+use Rattle.xds_owed.specs.declared.entry.Entry.{Entry}
+use Rattle.xds_owed.specs.declared.entry.Entry.TheVariants.{Told, Unsure}
+use Rattle.xds_owed.specs.declared.entry.Due.{Due}
+use Rattle.xds_owed.specs.declared.entry.Due.TheVariants.{Stated, Removed}
+use Rattle.xds_owed.specs.Variants.{is_told, is_whole}
+use Rattle.xds_owed.specs.Owed.{live_version, present, owed, something_owed}
 use Rattle.xds_ledger.specs.Ledgers as ledgers
 use Rattle.xds_ledger.specs.Ledgers.{is_due}
 use Rattle.xds_ledger.specs.Sessions as sessions
 use Rattle.xds_ledger.specs.Sessions.{Session, unopened}
-use Rattle.xds_ledger.proofs.ByName.{nothing_owed}
+use Rattle.xds_owed.proofs.ByName.{nothing_owed}
 use Rattle.xds_core.specs.Stores.{Store}
 use Rattle.xds_core.specs.Streams.{Stream, Message, owes_of}
-use Rattle.xds_cache.specs.Shelves.{Holding, Shelf, is_wanted}
+use Rattle.xds_shelf.specs.Shelves.{Holding, Shelf, is_wanted}
 use Rattle.xds_cache.specs.Clients.{Client, shelf}
 use Rattle.xds_cache.proofs.Interests.{wants_what_is_covered}
 use Rattle.xds_model.specs.Worlds.{Link}

@@ -21,19 +21,19 @@ use Rattle.xds_interest.proofs.SotwLaws.{list_any-is_star}
 use Rattle.xds_interest.proofs.Texts.{contains-from_texts}
 use Rattle.xds_message.specs.Messages.{Identity, Request}
 use Rattle.xds_draft.specs.Drafts.{Drafted, message_of}
-use Rattle.xds_ledger.specs.declared.variant.VariantName.TheVariants.{StateOfTheWorld}
-use Rattle.xds_ledger.specs.declared.entry.Entry.{Entry}
-use Rattle.xds_ledger.specs.declared.entry.Entry.TheVariants.{Told, Unsure}
-use Rattle.xds_ledger.specs.declared.entry.Due.TheVariants.{Stated}
-use Rattle.xds_ledger.specs.Offers.{Offer}
+use Rattle.xds_owed.specs.declared.variant.VariantName.TheVariants.{StateOfTheWorld}
+use Rattle.xds_owed.specs.declared.entry.Entry.{Entry}
+use Rattle.xds_owed.specs.declared.entry.Entry.TheVariants.{Told, Unsure}
+use Rattle.xds_owed.specs.declared.entry.Due.TheVariants.{Stated}
+use Rattle.xds_owed.specs.Offers.{Offer}
 use Rattle.xds_ledger.specs.Ledgers.{Account, Sent, nonce_text, was_touched, touched_since, settled, answered, believed_accepted}
 use Rattle.xds_ledger.specs.Sessions.{Session, Names, unopened, is_taken, taken, send}
 use Rattle.xds_ledger.specs.Laws.{with_sent}
-use Rattle.xds_ledger.proofs.ByName.{accepted_by_name}
+use Rattle.xds_beliefs.proofs.ByName.{accepted_by_name}
 use Rattle.xds_sotw.specs.Polls.{take}
-use Rattle.xds_cache.specs.Shelves.{Wants, Holding, Cache, Shelf, texts, interest, is_wanted, wants_some, wanting}
-use Rattle.xds_cache.specs.Faults.{Test}
-use Rattle.xds_cache.specs.Deliveries.{sotw_delivery, fault_in, cache_after, taking, rejecting, delivered}
+use Rattle.xds_shelf.specs.Shelves.{Wants, Holding, Cache, Shelf, texts, interest, is_wanted, wants_some, wanting}
+use Rattle.xds_shelf.specs.Faults.{Test}
+use Rattle.xds_shelf.specs.Deliveries.{sotw_delivery, fault_in, cache_after, taking, rejecting, delivered}
 use Rattle.xds_cache.specs.Sends.{failure, sotw_request}
 use Rattle.xds_cache.proofs.Interests.{wants_what_is_covered, shown_by_name, kept_by_name, holds_what_is_wanted}
 use Rattle.xds_model.specs.Knows.{TypedWrite}

@@ -14,9 +14,9 @@ use Rattle.xds_draft.specs.DraftTexts.{kind_of}
 use Rattle.xds_core.specs.Streams.{Message, url_of, owes_of}
 use Rattle.xds_core.specs.Steps.{fresh as fresh_core}
 use Rattle.xds_core.specs.Legal.{IsLegal, replayed}
-use Rattle.xds_cache.specs.Shelves.{Cache, Holding, Wants, is_wanted}
+use Rattle.xds_shelf.specs.Shelves.{Cache, Holding, Wants, is_wanted}
 use Rattle.xds_cache.specs.Clients as clients
-use Rattle.xds_cache.specs.Faults.{Test}
+use Rattle.xds_shelf.specs.Faults.{Test}
 use Rattle.xds_model.specs.declared.event.ClientKind.TheVariants.{Sotw, Delta}
 use Rattle.xds_model.specs.Happenings.{Happening, Put}
 use Rattle.xds_model.specs.Worlds.{World, Site, Peer, Link, empty_world, world}

@@ -11,7 +11,7 @@ use Rattle.xds_core.specs.Streams.{Message}
 use Rattle.xds_core.specs.Events as events
 use Rattle.xds_core.specs.Events.{Event, Reply}
 use Rattle.xds_core.specs.Steps.{Core, Step, step, fresh as fresh_core}
-use Rattle.xds_cache.specs.Faults.{Test}
+use Rattle.xds_shelf.specs.Faults.{Test}
 use Rattle.xds_cache.specs.Clients as clients
 use Rattle.xds_cache.specs.Clients.{Client, client_code, linked, unlinked}
 use Rattle.xds_cache.specs.Sends.{is_greeted}

@@ -7,8 +7,9 @@ use Rattle.xds_catalogue.proofs.names.Names.put.Goals as goal
 pub returns-in-Some-clause-ok : goal.returns-in-Some-clause-ok
 returns-in-Some-clause-ok g c =
     let found = subst IsSome (sym (ap option_copied_mut c.in-Some.is) ∙ c.get_mut.ensures.value) refl in
-    Named-insert c.self.inside.by_name (c.get_mut.follows.lender c.args.entry) _ c.args.entry ((c.get_mut.follows.holds c.args.entry).3 found)
-    ∙ (λ i. with_name (c.self.view_is i) ((c.name.ensures.name ∙ ap (λ w. w.name) c.write.ensures) i) c.args.entry)
+    let put = c.replace.new.dest in
+    Named-insert c.self.inside.by_name (c.get_mut.follows.lender put) _ put ((c.get_mut.follows.holds put).3 found)
+    ∙ (λ i. with_name (c.self.view_is i) ((c.name.ensures.name ∙ ap (λ w. w.name) c.write.ensures) i) (c.replace.ensures.after i))
 
 pub returns-clause-ok : goal.returns-clause-ok
 returns-clause-ok g c =

@@ -1,7 +1,7 @@
 use Rattle.std.proofs.Common.{refl}
 use Rattle.xds_resource.specs.declared.types.TypeName.TheVariants.{Cluster, Endpoint, Listener, Route}
 use Rattle.xds_draft.specs.declared.draft.Draft.TheVariants as drafts
-use Rattle.xds_ledger.specs.declared.variant.VariantName.TheVariants.{StateOfTheWorld}
+use Rattle.xds_owed.specs.declared.variant.VariantName.TheVariants.{StateOfTheWorld}
 use Rattle.xds_sotw.specs.Polls.{response}
 use Rattle.xds_core.specs.Talks.{Talk}
 use Rattle.xds_core.proofs.Polling.{poll_at}

@@ -1,6 +1,6 @@
 use Rattle.std.proofs.Common.{sym, ap, ◌∙◌}
 use Rattle.xds_draft.specs.declared.draft.Draft.TheVariants as drafts
-use Rattle.xds_ledger.specs.declared.variant.VariantName.TheVariants as variants
+use Rattle.xds_owed.specs.declared.variant.VariantName.TheVariants as variants
 use Rattle.xds_core.specs.Talks.{stream_in}
 use Rattle.xds_core.specs.States.{stream_of}
 use Rattle.xds_core.proofs.FirstDue.{polled_by, polled_opening}

@@ -1,6 +1,6 @@
 use Rattle.std.proofs.Common.{◌≡◌, Some, false, sym, ap, ◌∙◌}
 use Rattle.std.specs.Option.{option_map_or}
-use Rattle.xds_ledger.specs.Offers.{offer, same_offer}
+use Rattle.xds_owed.specs.Offers.{offer, same_offer}
 use Rattle.xds_ledger.proofs.ledger.Ledger.repeats.Goals as goal
 
 pub returns-in-Some : goal.returns-in-Some

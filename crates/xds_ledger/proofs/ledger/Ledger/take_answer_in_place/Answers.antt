@@ -2,7 +2,7 @@ use Rattle.std.proofs.Common.{◌≡◌, map, string_bytes, sym, subst}
 use Rattle.std.specs.Prelude.{IfSome}
 use Rattle.std.specs.FinSet as set
 use Rattle.xds_ledger.specs.Ledgers.{Account, answered, touch, resume}
-use Rattle.xds_ledger.specs.Changes.{changes_answered}
+use Rattle.xds_beliefs.specs.Changes.{changes_answered}
 use Rattle.xds_ledger.proofs.InPlace.{answer_in_place}
 use Rattle.xds_ledger.proofs.ledger.Ledger.take_answer_in_place.Goals as goal
 

@@ -7,7 +7,7 @@ use Rattle.xds_resource.specs.declared.refusal.Refusal.TheVariants.{OutOfMemory,
 use Rattle.xds_ledger.specs.Ledgers as ledgers
 use Rattle.xds_ledger.specs.Sessions.{Session}
 use Rattle.xds_sotw.specs.Polls.{sending, response}
-use Rattle.xds_ledger.specs.declared.variant.VariantName.TheVariants.{StateOfTheWorld}
+use Rattle.xds_owed.specs.declared.variant.VariantName.TheVariants.{StateOfTheWorld}
 use Rattle.xds_ledger.proofs.Polling.{has_polled, is_some_sending}
 use Rattle.xds_sotw.proofs.session.Session.poll.Goals as goal
 

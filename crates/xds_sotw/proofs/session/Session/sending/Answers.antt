@@ -1,6 +1,6 @@
 use Rattle.std.proofs.Common.{◌≡◌, true, rules}
 use Rattle.xds_ledger.specs.Sessions.{Session}
-use Rattle.xds_ledger.specs.declared.variant.VariantName.TheVariants.{StateOfTheWorld}
+use Rattle.xds_owed.specs.declared.variant.VariantName.TheVariants.{StateOfTheWorld}
 use Rattle.xds_ledger.proofs.Polling.{is_sending}
 use Rattle.xds_sotw.proofs.session.Session.sending.Goals as goal
 

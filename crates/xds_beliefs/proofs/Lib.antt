@@ -1,0 +1,5 @@
+pub mod ByName
+pub mod Made
+pub mod Copied
+pub mod Changing
+pub mod Stored

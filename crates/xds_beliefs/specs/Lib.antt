@@ -1,0 +1,4 @@
+pub mod Believing
+pub mod Parts
+pub mod Changes
+pub mod BeliefLaws

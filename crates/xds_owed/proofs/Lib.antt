@@ -1,0 +1,9 @@
+pub mod Choosing
+pub mod ByName
+pub mod SameOffers
+pub mod OfferMade
+pub mod SomethingOwed
+pub mod LookedThrough
+pub mod LookedAt
+pub mod Repeating
+pub mod Replacing

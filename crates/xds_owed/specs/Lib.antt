@@ -1,0 +1,6 @@
+pub mod Variants
+pub mod Owed
+pub mod Offers
+pub mod OfferParts
+pub mod Repeats
+pub mod OfferLaws

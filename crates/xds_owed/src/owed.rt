@@ -1,0 +1,139 @@
+// What a client is owed of one name.
+ghost use Rattle.std.specs.Prelude.{◌≡◌, ℕ, List, IfOk, IfErr, option_map, is_some, is_none, ◌&&◌, None, true, false};
+ghost use Rattle.std.specs.List.{list_any};
+ghost use Rattle.std.specs.FinMap as finmap;
+ghost use Rattle.std.specs.Option.{option_map_or};
+ghost use Rattle.xds_resource.specs.Stamps.{version_text};
+ghost use Rattle.xds_resource.specs.declared.refusal.Refusal.TheVariants.{OutOfMemory};
+ghost use Rattle.xds_owed.specs.Owed.{present, owed, something_owed, is_owed_at};
+ghost use Rattle.xds_owed.specs.Variants.{is_told};
+
+use crate::believed::Beliefs;
+use crate::entry::{Due, Entry};
+use crate::variant::VariantName;
+use crate::version::Version;
+use std::alloc::Global;
+use xds_catalogue::Catalogue;
+use xds_interest::Interest;
+use xds_resource::{Refusal, ResourceType, Stamp, TypeName};
+
+// The stamp at which a name is present: of the live write that the interest covers. It takes no memory.
+pub fn present<T: ResourceType>(
+    interest: &Interest<T>,
+    catalogue: &Catalogue<T>,
+    name: &str,
+) -> Option<Stamp>
+    ensures { option_map (λ s. version_text s.counter s.writer) result ≡ present interest.now catalogue.now.entries name.now }
+{
+    if !interest.covers(name) {
+        return None;
+    }
+    let write = catalogue.get(name)?;
+    match write.body() {
+        Some(_) => Some(write.stamp()),
+        None => None,
+    }
+}
+
+// Whether something is owed of a name that can be told. It takes no memory.
+pub fn is_owed(
+    variant: VariantName,
+    kind: TypeName,
+    entry: Option<&Entry>,
+    present: Option<Stamp>,
+) -> bool
+    ensures { result ≡ option_map_or (is_told variant kind) (owed (option_map (λ e. e.now) entry.entry) (option_map (λ s. version_text s.counter s.writer) present)) false }
+{
+    match (entry, present) {
+        (None, None) => false,
+        (None, Some(_)) => true,
+        (Some(_), None) => variant.tells_removals(kind),
+        (Some(Entry::Unsure), Some(_)) => true,
+        (Some(Entry::Told(version)), Some(stamp)) => !version.is_of(stamp),
+    }
+}
+
+// What is owed of a name.
+pub fn due_of(
+    alloc: Global,
+    entry: Option<&Entry>,
+    present: Option<Stamp>,
+) -> Result<Option<Due>, Refusal>
+    ensures ok { IfOk result (λ d. d ≡ owed (option_map (λ e. e.now) entry.entry) (option_map (λ s. version_text s.counter s.writer) present)) }
+    ensures err { IfErr result (λ e. e ≡ OutOfMemory) }
+{
+    match (entry, present) {
+        (None, None) => Ok(None),
+        (Some(_), None) => Ok(Some(Due::Removed)),
+        (Some(Entry::Told(version)), Some(stamp)) if version.is_of(stamp) => Ok(None),
+        (_, Some(stamp)) => Ok(Some(Due::Stated(Version::of_stamp(alloc, stamp)?))),
+    }
+}
+
+// Whether something is owed of a name with an entry.
+fn believed_owed<T: ResourceType>(
+    variant: VariantName,
+    interest: &Interest<T>,
+    catalogue: &Catalogue<T>,
+    beliefs: &Beliefs,
+) -> bool
+    ensures { result ≡ list_any (λ e. is_owed_at variant T.TYPE interest.now catalogue.now.entries e.0 e.1) (finmap.entries beliefs.now) }
+{
+    for (name, entry) in beliefs.iter() {
+        if is_owed(
+            variant,
+            T::TYPE,
+            Some(entry),
+            present(interest, catalogue, name),
+        ) {
+            return true;
+        }
+    }
+    false
+}
+
+// Whether a name is present and has no entry.
+fn is_unbelieved<T: ResourceType>(
+    interest: &Interest<T>,
+    catalogue: &Catalogue<T>,
+    beliefs: &Beliefs,
+    name: &str,
+) -> bool
+    ensures { result ≡ (is_none (finmap.get beliefs.now name.now) && is_some (present interest.now catalogue.now.entries name.now)) }
+{
+    !beliefs.contains(name) && present(interest, catalogue, name).is_some()
+}
+
+// Whether a name without an entry is present.
+fn unbelieved_owed<T: ResourceType>(
+    interest: &Interest<T>,
+    catalogue: &Catalogue<T>,
+    beliefs: &Beliefs,
+) -> bool
+    ensures found { result ≡ true → (name : List ℕ) × (finmap.get beliefs.now name ≡ None) × (is_some (present interest.now catalogue.now.entries name) ≡ true) }
+    ensures none { result ≡ false → (name : List ℕ) → finmap.get beliefs.now name ≡ None → present interest.now catalogue.now.entries name ≡ None }
+{
+    let mut after = 0;
+    while let Some((number, write)) = catalogue.next_change(after) {
+        if is_unbelieved(interest, catalogue, beliefs, write.name()) {
+            return true;
+        }
+        after = number;
+    }
+    false
+}
+
+/// Whether something is owed of some name that can be told. It takes no memory.
+pub fn something_owed<T: ResourceType>(
+    variant: VariantName,
+    interest: &Interest<T>,
+    catalogue: &Catalogue<T>,
+    beliefs: &Beliefs,
+) -> bool
+    ensures { result ≡ something_owed variant T.TYPE interest.now catalogue.now.entries beliefs.now }
+{
+    if believed_owed(variant, interest, catalogue, beliefs) {
+        return true;
+    }
+    unbelieved_owed(interest, catalogue, beliefs)
+}

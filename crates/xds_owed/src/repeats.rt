@@ -1,0 +1,141 @@
+// Whether a response would say again what the client refused, name by name.
+ghost use Rattle.std.specs.Prelude.{◌≡◌, ℕ, List, option_map, is_some, true, false};
+ghost use Rattle.std.specs.List.{list_all};
+ghost use Rattle.std.specs.FinMap as finmap;
+ghost use Rattle.xds_resource.specs.Stamps.{version_text};
+ghost use Rattle.xds_owed.specs.Offers.{offer, same_offer};
+ghost use Rattle.xds_owed.specs.Repeats.{due_said, said_of as due_of, agrees};
+
+use crate::believed::Beliefs;
+use crate::entry::{Due, Entry};
+use crate::owed::present;
+use crate::variant::VariantName;
+use xds_catalogue::Catalogue;
+use xds_interest::Interest;
+use xds_resource::{NameMap, ResourceType, Stamp, TypeName};
+
+// What a response says of a name.
+#[derive(Clone, Copy, Debug)]
+enum Saying {
+    Nothing,
+    Stated(Stamp),
+    Removed,
+}
+
+// What a response says of a name, from its entry and the write that is present. It takes no memory.
+fn said_of(
+    variant: VariantName,
+    kind: TypeName,
+    entry: Option<&Entry>,
+    present: Option<Stamp>,
+) -> Saying
+    ensures { due_said result ≡ due_of variant kind (option_map (λ e. e.now) entry.entry) (option_map (λ s. version_text s.counter s.writer) present) }
+{
+    match (entry, present) {
+        (_, Some(stamp)) if variant.is_whole(kind) => Saying::Stated(stamp),
+        (Some(Entry::Told(version)), Some(stamp)) if version.is_of(stamp) => Saying::Nothing,
+        (_, Some(stamp)) => Saying::Stated(stamp),
+        (Some(_), None) if variant.is_delta() => Saying::Removed,
+        (_, None) => Saying::Nothing,
+    }
+}
+
+// Whether an offer says of a name what a response would say now.
+fn agrees<T: ResourceType>(
+    refused: &NameMap<Due>,
+    variant: VariantName,
+    interest: &Interest<T>,
+    catalogue: &Catalogue<T>,
+    beliefs: &Beliefs,
+    name: &str,
+) -> bool
+    ensures { result ≡ agrees refused.now variant T.TYPE interest.now catalogue.now.entries beliefs.now name.now }
+{
+    let stamp = present(interest, catalogue, name);
+    match (
+        said_of(variant, T::TYPE, beliefs.get(name), stamp),
+        refused.get(name),
+    ) {
+        (Saying::Nothing, None) => true,
+        (Saying::Stated(stamp), Some(Due::Stated(version))) => version.is_of(stamp),
+        (Saying::Removed, Some(Due::Removed)) => true,
+        _ => false,
+    }
+}
+
+// Whether it does so of each name that it speaks of.
+fn agrees_where_said<T: ResourceType>(
+    refused: &NameMap<Due>,
+    variant: VariantName,
+    interest: &Interest<T>,
+    catalogue: &Catalogue<T>,
+    beliefs: &Beliefs,
+) -> bool
+    ensures { result ≡ list_all (λ e. agrees refused.now variant T.TYPE interest.now catalogue.now.entries beliefs.now e.0) (finmap.entries refused.now) }
+{
+    for (name, _due) in refused.iter() {
+        if !agrees(refused, variant, interest, catalogue, beliefs, name) {
+            return false;
+        }
+    }
+    true
+}
+
+// Whether it does so of each name with an entry.
+fn agrees_where_believed<T: ResourceType>(
+    refused: &NameMap<Due>,
+    variant: VariantName,
+    interest: &Interest<T>,
+    catalogue: &Catalogue<T>,
+    beliefs: &Beliefs,
+) -> bool
+    ensures { result ≡ list_all (λ e. agrees refused.now variant T.TYPE interest.now catalogue.now.entries beliefs.now e.0) (finmap.entries beliefs.now) }
+{
+    for (name, _entry) in beliefs.iter() {
+        if !agrees(refused, variant, interest, catalogue, beliefs, name) {
+            return false;
+        }
+    }
+    true
+}
+
+// Whether it does so of each name that the catalogue holds.
+fn agrees_where_held<T: ResourceType>(
+    refused: &NameMap<Due>,
+    variant: VariantName,
+    interest: &Interest<T>,
+    catalogue: &Catalogue<T>,
+    beliefs: &Beliefs,
+) -> bool
+    ensures all { result ≡ true → (name : List ℕ) → is_some (finmap.get catalogue.now.entries name) ≡ true
+        → agrees refused.now variant T.TYPE interest.now catalogue.now.entries beliefs.now name ≡ true }
+    ensures one { result ≡ false → (name : List ℕ) × (agrees refused.now variant T.TYPE interest.now catalogue.now.entries beliefs.now name ≡ false) }
+{
+    let mut after = 0;
+    while let Some((number, write)) = catalogue.next_change(after) {
+        if !agrees(refused, variant, interest, catalogue, beliefs, write.name()) {
+            return false;
+        }
+        after = number;
+    }
+    true
+}
+
+/// Whether a response would say what an offer says. It takes no memory.
+pub fn repeats<T: ResourceType>(
+    refused: &NameMap<Due>,
+    variant: VariantName,
+    interest: &Interest<T>,
+    catalogue: &Catalogue<T>,
+    beliefs: &Beliefs,
+) -> bool
+    ensures { result ≡ same_offer (offer variant T.TYPE interest.now catalogue.now.entries beliefs.now) refused.now }
+{
+    if !agrees_where_said(refused, variant, interest, catalogue, beliefs) {
+        return false;
+    }
+    if !agrees_where_believed(refused, variant, interest, catalogue, beliefs) {
+        return false;
+    }
+    agrees_where_held(refused, variant, interest, catalogue, beliefs)
+}
