@@ -12,6 +12,7 @@ ghost use Rattle.xds_core.specs.Talks.{begun, stream_in, with_session};
 ghost use Rattle.xds_delta.specs.Polls as polls;
 
 use crate::catalogues::Catalogues;
+use crate::parts::four;
 use std::alloc::Global;
 use std::marker::Model;
 use xds_delta::Session;
@@ -150,12 +151,18 @@ impl DeltaStream {
         ensures ok { IfOk result (λ s. s ≡ self.now) }
         ensures refused { IfErr result (λ e. e ≡ OutOfMemory) }
     {
+        let (cluster, endpoint, listener, route) = four(
+            self.cluster.try_copy(alloc),
+            self.endpoint.try_copy(alloc),
+            self.listener.try_copy(alloc),
+            self.route.try_copy(alloc),
+        )?;
         Ok(DeltaStream {
             nonces: self.nonces,
-            cluster: self.cluster.try_copy(alloc)?,
-            endpoint: self.endpoint.try_copy(alloc)?,
-            listener: self.listener.try_copy(alloc)?,
-            route: self.route.try_copy(alloc)?,
+            cluster,
+            endpoint,
+            listener,
+            route,
         })
     }
 }

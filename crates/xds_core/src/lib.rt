@@ -6,6 +6,7 @@ mod delta_stream;
 pub mod event;
 pub mod laws;
 pub mod numbered;
+mod parts;
 mod pending;
 pub mod replica;
 mod sotw_stream;

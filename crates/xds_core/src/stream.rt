@@ -12,6 +12,7 @@ ghost use Rattle.xds_core.specs.States.{stream_of, tagged};
 use crate::catalogues::Catalogues;
 use crate::delta_stream::DeltaStream;
 use crate::event::Request;
+use crate::parts::put;
 use crate::sotw_stream::SotwStream;
 use std::alloc::Global;
 use std::marker::Model;
@@ -108,9 +109,16 @@ impl Stream {
         ensures err { OnErr result (self.new ≡ self.old) }
     {
         let mut stream = SotwStream::new(alloc);
-        let outcome = stream.request(alloc, request)?;
-        self.set(State::Sotw(stream));
-        Ok(outcome)
+        match stream.request(alloc, request) {
+            Ok(outcome) => {
+                self.set(State::Sotw(stream));
+                Ok(outcome)
+            }
+            Err(refusal) => {
+                drop(stream);
+                Err(refusal)
+            }
+        }
     }
 
     // The first request, where it is of the incremental variant.
@@ -125,15 +133,22 @@ impl Stream {
         ensures err { OnErr result (self.new ≡ self.old) }
     {
         let mut stream = DeltaStream::new(alloc);
-        let outcome = stream.request(alloc, request)?;
-        self.set(State::Delta(stream));
-        Ok(outcome)
+        match stream.request(alloc, request) {
+            Ok(outcome) => {
+                self.set(State::Delta(stream));
+                Ok(outcome)
+            }
+            Err(refusal) => {
+                drop(stream);
+                Err(refusal)
+            }
+        }
     }
 
     fn set(&mut self, state: State)
         ensures { self.new ≡ stream_of state }
     {
-        self.state = state;
+        put(&mut self.state, state);
     }
 
     /// Whether the client is owed something, of a type or at all. It takes no memory.
