@@ -11,6 +11,7 @@ ghost use Rattle.xds_catalogue.specs.Joins.{joined};
 ghost use Rattle.xds_catalogue.specs.Local.{putting, deleting};
 ghost use Rattle.xds_core.specs.Stores.{merging, is_spent, putting_at, deleting_at, all_entries};
 
+use crate::parts::{four, put};
 use crate::pending::Pending;
 use std::alloc::Global;
 use std::marker::Model;
@@ -119,17 +120,18 @@ impl Catalogues {
         ensures err { OnErr result (self.new ≡ self.old) }
     {
         if self.is_spent_by(&batch) {
+            drop(batch);
             return Err(Refusal::CounterSpent);
         }
         let held = mem::replace(self, Catalogues::new(alloc));
         match Pending::start(held, batch) {
             Ok(pending) => {
                 let grown = pending.grown();
-                *self = pending.finish();
+                put(self, pending.finish());
                 Ok(grown)
             }
             Err(held) => {
-                *self = held;
+                put(self, held);
                 Err(Refusal::OutOfMemory)
             }
         }
@@ -150,11 +152,17 @@ impl Catalogues {
         ensures ok { IfOk result (λ b. b ≡ all_entries self.now) }
         ensures refused { IfErr result (λ e. e ≡ OutOfMemory) }
     {
+        let (cluster, endpoint, listener, route) = four(
+            writes_of(alloc, &self.cluster),
+            writes_of(alloc, &self.endpoint),
+            writes_of(alloc, &self.listener),
+            writes_of(alloc, &self.route),
+        )?;
         Ok(Batch {
-            cluster: writes_of(alloc, &self.cluster)?,
-            endpoint: writes_of(alloc, &self.endpoint)?,
-            listener: writes_of(alloc, &self.listener)?,
-            route: writes_of(alloc, &self.route)?,
+            cluster,
+            endpoint,
+            listener,
+            route,
         })
     }
 
@@ -205,11 +213,17 @@ impl Catalogues {
         ensures ok { IfOk result (λ c. c ≡ self.now) }
         ensures refused { IfErr result (λ e. e ≡ OutOfMemory) }
     {
+        let (cluster, endpoint, listener, route) = four(
+            self.cluster.try_copy(alloc),
+            self.endpoint.try_copy(alloc),
+            self.listener.try_copy(alloc),
+            self.route.try_copy(alloc),
+        )?;
         Ok(Catalogues {
-            cluster: self.cluster.try_copy(alloc)?,
-            endpoint: self.endpoint.try_copy(alloc)?,
-            listener: self.listener.try_copy(alloc)?,
-            route: self.route.try_copy(alloc)?,
+            cluster,
+            endpoint,
+            listener,
+            route,
         })
     }
 }

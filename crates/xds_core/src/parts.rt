@@ -12,6 +12,20 @@ pub(crate) fn put<V: Drop>(place: &mut V, value: V)
     *place = value;
 }
 
+/// The values of two calls that only `OutOfMemory` refuses, where none of them is.
+pub(crate) fn two<A: Drop, B: Drop>(
+    held: Result<A, Refusal>,
+    streams: Result<B, Refusal>,
+) -> Result<(A, B), Refusal>
+    requires held { IfErr held (λ e. e ≡ OutOfMemory) }
+    requires streams { IfErr streams (λ e. e ≡ OutOfMemory) }
+    ensures held { IfOk result (λ p. held ≡ Ok p.0) }
+    ensures streams { IfOk result (λ p. streams ≡ Ok p.1) }
+    ensures refused { IfErr result (λ e. e ≡ OutOfMemory) }
+{
+    Ok((held?, streams?))
+}
+
 /// The values of four calls that only `OutOfMemory` refuses, where none of them is.
 pub(crate) fn four<A: Drop, B: Drop, C: Drop, D: Drop>(
     cluster: Result<A, Refusal>,

@@ -17,6 +17,7 @@ ghost use Rattle.xds_core.specs.Streams.{looked_at, owes_some, first_due};
 use crate::catalogues::{Catalogues, Marks};
 use crate::event::{Event, Reply, Request};
 use crate::numbered::Numbered;
+use crate::parts::two;
 use crate::stream::Stream;
 use std::alloc::Global;
 use std::marker::Model;
@@ -211,11 +212,15 @@ impl Core {
         ensures ok { IfOk result (λ c. c ≡ self.now) }
         ensures refused { IfErr result (λ e. e ≡ OutOfMemory) }
     {
+        let (held, streams) = two(
+            self.held.try_copy(alloc),
+            copy_streams(alloc, &self.streams),
+        )?;
         Ok(Core {
             replica: self.replica,
-            held: self.held.try_copy(alloc)?,
+            held,
             opened: self.opened,
-            streams: copy_streams(alloc, &self.streams)?,
+            streams,
             alloc,
         })
     }
