@@ -1,4 +1,4 @@
-pub use Rattle.xds_streams.specs.Stores
+pub use Rattle.xds_store.specs.Stores
 pub use Rattle.xds_streams.specs.Streams
 pub mod Events
 pub mod Steps

@@ -9,4 +9,5 @@ pub mod replica;
 pub use event::{Event, Record, Reply};
 pub use numbered::Numbered;
 pub use replica::Core;
-pub use xds_streams::{Catalogues, Marks, Request};
+pub use xds_store::{Catalogues, Marks};
+pub use xds_streams::Request;

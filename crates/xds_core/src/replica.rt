@@ -10,7 +10,7 @@ ghost use Rattle.xds_core.specs.Events as events;
 ghost use Rattle.xds_core.specs.Legal.{IsShort};
 ghost use Rattle.xds_core.specs.Seen.{message_of, event_of, reply_of};
 ghost use Rattle.xds_core.specs.Steps.{fresh, step};
-ghost use Rattle.xds_streams.specs.Stores.{if_done};
+ghost use Rattle.xds_store.specs.Stores.{if_done};
 ghost use Rattle.xds_core.specs.declared.event.Reply.TheVariants as replies;
 ghost use Rattle.xds_streams.specs.Streams.{looked_at, owes_some, first_due};
 
@@ -23,7 +23,8 @@ use xds_ledger::Outcome;
 use xds_message::Batch;
 use xds_resource::stamp::MAX_COUNTER;
 use xds_resource::{AnyResource, Refusal, TypeName};
-use xds_streams::{Catalogues, Marks, Request, Stream};
+use xds_store::{Catalogues, Marks};
+use xds_streams::{Request, Stream};
 
 /// One replica: what it holds of each type, and its open streams.
 #[derive(Drop)]

@@ -7,7 +7,7 @@ use Rattle.xds_resource.specs.declared.refusal.Refusal.{Refusal}
 use Rattle.xds_resource.specs.Refusals.{Gives}
 use Rattle.xds_draft.specs.declared.draft.Draft.{Draft}
 use Rattle.xds_ledger.specs.Offers.{Offer}
-use Rattle.xds_streams.specs.Stores.{Store}
+use Rattle.xds_store.specs.Stores.{Store}
 use Rattle.xds_streams.specs.Streams.{Stream, opening, looked_at, to_send, sending, polled, polled_first}
 use Rattle.xds_streams.specs.States.{tagged}
 

@@ -15,7 +15,7 @@ use Rattle.xds_ledger.specs.declared.variant.VariantName.{VariantName}
 use Rattle.xds_ledger.specs.Offers.{Offer}
 use Rattle.xds_ledger.specs.Sessions as sessions
 use Rattle.xds_ledger.specs.Sessions.{Session, HasPolled}
-use Rattle.xds_streams.specs.Stores.{Store}
+use Rattle.xds_store.specs.Stores.{Store}
 use Rattle.xds_streams.specs.Streams.{sent, response_of, sending, polled}
 use Rattle.xds_streams.specs.Talks.{Talk, stream_in}
 

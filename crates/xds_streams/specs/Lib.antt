@@ -1,5 +1,3 @@
-pub mod Stores
-pub mod Pendings
 pub mod Streams
 pub mod Talks
 pub mod Seen

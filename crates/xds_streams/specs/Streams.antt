@@ -26,7 +26,7 @@ use Rattle.xds_ledger.specs.Sessions as sessions
 use Rattle.xds_ledger.specs.Sessions.{Session, session_code, unopened}
 use Rattle.xds_sotw.specs.Polls as sotw
 use Rattle.xds_delta.specs.Polls as delta
-use Rattle.xds_streams.specs.Stores.{Store, if_done}
+use Rattle.xds_store.specs.Stores.{Store, if_done}
 
 pub record Stream : Type 0 where
   pub variant : Option VariantName

@@ -11,8 +11,6 @@ ghost use Rattle.xds_streams.specs.Streams.{Delta as DeltaMessage, answered, owe
 ghost use Rattle.xds_streams.specs.Talks.{begun, stream_in, with_session};
 ghost use Rattle.xds_delta.specs.Polls as polls;
 
-use crate::catalogues::Catalogues;
-use crate::parts::four;
 use std::alloc::Global;
 use std::marker::Model;
 use xds_delta::Session;
@@ -20,6 +18,8 @@ use xds_draft::DeltaDraft;
 use xds_ledger::{Nonces, Outcome};
 use xds_message::DeltaDiscoveryRequest;
 use xds_resource::{Cluster, Endpoint, Listener, Refusal, Route, TypeName};
+use xds_store::Catalogues;
+use xds_store::parts::four;
 
 /// A session of each type, and the numbers of the responses.
 #[derive(Drop)]

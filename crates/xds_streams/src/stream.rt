@@ -9,9 +9,7 @@ ghost use Rattle.xds_streams.specs.Streams.{opening, looked_at, owes_of, owes_so
 ghost use Rattle.xds_streams.specs.Seen.{message_of};
 ghost use Rattle.xds_streams.specs.States.{stream_of, tagged};
 
-use crate::catalogues::Catalogues;
 use crate::delta_stream::DeltaStream;
-use crate::parts::put;
 use crate::request::Request;
 use crate::sotw_stream::SotwStream;
 use std::alloc::Global;
@@ -20,6 +18,8 @@ use xds_draft::{DeltaDraft, Draft, SotwDraft};
 use xds_ledger::Outcome;
 use xds_message::{DeltaDiscoveryRequest, DiscoveryRequest};
 use xds_resource::{Refusal, TypeName};
+use xds_store::Catalogues;
+use xds_store::parts::put;
 
 // The first request decides the variant.
 #[derive(Drop)]

@@ -1,7 +1,7 @@
 // A batch that was joined to the catalogues of all types, for as long as it can be taken back.
 ghost use Rattle.std.specs.Prelude.{◌≡◌, false, IfOk, IfErr};
-ghost use Rattle.xds_streams.specs.Stores.{merged, is_spent};
-ghost use Rattle.xds_streams.specs.Pendings.{befores, afters, growth};
+ghost use Rattle.xds_store.specs.Stores.{merged, is_spent};
+ghost use Rattle.xds_store.specs.Pendings.{befores, afters, growth};
 
 use crate::catalogues::Catalogues;
 use std::marker::Model;

@@ -1,6 +1,6 @@
 use Rattle.std.proofs.Common.{◌∷◌, [], ◌++◌, sym, ◌∙◌}
-use Rattle.xds_streams.proofs.Copies.{map-take-more}
-use Rattle.xds_streams.proofs.catalogues.writes_of.Goals as goal
+use Rattle.xds_store.proofs.Copies.{map-take-more}
+use Rattle.xds_store.proofs.catalogues.writes_of.Goals as goal
 
 pub loop-write-preserved : goal.loop-write-preserved
 loop-write-preserved g c =

@@ -6,14 +6,14 @@ ghost use Rattle.xds_resource.specs.declared.refusal.Refusal.TheVariants.{OutOfM
 use xds_resource::Refusal;
 
 /// Puts a value in the place of another.
-pub(crate) fn put<V: Drop>(place: &mut V, value: V)
+pub fn put<V: Drop>(place: &mut V, value: V)
     ensures { place.new ≡ value }
 {
     *place = value;
 }
 
 /// The values of four calls that only `OutOfMemory` refuses, where none of them is.
-pub(crate) fn four<A: Drop, B: Drop, C: Drop, D: Drop>(
+pub fn four<A: Drop, B: Drop, C: Drop, D: Drop>(
     cluster: Result<A, Refusal>,
     endpoint: Result<B, Refusal>,
     listener: Result<C, Refusal>,

@@ -9,7 +9,7 @@ ghost use Rattle.xds_resource.specs.declared.refusal.Refusal.TheVariants.{Counte
 ghost use Rattle.xds_catalogue.specs.Holdings.{nothing_held};
 ghost use Rattle.xds_catalogue.specs.Joins.{joined};
 ghost use Rattle.xds_catalogue.specs.Local.{putting, deleting};
-ghost use Rattle.xds_streams.specs.Stores.{merging, is_spent, putting_at, deleting_at, all_entries};
+ghost use Rattle.xds_store.specs.Stores.{merging, is_spent, putting_at, deleting_at, all_entries};
 
 use crate::parts::{four, put};
 use crate::pending::Pending;

@@ -4,7 +4,7 @@ use Rattle.std.specs.List.{sum_by}
 use Rattle.xds_resource.specs.PerType.{PerType, at}
 use Rattle.xds_resource.specs.Types.{types}
 use Rattle.xds_catalogue.specs.Pending.{Pending}
-use Rattle.xds_streams.specs.Stores.{Store, per_type}
+use Rattle.xds_store.specs.Stores.{Store, per_type}
 
 -- what was held before
 abbrev pub befores : PerType Pending → Store
