@@ -10,8 +10,8 @@ use Rattle.xds_resource.specs.declared.refusal.Refusal.{Refusal}
 use Rattle.xds_resource.specs.declared.refusal.Refusal.TheVariants.{OutOfMemory, NoStream}
 use Rattle.xds_resource.specs.Refusals.{Gives}
 use Rattle.xds_catalogue.proofs.Lookups.{insert-insert}
-use Rattle.xds_core.specs.Stores.{if_done}
-use Rattle.xds_core.specs.Streams.{Stream}
+use Rattle.xds_store.specs.Stores.{if_done}
+use Rattle.xds_streams.specs.Streams.{Stream}
 use Rattle.xds_core.specs.Events.{Reply}
 use Rattle.xds_core.specs.declared.event.Reply as declared
 use Rattle.xds_core.specs.Seen.{reply_of}

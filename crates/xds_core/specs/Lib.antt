@@ -1,10 +1,7 @@
-pub mod Stores
-pub mod Pendings
-pub mod Streams
-pub mod Talks
+pub use Rattle.xds_store.specs.Stores
+pub use Rattle.xds_streams.specs.Streams
 pub mod Events
 pub mod Steps
 pub mod Seen
-pub mod States
 pub mod Legal
 pub mod Laws

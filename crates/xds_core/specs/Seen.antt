@@ -1,19 +1,12 @@
--- How the values of the program are seen as events, replies, streams and records. This project's own.
+-- How the values of the program are seen as events, replies and records. This project's own.
 use Rattle.std.specs.Prelude.{string_bytes, Result, Ok, Err}
 use Rattle.xds_resource.specs.Any.{resource_type, named_body}
-use Rattle.xds_core.specs.Streams as streams
-use Rattle.xds_core.specs.Streams.{Stream, Message, opening}
+pub use Rattle.xds_streams.specs.Seen.{message_of}
 use Rattle.xds_core.specs.Events as events
-use Rattle.xds_core.specs.declared.event.Request.{Request}
-use Rattle.xds_core.specs.declared.event.Request.TheVariants as requests
 use Rattle.xds_core.specs.declared.event.Event.{Event}
 use Rattle.xds_core.specs.declared.event.Event.TheVariants as happenings
 use Rattle.xds_core.specs.declared.event.Reply.{Reply}
 use Rattle.xds_core.specs.declared.event.Reply.TheVariants as replies
-
-abbrev pub message_of : Request → Message
-message_of (requests.Sotw m) = streams.Sotw m
-message_of (requests.Delta m) = streams.Delta m
 
 abbrev pub event_of : Event → events.Event
 event_of happenings.Open = events.Open

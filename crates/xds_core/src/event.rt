@@ -1,20 +1,14 @@
 // What happens at a replica, and what it answers.
 ghost use Rattle.std.specs.Prelude.{◌≡◌, IfOk, IfErr};
 ghost use Rattle.xds_resource.specs.declared.refusal.Refusal.TheVariants.{OutOfMemory};
-ghost use Rattle.xds_core.specs.Seen.{message_of, event_of, reply_of, answer_of};
+ghost use Rattle.xds_core.specs.Seen.{event_of, reply_of, answer_of};
 
 use std::alloc::Global;
 use xds_draft::Draft;
 use xds_ledger::Outcome;
-use xds_message::{Batch, DeltaDiscoveryRequest, DiscoveryRequest};
+use xds_message::Batch;
 use xds_resource::{AnyResource, Refusal, Stamp, TypeName};
-
-/// A request of either variant.
-#[derive(Drop)]
-pub enum Request {
-    Sotw(DiscoveryRequest),
-    Delta(DeltaDiscoveryRequest),
-}
+use xds_streams::Request;
 
 /// What happens at a replica. Streams go by the numbers that `Open` gave them.
 #[derive(Drop)]
@@ -58,19 +52,6 @@ pub enum Reply {
     Merged(u128),
     /// All that is held, deletions included, of each type in ascending order of names.
     Entries(Batch),
-}
-
-impl Request {
-    /// An equal request, or `OutOfMemory`.
-    pub fn try_copy(&self, alloc: Global) -> Result<Request, Refusal>
-        ensures ok { IfOk result (λ r. message_of r ≡ message_of self.now) }
-        ensures refused { IfErr result (λ e. e ≡ OutOfMemory) }
-    {
-        match self {
-            Request::Sotw(request) => Ok(Request::Sotw(request.try_copy(alloc)?)),
-            Request::Delta(request) => Ok(Request::Delta(request.try_copy(alloc)?)),
-        }
-    }
 }
 
 impl Event {

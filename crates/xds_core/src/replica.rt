@@ -1,5 +1,5 @@
 // A replica's state, and its one step.
-ghost use Rattle.std.specs.Prelude.{◌≡◌, ◌≤◌, ℕ, [], map, Some, None, is_some, option_map, Err, All, IsOk, IfOk, IfErr, OnErr};
+ghost use Rattle.std.specs.Prelude.{◌≡◌, ◌≤◌, ℕ, [], map, Some, None, is_some, option_map, Ok, Err, All, IsOk, IfOk, IfErr, OnErr};
 ghost use Rattle.std.specs.FinMap as finmap;
 ghost use Rattle.xds_resource.specs.Any.{resource_type, named_body, write_type, stamped_write};
 ghost use Rattle.xds_resource.specs.PerType.{at, each, with_at};
@@ -10,14 +10,12 @@ ghost use Rattle.xds_core.specs.Events as events;
 ghost use Rattle.xds_core.specs.Legal.{IsShort};
 ghost use Rattle.xds_core.specs.Seen.{message_of, event_of, reply_of};
 ghost use Rattle.xds_core.specs.Steps.{fresh, step};
-ghost use Rattle.xds_core.specs.Stores.{if_done};
+ghost use Rattle.xds_store.specs.Stores.{if_done};
 ghost use Rattle.xds_core.specs.declared.event.Reply.TheVariants as replies;
-ghost use Rattle.xds_core.specs.Streams.{looked_at, owes_some, first_due};
+ghost use Rattle.xds_streams.specs.Streams.{looked_at, owes_some, first_due};
 
-use crate::catalogues::{Catalogues, Marks};
-use crate::event::{Event, Reply, Request};
+use crate::event::{Event, Reply};
 use crate::numbered::Numbered;
-use crate::stream::Stream;
 use std::alloc::Global;
 use std::marker::Model;
 use xds_draft::Draft;
@@ -25,6 +23,8 @@ use xds_ledger::Outcome;
 use xds_message::Batch;
 use xds_resource::stamp::MAX_COUNTER;
 use xds_resource::{AnyResource, Refusal, TypeName};
+use xds_store::{Catalogues, Marks};
+use xds_streams::{Request, Stream};
 
 /// One replica: what it holds of each type, and its open streams.
 #[derive(Drop)]
@@ -211,11 +211,15 @@ impl Core {
         ensures ok { IfOk result (λ c. c ≡ self.now) }
         ensures refused { IfErr result (λ e. e ≡ OutOfMemory) }
     {
+        let (held, streams) = two(
+            self.held.try_copy(alloc),
+            copy_streams(alloc, &self.streams),
+        )?;
         Ok(Core {
             replica: self.replica,
-            held: self.held.try_copy(alloc)?,
+            held,
             opened: self.opened,
-            streams: copy_streams(alloc, &self.streams)?,
+            streams,
             alloc,
         })
     }
@@ -280,4 +284,19 @@ fn polled(draft: Result<Option<Draft>, Refusal>) -> Result<Reply, Refusal>
         Ok(draft) => Ok(Reply::Polled(draft)),
         Err(refusal) => Err(refusal),
     }
+}
+
+// The values of two calls that only `OutOfMemory` refuses, where none of them is. Of type parameters, a drop is one step
+// to the proof.
+fn two<A: Drop, B: Drop>(
+    held: Result<A, Refusal>,
+    streams: Result<B, Refusal>,
+) -> Result<(A, B), Refusal>
+    requires held { IfErr held (λ e. e ≡ OutOfMemory) }
+    requires streams { IfErr streams (λ e. e ≡ OutOfMemory) }
+    ensures held { IfOk result (λ p. held ≡ Ok p.0) }
+    ensures streams { IfOk result (λ p. streams ≡ Ok p.1) }
+    ensures refused { IfErr result (λ e. e ≡ OutOfMemory) }
+{
+    Ok((held?, streams?))
 }

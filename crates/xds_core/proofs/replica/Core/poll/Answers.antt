@@ -4,7 +4,7 @@ use Rattle.std.specs.FinMap as finmap
 use Rattle.xds_resource.specs.Refusals.{Gives}
 use Rattle.xds_core.specs.Events as events
 use Rattle.xds_core.specs.declared.event.Reply.TheVariants as replies
-use Rattle.xds_core.specs.Streams.{looked_at, polled_first}
+use Rattle.xds_streams.specs.Streams.{looked_at, polled_first}
 use Rattle.xds_core.proofs.StreamSteps.{there, with_streams, step_gives, step_kept}
 use Rattle.xds_core.proofs.replica.Core.poll.Goals as goal
 

@@ -4,7 +4,7 @@ use Rattle.std.specs.FinMap as finmap
 use Rattle.xds_core.specs.Events as events
 use Rattle.xds_core.specs.Seen.{message_of}
 use Rattle.xds_core.specs.declared.event.Reply.TheVariants as replies
-use Rattle.xds_core.specs.Streams.{requested}
+use Rattle.xds_streams.specs.Streams.{requested}
 use Rattle.xds_core.proofs.StreamSteps.{there, with_streams, step_gives, step_short, step_kept}
 use Rattle.xds_core.proofs.replica.Core.request.Goals as goal
 

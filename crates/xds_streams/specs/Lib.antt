@@ -1,0 +1,4 @@
+pub mod Streams
+pub mod Talks
+pub mod Seen
+pub mod States
