@@ -8,7 +8,7 @@ use Rattle.xds_owed.specs.declared.entry.Due.{Due}
 use Rattle.xds_owed.specs.declared.entry.Due.TheVariants.{Stated, Removed}
 use Rattle.xds_resource.proofs.NameMaps.{bytes_eq_tells}
 use Rattle.xds_owed.specs.Owed.{owed}
-use Rattle.xds_ledger.specs.Ledgers.{believed_accepted, believed_touched}
+use Rattle.xds_beliefs.specs.Believing.{believed_accepted, believed_touched}
 use Rattle.xds_shelf.specs.Shelves.{Holding}
 
 -- what a client holds of a name after a response of which it takes everything

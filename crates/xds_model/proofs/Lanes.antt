@@ -21,7 +21,8 @@ use Rattle.xds_owed.specs.declared.variant.VariantName.TheVariants.{Delta}
 use Rattle.xds_owed.specs.declared.entry.Entry.{Entry}
 use Rattle.xds_owed.specs.declared.entry.Due.TheVariants.{Stated}
 use Rattle.xds_owed.specs.Owed.{Beliefs}
-use Rattle.xds_ledger.specs.Ledgers.{Account, Sent, nonce_text, was_touched, settled, answered, touched_since, beliefs_taken}
+use Rattle.xds_ledger.specs.Ledgers.{Account, nonce_text, settled, answered}
+use Rattle.xds_beliefs.specs.Believing.{Sent, was_touched, touched_since, beliefs_taken}
 use Rattle.xds_ledger.specs.Sessions.{Session, Answer, Names, unopened, taken, is_taken, delta_names}
 use Rattle.xds_beliefs.proofs.ByName.{taken_by_name}
 use Rattle.xds_beliefs.proofs.Made.{resumed_by_name}

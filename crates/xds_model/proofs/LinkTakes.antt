@@ -31,7 +31,9 @@ use Rattle.xds_shelf.specs.Shelves.{Wants, Holding, Cache, Shelf, texts, interes
 use Rattle.xds_shelf.specs.Faults.{Test}
 use Rattle.xds_cache.specs.Clients.{Client, shelf, with_shelf, node, is_sent, shelf_after, changed, linked, unlinked, addressing, addressed_or, if_asked}
 use Rattle.xds_shelf.specs.Deliveries.{delta_delivery, fault_in, delivered}
-use Rattle.xds_cache.specs.Sends.{delta_request, delta_answer, held_version, held_versions, delta_first}
+use Rattle.xds_cache.specs.Sends.{delta_request, delta_answer, delta_first}
+use Rattle.xds_shelf.specs.Shelves.{held_version}
+use Rattle.xds_shelf.specs.Shelves.{held_versions}
 use Rattle.xds_cache.specs.Receives.{Outcome, delta_receive, delta_answered, if_addressed}
 use Rattle.xds_cache.proofs.Interests.{kept_by_name, holds_what_is_wanted, first_change_is_asked, first_is_asked}
 use Rattle.xds_model.specs.declared.event.ClientKind.TheVariants.{Delta}

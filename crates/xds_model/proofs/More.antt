@@ -9,7 +9,7 @@ use Rattle.xds_draft.specs.Drafts.{Drafted, DraftedDelta}
 use Rattle.xds_message.specs.Messages.{Request}
 use Rattle.xds_owed.specs.declared.entry.Due.{Due}
 use Rattle.xds_owed.specs.declared.entry.Due.TheVariants.{Stated, Removed}
-use Rattle.xds_ledger.specs.Ledgers.{Sent}
+use Rattle.xds_beliefs.specs.Believing.{Sent}
 use Rattle.xds_ledger.specs.Sessions.{Session}
 use Rattle.xds_core.specs.Streams.{Stream}
 use Rattle.xds_shelf.specs.Shelves.{Wants, Holding, Shelf}

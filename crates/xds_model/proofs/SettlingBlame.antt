@@ -13,10 +13,11 @@ use Rattle.xds_message.specs.Messages as messages
 use Rattle.xds_draft.specs.declared.draft.Draft.{Draft}
 use Rattle.xds_draft.specs.DraftTexts.{kind_of}
 use Rattle.xds_ledger.specs.declared.outcome.Outcome.{Outcome}
-use Rattle.xds_ledger.specs.declared.variant.VariantName.{VariantName}
-use Rattle.xds_ledger.specs.declared.variant.VariantName.TheVariants as variants
-use Rattle.xds_ledger.specs.Offers.{Offer}
-use Rattle.xds_ledger.specs.Ledgers.{Account, Sent, settled, answers, answered, touched_since}
+use Rattle.xds_owed.specs.declared.variant.VariantName.{VariantName}
+use Rattle.xds_owed.specs.declared.variant.VariantName.TheVariants as variants
+use Rattle.xds_owed.specs.Offers.{Offer}
+use Rattle.xds_ledger.specs.Ledgers.{Account, settled, answers, answered}
+use Rattle.xds_beliefs.specs.Believing.{Sent, touched_since}
 use Rattle.xds_ledger.specs.Sessions as sessions
 use Rattle.xds_ledger.specs.Sessions.{Session, Answer, Names, unopened, is_taken, taken, send, sotw_names, delta_names}
 use Rattle.xds_ledger.specs.Laws.{with_sent}
@@ -24,8 +25,8 @@ use Rattle.xds_delta.specs.Polls.{mention, answer_in}
 use Rattle.xds_core.specs.Stores.{Store}
 use Rattle.xds_core.specs.Streams as streams
 use Rattle.xds_core.specs.Streams.{Stream, Message, opening, session_after, requested, polled_first, response_of}
-use Rattle.xds_cache.specs.Shelves.{wants_some}
-use Rattle.xds_cache.specs.Faults.{Test}
+use Rattle.xds_shelf.specs.Shelves.{wants_some}
+use Rattle.xds_shelf.specs.Faults.{Test}
 use Rattle.xds_cache.specs.Clients.{Client, shelf, is_sent}
 use Rattle.xds_cache.specs.Sends.{sotw_first, delta_first}
 use Rattle.xds_model.specs.declared.event.ClientKind.{ClientKind}

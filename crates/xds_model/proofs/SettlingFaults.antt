@@ -23,24 +23,24 @@ use Rattle.xds_catalogue.specs.Content.{is_shown}
 use Rattle.xds_draft.specs.declared.draft.Draft.{Draft}
 use Rattle.xds_draft.specs.declared.draft.Draft.TheVariants as drafts
 use Rattle.xds_draft.specs.Drafts.{DraftedResource, drafted_resource, message_of, delta_message_of}
-use Rattle.xds_ledger.specs.declared.variant.VariantName.{VariantName}
-use Rattle.xds_ledger.specs.declared.variant.VariantName.TheVariants as variants
-use Rattle.xds_ledger.specs.declared.entry.Due.{Due}
-use Rattle.xds_ledger.specs.declared.entry.Due.TheVariants.{Stated, Removed}
-use Rattle.xds_ledger.specs.Variants.{is_whole}
-use Rattle.xds_ledger.specs.Owed.{Beliefs, live_version, present, is_owed, owed_of}
-use Rattle.xds_ledger.specs.Offers.{Offer, offer, stated_version}
+use Rattle.xds_owed.specs.declared.variant.VariantName.{VariantName}
+use Rattle.xds_owed.specs.declared.variant.VariantName.TheVariants as variants
+use Rattle.xds_owed.specs.declared.entry.Due.{Due}
+use Rattle.xds_owed.specs.declared.entry.Due.TheVariants.{Stated, Removed}
+use Rattle.xds_owed.specs.Variants.{is_whole}
+use Rattle.xds_owed.specs.Owed.{Beliefs, live_version, present, is_owed, owed_of}
+use Rattle.xds_owed.specs.Offers.{Offer, offer, stated_version}
 use Rattle.xds_ledger.specs.Sessions as sessions
 use Rattle.xds_ledger.specs.Sessions.{Session}
-use Rattle.xds_ledger.proofs.ByName.{offer_says_it}
+use Rattle.xds_owed.proofs.ByName.{offer_says_it}
 use Rattle.xds_sotw.specs.Polls as sotw
 use Rattle.xds_delta.specs.Polls as delta
 use Rattle.xds_delta.specs.Polls.{is_statement, is_removal, names_where, resource_of as drafted_of, resource_at}
 use Rattle.xds_core.specs.Stores.{Store}
 use Rattle.xds_core.specs.Streams.{response_of}
-use Rattle.xds_cache.specs.Shelves.{Cache, Wants, wants_of, marked}
-use Rattle.xds_cache.specs.Faults.{Test, Stated as StatedResource, first_reason, is_misnamed, fault_by, fault_of, and_stated, first_fault, holding_of}
-use Rattle.xds_cache.specs.Deliveries.{sotw_stated, delta_stated, sotw_delivery, delta_delivery, fault_in}
+use Rattle.xds_shelf.specs.Shelves.{Cache, Wants, wants_of, marked}
+use Rattle.xds_shelf.specs.Faults.{Test, Stated as StatedResource, first_reason, is_misnamed, fault_by, fault_of, and_stated, first_fault, holding_of}
+use Rattle.xds_shelf.specs.Deliveries.{sotw_stated, delta_stated, sotw_delivery, delta_delivery, fault_in}
 use Rattle.xds_model.specs.Knows.{TypedWrite}
 use Rattle.xds_model.proofs.Replicas.{some_is}
 use Rattle.xds_model.proofs.Delivering.{IsKnown, AllKnown, canonical_is, present_if_stated}

@@ -23,9 +23,9 @@ use Rattle.xds_draft.specs.declared.draft.Draft.TheVariants as drafts
 use Rattle.xds_draft.specs.Drafts.{Drafted, DraftedDelta, message_of, delta_message_of}
 use Rattle.xds_draft.specs.DraftTexts.{kind_of}
 use Rattle.xds_ledger.specs.declared.outcome.Outcome.{Outcome}
-use Rattle.xds_ledger.specs.declared.variant.VariantName.{VariantName}
-use Rattle.xds_ledger.specs.declared.variant.VariantName.TheVariants as variants
-use Rattle.xds_ledger.specs.Offers.{Offer}
+use Rattle.xds_owed.specs.declared.variant.VariantName.{VariantName}
+use Rattle.xds_owed.specs.declared.variant.VariantName.TheVariants as variants
+use Rattle.xds_owed.specs.Offers.{Offer}
 use Rattle.xds_ledger.specs.Sessions as sessions
 use Rattle.xds_ledger.specs.Sessions.{Session, unopened, send}
 use Rattle.xds_core.specs.Stores.{Store}
@@ -34,10 +34,10 @@ use Rattle.xds_core.specs.Streams.{Stream, Message, url_of, variant_of, is_forei
 use Rattle.xds_core.specs.Events.{Event, Reply}
 use Rattle.xds_core.specs.Steps.{Core, step, stream_step}
 use Rattle.xds_core.proofs.StepLaws.{unless_once}
-use Rattle.xds_cache.specs.Shelves.{Shelf, texts}
-use Rattle.xds_cache.specs.Faults.{Test}
+use Rattle.xds_shelf.specs.Shelves.{Shelf, texts}
+use Rattle.xds_shelf.specs.Faults.{Test}
 use Rattle.xds_cache.specs.Clients.{Client, shelf, with_shelf}
-use Rattle.xds_cache.specs.Deliveries.{Delivery, sotw_delivery, delta_delivery, fault_in, taking, rejecting, delivered}
+use Rattle.xds_shelf.specs.Deliveries.{Delivery, sotw_delivery, delta_delivery, fault_in, taking, rejecting, delivered}
 use Rattle.xds_cache.specs.Sends.{failure}
 use Rattle.xds_model.specs.declared.event.ClientKind.{ClientKind}
 use Rattle.xds_model.specs.declared.event.ClientKind.TheVariants.{Sotw, Delta}

@@ -16,7 +16,8 @@ use Rattle.xds_owed.specs.declared.variant.VariantName.TheVariants.{StateOfTheWo
 use Rattle.xds_owed.specs.declared.entry.Entry.{Entry}
 use Rattle.xds_owed.specs.declared.entry.Entry.TheVariants.{Told}
 use Rattle.xds_owed.specs.Offers.{Offer}
-use Rattle.xds_ledger.specs.Ledgers.{Account, Sent, nonce_text, settled, answered, touched_since}
+use Rattle.xds_ledger.specs.Ledgers.{Account, nonce_text, settled, answered}
+use Rattle.xds_beliefs.specs.Believing.{Sent, touched_since}
 use Rattle.xds_ledger.specs.Sessions.{Session, Answer, Names, taken, is_taken, sotw_names}
 use Rattle.xds_ledger.specs.Laws.{with_sent}
 use Rattle.xds_ledger.proofs.Settling.{sending_commutes}

@@ -20,7 +20,8 @@ use Rattle.xds_owed.specs.declared.entry.Entry.{Entry}
 use Rattle.xds_owed.specs.declared.entry.Entry.TheVariants.{Told}
 use Rattle.xds_owed.specs.declared.entry.Due.{Due}
 use Rattle.xds_owed.specs.declared.entry.Due.TheVariants.{Stated, Removed}
-use Rattle.xds_ledger.specs.Ledgers.{Account, Sent, nonce_text, was_touched, touched_since, settled, answered, believed_accepted}
+use Rattle.xds_ledger.specs.Ledgers.{Account, nonce_text, settled, answered}
+use Rattle.xds_beliefs.specs.Believing.{Sent, was_touched, touched_since, believed_accepted}
 use Rattle.xds_ledger.specs.Sessions.{Session, Names, unopened, taken}
 use Rattle.xds_sotw.specs.Polls.{take}
 use Rattle.xds_shelf.specs.Shelves.{Wants, Holding, Cache, Shelf, texts, interest, is_wanted, wants_some}

@@ -26,7 +26,8 @@ use Rattle.xds_owed.specs.declared.entry.Entry.{Entry}
 use Rattle.xds_owed.specs.declared.entry.Entry.TheVariants.{Told, Unsure}
 use Rattle.xds_owed.specs.declared.entry.Due.TheVariants.{Stated}
 use Rattle.xds_owed.specs.Offers.{Offer}
-use Rattle.xds_ledger.specs.Ledgers.{Account, Sent, nonce_text, was_touched, touched_since, settled, answered, believed_accepted}
+use Rattle.xds_ledger.specs.Ledgers.{Account, nonce_text, settled, answered}
+use Rattle.xds_beliefs.specs.Believing.{Sent, was_touched, touched_since, believed_accepted}
 use Rattle.xds_ledger.specs.Sessions.{Session, Names, unopened, is_taken, taken, send}
 use Rattle.xds_ledger.specs.Laws.{with_sent}
 use Rattle.xds_beliefs.proofs.ByName.{accepted_by_name}

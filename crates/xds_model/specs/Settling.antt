@@ -11,8 +11,8 @@ use Rattle.xds_resource.specs.Writes.{StampedWrite}
 use Rattle.xds_draft.specs.declared.draft.Draft.{Draft}
 use Rattle.xds_draft.specs.DraftTexts.{kind_of}
 use Rattle.xds_core.specs.Streams.{Message}
-use Rattle.xds_cache.specs.Shelves.{Holding, Wants}
-use Rattle.xds_cache.specs.Faults.{Test}
+use Rattle.xds_shelf.specs.Shelves.{Holding, Wants}
+use Rattle.xds_shelf.specs.Faults.{Test}
 use Rattle.xds_model.specs.Happenings.{Happening, Up, Poll, Down}
 use Rattle.xds_model.specs.Worlds.{World, Link, world, after, happens}
 use Rattle.xds_model.specs.Knows.{knows, wants, link}

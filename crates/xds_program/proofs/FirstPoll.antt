@@ -30,7 +30,7 @@ use Rattle.xds_owed.specs.declared.entry.Due.TheVariants.{Stated}
 use Rattle.xds_owed.specs.Variants.{is_told}
 use Rattle.xds_owed.specs.Owed.{Beliefs, live_version, present, owed, something_owed, names_known}
 use Rattle.xds_owed.specs.Offers.{Offer, offered, offer}
-use Rattle.xds_ledger.specs.Ledgers.{believed_touched, beliefs_taken, beliefs_resumed}
+use Rattle.xds_beliefs.specs.Believing.{believed_touched, beliefs_taken, beliefs_resumed}
 use Rattle.xds_ledger.specs.Sessions.{Session, unopened, send}
 use Rattle.xds_owed.proofs.ByName.{present_absent, offer_says_it}
 use Rattle.xds_beliefs.proofs.ByName.{taken_by_name}
