@@ -16,9 +16,9 @@ use crate::link::{Down, Link, Up};
 use crate::rejection::rejection;
 use std::alloc::Global;
 use std::marker::{Model, PhantomData};
+use xds_delivery::delta_response::delivered_to;
 use xds_message::{DeltaDiscoveryRequest, DeltaDiscoveryResponse, Node, Versions};
 use xds_resource::{NameMap, Refusal, TypeName};
-use xds_shelf::delta_response::delivered_to;
 use xds_shelf::wants::{Wants, texts_of, wants_after, wants_of};
 use xds_shelf::{Accept, Holding};
 

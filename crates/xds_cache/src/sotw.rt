@@ -15,10 +15,10 @@ use crate::link::{Down, Link, Up};
 use crate::rejection::rejection;
 use std::alloc::Global;
 use std::marker::{Model, PhantomData};
+use xds_delivery::sotw_response::delivered_to;
 use xds_message::{DiscoveryRequest, DiscoveryResponse, Node};
 use xds_resource::{NameMap, Refusal, TypeName};
 use xds_shelf::shelf::Shelf;
-use xds_shelf::sotw_response::delivered_to;
 use xds_shelf::wants::{texts_of, wants_of};
 use xds_shelf::{Accept, Holding};
 

@@ -1,9 +1,9 @@
 use Rattle.std.proofs.Common.{Ok, string_bytes, sym, ap, ◌∙◌}
 use Rattle.std.specs.Option.{option_map}
-use Rattle.xds_message.specs.Responses.{resource_of}
-use Rattle.xds_shelf.specs.Deliveries.{delta_stated}
-use Rattle.xds_shelf.proofs.Judging.{none_by_false, fault_more, stated_more}
-use Rattle.xds_shelf.proofs.delta_response.judge.Goals as goal
+use Rattle.serde_json.specs.View.{view}
+use Rattle.xds_shelf.specs.Deliveries.{sotw_stated}
+use Rattle.xds_delivery.proofs.Judging.{none_by_false, fault_more, stated_more}
+use Rattle.xds_delivery.proofs.sotw_response.judge.Goals as goal
 
 pub loop-resource-preserved : goal.loop-resource-preserved
 loop-resource-preserved g c =
@@ -14,7 +14,7 @@ loop-resource-preserved g c =
     let x = c.resource-item.result in
     let within = c.loop-resource-test.true in
     record {
-      fault = fault_more resource_of delta_stated c.args.kind test c.args.removed.now c.args.resources.now at x c.loop-resource.stated _ _ within c.resource-item.is
+      fault = fault_more view sotw_stated c.args.kind test c.args.removed.now c.args.resources.now at x c.loop-resource.stated _ _ within c.resource-item.is
           (sym c.in_ok-fault.ensures.fault ∙ ap (option_map string_bytes) none) stated c.loop-resource.invariant.fault;
-      stated = stated_more resource_of delta_stated c.args.kind test c.args.removed.now c.args.resources.now at x c.loop-resource.stated _ _ within c.resource-item.is stated c.loop-resource.invariant.stated;
+      stated = stated_more view sotw_stated c.args.kind test c.args.removed.now c.args.resources.now at x c.loop-resource.stated _ _ within c.resource-item.is stated c.loop-resource.invariant.stated;
     }

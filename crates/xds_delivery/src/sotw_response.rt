@@ -7,15 +7,14 @@ ghost use Rattle.xds_message.specs.Responses.{response_of};
 ghost use Rattle.xds_shelf.specs.Faults.{fault_of, and_stated, first_fault, stated_by};
 ghost use Rattle.xds_shelf.specs.Deliveries.{sotw_stated, sotw_delivery, delivered, fault_in};
 
-use crate::accept::Accept;
-use crate::faults::state;
-use crate::holding::Holding;
-use crate::shelf::Shelf;
-use crate::wants::Wants;
 use serde_json::Value;
 use std::alloc::Global;
 use xds_message::DiscoveryResponse;
 use xds_resource::{NameMap, Refusal, TypeName};
+use xds_shelf::faults::state;
+use xds_shelf::shelf::Shelf;
+use xds_shelf::wants::Wants;
+use xds_shelf::{Accept, Holding};
 
 // Why a value of a response is at fault, if it is. Else it is put beside those that the response states before it.
 fn state_value<A: Accept>(

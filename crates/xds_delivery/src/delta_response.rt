@@ -6,14 +6,13 @@ ghost use Rattle.xds_message.specs.Responses.{resource_of, delta_response_of};
 ghost use Rattle.xds_shelf.specs.Faults.{fault_of, and_stated, first_fault, stated_by};
 ghost use Rattle.xds_shelf.specs.Deliveries.{delta_stated, delta_delivery, delivered, fault_in};
 
-use crate::accept::Accept;
-use crate::faults::state;
-use crate::holding::Holding;
-use crate::shelf::Shelf;
-use crate::wants::{Wants, wants_of};
 use std::alloc::Global;
 use xds_message::{DeltaDiscoveryResponse, DeltaResource};
 use xds_resource::{NameMap, Refusal, TypeName};
+use xds_shelf::faults::state;
+use xds_shelf::shelf::Shelf;
+use xds_shelf::wants::{Wants, wants_of};
+use xds_shelf::{Accept, Holding};
 
 // Why a resource of a response is at fault, if it is. Else it is put beside those that the response states before it.
 fn state_resource<A: Accept>(

@@ -2,7 +2,7 @@ use Rattle.std.proofs.Common.{◌≡◌, map, drop}
 use Rattle.xds_message.specs.Responses.{resource_of}
 use Rattle.xds_shelf.specs.Faults.{first_fault, stated_by}
 use Rattle.xds_shelf.specs.Deliveries.{delta_stated}
-use Rattle.xds_shelf.proofs.delta_response.judge.Given as goal
+use Rattle.xds_delivery.proofs.delta_response.judge.Given as goal
 
 -- what is left decides
 abbrev pub invariant-loop-resource : goal.invariant-loop-resource
