@@ -259,7 +259,8 @@ class Client:
             self.nonce[kind], self.asked[kind] = "", bool(self.wanted[kind])
             if self.asked[kind]:
                 request = self.request(kind, "", subscribe=self.wanted[kind])
-                request["versions"] = {name: version for name, (version, _) in self.cache[kind].items()}
+                if self.is_delta:
+                    request["versions"] = {name: version for name, (version, _) in self.cache[kind].items()}
                 self.link[2].append(request)
 
     def change(self, kind, wish):

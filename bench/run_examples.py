@@ -1,5 +1,5 @@
 #!/usr/bin/env python3
-"""Runs the built program over the worked cases of examples/cases/, and compares what only a run shows.
+"""Runs the built program over the worked cases of examples/cases/ and examples/play/, and compares what only a run shows.
 
     bench/run_examples.py [PROGRAM]
 
@@ -14,12 +14,13 @@ import subprocess
 import sys
 
 TOP = os.path.dirname(os.path.dirname(os.path.abspath(__file__)))
-CASES = os.path.join(TOP, "examples", "cases")
+FOLDERS = [os.path.join(TOP, "examples", name) for name in ("cases", "play")]
 
 # Words, the status, and whether the text goes to the output rather than to the error output.
 OTHER_WORDS = [
     ([], 2, False),
-    (["play"], 2, False),
+    (["play", "extra"], 2, False),
+    (["play", "--replica", "1"], 2, False),
     (["answer", "extra"], 2, False),
     (["answer", "--replica", "0"], 2, False),
     (["answer", "--replica", "65536"], 2, False),
@@ -28,12 +29,21 @@ OTHER_WORDS = [
     (["answer", b"\xff"], 2, False),
     (["--help"], 0, True),
     (["answer", "--help"], 0, True),
+    (["play", "--help"], 0, True),
 ]
 
 
-def content(name, ending):
-    with open(os.path.join(CASES, f"{name}.{ending}"), "rb") as file:
+def content(case, ending):
+    with open(f"{case}.{ending}", "rb") as file:
         return file.read()
+
+
+def cases():
+    """The path of each case, without an ending."""
+    for folder in FOLDERS:
+        for name in sorted(os.listdir(folder)):
+            if name.endswith(".args"):
+                yield os.path.join(folder, name[: -len(".args")])
 
 
 def run(program, words, given):
@@ -41,17 +51,17 @@ def run(program, words, given):
     return ended.stdout, ended.stderr, ended.returncode
 
 
-def differs(program, name):
+def differs(program, case):
     """What the run of a case does otherwise than wanted."""
-    words = content(name, "args").decode().splitlines()
-    output, errors, status = run(program, words, content(name, "stdin"))
+    words = content(case, "args").decode().splitlines()
+    output, errors, status = run(program, words, content(case, "stdin"))
     first = errors.split(b"\n")[0]
-    wanted = content(name, "stderr").split(b"\n")[0]
-    if output != content(name, "stdout"):
+    wanted = content(case, "stderr").split(b"\n")[0]
+    if output != content(case, "stdout"):
         return f"its output is {output[:200]!r}"
     if first != wanted or bool(wanted) != bool(errors):
         return f"its error output is {errors[:200]!r}"
-    if status != int(content(name, "status")):
+    if status != int(content(case, "status")):
         return f"its status is {status}"
     return None
 
@@ -69,8 +79,7 @@ def main(words):
     program = os.path.abspath(words[0] if words else os.path.join(TOP, "crates", "xds", "out", "xds"))
     if not os.path.isfile(program):
         sys.exit(f"run_examples.py: there is no program {program}: build it by `rt run` in crates/xds")
-    names = sorted(name[: -len(".args")] for name in os.listdir(CASES) if name.endswith(".args"))
-    found = [(name, differs(program, name)) for name in names]
+    found = [(os.path.basename(case), differs(program, case)) for case in cases()]
     found += [(f"xds {given}", differs_aside(program, given, *rest)) for given, *rest in OTHER_WORDS]
     others = [(name, why) for name, why in found if why]
     for name, why in others:

@@ -2,4 +2,6 @@
 #![tactic(auto)]
 
 #[cfg(test)]
+mod play;
+#[cfg(test)]
 mod program;

@@ -17,7 +17,7 @@ fn words(alloc: Global, given: &str) -> Result<Vec<String>, Fail> {
 
 // The status of a run over words and the input after a `|`, its output and its error output. `~` is a line feed, and
 // `A!`, `B!` and `Q!` are lines that put the clusters `a` and `b` and the route `q`.
-struct Run;
+pub(crate) struct Run;
 
 impl Outcome for Run {
     fn of(alloc: Global, given: &str) -> Result<String, Fail> {
@@ -139,7 +139,7 @@ impl Outcome for Aside {
             &mut errors,
         );
         let output = String::from_utf8(output.inner).ok().ok_or("output")?;
-        let shown = if output.as_str().contains("answer") {
+        let shown = if output.as_str().contains("Usage: ") {
             "help"
         } else {
             output.as_str()
@@ -155,7 +155,12 @@ fn other_words_are_told_before_any_input(rt: HostRuntime) -> Result<(), Fail> {
     hold::<Aside, HostRuntime>(
         &rt,
         " => fault 2 2
-play => fault 2 2
+play extra => fault 2 2
+play -- extra => fault 2 2
+play --replica 1 => fault 2 2
+play -x => fault 2 2
+play play => fault 2 2
+-- play => fault 2 2
 -- answer => fault 2 2
 --replica 1 answer => fault 2 2
 help nothing => fault 2 2
@@ -176,7 +181,9 @@ answer --replica=1 --replica => fault 2 2
 help => help 0 2
 help answer => help 0 2
 answer -h => help 0 2
-answer --help => help 0 2",
+answer --help => help 0 2
+play --help => help 0 2
+help play => help 0 2",
     )
 }
 
