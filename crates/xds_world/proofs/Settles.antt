@@ -16,9 +16,11 @@ use Rattle.xds_model.proofs.Headline.{put_more}
 use Rattle.xds_model.proofs.SettlingWalks.{Walked, walked_then, walked_more}
 use Rattle.xds_model.proofs.SettlingEnds.{two_responses_suffice, quiet_at_the_end}
 use Rattle.xds_model.proofs.SettlingMoves.{is_poll}
+use Rattle.xds_model.proofs.SettlingSettles.{settles_where_all_is_taken}
 use Rattle.xds_model.proofs.SettlingPolls.{walked_takes_two, taken_more, polls, second_poll_is_the_last}
 use Rattle.xds_world.specs.declared.link.Step.{Step}
 use Rattle.xds_world.specs.declared.link.Step.TheVariants as steps
+use Rattle.xds_world.specs.Settled.{IsSettledByTaking}
 use Rattle.xds_world.specs.Played.{IsPlayed, HasStepped, event_for}
 use Rattle.xds_world.proofs.Plays.{played_one, after_both}
 use Rattle.xds_world.proofs.Weights.{weight, up_lightens, down_lightens, poll_burdens}
@@ -108,6 +110,10 @@ settled_few test c t before later settled responses put is = subst (λ n. n ≤ 
 pub settled_quiet : (test : Test) (c : ℕ) (t : TypeName) (before later : List Happening) (settled : Bool) (responses : ℕ) → PutResources before → HasSettled test c t before later settled responses → IsQuietFor (world test later) c t
 settled_quiet test c t before later settled responses put is l linked =
     quiet_at_the_end test before put c t is.more l is.steps (ap (λ w. link_in w c) (sym (after_both test empty_world before is.more) ∙ ap (world test) (sym is.longer)) ∙ linked)
+
+pub settled_taking : (test : Test) (c : ℕ) (t : TypeName) (before later : List Happening) (settled : Bool) (responses : ℕ) → PutResources before → HasSettled test c t before later settled responses → IsSettledByTaking test c t before settled
+settled_taking test c t before later settled responses put is r linked takes =
+    is.tells ∙ ap (λ w. is_settled w c t) (ap (world test) is.longer ∙ after_both test empty_world before is.more) ∙ settles_where_all_is_taken test before put c r t is.more linked takes is.steps
 
 -- ---- that it ends
 

@@ -1,10 +1,11 @@
 -- Why a client wasn't settled. This project's own.
-use Rattle.std.specs.Prelude.{◌≡◌, ℕ, List, None, ⊤}
+use Rattle.std.specs.Prelude.{◌≡◌, ℕ, List, Bool, true, Some, None, ⊤}
 use Rattle.xds_resource.specs.declared.types.TypeName.{TypeName}
 use Rattle.xds_shelf.specs.Faults.{Test}
-use Rattle.xds_model.specs.Claims.{Headline}
+use Rattle.xds_model.specs.Claims.{Headline, writes_of}
+use Rattle.xds_model.specs.Knows.{knows, wants, link}
 use Rattle.xds_model.specs.Worlds.{world}
-use Rattle.xds_model.specs.Settling.{link_in, HasStopped}
+use Rattle.xds_model.specs.Settling.{link_in, HasStopped, TakesAll}
 use Rattle.xds_model.specs.Happenings.{Happening}
 use Rattle.xds_world.specs.declared.settling.Unsettled.{Unsettled}
 use Rattle.xds_world.specs.declared.settling.Unsettled.TheVariants as unsettled
@@ -14,3 +15,8 @@ abbrev pub HasFailed : {A : Type 0} → Test → ℕ → TypeName → List Happe
 HasFailed test c t before (unsettled.NoStream w) = (link_in (world test before) c ≡ None) × (w ≡ before)
 HasFailed test c t before (unsettled.NonceSpent w) = HasStopped test c t before w × Headline test w
 HasFailed test c t before unsettled.OutOfMemory = ⊤
+
+-- where the client's test takes all that it is to show of what its replica knows, it is settled
+abbrev pub IsSettledByTaking : Test → ℕ → TypeName → List Happening → Bool → Type 0
+IsSettledByTaking test c t before settled =
+    (r : ℕ) → link test before c ≡ Some r → TakesAll test t (writes_of t (knows test before r)) (wants test before c t) → settled ≡ true

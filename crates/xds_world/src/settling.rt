@@ -6,7 +6,7 @@ ghost use Rattle.xds_model.specs.Claims.{Headline};
 ghost use Rattle.xds_model.specs.Settling.{HasSettled, IsQuietFor, link_in};
 ghost use Rattle.xds_model.specs.Worlds.{world as world_of};
 ghost use Rattle.xds_world.specs.Played.{IsPlayed, HasEnded};
-ghost use Rattle.xds_world.specs.Settled.{HasFailed};
+ghost use Rattle.xds_world.specs.Settled.{HasFailed, IsSettledByTaking};
 
 use crate::peer::Status;
 use crate::run::Run;
@@ -39,7 +39,7 @@ pub enum Unsettled<A: Accept> {
 /// Settles a client of a type: while a request of the client is under way, its replica takes it; else while a response of the type
 /// is, the client takes what comes first; else the replica is polled for the type. It ends where the client is settled, or a poll
 /// gives no response, since what the replica would send is what the client refused. The client takes two responses of the type at
-/// most, and nothing of the type is under way then.
+/// most, and nothing of the type is under way then; where its test takes all that it is to show, it is settled.
 pub fn settle<A: Accept>(
     alloc: Global,
     world: World<A>,
@@ -50,6 +50,7 @@ pub fn settle<A: Accept>(
     ensures settled { IfOk result (λ s. HasSettled A.accepts client kind world s.world s.settled s.responses) }
     ensures few { IfOk result (λ s. s.responses ≤ 2) }
     ensures quiet { IfOk result (λ s. IsQuietFor (world_of A.accepts s.world) client kind) }
+    ensures taken { IfOk result (λ s. IsSettledByTaking A.accepts client kind world s.settled) }
     ensures headline { IfOk result (λ s. Headline A.accepts s.world) }
     ensures unsettled { IfErr result (λ e. HasFailed A.accepts client kind world e) }
 {
@@ -69,6 +70,7 @@ fn settle_linked<A: Accept>(
     ensures settled { IfOk result (λ s. HasSettled A.accepts client kind world s.world s.settled s.responses) }
     ensures few { IfOk result (λ s. s.responses ≤ 2) }
     ensures quiet { IfOk result (λ s. IsQuietFor (world_of A.accepts s.world) client kind) }
+    ensures taken { IfOk result (λ s. IsSettledByTaking A.accepts client kind world s.settled) }
     ensures headline { IfOk result (λ s. Headline A.accepts s.world) }
     ensures stopped { IfErr result (λ e. HasFailed A.accepts client kind world e) }
 {

@@ -3,7 +3,8 @@ use Rattle.xds_model.specs.Seen.{happening_of}
 use Rattle.xds_model.specs.Settling.{HasStopped}
 use Rattle.xds_model.proofs.Headline.{headline}
 use Rattle.xds_world.specs.Played.{HasEnded}
-use Rattle.xds_world.proofs.Settles.{settled_few, settled_quiet}
+use Rattle.xds_world.specs.Settled.{IsSettledByTaking}
+use Rattle.xds_world.proofs.Settles.{settled_few, settled_quiet, settled_taking}
 use Rattle.xds_world.proofs.settling.settle_linked.Goals as goal
 
 pub returns-in-Ok-Some-clause-few : goal.returns-in-Ok-Some-clause-few
@@ -15,6 +16,12 @@ pub returns-in-Ok-Some-clause-quiet : goal.returns-in-Ok-Some-clause-quiet
 returns-in-Ok-Some-clause-quiet g c =
     settled_quiet g.A.Accept.accepts c.args.client c.args.kind (map happening_of c.world.inside.run.events.items) (map happening_of c.settle_run.new.run.events.items) c.in-Ok-Some.settled c.in-Ok-Some.responses c.world.invariant.put
     (subst (HasEnded g.A.Accept.accepts c.args.client c.args.kind (map happening_of c.world.inside.run.events.items) (map happening_of c.settle_run.new.run.events.items)) c.in-Ok-Some.field-0-is c.in-Ok-Some.ensures.ended)
+
+pub returns-in-Ok-Some-clause-taken : goal.returns-in-Ok-Some-clause-taken
+returns-in-Ok-Some-clause-taken g c =
+    subst (λ hs. IsSettledByTaking g.A.Accept.accepts c.args.client c.args.kind hs c.in-Ok-Some.settled) c.world.view_is
+    (settled_taking g.A.Accept.accepts c.args.client c.args.kind (map happening_of c.world.inside.run.events.items) (map happening_of c.settle_run.new.run.events.items) c.in-Ok-Some.settled c.in-Ok-Some.responses c.world.invariant.put
+    (subst (HasEnded g.A.Accept.accepts c.args.client c.args.kind (map happening_of c.world.inside.run.events.items) (map happening_of c.settle_run.new.run.events.items)) c.in-Ok-Some.field-0-is c.in-Ok-Some.ensures.ended))
 
 pub returns-in-Ok-Some-clause-headline : goal.returns-in-Ok-Some-clause-headline
 returns-in-Ok-Some-clause-headline g c = headline g.A.Accept.accepts (map happening_of c.settle_run.new.run.events.items) c.in-Ok-Some.ensures.played.put
