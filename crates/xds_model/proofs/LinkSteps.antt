@@ -32,7 +32,7 @@ use Rattle.xds_ledger.specs.Sessions.{Session, unopened, is_taken, send}
 use Rattle.xds_delta.specs.Polls.{take, mention, response}
 use Rattle.xds_core.specs.Stores.{Store, if_done}
 use Rattle.xds_core.specs.Streams as streams
-use Rattle.xds_core.specs.Streams.{Stream, Message, url_of, variant_of, is_foreign, answered_by, answered, requested, to_send, response_of, sending, sent, polled, first_due, polled_first}
+use Rattle.xds_core.specs.Streams.{Stream, Message, is_foreign, answered_by, answered, requested, to_send, response_of, sending, sent, polled, first_due, polled_first}
 use Rattle.xds_core.proofs.StepLaws.{unless_once, done_with}
 use Rattle.xds_shelf.specs.Shelves.{Shelf}
 use Rattle.xds_cache.specs.Clients.{Client, shelf}

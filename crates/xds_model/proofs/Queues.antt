@@ -18,7 +18,7 @@ use Rattle.xds_owed.specs.declared.variant.VariantName.TheVariants as variants
 use Rattle.xds_ledger.specs.Ledgers.{nonce_text}
 use Rattle.xds_ledger.specs.Sessions.{Session, unopened}
 use Rattle.xds_core.specs.Streams as streams
-use Rattle.xds_core.specs.Streams.{Stream, Message, url_of}
+use Rattle.xds_core.specs.Streams.{Stream, Message}
 use Rattle.xds_shelf.specs.Shelves.{Shelf}
 use Rattle.xds_cache.specs.Clients.{Client, shelf}
 use Rattle.xds_model.specs.Worlds.{Link, under_way}

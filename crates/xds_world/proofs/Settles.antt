@@ -1,8 +1,7 @@
 -- What was done so far to settle a client of a type, in a world that runs.
-use Rattle.std.proofs.Common.{◌≡◌, inl, inr, ℕ, zero, suc, ◌+◌, ◌<◌, ◌≤◌, List, [], ◌∷◌, ◌++◌, Bool, true, false, ◌||◌, Option, Some, None, refl, sym, ap, subst, ◌∙◌, length, drop, arith}
-use Rattle.std.specs.Prelude.{if◌then◌else◌, is_some, option_map}
+use Rattle.std.proofs.Common.{◌≡◌, inl, inr, ℕ, suc, ◌+◌, ◌<◌, ◌≤◌, List, [], ◌∷◌, ◌++◌, Bool, true, false, ◌||◌, Some, None, refl, sym, ap, subst, ◌∙◌, length, drop, arith}
+use Rattle.std.specs.Prelude.{is_some}
 use Rattle.std.specs.Option.{option_and_then}
-use Rattle.std.specs.List.{list_any}
 use Rattle.std.proofs.lemmas.List.{append-nil, append_assoc}
 use Rattle.std.proofs.lemmas.List.Folds.{list_any-append}
 use Rattle.std.proofs.Math.Seq.{drop-append_seam}
@@ -12,7 +11,6 @@ use Rattle.xds_model.specs.Happenings.{Happening, Up, Poll, Down}
 use Rattle.xds_model.specs.Worlds.{World, happens, empty_world, world}
 use Rattle.xds_model.specs.Claims.{PutResources, PutsAResource, is_settled}
 use Rattle.xds_model.specs.Settling.{next_to_settle, gave_nothing, link_in, taken_now, responses_taken, Then, Done, IsAtEnd, IsAtStop, IsSettling, IsStopped, HasSettled, HasStopped, IsQuietFor}
-use Rattle.xds_model.proofs.Headline.{put_more}
 use Rattle.xds_model.proofs.SettlingWalks.{Walked, walked_then, walked_more}
 use Rattle.xds_model.proofs.SettlingEnds.{two_responses_suffice, quiet_at_the_end}
 use Rattle.xds_model.proofs.SettlingMoves.{is_poll}

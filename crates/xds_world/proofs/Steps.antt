@@ -1,5 +1,5 @@
 -- A step of a replica, and a change of a client after it.
-use Rattle.std.proofs.Common.{◌≡◌, ℕ, zero, suc, ◌+◌, ◌-◌, List, [], ◌∷◌, ◌++◌, Bool, true, false, Option, Some, None, Result, Ok, Err, refl, sym, ap, subst, ◌∙◌}
+use Rattle.std.proofs.Common.{◌≡◌, ℕ, ◌+◌, List, [], ◌∷◌, ◌++◌, Bool, true, false, Option, Some, None, Result, Ok, Err, refl, sym, ap, subst, ◌∙◌}
 use Rattle.std.specs.Prelude.{◌==◌, IfOk, option_map, is_some, is_none, if◌then◌else◌}
 use Rattle.std.specs.Option.{option_and_then, option_map_or}
 use Rattle.std.specs.FinMap as finmap
@@ -12,13 +12,13 @@ use Rattle.xds_core.specs.Stores.{Batch, if_done, all_entries}
 use Rattle.xds_core.specs.Streams.{Message, Stream, opening, looked_at, polled_first}
 use Rattle.xds_core.specs.Events as events
 use Rattle.xds_core.specs.Events.{Event, Reply}
-use Rattle.xds_core.specs.Steps.{Core, Step, step, with_stream}
+use Rattle.xds_core.specs.Steps.{Core, with_stream}
 use Rattle.xds_shelf.specs.Faults.{Test}
-use Rattle.xds_cache.specs.Clients.{Client, unlinked}
+use Rattle.xds_cache.specs.Clients.{unlinked}
 use Rattle.xds_model.specs.Happenings as happenings
-use Rattle.xds_model.specs.Worlds.{Peer, Link, World, at_site, happened_at, happens, with_peer, on_link, connected_to, opened, pooled, polled, under_way, up_taken, down_taken, taken_down, received, changed, wish_taken}
+use Rattle.xds_model.specs.Worlds.{Peer, Link, World, at_site, happened_at, happens, with_peer, on_link, connected_to, opened, polled, under_way, up_taken, down_taken, taken_down, received, changed, wish_taken}
 use Rattle.xds_model.proofs.Replicas.{answered}
-use Rattle.xds_world.specs.Parts.{Gave, Happened, peer_event, peer_up, peer_polled, peer_lost, peer_connected, peer_down, peer_changed, link_up, link_down, link_at, link_of, leads, first, draft_in, stream_in, batch_in, with_batch}
+use Rattle.xds_world.specs.Parts.{Gave, Happened, peer_event, peer_up, peer_polled, peer_lost, peer_connected, peer_down, peer_changed, link_up, link_down, link_at, link_of, leads, first, draft_in, stream_in, batch_in}
 
 ok_is : {X : Type 0} (x y : X) → ◌≡◌ {A = Result X Refusal} (Ok x) (Ok y) → x ≡ y
 ok_is x y e = cc

@@ -1,6 +1,5 @@
 -- What settling a client still has before it: its requests under way, and its responses twice, since each is answered.
-use Rattle.std.proofs.Common.{◌≡◌, ℕ, suc, ◌+◌, ◌≤◌, List, [], ◌∷◌, ◌++◌, Bool, true, false, Option, Some, None, refl, sym, ap, subst, ◌∙◌, length, arith}
-use Rattle.std.specs.Prelude.{if◌then◌else◌, option_map}
+use Rattle.std.proofs.Common.{◌≡◌, ℕ, suc, ◌+◌, ◌≤◌, List, [], ◌∷◌, ◌++◌, Option, Some, None, refl, sym, ap, subst, ◌∙◌, length, arith}
 use Rattle.std.specs.Option.{option_and_then, option_map_or}
 use Rattle.std.specs.FinMap as finmap
 use Rattle.std.proofs.lemmas.List.{length-append}
@@ -10,7 +9,7 @@ use Rattle.xds_core.specs.Streams.{Message}
 use Rattle.xds_core.specs.Events as events
 use Rattle.xds_core.specs.Events.{Reply}
 use Rattle.xds_shelf.specs.Faults.{Test}
-use Rattle.xds_model.specs.Happenings.{Happening, Up, Poll, Down}
+use Rattle.xds_model.specs.Happenings.{Up, Poll, Down}
 use Rattle.xds_model.specs.Worlds.{World, Peer, Link, happens, at_site, with_peer, up_taken, polled, down_taken, taken_down, received, under_way}
 use Rattle.xds_model.specs.Settling.{link_in}
 use Rattle.xds_model.proofs.Replicas.{some_is, bound_some, mapped_some}

@@ -1,6 +1,6 @@
 -- Codes of what happens, of messages and of the parts of a world: each as the tuple of its fields, a choice as a sum. This
 -- project's own.
-use Rattle.std.specs.Prelude.{◌≡◌, ◌⊎◌, ℕ, ◌==◌, List, [], ◌∷◌, Bool, true, false, if◌then◌else◌, Option, Some, None, Result, refl}
+use Rattle.std.specs.Prelude.{◌≡◌, ◌⊎◌, ℕ, ◌==◌, List, Bool, true, false, if◌then◌else◌, Option, Some, None, Result, refl}
 use Rattle.std.proofs.Common.{inl, inr}
 use Rattle.std.specs.Coded.{Coded, code_by, coded×, coded⊎, coded_ℕ, coded_bool, coded_list, coded_option, coded_result}
 use Rattle.std.specs.Ordering.{nat_cmp}
@@ -9,10 +9,10 @@ use Rattle.xds_resource.specs.declared.types.TypeName.{TypeName}
 use Rattle.xds_resource.specs.declared.types.TypeName.TheVariants.{Cluster, Endpoint, Listener, Route}
 use Rattle.xds_resource.specs.declared.refusal.Refusal.{Refusal}
 use Rattle.xds_resource.specs.declared.refusal.Refusal.TheVariants as refusals
-use Rattle.xds_resource.specs.PerType.{PerType, per_type_code}
+use Rattle.xds_resource.specs.PerType.{per_type_code}
 use Rattle.xds_resource.specs.Refusals.{number_of}
 use Rattle.xds_resource.specs.Resources.{NamedBody, named_body_code}
-use Rattle.xds_resource.specs.Writes.{StampedWrite, write_code}
+use Rattle.xds_resource.specs.Writes.{write_code}
 use Rattle.xds_message.specs.Messages.{Identity, Failure, Request}
 use Rattle.xds_message.specs.DeltaMessages.{DeltaRequest, identity_code, failure_code, delta_request_code}
 use Rattle.xds_draft.specs.declared.draft.Draft.{Draft}

@@ -10,7 +10,7 @@ use Rattle.xds_core.specs.Stores.{Batch}
 use Rattle.xds_core.specs.Streams.{Message}
 use Rattle.xds_core.specs.Events as events
 use Rattle.xds_core.specs.Events.{Event, Reply}
-use Rattle.xds_core.specs.Steps.{Core, Step, step, fresh as fresh_core}
+use Rattle.xds_core.specs.Steps.{Step, step, fresh as fresh_core}
 use Rattle.xds_shelf.specs.Faults.{Test}
 use Rattle.xds_cache.specs.Clients as clients
 use Rattle.xds_cache.specs.Clients.{Client, client_code, linked, unlinked}

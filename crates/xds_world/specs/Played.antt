@@ -4,9 +4,9 @@ use Rattle.xds_resource.specs.declared.types.TypeName.{TypeName}
 use Rattle.xds_shelf.specs.Faults.{Test}
 use Rattle.xds_model.specs.Happenings as happenings
 use Rattle.xds_model.specs.Happenings.{Happening}
-use Rattle.xds_model.specs.Worlds.{World, Link, world, happens}
+use Rattle.xds_model.specs.Worlds.{World, world, happens}
 use Rattle.xds_model.specs.Claims.{PutResources}
-use Rattle.xds_model.specs.Settling.{takes_one, gave_nothing, link_in, HasSettled, HasStopped}
+use Rattle.xds_model.specs.Settling.{HasSettled, HasStopped}
 use Rattle.xds_world.specs.declared.link.Step.{Step}
 use Rattle.xds_world.specs.declared.link.Step.TheVariants.{Up, Poll, Down}
 

@@ -1,7 +1,7 @@
-use Rattle.std.proofs.Common.{◌≡◌, map, Bool, true, false, Some, refl, sym, ap, subst, ◌∙◌, arith}
+use Rattle.std.proofs.Common.{map, sym, subst, ◌∙◌, arith}
 use Rattle.xds_model.specs.Seen.{happening_of}
 use Rattle.xds_world.specs.Played.{event_for, HasStepped}
-use Rattle.xds_world.proofs.Settles.{settles_start, settles_more, settles_few, settles_done, settles_held, settles_stopped, still_played, falls}
+use Rattle.xds_world.proofs.Settles.{settles_more, settles_few, settles_done, settles_held, settles_stopped, still_played, falls}
 use Rattle.xds_world.proofs.settling.settle_run.Goals as goal
 
 pub returns-then-not-branch-clause-ended : goal.returns-then-not-branch-clause-ended

@@ -1,5 +1,4 @@
-use Rattle.std.proofs.Common.{Some, Bool, sym, ap, subst, ◌∙◌}
-use Rattle.std.specs.Prelude.{not}
+use Rattle.std.proofs.Common.{sym, subst, ◌∙◌}
 use Rattle.xds_core.specs.Events as events
 use Rattle.xds_model.specs.Worlds.{at_site}
 use Rattle.xds_world.specs.Parts.{Gave}

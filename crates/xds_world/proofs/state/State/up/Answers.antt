@@ -1,4 +1,4 @@
-use Rattle.std.proofs.Common.{Some, Bool, sym, ap, subst, ◌∙◌}
+use Rattle.std.proofs.Common.{Bool, sym, ap, subst, ◌∙◌}
 use Rattle.std.specs.Prelude.{option_map}
 use Rattle.xds_core.specs.Events as events
 use Rattle.xds_core.specs.Seen.{message_of}
