@@ -1,0 +1,64 @@
+#!/usr/bin/env python3
+"""Times `xds play`, or `xds answer`, on long inputs.
+
+    python3 bench/long_script.py play PROGRAM [EVENTS ..]
+    python3 bench/long_script.py answer PROGRAM [WRITES ..]
+
+For each number, by default 10,000 and 100,000 events, or 1,000, 10,000 and 100,000 writes, it makes an input of that length, runs
+the program over it, and prints seconds, the greatest memory in megabytes, and microseconds for each line. A script puts clusters
+of a hundred names at two replicas in turn, exchanges what they hold now and then, and settles a client of each variant.
+"""
+import resource
+import subprocess
+import sys
+import tempfile
+import time
+
+CLUSTER = "type.googleapis.com/envoy.config.cluster.v3.Cluster"
+NAMES = 100
+
+
+def script(count):
+    lines = ["replica 1", "replica 2", "client 1 delta", "client 2 sotw", "change 1 cluster +*", "names 2 cluster *", "connect 1 1", "connect 2 2"]
+    while len(lines) < count:
+        at = len(lines)
+        lines.append('put %d {"@type":"%s","name":"c%d","connectTimeout":"%ds"}' % (1 + at % 2, CLUSTER, at % NAMES, at))
+        if at % 50 == 0:
+            lines += ["poll 1", "down 1", "up 1", "poll 2", "down 2", "up 2"]
+        if at % 1000 == 0:
+            lines += ["snapshot 1", "snapshot 2", "merge 2 %d" % (2 * (at // 1000) - 1), "merge 1 %d" % (2 * (at // 1000))]
+    lines += ["settle 1 cluster", "settle 2 cluster", "view 1 cluster", "view 2 cluster"]
+    return lines
+
+
+def writes(count):
+    lines = ['{"body":{"@type":"%s","name":"c%d"},"counter":%d,"name":"c%d","typeUrl":"%s","writer":1}' % (CLUSTER, at, at + 1, at, CLUSTER) for at in range(count)]
+    return lines + ['{"node":{"id":"n"},"resourceNames":["*"],"typeUrl":"%s"}' % CLUSTER]
+
+
+def measured(program, verb, lines):
+    with tempfile.TemporaryFile() as given:
+        given.write("".join(line + "\n" for line in lines).encode())
+        given.seek(0)
+        start = time.time()
+        run = subprocess.run(["/usr/bin/env", program, verb], stdin=given, stdout=subprocess.DEVNULL, stderr=subprocess.PIPE)
+        seconds, after = time.time() - start, resource.getrusage(resource.RUSAGE_CHILDREN)
+    if run.returncode:
+        sys.exit("status %d: %s" % (run.returncode, run.stderr.decode()))
+    return seconds, after.ru_maxrss / 1024
+
+
+def main():
+    if len(sys.argv) < 3 or sys.argv[1] not in ("play", "answer"):
+        sys.exit(__doc__)
+    verb, program = sys.argv[1:3]
+    counts = [int(word) for word in sys.argv[3:]] or ([10000, 100000] if verb == "play" else [1000, 10000, 100000])
+    for count in counts:
+        lines = script(count) if verb == "play" else writes(count)
+        seconds, megabytes = measured(program, verb, lines)
+        size = sum(len(line) + 1 for line in lines) / 1e6
+        print("%d lines, %.1f MB: %.2f s, %.0f MB at most, %.1f us a line" % (len(lines), size, seconds, megabytes, seconds * 1e6 / len(lines)))
+
+
+if __name__ == "__main__":
+    main()
