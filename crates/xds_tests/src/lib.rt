@@ -1,22 +1,16 @@
-// Tests of the public calls of the crates below, in modules named for what they test: worked examples, and what no
+// Tests of the public calls of resources, interests and catalogues, in modules named for what they test: worked examples, and what no
 // clause says, as that calls succeed where memory is ample. Nothing else stands here.
 #![tactic(auto)]
 
 #[cfg(test)]
 mod catalogue;
 #[cfg(test)]
-mod delta;
-#[cfg(test)]
 mod interest;
 #[cfg(test)]
 mod many_writes;
-#[cfg(test)]
-mod message;
 #[cfg(test)]
 mod resource;
 #[cfg(test)]
 mod stamp;
 #[cfg(test)]
 mod streams;
-#[cfg(test)]
-mod writes;

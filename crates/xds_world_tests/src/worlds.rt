@@ -1,0 +1,112 @@
+// A replica with a cluster, and a client that wants all clusters.
+use std::alloc::Global;
+use std::test::Fail;
+use xds_cache::AcceptAll;
+use xds_model::{ClientKind, Wish, WorldEvent};
+use xds_resource::{AnyResource, Refusal, TypeName};
+use xds_world::{Unsettled, World, more, play, settle};
+
+const CLUSTER: &str =
+    r#"{"@type":"type.googleapis.com/envoy.config.cluster.v3.Cluster","name":"a"}"#;
+
+// A client wants all clusters.
+fn wants_all(alloc: Global) -> Result<Wish, Refusal> {
+    let mut texts = Vec::new(alloc);
+    texts.push(String::from_str(alloc, "*")?)?;
+    Ok(Wish::Edits(texts, Vec::new(alloc)))
+}
+
+// The client has no stream yet, and wants nothing of replica 2, which isn't there.
+fn begun(alloc: Global) -> Result<World<AcceptAll>, Refusal> {
+    let resource = AnyResource::parse(alloc, CLUSTER)?;
+    let wish = wants_all(alloc)?;
+    let mut events = Vec::new(alloc);
+    events.push(WorldEvent::AddReplica(1))?;
+    events.push(WorldEvent::Put(1, resource))?;
+    events.push(WorldEvent::AddClient(7, ClientKind::Delta))?;
+    events.push(WorldEvent::Change(7, TypeName::Cluster, wish))?;
+    events.push(WorldEvent::Connect(7, 2))?;
+    play(alloc, events.as_slice())
+}
+
+fn connected(alloc: Global) -> Result<World<AcceptAll>, Refusal> {
+    let world = begun(alloc)?;
+    more(alloc, world, &[WorldEvent::Connect(7, 1)])
+}
+
+// How many records the journal of a replica has.
+fn records(world: &World<AcceptAll>, replica: u16) -> Option<usize> {
+    let journal = world.journal(replica)?;
+    Some(journal.len())
+}
+
+// Whether the client shows the cluster.
+fn shows(world: &World<AcceptAll>) -> bool {
+    match world.view(7, TypeName::Cluster) {
+        Some(view) => view.get("a").is_some(),
+        None => false,
+    }
+}
+
+// Whether settling the client of clusters needs one response, and these many events are kept then.
+fn settles(alloc: Global, world: World<AcceptAll>, events: usize) -> Result<bool, Refusal> {
+    match settle(alloc, world, 7, TypeName::Cluster) {
+        Ok(settlement) => Ok(
+            settlement.settled
+                && settlement.responses == 1
+                && shows(&settlement.world)
+                && settlement.world.events().len() == events,
+        ),
+        Err(Unsettled::OutOfMemory) => Err(Refusal::OutOfMemory),
+        Err(_) => Ok(false),
+    }
+}
+
+// Whether a client can't be settled since it has no stream, and nothing happens.
+fn has_no_stream(alloc: Global, world: World<AcceptAll>, client: u32) -> Result<bool, Refusal> {
+    let before = world.events().len();
+    match settle(alloc, world, client, TypeName::Cluster) {
+        Err(Unsettled::NoStream(world)) => Ok(world.events().len() == before),
+        Err(Unsettled::OutOfMemory) => Err(Refusal::OutOfMemory),
+        _ => Ok(false),
+    }
+}
+
+#[test]
+fn a_journal_tells_what_was_possible(rt: HostRuntime) -> Result<(), Fail> {
+    let world = connected(rt.alloc())?;
+    assert!(rt;
+        records(&world, 1) == Some(2),
+        "a resource was put, and a stream opened"
+    );
+    assert!(rt; records(&world, 2).is_none(), "there is no replica 2");
+    assert!(rt; world.events().len() == 6, "all that was to happen is kept");
+    Ok(())
+}
+
+#[test]
+fn a_client_is_settled_by_one_response(rt: HostRuntime) -> Result<(), Fail> {
+    let world = connected(rt.alloc())?;
+    assert!(rt;
+        world.settled(7, TypeName::Cluster) == Some(false),
+        "its request is under way"
+    );
+    assert!(rt;
+        settles(rt.alloc(), world, 10)?,
+        "up, poll, down and up come to the six"
+    );
+    Ok(())
+}
+
+#[test]
+fn a_client_without_a_stream_is_not_settled(rt: HostRuntime) -> Result<(), Fail> {
+    assert!(rt;
+        has_no_stream(rt.alloc(), begun(rt.alloc())?, 7)?,
+        "it is down"
+    );
+    assert!(rt;
+        has_no_stream(rt.alloc(), begun(rt.alloc())?, 8)?,
+        "it isn't there"
+    );
+    Ok(())
+}
