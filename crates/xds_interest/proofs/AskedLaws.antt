@@ -11,11 +11,11 @@ use Rattle.xds_resource.specs.declared.types.TypeName.{TypeName}
 use Rattle.xds_resource.specs.Types.{row}
 use Rattle.xds_resource.specs.Writes.{text_cmp}
 use Rattle.xds_resource.proofs.NameMaps.{bytes_eq_tells}
-use Rattle.xds_interest.specs.Interests.{star_text, is_star, has_name, names_among}
+use Rattle.xds_interest.specs.Interests.{star_text, is_star, has_name, names_among, covers}
 use Rattle.xds_interest.specs.SotW.{is_named, last_list, listed}
 use Rattle.xds_interest.specs.Delta.{Mention, last_said, is_subscribed, opens_unnamed, delta_interest}
 use Rattle.xds_interest.specs.Touched.{mentions}
-use Rattle.xds_interest.specs.Asked.{Asked, everything, names_after, star_after, IsStarOfComplete, sotw_asked, delta_asked}
+use Rattle.xds_interest.specs.Asked.{Asked, everything, names_after, star_after, IsStarOfComplete, sotw_asked, delta_asked, wanted_by}
 use Rattle.xds_interest.specs.Touches.{sotw_touch, delta_touch}
 use Rattle.xds_interest.specs.Laws.{SotwIsKept, DeltaIsKept, SotwTouchIsASet, DeltaTouchIsASet, KeptStarIsOfComplete, UntouchedKeepsCoverOfKept, UntouchedKeepsCoverOfKeptInDelta}
 use Rattle.xds_interest.proofs.Texts.{contains-from_texts, has_name-items, same_texts}
@@ -111,3 +111,23 @@ untouched_keeps_cover_of_kept_in_delta t old m name begun allowed untouched =
     contains-names_after t m old.interest.names name
     ∙ kept_name (not (is_star t name)) (has_name m.subscribe name) (has_name m.unsubscribe name) (set.contains old.interest.names name) parts.0 in
     (λ i. star i || names i)
+
+-- ---- what a request leaves of the names that it touches
+
+wanted_now : (starry subscribed unsubscribed before : Bool) → (not starry && (subscribed || unsubscribed)) ≡ true
+    → (not starry && subscribed) ≡ ((not starry && subscribed) || (not unsubscribed && before))
+wanted_now true subscribed unsubscribed before touched = absurd cc
+wanted_now false true unsubscribed before touched = refl
+wanted_now false false true before touched = refl
+wanted_now false false false before touched = absurd cc
+
+-- of a name that a request touches by name, its own part of the interest says what the whole interest says
+pub wanted_by-covers : (t : TypeName) (a : Asked) (m : Mention) (q : List ℕ) → set.contains (delta_touch t m).names q ≡ true → covers (wanted_by t a m) q ≡ covers (delta_asked t a m).interest q
+wanted_by-covers t a m q touched =
+    let mentioned : (not (is_star t q) && (has_name m.subscribe q || has_name m.unsubscribe q)) ≡ true =
+    ap (λ b. not (is_star t q) && b) (sym (list_any-append (bytes_eq q) m.subscribe m.unsubscribe)) ∙ sym (has_name-names_among t (m.subscribe ++ m.unsubscribe) q)
+    ∙ sym (contains-from_texts (names_among t (m.subscribe ++ m.unsubscribe)) q) ∙ touched in
+    ap (λ b. (delta_asked t a m).interest.star || b)
+    (contains-from_texts (names_among t m.subscribe) q ∙ has_name-names_among t m.subscribe q
+    ∙ wanted_now (is_star t q) (has_name m.subscribe q) (has_name m.unsubscribe q) (set.contains a.interest.names q) mentioned
+    ∙ sym (contains-names_after t m a.interest.names q))

@@ -6,3 +6,4 @@ pub mod DeltaLaws
 pub mod AskedLaws
 pub mod NameSets
 pub mod Made
+mod Adding

@@ -5,6 +5,7 @@ use Rattle.std.specs.FinSet as set
 use Rattle.std.specs.Coded.{Coded, code_by, coded×, coded_bool}
 use Rattle.xds_resource.specs.declared.types.TypeName.{TypeName}
 use Rattle.xds_resource.specs.Types.{row}
+use Rattle.xds_resource.specs.Writes.{text_cmp}
 use Rattle.xds_interest.specs.Interests.{Selection, selection_code, star_text, has_name, names_among}
 use Rattle.xds_interest.specs.SotW.{is_named, listed, sotw_interest}
 use Rattle.xds_interest.specs.Delta.{Mention, delta_interest}
@@ -58,6 +59,14 @@ delta_asked t a m = record {
     names = set.from_list (names_after t m (set.items a.interest.names));
   };
 }
+
+-- delta: what a request leaves the client wanting of the names that it touches, which are those that it subscribes
+abbrev pub wanted_by : TypeName → Asked → Mention → Selection
+wanted_by t a m = record { star = (delta_asked t a m).interest.star; names = set.from_list (names_among t m.subscribe) }
+
+-- with more explicit names
+abbrev pub widened : Asked → set.FinSet text_cmp → Asked
+widened a names = record a { interest = record a.interest { names = set.union a.interest.names names } }
 
 -- what is kept of a whole stream's lists
 abbrev pub sotw_kept : TypeName → List (List (List ℕ)) → Asked

@@ -1,8 +1,12 @@
 // What is kept of the requests of an incremental (delta) stream.
-ghost use Rattle.std.specs.Prelude.{◌≡◌, IfOk, IfErr, OnOk, OnErr};
+ghost use Rattle.std.specs.Prelude.{◌≡◌, map, IfOk, IfErr, OnOk, OnErr};
+ghost use Rattle.std.specs.String.{string_bytes};
+ghost use Rattle.std.specs.FinSet as set;
+ghost use Rattle.xds_resource.specs.Writes.{text_cmp};
 ghost use Rattle.xds_resource.specs.declared.refusal.Refusal.TheVariants.{OutOfMemory};
-ghost use Rattle.xds_interest.specs.Delta.{mention_of};
-ghost use Rattle.xds_interest.specs.Asked.{unasked, delta_asked, star_after};
+ghost use Rattle.xds_interest.specs.Delta.{Mention, mention_of};
+ghost use Rattle.xds_interest.specs.Asked as asked;
+ghost use Rattle.xds_interest.specs.Asked.{unasked, delta_asked, star_after, wanted_by, widened};
 ghost use Rattle.xds_interest.specs.Touches.{delta_touch};
 
 use crate::interest::Interest;
@@ -71,6 +75,18 @@ impl<T: ResourceType> DeltaNames<T> {
         self.begun
     }
 
+    // Whether the star stands after a request.
+    fn has_star_after(&self, subscribe: &[String], unsubscribe: &[String]) -> bool
+        ensures { result ≡ (delta_asked T.TYPE self.now (mention_of subscribe.now unsubscribe.now)).interest.star }
+    {
+        let before = if self.begun {
+            self.interest.has_star()
+        } else {
+            subscribe.is_empty()
+        };
+        T::TYPE.is_complete() && star_after(before, subscribe, unsubscribe)
+    }
+
     // The explicit names after a request.
     fn names_after(&self, subscribe: &[String], unsubscribe: &[String]) -> Result<NameSet, Refusal>
         ensures ok { IfOk result (λ s. s ≡ (delta_asked T.TYPE self.now (mention_of subscribe.now unsubscribe.now)).interest.names) }
@@ -92,17 +108,59 @@ impl<T: ResourceType> DeltaNames<T> {
         ensures ok { IfOk result (λ n. n ≡ delta_asked T.TYPE self.now (mention_of subscribe.now unsubscribe.now)) }
         ensures err { IfErr result (λ e. e ≡ OutOfMemory) }
     {
-        let before = if self.begun {
-            self.interest.has_star()
-        } else {
-            subscribe.is_empty()
-        };
-        let star = T::TYPE.is_complete() && star_after(before, subscribe, unsubscribe);
+        let star = self.has_star_after(subscribe, unsubscribe);
         let names = self.names_after(subscribe, unsubscribe)?;
         Ok(DeltaNames {
             begun: true,
             interest: Interest::of_parts(star, names),
         })
+    }
+
+    /// The interest after one request more, but for the names that it doesn't mention, which are left out. Refused only by
+    /// `OutOfMemory`.
+    pub fn wanted_by(
+        &self,
+        alloc: Global,
+        subscribe: &[String],
+        unsubscribe: &[String],
+    ) -> Result<Interest<T>, Refusal>
+        ensures ok { IfOk result (λ i. i ≡ wanted_by T.TYPE self.now (mention_of subscribe.now unsubscribe.now)) }
+        ensures err { IfErr result (λ e. e ≡ OutOfMemory) }
+    {
+        let star = self.has_star_after(subscribe, unsubscribe);
+        let mut names = NameSet::new(alloc);
+        names.insert_names(T::TYPE, subscribe)?;
+        Ok(Interest::of_parts(star, names))
+    }
+
+    /// Adds the explicit names of another interest, and answers those that were not there. Refused only by `OutOfMemory`,
+    /// and then none is added.
+    pub fn widen(&mut self, alloc: Global, wanted: &Interest<T>) -> Result<NameSet, Refusal>
+        ensures ok { OnOk result (self.new ≡ widened self.old wanted.now.names) }
+        ensures added { IfOk result (λ s. s ≡ set.difference wanted.now.names self.old.interest.names) }
+        ensures err { OnErr result (self.new ≡ self.old) }
+        ensures refused { IfErr result (λ e. e ≡ OutOfMemory) }
+    {
+        let added = self.interest.lacked(alloc, wanted)?;
+        self.interest.add(&added)?;
+        Ok(added)
+    }
+
+    /// Takes back what `widen` added. It takes no memory.
+    pub fn take_back(&mut self, added: &NameSet)
+        ensures { (before : asked.Asked) → (names : set.FinSet text_cmp) → self.old ≡ widened before names → added.now ≡ set.difference names before.interest.names → self.new ≡ before }
+    {
+        self.interest.take_out(added);
+    }
+
+    /// What is kept after one request more, once `widen` added what it subscribes; `wanted` is the answer of `wanted_by`. It
+    /// takes no memory.
+    pub fn narrow(&mut self, wanted: &Interest<T>, unsubscribe: &[String])
+        ensures { (before : asked.Asked) → (m : Mention) → wanted.now ≡ wanted_by T.TYPE before m → m.unsubscribe ≡ map string_bytes unsubscribe.now
+            → self.old ≡ widened before wanted.now.names → self.new ≡ delta_asked T.TYPE before m }
+    {
+        self.interest.narrow(wanted, unsubscribe);
+        self.begun = true;
     }
 
     /// The names that a request touches: each that it mentions, and every name if it mentions the

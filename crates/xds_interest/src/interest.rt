@@ -1,5 +1,5 @@
 // The interest of one client in one type.
-ghost use Rattle.std.specs.Prelude.{◌≡◌, map, [], ◌∷◌, IfOk, IfErr};
+ghost use Rattle.std.specs.Prelude.{◌≡◌, map, [], ◌∷◌, IfOk, IfErr, OnOk, OnErr};
 ghost use Rattle.std.specs.String.{string_bytes, string_cmp};
 ghost use Rattle.std.specs.List.Sorted.{IsStrictlySortedBy};
 ghost use Rattle.std.specs.FinSet as set;
@@ -101,6 +101,41 @@ impl<T: ResourceType> Interest<T> {
         ensures { result.now ≡ self.now.names }
     {
         &self.names
+    }
+
+    // The explicit names of another interest that aren't explicit here.
+    pub(crate) fn lacked(&self, alloc: Global, wanted: &Interest<T>) -> Result<NameSet, Refusal>
+        ensures ok { IfOk result (λ s. s ≡ set.difference wanted.now.names self.now.names) }
+        ensures err { IfErr result (λ e. e ≡ OutOfMemory) }
+    {
+        let mut lacked = NameSet::new(alloc);
+        lacked.insert_difference(&wanted.names, &self.names)?;
+        Ok(lacked)
+    }
+
+    // Adds explicit names, all or none; none of them may be there.
+    pub(crate) fn add(&mut self, names: &NameSet) -> Result<(), Refusal>
+        requires { set.difference self.old.names names.now ≡ self.old.names }
+        ensures ok { OnOk result (self.new ≡ record self.old { names = set.union self.old.names names.now }) }
+        ensures err { OnErr result (self.new ≡ self.old) }
+        ensures refused { IfErr result (λ e. e ≡ OutOfMemory) }
+    {
+        self.names.add(names)
+    }
+
+    // Takes explicit names out. It takes no memory.
+    pub(crate) fn take_out(&mut self, names: &NameSet)
+        ensures { self.new ≡ record self.old { names = set.difference self.old.names names.now } }
+    {
+        self.names.take_out(names);
+    }
+
+    // Takes the star of another interest, and those of some texts out that it doesn't name. It takes no memory.
+    pub(crate) fn narrow(&mut self, wanted: &Interest<T>, texts: &[String])
+        ensures { self.new ≡ record { star = wanted.now.star; names = set.difference self.old.names (set.difference (set.from_list (map string_bytes texts.now)) wanted.now.names) } }
+    {
+        self.names.remove_but(texts, &wanted.names);
+        self.star = wanted.star;
     }
 
     /// The names that a state-of-the-world list touches, which leads from this interest to the

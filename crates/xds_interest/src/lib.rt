@@ -5,11 +5,12 @@ pub mod delta;
 pub mod interest;
 pub mod laws;
 mod lists;
-mod names;
+pub mod names;
 pub mod sotw;
 pub mod touched;
 
 pub use delta::DeltaNames;
 pub use interest::Interest;
+pub use names::NameSet;
 pub use sotw::SotwNames;
 pub use touched::Touched;

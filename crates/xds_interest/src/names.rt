@@ -13,9 +13,9 @@ use std::collections::btree_set::Iter;
 use std::marker::Model;
 use xds_resource::{Refusal, TypeName};
 
-// A set of names, in ascending byte order. Contracts see the finite set of their bytes.
+/// A set of names, in ascending byte order. Contracts see the finite set of their bytes.
 #[derive(Drop)]
-pub(crate) struct NameSet {
+pub struct NameSet {
     names: BTreeSet<String>,
 }
 
@@ -111,6 +111,53 @@ impl NameSet {
             self.insert(name)?;
         }
         Ok(())
+    }
+
+    // Puts in the names of another set. After an `Err` some of them may be in, and nothing else.
+    fn insert_all(&mut self, from: &NameSet) -> Result<(), Refusal>
+        ensures ok { OnOk result (self.new ≡ set.union self.old from.now) }
+        ensures others { set.difference self.new from.now ≡ set.difference self.old from.now }
+        ensures refused { IfErr result (λ e. e ≡ OutOfMemory) }
+    {
+        for name in from.iter() {
+            self.insert(name)?;
+        }
+        Ok(())
+    }
+
+    // Takes out the names of another set. It takes no memory.
+    pub(crate) fn take_out(&mut self, from: &NameSet)
+        ensures { self.new ≡ set.difference self.old from.now }
+    {
+        for name in from.iter() {
+            self.remove(name);
+        }
+    }
+
+    // Puts in the names of another set, all or none; none of them may be in.
+    pub(crate) fn add(&mut self, from: &NameSet) -> Result<(), Refusal>
+        requires { set.difference self.old from.now ≡ self.old }
+        ensures ok { OnOk result (self.new ≡ set.union self.old from.now) }
+        ensures err { OnErr result (self.new ≡ self.old) }
+        ensures refused { IfErr result (λ e. e ≡ OutOfMemory) }
+    {
+        if let Err(refusal) = self.insert_all(from) {
+            self.take_out(from);
+            return Err(refusal);
+        }
+        Ok(())
+    }
+
+    // Takes out the texts of a list that a set lacks. It takes no memory.
+    pub(crate) fn remove_but(&mut self, texts: &[String], kept: &NameSet)
+        ensures { self.new ≡ set.difference self.old (set.difference (set.from_list (map string_bytes texts.now)) kept.now) }
+    {
+        for text in texts {
+            if kept.contains(text) {
+                continue;
+            }
+            self.remove(text);
+        }
     }
 
     pub(crate) fn try_copy(&self) -> Result<NameSet, Refusal>
