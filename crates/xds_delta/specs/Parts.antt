@@ -6,7 +6,8 @@ use Rattle.std.specs.FinSet as set
 use Rattle.xds_resource.specs.declared.types.TypeName.{TypeName}
 use Rattle.xds_resource.specs.Writes.{text_cmp}
 use Rattle.xds_interest.specs.Interests.{Selection}
-use Rattle.xds_interest.specs.Touches.{Touch}
+use Rattle.xds_interest.specs.Asked.{delta_asked}
+use Rattle.xds_interest.specs.Touches.{Touch, delta_touch}
 use Rattle.xds_catalogue.specs.Holdings.{Entries}
 use Rattle.xds_message.specs.DeltaMessages.{DeltaRequest}
 use Rattle.xds_draft.specs.Drafts.{DraftedDelta, with_resource, with_removed}
@@ -14,6 +15,8 @@ use Rattle.xds_owed.specs.declared.variant.VariantName.TheVariants.{Delta}
 use Rattle.xds_owed.specs.declared.entry.Due.{Due}
 use Rattle.xds_owed.specs.declared.entry.Due.TheVariants.{Stated, Removed}
 use Rattle.xds_ledger.specs.Ledgers.{Account, settled, touch, resume}
+use Rattle.xds_ledger.specs.Sessions.{Session}
+use Rattle.xds_delta.specs.Polls.{mention}
 
 -- the account after a request: its interest, what it touches and mentions, and the versions that it resumes from
 abbrev pub account_after : TypeName → Account → DeltaRequest → Selection → Touch → set.FinSet text_cmp → finmap.FinMap text_cmp (List ℕ) → Account
@@ -22,6 +25,12 @@ account_after t a m s touched mentioned versions = resume (touch (settled Delta 
 -- the same of the first request or of a later one
 abbrev pub account_taken : TypeName → Bool → Account → DeltaRequest → Selection → Touch → Account
 account_taken t begun a m s touched = account_after t a m s touched (if begun then touched.names else s.names) (if begun then finmap.empty else m.initial_resource_versions)
+
+-- the session after a request that is taken
+abbrev pub session_taken : TypeName → Session → DeltaRequest → Session
+session_taken t s m =
+    let asked = delta_asked t s.asked (mention m) in
+    record { asked = asked; account = account_taken t s.asked.begun s.account m asked.interest (delta_touch t (mention m)) }
 
 -- the response with what an offer says of a name
 abbrev pub said : Entries → DraftedDelta → List ℕ → Due → DraftedDelta

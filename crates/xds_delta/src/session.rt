@@ -1,12 +1,13 @@
 // What an incremental (delta) client asked for of one type, and what it was told.
-ghost use Rattle.std.specs.Prelude.{◌≡◌, ◌≤◌, ◌⊎◌, is_some, IsSome, IfSome, IfOk, IfErr, OnOk, OnErr};
+ghost use Rattle.std.specs.Prelude.{◌≡◌, ◌≤◌, ◌⊎◌, true, false, is_some, IsSome, IfSome, IfOk, IfErr, OnOk, OnErr};
 ghost use Rattle.std.specs.FinMap as finmap;
 ghost use Rattle.xds_resource.specs.Stamps.{max_counter};
 ghost use Rattle.xds_resource.specs.declared.refusal.Refusal.TheVariants.{OutOfMemory, NonceSpent};
+ghost use Rattle.xds_interest.specs.Touches.{delta_touch};
 ghost use Rattle.xds_ledger.specs.Sessions.{unopened, is_taken, outcome};
-ghost use Rattle.xds_delta.specs.Parts.{account_after, account_taken};
+ghost use Rattle.xds_delta.specs.Parts.{account_after, account_taken, session_taken};
 ghost use Rattle.xds_delta.specs.Polls as polls;
-ghost use Rattle.xds_delta.specs.Polls.{HasPolled, sending};
+ghost use Rattle.xds_delta.specs.Polls.{HasPolled, mention, sending};
 
 use crate::response::response;
 use std::alloc::Global;
@@ -137,13 +138,61 @@ impl<T: ResourceType> Session<T> {
         }
         let subscribe = &request.resource_names_subscribe;
         let unsubscribe = &request.resource_names_unsubscribe;
-        let names = self.names.after(alloc, subscribe, unsubscribe)?;
         let touched = DeltaNames::<T>::touched_by(alloc, subscribe, unsubscribe)?;
+        if self.names.has_begun() && !touched.all() {
+            self.take_in_place(alloc, request, touched)?;
+        } else {
+            self.take_anew(alloc, request, touched)?;
+        }
+        Ok(Outcome::Taken)
+    }
+
+    // Takes a request, with its explicit names made anew.
+    fn take_anew(
+        &mut self,
+        alloc: Global,
+        request: &DeltaDiscoveryRequest,
+        touched: Touched,
+    ) -> Result<(), Refusal>
+        requires { touched ≡ delta_touch T.TYPE (mention request.now) }
+        ensures ok { OnOk result (self.new ≡ session_taken T.TYPE self.old request.now) }
+        ensures err { OnErr result (self.new ≡ self.old) }
+        ensures refused { IfErr result (λ e. e ≡ OutOfMemory) }
+    {
+        let subscribe = &request.resource_names_subscribe;
+        let unsubscribe = &request.resource_names_unsubscribe;
+        let names = self.names.after(alloc, subscribe, unsubscribe)?;
         let begun = self.names.has_begun();
         let interest = names.interest();
         take_names(alloc, begun, &mut self.ledger, request, interest, touched)?;
         self.names = names;
-        Ok(Outcome::Taken)
+        Ok(())
+    }
+
+    // Takes a later request that doesn't touch every name: it looks at the names that it mentions, and at no others.
+    fn take_in_place(
+        &mut self,
+        alloc: Global,
+        request: &DeltaDiscoveryRequest,
+        touched: Touched,
+    ) -> Result<(), Refusal>
+        requires later { self.old.asked.begun ≡ true }
+        requires touches { touched ≡ delta_touch T.TYPE (mention request.now) }
+        requires some { touched.all ≡ false }
+        ensures ok { OnOk result (self.new ≡ session_taken T.TYPE self.old request.now) }
+        ensures err { OnErr result (self.new ≡ self.old) }
+        ensures refused { IfErr result (λ e. e ≡ OutOfMemory) }
+    {
+        let subscribe = &request.resource_names_subscribe;
+        let unsubscribe = &request.resource_names_unsubscribe;
+        let wanted = self.names.wanted_by(alloc, subscribe, unsubscribe)?;
+        let added = self.names.widen(alloc, &wanted)?;
+        if let Err(refusal) = take_later(alloc, &mut self.ledger, request, &wanted, touched) {
+            self.names.take_back(&added);
+            return Err(refusal);
+        }
+        self.names.narrow(&wanted, unsubscribe);
+        Ok(())
     }
 
     // Whether a request with this nonce is taken.

@@ -1,0 +1,24 @@
+use Rattle.std.proofs.Common.{◌≡◌, map, sym, ap, ◌∙◌}
+use Rattle.std.specs.String.{string_bytes}
+use Rattle.std.specs.FinMap as finmap
+use Rattle.xds_interest.specs.Asked.{delta_asked, wanted_by, widened}
+use Rattle.xds_delta.specs.Parts.{account_after}
+use Rattle.xds_delta.specs.Polls.{mention}
+use Rattle.xds_delta.proofs.InPlace.{taken_in_place}
+use Rattle.xds_delta.proofs.session.Session.take_in_place.Goals as goal
+
+pub returns-clause-ok : goal.returns-clause-ok
+returns-clause-ok g c =
+    let t = g.T.ResourceType.TYPE in
+    let m = mention c.args.request.now in
+    let subscribed : map string_bytes c.deref.result.now ≡ m.subscribe = ap (map string_bytes) c.deref.ensures.value ∙ ap (λ r. r.resource_names_subscribe) c.request.view_is in
+    let unsubscribed : map string_bytes c.deref-2.result.now ≡ m.unsubscribe = ap (map string_bytes) c.deref-2.ensures.value ∙ ap (λ r. r.resource_names_unsubscribe) c.request.view_is in
+    let out : map string_bytes c.deref-3.result.now ≡ m.unsubscribe = ap (map string_bytes) c.deref-3.ensures.value ∙ ap (λ r. r.resource_names_unsubscribe) c.request.view_is in
+    let here : c.in_ok-wanted.wanted ≡ wanted_by t c.args.self.now.asked m =
+    c.in_ok-wanted.ensures.ok ∙ (λ i. wanted_by t (c.self.view_is i).asked (record { subscribe = subscribed i; unsubscribe = unsubscribed i })) in
+    let wide : c.widen.new.self ≡ widened c.args.self.now.asked c.in_ok-wanted.wanted.names = c.in_ok-added.ensures.ok ∙ (λ i. widened (c.self.view_is i).asked c.in_ok-wanted.wanted.names) in
+    let asked : c.narrow.new.self ≡ delta_asked t c.args.self.now.asked m = c.narrow.ensures c.args.self.now.asked m here (sym out) wide in
+    let account : c.take_later.new.ledger ≡ account_after t c.args.self.now.account c.args.request.now c.in_ok-wanted.wanted c.args.touched c.args.touched.names finmap.empty =
+    c.in_default.ensures.ok ∙ (λ i. account_after t (c.self.view_is i).account c.args.request.now c.in_ok-wanted.wanted c.args.touched c.args.touched.names finmap.empty) in
+    taken_in_place t c.args.self.now (record { asked = c.narrow.new.self; account = c.take_later.new.ledger }) c.args.request.now c.args.touched c.in_ok-wanted.wanted c.requires.later c.requires.touches
+    c.requires.some here asked account
