@@ -35,3 +35,4 @@ pub mod SettlingEnds
 pub mod SettlingBlame
 pub mod SettlingFair
 pub mod SettlingSettles
+pub mod SettlingRefused

@@ -89,7 +89,7 @@ world_sound test hs put = sound_after test hs empty_world put (nothing_known, []
 
 -- ---- a session that owes something and sends nothing
 
-owed_or_refused : (v : VariantName) (t : TypeName) (s : Session) (m : Entries) (begun due refused : Bool) → s.asked.begun ≡ begun → is_due v t s.asked.interest m s.account ≡ due → is_refused s.account (offer_now v t s m) ≡ refused → s.account.sent ≡ None → sessions.sending v t s m ≡ None
+pub owed_or_refused : (v : VariantName) (t : TypeName) (s : Session) (m : Entries) (begun due refused : Bool) → s.asked.begun ≡ begun → is_due v t s.asked.interest m s.account ≡ due → is_refused s.account (offer_now v t s m) ≡ refused → s.account.sent ≡ None → sessions.sending v t s m ≡ None
     → (sessions.owes v t s m ≡ false) ⊎ (is_refused s.account (offer_now v t s m) ≡ true)
 owed_or_refused v t s m false due refused begins owes refuses none sends = inl (ap (λ b. b && ledgers.owes v t s.asked.interest m s.account) begins)
 owed_or_refused v t s m true false refused begins owes refuses none sends = inl (λ i. begins i && (is_some (none i) || owes i))
@@ -104,7 +104,7 @@ refused_is o (Some p) is = ap Some (sym ((offers_are_told_apart o p).0 is))
 
 -- ---- where nothing of the type is under way
 
-quiet_ahead : (t : TypeName) (s : Session) (ms : List Message) → list_any (asks_for t) ms ≡ false → ahead t s ms ≡ s
+pub quiet_ahead : (t : TypeName) (s : Session) (ms : List Message) → list_any (asks_for t) ms ≡ false → ahead t s ms ≡ s
 quiet_ahead t s [] none = refl
 quiet_ahead t s (m ∷ ms) none =
     let parts = or_parts (asks_for t m) (list_any (asks_for t) ms) none in ap (λ b. ahead t (if b then session_after t s m else s) ms) parts.0 ∙ quiet_ahead t s ms parts.1
@@ -120,7 +120,7 @@ none_delta all t n (Some sent) w None none is = absurd is
 none_delta all t n (Some sent) w (Some d) none is = absurd cc
 
 -- nothing is unanswered
-quiet_none : (k : ClientKind) (all : List TypedWrite) (c : Client) (l : Link) (x : Stream) (t : TypeName) → LinkedAs k all c l x → lane_down t l.down ≡ [] → (ahead t (at x.sessions t) l.up).account.sent ≡ None
+pub quiet_none : (k : ClientKind) (all : List TypedWrite) (c : Client) (l : Link) (x : Stream) (t : TypeName) → LinkedAs k all c l x → lane_down t l.down ≡ [] → (ahead t (at x.sessions t) l.up).account.sent ≡ None
 quiet_none Sotw all c l x t linked none =
     let lane = linked.lanes t in
     ap (λ (a : Session). a.account.sent) (sym (sotw_ahead t (at x.sessions t) l.up linked.sotws)) ∙ none_sotw all t _ _ (shelf c t).wants (shelf c t).nonce lane.down (sym none ∙ lane.downs_are) lane.abreast.awaits
@@ -174,13 +174,13 @@ not_blamed v all test t s m w unique stamped known takes covered blamed =
 -- ---- the end
 
 -- what a replica that is there owes
-settled_at : (y : World) (c : ℕ) (t : TypeName) (z : Spot y c) → is_quiet t z.link ≡ true → owes_of z.site.core.store z.stream t ≡ false → is_settled y c t ≡ true
+pub settled_at : (y : World) (c : ℕ) (t : TypeName) (z : Spot y c) → is_quiet t z.link ≡ true → owes_of z.site.core.store z.stream t ≡ false → is_settled y c t ≡ true
 settled_at y c t z quiet nothing =
     link_settled y c t z.link (link_at y c z)
     ∙ (λ i. quiet i && option_map_or (owes_nothing t z.link.stream) (z.there i) false)
     ∙ ap (λ o. option_map_or (λ x. not (owes_of z.site.core.store x t)) o false) z.opened ∙ ap not nothing
 
-owes_by : (v : VariantName) (t : TypeName) (y : World) (c : ℕ) (z : Spot y c) → Speaks v z.stream → sessions.owes v t (at z.stream.sessions t) (at z.site.core.store t).entries ≡ false → owes_of z.site.core.store z.stream t ≡ false
+pub owes_by : (v : VariantName) (t : TypeName) (y : World) (c : ℕ) (z : Spot y c) → Speaks v z.stream → sessions.owes v t (at z.stream.sessions t) (at z.site.core.store t).entries ≡ false → owes_of z.site.core.store z.stream t ≡ false
 owes_by v t y c z (inl fresh) nothing = ap (λ o. option_map_or (λ k. sessions.owes k t (at z.stream.sessions t) (at z.site.core.store t).entries) o false) fresh.0
 owes_by v t y c z (inr is) nothing = ap (λ o. option_map_or (λ k. sessions.owes k t (at z.stream.sessions t) (at z.site.core.store t).entries) o false) is ∙ nothing
 

@@ -6,15 +6,19 @@ use Rattle.std.specs.List.{list_any}
 use Rattle.std.specs.FinMap as finmap
 use Rattle.xds_resource.specs.declared.types.TypeName.{TypeName}
 use Rattle.xds_resource.specs.Types.{row, is_same_type}
+use Rattle.xds_resource.specs.PerType.{at}
 use Rattle.xds_resource.specs.Resources.{max_text, value_of}
 use Rattle.xds_resource.specs.Writes.{StampedWrite}
 use Rattle.xds_draft.specs.declared.draft.Draft.{Draft}
 use Rattle.xds_draft.specs.DraftTexts.{kind_of}
-use Rattle.xds_core.specs.Streams.{Message}
+use Rattle.xds_owed.specs.Offers.{offer}
+use Rattle.xds_ledger.specs.Ledgers.{is_refused}
+use Rattle.xds_core.specs.Stores.{Store}
+use Rattle.xds_core.specs.Streams.{Stream, Message}
 use Rattle.xds_shelf.specs.Shelves.{Holding, Wants}
 use Rattle.xds_shelf.specs.Faults.{Test}
 use Rattle.xds_model.specs.Happenings.{Happening, Up, Poll, Down}
-use Rattle.xds_model.specs.Worlds.{World, Link, world, after, happens}
+use Rattle.xds_model.specs.Worlds.{World, Site, Link, world, after, happens}
 use Rattle.xds_model.specs.Knows.{knows, wants, link}
 use Rattle.xds_model.specs.Claims.{writes_of, content_at, is_quiet, is_settled}
 
@@ -78,6 +82,19 @@ abbrev pub IsAddedToSettle : Test → ℕ → TypeName → List Happening → Li
 IsAddedToSettle test c t hs more =
     ((link_in (world test hs) c ≡ None) × (more ≡ [])) ⊎ (IsSettling test c t (world test hs) more ⊎ IsStopped test c t (world test hs) more)
 
+-- ---- what is held back
+
+-- whether what a replica would send on a stream is what the client refused last
+abbrev pub would_repeat : TypeName → Store → Stream → Bool
+would_repeat t store x =
+    let s = at x.sessions t in
+    option_map_or (λ v. is_refused s.account (offer v t s.asked.interest (at store t).entries s.account.beliefs)) x.variant false
+
+-- Whether the next response of the type to a client is held back: it is what the client refused last.
+abbrev pub is_held_back : World → ℕ → TypeName → Bool
+is_held_back w c t =
+    option_map_or (λ l. option_map_or (λ (s : Site). option_map_or (would_repeat t s.core.store) (finmap.get s.core.streams l.stream) false) (finmap.get w.sites l.replica) false) (link_in w c) false
+
 -- ---- how many responses of the type were taken
 
 abbrev pub takes_one : TypeName → List Draft → ℕ
@@ -124,6 +141,12 @@ TwoResponsesSuffice test hs =
 abbrev pub QuietAtTheEnd : Test → List Happening → Type 0
 QuietAtTheEnd test hs =
     (c : ℕ) (t : TypeName) (more : List Happening) (l : Link) → IsSettling test c t (world test hs) more → link_in (after test (world test hs) more) c ≡ Some l → is_quiet t l ≡ true
+
+-- and a client that isn't settled where it ends refused what its replica would send it
+abbrev pub UnsettledHasRefused : Test → List Happening → Type 0
+UnsettledHasRefused test hs =
+    (c : ℕ) (t : TypeName) (more : List Happening) (l : Link) → IsSettling test c t (world test hs) more → link_in (world test hs) c ≡ Some l
+    → is_settled (after test (world test hs) more) c t ≡ false → is_held_back (after test (world test hs) more) c t ≡ true
 
 -- That a client's test takes what it is to show of these writes where it wants these, and that no such body is too long: a client
 -- refuses a longer one, whatever its test answers.

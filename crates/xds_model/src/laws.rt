@@ -3,7 +3,7 @@ ghost use Rattle.std.specs.Prelude.{List};
 ghost use Rattle.xds_shelf.specs.Faults.{Test};
 ghost use Rattle.xds_model.specs.Happenings.{Happening};
 ghost use Rattle.xds_model.specs.Claims.{HoldsWhatItKnows, PutResources, SameKnowledgeSameHoldings, SettledIsExact, SettledAgrees, LinksAreFollowed, OneWriteAStamp, JournalsAreLegal, JournalsTellAll};
-ghost use Rattle.xds_model.specs.Settling.{TwoResponsesSuffice, QuietAtTheEnd, SettlesWhereAllIsTaken};
+ghost use Rattle.xds_model.specs.Settling.{TwoResponsesSuffice, QuietAtTheEnd, UnsettledHasRefused, SettlesWhereAllIsTaken};
 
 /// What a replica holds are the best writes of what it knows, so replicas that know the same writes hold the same.
 pub fn replicas_hold_what_they_know()
@@ -35,10 +35,12 @@ pub fn links_are_followed()
 {}
 
 /// Settling a client of a type takes at most two of its responses: one that may be under way before its replica is polled, and one of
-/// what the replica holds. Where it ends nothing of the type is under way.
+/// what the replica holds. Where it ends nothing of the type is under way; and if the client isn't settled then, it refused
+/// what its replica would send it.
 pub fn two_responses_suffice()
     ensures two { (test : Test) (hs : List Happening) → PutResources hs → TwoResponsesSuffice test hs }
     ensures quiet { (test : Test) (hs : List Happening) → PutResources hs → QuietAtTheEnd test hs }
+    ensures refused { (test : Test) (hs : List Happening) → PutResources hs → UnsettledHasRefused test hs }
 {}
 
 /// A client whose test takes all that it is to show of what its replica knows, none of it too long, is settled where settling ends.

@@ -1,4 +1,5 @@
 use Rattle.xds_model.proofs.SettlingEnds.{two_responses_suffice, quiet_at_the_end}
+use Rattle.xds_model.proofs.SettlingRefused.{unsettled_has_refused}
 use Rattle.xds_model.proofs.laws.two_responses_suffice.Goals as goal
 
 pub returns-clause-two : goal.returns-clause-two
@@ -6,3 +7,6 @@ returns-clause-two c = two_responses_suffice
 
 pub returns-clause-quiet : goal.returns-clause-quiet
 returns-clause-quiet c = quiet_at_the_end
+
+pub returns-clause-refused : goal.returns-clause-refused
+returns-clause-refused c = unsettled_has_refused
