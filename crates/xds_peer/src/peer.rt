@@ -126,12 +126,7 @@ impl<A: Accept> Peer<A> {
 
     /// The client is told to want something else of a type. Answers whether it took that: it takes no wish of the other variant, and none
     /// that it refuses, and is as it was then. Refused only by `OutOfMemory`, and then the client is of no use any more.
-    pub fn change(
-        &mut self,
-        alloc: Global,
-        kind: TypeName,
-        wish: &Wish,
-    ) -> Result<bool, Refusal>
+    pub fn change(&mut self, alloc: Global, kind: TypeName, wish: &Wish) -> Result<bool, Refusal>
         ensures ok { IfOk result (λ b. Happened self.old b self.new (peer_changed kind (wish_of wish.now) self.old)) }
         ensures refused { IfErr result (λ e. e ≡ OutOfMemory) }
     {
