@@ -7,7 +7,7 @@ use Rattle.xds_model.specs.Happenings.{Happening}
 use Rattle.xds_model.specs.Worlds.{World, happens, after, world, empty_world}
 use Rattle.xds_model.specs.Claims.{PutsAResource}
 use Rattle.xds_model.proofs.Headline.{put_more}
-use Rattle.xds_world.specs.Parts.{Happened}
+use Rattle.xds_peer.specs.Calls.{Happened}
 use Rattle.xds_world.specs.Played.{IsPlayed}
 
 after_more : (test : Test) (w : World) (hs : List Happening) (h : Happening) → after test w (hs ++ h ∷ []) ≡ option_map_or (λ x. x) (happens test (after test w hs) h) (after test w hs)

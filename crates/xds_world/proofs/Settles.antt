@@ -16,10 +16,11 @@ use Rattle.xds_model.proofs.SettlingEnds.{two_responses_suffice, quiet_at_the_en
 use Rattle.xds_model.proofs.SettlingMoves.{is_poll}
 use Rattle.xds_model.proofs.SettlingSettles.{settles_where_all_is_taken}
 use Rattle.xds_model.proofs.SettlingPolls.{walked_takes_two, taken_more, polls, second_poll_is_the_last}
-use Rattle.xds_world.specs.declared.link.Step.{Step}
-use Rattle.xds_world.specs.declared.link.Step.TheVariants as steps
+use Rattle.xds_peer.specs.declared.link.Step.{Step}
+use Rattle.xds_peer.specs.declared.link.Step.TheVariants as steps
 use Rattle.xds_world.specs.Settled.{IsSettledByTaking}
-use Rattle.xds_world.specs.Played.{IsPlayed, HasStepped, event_for}
+use Rattle.xds_peer.specs.Steps.{event_for}
+use Rattle.xds_world.specs.Played.{IsPlayed, HasStepped}
 use Rattle.xds_world.proofs.Plays.{played_one, after_both}
 use Rattle.xds_world.proofs.Weights.{weight, up_lightens, down_lightens, poll_burdens}
 

@@ -1,29 +1,16 @@
 -- A world that runs, with the list of what happened in it. This project's own.
-use Rattle.std.specs.Prelude.{◌≡◌, ℕ, List, [], ◌∷◌, ◌++◌, Bool, true, false, if◌then◌else◌, Option, Some, None}
+use Rattle.std.specs.Prelude.{◌≡◌, ℕ, List, [], ◌∷◌, ◌++◌, Bool, true, false, Option, Some, None}
 use Rattle.xds_resource.specs.declared.types.TypeName.{TypeName}
 use Rattle.xds_shelf.specs.Faults.{Test}
-use Rattle.xds_model.specs.Happenings as happenings
 use Rattle.xds_model.specs.Happenings.{Happening}
 use Rattle.xds_model.specs.Worlds.{World, world, happens}
 use Rattle.xds_model.specs.Claims.{PutResources}
 use Rattle.xds_model.specs.Settling.{HasSettled, HasStopped}
-use Rattle.xds_world.specs.declared.link.Step.{Step}
-use Rattle.xds_world.specs.declared.link.Step.TheVariants.{Up, Poll, Down}
 
 -- the world is the one that the list leads to, in which what is put are resources
 pub record IsPlayed (test : Test) (w : World) (hs : List Happening) : Type 0 where
   pub world : w ≡ world test hs
   pub put : PutResources hs
-
--- one for yes
-abbrev pub count : Bool → ℕ
-count b = if b then 1 else 0
-
--- what is done in a step of settling a client of a type
-abbrev pub event_for : ℕ → TypeName → Step → Happening
-event_for c t Up = happenings.Up c
-event_for c t Poll = happenings.Poll c (Some t)
-event_for c t Down = happenings.Down c
 
 -- whether something happened: then it stands at the end of the list; and what isn't possible leaves all as it was
 abbrev pub HasStepped : Test → World → List Happening → Bool → World → List Happening → Happening → Type 0

@@ -4,13 +4,14 @@ ghost use Rattle.xds_resource.specs.declared.refusal.Refusal.TheVariants.{OutOfM
 ghost use Rattle.xds_model.specs.Seen.{happening_of};
 ghost use Rattle.xds_model.specs.Worlds.{empty_world};
 ghost use Rattle.xds_model.specs.Settling.{link_in, gave_nothing, taken_now};
-ghost use Rattle.xds_world.specs.Played.{IsPlayed, HasStepped, HasEnded, event_for};
+ghost use Rattle.xds_peer.specs.Steps.{event_for};
+ghost use Rattle.xds_world.specs.Played.{IsPlayed, HasStepped, HasEnded};
 
-use crate::link::Step;
 use crate::state::State;
 use std::alloc::Global;
 use xds_cache::Accept;
 use xds_model::WorldEvent;
+use xds_peer::Step;
 use xds_resource::{Refusal, TypeName};
 
 /// What a world is at a time, with all that happened in it until then.

@@ -8,11 +8,11 @@ ghost use Rattle.xds_model.specs.Worlds.{world as world_of};
 ghost use Rattle.xds_world.specs.Played.{IsPlayed, HasEnded};
 ghost use Rattle.xds_world.specs.Settled.{HasFailed, IsSettledByTaking};
 
-use crate::peer::Status;
 use crate::run::Run;
 use crate::world::World;
 use std::alloc::Global;
 use xds_cache::Accept;
+use xds_peer::Status;
 use xds_resource::{Refusal, TypeName};
 
 /// What settling a client of a type came to.

@@ -3,7 +3,8 @@ ghost use Rattle.std.specs.Prelude.{◌≡◌, ◌≤◌, ◌++◌, [], ◌∷�
 ghost use Rattle.xds_resource.specs.declared.refusal.Refusal.TheVariants.{OutOfMemory};
 ghost use Rattle.xds_core.specs.Seen.{event_of, reply_of};
 ghost use Rattle.xds_model.specs.Claims.{owes_nothing};
-ghost use Rattle.xds_world.specs.Parts.{Gave, fresh_site, answered};
+ghost use Rattle.xds_peer.specs.Calls.{Gave};
+ghost use Rattle.xds_world.specs.Parts.{fresh_site, answered};
 ghost use Rattle.xds_world.specs.Seen.{record_of};
 
 use std::alloc::Global;

@@ -10,13 +10,13 @@ ghost use Rattle.xds_model.specs.Claims.{is_settled_on, is_settled};
 ghost use Rattle.xds_model.specs.Happenings as happenings;
 ghost use Rattle.xds_model.specs.Seen.{happening_of, wish_of};
 ghost use Rattle.xds_model.specs.Settling.{link_in, next_to_settle, taken_now, gave_nothing};
-ghost use Rattle.xds_world.specs.Played.{event_for};
 ghost use Rattle.xds_model.specs.Worlds.{empty_world, at_site, happened_at, happens, placed};
-ghost use Rattle.xds_world.specs.Parts.{Gave, Happened, blank, first, leads, link_at, draft_in, stream_in, batch_in, peer_event, peer_up, peer_polled, peer_lost, peer_connected};
+ghost use Rattle.xds_peer.specs.Calls.{Gave, Happened};
+ghost use Rattle.xds_peer.specs.Links.{first};
+ghost use Rattle.xds_peer.specs.Peers.{peer_up, peer_polled, peer_lost, peer_connected};
+ghost use Rattle.xds_peer.specs.Steps.{event_for};
+ghost use Rattle.xds_world.specs.Parts.{blank, leads, link_at, draft_in, stream_in, batch_in, peer_event};
 
-use crate::link::{Link, Step};
-use crate::parts::is_there;
-use crate::peer::Peer;
 use crate::site::Site;
 use std::alloc::Global;
 use std::marker::Model;
@@ -25,6 +25,8 @@ use xds_core::{Event, Numbered, Reply, Request};
 use xds_draft::Draft;
 use xds_message::Batch;
 use xds_model::{ClientKind, Wish, WorldEvent};
+use xds_peer::parts::is_there;
+use xds_peer::{Link, Peer, Step};
 use xds_resource::{AnyResource, Refusal, TypeName};
 
 /// Replicas, clients, and the batches that were taken.

@@ -8,10 +8,9 @@ ghost use Rattle.xds_cache.specs.Clients.{view as view_of};
 ghost use Rattle.xds_model.specs.Claims.{Headline, is_settled_on};
 ghost use Rattle.xds_model.specs.Seen.{happening_of};
 ghost use Rattle.xds_model.specs.Worlds.{Site as SiteValue, world as world_of};
+ghost use Rattle.xds_peer.specs.Statuses.{status_of};
 ghost use Rattle.xds_world.specs.Seen.{record_of};
-ghost use Rattle.xds_world.specs.Statuses.{status_of};
 
-use crate::peer::Status;
 use crate::run::Run;
 use std::alloc::Global;
 use std::marker::Model;
@@ -19,6 +18,7 @@ use xds_cache::{Accept, Holding};
 use xds_core::Record;
 use xds_message::Batch;
 use xds_model::{ClientKind, WorldEvent};
+use xds_peer::Status;
 use xds_resource::{NameMap, Refusal, TypeName};
 
 /// A world of replicas and clients, with the list of what happened in it. `A` is the clients' test of what they are sent.

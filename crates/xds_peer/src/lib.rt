@@ -1,0 +1,10 @@
+// Clients of either variant, each on its stream to a replica: what is under way there, and what becomes of both.
+#![tactic(auto)]
+
+mod client;
+pub mod link;
+pub mod parts;
+pub mod peer;
+
+pub use link::{Link, Step};
+pub use peer::{Peer, Status};
