@@ -1,5 +1,5 @@
 -- What was done so far to settle a client of a type, in a world that runs.
-use Rattle.std.proofs.Common.{◌≡◌, inl, inr, ℕ, suc, ◌+◌, ◌<◌, ◌≤◌, List, [], ◌∷◌, ◌++◌, Bool, true, false, ◌||◌, Some, None, refl, sym, ap, subst, ◌∙◌, length, drop, arith}
+use Rattle.std.proofs.Common.{◌≡◌, inl, inr, ℕ, suc, ◌+◌, ◌<◌, ◌≤◌, List, [], ◌∷◌, ◌++◌, Bool, true, false, ◌||◌, Option, Some, None, refl, sym, ap, subst, ◌∙◌, length, drop, arith}
 use Rattle.std.specs.Prelude.{is_some}
 use Rattle.std.specs.Option.{option_and_then}
 use Rattle.std.proofs.lemmas.List.{append-nil, append_assoc}
@@ -8,17 +8,18 @@ use Rattle.std.proofs.Math.Seq.{drop-append_seam}
 use Rattle.xds_resource.specs.declared.types.TypeName.{TypeName}
 use Rattle.xds_shelf.specs.Faults.{Test}
 use Rattle.xds_model.specs.Happenings.{Happening, Up, Poll, Down}
-use Rattle.xds_model.specs.Worlds.{World, happens, empty_world, world}
+use Rattle.xds_model.specs.Worlds.{World, happens, empty_world, after, world}
 use Rattle.xds_model.specs.Claims.{PutResources, PutsAResource, is_settled}
-use Rattle.xds_model.specs.Settling.{next_to_settle, gave_nothing, link_in, taken_now, responses_taken, Then, Done, IsAtEnd, IsAtStop, IsSettling, IsStopped, HasSettled, HasStopped, IsQuietFor}
+use Rattle.xds_model.specs.Settling.{next_to_settle, gave_nothing, link_in, is_held_back, taken_now, responses_taken, Then, Done, IsAtEnd, IsAtStop, IsSettling, IsStopped, HasSettled, HasStopped, IsQuietFor}
 use Rattle.xds_model.proofs.SettlingWalks.{Walked, walked_then, walked_more}
 use Rattle.xds_model.proofs.SettlingEnds.{two_responses_suffice, quiet_at_the_end}
 use Rattle.xds_model.proofs.SettlingMoves.{is_poll}
 use Rattle.xds_model.proofs.SettlingSettles.{settles_where_all_is_taken}
+use Rattle.xds_model.proofs.SettlingRefused.{unsettled_has_refused}
 use Rattle.xds_model.proofs.SettlingPolls.{walked_takes_two, taken_more, polls, second_poll_is_the_last}
 use Rattle.xds_peer.specs.declared.link.Step.{Step}
 use Rattle.xds_peer.specs.declared.link.Step.TheVariants as steps
-use Rattle.xds_world.specs.Settled.{IsSettledByTaking}
+use Rattle.xds_world.specs.Settled.{IsSettledByTaking, IsSettledOrHeldBack}
 use Rattle.xds_peer.specs.Steps.{event_for}
 use Rattle.xds_world.specs.Played.{IsPlayed, HasStepped}
 use Rattle.xds_world.proofs.Plays.{played_one, after_both}
@@ -103,6 +104,10 @@ settles_stopped test c t before now later x y responses step is next stepped = r
 
 -- ---- what it comes to
 
+some_there : {X : Type 0} (o : Option X) → is_some o ≡ true → (x : X) × (o ≡ Some x)
+some_there None is = absurd cc
+some_there (Some x) is = (x, refl)
+
 pub settled_few : (test : Test) (c : ℕ) (t : TypeName) (before later : List Happening) (settled : Bool) (responses : ℕ) → PutResources before → HasSettled test c t before later settled responses → responses ≤ 2
 settled_few test c t before later settled responses put is = subst (λ n. n ≤ 2) (sym is.counts) (two_responses_suffice test before put c t is.more is.steps)
 
@@ -113,6 +118,14 @@ settled_quiet test c t before later settled responses put is l linked =
 pub settled_taking : (test : Test) (c : ℕ) (t : TypeName) (before later : List Happening) (settled : Bool) (responses : ℕ) → PutResources before → HasSettled test c t before later settled responses → IsSettledByTaking test c t before settled
 settled_taking test c t before later settled responses put is r linked takes =
     is.tells ∙ ap (λ w. is_settled w c t) (ap (world test) is.longer ∙ after_both test empty_world before is.more) ∙ settles_where_all_is_taken test before put c r t is.more linked takes is.steps
+
+pub settled_or_held_back : (test : Test) (c : ℕ) (t : TypeName) (before later : List Happening) (settled : Bool) (responses : ℕ) → PutResources before → is_some (link_in (world test before) c) ≡ true
+    → HasSettled test c t before later settled responses → IsSettledOrHeldBack test c t later settled
+settled_or_held_back test c t before later settled responses put linked is not_settled =
+    let left : world test later ≡ after test (world test before) is.more = ap (world test) is.longer ∙ after_both test empty_world before is.more in
+    let l = some_there (link_in (world test before) c) linked in
+    ap (λ w. is_held_back w c t) left
+    ∙ unsettled_has_refused test before put c t is.more l.0 is.steps l.1 (sym (is.tells ∙ ap (λ w. is_settled w c t) left) ∙ not_settled)
 
 -- ---- that it ends
 

@@ -1,11 +1,11 @@
 -- Why a client wasn't settled. This project's own.
-use Rattle.std.specs.Prelude.{◌≡◌, ℕ, List, Bool, true, Some, None, ⊤}
+use Rattle.std.specs.Prelude.{◌≡◌, ℕ, List, Bool, true, false, Some, None, ⊤}
 use Rattle.xds_resource.specs.declared.types.TypeName.{TypeName}
 use Rattle.xds_shelf.specs.Faults.{Test}
 use Rattle.xds_model.specs.Claims.{Headline, writes_of}
 use Rattle.xds_model.specs.Knows.{knows, wants, link}
 use Rattle.xds_model.specs.Worlds.{world}
-use Rattle.xds_model.specs.Settling.{link_in, HasStopped, TakesAll}
+use Rattle.xds_model.specs.Settling.{link_in, is_held_back, HasStopped, TakesAll}
 use Rattle.xds_model.specs.Happenings.{Happening}
 use Rattle.xds_world.specs.declared.settling.Unsettled.{Unsettled}
 use Rattle.xds_world.specs.declared.settling.Unsettled.TheVariants as unsettled
@@ -20,3 +20,7 @@ HasFailed test c t before unsettled.OutOfMemory = ⊤
 abbrev pub IsSettledByTaking : Test → ℕ → TypeName → List Happening → Bool → Type 0
 IsSettledByTaking test c t before settled =
     (r : ℕ) → link test before c ≡ Some r → TakesAll test t (writes_of t (knows test before r)) (wants test before c t) → settled ≡ true
+
+-- a client that isn't settled refused what its replica would send it
+abbrev pub IsSettledOrHeldBack : Test → ℕ → TypeName → List Happening → Bool → Type 0
+IsSettledOrHeldBack test c t after settled = settled ≡ false → is_held_back (world test after) c t ≡ true

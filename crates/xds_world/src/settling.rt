@@ -6,7 +6,7 @@ ghost use Rattle.xds_model.specs.Claims.{Headline};
 ghost use Rattle.xds_model.specs.Settling.{HasSettled, IsQuietFor, link_in};
 ghost use Rattle.xds_model.specs.Worlds.{world as world_of};
 ghost use Rattle.xds_world.specs.Played.{IsPlayed, HasEnded};
-ghost use Rattle.xds_world.specs.Settled.{HasFailed, IsSettledByTaking};
+ghost use Rattle.xds_world.specs.Settled.{HasFailed, IsSettledByTaking, IsSettledOrHeldBack};
 
 use crate::run::Run;
 use crate::world::World;
@@ -38,8 +38,9 @@ pub enum Unsettled<A: Accept> {
 
 /// Settles a client of a type: while a request of the client is under way, its replica takes it; else while a response of the type
 /// is, the client takes what comes first; else the replica is polled for the type. It ends where the client is settled, or a poll
-/// gives no response, since what the replica would send is what the client refused. The client takes two responses of the type at
-/// most, and nothing of the type is under way then; where its test takes all that it is to show, it is settled.
+/// gives no response. Where the client isn't settled then, what the replica would send is what it refused. The client takes two
+/// responses of the type at most, and nothing of the type is under way then; where its test takes all that it is to show, it is
+/// settled.
 pub fn settle<A: Accept>(
     alloc: Global,
     world: World<A>,
@@ -51,6 +52,7 @@ pub fn settle<A: Accept>(
     ensures few { IfOk result (λ s. s.responses ≤ 2) }
     ensures quiet { IfOk result (λ s. IsQuietFor (world_of A.accepts s.world) client kind) }
     ensures taken { IfOk result (λ s. IsSettledByTaking A.accepts client kind world s.settled) }
+    ensures refused { IfOk result (λ s. IsSettledOrHeldBack A.accepts client kind s.world s.settled) }
     ensures headline { IfOk result (λ s. Headline A.accepts s.world) }
     ensures unsettled { IfErr result (λ e. HasFailed A.accepts client kind world e) }
 {
@@ -67,10 +69,12 @@ fn settle_linked<A: Accept>(
     client: u32,
     kind: TypeName,
 ) -> Result<Settlement<A>, Unsettled<A>>
+    requires { is_some (link_in (world_of A.accepts world) client) ≡ true }
     ensures settled { IfOk result (λ s. HasSettled A.accepts client kind world s.world s.settled s.responses) }
     ensures few { IfOk result (λ s. s.responses ≤ 2) }
     ensures quiet { IfOk result (λ s. IsQuietFor (world_of A.accepts s.world) client kind) }
     ensures taken { IfOk result (λ s. IsSettledByTaking A.accepts client kind world s.settled) }
+    ensures refused { IfOk result (λ s. IsSettledOrHeldBack A.accepts client kind s.world s.settled) }
     ensures headline { IfOk result (λ s. Headline A.accepts s.world) }
     ensures stopped { IfErr result (λ e. HasFailed A.accepts client kind world e) }
 {
