@@ -58,10 +58,19 @@ impl<A: Accept> Run<A> {
         ensures refused { IfErr result (λ e. e ≡ OutOfMemory) }
     {
         let event = step.event(client, kind);
-        let possible = self.state.happen(alloc, &event)?;
-        if possible {
-            self.events.push(event)?;
+        match self.state.happen(alloc, &event) {
+            Ok(true) => {
+                self.events.push(event)?;
+                Ok(true)
+            }
+            Ok(false) => {
+                drop(event);
+                Ok(false)
+            }
+            Err(refusal) => {
+                drop(event);
+                Err(refusal)
+            }
         }
-        Ok(possible)
     }
 }

@@ -32,19 +32,34 @@ impl Model for Site {
     ghost view = { λ s. record { core = s.core; journal = map record_of s.journal.items } };
 }
 
-// Puts an event that was answered at the end of a journal.
-fn record(
-    alloc: Global,
-    journal: &mut Vec<Record>,
-    event: Event,
-    reply: &Reply,
-) -> Result<(), Refusal>
-    ensures ok { OnOk result (map record_of journal.new.items ≡ map record_of journal.old.items ++ record { event = event_of event; answer = Ok (reply_of reply.now) } ∷ []) }
+// What is left where there is no memory is dropped by calls of `drop`, or as a value of a type parameter: an event or a reply has many
+// parts, and to the proof the drop of each is a step wherever one is dropped as such.
+
+// The record of an event that was answered.
+fn answered_record(alloc: Global, event: Event, reply: &Reply) -> Result<Record, Refusal>
+    ensures ok { IfOk result (λ r. record_of r ≡ record { event = event_of event; answer = Ok (reply_of reply.now) }) }
     ensures refused { IfErr result (λ e. e ≡ OutOfMemory) }
 {
-    let answer = Ok(reply.try_copy(alloc)?);
-    journal.push(Record { event, answer })?;
-    Ok(())
+    match reply.try_copy(alloc) {
+        Ok(copy) => Ok(Record {
+            event,
+            answer: Ok(copy),
+        }),
+        Err(refusal) => {
+            drop(event);
+            Err(refusal)
+        }
+    }
+}
+
+// Puts an item at the end of a list, and gives back what is told then.
+fn push_and_tell<T: Drop, V: Drop>(items: &mut Vec<T>, item: T, told: V) -> Result<V, Refusal>
+    ensures told { IfOk result (λ v. v ≡ told) }
+    ensures items { OnOk result (items.new.items ≡ items.old.items ++ item ∷ []) }
+    ensures refused { IfErr result (λ e. e ≡ OutOfMemory) }
+{
+    items.push(item)?;
+    Ok(told)
 }
 
 impl Site {
@@ -65,14 +80,29 @@ impl Site {
         ensures ok { IfOk result (λ o. Gave reply_of self.old o self.new (answered self.old (event_of event))) }
         ensures refused { IfErr result (λ e. e ≡ OutOfMemory) }
     {
-        let copy = event.try_copy(alloc)?;
-        match self.core.step(event) {
-            Ok(reply) => {
-                record(alloc, &mut self.journal, copy, &reply)?;
-                Ok(Some(reply))
+        let copy = match event.try_copy(alloc) {
+            Ok(copy) => copy,
+            Err(refusal) => {
+                drop(event);
+                return Err(refusal);
             }
-            Err(Refusal::OutOfMemory) => Err(Refusal::OutOfMemory),
-            Err(_) => Ok(None),
+        };
+        match self.core.step(event) {
+            Ok(reply) => match answered_record(alloc, copy, &reply) {
+                Ok(record) => push_and_tell(&mut self.journal, record, Some(reply)),
+                Err(refusal) => {
+                    drop(reply);
+                    Err(refusal)
+                }
+            },
+            Err(Refusal::OutOfMemory) => {
+                drop(copy);
+                Err(Refusal::OutOfMemory)
+            }
+            Err(_) => {
+                drop(copy);
+                Ok(None)
+            }
         }
     }
 
