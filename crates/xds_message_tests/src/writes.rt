@@ -10,7 +10,7 @@ struct WriteAgain;
 
 impl Outcome for WriteAgain {
     fn of(alloc: Global, given: &str) -> Result<String, Fail> {
-        told(alloc, rewritten(alloc, given.as_bytes()))
+        Ok(told(alloc, rewritten(alloc, given.as_bytes()))?)
     }
 }
 

@@ -13,12 +13,13 @@ struct ParsedText;
 impl Outcome for ParsedText {
     fn of(alloc: Global, given: &str) -> Result<String, Fail> {
         let (word, text) = first_word(given)?;
-        match TypeName::from_word(word).ok_or("no type")? {
-            TypeName::Cluster => told(alloc, parsed::<Cluster>(alloc, text)),
-            TypeName::Endpoint => told(alloc, parsed::<Endpoint>(alloc, text)),
-            TypeName::Listener => told(alloc, parsed::<Listener>(alloc, text)),
-            TypeName::Route => told(alloc, parsed::<Route>(alloc, text)),
-        }
+        let parsed = match TypeName::from_word(word).ok_or("no type")? {
+            TypeName::Cluster => parsed::<Cluster>(alloc, text),
+            TypeName::Endpoint => parsed::<Endpoint>(alloc, text),
+            TypeName::Listener => parsed::<Listener>(alloc, text),
+            TypeName::Route => parsed::<Route>(alloc, text),
+        };
+        Ok(told(alloc, parsed)?)
     }
 }
 
@@ -98,7 +99,7 @@ struct FromValue;
 impl Outcome for FromValue {
     fn of(alloc: Global, given: &str) -> Result<String, Fail> {
         let value = Value::from_str(alloc, given)?;
-        told(alloc, from_value(alloc, value))
+        Ok(told(alloc, from_value(alloc, value))?)
     }
 }
 
@@ -127,7 +128,7 @@ struct AnyText;
 
 impl Outcome for AnyText {
     fn of(alloc: Global, given: &str) -> Result<String, Fail> {
-        told(alloc, parsed_as_any(alloc, given))
+        Ok(told(alloc, parsed_as_any(alloc, given))?)
     }
 }
 
