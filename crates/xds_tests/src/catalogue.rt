@@ -162,7 +162,7 @@ fn exchanged(
 }
 
 // What two replicas answer that put one text each, hand each other their entries, and hand them on again.
-fn exchange(
+fn told_of_exchange(
     alloc: Global,
     first: &mut Catalogue<Cluster>,
     second: &mut Catalogue<Cluster>,
@@ -186,7 +186,7 @@ impl Outcome for Exchange {
         let (one, two) = given.split_once(" and ").ok_or("no second replica")?;
         let mut first = Catalogue::new(alloc);
         let mut second = Catalogue::new(alloc);
-        let told = exchange(alloc, &mut first, &mut second, one, two);
+        let told = told_of_exchange(alloc, &mut first, &mut second, one, two);
         drop(first);
         drop(second);
         Ok(told?)

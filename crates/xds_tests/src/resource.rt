@@ -205,7 +205,11 @@ fn refusals_print_number_and_name(rt: HostRuntime) -> Result<(), Fail> {
         Refusal::NotFound,
         Refusal::CounterSpent,
         Refusal::BadStamp,
+        Refusal::NoStream,
+        Refusal::WrongVariant,
+        Refusal::NonceSpent,
         Refusal::Device,
+        Refusal::BadScript,
     ]
     .as_slice()
     {
@@ -213,7 +217,7 @@ fn refusals_print_number_and_name(rt: HostRuntime) -> Result<(), Fail> {
         printed.push_str(" ")?;
     }
     let wanted =
-        "1 NotJson 2 TooDeep 3 NotWhole 4 BadResource 5 BadName 6 TooLong 7 BadMessage 8 OutOfMemory 9 NotFound 10 CounterSpent 11 BadStamp 19 Device ";
+        "1 NotJson 2 TooDeep 3 NotWhole 4 BadResource 5 BadName 6 TooLong 7 BadMessage 8 OutOfMemory 9 NotFound 10 CounterSpent 11 BadStamp 12 NoStream 13 WrongVariant 14 NonceSpent 19 Device 21 BadScript ";
     assert_eq!(rt; printed.as_str(), wanted);
     Ok(())
 }
