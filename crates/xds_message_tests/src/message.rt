@@ -11,7 +11,7 @@ struct RequestAgain;
 
 impl Outcome for RequestAgain {
     fn of(alloc: Global, given: &str) -> Result<String, Fail> {
-        told(alloc, rewritten(alloc, given.as_bytes()))
+        Ok(told(alloc, rewritten(alloc, given.as_bytes()))?)
     }
 }
 

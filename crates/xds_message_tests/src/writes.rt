@@ -3,20 +3,26 @@ use std::alloc::Global;
 use std::test::Fail;
 use xds_cases::cases::{Outcome, hold, told};
 use xds_message::{read_write, write_object};
-use xds_resource::Refusal;
+use xds_resource::{AnyWrite, Refusal};
 
 // What is written for the write that the text spells.
 struct WriteAgain;
 
 impl Outcome for WriteAgain {
     fn of(alloc: Global, given: &str) -> Result<String, Fail> {
-        told(alloc, rewritten(alloc, given.as_bytes()))
+        Ok(told(alloc, rewritten(alloc, given.as_bytes()))?)
     }
 }
 
 fn rewritten(alloc: Global, bytes: &[u8]) -> Result<String, Refusal> {
     let write = read_write(alloc, bytes)?;
-    Ok(write_object(alloc, &write)?.to_string(alloc)?)
+    let text = text_of(alloc, &write);
+    drop(write);
+    text
+}
+
+fn text_of(alloc: Global, write: &AnyWrite) -> Result<String, Refusal> {
+    Ok(write_object(alloc, write)?.to_string(alloc)?)
 }
 
 #[test]
@@ -77,19 +83,39 @@ struct Shown;
 
 impl Outcome for Shown {
     fn of(alloc: Global, given: &str) -> Result<String, Fail> {
-        let write = read_write(alloc, given.as_bytes())?.try_copy(alloc)?;
-        let version = write.stamp().version_text(alloc)?;
-        let mut all = String::from_str(alloc, write.type_name().word())?;
-        for part in [write.name(), version.as_str(), write.body().unwrap_or("-")].as_slice() {
-            all.push_str(" ")?;
-            all.push_str(part)?;
-        }
-        if let Some(value) = write.value(alloc)? {
-            all.push_str(" ")?;
-            all.push_str(value.to_string(alloc)?.as_str())?;
-        }
-        Ok(all)
+        let write = copy_of_write(alloc, given)?;
+        let shown = shown_of(alloc, &write);
+        drop(write);
+        Ok(shown?)
     }
+}
+
+fn copy_of_write(alloc: Global, given: &str) -> Result<AnyWrite, Refusal> {
+    let write = read_write(alloc, given.as_bytes())?;
+    let copy = write.try_copy(alloc);
+    drop(write);
+    copy
+}
+
+fn shown_of(alloc: Global, write: &AnyWrite) -> Result<String, Refusal> {
+    let version = write.stamp().version_text(alloc)?;
+    let mut all = String::from_str(alloc, write.type_name().word())?;
+    for part in [write.name(), version.as_str(), write.body().unwrap_or("-")].as_slice() {
+        all.push_str(" ")?;
+        all.push_str(part)?;
+    }
+    if let Some(value) = value_text(alloc, write)? {
+        all.push_str(" ")?;
+        all.push_str(value.as_str())?;
+    }
+    Ok(all)
+}
+
+fn value_text(alloc: Global, write: &AnyWrite) -> Result<Option<String>, Refusal> {
+    let Some(value) = write.value(alloc)? else {
+        return Ok(None);
+    };
+    Ok(Some(value.to_string(alloc)?))
 }
 
 #[test]

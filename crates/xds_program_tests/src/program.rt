@@ -41,7 +41,7 @@ impl Outcome for Run {
         let output = String::from_utf8(output.inner).ok().ok_or("output")?;
         let errors = String::from_utf8(errors.inner).ok().ok_or("errors")?;
         let told = format!(in alloc; "{status} {output}{errors}")?;
-        replaced(alloc, told.as_str(), "\n", "~")
+        Ok(replaced(alloc, told.as_str(), "\n", "~")?)
     }
 }
 

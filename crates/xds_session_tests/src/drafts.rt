@@ -25,58 +25,96 @@ fn told(alloc: Global, draft: &Draft) -> Result<String, Refusal> {
     }
 }
 
+// What a copy of a draft shows: its type, its nonce, what it is written as, and what its message is written as.
+fn copy_shown(alloc: Global, draft: Draft) -> Result<String, Refusal> {
+    let copy = draft.try_copy(alloc);
+    drop(draft);
+    let copy = copy?;
+    let shown = shown(alloc, &copy);
+    drop(copy);
+    shown
+}
+
+fn shown(alloc: Global, draft: &Draft) -> Result<String, Refusal> {
+    let written = draft.write(alloc)?;
+    let message = told(alloc, draft)?;
+    let (word, nonce) = (draft.kind().word(), draft.nonce());
+    Ok(format!(in alloc; "{word} {nonce} {written} {message}")?)
+}
+
+fn push(alloc: Global, draft: &mut SotwDraft, stamp: Stamp) -> Result<(), Refusal> {
+    let write = put(alloc, stamp, BODY)?;
+    let pushed = draft.push(&write);
+    drop(write);
+    pushed
+}
+
+// What an empty draft is written as, its type and version, and what a copy of it shows once a cluster stands in it twice.
+fn filled(alloc: Global, draft: &mut SotwDraft) -> Result<String, Refusal> {
+    let empty = draft.write(alloc)?;
+    push(alloc, draft, Stamp::new(1, 1))?;
+    push(alloc, draft, Stamp::new(2, 1))?;
+    let copy = draft.try_copy(alloc)?;
+    let shown = copy_shown(alloc, Draft::Sotw(copy))?;
+    let (word, version) = (draft.kind().word(), draft.version());
+    Ok(format!(in alloc; "{empty} {word} {version} {shown}")?)
+}
+
 #[test]
 fn state_of_the_world_drafts_are_joined(rt: HostRuntime) -> Result<(), Fail> {
     let alloc = rt.alloc();
-    let mut draft = SotwDraft::new(
-        alloc,
-        TypeName::Cluster,
-        text(alloc, "1.2")?,
-        text(alloc, "1")?,
-    );
-    let empty = draft.write(alloc)?;
-    draft.push(&put(alloc, Stamp::new(1, 1), BODY)?)?;
-    draft.push(&put(alloc, Stamp::new(2, 1), BODY)?)?;
+    let version = text(alloc, "1.2")?;
+    let nonce = text(alloc, "1")?;
+    let mut draft = SotwDraft::new(alloc, TypeName::Cluster, version, nonce);
+    let told = filled(alloc, &mut draft);
+    drop(draft);
+    let told = told?;
     let want = format!(in alloc;
         "{{\"nonce\":\"1\",\"resources\":[{BODY},{BODY}],\"typeUrl\":\"type.googleapis.com/envoy.config.cluster.v3.Cluster\",\"versionInfo\":\"1.2\"}}"
     )?;
-    assert_eq!(rt; draft.kind(), TypeName::Cluster);
-    assert_eq!(rt; draft.version(), "1.2");
-    let draft = Draft::Sotw(draft.try_copy(alloc)?).try_copy(alloc)?;
-    assert_eq!(rt; draft.nonce(), "1");
-    assert_eq!(rt; draft.write(alloc)?.as_str(), want.as_str());
-    assert_eq!(rt; told(alloc, &draft)?.as_str(), want.as_str());
-    assert_eq!(rt;
-        empty.as_str(),
-        "{\"nonce\":\"1\",\"typeUrl\":\"type.googleapis.com/envoy.config.cluster.v3.Cluster\",\"versionInfo\":\"1.2\"}"
-    );
+    let empty =
+        "{\"nonce\":\"1\",\"typeUrl\":\"type.googleapis.com/envoy.config.cluster.v3.Cluster\",\"versionInfo\":\"1.2\"}";
+    let all = format!(in alloc; "{empty} cluster 1.2 cluster 1 {want} {want}")?;
+    assert_eq!(rt; told.as_str(), all.as_str());
     Ok(())
+}
+
+fn push_both(alloc: Global, draft: &mut DeltaDraft) -> Result<(), Refusal> {
+    let write = put(alloc, Stamp::new(2, 1), BODY)?;
+    let pushed = draft.push(alloc, &write);
+    drop(write);
+    pushed?;
+    let gone = Write::deletion(Stamp::new(3, 1), ArcStr::from_str(alloc, "gone")?);
+    let pushed = draft.push::<Cluster>(alloc, &gone);
+    drop(gone);
+    pushed
+}
+
+// The version and the nonce of a draft, and what a copy of it shows once it has a cluster, a deletion, which adds nothing, and two
+// removals.
+fn delta_filled(alloc: Global, draft: &mut DeltaDraft) -> Result<String, Refusal> {
+    push_both(alloc, draft)?;
+    draft.remove(alloc, "r\t\u{1f600}")?;
+    draft.remove(alloc, "s")?;
+    let copy = draft.try_copy(alloc)?;
+    let shown = copy_shown(alloc, Draft::Delta(copy))?;
+    let (version, nonce) = (draft.version(), draft.nonce());
+    Ok(format!(in alloc; "{version} {nonce} {shown}")?)
 }
 
 #[test]
 fn delta_drafts_are_joined(rt: HostRuntime) -> Result<(), Fail> {
     let alloc = rt.alloc();
-    let mut draft = DeltaDraft::new(
-        alloc,
-        TypeName::Cluster,
-        text(alloc, "1.2")?,
-        text(alloc, "1")?,
-    );
-    draft.push(alloc, &put(alloc, Stamp::new(2, 1), BODY)?)?;
-    draft.push::<Cluster>(
-        alloc,
-        &Write::deletion(Stamp::new(3, 1), ArcStr::from_str(alloc, "gone")?),
-    )?;
-    draft.remove(alloc, "r\t\u{1f600}")?;
-    draft.remove(alloc, "s")?;
+    let version = text(alloc, "1.2")?;
+    let nonce = text(alloc, "1")?;
+    let mut draft = DeltaDraft::new(alloc, TypeName::Cluster, version, nonce);
+    let told = delta_filled(alloc, &mut draft);
+    drop(draft);
+    let told = told?;
     let want = format!(in alloc;
         "{{\"nonce\":\"1\",\"removedResources\":[\"r\\t\u{1f600}\",\"s\"],\"resources\":[{{\"name\":\"q\\\"\\\\\\u0001é\",\"resource\":{BODY},\"version\":\"2-1\"}}],\"systemVersionInfo\":\"1.2\",\"typeUrl\":\"type.googleapis.com/envoy.config.cluster.v3.Cluster\"}}"
     )?;
-    assert_eq!(rt; draft.version(), "1.2");
-    assert_eq!(rt; draft.nonce(), "1");
-    let draft = Draft::Delta(draft.try_copy(alloc)?).try_copy(alloc)?;
-    assert_eq!(rt; draft.kind(), TypeName::Cluster);
-    assert_eq!(rt; draft.write(alloc)?.as_str(), want.as_str());
-    assert_eq!(rt; told(alloc, &draft)?.as_str(), want.as_str());
+    let all = format!(in alloc; "1.2 1 cluster 1 {want} {want}")?;
+    assert_eq!(rt; told.as_str(), all.as_str());
     Ok(())
 }

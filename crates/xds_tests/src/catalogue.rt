@@ -27,10 +27,20 @@ impl Outcome for RouteAnswers {
 
 fn answers_of<T: ResourceType>(alloc: Global, script: &str) -> Result<String, Fail> {
     let mut catalogue = Catalogue::<T>::new(alloc);
+    let answers = answers_over(alloc, &mut catalogue, script);
+    drop(catalogue);
+    answers
+}
+
+fn answers_over<T: ResourceType>(
+    alloc: Global,
+    catalogue: &mut Catalogue<T>,
+    script: &str,
+) -> Result<String, Fail> {
     let mut answers = String::new(alloc);
     for step in script.split("; ") {
         let (verb, rest) = first_word(step)?;
-        let answer = answer_to(alloc, &mut catalogue, verb, rest);
+        let answer = answer_to(alloc, catalogue, verb, rest);
         answers.push_str(" ")?;
         answers.push_str(told(alloc, answer)?.as_str())?;
     }
@@ -95,9 +105,20 @@ fn shown<T: ResourceType>(
     catalogue: &Catalogue<T>,
     wanted: &str,
 ) -> Result<String, Refusal> {
-    let interest = Interest::of_list(alloc, &words_of(alloc, wanted)?)?;
+    let names = words_of(alloc, wanted)?;
+    let interest = Interest::of_list(alloc, &names)?;
+    let listed = names_shown(alloc, catalogue, &interest);
+    drop(interest);
+    listed
+}
+
+fn names_shown<T: ResourceType>(
+    alloc: Global,
+    catalogue: &Catalogue<T>,
+    interest: &Interest<T>,
+) -> Result<String, Refusal> {
     let mut names = String::new(alloc);
-    for write in &catalogue.content(alloc, &interest)? {
+    for write in &catalogue.content(alloc, interest)? {
         names.push_str(write.name())?;
     }
     Ok(names)
@@ -129,6 +150,34 @@ fn sent(alloc: Global, catalogue: &Catalogue<Cluster>) -> Result<Vec<Write<Clust
     Ok(writes)
 }
 
+// Has two replicas hand each other their entries, and answers how many of them each gained.
+fn exchanged(
+    alloc: Global,
+    first: &mut Catalogue<Cluster>,
+    second: &mut Catalogue<Cluster>,
+) -> Result<(u64, u64), Refusal> {
+    let from_first = sent(alloc, first)?;
+    let gained = first.join_all(sent(alloc, second)?)?;
+    Ok((gained, second.join_all(from_first)?))
+}
+
+// What two replicas answer that put one text each, hand each other their entries, and hand them on again.
+fn told_of_exchange(
+    alloc: Global,
+    first: &mut Catalogue<Cluster>,
+    second: &mut Catalogue<Cluster>,
+    one: &str,
+    two: &str,
+) -> Result<String, Refusal> {
+    first.put(Resource::parse(alloc, one)?, 1)?;
+    second.put(Resource::parse(alloc, two)?, 2)?;
+    let (gained, second_gained) = exchanged(alloc, first, second)?;
+    let again = first.join_all(sent(alloc, second)?)?;
+    let held = held_text(alloc, first, "a")?;
+    let second_held = held_text(alloc, second, "a")?;
+    Ok(format!(in alloc; "{gained} {second_gained} {again} {held} {second_held}")?)
+}
+
 // What two replicas answer that put `a`, hand each other their entries, and do so again.
 struct Exchange;
 
@@ -137,15 +186,10 @@ impl Outcome for Exchange {
         let (one, two) = given.split_once(" and ").ok_or("no second replica")?;
         let mut first = Catalogue::new(alloc);
         let mut second = Catalogue::new(alloc);
-        first.put(Resource::parse(alloc, one)?, 1)?;
-        second.put(Resource::parse(alloc, two)?, 2)?;
-        let from_first = sent(alloc, &first)?;
-        let gained = first.join_all(sent(alloc, &second)?)?;
-        let second_gained = second.join_all(from_first)?;
-        let again = first.join_all(sent(alloc, &second)?)?;
-        let held = held_text(alloc, &first, "a")?;
-        let second_held = held_text(alloc, &second, "a")?;
-        Ok(format!(in alloc; "{gained} {second_gained} {again} {held} {second_held}")?)
+        let told = told_of_exchange(alloc, &mut first, &mut second, one, two);
+        drop(first);
+        drop(second);
+        Ok(told?)
     }
 }
 

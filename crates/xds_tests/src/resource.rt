@@ -13,12 +13,13 @@ struct ParsedText;
 impl Outcome for ParsedText {
     fn of(alloc: Global, given: &str) -> Result<String, Fail> {
         let (word, text) = first_word(given)?;
-        match TypeName::from_word(word).ok_or("no type")? {
-            TypeName::Cluster => told(alloc, parsed::<Cluster>(alloc, text)),
-            TypeName::Endpoint => told(alloc, parsed::<Endpoint>(alloc, text)),
-            TypeName::Listener => told(alloc, parsed::<Listener>(alloc, text)),
-            TypeName::Route => told(alloc, parsed::<Route>(alloc, text)),
-        }
+        let parsed = match TypeName::from_word(word).ok_or("no type")? {
+            TypeName::Cluster => parsed::<Cluster>(alloc, text),
+            TypeName::Endpoint => parsed::<Endpoint>(alloc, text),
+            TypeName::Listener => parsed::<Listener>(alloc, text),
+            TypeName::Route => parsed::<Route>(alloc, text),
+        };
+        Ok(told(alloc, parsed)?)
     }
 }
 
@@ -98,7 +99,7 @@ struct FromValue;
 impl Outcome for FromValue {
     fn of(alloc: Global, given: &str) -> Result<String, Fail> {
         let value = Value::from_str(alloc, given)?;
-        told(alloc, from_value(alloc, value))
+        Ok(told(alloc, from_value(alloc, value))?)
     }
 }
 
@@ -127,7 +128,7 @@ struct AnyText;
 
 impl Outcome for AnyText {
     fn of(alloc: Global, given: &str) -> Result<String, Fail> {
-        told(alloc, parsed_as_any(alloc, given))
+        Ok(told(alloc, parsed_as_any(alloc, given))?)
     }
 }
 
@@ -204,7 +205,11 @@ fn refusals_print_number_and_name(rt: HostRuntime) -> Result<(), Fail> {
         Refusal::NotFound,
         Refusal::CounterSpent,
         Refusal::BadStamp,
+        Refusal::NoStream,
+        Refusal::WrongVariant,
+        Refusal::NonceSpent,
         Refusal::Device,
+        Refusal::BadScript,
     ]
     .as_slice()
     {
@@ -212,7 +217,7 @@ fn refusals_print_number_and_name(rt: HostRuntime) -> Result<(), Fail> {
         printed.push_str(" ")?;
     }
     let wanted =
-        "1 NotJson 2 TooDeep 3 NotWhole 4 BadResource 5 BadName 6 TooLong 7 BadMessage 8 OutOfMemory 9 NotFound 10 CounterSpent 11 BadStamp 19 Device ";
+        "1 NotJson 2 TooDeep 3 NotWhole 4 BadResource 5 BadName 6 TooLong 7 BadMessage 8 OutOfMemory 9 NotFound 10 CounterSpent 11 BadStamp 12 NoStream 13 WrongVariant 14 NonceSpent 19 Device 21 BadScript ";
     assert_eq!(rt; printed.as_str(), wanted);
     Ok(())
 }

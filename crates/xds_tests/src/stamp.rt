@@ -13,7 +13,7 @@ struct VersionAgain;
 impl Outcome for VersionAgain {
     fn of(alloc: Global, given: &str) -> Result<String, Fail> {
         let (_, text) = first_word(given)?;
-        told(alloc, version_again(alloc, text))
+        Ok(told(alloc, version_again(alloc, text))?)
     }
 }
 
@@ -68,15 +68,26 @@ impl Outcome for Compared {
     fn of(alloc: Global, given: &str) -> Result<String, Fail> {
         let (first, second) = given.split_once(" and ").ok_or("no second write")?;
         let first = write_of::<Cluster>(alloc, first)?;
-        let second = write_of::<Cluster>(alloc, second)?.try_copy(alloc)?;
-        let order = match first.cmp(&second) {
-            Ordering::Less => "less",
-            Ordering::Equal => "equal",
-            Ordering::Greater => "greater",
-        };
-        let is_same = (order == "equal") == (first == second);
-        Ok(String::from_str(alloc, if is_same { order } else { "at odds" })?)
+        let second = copy_of_write(alloc, second)?;
+        let order = order_of(&first, &second);
+        drop(first);
+        drop(second);
+        Ok(String::from_str(alloc, order)?)
     }
+}
+
+fn copy_of_write(alloc: Global, given: &str) -> Result<Write<Cluster>, Refusal> {
+    write_of::<Cluster>(alloc, given)?.try_copy(alloc)
+}
+
+fn order_of(first: &Write<Cluster>, second: &Write<Cluster>) -> &'static str {
+    let order = match first.cmp(second) {
+        Ordering::Less => "less",
+        Ordering::Equal => "equal",
+        Ordering::Greater => "greater",
+    };
+    let is_same = (order == "equal") == (*first == *second);
+    if is_same { order } else { "at odds" }
 }
 
 /// The write of a version that puts a body, or that deletes `a` where `-` stands in the body's place.

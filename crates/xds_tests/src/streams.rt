@@ -1,5 +1,6 @@
 // What a stream's requests leave of an interest, and the names that they touch, request by request.
 use std::alloc::{AllocError, Global};
+use std::mem;
 use std::test::Fail;
 use xds_cases::cases::{Outcome, hold, words_of};
 use xds_interest::{DeltaNames, Interest, SotwNames, Touched};
@@ -22,14 +23,67 @@ fn write_step<T: ResourceType>(
     all.push(' ')
 }
 
-fn sotw<T: ResourceType>(alloc: Global, lists: &str) -> Result<String, Refusal> {
-    let mut kept = SotwNames::<T>::new(alloc);
+// Keeps another value in a place.
+fn put<V: Drop>(place: &mut V, value: V) {
+    drop(mem::replace(place, value));
+}
+
+fn sotw_step<T: ResourceType>(
+    alloc: Global,
+    kept: &mut SotwNames<T>,
+    all: &mut String,
+    list: &str,
+) -> Result<(), Refusal> {
+    let names = words_of(alloc, list)?;
+    let touched = kept.take(alloc, &names)?.try_copy(alloc)?;
+    let copy = kept.try_copy(alloc)?;
+    put(kept, copy);
+    Ok(write_step(all, kept.interest(), &touched)?)
+}
+
+fn sotw_steps<T: ResourceType>(
+    alloc: Global,
+    kept: &mut SotwNames<T>,
+    lists: &str,
+) -> Result<String, Refusal> {
     let mut all = String::new(alloc);
     for list in lists.split('|') {
-        let names = words_of(alloc, list)?;
-        let touched = kept.take(alloc, &names)?.try_copy(alloc)?;
-        kept = kept.try_copy(alloc)?;
-        write_step(&mut all, kept.interest(), &touched)?;
+        sotw_step(alloc, kept, &mut all, list)?;
+    }
+    all.push_str(if kept.has_begun() { "begun" } else { "" })?;
+    Ok(all)
+}
+
+fn sotw<T: ResourceType>(alloc: Global, lists: &str) -> Result<String, Refusal> {
+    let mut kept = SotwNames::<T>::new(alloc);
+    let told = sotw_steps(alloc, &mut kept, lists);
+    drop(kept);
+    told
+}
+
+fn delta_step<T: ResourceType>(
+    alloc: Global,
+    kept: &mut DeltaNames<T>,
+    all: &mut String,
+    request: &str,
+) -> Result<(), Refusal> {
+    let (subscribe, unsubscribe) = request.split_once('-').unwrap_or((request, ""));
+    let subscribe = words_of(alloc, subscribe)?;
+    let unsubscribe = words_of(alloc, unsubscribe)?;
+    let touched = kept.take(alloc, &subscribe, &unsubscribe)?;
+    let copy = kept.try_copy(alloc)?;
+    put(kept, copy);
+    Ok(write_step(all, kept.interest(), &touched)?)
+}
+
+fn delta_steps<T: ResourceType>(
+    alloc: Global,
+    kept: &mut DeltaNames<T>,
+    requests: &str,
+) -> Result<String, Refusal> {
+    let mut all = String::new(alloc);
+    for request in requests.split('|') {
+        delta_step(alloc, kept, &mut all, request)?;
     }
     all.push_str(if kept.has_begun() { "begun" } else { "" })?;
     Ok(all)
@@ -37,17 +91,9 @@ fn sotw<T: ResourceType>(alloc: Global, lists: &str) -> Result<String, Refusal> 
 
 fn delta<T: ResourceType>(alloc: Global, requests: &str) -> Result<String, Refusal> {
     let mut kept = DeltaNames::<T>::new(alloc);
-    let mut all = String::new(alloc);
-    for request in requests.split('|') {
-        let (subscribe, unsubscribe) = request.split_once('-').unwrap_or((request, ""));
-        let subscribe = words_of(alloc, subscribe)?;
-        let unsubscribe = words_of(alloc, unsubscribe)?;
-        let touched = kept.take(alloc, &subscribe, &unsubscribe)?;
-        kept = kept.try_copy(alloc)?;
-        write_step(&mut all, kept.interest(), &touched)?;
-    }
-    all.push_str(if kept.has_begun() { "begun" } else { "" })?;
-    Ok(all)
+    let told = delta_steps(alloc, &mut kept, requests);
+    drop(kept);
+    told
 }
 
 struct Streams;
@@ -55,12 +101,13 @@ struct Streams;
 impl Outcome for Streams {
     fn of(alloc: Global, given: &str) -> Result<String, Fail> {
         let (word, requests) = given.split_once(':').ok_or("no type")?;
-        Ok(match word {
-            "sotw cluster" => sotw::<Cluster>(alloc, requests)?,
-            "sotw route" => sotw::<Route>(alloc, requests)?,
-            "delta cluster" => delta::<Cluster>(alloc, requests)?,
-            _ => delta::<Route>(alloc, requests)?,
-        })
+        let told = match word {
+            "sotw cluster" => sotw::<Cluster>(alloc, requests),
+            "sotw route" => sotw::<Route>(alloc, requests),
+            "delta cluster" => delta::<Cluster>(alloc, requests),
+            _ => delta::<Route>(alloc, requests),
+        };
+        Ok(told?)
     }
 }
 

@@ -1,0 +1,5 @@
+pub mod Cutting
+pub mod Repeating
+pub mod WordsGiven
+pub mod CasesRead
+pub mod Telling

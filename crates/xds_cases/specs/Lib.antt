@@ -1,0 +1,3 @@
+pub mod Texts
+pub mod Cases
+pub mod Scripts
