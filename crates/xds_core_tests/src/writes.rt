@@ -1,85 +1,115 @@
 // Batches as texts: their writes, apart by spaces.
+use crate::parts::{Told, text_of};
+use serde_json::Value;
 use std::alloc::Global;
 use xds_message::{Batch, read_write, write_object};
-use xds_resource::{AnyWrite, Cluster, Endpoint, Listener, Refusal, Route, Write};
+use xds_resource::{AnyWrite, Cluster, Endpoint, Listener, Refusal, ResourceType, Route, Write};
 
 /// The batch of the writes in a text.
 pub(crate) fn batch_of(alloc: Global, text: &str) -> Result<Batch, Refusal> {
     let mut batch = Batch::new(alloc);
+    let read = read_onto(alloc, &mut batch, text);
+    after(read, batch)
+}
+
+// The value, if what went before was not refused.
+fn after<V: Drop>(done: Result<(), Refusal>, value: V) -> Result<V, Refusal> {
+    done?;
+    Ok(value)
+}
+
+fn read_onto(alloc: Global, batch: &mut Batch, text: &str) -> Result<(), Refusal> {
     for part in text.split_whitespace() {
-        push(&mut batch, read_write(alloc, part.as_bytes())?)?;
+        push(batch, read_write(alloc, part.as_bytes())?)?;
     }
-    Ok(batch)
+    Ok(())
 }
 
 fn push(batch: &mut Batch, write: AnyWrite) -> Result<(), Refusal> {
     match write {
-        AnyWrite::Cluster(write) => batch.cluster.push(write)?,
-        AnyWrite::Endpoint(write) => batch.endpoint.push(write)?,
-        AnyWrite::Listener(write) => batch.listener.push(write)?,
-        AnyWrite::Route(write) => batch.route.push(write)?,
+        AnyWrite::Cluster(write) => push_one(&mut batch.cluster, write),
+        AnyWrite::Endpoint(write) => push_one(&mut batch.endpoint, write),
+        AnyWrite::Listener(write) => push_one(&mut batch.listener, write),
+        AnyWrite::Route(write) => push_one(&mut batch.route, write),
     }
-    Ok(())
 }
 
-/// The text of a batch, or `none` where it has no write.
-pub(crate) fn told_batch(alloc: Global, batch: Batch) -> Result<String, Refusal> {
-    let mut all = String::new(alloc);
-    add_clusters(alloc, &mut all, batch.cluster)?;
-    add_endpoints(alloc, &mut all, batch.endpoint)?;
-    add_listeners(alloc, &mut all, batch.listener)?;
-    add_routes(alloc, &mut all, batch.route)?;
-    if all.is_empty() {
-        all.push_str("none")?;
-    }
-    Ok(all)
+fn push_one<V: Drop>(all: &mut Vec<V>, value: V) -> Result<(), Refusal> {
+    Ok(all.push(value)?)
 }
 
-fn add_clusters(
+/// A type of which the writes are told.
+pub trait Typed: ResourceType + Sized {
+    fn any(write: Write<Self>) -> AnyWrite;
+}
+
+impl Typed for Cluster {
+    fn any(write: Write<Cluster>) -> AnyWrite {
+        AnyWrite::Cluster(write)
+    }
+}
+
+impl Typed for Endpoint {
+    fn any(write: Write<Endpoint>) -> AnyWrite {
+        AnyWrite::Endpoint(write)
+    }
+}
+
+impl Typed for Listener {
+    fn any(write: Write<Listener>) -> AnyWrite {
+        AnyWrite::Listener(write)
+    }
+}
+
+impl Typed for Route {
+    fn any(write: Write<Route>) -> AnyWrite {
+        AnyWrite::Route(write)
+    }
+}
+
+/// The writes of a batch, or `none` where it has none.
+impl Told for Batch {
+    fn text(&self, alloc: Global) -> Result<String, Refusal> {
+        let mut all = String::new(alloc);
+        add_all(alloc, &mut all, &self.cluster)?;
+        add_all(alloc, &mut all, &self.endpoint)?;
+        add_all(alloc, &mut all, &self.listener)?;
+        add_all(alloc, &mut all, &self.route)?;
+        if all.is_empty() {
+            all.push_str("none")?;
+        }
+        Ok(all)
+    }
+}
+
+fn add_all<T: Typed>(
     alloc: Global,
     all: &mut String,
-    writes: Vec<Write<Cluster>>,
+    writes: &Vec<Write<T>>,
 ) -> Result<(), Refusal> {
     for write in writes {
-        add(alloc, all, &AnyWrite::Cluster(write))?;
+        add(alloc, all, T::any(write.try_copy(alloc)?))?;
     }
     Ok(())
 }
 
-fn add_endpoints(
-    alloc: Global,
-    all: &mut String,
-    writes: Vec<Write<Endpoint>>,
-) -> Result<(), Refusal> {
-    for write in writes {
-        add(alloc, all, &AnyWrite::Endpoint(write))?;
-    }
-    Ok(())
-}
-
-fn add_listeners(
-    alloc: Global,
-    all: &mut String,
-    writes: Vec<Write<Listener>>,
-) -> Result<(), Refusal> {
-    for write in writes {
-        add(alloc, all, &AnyWrite::Listener(write))?;
-    }
-    Ok(())
-}
-
-fn add_routes(alloc: Global, all: &mut String, writes: Vec<Write<Route>>) -> Result<(), Refusal> {
-    for write in writes {
-        add(alloc, all, &AnyWrite::Route(write))?;
-    }
-    Ok(())
-}
-
-fn add(alloc: Global, all: &mut String, write: &AnyWrite) -> Result<(), Refusal> {
+fn add<V: Told>(alloc: Global, all: &mut String, value: V) -> Result<(), Refusal> {
     if !all.is_empty() {
         all.push(' ')?;
     }
-    let object = write_object(alloc, write)?;
-    let text = object.to_string(alloc)?;
+    let text = value.text(alloc)?;
     Ok(all.push_str(text.as_str())?)
+}
+
+impl Told for AnyWrite {
+    fn text(&self, alloc: Global) -> Result<String, Refusal> {
+        let object = write_object(alloc, self)?;
+        text_of(alloc, object)
+    }
+}
+
+impl Told for Value {
+    fn text(&self, alloc: Global) -> Result<String, Refusal> {
+        Ok(self.to_string(alloc)?)
+    }
 }
