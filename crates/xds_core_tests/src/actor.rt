@@ -1,68 +1,67 @@
 // A replica to which a story happens, and what it is asked.
 use crate::events::{event_of, number_of, stream_of, type_of};
-use crate::parts::{copy_of, doubled, renew, text_of};
+use crate::parts::{copy_of, doubled, is_short, renew, text_of};
+use crate::script::Actor;
 use std::alloc::Global;
-use xds_core::{Core, Event, Record};
+use xds_core::{Core, Event, Record, Reply};
 use xds_resource::Refusal;
 
-#[derive(Drop)]
-pub struct Actor {
-    pub core: Core,
+/// The first replica. Its steps are events, and looks at what is `due` or `owed` to a stream, at the `marks` of all types or
+/// at the `entries` of one.
+impl Actor for Core {
+    fn begin(alloc: Global) -> Core {
+        Core::new(alloc, 1)
+    }
+
+    fn renew(&mut self, alloc: Global) -> Result<(), Refusal> {
+        renew(alloc, self)
+    }
+
+    fn answer(&mut self, alloc: Global, verb: &str, rest: &str) -> Result<String, Refusal> {
+        match verb {
+            "marks" => text_of(alloc, self.marks()),
+            "entries" => entries(self, alloc, rest),
+            "due" => due(self, alloc, rest),
+            "owed" => owed(self, alloc, rest),
+            _ => happens(self, alloc, verb, rest),
+        }
+    }
+
+    fn is_short(&mut self, alloc: Global, verb: &str, rest: &str) -> Result<bool, Refusal> {
+        let event = event_of(alloc, verb, rest)?;
+        is_short(stepped(self, event))
+    }
 }
 
-impl Actor {
-    /// The first replica.
-    pub(crate) fn new(alloc: Global) -> Actor {
-        Actor {
-            core: Core::new(alloc, 1),
-        }
-    }
+fn entries(core: &Core, alloc: Global, kind: &str) -> Result<String, Refusal> {
+    let kind = type_of(kind)?;
+    let batch = core.entries(alloc, kind)?;
+    text_of(alloc, batch)
+}
 
-    /// From now on a copy of the replica stands for it.
-    pub(crate) fn renew(&mut self, alloc: Global) -> Result<(), Refusal> {
-        renew(alloc, &mut self.core)
-    }
+fn due(core: &Core, alloc: Global, number: &str) -> Result<String, Refusal> {
+    let number = number_of(number)?;
+    text_of(alloc, core.due(number))
+}
 
-    /// What is answered to a step: an event, or a look at what is `due` or `owed` to a stream, at the `marks` of all types
-    /// or at the `entries` of one.
-    pub(crate) fn answer(&mut self, alloc: Global, step: &str) -> Result<String, Refusal> {
-        let (verb, rest) = step.split_once(' ').unwrap_or((step, ""));
-        match verb {
-            "marks" => text_of(alloc, self.core.marks()),
-            "entries" => self.entries(alloc, rest),
-            "due" => self.due(alloc, rest),
-            "owed" => self.owed(alloc, rest),
-            _ => self.happens(alloc, verb, rest),
-        }
-    }
+fn owed(core: &Core, alloc: Global, stream: &str) -> Result<String, Refusal> {
+    let (number, kind) = stream_of(stream)?;
+    text_of(alloc, core.owes(number, kind))
+}
 
-    fn entries(&self, alloc: Global, kind: &str) -> Result<String, Refusal> {
-        let kind = type_of(kind)?;
-        let batch = self.core.entries(alloc, kind)?;
-        text_of(alloc, batch)
-    }
+// A copy of the event happens, and a copy of the record tells the answer.
+fn happens(core: &mut Core, alloc: Global, verb: &str, rest: &str) -> Result<String, Refusal> {
+    let event = event_of(alloc, verb, rest)?;
+    let (event, copy) = doubled(alloc, event)?;
+    let record = recorded(event, stepped(core, copy));
+    let record = copy_of(alloc, record)?;
+    text_of(alloc, record)
+}
 
-    fn due(&self, alloc: Global, number: &str) -> Result<String, Refusal> {
-        let number = number_of(number)?;
-        text_of(alloc, self.core.due(number))
-    }
+fn recorded(event: Event, answer: Result<Reply, Refusal>) -> Record {
+    Record { event, answer }
+}
 
-    fn owed(&self, alloc: Global, stream: &str) -> Result<String, Refusal> {
-        let (number, kind) = stream_of(stream)?;
-        text_of(alloc, self.core.owes(number, kind))
-    }
-
-    // A copy of the event happens, and a copy of the record tells the answer.
-    fn happens(&mut self, alloc: Global, verb: &str, rest: &str) -> Result<String, Refusal> {
-        let event = event_of(alloc, verb, rest)?;
-        let (event, copy) = doubled(alloc, event)?;
-        let record = self.recorded(event, copy);
-        let record = copy_of(alloc, record)?;
-        text_of(alloc, record)
-    }
-
-    fn recorded(&mut self, event: Event, copy: Event) -> Record {
-        let answer = self.core.step(copy);
-        Record { event, answer }
-    }
+fn stepped(core: &mut Core, event: Event) -> Result<Reply, Refusal> {
+    core.step(event)
 }

@@ -1,9 +1,9 @@
 // Many streams, open at once.
-use crate::actor::Actor;
 use crate::replies::number_text;
-use crate::script::{play_line, play_on, replaced};
+use crate::script::{Actor, play_line, play_on, replaced};
 use std::alloc::Global;
 use std::test::Fail;
+use xds_core::Core;
 
 const STREAMS: u64 = 10000;
 
@@ -13,15 +13,27 @@ sotw # {"typeUrl":"CDS"} => taken; poll # => {"nonce":"1","resources":[{"@type":
 owed # => yes; sotw # {"responseNonce":"1","typeUrl":"CDS"} => taken; owed # => no
 close # => closed; due # => none"##;
 
-// A stage is over for all streams before the next begins.
-fn pass(alloc: Global, actor: &mut Actor, stage: &str) -> Result<(), Fail> {
-    for number in 1..=STREAMS {
-        play_stage(alloc, actor, stage, number)?;
+// What was before the streams.
+const BEFORE: &str = r#"put {"@type":"CDS","name":"a"} => 1-1"#;
+
+// Each stage is over for all streams before the next begins.
+fn pass<A: Actor>(alloc: Global) -> Result<(), Fail> {
+    let mut actor = A::begin(alloc);
+    play_on(alloc, &mut actor, BEFORE)?;
+    for stage in STAGES.lines() {
+        pass_stage(alloc, &mut actor, stage)?;
     }
     Ok(())
 }
 
-fn play_stage(alloc: Global, actor: &mut Actor, stage: &str, number: u64) -> Result<(), Fail> {
+fn pass_stage<A: Actor>(alloc: Global, actor: &mut A, stage: &str) -> Result<(), Fail> {
+    for number in 1..=STREAMS {
+        pass_one(alloc, actor, stage, number)?;
+    }
+    Ok(())
+}
+
+fn pass_one<A: Actor>(alloc: Global, actor: &mut A, stage: &str, number: u64) -> Result<(), Fail> {
     let number = number_text(alloc, u128::from(number))?;
     let stage = replaced(alloc, stage, "#", number.as_str())?;
     for step in stage.as_str().split("; ") {
@@ -32,14 +44,5 @@ fn play_stage(alloc: Global, actor: &mut Actor, stage: &str, number: u64) -> Res
 
 #[test]
 fn ten_thousand_streams(rt: HostRuntime) -> Result<(), Fail> {
-    let mut actor = Actor::new(rt.alloc());
-    play_on(
-        rt.alloc(),
-        &mut actor,
-        r#"put {"@type":"CDS","name":"a"} => 1-1"#,
-    )?;
-    for stage in STAGES.lines() {
-        pass(rt.alloc(), &mut actor, stage)?;
-    }
-    Ok(())
+    pass::<Core>(rt.alloc())
 }

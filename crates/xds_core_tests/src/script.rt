@@ -1,17 +1,31 @@
 // Stories as texts, one step a line: what happens, ` => `, and what is answered.
-use crate::actor::Actor;
 use std::alloc::{AllocError, Global};
 use std::test::Fail;
-use xds_resource::TypeName;
+use xds_resource::{Refusal, TypeName};
 
-/// Plays a story at the first replica.
-pub(crate) fn play<R: AllocGlobal>(rt: &R, story: &str) -> Result<(), Fail> {
-    let mut actor = Actor::new(rt.alloc());
+/// To whom stories happen. Of a type parameter, a drop is one step to the proof, and of a replica it is many, on each way
+/// out: so only functions over a type parameter hold one.
+pub trait Actor: Drop + Sized {
+    fn begin(alloc: Global) -> Self;
+
+    /// Puts an equal copy in its place.
+    fn renew(&mut self, alloc: Global) -> Result<(), Refusal>;
+
+    /// What is answered to a step. That no memory was found is no answer.
+    fn answer(&mut self, alloc: Global, verb: &str, rest: &str) -> Result<String, Refusal>;
+
+    /// Whether an event is refused since no memory was found. Another refusal is passed on.
+    fn is_short(&mut self, alloc: Global, verb: &str, rest: &str) -> Result<bool, Refusal>;
+}
+
+/// Plays a story.
+pub(crate) fn play<A: Actor, R: AllocGlobal>(rt: &R, story: &str) -> Result<(), Fail> {
+    let mut actor = A::begin(rt.alloc());
     play_on(rt.alloc(), &mut actor, story)
 }
 
-/// Plays a story on. Each step happens to a copy of the replica, which then stands for it.
-pub(crate) fn play_on(alloc: Global, actor: &mut Actor, story: &str) -> Result<(), Fail> {
+/// Plays a story on. Each step happens to a copy of the actor, which then stands for it.
+pub(crate) fn play_on<A: Actor>(alloc: Global, actor: &mut A, story: &str) -> Result<(), Fail> {
     for line in story.lines() {
         actor.renew(alloc)?;
         play_line(alloc, actor, line)?;
@@ -20,17 +34,23 @@ pub(crate) fn play_on(alloc: Global, actor: &mut Actor, story: &str) -> Result<(
 }
 
 /// Does one step, and compares. In a story `CDS`, `EDS`, `LDS` and `RDS` stand for the URLs of the types.
-pub(crate) fn play_line(alloc: Global, actor: &mut Actor, line: &str) -> Result<(), Fail> {
+pub(crate) fn play_line<A: Actor>(alloc: Global, actor: &mut A, line: &str) -> Result<(), Fail> {
     let line = written_out(alloc, line)?;
     let (step, wanted) = line
         .as_str()
         .split_once(" => ")
         .ok_or("a step has no answer")?;
-    let answer = actor.answer(alloc, step)?;
+    let (verb, rest) = parted(step);
+    let answer = actor.answer(alloc, verb, rest)?;
     if answer.as_str() != wanted {
         return Err(Fail::new(format_args!("{answer} and not {wanted}, at {step}")));
     }
     Ok(())
+}
+
+/// The text before and after the first space.
+pub(crate) fn parted(text: &str) -> (&str, &str) {
+    text.split_once(' ').unwrap_or((text, ""))
 }
 
 /// The text, with the types' URLs in place of their abbreviations.

@@ -3,7 +3,7 @@ use crate::parts::{Told, text_of};
 use serde_json::Value;
 use std::alloc::Global;
 use xds_message::{Batch, read_write, write_object};
-use xds_resource::{AnyWrite, Cluster, Endpoint, Listener, Refusal, ResourceType, Route, Write};
+use xds_resource::{AnyWrite, Cluster, Endpoint, Listener, Refusal, Route, Write};
 
 /// The batch of the writes in a text.
 pub(crate) fn batch_of(alloc: Global, text: &str) -> Result<Batch, Refusal> {
@@ -38,32 +38,31 @@ fn push_one<V: Drop>(all: &mut Vec<V>, value: V) -> Result<(), Refusal> {
     Ok(all.push(value)?)
 }
 
-/// A type of which the writes are told.
-pub trait Typed: ResourceType + Sized {
-    fn any(write: Write<Self>) -> AnyWrite;
-}
-
-impl Typed for Cluster {
-    fn any(write: Write<Cluster>) -> AnyWrite {
-        AnyWrite::Cluster(write)
+impl Told for Write<Cluster> {
+    fn text(&self, alloc: Global) -> Result<String, Refusal> {
+        let write = self.try_copy(alloc)?;
+        text_of(alloc, AnyWrite::Cluster(write))
     }
 }
 
-impl Typed for Endpoint {
-    fn any(write: Write<Endpoint>) -> AnyWrite {
-        AnyWrite::Endpoint(write)
+impl Told for Write<Endpoint> {
+    fn text(&self, alloc: Global) -> Result<String, Refusal> {
+        let write = self.try_copy(alloc)?;
+        text_of(alloc, AnyWrite::Endpoint(write))
     }
 }
 
-impl Typed for Listener {
-    fn any(write: Write<Listener>) -> AnyWrite {
-        AnyWrite::Listener(write)
+impl Told for Write<Listener> {
+    fn text(&self, alloc: Global) -> Result<String, Refusal> {
+        let write = self.try_copy(alloc)?;
+        text_of(alloc, AnyWrite::Listener(write))
     }
 }
 
-impl Typed for Route {
-    fn any(write: Write<Route>) -> AnyWrite {
-        AnyWrite::Route(write)
+impl Told for Write<Route> {
+    fn text(&self, alloc: Global) -> Result<String, Refusal> {
+        let write = self.try_copy(alloc)?;
+        text_of(alloc, AnyWrite::Route(write))
     }
 }
 
@@ -82,18 +81,14 @@ impl Told for Batch {
     }
 }
 
-fn add_all<T: Typed>(
-    alloc: Global,
-    all: &mut String,
-    writes: &Vec<Write<T>>,
-) -> Result<(), Refusal> {
-    for write in writes {
-        add(alloc, all, T::any(write.try_copy(alloc)?))?;
+fn add_all<V: Told>(alloc: Global, all: &mut String, values: &Vec<V>) -> Result<(), Refusal> {
+    for value in values {
+        add(alloc, all, value)?;
     }
     Ok(())
 }
 
-fn add<V: Told>(alloc: Global, all: &mut String, value: V) -> Result<(), Refusal> {
+fn add<V: Told>(alloc: Global, all: &mut String, value: &V) -> Result<(), Refusal> {
     if !all.is_empty() {
         all.push(' ')?;
     }
