@@ -1,6 +1,6 @@
 // Many streams, open at once.
 use crate::replies::number_text;
-use crate::script::{Actor, play_line, play_on, replaced};
+use crate::script::{Actor, play_line, play_on};
 use std::alloc::Global;
 use std::test::Fail;
 use xds_core::Core;
@@ -35,7 +35,7 @@ fn pass_stage<A: Actor>(alloc: Global, actor: &mut A, stage: &str) -> Result<(),
 
 fn pass_one<A: Actor>(alloc: Global, actor: &mut A, stage: &str, number: u64) -> Result<(), Fail> {
     let number = number_text(alloc, u128::from(number))?;
-    let stage = replaced(alloc, stage, "#", number.as_str())?;
+    let stage = stage.replace(alloc, "#", number.as_str())?;
     for step in stage.as_str().split("; ") {
         play_line(alloc, actor, step)?;
     }

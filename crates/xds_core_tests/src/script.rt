@@ -42,10 +42,14 @@ pub(crate) fn play_line<A: Actor>(alloc: Global, actor: &mut A, line: &str) -> R
         .ok_or("a step has no answer")?;
     let (verb, rest) = parted(step);
     let answer = actor.answer(alloc, verb, rest)?;
-    if answer.as_str() != wanted {
-        return Err(Fail::new(format_args!("{answer} and not {wanted}, at {step}")));
+    compare(answer.as_str(), wanted, step)
+}
+
+fn compare(answer: &str, wanted: &str, step: &str) -> Result<(), Fail> {
+    if answer == wanted {
+        return Ok(());
     }
-    Ok(())
+    Err(Fail::new(format_args!("{answer} and not {wanted}, at {step}")))
 }
 
 /// The text before and after the first space.
@@ -55,25 +59,8 @@ pub(crate) fn parted(text: &str) -> (&str, &str) {
 
 /// The text, with the types' URLs in place of their abbreviations.
 pub(crate) fn written_out(alloc: Global, text: &str) -> Result<String, AllocError> {
-    let text = replaced(alloc, text, "CDS", TypeName::Cluster.url())?;
-    let text = replaced(alloc, text.as_str(), "EDS", TypeName::Endpoint.url())?;
-    let text = replaced(alloc, text.as_str(), "LDS", TypeName::Listener.url())?;
-    replaced(alloc, text.as_str(), "RDS", TypeName::Route.url())
-}
-
-/// The text, with `by` in place of `word`.
-pub(crate) fn replaced(
-    alloc: Global,
-    text: &str,
-    word: &str,
-    by: &str,
-) -> Result<String, AllocError> {
-    let mut all = String::new(alloc);
-    for (i, part) in text.split(word).enumerate() {
-        if i > 0 {
-            all.push_str(by)?;
-        }
-        all.push_str(part)?;
-    }
-    Ok(all)
+    let text = text.replace(alloc, "CDS", TypeName::Cluster.url())?;
+    let text = text.replace(alloc, "EDS", TypeName::Endpoint.url())?;
+    let text = text.replace(alloc, "LDS", TypeName::Listener.url())?;
+    text.replace(alloc, "RDS", TypeName::Route.url())
 }
