@@ -1,63 +1,67 @@
-// A replica to which a story happens. Each event happens to a copy of it, which then stands for it, and each reply is
-// told by the copy of a record.
+// A replica to which a story happens, and what it is asked.
 use crate::events::{event_of, number_of, stream_of, type_of};
-use crate::replies::{told, told_look, told_marks};
-use crate::writes::told_batch;
+use crate::parts::{copy_of, doubled, is_short, renew, text_of};
+use crate::script::Actor;
 use std::alloc::Global;
-use xds_core::{Core, Event, Record};
+use xds_core::{Core, Event, Record, Reply};
 use xds_resource::Refusal;
 
-#[derive(Drop)]
-pub struct Actor {
-    pub core: Core,
+/// The first replica. Its steps are events, and looks at what is `due` or `owed` to a stream, at the `marks` of all types or
+/// at the `entries` of one.
+impl Actor for Core {
+    fn begin(alloc: Global) -> Core {
+        Core::new(alloc, 1)
+    }
+
+    fn renew(&mut self, alloc: Global) -> Result<(), Refusal> {
+        renew(alloc, self)
+    }
+
+    fn answer(&mut self, alloc: Global, verb: &str, rest: &str) -> Result<String, Refusal> {
+        match verb {
+            "marks" => text_of(alloc, self.marks()),
+            "entries" => entries(self, alloc, rest),
+            "due" => due(self, alloc, rest),
+            "owed" => owed(self, alloc, rest),
+            _ => happens(self, alloc, verb, rest),
+        }
+    }
+
+    fn is_short(&mut self, alloc: Global, verb: &str, rest: &str) -> Result<bool, Refusal> {
+        let event = event_of(alloc, verb, rest)?;
+        is_short(stepped(self, event))
+    }
 }
 
-impl Actor {
-    /// The first replica.
-    pub(crate) fn new(alloc: Global) -> Actor {
-        Actor {
-            core: Core::new(alloc, 1),
-        }
-    }
+fn entries(core: &Core, alloc: Global, kind: &str) -> Result<String, Refusal> {
+    let kind = type_of(kind)?;
+    let batch = core.entries(alloc, kind)?;
+    text_of(alloc, batch)
+}
 
-    /// What is answered to a step: an event, or a look at what is `due` or `owed` to a stream, at the `marks` of all types
-    /// or at the `entries` of one.
-    pub(crate) fn answer(&mut self, alloc: Global, step: &str) -> Result<String, Refusal> {
-        let (verb, rest) = step.split_once(' ').unwrap_or((step, ""));
-        match verb {
-            "marks" => told_marks(alloc, self.core.marks()),
-            "entries" => self.entries(alloc, rest),
-            "due" => self.due(alloc, rest),
-            "owed" => self.owed(alloc, rest),
-            _ => self.happens(alloc, verb, rest),
-        }
-    }
+fn due(core: &Core, alloc: Global, number: &str) -> Result<String, Refusal> {
+    let number = number_of(number)?;
+    text_of(alloc, core.due(number))
+}
 
-    fn entries(&self, alloc: Global, kind: &str) -> Result<String, Refusal> {
-        let kind = type_of(kind)?;
-        told_batch(alloc, self.core.entries(alloc, kind)?)
-    }
+fn owed(core: &Core, alloc: Global, stream: &str) -> Result<String, Refusal> {
+    let (number, kind) = stream_of(stream)?;
+    text_of(alloc, core.owes(number, kind))
+}
 
-    fn due(&self, alloc: Global, number: &str) -> Result<String, Refusal> {
-        told_look(alloc, self.core.due(number_of(number)?))
-    }
+// A copy of the event happens, and a copy of the record tells the answer.
+fn happens(core: &mut Core, alloc: Global, verb: &str, rest: &str) -> Result<String, Refusal> {
+    let event = event_of(alloc, verb, rest)?;
+    let (event, copy) = doubled(alloc, event)?;
+    let record = recorded(event, stepped(core, copy));
+    let record = copy_of(alloc, record)?;
+    text_of(alloc, record)
+}
 
-    fn owed(&self, alloc: Global, stream: &str) -> Result<String, Refusal> {
-        let (number, kind) = stream_of(stream)?;
-        told_look(alloc, self.core.owes(number, kind))
-    }
+fn recorded(event: Event, answer: Result<Reply, Refusal>) -> Record {
+    Record { event, answer }
+}
 
-    fn happens(&mut self, alloc: Global, verb: &str, rest: &str) -> Result<String, Refusal> {
-        let event = event_of(alloc, verb, rest)?;
-        let record = self.recorded(alloc, event)?;
-        let copy = record.try_copy(alloc)?;
-        told(alloc, copy.answer)
-    }
-
-    fn recorded(&mut self, alloc: Global, event: Event) -> Result<Record, Refusal> {
-        let copy = event.try_copy(alloc)?;
-        self.core = self.core.try_copy(alloc)?;
-        let answer = self.core.step(copy);
-        Ok(Record { event, answer })
-    }
+fn stepped(core: &mut Core, event: Event) -> Result<Reply, Refusal> {
+    core.step(event)
 }

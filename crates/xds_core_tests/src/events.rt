@@ -1,4 +1,5 @@
 // Events as texts.
+use crate::script::parted;
 use crate::writes::batch_of;
 use std::alloc::Global;
 use xds_core::{Event, Request};
@@ -73,10 +74,6 @@ fn delete(alloc: Global, text: &str) -> Result<Event, Refusal> {
 fn merge(alloc: Global, text: &str) -> Result<Event, Refusal> {
     let batch = batch_of(alloc, text)?;
     Ok(Event::Merge(batch))
-}
-
-fn parted(text: &str) -> (&str, &str) {
-    text.split_once(' ').unwrap_or((text, ""))
 }
 
 /// The stream, and perhaps the type, of `STREAM [TYPE]`.

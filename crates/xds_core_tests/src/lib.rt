@@ -11,6 +11,8 @@ mod many;
 #[cfg(test)]
 mod memory;
 #[cfg(test)]
+mod parts;
+#[cfg(test)]
 mod replies;
 #[cfg(test)]
 mod script;

@@ -1,12 +1,9 @@
 // A batch for which no memory is found. With ample memory it is taken at once; `rt try --test --fail-alloc N` refuses the
 // N-th allocation. A batch that was refused has changed nothing, and is taken when it comes again.
-use crate::actor::Actor;
-use crate::script::{play_on, written_out};
-use crate::writes::batch_of;
+use crate::script::{Actor, play_on, written_out};
 use std::alloc::Global;
-use std::process::Abort;
 use std::test::Fail;
-use xds_core::Event;
+use xds_core::Core;
 use xds_resource::Refusal;
 
 const BEFORE: &str = r#"put {"@type":"CDS","name":"a"} => 1-1
@@ -23,29 +20,36 @@ const AFTER: &str = r#"marks => 2 3 1 1
 snapshot => {"body":{"@type":"CDS","name":"a","x":2},"counter":1,"name":"a","typeUrl":"CDS","writer":2} {"counter":2,"name":"e","typeUrl":"EDS","writer":1} {"counter":3,"name":"f","typeUrl":"EDS","writer":2} {"body":{"@type":"LDS","name":"l"},"counter":1,"name":"l","typeUrl":"LDS","writer":2} {"body":{"@type":"RDS","name":"q"},"counter":1,"name":"q","typeUrl":"RDS","writer":2}"#;
 
 // Whether the batch is refused for want of memory.
-fn refuses(actor: &mut Actor, alloc: Global) -> Result<bool, Refusal> {
+fn refuses<A: Actor>(alloc: Global, actor: &mut A) -> Result<bool, Refusal> {
     let batch = written_out(alloc, BATCH)?;
-    let batch = batch_of(alloc, batch.as_str())?;
-    match actor.core.step(Event::Merge(batch)) {
-        Ok(_) => Ok(false),
-        Err(Refusal::OutOfMemory) => Ok(true),
-        Err(refusal) => Err(refusal),
-    }
+    actor.is_short(alloc, "merge", batch.as_str())
 }
 
-fn goes_on<R: Abort + AllocGlobal>(rt: &R, actor: &mut Actor) -> Result<(), Fail> {
-    play_on(rt, actor, UNCHANGED)?;
-    assert!(rt; !refuses(actor, rt.alloc())?, "refused again");
+// A batch was refused. It has changed nothing, and is taken now.
+fn goes_on<A: Actor>(alloc: Global, actor: &mut A) -> Result<(), Fail> {
+    play_on(alloc, actor, UNCHANGED)?;
+    if refuses(alloc, actor)? {
+        return Err("refused again".into());
+    }
     Ok(())
+}
+
+// Whether the batch was refused at first.
+fn comes_again<A: Actor>(alloc: Global) -> Result<bool, Fail> {
+    let mut actor = A::begin(alloc);
+    play_on(alloc, &mut actor, BEFORE)?;
+    let refused = refuses(alloc, &mut actor)?;
+    if refused {
+        goes_on(alloc, &mut actor)?;
+    }
+    play_on(alloc, &mut actor, AFTER)?;
+    Ok(refused)
 }
 
 #[test]
 fn a_batch_without_memory(rt: HostRuntime) -> Result<(), Fail> {
-    let mut actor = Actor::new(rt.alloc());
-    play_on(&rt, &mut actor, BEFORE)?;
-    if refuses(&mut actor, rt.alloc())? {
-        goes_on(&rt, &mut actor)?;
+    if comes_again::<Core>(rt.alloc())? {
         println!(rt; "refused, and went on")?;
     }
-    play_on(&rt, &mut actor, AFTER)
+    Ok(())
 }

@@ -1,55 +1,66 @@
 // Stories as texts, one step a line: what happens, ` => `, and what is answered.
-use crate::actor::Actor;
 use std::alloc::{AllocError, Global};
-use std::process::Abort;
 use std::test::Fail;
-use xds_resource::TypeName;
+use xds_resource::{Refusal, TypeName};
 
-/// Plays a story at the first replica.
-pub(crate) fn play<R: Abort + AllocGlobal>(rt: &R, story: &str) -> Result<(), Fail> {
-    let mut actor = Actor::new(rt.alloc());
-    play_on(rt, &mut actor, story)
+/// To whom stories happen. Of a type parameter, a drop is one step to the proof, and of a replica it is many, on each way
+/// out: so only functions over a type parameter hold one.
+pub trait Actor: Drop + Sized {
+    fn begin(alloc: Global) -> Self;
+
+    /// Puts an equal copy in its place.
+    fn renew(&mut self, alloc: Global) -> Result<(), Refusal>;
+
+    /// What is answered to a step. That no memory was found is no answer.
+    fn answer(&mut self, alloc: Global, verb: &str, rest: &str) -> Result<String, Refusal>;
+
+    /// Whether an event is refused since no memory was found. Another refusal is passed on.
+    fn is_short(&mut self, alloc: Global, verb: &str, rest: &str) -> Result<bool, Refusal>;
 }
 
-/// Plays a story on.
-pub(crate) fn play_on<R: Abort + AllocGlobal>(
-    rt: &R,
-    actor: &mut Actor,
-    story: &str,
-) -> Result<(), Fail> {
+/// Plays a story.
+pub(crate) fn play<A: Actor, R: AllocGlobal>(rt: &R, story: &str) -> Result<(), Fail> {
+    let mut actor = A::begin(rt.alloc());
+    play_on(rt.alloc(), &mut actor, story)
+}
+
+/// Plays a story on. Each step happens to a copy of the actor, which then stands for it.
+pub(crate) fn play_on<A: Actor>(alloc: Global, actor: &mut A, story: &str) -> Result<(), Fail> {
     for line in story.lines() {
-        play_line(rt, actor, line)?;
+        actor.renew(alloc)?;
+        play_line(alloc, actor, line)?;
     }
     Ok(())
 }
 
-// Does one step, and compares. In a story `CDS`, `EDS`, `LDS` and `RDS` stand for the URLs of the types.
-fn play_line<R: Abort + AllocGlobal>(rt: &R, actor: &mut Actor, line: &str) -> Result<(), Fail> {
-    let line = written_out(rt.alloc(), line)?;
+/// Does one step, and compares. In a story `CDS`, `EDS`, `LDS` and `RDS` stand for the URLs of the types.
+pub(crate) fn play_line<A: Actor>(alloc: Global, actor: &mut A, line: &str) -> Result<(), Fail> {
+    let line = written_out(alloc, line)?;
     let (step, wanted) = line
         .as_str()
         .split_once(" => ")
         .ok_or("a step has no answer")?;
-    let answer = actor.answer(rt.alloc(), step)?;
-    assert_eq!(rt; answer.as_str(), wanted, "at {step}");
-    Ok(())
+    let (verb, rest) = parted(step);
+    let answer = actor.answer(alloc, verb, rest)?;
+    compare(answer.as_str(), wanted, step)
+}
+
+fn compare(answer: &str, wanted: &str, step: &str) -> Result<(), Fail> {
+    if answer == wanted {
+        return Ok(());
+    }
+    Err(Fail::new(format_args!("{answer} and not {wanted}, at {step}")))
+}
+
+/// The text before and after the first space.
+pub(crate) fn parted(text: &str) -> (&str, &str) {
+    text.split_once(' ').unwrap_or((text, ""))
 }
 
 /// The text, with the types' URLs in place of their abbreviations.
 pub(crate) fn written_out(alloc: Global, text: &str) -> Result<String, AllocError> {
-    let text = replaced(alloc, text, "CDS", TypeName::Cluster.url())?;
-    let text = replaced(alloc, text.as_str(), "EDS", TypeName::Endpoint.url())?;
-    let text = replaced(alloc, text.as_str(), "LDS", TypeName::Listener.url())?;
-    replaced(alloc, text.as_str(), "RDS", TypeName::Route.url())
-}
-
-fn replaced(alloc: Global, text: &str, word: &str, by: &str) -> Result<String, AllocError> {
-    let mut all = String::new(alloc);
-    for (i, part) in text.split(word).enumerate() {
-        if i > 0 {
-            all.push_str(by)?;
-        }
-        all.push_str(part)?;
-    }
-    Ok(all)
+    let text = text.replace(alloc, "CDS", TypeName::Cluster.url())?;
+    let text = text.replace(alloc, "EDS", TypeName::Endpoint.url())?;
+    let text = text.replace(alloc, "LDS", TypeName::Listener.url())?;
+    text.replace(alloc, "RDS", TypeName::Route.url())
 }

@@ -1,10 +1,11 @@
 // Stories of streams and writes at one replica.
 use crate::script::play;
 use std::test::Fail;
+use xds_core::Core;
 
 #[test]
 fn refusals_come_in_their_order(rt: HostRuntime) -> Result<(), Fail> {
-    play(
+    play::<Core, HostRuntime>(
         &rt,
         r#"delete cluster a => 9 NotFound
 sotw 7 {"typeUrl":"CDS"} => 12 NoStream
@@ -45,7 +46,7 @@ delete cluster a => 9 NotFound"#,
 
 #[test]
 fn the_first_request_decides_the_variant(rt: HostRuntime) -> Result<(), Fail> {
-    play(
+    play::<Core, HostRuntime>(
         &rt,
         r#"open => 1
 sotw 1 {} => 7 BadMessage
@@ -81,7 +82,7 @@ poll 4 => {"nonce":"1","removedResources":["m"],"systemVersionInfo":"1.0","typeU
 
 #[test]
 fn each_event_is_answered(rt: HostRuntime) -> Result<(), Fail> {
-    play(
+    play::<Core, HostRuntime>(
         &rt,
         r#"marks => 0 0 0 0
 entries cluster => none
@@ -132,7 +133,7 @@ owed 1 => none"#,
 
 #[test]
 fn a_batch_is_joined_once(rt: HostRuntime) -> Result<(), Fail> {
-    play(
+    play::<Core, HostRuntime>(
         &rt,
         r#"put {"@type":"CDS","name":"a","x":1} => 1-1
 open => 1
@@ -160,7 +161,7 @@ put {"@type":"LDS","name":"k"} => 8-1"#,
 
 #[test]
 fn the_greatest_counter_ends_writes(rt: HostRuntime) -> Result<(), Fail> {
-    play(
+    play::<Core, HostRuntime>(
         &rt,
         r#"put {"@type":"LDS","name":"k"} => 1-1
 merge {"body":{"@type":"LDS","name":"z"},"counter":9223372036854775807,"name":"z","typeUrl":"LDS","writer":9} => 1
@@ -177,7 +178,7 @@ marks => 1 0 3 0"#,
 
 #[test]
 fn types_are_polled_in_their_order(rt: HostRuntime) -> Result<(), Fail> {
-    play(
+    play::<Core, HostRuntime>(
         &rt,
         r#"put {"@type":"RDS","name":"r"} => 1-1
 put {"@type":"LDS","name":"l"} => 1-1
@@ -210,7 +211,7 @@ due 1 => no"#,
 // The first stream is of the state of the world, the second incremental.
 #[test]
 fn two_streams_of_both_variants(rt: HostRuntime) -> Result<(), Fail> {
-    play(
+    play::<Core, HostRuntime>(
         &rt,
         r#"open => 1
 open => 2

@@ -1,4 +1,6 @@
 // Batches as texts: their writes, apart by spaces.
+use crate::parts::{Told, text_of};
+use serde_json::Value;
 use std::alloc::Global;
 use xds_message::{Batch, read_write, write_object};
 use xds_resource::{AnyWrite, Cluster, Endpoint, Listener, Refusal, Route, Write};
@@ -6,80 +8,103 @@ use xds_resource::{AnyWrite, Cluster, Endpoint, Listener, Refusal, Route, Write}
 /// The batch of the writes in a text.
 pub(crate) fn batch_of(alloc: Global, text: &str) -> Result<Batch, Refusal> {
     let mut batch = Batch::new(alloc);
+    let read = read_onto(alloc, &mut batch, text);
+    after(read, batch)
+}
+
+// The value, if what went before was not refused.
+fn after<V: Drop>(done: Result<(), Refusal>, value: V) -> Result<V, Refusal> {
+    done?;
+    Ok(value)
+}
+
+fn read_onto(alloc: Global, batch: &mut Batch, text: &str) -> Result<(), Refusal> {
     for part in text.split_whitespace() {
-        push(&mut batch, read_write(alloc, part.as_bytes())?)?;
+        push(batch, read_write(alloc, part.as_bytes())?)?;
     }
-    Ok(batch)
+    Ok(())
 }
 
 fn push(batch: &mut Batch, write: AnyWrite) -> Result<(), Refusal> {
     match write {
-        AnyWrite::Cluster(write) => batch.cluster.push(write)?,
-        AnyWrite::Endpoint(write) => batch.endpoint.push(write)?,
-        AnyWrite::Listener(write) => batch.listener.push(write)?,
-        AnyWrite::Route(write) => batch.route.push(write)?,
+        AnyWrite::Cluster(write) => push_one(&mut batch.cluster, write),
+        AnyWrite::Endpoint(write) => push_one(&mut batch.endpoint, write),
+        AnyWrite::Listener(write) => push_one(&mut batch.listener, write),
+        AnyWrite::Route(write) => push_one(&mut batch.route, write),
+    }
+}
+
+fn push_one<V: Drop>(all: &mut Vec<V>, value: V) -> Result<(), Refusal> {
+    Ok(all.push(value)?)
+}
+
+impl Told for Write<Cluster> {
+    fn text(&self, alloc: Global) -> Result<String, Refusal> {
+        let write = self.try_copy(alloc)?;
+        text_of(alloc, AnyWrite::Cluster(write))
+    }
+}
+
+impl Told for Write<Endpoint> {
+    fn text(&self, alloc: Global) -> Result<String, Refusal> {
+        let write = self.try_copy(alloc)?;
+        text_of(alloc, AnyWrite::Endpoint(write))
+    }
+}
+
+impl Told for Write<Listener> {
+    fn text(&self, alloc: Global) -> Result<String, Refusal> {
+        let write = self.try_copy(alloc)?;
+        text_of(alloc, AnyWrite::Listener(write))
+    }
+}
+
+impl Told for Write<Route> {
+    fn text(&self, alloc: Global) -> Result<String, Refusal> {
+        let write = self.try_copy(alloc)?;
+        text_of(alloc, AnyWrite::Route(write))
+    }
+}
+
+/// The writes of a batch, or `none` where it has none.
+impl Told for Batch {
+    fn text(&self, alloc: Global) -> Result<String, Refusal> {
+        let mut all = String::new(alloc);
+        add_all(alloc, &mut all, &self.cluster)?;
+        add_all(alloc, &mut all, &self.endpoint)?;
+        add_all(alloc, &mut all, &self.listener)?;
+        add_all(alloc, &mut all, &self.route)?;
+        if all.is_empty() {
+            all.push_str("none")?;
+        }
+        Ok(all)
+    }
+}
+
+fn add_all<V: Told>(alloc: Global, all: &mut String, values: &Vec<V>) -> Result<(), Refusal> {
+    for value in values {
+        add(alloc, all, value)?;
     }
     Ok(())
 }
 
-/// The text of a batch, or `none` where it has no write.
-pub(crate) fn told_batch(alloc: Global, batch: Batch) -> Result<String, Refusal> {
-    let mut all = String::new(alloc);
-    add_clusters(alloc, &mut all, batch.cluster)?;
-    add_endpoints(alloc, &mut all, batch.endpoint)?;
-    add_listeners(alloc, &mut all, batch.listener)?;
-    add_routes(alloc, &mut all, batch.route)?;
-    if all.is_empty() {
-        all.push_str("none")?;
-    }
-    Ok(all)
-}
-
-fn add_clusters(
-    alloc: Global,
-    all: &mut String,
-    writes: Vec<Write<Cluster>>,
-) -> Result<(), Refusal> {
-    for write in writes {
-        add(alloc, all, &AnyWrite::Cluster(write))?;
-    }
-    Ok(())
-}
-
-fn add_endpoints(
-    alloc: Global,
-    all: &mut String,
-    writes: Vec<Write<Endpoint>>,
-) -> Result<(), Refusal> {
-    for write in writes {
-        add(alloc, all, &AnyWrite::Endpoint(write))?;
-    }
-    Ok(())
-}
-
-fn add_listeners(
-    alloc: Global,
-    all: &mut String,
-    writes: Vec<Write<Listener>>,
-) -> Result<(), Refusal> {
-    for write in writes {
-        add(alloc, all, &AnyWrite::Listener(write))?;
-    }
-    Ok(())
-}
-
-fn add_routes(alloc: Global, all: &mut String, writes: Vec<Write<Route>>) -> Result<(), Refusal> {
-    for write in writes {
-        add(alloc, all, &AnyWrite::Route(write))?;
-    }
-    Ok(())
-}
-
-fn add(alloc: Global, all: &mut String, write: &AnyWrite) -> Result<(), Refusal> {
+fn add<V: Told>(alloc: Global, all: &mut String, value: &V) -> Result<(), Refusal> {
     if !all.is_empty() {
         all.push(' ')?;
     }
-    let object = write_object(alloc, write)?;
-    let text = object.to_string(alloc)?;
+    let text = value.text(alloc)?;
     Ok(all.push_str(text.as_str())?)
+}
+
+impl Told for AnyWrite {
+    fn text(&self, alloc: Global) -> Result<String, Refusal> {
+        let object = write_object(alloc, self)?;
+        text_of(alloc, object)
+    }
+}
+
+impl Told for Value {
+    fn text(&self, alloc: Global) -> Result<String, Refusal> {
+        Ok(self.to_string(alloc)?)
+    }
 }
