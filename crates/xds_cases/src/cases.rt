@@ -54,7 +54,7 @@ pub(crate) fn same(found: &str, wanted: &str, given: &str) -> Result<(), Fail>
     }
 }
 
-/// The text that a call answers, or its refusal, as `4 BadResource`.
+/// The text that a call answers, or its refusal, as `4 BadResource`. `OutOfMemory` where no text could be made.
 pub fn told(alloc: Global, answered: Result<String, Refusal>) -> Result<String, Refusal>
     ensures { Gives string_bytes result (Ok (told_by string_bytes answered)) }
 {
@@ -95,7 +95,7 @@ pub fn words_of(alloc: Global, text: &str) -> Result<Vec<String>, Refusal>
     Ok(words)
 }
 
-/// The text, with `by` in place of `word`. The empty word stands nowhere.
+/// The text, with `by` in place of `word`. The empty word stands nowhere. `OutOfMemory` where no text could be made.
 pub fn replaced(alloc: Global, text: &str, word: &str, by: &str) -> Result<String, Refusal>
     ensures { Gives string_bytes result (Ok (replaced word.now by.now text.now)) }
 {
@@ -105,7 +105,8 @@ pub fn replaced(alloc: Global, text: &str, word: &str, by: &str) -> Result<Strin
     Ok(text.replace(alloc, word, by)?)
 }
 
-/// The text, with what its abbreviations stand for. `BadScript` where a `<` begins no repeat.
+/// The text, with what its abbreviations stand for. `BadScript` where a `<` begins no repeat, and `OutOfMemory` where no
+/// text could be made.
 pub fn written_out(alloc: Global, text: &str) -> Result<String, Refusal>
     ensures { Gives string_bytes result (ok_or (written_out text.now) BadScript) }
 {

@@ -1,13 +1,9 @@
-// Tests of the public calls of resources, interests and catalogues, in modules named for what they test: worked examples, and what no
-// clause says, as that calls succeed where memory is ample. Nothing else stands here.
+// Tests of the public calls of resources and interests, in modules named for what they test: worked examples, and what no clause
+// says, as that calls succeed where memory is ample. Nothing else stands here.
 #![tactic(auto)]
 
 #[cfg(test)]
-mod catalogue;
-#[cfg(test)]
 mod interest;
-#[cfg(test)]
-mod many_writes;
 #[cfg(test)]
 mod resource;
 #[cfg(test)]

@@ -5,7 +5,7 @@ use std::sync::ArcStr;
 use std::test::Fail;
 use xds_cases::cases::{Outcome, first_word, hold, told};
 use xds_resource::stamp::MAX_COUNTER;
-use xds_resource::{Cluster, Refusal, Resource, ResourceType, Stamp, Write};
+use xds_resource::{Cluster, Refusal, Resource, Stamp, Write};
 
 // The version text of the stamp that a version text names.
 struct VersionAgain;
@@ -67,7 +67,7 @@ struct Compared;
 impl Outcome for Compared {
     fn of(alloc: Global, given: &str) -> Result<String, Fail> {
         let (first, second) = given.split_once(" and ").ok_or("no second write")?;
-        let first = write_of::<Cluster>(alloc, first)?;
+        let first = write_of(alloc, first)?;
         let second = copy_of_write(alloc, second)?;
         let order = order_of(&first, &second);
         drop(first);
@@ -77,7 +77,7 @@ impl Outcome for Compared {
 }
 
 fn copy_of_write(alloc: Global, given: &str) -> Result<Write<Cluster>, Refusal> {
-    write_of::<Cluster>(alloc, given)?.try_copy(alloc)
+    write_of(alloc, given)?.try_copy(alloc)
 }
 
 fn order_of(first: &Write<Cluster>, second: &Write<Cluster>) -> &'static str {
@@ -90,8 +90,8 @@ fn order_of(first: &Write<Cluster>, second: &Write<Cluster>) -> &'static str {
     if is_same { order } else { "at odds" }
 }
 
-/// The write of a version that puts a body, or that deletes `a` where `-` stands in the body's place.
-pub(crate) fn write_of<T: ResourceType>(alloc: Global, given: &str) -> Result<Write<T>, Refusal> {
+// The write of a version that puts a body, or that deletes `a` where `-` stands in the body's place.
+fn write_of(alloc: Global, given: &str) -> Result<Write<Cluster>, Refusal> {
     let (version, body) = given.split_once(' ').ok_or(Refusal::BadMessage)?;
     let stamp = Stamp::parse_version(version)?;
     if body == "-" {

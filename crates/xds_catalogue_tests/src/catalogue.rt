@@ -1,11 +1,11 @@
 // What one replica holds, by scripts whose steps are apart by `; `, and what two replicas tell each other.
-use crate::stamp::write_of;
 use std::alloc::Global;
+use std::sync::ArcStr;
 use std::test::Fail;
 use xds_cases::cases::{Outcome, first_word, hold, told, words_of};
 use xds_catalogue::Catalogue;
 use xds_interest::Interest;
-use xds_resource::{Cluster, Refusal, Resource, ResourceType, Route, Write};
+use xds_resource::{Cluster, Refusal, Resource, ResourceType, Route, Stamp, Write};
 
 // The answers to the steps of a script over a new catalogue of clusters, a space before each.
 struct Answers;
@@ -65,6 +65,16 @@ fn answer_to<T: ResourceType>(
         "next" => next_text(alloc, catalogue, rest),
         _ => count_text(alloc, catalogue.changes()),
     }
+}
+
+// The write of a version that puts a body, or that deletes `a` where `-` stands in the body's place.
+fn write_of<T: ResourceType>(alloc: Global, given: &str) -> Result<Write<T>, Refusal> {
+    let (version, body) = given.split_once(' ').ok_or(Refusal::BadMessage)?;
+    let stamp = Stamp::parse_version(version)?;
+    if body == "-" {
+        return Ok(Write::deletion(stamp, ArcStr::from_str(alloc, "a")?));
+    }
+    Ok(Write::put(stamp, Resource::parse(alloc, body)?))
 }
 
 fn count_text(alloc: Global, count: u64) -> Result<String, Refusal> {
