@@ -61,16 +61,38 @@ fn sotw<T: ResourceType>(alloc: Global, lists: &str) -> Result<String, Refusal> 
     told
 }
 
+// Takes a request in place, once it was taken back.
+fn take_in_place<T: ResourceType>(
+    alloc: Global,
+    kept: &mut DeltaNames<T>,
+    subscribe: &[String],
+    unsubscribe: &[String],
+) -> Result<Touched, Refusal> {
+    let wanted = kept.wanted_by(alloc, subscribe, unsubscribe)?;
+    let added = kept.widen(alloc, &wanted)?;
+    kept.take_back(&added);
+    drop(added);
+    drop(kept.widen(alloc, &wanted)?);
+    kept.narrow(&wanted, unsubscribe);
+    drop(wanted);
+    DeltaNames::<T>::touched_by(alloc, subscribe, unsubscribe)
+}
+
 fn delta_step<T: ResourceType>(
     alloc: Global,
     kept: &mut DeltaNames<T>,
+    in_place: bool,
     all: &mut String,
     request: &str,
 ) -> Result<(), Refusal> {
     let (subscribe, unsubscribe) = request.split_once('-').unwrap_or((request, ""));
     let subscribe = words_of(alloc, subscribe)?;
     let unsubscribe = words_of(alloc, unsubscribe)?;
-    let touched = kept.take(alloc, &subscribe, &unsubscribe)?;
+    let touched = if in_place {
+        take_in_place(alloc, kept, &subscribe, &unsubscribe)?
+    } else {
+        kept.take(alloc, &subscribe, &unsubscribe)?
+    };
     let copy = kept.try_copy(alloc)?;
     put(kept, copy);
     Ok(write_step(all, kept.interest(), &touched)?)
@@ -79,19 +101,24 @@ fn delta_step<T: ResourceType>(
 fn delta_steps<T: ResourceType>(
     alloc: Global,
     kept: &mut DeltaNames<T>,
+    in_place: bool,
     requests: &str,
 ) -> Result<String, Refusal> {
     let mut all = String::new(alloc);
     for request in requests.split('|') {
-        delta_step(alloc, kept, &mut all, request)?;
+        delta_step(alloc, kept, in_place, &mut all, request)?;
     }
     all.push_str(if kept.has_begun() { "begun" } else { "" })?;
     Ok(all)
 }
 
-fn delta<T: ResourceType>(alloc: Global, requests: &str) -> Result<String, Refusal> {
+fn delta<T: ResourceType>(
+    alloc: Global,
+    in_place: bool,
+    requests: &str,
+) -> Result<String, Refusal> {
     let mut kept = DeltaNames::<T>::new(alloc);
-    let told = delta_steps(alloc, &mut kept, requests);
+    let told = delta_steps(alloc, &mut kept, in_place, requests);
     drop(kept);
     told
 }
@@ -104,8 +131,10 @@ impl Outcome for Streams {
         let told = match word {
             "sotw cluster" => sotw::<Cluster>(alloc, requests),
             "sotw route" => sotw::<Route>(alloc, requests),
-            "delta cluster" => delta::<Cluster>(alloc, requests),
-            _ => delta::<Route>(alloc, requests),
+            "delta cluster" => delta::<Cluster>(alloc, false, requests),
+            "in place cluster" => delta::<Cluster>(alloc, true, requests),
+            "in place route" => delta::<Route>(alloc, true, requests),
+            _ => delta::<Route>(alloc, false, requests),
         };
         Ok(told?)
     }
@@ -118,6 +147,8 @@ fn streams_leave_interests(rt: HostRuntime) -> Result<(), Fail> {
         "sotw cluster:|* A|A| => +:! +A:A A:! :A begun
 sotw route:|*|B => : *:* B:*B begun
 delta cluster:|A|-*|-A|* => +: +A:A A:! :A +:! begun
-delta route:A-A|*|-A => A:A *A:* *:A begun",
+in place cluster:|A|-*|-A|* => +: +A:A A:! :A +:! begun
+delta route:A-A|*|-A => A:A *A:* *:A begun
+in place route:A-A|*|-A|B A|C-A => A:A *A:* *:A *AB:AB *BC:AC begun",
     )
 }
