@@ -3,7 +3,7 @@ use Rattle.std.proofs.Common.{◌≡◌, ℕ, List, ◌++◌, Bool, true, false,
 use Rattle.std.specs.Prelude.{is_some, if◌then◌else◌}
 use Rattle.std.specs.FinMap as finmap
 use Rattle.std.specs.FinSet as set
-use Rattle.xds_resource.proofs.NameMaps.{get-tabulated, has_text-items, absent_key, in_neither}
+use Rattle.xds_resource.proofs.NameMaps.{get-tabulated, has_text-items, absent_key, in_neither, cond_same}
 use Rattle.xds_interest.specs.Interests.{covers}
 use Rattle.xds_interest.specs.Touches.{touches}
 use Rattle.xds_owed.specs.declared.entry.Entry.{Entry}
@@ -11,7 +11,7 @@ use Rattle.xds_owed.specs.declared.entry.Entry.TheVariants.{Told, Unsure}
 use Rattle.xds_owed.specs.declared.entry.Due.{Due}
 use Rattle.xds_beliefs.specs.Believing.{was_touched, believed_accepted, believed_touched, believed_taken}
 use Rattle.xds_beliefs.specs.BeliefLaws.{AcceptedByName, TakenByName, UntouchedKeepsBelief, TouchedIsNotTold}
-use Rattle.xds_owed.proofs.Choosing.{cond_same, and-false}
+use Rattle.xds_interest.proofs.Choices.{and-false}
 
 accepted_absent : (whole touched : Bool) (o : Option Due) (e : Option Entry) → o ≡ None → e ≡ None → believed_accepted whole touched o e ≡ None
 accepted_absent whole touched o e unsaid unheld = (λ i. believed_accepted whole touched (unsaid i) (unheld i)) ∙ cond_same (whole && not touched) None

@@ -6,7 +6,7 @@ use Rattle.std.specs.FinMap as finmap
 use Rattle.std.specs.FinSet as set
 use Rattle.xds_resource.specs.Writes.{text_cmp}
 use Rattle.xds_resource.specs.Names.{put_all, put_each}
-use Rattle.xds_resource.proofs.NameMaps.{has_text, same_names, get-tabulated, in_neither, absent_key}
+use Rattle.xds_resource.proofs.NameMaps.{has_text, same_names, get-tabulated, in_neither, absent_key, cond_same}
 use Rattle.xds_resource.proofs.MadeMaps.{get-put_all, get-put_each}
 use Rattle.xds_interest.specs.Interests.{Selection, covers}
 use Rattle.xds_interest.specs.Touches.{Touch, touches}
@@ -18,9 +18,8 @@ use Rattle.xds_owed.specs.Owed.{Beliefs}
 use Rattle.xds_beliefs.specs.Believing.{Sent, was_touched, believed_accepted, beliefs_accepted, believed_touched, beliefs_taken, beliefs_resumed}
 use Rattle.xds_beliefs.specs.Parts.{told_unless_touched, kept_beside, left_by, made_unsure, told_as}
 use Rattle.xds_beliefs.proofs.ByName.{accepted_by_name, taken_by_name}
-use Rattle.xds_owed.proofs.Choosing.{cond_same}
 
-or_none : {X : Type 0} (o : Option X) → option_or o None ≡ o
+pub or_none : {X : Type 0} (o : Option X) → option_or o None ≡ o
 or_none None = refl
 or_none (Some x) = refl
 

@@ -7,13 +7,12 @@ use Rattle.std.specs.Option.{option_or}
 use Rattle.std.specs.List.{filter}
 use Rattle.std.specs.FinMap as finmap
 use Rattle.xds_resource.specs.Names.{put_each}
-use Rattle.xds_resource.proofs.NameMaps.{has_text, same_names, get-insert, get-remove, bytes_eq_tells, bytes_eq_swap, bytes_eq_same, has_text-keys}
+use Rattle.xds_resource.proofs.NameMaps.{has_text, same_names, get-insert, get-remove, bytes_eq_tells, bytes_eq_swap, bytes_eq_same, has_text-keys, cond_same}
 use Rattle.xds_resource.proofs.MadeMaps.{get-put_each}
 use Rattle.xds_owed.specs.declared.entry.Entry.{Entry}
 use Rattle.xds_owed.specs.declared.entry.Entry.TheVariants.{Unsure}
 use Rattle.xds_owed.specs.Owed.{Beliefs}
 use Rattle.xds_beliefs.specs.Changes.{Changes, believed_now, stored, stored_all, removed_all, is_new, new_names}
-use Rattle.xds_owed.proofs.Choosing.{cond_same}
 
 -- ---- removals
 
@@ -38,7 +37,7 @@ removed_added b ns n e listed =
     same_names _ _ (λ q. get-removed_all (finmap.insert b n e) ns q ∙ ap (cond (has_text ns q) None) (get-insert b n e q)
     ∙ added_step (has_text ns q) (bytes_eq n q) (Some e) (finmap.get b q) (λ same. sym (ap (has_text ns) (bytes_eq_tells n q same)) ∙ listed) ∙ sym (get-removed_all b ns q))
 
-or_true : (b : Bool) → (b || true) ≡ true
+pub or_true : (b : Bool) → (b || true) ≡ true
 or_true true = refl
 or_true false = refl
 

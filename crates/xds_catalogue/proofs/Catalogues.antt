@@ -8,24 +8,18 @@ use Rattle.std.specs.FinMap as finmap
 use Rattle.std.specs.FinMap.Entries.{below_all, is_sorted}
 use Rattle.std.proofs.lemmas.Map.Text.{is_eq-slice_cmp}
 use Rattle.std.proofs.lemmas.Cmp.{nat_list_cmp_total}
-use Rattle.std.proofs.lemmas.Slice.Eq.{bytes_eq-Decides}
 use Rattle.xds_resource.specs.Writes.{StampedWrite, text_cmp}
 use Rattle.xds_resource.specs.Best.{greater, best, IsGreatest}
 use Rattle.xds_resource.proofs.BestWrites.{best_is_greatest, best_of_both}
 use Rattle.xds_resource.proofs.WriteTies.{text_cmp-IsAntisymmetric}
 use Rattle.xds_catalogue.specs.Holdings.{Entries, catalogue_of, IsCatalogue}
-
-bytes_eq_same : (x : List ℕ) → bytes_eq x x ≡ true
-bytes_eq_same x = (bytes_eq-Decides x x).1 refl
-
-tells : (x y : List ℕ) → bytes_eq x y ≡ true → x ≡ y
-tells x y e = (bytes_eq-Decides x y).0 e
+use Rattle.xds_resource.proofs.NameMaps.{bytes_eq_tells, bytes_eq_same}
 
 bytes_eq_swap_at : (x y : List ℕ) (b c : Bool) → bytes_eq x y ≡ b → bytes_eq y x ≡ c → b ≡ c
 bytes_eq_swap_at x y true true e f = refl
 bytes_eq_swap_at x y false false e f = refl
-bytes_eq_swap_at x y true false e f = let s = sym (bytes_eq_same x) ∙ ap (λ z. bytes_eq z x) (tells x y e) in cc
-bytes_eq_swap_at x y false true e f = let s = sym (bytes_eq_same y) ∙ ap (λ z. bytes_eq z y) (tells y x f) in cc
+bytes_eq_swap_at x y true false e f = let s = sym (bytes_eq_same x) ∙ ap (λ z. bytes_eq z x) (bytes_eq_tells x y e) in cc
+bytes_eq_swap_at x y false true e f = let s = sym (bytes_eq_same y) ∙ ap (λ z. bytes_eq z y) (bytes_eq_tells y x f) in cc
 
 -- names tie in their order where they are the same bytes
 pub tie-bytes_eq : (q x : List ℕ) → eq_by_cmp text_cmp q x ≡ bytes_eq x q
@@ -58,7 +52,7 @@ find-beside_none h (w ∷ ws) q e =
 
 found_some : (h : List ℕ → Option StampedWrite) (q : List ℕ) (w v : StampedWrite) (r o : Option StampedWrite) (b : Bool) → bytes_eq w.name q ≡ b → h q ≡ Some v → (is_some o ≡ true → r ≡ Some v)
     → is_some (greater (if b then Some w else None) o) ≡ true → cond b (Some (unwrap_or (h w.name) w)) r ≡ Some v
-found_some h q w v r o true is has rest e = ap (λ n. Some (unwrap_or (h n) w)) (tells w.name q is) ∙ ap (λ o. Some (unwrap_or o w)) has
+found_some h q w v r o true is has rest e = ap (λ n. Some (unwrap_or (h n) w)) (bytes_eq_tells w.name q is) ∙ ap (λ o. Some (unwrap_or o w)) has
 found_some h q w v r o false is has rest e = rest e
 
 find-beside_some : (h : List ℕ → Option StampedWrite) (ws : List StampedWrite) (q : List ℕ) (v : StampedWrite) → h q ≡ Some v → is_some (best ws q) ≡ true
@@ -120,7 +114,7 @@ rest_named_at e q r false none h = h
 -- what is below each of the entries is not found there
 pub none_tied : (e : List ℕ × StampedWrite) (es : List (List ℕ × StampedWrite)) (q : List ℕ) → T (below_all text_cmp e.0 es) → eq_by_cmp text_cmp q e.0 ≡ true → finmap.find text_cmp q es ≡ None
 none_tied e es q below tie =
-    let same : e.0 ≡ q = tells e.0 q (sym (tie-bytes_eq q e.0) ∙ tie) in
+    let same : e.0 ≡ q = bytes_eq_tells e.0 q (sym (tie-bytes_eq q e.0) ∙ tie) in
     subst (λ k. finmap.find text_cmp k es ≡ None) same (find_below e.0 es below)
 
 best_at_head : (w : StampedWrite) (r : Option StampedWrite) (b : Bool) → (b ≡ true → r ≡ None) → greater (if b then Some w else None) r ≡ cond b (Some w) r

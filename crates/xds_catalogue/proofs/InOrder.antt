@@ -22,14 +22,7 @@ use Rattle.xds_catalogue.specs.Holdings.{Entries, IsCatalogue}
 use Rattle.xds_catalogue.specs.Content.{is_live, is_shown, if_live, live_at, content}
 use Rattle.xds_catalogue.specs.Tables.{by_text}
 use Rattle.xds_catalogue.proofs.Catalogues.{find_below, none_tied}
-
-both_true : (a b : Bool) → a ≡ true → T b → T (a && b)
-both_true true b e h = h
-both_true false b e h = absurd cc
-
-both_hold : (a b : Bool) → T a → T b → T (a && b)
-both_hold true b h k = k
-both_hold false b h k = absurd h
+use Rattle.xds_resource.proofs.NameMaps.{both_true, both_hold}
 
 first_holds : (a b : Bool) → T (a && b) → T a
 first_holds true b h = tt

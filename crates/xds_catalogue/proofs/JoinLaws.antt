@@ -1,16 +1,15 @@
 -- The laws of joins, name by name.
-use Rattle.std.proofs.Common.{◌≡◌, ◌≢◌, ◌⊎◌, inl, inr, ℕ, ◌+◌, ◌<◌, max, zero, suc, List, [], ◌∷◌, ◌++◌, map, length, get_or, Bool, true, false, Option, Some, None, refl, sym, ap, subst, ◌∙◌, arith}
+use Rattle.std.proofs.Common.{◌≡◌, ◌≢◌, ◌⊎◌, inl, inr, ℕ, ◌+◌, ◌<◌, max, zero, suc, List, [], ◌∷◌, ◌++◌, map, length, get_or, Bool, false, Option, Some, None, refl, sym, ap, subst, ◌∙◌, arith}
 use Rattle.std.specs.Prelude.{Contains, IfSome, IsSomeAnd, MatchOption, if◌then◌else◌}
 use Rattle.std.specs.List.{fold}
-use Rattle.std.specs.declared.cmp.Ordering.{Ordering}
-use Rattle.std.specs.declared.cmp.Ordering.TheVariants.{Less, Equal, Greater}
+use Rattle.std.specs.declared.cmp.Ordering.TheVariants.{Greater}
 use Rattle.std.specs.Ordering.{is_gt}
 use Rattle.std.specs.FinMap as finmap
 use Rattle.std.proofs.lemmas.Bool.{cases_lt}
 use Rattle.xds_resource.specs.Writes.{StampedWrite, write_cmp}
 use Rattle.xds_resource.specs.WriteOrder.{write_cmp_total}
 use Rattle.xds_resource.specs.Best.{greater, best, IsGreatest}
-use Rattle.xds_resource.proofs.BestWrites.{greater-assoc, greater-comm, greater-idem, best_of_both, best_of_same_writes, best_is_greatest, left_below_max, max_below}
+use Rattle.xds_resource.proofs.BestWrites.{greater-assoc, greater-comm, greater-idem, best_of_both, best_of_same_writes, best_is_greatest, left_below_max, max_below, not_Greater, not_gt}
 use Rattle.xds_resource.proofs.WriteTies.{write_cmp-same}
 use Rattle.xds_catalogue.specs.Holdings.{Entries, IsCatalogue}
 use Rattle.xds_catalogue.specs.Changes.{surpasses, is_news, changes_after}
@@ -19,6 +18,7 @@ use Rattle.xds_catalogue.specs.Laws.{IsMadeOfItsWrites, OrderDoesNotMatter, Join
 use Rattle.xds_catalogue.proofs.Catalogues.{get-catalogue_of, best-values, best-entries_of, same_entries, same_catalogue}
 use Rattle.xds_catalogue.proofs.News.{best-push_old}
 use Rattle.xds_catalogue.proofs.Counters.{counter-le}
+use Rattle.xds_catalogue.proofs.Numbering.{neither}
 
 pub made_of_its_writes : IsMadeOfItsWrites
 made_of_its_writes m named = same_entries _ m (λ q. get-catalogue_of (finmap.values m) q ∙ best-values m named q)
@@ -52,18 +52,10 @@ join_is_idempotent m named = same_entries _ _ (λ q. get-join m m q ∙ greater-
 abbrev AtMost : Option StampedWrite → Option StampedWrite → Type 0
 AtMost a b = IfSome a (λ v. IsSomeAnd b (λ w. write_cmp v w ≢ Greater))
 
-not_above : (o : Ordering) → is_gt o ≡ false → o ≢ Greater
-not_above o e is = cc
-
-no_greater : (o : Ordering) → o ≢ Greater → is_gt o ≡ false
-no_greater Less n = refl
-no_greater Equal n = refl
-no_greater Greater n = absurd (n refl)
-
 left_at_most : (a b : Option StampedWrite) → AtMost a (greater a b)
 left_at_most None b = tt
-left_at_most (Some v) None = not_above (write_cmp v v) (ap is_gt (write_cmp-same v))
-left_at_most (Some v) (Some w) = not_above _ (left_below_max write_cmp_total v w)
+left_at_most (Some v) None = not_Greater (write_cmp v v) (ap is_gt (write_cmp-same v))
+left_at_most (Some v) (Some w) = not_Greater _ (left_below_max write_cmp_total v w)
 
 right_at_most : (a b : Option StampedWrite) → AtMost b (greater a b)
 right_at_most a b = subst (AtMost b) (greater-comm b a) (left_at_most b a)
@@ -72,7 +64,7 @@ least_at_most : (a b c : Option StampedWrite) → AtMost a c → AtMost b c → 
 least_at_most None b c h k = k
 least_at_most (Some v) None c h k = h
 least_at_most (Some v) (Some w) None h k = absurd h
-least_at_most (Some v) (Some w) (Some u) h k = not_above _ (max_below write_cmp_total v w u (no_greater _ h) (no_greater _ k))
+least_at_most (Some v) (Some w) (Some u) h k = not_Greater _ (max_below write_cmp_total v w u (not_gt _ h) (not_gt _ k))
 
 join_of_entries : (m n : Entries) → IsCatalogue m → IsCatalogue n → (q : List ℕ) → greater (finmap.get m q) (finmap.get n q) ≡ finmap.get (join m n) q
 join_of_entries m n named_m named_n q = (λ i. greater (sym (best-values m named_m q) i) (sym (best-values n named_n q) i)) ∙ sym (get-join m n q)
@@ -91,7 +83,7 @@ join_is_least l m n named_m named_n above_m above_n = λ q.
 no_news_at : (before : List StampedWrite) (w : StampedWrite) (o : Option StampedWrite) → Contains before w → MatchOption o ((v : StampedWrite) → Contains before v → v.name ≢ w.name) (IsGreatest before w.name)
     → surpasses w o ≡ false
 no_news_at before w None listed none = absurd (none w listed refl)
-no_news_at before w (Some h) listed is = no_greater (write_cmp w h) (is.unsurpassed w listed refl)
+no_news_at before w (Some h) listed is = not_gt (write_cmp w h) (is.unsurpassed w listed refl)
 
 none_counted : (b : Bool) (n : ℕ) → b ≡ false → n ≡ 0 → (if b then 1 else 0) + n ≡ 0
 none_counted b n e z = λ i. (if e i then 1 else 0) + z i
@@ -110,10 +102,6 @@ repeats_change_nothing before (w ∷ ws) came =
 
     still : (xs : List StampedWrite) (w v : StampedWrite) → Contains xs v → Contains (xs ++ w ∷ []) v
     still xs w v (i, within, is) = let at = still_at xs (w ∷ []) v i within is in (i, at.0, at.1)
-
-neither : (b : Bool) (n : ℕ) → (if b then 1 else 0) + n ≡ 0 → (b ≡ false) × (n ≡ 0)
-neither true n e = absurd (omega arith)
-neither false n e = (refl, omega arith)
 
 unchanged_best : (before ws : List StampedWrite) → changes_after before ws ≡ 0 → (q : List ℕ) → best (before ++ ws) q ≡ best before q
 unchanged_best before [] none q = ap (λ l. best l q) (nothing_more before)

@@ -4,7 +4,7 @@ use Rattle.std.specs.Prelude.{◌↔◌}
 use Rattle.std.specs.Option.{option_map}
 use Rattle.xds_catalogue.specs.Tables.{NumberedWrite, PutAside, IsAmong, former_number, former_numbers}
 
-some_same : (m n : ℕ) → Some m ≡ Some n → m ≡ n
+pub some_same : (m n : ℕ) → Some m ≡ Some n → m ≡ n
 some_same m n e = cc
 
 -- of one change, that had a number before or none

@@ -10,12 +10,12 @@ use Rattle.std.proofs.lemmas.Cmp.{nat_list_cmp_total}
 use Rattle.xds_resource.specs.Writes.{text_cmp}
 use Rattle.xds_resource.proofs.WriteTies.{text_cmp-IsAntisymmetric}
 
-tie_told : (r : Ordering) → is_eq r ≡ true → r ≡ Equal
+pub tie_told : (r : Ordering) → is_eq r ≡ true → r ≡ Equal
 tie_told Less e = absurd cc
 tie_told Equal e = refl
 tie_told Greater e = absurd cc
 
-twice : {A : Type 0} (b : Bool) (x y z : A) → cond b x (cond b y z) ≡ cond b x z
+pub twice : {A : Type 0} (b : Bool) (x y z : A) → cond b x (cond b y z) ≡ cond b x z
 twice true x y z = refl
 twice false x y z = refl
 

@@ -16,16 +16,14 @@ use Rattle.xds_catalogue.specs.Laws.{EntriesAreNumbered, NoChangeKeepsNumbers, N
 use Rattle.xds_catalogue.proofs.Joining.{joined_again}
 use Rattle.xds_catalogue.proofs.Lookups.{get-inserted, from_own_entries}
 use Rattle.xds_catalogue.proofs.OneWrite.{changed, joined-news, joined-old, joined-none}
+use Rattle.xds_catalogue.proofs.Leftovers.{some_same}
 
-some_from : {X : Type 0} (o : Option X) (x : X) (P : X → Type 0) → o ≡ Some x → IfSome o P → P x
+pub some_from : {X : Type 0} (o : Option X) (x : X) (P : X → Type 0) → o ≡ Some x → IfSome o P → P x
 some_from o x P is h = subst (λ r. IfSome r P) is h
 
-if_some : {X : Type 0} (o : Option X) (P : X → Type 0) → ((x : X) → o ≡ Some x → P x) → IfSome o P
+pub if_some : {X : Type 0} (o : Option X) (P : X → Type 0) → ((x : X) → o ≡ Some x → P x) → IfSome o P
 if_some None P h = tt
 if_some (Some x) P h = h x refl
-
-same_number : (m n : ℕ) → Some m ≡ Some n → m ≡ n
-same_number m n e = cc
 
 named_changed : (h : Holdings) (w : StampedWrite) → IsCatalogue h.entries → IsCatalogue (changed h w).entries
 named_changed h w named q = elim (get-inserted nat_list_cmp_total text_cmp-IsAntisymmetric h.entries w.name w q) [
@@ -47,7 +45,7 @@ each_changed h w numbered q = elim (get-inserted nat_list_cmp_total text_cmp-IsA
 
 counted_changed : (h : Holdings) (w : StampedWrite) → IsNumbered h → (q : List ℕ) (k : ℕ) → finmap.get (changed h w).latest q ≡ Some k → (1 ≤ k) × (k ≤ h.changes + 1)
 counted_changed h w numbered q k is = elim (get-inserted nat_list_cmp_total text_cmp-IsAntisymmetric h.latest w.name (h.changes + 1) q) [
-  | inl (here, has) ↦ let same : h.changes + 1 ≡ k = same_number _ _ (sym has ∙ is) in (omega arith, omega arith)
+  | inl (here, has) ↦ let same : h.changes + 1 ≡ k = some_same _ _ (sym has ∙ is) in (omega arith, omega arith)
   | inr (other, has) ↦
       let old = some_from _ k (λ k. (1 ≤ k) × (k ≤ h.changes)) (sym has ∙ is) (numbered.counted q) in
       let to = old.1 in
@@ -57,7 +55,7 @@ counted_changed h w numbered q k is = elim (get-inserted nat_list_cmp_total text
 -- an entry has the new number, or it keeps its own, which is no greater than the changes before
 new_or_old : (h : Holdings) (w : StampedWrite) → IsNumbered h → (q : List ℕ) (k : ℕ) → finmap.get (changed h w).latest q ≡ Some k → ((w.name ≡ q) × (k ≡ h.changes + 1)) ⊎ ((k ≤ h.changes) × (finmap.get h.latest q ≡ Some k))
 new_or_old h w numbered q k is = elim (get-inserted nat_list_cmp_total text_cmp-IsAntisymmetric h.latest w.name (h.changes + 1) q) [
-  | inl (here, has) ↦ inl (here, same_number _ _ (sym is ∙ has))
+  | inl (here, has) ↦ inl (here, some_same _ _ (sym is ∙ has))
   | inr (other, has) ↦ inr ((some_from _ k (λ k. (1 ≤ k) × (k ≤ h.changes)) (sym has ∙ is) (numbered.counted q)).1, sym has ∙ is)
 ]
 
@@ -105,7 +103,7 @@ nothing_numbered = record {
     none_there : (p q : List ℕ) (k : ℕ) → None ≡ Some k → p ≡ q
     none_there p q k e = absurd cc
 
-neither : (b : Bool) (n : ℕ) → (if b then 1 else 0) + n ≡ 0 → (b ≡ false) × (n ≡ 0)
+pub neither : (b : Bool) (n : ℕ) → (if b then 1 else 0) + n ≡ 0 → (b ≡ false) × (n ≡ 0)
 neither true n e = absurd (omega arith)
 neither false n e = (refl, omega arith)
 

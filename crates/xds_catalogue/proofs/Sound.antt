@@ -17,13 +17,7 @@ use Rattle.xds_catalogue.specs.Tables.{TwoMaps, IsAmong, IsSoundBut, IsSound, no
 use Rattle.xds_catalogue.proofs.Counters.{greatest_counter-held}
 use Rattle.xds_catalogue.proofs.Lookups.{get-inserted, get-removed}
 use Rattle.xds_catalogue.proofs.OneWrite.{is_news-held, entries-news}
-
-pub some_from : {X : Type 0} (o : Option X) (x : X) (P : X → Type 0) → o ≡ Some x → IfSome o P → P x
-some_from o x P is h = subst (λ r. IfSome r P) is h
-
-pub if_some : {X : Type 0} (o : Option X) (P : X → Type 0) → ((x : X) → o ≡ Some x → P x) → IfSome o P
-if_some None P h = tt
-if_some (Some x) P h = h x refl
+use Rattle.xds_catalogue.proofs.Numbering.{if_some, some_from}
 
 -- what a number of the map says
 abbrev pub Listed : List ℕ → TwoMaps → ℕ → List ℕ → Type 0

@@ -1,7 +1,7 @@
 -- Maps from numbers, and the ordered maps that stand for them.
-use Rattle.std.proofs.Common.{◌≡◌, ℕ, List, [], ◌∷◌, map, Bool, true, false, cond, Option, Some, None, BTreeMap, Ordering, refl, sym, ap, ◌∙◌}
-use Rattle.std.specs.Prelude.{T, ◌&&◌, is_some}
-use Rattle.std.specs.declared.cmp.Ordering.TheVariants.{Less, Equal, Greater}
+use Rattle.std.proofs.Common.{◌≡◌, ℕ, List, [], ◌∷◌, map, Bool, true, false, cond, Option, Some, None, BTreeMap, refl, sym, ap, ◌∙◌}
+use Rattle.std.specs.Prelude.{T, is_some}
+use Rattle.std.specs.declared.cmp.Ordering.TheVariants.{Less}
 use Rattle.std.specs.Option.{option_map, option_or}
 use Rattle.std.specs.Ordering.{nat_cmp, is_lt, is_eq}
 use Rattle.std.specs.Cmp.{nat_cmp_total}
@@ -11,10 +11,12 @@ use Rattle.std.specs.BTreeMap as tree
 use Rattle.std.specs.FinMap as finmap
 use Rattle.std.specs.FinMap.{nat_cmp-IsAntisymmetric}
 use Rattle.std.specs.FinMap.Entries.{below_all, is_sorted, same_entries}
-use Rattle.xds_resource.proofs.MadeMaps.{holds_first, holds_second}
+use Rattle.xds_resource.proofs.MadeMaps.{holds_first, holds_second, less_is_no_tie}
 use Rattle.xds_catalogue.specs.Tables.{by_number}
-use Rattle.xds_catalogue.proofs.Lookups.{remove-none}
+use Rattle.xds_catalogue.proofs.Lookups.{remove-none, tie_told}
 use Rattle.xds_catalogue.proofs.MapViews.{get-by_number, by_number-insert, by_number-remove}
+use Rattle.xds_resource.proofs.NameMaps.{none_by_is_some, both_true, both_hold}
+use Rattle.xds_beliefs.proofs.Made.{or_none}
 
 -- a map as its entries show it
 abbrev pub numbered : {X : Type 0} → BTreeMap ℕ X → finmap.FinMap nat_cmp X
@@ -33,13 +35,9 @@ numbered-insert m n k v updates = by_number-insert (λ v. v) m n k v updates
 pub numbered-remove : {X : Type 0} (m n : BTreeMap ℕ X) (k : ℕ) → tree.Updates nat_cmp m n k None → numbered n ≡ finmap.remove (numbered m) k
 numbered-remove m n k updates = by_number-remove (λ v. v) m n k updates
 
-absent : {X : Type 0} (o : Option X) → is_some o ≡ false → o ≡ None
-absent None e = refl
-absent (Some x) e = absurd cc
-
 -- a number that isn't there
 pub remove_absent : {X : Type 0} (m : finmap.FinMap nat_cmp X) (k : ℕ) → is_some (finmap.get m k) ≡ false → finmap.remove m k ≡ m
-remove_absent m k e = remove-none nat_cmp_total nat_cmp-IsAntisymmetric m k (absent (finmap.get m k) e)
+remove_absent m k e = remove-none nat_cmp_total nat_cmp-IsAntisymmetric m k (none_by_is_some (finmap.get m k) e)
 
 -- ---- a map that is made again
 
@@ -49,14 +47,6 @@ plain es = map (λ e. (e.0, e.1)) es
 plain_is : {X : Type 0} (es : List (ℕ × X)) → plain es ≡ es
 plain_is [] = refl
 plain_is (e ∷ es) = λ i. e ∷ plain_is es i
-
-both_hold : (a b : Bool) → T a → T b → T (a && b)
-both_hold true b h k = k
-both_hold false b h k = h
-
-both_true : (a b : Bool) → a ≡ true → T b → T (a && b)
-both_true true b e h = h
-both_true false b e h = absurd cc
 
 below_entries : {X : Type 0} (k : ℕ) (es : List (ℕ × X)) → AllByRecursion (λ y. nat_cmp k y ≡ Less) (map (λ e. e.0) es) → T (below_all nat_cmp k es)
 below_entries k [] h = tt
@@ -77,19 +67,9 @@ abbrev pub put_entries : {X : Type 0} → finmap.FinMap nat_cmp X → List (ℕ 
 put_entries m [] = m
 put_entries m (e ∷ es) = put_entries (finmap.insert m e.0 e.1) es
 
-equal_told : (o : Ordering) → is_eq o ≡ true → o ≡ Equal
-equal_told Less e = absurd cc
-equal_told Equal e = refl
-equal_told Greater e = absurd cc
-
-less_is_no_tie : (o : Ordering) → T (is_lt o) → is_eq o ≡ false
-less_is_no_tie Less h = refl
-less_is_no_tie Equal h = absurd h
-less_is_no_tie Greater h = absurd h
-
 -- a number that ties with one below another doesn't tie with the other
 apart : (k q n : ℕ) → T (is_lt (nat_cmp k n)) → is_eq (nat_cmp q k) ≡ true → is_eq (nat_cmp q n) ≡ false
-apart k q n below tie = ap (λ x. is_eq (nat_cmp x n)) (nat_cmp-IsAntisymmetric q k (equal_told (nat_cmp q k) tie)) ∙ less_is_no_tie (nat_cmp k n) below
+apart k q n below tie = ap (λ x. is_eq (nat_cmp x n)) (nat_cmp-IsAntisymmetric q k (tie_told (nat_cmp q k) tie)) ∙ less_is_no_tie (nat_cmp k n) below
 
 find_above : {X : Type 0} (k q : ℕ) (es : List (ℕ × X)) → T (below_all nat_cmp k es) → is_eq (nat_cmp q k) ≡ true → finmap.find nat_cmp q es ≡ None
 find_above k q [] below tie = refl
@@ -107,10 +87,6 @@ get-put_entries m (e ∷ es) q sorted =
     get-put_entries (finmap.insert m e.0 e.1) es q (holds_second (below_all nat_cmp e.0 es) (is_sorted nat_cmp es) sorted)
     ∙ ap (option_or (finmap.find nat_cmp q es)) (finmap.get-insert nat_cmp_total m e.0 e.1 q)
     ∙ chosen (is_eq (nat_cmp q e.0)) e.1 (finmap.find nat_cmp q es) (finmap.get m q) (find_above e.0 q es (holds_first (below_all nat_cmp e.0 es) (is_sorted nat_cmp es) sorted))
-
-or_none : {X : Type 0} (o : Option X) → option_or o None ≡ o
-or_none None = refl
-or_none (Some x) = refl
 
 -- a map whose entries were put into an empty one
 pub made_again : {X : Type 0} (m : finmap.FinMap nat_cmp X) → put_entries finmap.empty (finmap.entries m) ≡ m

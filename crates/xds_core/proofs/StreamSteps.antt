@@ -1,5 +1,5 @@
 -- A step of one stream, which is taken out and put back.
-use Rattle.std.proofs.Common.{◌≡◌, ℕ, Bool, true, false, cond, Some, Result, Ok, Err, refl, sym, ap, subst, ◌∙◌}
+use Rattle.std.proofs.Common.{◌≡◌, ℕ, cond, Some, Result, Ok, Err, refl, sym, ap, subst, ◌∙◌}
 use Rattle.std.specs.Prelude.{IsOk, IsSome, IfErr, OnErr}
 use Rattle.std.specs.Option.{option_map_or}
 use Rattle.std.specs.Ordering.{nat_cmp, eq_by_cmp}
@@ -9,7 +9,7 @@ use Rattle.std.specs.FinMap.{FinMap, nat_cmp-IsAntisymmetric}
 use Rattle.xds_resource.specs.declared.refusal.Refusal.{Refusal}
 use Rattle.xds_resource.specs.declared.refusal.Refusal.TheVariants.{OutOfMemory, NoStream}
 use Rattle.xds_resource.specs.Refusals.{Gives}
-use Rattle.xds_catalogue.proofs.Lookups.{insert-insert}
+use Rattle.xds_catalogue.proofs.Lookups.{insert-insert, twice}
 use Rattle.xds_store.specs.Stores.{if_done}
 use Rattle.xds_streams.specs.Streams.{Stream}
 use Rattle.xds_core.specs.Events.{Reply}
@@ -20,10 +20,6 @@ use Rattle.xds_core.specs.Steps.{Core, with_stream, stream_step}
 -- something is there after an insertion
 pub there : {X : Type 0} (m : FinMap nat_cmp X) (n : ℕ) (x : X) → IsSome (finmap.get (finmap.insert m n x) n)
 there m n x = subst IsSome (sym (finmap.get-insert nat_cmp_total m n x n ∙ ap (λ b. cond b (Some x) (finmap.get m n)) ((eq_by_cmp_equiv nat_cmp_total).refl n))) refl
-
-twice : {A : Type 0} (b : Bool) (x y z : A) → cond b x (cond b y z) ≡ cond b x z
-twice true x y z = refl
-twice false x y z = refl
 
 -- what is put at a number twice is put there once
 pub put_twice : {X : Type 0} (m : FinMap nat_cmp X) (n : ℕ) (x y : X) → finmap.insert (finmap.insert m n x) n y ≡ finmap.insert m n y

@@ -1,15 +1,10 @@
 -- A response's resources, looked at one by one.
-use Rattle.std.proofs.Common.{◌≡◌, ℕ, ◌+◌, ◌<◌, ◌≤◌, List, ◌∷◌, map, drop, length, get_or, false, Option, Some, None, refl, sym, ap, ◌∙◌}
-use Rattle.std.specs.Prelude.{is_some}
+use Rattle.std.proofs.Common.{◌≡◌, ℕ, ◌+◌, ◌<◌, ◌≤◌, List, ◌∷◌, map, drop, length, get_or, Option, Some, None, sym, ap, ◌∙◌}
 use Rattle.std.specs.Option.{option_or}
 use Rattle.std.proofs.lemmas.List.{drop_more, drop_all}
 use Rattle.xds_resource.specs.declared.types.TypeName.{TypeName}
 use Rattle.xds_shelf.specs.Shelves.{Wants, Cache}
 use Rattle.xds_shelf.specs.Faults.{Test, Stated, fault_of, and_stated, first_fault, stated_by}
-
-pub none_by_false : {X : Type 0} (o : Option X) → is_some o ≡ false → o ≡ None
-none_by_false None e = refl
-none_by_false (Some x) e = absurd cc
 
 -- what is left begins with the next one
 next_one : {A : Type 0} (xs : List A) (i : ℕ) (x : A) → i < length xs → x ≡ get_or xs i x → drop i xs ≡ x ∷ drop (i + 1) xs

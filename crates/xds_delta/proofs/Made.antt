@@ -25,7 +25,7 @@ use Rattle.xds_delta.specs.Polls.{is_statement, is_removal, resource_of, resourc
 abbrev with_more : DraftedDelta → List DraftedResource → List (List ℕ) → DraftedDelta
 with_more d resources names = record d { resources = d.resources ++ resources; removed_resources = d.removed_resources ++ names }
 
-abbrev stated_in : Entries → List (List ℕ × Due) → List DraftedResource
+abbrev pub stated_in : Entries → List (List ℕ × Due) → List DraftedResource
 stated_in m es = filter_map (resource_at m) (map (λ e. e.0) (filter (λ e. is_statement e.1) es))
 
 abbrev removed_in : List (List ℕ × Due) → List (List ℕ)

@@ -2,7 +2,7 @@
 use Rattle.std.proofs.Common.{◌≡◌, ℕ, List, [], ◌∷◌, map, Bool, true, false, cond, Option, Some, None, refl, sym, ap, ◌∙◌}
 use Rattle.std.specs.Prelude.{bytes_eq, is_some, option_map, unwrap_or, if◌then◌else◌, IfSome}
 use Rattle.std.specs.Option.{option_and_then, option_map_or}
-use Rattle.std.specs.List.{filter, filter_map, cons_option}
+use Rattle.std.specs.List.{filter_map, cons_option}
 use Rattle.std.specs.FinMap as finmap
 use Rattle.xds_resource.specs.declared.types.TypeName.{TypeName}
 use Rattle.xds_resource.specs.Writes.{StampedWrite, version_of}
@@ -20,7 +20,8 @@ use Rattle.xds_owed.specs.Owed.{Beliefs, live_version, present, owed, owed_of}
 use Rattle.xds_owed.specs.Offers.{Offer, offer, stated_version}
 use Rattle.xds_owed.proofs.ByName.{offer_says_it}
 use Rattle.xds_delta.specs.Laws.{ResponseStatesTheOffer}
-use Rattle.xds_delta.specs.Polls.{is_statement, resource_of, resource_at}
+use Rattle.xds_delta.specs.Polls.{resource_of, resource_at}
+use Rattle.xds_delta.proofs.Made.{stated_in}
 
 -- a resource's name and version
 abbrev named : DraftedResource → List ℕ × List ℕ
@@ -28,12 +29,12 @@ named r = (r.name, r.version)
 
 -- ---- what is stated is present
 
-told_other : (same : Bool) (u version : List ℕ) → option_and_then stated_version (if same then None else Some (Stated u)) ≡ Some version → Some u ≡ Some version
+pub told_other : (same : Bool) (u version : List ℕ) → option_and_then stated_version (if same then None else Some (Stated u)) ≡ Some version → Some u ≡ Some version
 told_other true u version is = absurd cc
 told_other false u version is = is
 
 -- where a statement is owed, its version is present
-present_if_stated : (e : Option Entry) (p : Option (List ℕ)) (version : List ℕ) → option_and_then stated_version (owed e p) ≡ Some version → p ≡ Some version
+pub present_if_stated : (e : Option Entry) (p : Option (List ℕ)) (version : List ℕ) → option_and_then stated_version (owed e p) ≡ Some version → p ≡ Some version
 present_if_stated None None version is = absurd cc
 present_if_stated None (Some u) version is = is
 present_if_stated (Some (Told told)) None version is = absurd cc
@@ -41,7 +42,7 @@ present_if_stated (Some (Told told)) (Some u) version is = told_other (bytes_eq 
 present_if_stated (Some Unsure) None version is = absurd cc
 present_if_stated (Some Unsure) (Some u) version is = is
 
-kept_at : (tells : Bool) (o : Option Due) (version : List ℕ) → cond tells o None ≡ Some (Stated version) → option_and_then stated_version o ≡ Some version
+pub kept_at : (tells : Bool) (o : Option Due) (version : List ℕ) → cond tells o None ≡ Some (Stated version) → option_and_then stated_version o ≡ Some version
 kept_at true o version is = ap (option_and_then stated_version) is
 kept_at false o version is = absurd cc
 
@@ -73,9 +74,6 @@ EachStated m o = (q version : List ℕ) → finmap.get o q ≡ Some (Stated vers
 with_first : (r : Option DraftedResource) (p : List ℕ × List ℕ) (rest : List DraftedResource) → option_map named r ≡ Some p → map named (cons_option r rest) ≡ p ∷ map named rest
 with_first None p rest is = absurd cc
 with_first (Some x) p rest is = ap (λ o. unwrap_or o p ∷ map named rest) is
-
-abbrev stated_in : Entries → List (List ℕ × Due) → List DraftedResource
-stated_in m es = filter_map (resource_at m) (map (λ e. e.0) (filter (λ e. is_statement e.1) es))
 
 abbrev statements_in : List (List ℕ × Due) → List (List ℕ × List ℕ)
 statements_in es = filter_map (λ e. option_map (λ version. (e.0, version)) (stated_version e.1)) es

@@ -16,9 +16,10 @@ use Rattle.xds_owed.specs.Offers.{offer}
 use Rattle.xds_ledger.specs.Ledgers.{Sent, Account, once_told, believed_accepted, beliefs_accepted, accept, reject, touch, resume, nonce_text}
 use Rattle.xds_ledger.specs.Sessions.{Session}
 use Rattle.xds_ledger.specs.Laws.{AcceptedOwesNothing, SendingCommutes, with_sent}
-use Rattle.xds_owed.proofs.Choosing.{and-false, none_passes}
+use Rattle.xds_owed.proofs.Choosing.{none_passes}
 use Rattle.xds_owed.proofs.ByName.{offer_says_it}
 use Rattle.xds_beliefs.proofs.ByName.{accepted_by_name}
+use Rattle.xds_interest.proofs.Choices.{and-false}
 
 -- what was told at the version that is present is owed no more
 told_now : (version : List ℕ) → owed (Some (Told version)) (Some version) ≡ None

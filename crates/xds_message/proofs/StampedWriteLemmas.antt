@@ -23,7 +23,7 @@ use Rattle.xds_message.proofs.ReadsBack.{get_member-members_set}
 
 -- ---- one write
 
-type_of_url-url : (t : TypeName) → type_of_url (row t).url ≡ Some t
+pub type_of_url-url : (t : TypeName) → type_of_url (row t).url ≡ Some t
 type_of_url-url Cluster = refl
 type_of_url-url Endpoint = refl
 type_of_url-url Listener = refl
@@ -78,7 +78,7 @@ set_value-from_object t (string s) r h = refl
 set_value-from_object t (array ds) r h = refl
 set_value-from_object t (object ms) r h = refl
 
-from_value-canonical : (t : TypeName) (r : NamedBody) → IsCanonical t r → length r.body ≤ max_text → from_value t (value_of r.body) ≡ Ok r
+pub from_value-canonical : (t : TypeName) (r : NamedBody) → IsCanonical t r → length r.body ≤ max_text → from_value t (value_of r.body) ≡ Ok r
 from_value-canonical t r h short =
     from_value-from_object t (value_of r.body) h.whole (subst (λ s. length s ≤ max_text) (sym h.text) short) (le-leb (depth (value_of r.body)) max_nesting h.shallow) ∙ h.object
 

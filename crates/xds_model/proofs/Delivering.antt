@@ -1,5 +1,5 @@
 -- What a response of the incremental variant says of each name: what its offer says.
-use Rattle.std.proofs.Common.{◌≡◌, ℕ, List, [], ◌∷◌, map, Bool, true, false, cond, ◌&&◌, ◌||◌, not, Option, Some, None, Result, Ok, refl, sym, ap, ◌∙◌}
+use Rattle.std.proofs.Common.{◌≡◌, ℕ, List, [], ◌∷◌, map, Bool, true, false, cond, ◌&&◌, ◌||◌, not, Option, Some, None, Ok, refl, sym, ap, ◌∙◌}
 use Rattle.std.specs.Prelude.{bytes_eq, if◌then◌else◌, is_some, option_map, Contains}
 use Rattle.std.specs.Option.{option_or, option_and_then, option_map_or, ForSome}
 use Rattle.std.specs.List.{filter, filter_map, cons_option}
@@ -30,7 +30,7 @@ use Rattle.xds_shelf.specs.Faults.{Stated as StatedResource, stated_by, and_stat
 use Rattle.xds_shelf.specs.Deliveries.{delta_stated}
 use Rattle.xds_model.specs.Knows.{TypedWrite}
 use Rattle.xds_model.specs.Claims.{holding_of}
-use Rattle.xds_model.proofs.Replicas.{some_is}
+use Rattle.xds_model.proofs.Replicas.{some_is, ok_is}
 use Rattle.xds_model.proofs.ByOneName.{Says}
 use Rattle.xds_model.proofs.Lanes.{IsMade, stated_in, is_removed_in}
 
@@ -51,13 +51,10 @@ live m name = option_and_then holding_of (finmap.get m name)
 
 -- ---- a canonical body is the resource that it was
 
-some_ok : {X : Type 0} (x y : X) → ◌≡◌ {A = Result X Refusal} (Ok x) (Ok y) → x ≡ y
-some_ok x y e = cc
-
 unrefused : (b c : Bool) (e f : Refusal) (x y : NamedBody) → unless_refused ((b, e) ∷ (c, f) ∷ []) x ≡ Ok y → x ≡ y
 unrefused true c e f x y is = absurd cc
 unrefused false true e f x y is = absurd cc
-unrefused false false e f x y is = some_ok x y is
+unrefused false false e f x y is = ok_is x y is
 
 pub canonical_is : (t : TypeName) (r : NamedBody) → IsCanonical t r → resource_of t (value_of r.body) ≡ r
 canonical_is t r is =
@@ -65,10 +62,10 @@ canonical_is t r is =
 
 -- ---- the resources that are stated
 
-abbrev listed : Entries → List (List ℕ) → List StatedResource
+abbrev pub listed : Entries → List (List ℕ) → List StatedResource
 listed m ns = map delta_stated (map drafted_resource (filter_map (resource_at m) ns))
 
-abbrev with_first : Option DraftedResource → Entries → List (List ℕ) → List StatedResource
+abbrev pub with_first : Option DraftedResource → Entries → List (List ℕ) → List StatedResource
 with_first r m ns = map delta_stated (map drafted_resource (cons_option r (filter_map (resource_at m) ns)))
 
 -- what the names behind state, over what was stated before

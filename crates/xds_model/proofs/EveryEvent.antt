@@ -20,7 +20,7 @@ use Rattle.xds_core.specs.Steps.{Core, fresh as fresh_core}
 use Rattle.xds_shelf.specs.Shelves.{bare}
 use Rattle.xds_shelf.specs.Faults.{Test}
 use Rattle.xds_cache.specs.Clients as clients
-use Rattle.xds_cache.specs.Clients.{Client, shelf, node, is_sent, unlinked}
+use Rattle.xds_cache.specs.Clients.{Client, shelf, unlinked}
 use Rattle.xds_cache.specs.Sends.{is_greeted}
 use Rattle.xds_resource.specs.Types.{types}
 use Rattle.xds_model.specs.declared.event.ClientKind.{ClientKind}
@@ -109,7 +109,7 @@ fine_up w left all c p l (m ∷ rest) up has link is fine =
     (λ none. absurd (never_link (record l { up = rest }) none)) (still_counted w left all c p l has link fine e q x (ap (λ y. y.sites) made.2))
 
 -- what a poll of the client's stream gave
-polled_reply : (c : ℕ) (p : Peer) (l : Link) (reply : Reply) (w left : World) (o : Option Draft) → reply ≡ Polled o → polled c p l (reply, w) ≡ Some left → left ≡ with_peer w c (record p { link = Some (record l { down = l.down ++ under_way o }) })
+pub polled_reply : (c : ℕ) (p : Peer) (l : Link) (reply : Reply) (w left : World) (o : Option Draft) → reply ≡ Polled o → polled c p l (reply, w) ≡ Some left → left ≡ with_peer w c (record p { link = Some (record l { down = l.down ++ under_way o }) })
 polled_reply c p l reply w left o told is = sym (some_is (with_peer w c (record p { link = Some (record l { down = l.down ++ under_way o }) })) left (ap (λ r. polled c p l (r, w)) (sym told) ∙ is))
 
 abbrev pub AllSitesKnown : World → List TypedWrite → Type 0
@@ -175,7 +175,7 @@ fine_lose w left all c p l has link is fine =
 
 -- ---- Connect
 
-opened_reply : (c r : ℕ) (p : Peer) (reply : Reply) (w left : World) (n : ℕ) → reply ≡ Opened n → opened c r p (reply, w) ≡ Some left → left ≡ with_peer w c (connected_to p r n)
+pub opened_reply : (c r : ℕ) (p : Peer) (reply : Reply) (w left : World) (n : ℕ) → reply ≡ Opened n → opened c r p (reply, w) ≡ Some left → left ≡ with_peer w c (connected_to p r n)
 opened_reply c r p reply w left n told is = sym (some_is (with_peer w c (connected_to p r n)) left (ap (λ y. opened c r p (y, w)) (sym told) ∙ is))
 
 fine_connect : (w left : World) (all : List TypedWrite) (c r : ℕ) (p : Peer) → finmap.get w.peers c ≡ Some p → p.link ≡ None → option_and_then (opened c r p) (at_site w r events.Open) ≡ Some left → Fine w all → Fine left all
@@ -212,7 +212,7 @@ pub same_replica_on : (o : Option Message) (l : Link) → (sending o l).replica 
 same_replica_on None l = refl
 same_replica_on (Some m) l = refl
 
-same_stream_on : (o : Option Message) (l : Link) → (sending o l).stream ≡ l.stream
+pub same_stream_on : (o : Option Message) (l : Link) → (sending o l).stream ≡ l.stream
 same_stream_on None l = refl
 same_stream_on (Some m) l = refl
 

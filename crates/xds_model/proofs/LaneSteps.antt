@@ -210,7 +210,7 @@ abreast_first all t m f asked interested versions within made =
 
 -- ---- a response is sent
 
-begun_either : (b : Bool) (x s : Session) → x.asked.begun ≡ true → s.asked.begun ≡ true → (if b then x else s).asked.begun ≡ true
+pub begun_either : (b : Bool) (x s : Session) → x.asked.begun ≡ true → s.asked.begun ≡ true → (if b then x else s).asked.begun ≡ true
 begun_either true x s left right = left
 begun_either false x s left right = right
 

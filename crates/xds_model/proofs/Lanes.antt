@@ -137,7 +137,7 @@ taken_if_plain s = plain s.asked.begun (is_none s.account.sent) (not (bytes_eq [
 
 -- ---- a request without names
 
-unmentioned : (t : TypeName) (q : List ℕ) → touches (delta_touch t (record { subscribe = []; unsubscribe = [] })) q ≡ false
+pub unmentioned : (t : TypeName) (q : List ℕ) → touches (delta_touch t (record { subscribe = []; unsubscribe = [] })) q ≡ false
 unmentioned t q = delta_touch_is_a_set t (record { subscribe = []; unsubscribe = [] }) q ∙ and-false (row t).is_complete
 
 same_wants : (w : Wants) → wants_after finmap.empty finmap.empty w ≡ w

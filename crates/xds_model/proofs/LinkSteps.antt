@@ -6,7 +6,6 @@ use Rattle.std.specs.List.{cons_option}
 use Rattle.std.specs.FinMap as finmap
 use Rattle.std.proofs.lemmas.Bool.Decides.{eqb_tells}
 use Rattle.xds_resource.specs.declared.types.TypeName.{TypeName}
-use Rattle.xds_resource.specs.declared.types.TypeName.TheVariants.{Cluster, Endpoint, Listener, Route}
 use Rattle.xds_resource.specs.declared.refusal.Refusal.{Refusal}
 use Rattle.xds_resource.specs.declared.refusal.Refusal.TheVariants.{BadMessage, WrongVariant, NonceSpent}
 use Rattle.xds_resource.specs.Refusals.{unless_refused}
@@ -26,9 +25,9 @@ use Rattle.xds_owed.specs.declared.variant.VariantName.{VariantName}
 use Rattle.xds_owed.specs.declared.variant.VariantName.TheVariants.{Delta}
 use Rattle.xds_owed.specs.Offers.{Offer, offer}
 use Rattle.xds_ledger.specs.Ledgers as ledgers
-use Rattle.xds_ledger.specs.Ledgers.{nonce_text, is_due, is_refused}
+use Rattle.xds_ledger.specs.Ledgers.{is_due, is_refused}
 use Rattle.xds_ledger.specs.Sessions as sessions
-use Rattle.xds_ledger.specs.Sessions.{Session, unopened, is_taken, send}
+use Rattle.xds_ledger.specs.Sessions.{Session, send}
 use Rattle.xds_delta.specs.Polls.{take, mention, response}
 use Rattle.xds_core.specs.Stores.{Store, if_done}
 use Rattle.xds_core.specs.Streams as streams
@@ -38,21 +37,16 @@ use Rattle.xds_shelf.specs.Shelves.{Shelf}
 use Rattle.xds_cache.specs.Clients.{Client, shelf}
 use Rattle.xds_model.specs.Worlds.{Link}
 use Rattle.xds_model.specs.Knows.{TypedWrite}
-use Rattle.xds_model.proofs.Replicas.{if_both, some_is, if_some, none_there}
+use Rattle.xds_model.proofs.Replicas.{if_both, some_is, if_some, none_there, ok_is}
 use Rattle.xds_model.proofs.Folding.{folded, still_none, take_is, taken_meanwhile_all}
 use Rattle.xds_model.proofs.Lanes.{Abreast, nothing_sent, stated_in, is_removed_in}
 use Rattle.xds_model.proofs.ByOneName.{Says}
 use Rattle.xds_model.proofs.LaneSteps.{abreast_sent}
 use Rattle.xds_model.proofs.Delivering.{AllKnown, response_says, response_made, stated_is_covered}
 use Rattle.xds_model.proofs.Queues.{lane_up, of_own_type, of_other_type, AllDelta, lane_down, lane_down-append, all_numbered-later, none_answers, listed_draft, Lane, IsDeltaStream, Linked}
+use Rattle.xds_message.proofs.StampedWriteLemmas.{type_of_url-url}
 
 -- ---- a request is taken
-
-pub url_type : (t : TypeName) → type_of_url (row t).url ≡ Some t
-url_type Cluster = refl
-url_type Endpoint = refl
-url_type Listener = refl
-url_type Route = refl
 
 pub taken_by : (foreign : Bool) (x : Stream) (v : VariantName) (r : Result (Outcome × PerType Session) Refusal) (z : Outcome × Stream)
     → (if foreign then Err WrongVariant else if_done (λ p. (p.0, record { variant = Some v; count = x.count; sessions = p.1 })) r) ≡ Ok z
@@ -67,7 +61,7 @@ request_taken x t q z url is =
     let made = taken_by (is_foreign x (streams.Delta q)) x Delta (answered x.sessions (streams.Delta q)) z is in
     let answer : made.0 ≡ answered_by x.sessions (streams.Delta q) (type_of_url q.type_url) =
     unless_once (length q.type_url == 0) BadMessage (answered_by x.sessions (streams.Delta q) (type_of_url q.type_url)) made.0 made.1 in
-    let typed : made.0 ≡ answered_by x.sessions (streams.Delta q) (Some t) = answer ∙ ap (answered_by x.sessions (streams.Delta q)) (ap type_of_url url ∙ url_type t) in
+    let typed : made.0 ≡ answered_by x.sessions (streams.Delta q) (Some t) = answer ∙ ap (answered_by x.sessions (streams.Delta q)) (ap type_of_url url ∙ type_of_url-url t) in
     made.2 ∙ ap (λ (a : Outcome × PerType Session). record { variant = Some Delta; count = x.count; sessions = a.1 }) typed
 
 -- ---- Up
@@ -122,25 +116,22 @@ pub record IsSent (replica : ℕ) (store : Store) (x y : Stream) (d : Draft) : T
   pub sends : Some d ≡ option_map (response_of replica store x.sessions kind offer (x.count + 1)) x.variant
   pub left : y ≡ sent x kind offer
 
-ok_same : (p q : Option Draft × Stream) → ◌≡◌ {A = Result (Option Draft × Stream) Refusal} (Ok p) (Ok q) → p ≡ q
-ok_same p q e = cc
-
 sending_is : (replica : ℕ) (store : Store) (x : Stream) (t : TypeName) (o : Offer) (spent : Bool) (d : Draft) (y : Stream) → (x.count == max_counter) ≡ spent → to_send store x t ≡ Some o
     → unless_refused {A = Option Draft × Stream} ((spent, NonceSpent) ∷ []) (option_map (response_of replica store x.sessions t o (x.count + 1)) x.variant, sent x t o) ≡ Ok (Some d, y) → IsSent replica store x y d
 sending_is replica store x t o true d y full due is = absurd cc
 sending_is replica store x t o false d y full due is =
-    let same = ok_same (option_map (response_of replica store x.sessions t o (x.count + 1)) x.variant, sent x t o) (Some d, y) is in
+    let same = ok_is (option_map (response_of replica store x.sessions t o (x.count + 1)) x.variant, sent x t o) (Some d, y) is in
     record { kind = t; offer = o; due = due; room = full; sends = sym (ap (λ p. p.0) same); left = sym (ap (λ p. p.1) same) }
 
 never_some : (d : Draft) → ◌≡◌ {A = Option Draft} None (Some d) → ⊥
 never_some d e = cc
 
 polled_is : (replica : ℕ) (store : Store) (x y : Stream) (t : TypeName) (d : Draft) (o : Option Offer) → to_send store x t ≡ o → option_map_or (sending replica store x t) o (Ok (None, x)) ≡ Ok (Some d, y) → IsSent replica store x y d
-polled_is replica store x y t d None due is = absurd (never_some d (ap (λ p. p.0) (ok_same (None, x) (Some d, y) is)))
+polled_is replica store x y t d None due is = absurd (never_some d (ap (λ p. p.0) (ok_is (None, x) (Some d, y) is)))
 polled_is replica store x y t d (Some o) due is = sending_is replica store x t o (x.count == max_counter) d y refl due is
 
 first_is : (replica : ℕ) (store : Store) (x y : Stream) (d : Draft) (o : Option TypeName) → option_map_or (polled replica store x) o (Ok (None, x)) ≡ Ok (Some d, y) → IsSent replica store x y d
-first_is replica store x y d None is = absurd (never_some d (ap (λ p. p.0) (ok_same (None, x) (Some d, y) is)))
+first_is replica store x y d None is = absurd (never_some d (ap (λ p. p.0) (ok_is (None, x) (Some d, y) is)))
 first_is replica store x y d (Some t) is = polled_is replica store x y t d (to_send store x t) refl is
 
 pub poll_sent : (replica : ℕ) (store : Store) (x y : Stream) (ts : List TypeName) (d : Draft) → polled_first replica store x ts ≡ Ok (Some d, y) → IsSent replica store x y d
@@ -152,14 +143,14 @@ quiet_sending : (replica : ℕ) (store : Store) (x y : Stream) (t : TypeName) (o
 quiet_sending replica store x y t o true v has due is = absurd cc
 quiet_sending replica store x y t o false None has due is =
     let never : None ≡ Some o = sym (ap (λ w. option_and_then (λ k. sessions.sending k t (at x.sessions t) (at store t).entries) w) has) ∙ due in absurd cc
-quiet_sending replica store x y t o false (Some v) has due is = let never = ap (λ p. p.0) (ok_same (Some (response_of replica store x.sessions t o (x.count + 1) v), sent x t o) (None, y) is) in absurd cc
+quiet_sending replica store x y t o false (Some v) has due is = let never = ap (λ p. p.0) (ok_is (Some (response_of replica store x.sessions t o (x.count + 1) v), sent x t o) (None, y) is) in absurd cc
 
 quiet_polled : (replica : ℕ) (store : Store) (x y : Stream) (t : TypeName) (o : Option Offer) → to_send store x t ≡ o → option_map_or (sending replica store x t) o (Ok (None, x)) ≡ Ok (None, y) → y ≡ x
-quiet_polled replica store x y t None due is = sym (ap (λ p. p.1) (ok_same (None, x) (None, y) is))
+quiet_polled replica store x y t None due is = sym (ap (λ p. p.1) (ok_is (None, x) (None, y) is))
 quiet_polled replica store x y t (Some o) due is = quiet_sending replica store x y t o (x.count == max_counter) x.variant refl due is
 
 quiet_first : (replica : ℕ) (store : Store) (x y : Stream) (o : Option TypeName) → option_map_or (polled replica store x) o (Ok (None, x)) ≡ Ok (None, y) → y ≡ x
-quiet_first replica store x y None is = sym (ap (λ p. p.1) (ok_same (None, x) (None, y) is))
+quiet_first replica store x y None is = sym (ap (λ p. p.1) (ok_is (None, x) (None, y) is))
 quiet_first replica store x y (Some t) is = quiet_polled replica store x y t (to_send store x t) refl is
 
 pub poll_quiet : (replica : ℕ) (store : Store) (x y : Stream) (ts : List TypeName) → polled_first replica store x ts ≡ Ok (None, y) → y ≡ x

@@ -45,8 +45,8 @@ use Rattle.xds_model.proofs.ByOneName.{version_held}
 use Rattle.xds_model.proofs.Lanes.{IsMade, Asks, Abreast, nothing_sent, taken_if_plain, no_texts}
 use Rattle.xds_model.proofs.LaneSteps.{abreast_delivered, taken_delivered, abreast_changed, abreast_first, kept_made}
 use Rattle.xds_model.proofs.Queues.{of_type, lane_up, lane_up-append, of_own_type, of_other_type, AllDelta, all_delta-append, lane_down, all_numbered-append, listed_draft, Lane, Linked}
-use Rattle.xds_model.proofs.LinkSteps.{url_type}
 use Rattle.xds_model.proofs.Firsts.{firsts, firsts_by, one_first, once, first_lane}
+use Rattle.xds_message.proofs.StampedWriteLemmas.{type_of_url-url}
 
 -- ---- Down
 
@@ -142,7 +142,7 @@ received_is test c (drafts.Sotw d) q is = absurd cc
 received_is test c (drafts.Delta d) q is =
     let made = received_ok streams.Delta (delta_receive test c (delta_message_of d)) q is in
     let answer = answered_ok (delta_answered test c (delta_message_of d)) (addressing c (row d.kind).url) made.0 made.1 in
-    let typed : answer.0 ≡ d.kind = addressed_to c.broken (shelf c d.kind).asked d.kind answer.0 (ap (λ o. if c.broken then Err NoStream else addressed_or (option_and_then (if_asked c) o)) (sym (url_type d.kind)) ∙ answer.1) in
+    let typed : answer.0 ≡ d.kind = addressed_to c.broken (shelf c d.kind).asked d.kind answer.0 (ap (λ o. if c.broken then Err NoStream else addressed_or (option_and_then (if_asked c) o)) (sym (type_of_url-url d.kind)) ∙ answer.1) in
     record { draft = d; is = refl; left = made.2 ∙ ap (λ (p : Client × DeltaRequest). (p.0, streams.Delta p.1)) (answer.2 ∙ ap (delta_answered test c (delta_message_of d)) typed) }
 
 -- the client took the oldest response

@@ -15,7 +15,7 @@ use Rattle.xds_resource.specs.PerType.{at}
 use Rattle.xds_resource.specs.Resources.{NamedBody, written, deleted}
 use Rattle.xds_resource.specs.Writes.{StampedWrite}
 use Rattle.xds_resource.proofs.TypesApart.{is_same_type-same}
-use Rattle.xds_resource.proofs.BestWrites.{Contains-cons_cases}
+use Rattle.xds_resource.proofs.BestWrites.{Contains-cons_cases, Contains-tail, Contains-head}
 use Rattle.xds_catalogue.specs.Holdings.{Holdings}
 use Rattle.xds_catalogue.specs.Local.{greatest_counter}
 use Rattle.xds_catalogue.proofs.Counters.{counter-le, greatest_counter-held}
@@ -39,12 +39,6 @@ use Rattle.xds_model.proofs.Replicas.{Kept, kept_start, kept_step, answered, som
 
 -- ---- lists
 
-pub in_front : {X : Type 0} (x : X) (xs : List X) → Contains (x ∷ xs) x
-in_front x xs = (0, omega arith, refl)
-
-pub behind : {X : Type 0} (x y : X) (xs : List X) → Contains xs y → Contains (x ∷ xs) y
-behind x y xs h = (suc h.0, omega (arith, h.1), h.2)
-
 pub none_in : {X : Type 0} (x : X) → Contains [] x → ⊥
 none_in x h = let below = h.1 in absurd (omega (arith, below))
 
@@ -52,11 +46,11 @@ pub alone : {X : Type 0} (x y : X) → Contains (x ∷ []) y → x ≡ y
 alone x y h = elim (Contains-cons_cases x y [] h) [ inl same ↦ same | inr rest ↦ absurd (none_in y rest) ]
 
 kept_front : (b : Bool) (x : TypedWrite) (ws : List TypedWrite) → b ≡ true → Contains (map (λ y. y.1) (if b then x ∷ ws else ws)) x.1
-kept_front true x ws e = in_front x.1 (map (λ y. y.1) ws)
+kept_front true x ws e = Contains-head x.1 (map (λ y. y.1) ws)
 kept_front false x ws e = absurd cc
 
 kept_behind : (b : Bool) (x : TypedWrite) (ws : List TypedWrite) (w : StampedWrite) → Contains (map (λ y. y.1) ws) w → Contains (map (λ y. y.1) (if b then x ∷ ws else ws)) w
-kept_behind true x ws w h = behind x.1 w (map (λ y. y.1) ws) h
+kept_behind true x ws w h = Contains-tail x.1 w (map (λ y. y.1) ws) h
 kept_behind false x ws w h = h
 
 -- a write among the writes of its type
@@ -118,7 +112,7 @@ stamped_more w left k all r s wr has writer counter numbers kept stamped = recor
   known_made = λ q x known.
       elim (learned_cases k r q (q == r) wr x refl known) [
         | inl old ↦ Contains-append_left all (wr ∷ []) x (stamped.known_made q x old)
-        | inr new ↦ subst (λ y. Contains (all ++ wr ∷ []) y) new (Contains-append_right all (wr ∷ []) wr (in_front wr []))
+        | inr new ↦ subst (λ y. Contains (all ++ wr ∷ []) y) new (Contains-append_right all (wr ∷ []) wr (Contains-head wr []))
       ];
   batched = λ ws x among known. Contains-append_left all (wr ∷ []) x (stamped.batched ws x among known);
   own = λ x made.
@@ -127,7 +121,7 @@ stamped_more w left k all r s wr has writer counter numbers kept stamped = recor
         | inr new ↦
             let is = alone wr x new in
             subst (λ y. Contains ((learning k r (wr ∷ [])).at y.1.writer) y) is
-            (subst (λ q. Contains ((learning k r (wr ∷ [])).at q) wr) (sym writer) (subst (λ b. Contains (if b then k.at r ++ wr ∷ [] else k.at r) wr) (sym (itself r)) (Contains-append_right (k.at r) (wr ∷ []) wr (in_front wr []))))
+            (subst (λ q. Contains ((learning k r (wr ∷ [])).at q) wr) (sym writer) (subst (λ b. Contains (if b then k.at r ++ wr ∷ [] else k.at r) wr) (sym (itself r)) (Contains-append_right (k.at r) (wr ∷ []) wr (Contains-head wr []))))
       ];
   unique = λ x y made_x made_y same_type same_counter same_writer.
       elim (Contains-append_cases all (wr ∷ []) x made_x) [
@@ -212,8 +206,8 @@ stamped_batch w left k all r numbered stamped =
 placed_among : {X : Type 0} (xs : List X) (n : ℕ) (x : X) → placed xs n ≡ Some x → Contains xs x
 placed_among [] n x is = absurd cc
 placed_among (y ∷ xs) zero x is = absurd cc
-placed_among (y ∷ xs) (suc zero) x is = subst (λ z. Contains (y ∷ xs) z) (some_is y x is) (in_front y xs)
-placed_among (y ∷ xs) (suc (suc n)) x is = behind y x xs (placed_among xs (suc n) x is)
+placed_among (y ∷ xs) (suc zero) x is = subst (λ z. Contains (y ∷ xs) z) (some_is y x is) (Contains-head y xs)
+placed_among (y ∷ xs) (suc (suc n)) x is = Contains-tail y x xs (placed_among xs (suc n) x is)
 
 put_stamped : (w : World) (k : Knowledge) (all : List TypedWrite) (r : ℕ) (t : TypeName) (body : NamedBody) (p : Reply × World) → at_site w r (events.Put t body) ≡ Some p → Kept w k → Stamped w k all
     → Stamped p.1 (learned w (Put r t body) k) (all ++ made_now w (Put r t body))

@@ -26,6 +26,7 @@ use Rattle.xds_model.specs.Knows.{TypedWrite}
 use Rattle.xds_model.specs.Claims.{asks_for}
 use Rattle.xds_model.proofs.Folding.{folded, AllTaken, NoneAnswers}
 use Rattle.xds_model.proofs.Lanes.{Abreast}
+use Rattle.xds_model.proofs.Replicas.{filtered}
 
 -- ---- the requests of a type
 
@@ -71,13 +72,9 @@ all_delta-append (m ∷ ms) ns first second = (first.0, all_delta-append ms ns f
 abbrev pub lane_down : TypeName → List Draft → List Draft
 lane_down t ds = filter (λ d. is_same_type (kind_of d) t) ds
 
-if-append : {X : Type 0} (b : Bool) (x : X) (xs ys both : List X) → both ≡ xs ++ ys → (if b then x ∷ both else both) ≡ (if b then x ∷ xs else xs) ++ ys
-if-append true x xs ys both is = ap (λ l. x ∷ l) is
-if-append false x xs ys both is = is
-
 pub lane_down-append : (t : TypeName) (ds es : List Draft) → lane_down t (ds ++ es) ≡ lane_down t ds ++ lane_down t es
 lane_down-append t [] es = refl
-lane_down-append t (d ∷ ds) es = if-append (is_same_type (kind_of d) t) d (lane_down t ds) (lane_down t es) (lane_down t (ds ++ es)) (lane_down-append t ds es)
+lane_down-append t (d ∷ ds) es = filtered (is_same_type (kind_of d) t) d (lane_down t ds) (lane_down t es) (lane_down t (ds ++ es)) (lane_down-append t ds es)
 
 -- ---- nonces
 

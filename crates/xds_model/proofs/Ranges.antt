@@ -19,7 +19,7 @@ use Rattle.xds_resource.specs.Resources.{NamedBody, IsCanonical, written, delete
 use Rattle.xds_resource.specs.Stamps.{max_counter, max_writer, IsStamp}
 use Rattle.xds_resource.specs.Writes.{StampedWrite}
 use Rattle.xds_resource.specs.Best.{best}
-use Rattle.xds_resource.proofs.BestWrites.{IsGreatest-best, Contains-cons_cases}
+use Rattle.xds_resource.proofs.BestWrites.{IsGreatest-best, Contains-cons_cases, Contains-tail, Contains-head}
 use Rattle.xds_resource.proofs.TypesApart.{same_type}
 use Rattle.xds_catalogue.specs.Holdings.{Holdings}
 use Rattle.xds_catalogue.specs.Joins.{joined}
@@ -29,7 +29,7 @@ use Rattle.xds_catalogue.proofs.Counters.{greatest_counter-held, greatest_counte
 use Rattle.xds_catalogue.proofs.Lookups.{get-inserted}
 use Rattle.xds_core.specs.Stores.{putting_at, deleting_at}
 use Rattle.xds_core.specs.Events as events
-use Rattle.xds_core.specs.Events.{Event, Reply, Written}
+use Rattle.xds_core.specs.Events.{Event, Written}
 use Rattle.xds_core.specs.Steps.{fresh as fresh_core}
 use Rattle.xds_core.proofs.StepLaws.{done_with, put_is, delete_is}
 use Rattle.xds_shelf.specs.Faults.{Test}
@@ -39,7 +39,7 @@ use Rattle.xds_model.specs.Knows.{TypedWrite, Knowledge, made_now, made as made_
 use Rattle.xds_model.specs.Journal.{event_at}
 use Rattle.xds_model.specs.Claims.{writes_of, PutsAResource}
 use Rattle.xds_model.proofs.Replicas.{Kept, some_is, mapped_some, both_parts, answered}
-use Rattle.xds_model.proofs.Origins.{in_front, behind, none_in, alone, Stamped, SitesCome, sites_come}
+use Rattle.xds_model.proofs.Origins.{none_in, alone, Stamped, SitesCome, sites_come}
 use Rattle.xds_model.proofs.EveryEvent.{AllSitesKnown}
 
 -- ---- writes of a type
@@ -55,7 +55,7 @@ front_of false x ws w h = inr h
 typed_front : (t : TypeName) (x : TypedWrite) (ws : List TypedWrite) (w : StampedWrite) → is_same_type x.0 t ≡ true → x.1 ≡ w → Contains (x ∷ ws) (t, w)
 typed_front t x ws w same is =
     elim (same_type x.0 t) [
-      | inl equal ↦ subst (λ (y : TypedWrite). Contains (x ∷ ws) y) (λ i. (equal.0 i, is i)) (in_front x ws)
+      | inl equal ↦ subst (λ (y : TypedWrite). Contains (x ∷ ws) y) (λ i. (equal.0 i, is i)) (Contains-head x ws)
       | inr other ↦ (let never : true ≡ false = sym same ∙ other.1 in absurd cc)
     ]
 
@@ -65,7 +65,7 @@ among_all t [] w h = absurd (none_in w h)
 among_all t (x ∷ ws) w h =
     elim (front_of (is_same_type x.0 t) x (filter (λ y. is_same_type y.0 t) ws) w h) [
       | inl front ↦ typed_front t x ws w front.0 front.1
-      | inr rest ↦ behind x (t, w) ws (among_all t ws w rest)
+      | inr rest ↦ Contains-tail x (t, w) ws (among_all t ws w rest)
     ]
 
 -- ---- what is known of all writes

@@ -42,7 +42,7 @@ use Rattle.xds_model.specs.Claims.{writes_of, HoldsWhatItKnows, SameKnowledgeSam
 
 -- ---- writes of a type
 
-filtered : {X : Type 0} (b : Bool) (x : X) (xs ys both : List X) → both ≡ xs ++ ys → (if b then x ∷ both else both) ≡ (if b then x ∷ xs else xs) ++ ys
+pub filtered : {X : Type 0} (b : Bool) (x : X) (xs ys both : List X) → both ≡ xs ++ ys → (if b then x ∷ both else both) ≡ (if b then x ∷ xs else xs) ++ ys
 filtered true x xs ys both is = ap (λ l. x ∷ l) is
 filtered false x xs ys both is = is
 
@@ -274,7 +274,7 @@ carries_more [] (vs ∷ wss) x ws carries here = absurd carries
 carries_more (y ∷ xs) [] x ws carries here = absurd carries
 carries_more (y ∷ xs) (vs ∷ wss) x ws carries here = (carries.0, carries_more xs wss x ws carries.1 here)
 
-ok_is : {X : Type 0} (x y : X) → (◌≡◌ {A = Result X Refusal} (Ok x) (Ok y)) → x ≡ y
+pub ok_is : {X : Type 0} (x y : X) → (◌≡◌ {A = Result X Refusal} (Ok x) (Ok y)) → x ≡ y
 ok_is x y e = cc
 
 snapshot_kept : (w : World) (k : Knowledge) (r : ℕ) (p : Reply × World) (left : World) → at_site w r events.Snapshot ≡ Some p → pooled r p ≡ Some left → Kept w k → Kept left (learned w (Snapshot r) k)

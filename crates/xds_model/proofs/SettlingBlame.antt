@@ -176,7 +176,7 @@ fair_requests all test t s [] downs accepts fair = fair
 fair_requests all test t s (m ∷ ms) downs accepts fair =
     fair_requests all test t (if asks_for t m then session_after t s m else s) ms downs accepts.1 (fair_soft all test t s (if asks_for t m then session_after t s m else s) downs (softer_if t s m (asks_for t m) accepts.0) fair)
 
-never_some : {X : Type 0} (x : X) → ◌≡◌ {A = Option X} None (Some x) → ⊥
+pub never_some : {X : Type 0} (x : X) → ◌≡◌ {A = Option X} None (Some x) → ⊥
 never_some x e = cc
 
 pub fair_opened : (k : ClientKind) (all : List TypedWrite) (test : Test) (c : Client) (r n : ℕ) → FairOn all test (record { replica = r; stream = n; up = opening_requests k c; down = [] }) opening

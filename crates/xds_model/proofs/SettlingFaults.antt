@@ -1,20 +1,18 @@
 -- Why a client rejects a response: its test refuses a resource that the response states, or that resource is too long to be taken.
-use Rattle.std.proofs.Common.{◌≡◌, ◌⊎◌, inl, inr, ℕ, ◌≤◌, ◌<◌, List, [], ◌∷◌, map, length, Bool, true, false, cond, ◌||◌, not, Option, Some, None, Ok, refl, sym, ap, subst, ◌∙◌, arith}
+use Rattle.std.proofs.Common.{◌≡◌, ◌⊎◌, inl, inr, ℕ, ◌≤◌, ◌<◌, List, [], ◌∷◌, map, length, Bool, true, false, cond, ◌||◌, not, Option, Some, None, refl, sym, ap, subst, ◌∙◌, arith}
 use Rattle.std.specs.Prelude.{T, bytes_eq, if◌then◌else◌, is_some, option_map, Contains, ⊤}
 use Rattle.std.specs.Option.{option_or, option_and_then, option_map_or}
 use Rattle.std.specs.Ordering.{is_lt}
 use Rattle.std.specs.List.{filter, filter_map, cons_option}
 use Rattle.std.specs.FinMap as finmap
 use Rattle.std.specs.FinMap.Entries.{below_all, is_sorted}
-use Rattle.std.proofs.lemmas.Bool.{le-leb}
 use Rattle.std.proofs.lemmas.Bool.Decides.{leb_tells}
 use Rattle.std.proofs.lemmas.Map.Text.{is_eq-slice_cmp}
 use Rattle.xds_resource.specs.declared.types.TypeName.{TypeName}
 use Rattle.xds_resource.specs.Types.{row}
-use Rattle.xds_resource.specs.Resources.{NamedBody, IsCanonical, max_text, max_nesting, value_of, resource_of, from_value}
+use Rattle.xds_resource.specs.Resources.{NamedBody, IsCanonical, max_text, value_of, resource_of, from_value}
 use Rattle.xds_resource.specs.Writes.{StampedWrite, text_cmp, version_of}
 use Rattle.xds_resource.specs.PerType.{PerType, at}
-use Rattle.xds_resource.proofs.Naming.{from_value-from_object}
 use Rattle.xds_resource.proofs.NameMaps.{has_text, get-insert, get-tabulate, bytes_eq_same, bytes_eq_tells}
 use Rattle.xds_resource.proofs.MadeMaps.{EachFound, each_found, holds_first, holds_second, less_is_no_tie}
 use Rattle.xds_interest.specs.Interests.{Selection, covers}
@@ -22,7 +20,7 @@ use Rattle.xds_catalogue.specs.Holdings.{Holdings, Entries}
 use Rattle.xds_catalogue.specs.Content.{is_shown}
 use Rattle.xds_draft.specs.declared.draft.Draft.{Draft}
 use Rattle.xds_draft.specs.declared.draft.Draft.TheVariants as drafts
-use Rattle.xds_draft.specs.Drafts.{DraftedResource, drafted_resource, message_of, delta_message_of}
+use Rattle.xds_draft.specs.Drafts.{message_of, delta_message_of}
 use Rattle.xds_owed.specs.declared.variant.VariantName.{VariantName}
 use Rattle.xds_owed.specs.declared.variant.VariantName.TheVariants as variants
 use Rattle.xds_owed.specs.declared.entry.Due.{Due}
@@ -35,26 +33,29 @@ use Rattle.xds_ledger.specs.Sessions.{Session}
 use Rattle.xds_owed.proofs.ByName.{offer_says_it}
 use Rattle.xds_sotw.specs.Polls as sotw
 use Rattle.xds_delta.specs.Polls as delta
-use Rattle.xds_delta.specs.Polls.{is_statement, is_removal, names_where, resource_of as drafted_of, resource_at}
+use Rattle.xds_delta.specs.Polls.{is_statement, is_removal, names_where, resource_of as drafted_of}
 use Rattle.xds_core.specs.Stores.{Store}
 use Rattle.xds_core.specs.Streams.{response_of}
 use Rattle.xds_shelf.specs.Shelves.{Cache, Wants, wants_of, marked}
 use Rattle.xds_shelf.specs.Faults.{Test, Stated as StatedResource, first_reason, is_misnamed, fault_by, fault_of, and_stated, first_fault, holding_of}
-use Rattle.xds_shelf.specs.Deliveries.{sotw_stated, delta_stated, sotw_delivery, delta_delivery, fault_in}
+use Rattle.xds_shelf.specs.Deliveries.{sotw_stated, sotw_delivery, delta_delivery, fault_in}
 use Rattle.xds_model.specs.Knows.{TypedWrite}
 use Rattle.xds_model.proofs.Replicas.{some_is}
+use Rattle.xds_model.proofs.Delivering as delivering
 use Rattle.xds_model.proofs.Delivering.{IsKnown, AllKnown, canonical_is, present_if_stated}
 use Rattle.xds_model.proofs.LinkSteps.{sending_facts}
+use Rattle.xds_model.proofs.SotwDelivering as sotw_delivering
 use Rattle.xds_model.proofs.SotwDelivering.{offered_is}
+use Rattle.xds_message.proofs.StampedWriteLemmas.{from_value-canonical}
+use Rattle.xds_owed.proofs.SomethingOwed.{is_some_of}
+use Rattle.xds_model.proofs.SotwSteps.{split}
+use Rattle.xds_model.proofs.SettlingSessions.{never_both}
 
 -- ---- one resource
 
 -- if the resource isn't too long, the test refuses it
 abbrev pub IsRefused : Test → TypeName → List ℕ → List ℕ → Type 0
 IsRefused test t name body = length body ≤ max_text → test (row t).url name (value_of body) ≡ false
-
-taken_text : (t : TypeName) (r : NamedBody) → IsCanonical t r → length r.body ≤ max_text → from_value t (value_of r.body) ≡ Ok r
-taken_text t r is short = from_value-from_object t (value_of r.body) is.whole (subst (λ s. length s ≤ max_text) (sym is.text) short) (le-leb _ max_nesting is.shallow) ∙ is.object
 
 no_reason : (a b c : Bool) (x y z : List ℕ) → a ≡ false → b ≡ false → c ≡ false → first_reason ((a, x) ∷ (b, y) ∷ (c, z) ∷ []) ≡ None
 no_reason true b c x y z first second third = absurd cc
@@ -82,7 +83,7 @@ name_of all t m r n of = ap (λ d. (resource_of t d).name) of.resource ∙ ap (�
 faultless : (all : List TypedWrite) (t : TypeName) (test : Test) (removed : Wants) (before : Cache) (m : Entries) (r : StatedResource) (n : List ℕ) → (of : IsOf all t m r n) → finmap.contains_key before n ≡ false → finmap.contains_key removed n ≡ false
     → length of.body ≤ max_text → test (row t).url n (value_of of.body) ≡ true → fault_of t test removed before r ≡ None
 faultless all t test removed before m r n of fresh stays short takes =
-    ap (fault_by t test removed before r) (ap (from_value t) of.resource ∙ taken_text t (record { name = n; body = of.body }) (canonical_of all t m r n of) short)
+    ap (fault_by t test removed before r) (ap (from_value t) of.resource ∙ from_value-canonical t (record { name = n; body = of.body }) (canonical_of all t m r n of) short)
     ∙ no_reason (is_misnamed r.named n) (finmap.contains_key before n || finmap.contains_key removed n) (not (test (row t).url n r.resource)) _ _ _ of.named (λ i. fresh i || stays i) (ap not (ap (test (row t).url n) of.resource ∙ takes))
 
 decided : (all : List TypedWrite) (t : TypeName) (test : Test) (removed : Wants) (before : Cache) (m : Entries) (r : StatedResource) (n : List ℕ) → (of : IsOf all t m r n) → finmap.contains_key before n ≡ false → finmap.contains_key removed n ≡ false
@@ -124,12 +125,8 @@ right_true : (a b : Bool) → b ≡ true → (a || b) ≡ true
 right_true true b is = refl
 right_true false b is = is
 
-not_both : (b : Bool) → b ≡ true → b ≡ false → ⊥
-not_both true is not = absurd cc
-not_both false is not = absurd cc
-
 later_is_other : (ns : List (List ℕ)) (n q : List ℕ) (same : Bool) → bytes_eq n q ≡ same → has_text ns n ≡ false → has_text ns q ≡ true → bytes_eq n q ≡ false
-later_is_other ns n q true is absent has = absurd (not_both (has_text ns q) has (sym (ap (has_text ns) (bytes_eq_tells n q is)) ∙ absent))
+later_is_other ns n q true is absent has = absurd (never_both (has_text ns q) has (sym (ap (has_text ns) (bytes_eq_tells n q is)) ∙ absent))
 later_is_other ns n q false is absent has = is
 
 -- what isn't stated yet is not, once the one before it is
@@ -173,7 +170,7 @@ listed_skip : (all : List TypedWrite) (t : TypeName) (m : Entries) (P : List ℕ
 listed_skip all t m P k keys rs is = record { names = is.names; lists = is.lists; within = λ q has. right_true (bytes_eq q k) (has_text keys q) (is.within q has); holds = is.holds }
 
 absent_in : (ns keys : List (List ℕ)) (n : List ℕ) (b : Bool) → has_text ns n ≡ b → (has_text ns n ≡ true → has_text keys n ≡ true) → has_text keys n ≡ false → has_text ns n ≡ false
-absent_in ns keys n true is within absent = absurd (not_both (has_text keys n) (within is) absent)
+absent_in ns keys n true is within absent = absurd (never_both (has_text keys n) (within is) absent)
 absent_in ns keys n false is within absent = is
 
 first_or_later : (P : List ℕ → Type 0) (q n : List ℕ) (rest same : Bool) → bytes_eq q n ≡ same → (bytes_eq q n || rest) ≡ true → P n → (rest ≡ true → P q) → P q
@@ -202,35 +199,29 @@ below_none k (e ∷ es) below =
 
 -- ---- of an incremental response
 
-abbrev delta_resources : Entries → List (List ℕ) → List StatedResource
-delta_resources m ns = map delta_stated (map drafted_resource (filter_map (resource_at m) ns))
-
-abbrev delta_first : Option DraftedResource → Entries → List (List ℕ) → List StatedResource
-delta_first r m ns = map delta_stated (map drafted_resource (cons_option r (filter_map (resource_at m) ns)))
-
 delta_body : (all : List TypedWrite) (t : TypeName) (m : Entries) (P : List ℕ → Type 0) (n : List ℕ) (keys ns : List (List ℕ)) (w : StampedWrite) (b : Option (List ℕ)) → w.body ≡ b → finmap.get m n ≡ Some w → IsKnown all t n w → has_text keys n ≡ false → P n
-    → Listed all t m P keys (delta_resources m ns) → Listed all t m P (n ∷ keys) (delta_first (option_map (λ body. record { name = w.name; version = version_of w; body = body }) b) m ns)
-delta_body all t m P n keys ns w None puts found known absent here rest = listed_skip all t m P n keys (delta_resources m ns) rest
+    → Listed all t m P keys (delivering.listed m ns) → Listed all t m P (n ∷ keys) (delivering.with_first (option_map (λ body. record { name = w.name; version = version_of w; body = body }) b) m ns)
+delta_body all t m P n keys ns w None puts found known absent here rest = listed_skip all t m P n keys (delivering.listed m ns) rest
 delta_body all t m P n keys ns w (Some body) puts found known absent here rest =
-    listed_add all t m P n keys (record { named = Some w.name; version = version_of w; resource = value_of body }) (delta_resources m ns)
+    listed_add all t m P n keys (record { named = Some w.name; version = version_of w; resource = value_of body }) (delivering.listed m ns)
     (record { write = w; body = body; found = found; known = known; puts = puts; resource = refl; named = ap not (ap (λ x. bytes_eq x n) known.named ∙ bytes_eq_same n) }) absent here rest
 
-delta_name : (all : List TypedWrite) (t : TypeName) (m : Entries) (P : List ℕ → Type 0) (n : List ℕ) (keys ns : List (List ℕ)) (o : Option StampedWrite) → finmap.get m n ≡ o → AllKnown all t m → has_text keys n ≡ false → P n → Listed all t m P keys (delta_resources m ns)
-    → Listed all t m P (n ∷ keys) (delta_first (option_and_then drafted_of o) m ns)
-delta_name all t m P n keys ns None found known absent here rest = listed_skip all t m P n keys (delta_resources m ns) rest
+delta_name : (all : List TypedWrite) (t : TypeName) (m : Entries) (P : List ℕ → Type 0) (n : List ℕ) (keys ns : List (List ℕ)) (o : Option StampedWrite) → finmap.get m n ≡ o → AllKnown all t m → has_text keys n ≡ false → P n → Listed all t m P keys (delivering.listed m ns)
+    → Listed all t m P (n ∷ keys) (delivering.with_first (option_and_then drafted_of o) m ns)
+delta_name all t m P n keys ns None found known absent here rest = listed_skip all t m P n keys (delivering.listed m ns) rest
 delta_name all t m P n keys ns (Some w) found known absent here rest = delta_body all t m P n keys ns w w.body refl found (known n w found) absent here rest
 
 abbrev States : Offer → List ℕ → Type 0
 States o q = option_map_or is_statement (finmap.get o q) false ≡ true
 
 delta_entry : (all : List TypedWrite) (t : TypeName) (m : Entries) (o : Offer) (e : List ℕ × Due) (es fs : List (List ℕ × Due)) (says : Bool) → is_statement e.1 ≡ says → finmap.get o e.0 ≡ Some e.1 → AllKnown all t m → has_text (map (λ x. x.0) es) e.0 ≡ false
-    → Listed all t m (States o) (map (λ x. x.0) es) (delta_resources m (map (λ x. x.0) fs)) → Listed all t m (States o) (map (λ x. x.0) (e ∷ es)) (delta_resources m (map (λ x. x.0) (if says then e ∷ fs else fs)))
+    → Listed all t m (States o) (map (λ x. x.0) es) (delivering.listed m (map (λ x. x.0) fs)) → Listed all t m (States o) (map (λ x. x.0) (e ∷ es)) (delivering.listed m (map (λ x. x.0) (if says then e ∷ fs else fs)))
 delta_entry all t m o e es fs true says found known absent rest =
     delta_name all t m (States o) e.0 (map (λ x. x.0) es) (map (λ x. x.0) fs) (finmap.get m e.0) refl known absent (ap (λ x. option_map_or is_statement x false) found ∙ says) rest
-delta_entry all t m o e es fs false says found known absent rest = listed_skip all t m (States o) e.0 (map (λ x. x.0) es) (delta_resources m (map (λ x. x.0) fs)) rest
+delta_entry all t m o e es fs false says found known absent rest = listed_skip all t m (States o) e.0 (map (λ x. x.0) es) (delivering.listed m (map (λ x. x.0) fs)) rest
 
 delta_listed : (all : List TypedWrite) (t : TypeName) (m : Entries) (o : Offer) (es : List (List ℕ × Due)) → AllKnown all t m → T (is_sorted text_cmp es) → EachFound o es
-    → Listed all t m (States o) (map (λ x. x.0) es) (delta_resources m (map (λ x. x.0) (filter (λ x. is_statement x.1) es)))
+    → Listed all t m (States o) (map (λ x. x.0) es) (delivering.listed m (map (λ x. x.0) (filter (λ x. is_statement x.1) es)))
 delta_listed all t m o [] known sorted found = listed_none all t m (States o)
 delta_listed all t m o (e ∷ es) known sorted found =
     delta_entry all t m o e es (filter (λ x. is_statement x.1) es) (is_statement e.1) refl found.0 known (below_none e.0 es (holds_first (below_all text_cmp e.0 es) (is_sorted text_cmp es) sorted))
@@ -238,30 +229,27 @@ delta_listed all t m o (e ∷ es) known sorted found =
 
 -- ---- of a response of the state of the world
 
-abbrev sotw_resources : List StampedWrite → List StatedResource
-sotw_resources ws = map sotw_stated (map value_of (filter_map (λ w. w.body) ws))
-
 abbrev Offers : Offer → List ℕ → Type 0
 Offers o q = is_some (finmap.get o q) ≡ true
 
 sotw_body : (all : List TypedWrite) (t : TypeName) (m : Entries) (P : List ℕ → Type 0) (n : List ℕ) (keys : List (List ℕ)) (w : StampedWrite) (ws : List StampedWrite) (b : Option (List ℕ)) → w.body ≡ b → finmap.get m n ≡ Some w → IsKnown all t n w → has_text keys n ≡ false → P n
-    → Listed all t m P keys (sotw_resources ws) → Listed all t m P (n ∷ keys) (map sotw_stated (map value_of (cons_option b (filter_map (λ x. x.body) ws))))
-sotw_body all t m P n keys w ws None puts found known absent here rest = listed_skip all t m P n keys (sotw_resources ws) rest
+    → Listed all t m P keys (sotw_delivering.listed ws) → Listed all t m P (n ∷ keys) (map sotw_stated (map value_of (cons_option b (filter_map (λ x. x.body) ws))))
+sotw_body all t m P n keys w ws None puts found known absent here rest = listed_skip all t m P n keys (sotw_delivering.listed ws) rest
 sotw_body all t m P n keys w ws (Some body) puts found known absent here rest =
-    listed_add all t m P n keys (record { named = None; version = []; resource = value_of body }) (sotw_resources ws)
+    listed_add all t m P n keys (record { named = None; version = []; resource = value_of body }) (sotw_delivering.listed ws)
     (record { write = w; body = body; found = found; known = known; puts = puts; resource = refl; named = refl }) absent here rest
 
 sotw_entry : (all : List TypedWrite) (t : TypeName) (m : Entries) (o : Offer) (n : List ℕ) (keys : List (List ℕ)) (w : StampedWrite) (ws : List StampedWrite) (p : StampedWrite → Bool) (shown offered : Bool) → p w ≡ offered → (offered ≡ true → Offers o n) → finmap.get m n ≡ Some w
-    → AllKnown all t m → has_text keys n ≡ false → Listed all t m (Offers o) keys (sotw_resources (filter p ws)) → Listed all t m (Offers o) (n ∷ keys) (sotw_resources (filter p (if shown then w ∷ ws else ws)))
-sotw_entry all t m o n keys w ws p false offered is says found known absent rest = listed_skip all t m (Offers o) n keys (sotw_resources (filter p ws)) rest
+    → AllKnown all t m → has_text keys n ≡ false → Listed all t m (Offers o) keys (sotw_delivering.listed (filter p ws)) → Listed all t m (Offers o) (n ∷ keys) (sotw_delivering.listed (filter p (if shown then w ∷ ws else ws)))
+sotw_entry all t m o n keys w ws p false offered is says found known absent rest = listed_skip all t m (Offers o) n keys (sotw_delivering.listed (filter p ws)) rest
 sotw_entry all t m o n keys w ws p true true is says found known absent rest =
-    subst (λ b. Listed all t m (Offers o) (n ∷ keys) (sotw_resources (if b then w ∷ filter p ws else filter p ws))) (sym is)
+    subst (λ b. Listed all t m (Offers o) (n ∷ keys) (sotw_delivering.listed (if b then w ∷ filter p ws else filter p ws))) (sym is)
     (sotw_body all t m (Offers o) n keys w (filter p ws) w.body refl found (known n w found) absent (says refl) rest)
 sotw_entry all t m o n keys w ws p true false is says found known absent rest =
-    subst (λ b. Listed all t m (Offers o) (n ∷ keys) (sotw_resources (if b then w ∷ filter p ws else filter p ws))) (sym is) (listed_skip all t m (Offers o) n keys (sotw_resources (filter p ws)) rest)
+    subst (λ b. Listed all t m (Offers o) (n ∷ keys) (sotw_delivering.listed (if b then w ∷ filter p ws else filter p ws))) (sym is) (listed_skip all t m (Offers o) n keys (sotw_delivering.listed (filter p ws)) rest)
 
 sotw_listed : (all : List TypedWrite) (t : TypeName) (m : Entries) (s : Selection) (o : Offer) (es : List (List ℕ × StampedWrite)) → AllKnown all t m → T (is_sorted text_cmp es) → EachFound m es
-    → Listed all t m (Offers o) (map (λ x. x.0) es) (sotw_resources (filter (λ w. is_some (finmap.get o w.name)) (filter (is_shown s) (map (λ x. x.1) es))))
+    → Listed all t m (Offers o) (map (λ x. x.0) es) (sotw_delivering.listed (filter (λ w. is_some (finmap.get o w.name)) (filter (is_shown s) (map (λ x. x.1) es))))
 sotw_listed all t m s o [] known sorted found = listed_none all t m (Offers o)
 sotw_listed all t m s o (e ∷ es) known sorted found =
     sotw_entry all t m o e.0 (map (λ x. x.0) es) e.1 (filter (is_shown s) (map (λ x. x.1) es)) (λ w. is_some (finmap.get o w.name)) (is_shown s e.1) (is_some (finmap.get o e.1.name)) refl
@@ -327,15 +315,11 @@ not_twice None states removes = absurd cc
 not_twice (Some (Stated version)) states removes = absurd cc
 not_twice (Some Removed) states removes = absurd cc
 
-either_true : (a b : Bool) → (a || b) ≡ true → (a ≡ true) ⊎ (b ≡ true)
-either_true true b is = inl refl
-either_true false b is = inr is
-
 removed_entry : (o : Offer) (q : List ℕ) (e : List ℕ × Due) (fs : List (List ℕ × Due)) (says : Bool) → is_removal e.1 ≡ says → finmap.get o e.0 ≡ Some e.1 → (has_text (map (λ x. x.0) fs) q ≡ true → option_map_or is_removal (finmap.get o q) false ≡ true)
     → has_text (map (λ x. x.0) (if says then e ∷ fs else fs)) q ≡ true → option_map_or is_removal (finmap.get o q) false ≡ true
 removed_entry o q e fs false says found later has = later has
 removed_entry o q e fs true says found later has =
-    elim (either_true (bytes_eq q e.0) (has_text (map (λ x. x.0) fs) q) has) [
+    elim (split (bytes_eq q e.0) (has_text (map (λ x. x.0) fs) q) has) [
       | inl same ↦ ap (λ n. option_map_or is_removal (finmap.get o n) false) (bytes_eq_tells q e.0 same) ∙ ap (λ x. option_map_or is_removal x false) found ∙ says
       | inr rest ↦ later rest
     ]
@@ -356,13 +340,9 @@ delta_blamed all test t replica h s b number known at_fault =
     let o : Offer = offer variants.Delta t s h.entries b in
     let listed = delta_listed all t h.entries o (finmap.entries o) known (finmap.entries_sorted o) (each_found o) in
     let blamed =
-    first_blamed all test t h.entries (wants_of (names_where is_removal o)) (delta_resources h.entries (names_where is_statement o)) listed.names finmap.empty listed.lists (λ q has. ap is_some (finmap.get-empty text_cmp q))
+    first_blamed all test t h.entries (wants_of (names_where is_removal o)) (delivering.listed h.entries (names_where is_statement o)) listed.names finmap.empty listed.lists (λ q has. ap is_some (finmap.get-empty text_cmp q))
     (λ q has. unremoved o q (has_text (names_where is_removal o) q) refl (listed.holds q has)) at_fault in
     let states = statement_is (finmap.get o blamed.name) (listed.holds blamed.name blamed.among) in blamed_at variants.Delta all test t s h.entries b listed.names blamed states.0 states.1
-
-some_there : {X : Type 0} (o : Option X) → is_some o ≡ true → (x : X) × (o ≡ Some x)
-some_there None is = absurd cc
-some_there (Some x) is = (x, refl)
 
 sotw_blamed : (all : List TypedWrite) (test : Test) (t : TypeName) (replica : ℕ) (h : Holdings) (s : Selection) (b : Beliefs) (number : ℕ) → AllKnown all t h.entries → let o = offer variants.StateOfTheWorld t s h.entries b in
     is_some (fault_in t test (sotw_delivery t (message_of (sotw.response replica t h s o number)))) ≡ true → IsBlamed all test t o
@@ -370,9 +350,9 @@ sotw_blamed all test t replica h s b number known at_fault =
     let o : Offer = offer variants.StateOfTheWorld t s h.entries b in
     let listed = sotw_listed all t h.entries s o (finmap.entries h.entries) known (finmap.entries_sorted h.entries) (each_found h.entries) in
     let blamed =
-    first_blamed all test t h.entries finmap.empty (sotw_resources (sotw.stated_writes h.entries s o)) listed.names finmap.empty listed.lists (λ q has. ap is_some (finmap.get-empty text_cmp q))
+    first_blamed all test t h.entries finmap.empty (sotw_delivering.listed (sotw.stated_writes h.entries s o)) listed.names finmap.empty listed.lists (λ q has. ap is_some (finmap.get-empty text_cmp q))
     (λ q has. ap is_some (finmap.get-empty text_cmp q)) at_fault in
-    let says = some_there (finmap.get o blamed.name) (listed.holds blamed.name blamed.among) in
+    let says = is_some_of (finmap.get o blamed.name) (listed.holds blamed.name blamed.among) in
     let states = offered_is t s h.entries b blamed.name says.0 says.1 in blamed_at variants.StateOfTheWorld all test t s h.entries b listed.names blamed states.0 (says.1 ∙ ap Some states.1)
 
 -- why a client rejects a response, if it does

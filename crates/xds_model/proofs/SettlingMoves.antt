@@ -16,7 +16,7 @@ use Rattle.xds_ledger.specs.Sessions.{Session, send}
 use Rattle.xds_core.specs.Stores.{Store}
 use Rattle.xds_core.specs.Streams.{Stream, Message, session_after, requested, polled_first, looked_at}
 use Rattle.xds_core.specs.Events as events
-use Rattle.xds_core.specs.Events.{Reply, Answered, Polled}
+use Rattle.xds_core.specs.Events.{Answered, Polled}
 use Rattle.xds_shelf.specs.Faults.{Test}
 use Rattle.xds_cache.specs.Clients.{Client, shelf}
 use Rattle.xds_model.specs.Happenings.{Happening, Up, Poll, Down}
@@ -28,7 +28,8 @@ use Rattle.xds_model.proofs.Replicas.{some_is, bound_some, mapped_some}
 use Rattle.xds_model.proofs.ByKind.{LinkedAs}
 use Rattle.xds_model.proofs.Everyone.{Fine}
 use Rattle.xds_model.proofs.SettlingSessions.{HasAnswer}
-use Rattle.xds_model.proofs.SettlingSteps.{Spot, link_at, linked_at, at_spot, get_put, moved, at_stream, ahead, ahead_more, up_ahead, spoken, speaks, poll_is, among, none_more, one_more, none_behind, answer_asks, down_answers, received_wants}
+use Rattle.xds_model.proofs.SettlingSteps.{Spot, link_at, linked_at, at_spot, moved, at_stream, ahead, ahead_more, up_ahead, spoken, speaks, poll_is, among, none_more, one_more, none_behind, answer_asks, down_answers, received_wants}
+use Rattle.xds_model.proofs.EveryEvent.{polled_reply, get_put}
 
 -- ---- what is done next
 
@@ -129,10 +130,6 @@ up_moved test w y all c t s m rest up is fine =
     })
 
 -- ---- Poll
-
--- what a poll of the client's stream leaves
-pub polled_reply : (c : ℕ) (p : Peer) (l : Link) (reply : Reply) (w left : World) (o : Option Draft) → reply ≡ Polled o → polled c p l (reply, w) ≡ Some left → left ≡ with_peer w c (record p { link = Some (record l { down = l.down ++ under_way o }) })
-polled_reply c p l reply w left o told is = sym (some_is (with_peer w c (record p { link = Some (record l { down = l.down ++ under_way o }) })) left (ap (λ r. polled c p l (r, w)) (sym told) ∙ is))
 
 pub poll_moved : (test : Test) (w y : World) (all : List TypedWrite) (c : ℕ) (t : TypeName) (s : Spot w c) → s.link.up ≡ [] → brings t s.link ≡ false → happens test w (Poll c (Some t)) ≡ Some y → Fine w all → Moved w y c t (Poll c (Some t)) s
 poll_moved test w y all c t s up none is fine =

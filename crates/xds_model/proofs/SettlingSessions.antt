@@ -1,19 +1,13 @@
 -- A session to which a response of its type was sent: once that was answered, nothing is sent any more by the same entries.
-use Rattle.std.proofs.Common.{◌≡◌, ◌⊎◌, inl, inr, ℕ, List, [], Bool, true, false, ◌&&◌, ◌||◌, not, Option, Some, None, refl, sym, ap, subst, ◌∙◌}
+use Rattle.std.proofs.Common.{◌≡◌, ◌⊎◌, inl, inr, ℕ, List, [], Bool, true, false, ◌&&◌, not, Option, Some, None, refl, sym, ap, subst, ◌∙◌}
 use Rattle.std.specs.Prelude.{bytes_eq, if◌then◌else◌, is_none, is_some, option_map}
 use Rattle.std.specs.Option.{option_map_or}
 use Rattle.std.specs.FinMap as finmap
-use Rattle.std.specs.FinSet as set
-use Rattle.std.proofs.Math.Bool.{and-false}
 use Rattle.xds_resource.specs.declared.types.TypeName.{TypeName}
-use Rattle.xds_resource.specs.Types.{row}
 use Rattle.xds_resource.specs.Writes.{text_cmp}
 use Rattle.xds_resource.proofs.NameMaps.{bytes_eq_same, same_names}
-use Rattle.xds_interest.specs.Interests.{Selection}
 use Rattle.xds_interest.specs.Asked.{Asked, sotw_asked}
-use Rattle.xds_interest.specs.Touched.{exactly_one}
-use Rattle.xds_interest.specs.Touches.{touches, sotw_touch, delta_touch}
-use Rattle.xds_interest.proofs.AskedLaws.{sotw_touch_is_a_set, delta_touch_is_a_set}
+use Rattle.xds_interest.specs.Touches.{touches, sotw_touch}
 use Rattle.xds_catalogue.specs.Holdings.{Entries}
 use Rattle.xds_message.specs.Messages.{Request}
 use Rattle.xds_message.specs.DeltaMessages.{DeltaRequest}
@@ -23,7 +17,7 @@ use Rattle.xds_owed.specs.declared.variant.VariantName.TheVariants.{StateOfTheWo
 use Rattle.xds_owed.specs.Owed.{Beliefs}
 use Rattle.xds_owed.specs.Offers.{Offer, offer, same_offer}
 use Rattle.xds_ledger.specs.Ledgers as ledgers
-use Rattle.xds_ledger.specs.Ledgers.{Account, nonce_text, is_due, is_refused, settled, answered, accept, reject, touch, resume}
+use Rattle.xds_ledger.specs.Ledgers.{Account, nonce_text, is_due, is_refused, answered, touch, resume}
 use Rattle.xds_beliefs.specs.Believing.{Sent, touched_since, beliefs_taken, beliefs_resumed}
 use Rattle.xds_ledger.specs.Sessions as sessions
 use Rattle.xds_ledger.specs.Sessions.{Session, Answer, Names, taken, send, delta_names}
@@ -40,10 +34,10 @@ use Rattle.xds_model.proofs.Replicas.{some_is, if_some, if_both, both_parts}
 use Rattle.xds_model.proofs.LinkSteps.{sending_facts}
 use Rattle.xds_model.proofs.Folding.{take_is}
 use Rattle.xds_model.proofs.Lanes as deltas
-use Rattle.xds_model.proofs.Lanes.{asking, nothing_resumed, settles, taken_if_sent}
+use Rattle.xds_model.proofs.Lanes.{asking, nothing_resumed, settles, taken_if_sent, unmentioned}
 use Rattle.xds_model.proofs.SotwFolding.{names_of, answer_of, take_is as sotw_take_is}
 use Rattle.xds_model.proofs.SotwLanes as sotws
-use Rattle.xds_model.proofs.SotwLanes.{naming}
+use Rattle.xds_model.proofs.SotwLanes.{naming, untouched_again}
 
 -- ---- after a response
 
@@ -133,9 +127,6 @@ answers_alone v t s answer names sent has same untouched versions =
 
 -- ---- the answer of an incremental client
 
-delta_untouched : (t : TypeName) (q : List ℕ) → touches (delta_touch t (record { subscribe = []; unsubscribe = [] })) q ≡ false
-delta_untouched t q = delta_touch_is_a_set t (record { subscribe = []; unsubscribe = [] }) q ∙ and-false (row t).is_complete
-
 no_versions : (b : Bool) → ◌≡◌ {A = finmap.FinMap text_cmp (List ℕ)} (if b then finmap.empty else finmap.empty) finmap.empty
 no_versions true = refl
 no_versions false = refl
@@ -157,19 +148,12 @@ delta_answers all t s f d fault lane =
         has = sent.1;
         asked = (deltas.after_answer t f.wants s d.nonce fault sent.0 asked sent.1 same).asked ∙ sym asked;
         account = ap (λ x. x.account) (take_is t s m (taken_if_sent s d.nonce sent.0 sent.1))
-            ∙ answers_alone Delta t s (answer_in m) (delta_names t s.asked (mention m) finmap.empty) sent.0 sent.1 same (delta_untouched t) (no_versions s.asked.begun);
+            ∙ answers_alone Delta t s (answer_in m) (delta_names t s.asked (mention m) finmap.empty) sent.0 sent.1 same (unmentioned t) (no_versions s.asked.begun);
       },
       refl,
     )
 
 -- ---- and of one of the state of the world
-
-same_twice : (b : Bool) → exactly_one b b ≡ false
-same_twice true = refl
-same_twice false = refl
-
-listed_again : (s : Selection) (q : List ℕ) → touches (sotw_touch s s) q ≡ false
-listed_again s q = sotw_touch_is_a_set s s q ∙ (λ i. same_twice s.star i || same_twice (set.contains s.names q) i)
 
 pub sotw_answers : (all : List TypedWrite) (t : TypeName) (s : Session) (f : Shelf) (d : Drafted) (m : Request) → m.resource_names ≡ texts f.wants → m.response_nonce ≡ d.nonce → sotws.Abreast all t s (Some d) f
     → (h : HasAnswer StateOfTheWorld t s (sotw_take t s m)) × (h.rejects ≡ is_some m.error_detail)
@@ -180,7 +164,7 @@ sotw_answers all t s f d m lists nonce lane =
     let same : bytes_eq m.response_nonce (nonce_text s.account.nonce) ≡ true = ap (λ x. bytes_eq x (nonce_text s.account.nonce)) (nonce ∙ sent.2.nonce) ∙ bytes_eq_same (nonce_text s.account.nonce) in
     let after : names.asked ≡ naming t f.wants = λ i. sotw_asked t (asked i) (lists i) in
     let untouched : (q : List ℕ) → touches names.touched q ≡ false =
-    λ q. ap (λ (a : Asked). touches (sotw_touch a.interest names.asked.interest) q) asked ∙ ap (λ (a : Asked). touches (sotw_touch (interest t f.wants) a.interest) q) after ∙ listed_again (interest t f.wants) q in (
+    λ q. ap (λ (a : Asked). touches (sotw_touch a.interest names.asked.interest) q) asked ∙ ap (λ (a : Asked). touches (sotw_touch (interest t f.wants) a.interest) q) after ∙ untouched_again (interest t f.wants) q in (
       record {
         sent = sent.0;
         rejects = is_some m.error_detail;

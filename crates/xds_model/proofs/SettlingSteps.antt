@@ -3,10 +3,7 @@ use Rattle.std.proofs.Common.{◌≡◌, ◌≢◌, ◌⊎◌, inl, inr, ℕ, �
 use Rattle.std.specs.Prelude.{◌==◌, bytes_eq, if◌then◌else◌, is_some, option_map, length}
 use Rattle.std.specs.Option.{option_and_then, option_map_or}
 use Rattle.std.specs.List.{list_any, cons_option}
-use Rattle.std.specs.Ordering.{nat_cmp}
-use Rattle.std.specs.Cmp.{nat_cmp_total}
 use Rattle.std.specs.FinMap as finmap
-use Rattle.std.specs.FinMap.{FinMap, nat_cmp-IsAntisymmetric}
 use Rattle.std.proofs.lemmas.List.Folds.{list_any-append}
 use Rattle.xds_resource.specs.declared.types.TypeName.{TypeName}
 use Rattle.xds_resource.specs.declared.refusal.Refusal.{Refusal}
@@ -15,7 +12,6 @@ use Rattle.xds_resource.specs.Types.{row, type_of_url, is_same_type}
 use Rattle.xds_resource.specs.Stamps.{max_counter}
 use Rattle.xds_resource.specs.PerType.{PerType, at, with_at, each}
 use Rattle.xds_resource.proofs.TypesApart.{same_type, is_same_type-same, at-with_at, at-with_at_other, at-each}
-use Rattle.xds_catalogue.proofs.Lookups.{get-inserted}
 use Rattle.xds_message.specs.Messages.{Request}
 use Rattle.xds_message.specs.DeltaMessages.{DeltaRequest}
 use Rattle.xds_draft.specs.declared.draft.Draft.{Draft}
@@ -45,22 +41,25 @@ use Rattle.xds_model.specs.Worlds.{Site, Link, Peer, World, recorded, at_site, w
 use Rattle.xds_model.specs.Knows.{TypedWrite}
 use Rattle.xds_model.specs.Claims.{asks_for}
 use Rattle.xds_model.specs.Settling.{link_in}
-use Rattle.xds_model.proofs.Replicas.{some_is, bound_some}
+use Rattle.xds_model.proofs.Replicas.{some_is, bound_some, ok_is}
 use Rattle.xds_model.proofs.Queues as queues
 use Rattle.xds_model.proofs.Queues.{lane_down}
-use Rattle.xds_model.proofs.LinkSteps.{url_type, taken_by}
+use Rattle.xds_model.proofs.LinkSteps.{taken_by}
 use Rattle.xds_model.proofs.LinkTakes as takes
 use Rattle.xds_model.proofs.Folding.{folded}
 use Rattle.xds_model.proofs.Lanes as lanes
 use Rattle.xds_model.proofs.SotwFolding.{folded as sotw_folded}
 use Rattle.xds_model.proofs.SotwLanes as sotw_lanes
 use Rattle.xds_model.proofs.SotwLinks as sotws
-use Rattle.xds_model.proofs.SotwSteps.{answer}
+use Rattle.xds_model.proofs.SotwSteps.{answer, delivered_parts}
 use Rattle.xds_model.proofs.ByKind.{LinkedAs}
 use Rattle.xds_model.proofs.CoreSteps.{stream_step_is}
 use Rattle.xds_model.proofs.Everyone.{at_site_is, Fine}
 use Rattle.xds_model.proofs.SettlingSessions.{HasAnswer, delta_answers, sotw_answers}
 use Rattle.xds_model.proofs.SettlingFaults.{fault_at}
+use Rattle.xds_model.proofs.EveryEvent.{get_put}
+use Rattle.xds_message.proofs.StampedWriteLemmas.{type_of_url-url}
+use Rattle.xds_beliefs.proofs.Stored.{or_true}
 
 -- ---- where a client is
 
@@ -93,13 +92,6 @@ linked_at w all c s fine =
 
 pub at_spot : (w : World) (c : ℕ) (f : Peer → Link → Option World) (y : World) (s : Spot w c) → on_link w c f ≡ Some y → f s.peer s.link ≡ Some y
 at_spot w c f y s is = sym (ap (option_and_then (λ p. option_and_then (f p) p.link)) s.has ∙ ap (option_and_then (f s.peer)) s.linked) ∙ is
-
-pub get_put : {X : Type 0} (m : FinMap nat_cmp X) (k : ℕ) (x : X) → finmap.get (finmap.insert m k x) k ≡ Some x
-get_put m k x =
-    elim (get-inserted nat_cmp_total nat_cmp-IsAntisymmetric m k x k) [
-      | inl here ↦ here.1
-      | inr other ↦ absurd (other.0 refl)
-    ]
 
 -- the spot once the client, its stream and its replica changed
 abbrev pub moved : (w : World) (c r : ℕ) (site : Site) (stream : Stream) (after : Peer) (l : Link) → after.link ≡ Some l → r ≡ l.replica → finmap.get site.core.streams l.stream ≡ Some stream
@@ -161,7 +153,7 @@ pub requested_is : (x : Stream) (s : TypeName) (m : Message) (z : Outcome × Str
 requested_is x s m z url is =
     let made = taken_by (is_foreign x m) x (variant_of m) (answered x.sessions m) z is in
     let answer : made.0 ≡ answered_by x.sessions m (type_of_url (url_of m)) = unless_once (length (url_of m) == 0) BadMessage (answered_by x.sessions m (type_of_url (url_of m))) made.0 made.1 in
-    ap (λ (y : Stream). y.sessions) made.2 ∙ ap (λ (a : Outcome × PerType Session). a.1) (answer ∙ ap (answered_by x.sessions m) (ap type_of_url url ∙ url_type s))
+    ap (λ (y : Stream). y.sessions) made.2 ∙ ap (λ (a : Outcome × PerType Session). a.1) (answer ∙ ap (answered_by x.sessions m) (ap type_of_url url ∙ type_of_url-url s))
 
 asks_as : (s t : TypeName) (m : Message) → url_of m ≡ (row s).url → asks_for t m ≡ is_same_type s t
 asks_as s t m url = ap (λ u. bytes_eq u (row t).url) url
@@ -224,16 +216,13 @@ kind_is : (replica : ℕ) (store : Store) (ss : PerType Session) (t : TypeName) 
 kind_is replica store ss t o n variants.StateOfTheWorld = refl
 kind_is replica store ss t o n variants.Delta = refl
 
-ok_is : (p q : Option Draft × Stream) → ◌≡◌ {A = Result (Option Draft × Stream) Refusal} (Ok p) (Ok q) → q ≡ p
-ok_is p q e = cc
-
 not_due : (v : VariantName) (store : Store) (x : Stream) (t : TypeName) → Speaks v x → to_send store x t ≡ None → sessions.sending v t (at x.sessions t) (at store t).entries ≡ None
 not_due v store x t (inl fresh) none = ap (λ s. sessions.sending v t s (at store t).entries) (ap (λ p. at p t) fresh.1 ∙ at-each unopened t)
 not_due v store x t (inr is) none = sym (ap (option_and_then (λ k. sessions.sending k t (at x.sessions t) (at store t).entries)) is) ∙ none
 
 poll_by : (v : VariantName) (replica : ℕ) (store : Store) (x : Stream) (t : TypeName) (q : Option Draft × Stream) (o : Option Offer) → Speaks v x → to_send store x t ≡ o → option_map_or (sending replica store x t) o (Ok (None, x)) ≡ Ok q
     → Sent v t store x q.1 q.0 ⊎ ((q.0 ≡ None) × (q.1 ≡ x) × (sessions.sending v t (at x.sessions t) (at store t).entries ≡ None))
-poll_by v replica store x t q None speaking due is = let same = ok_is (None, x) q is in inr (ap (λ p. p.0) same, ap (λ p. p.1) same, not_due v store x t speaking due)
+poll_by v replica store x t q None speaking due is = let same = sym (ok_is (None, x) q is) in inr (ap (λ p. p.0) same, ap (λ p. p.1) same, not_due v store x t speaking due)
 poll_by v replica store x t q (Some o) speaking due is =
     let facts = due_as v store x t o speaking due in
     let same : q ≡ (option_map (response_of replica store x.sessions t o (x.count + 1)) x.variant, sent x t o) =
@@ -261,14 +250,10 @@ among t ds = list_any (λ d. is_same_type (kind_of d) t) ds
 pub none_more : (t : TypeName) (ds : List Draft) (o : Option Draft) → o ≡ None → among t (ds ++ under_way o) ≡ among t ds
 none_more t ds o none = ap (λ x. among t (ds ++ under_way x)) none ∙ ap (among t) (append-nil ds)
 
-either_true : (b : Bool) → (b || true) ≡ true
-either_true true = refl
-either_true false = refl
-
 pub one_more : (t : TypeName) (ds : List Draft) (o : Option Draft) (d : Draft) → o ≡ Some d → kind_of d ≡ t → among t (ds ++ under_way o) ≡ true
 one_more t ds o d gave kind =
     ap (λ x. among t (ds ++ under_way x)) gave ∙ list_any-append (λ e. is_same_type (kind_of e) t) ds (d ∷ [])
-    ∙ ap (λ b. among t ds || (b || false)) (ap (λ s. is_same_type s t) kind ∙ is_same_type-same t) ∙ either_true (among t ds)
+    ∙ ap (λ b. among t ds || (b || false)) (ap (λ s. is_same_type s t) kind ∙ is_same_type-same t) ∙ or_true (among t ds)
 
 -- at most one of a type is
 pub one_lane : (k : ClientKind) (all : List TypedWrite) (c : Client) (l : Link) (x : Stream) (t : TypeName) → LinkedAs k all c l x → (o : Option Draft) × (lane_down t l.down ≡ under_way o)
@@ -329,10 +314,6 @@ kind_same : (s t : TypeName) → is_same_type s t ≡ true → ((s ≡ t) × (is
 kind_same s t own (inl same) = same.0
 kind_same s t own (inr other) = let never : true ≡ false = sym own ∙ other.1 in absurd cc
 
-kept_wants : (t : TypeName) (f : Shelf) (d : Drafted) (fault : Option (List ℕ)) → let g = option_map_or (λ x. rejecting f (sotw_delivery t (message_of d))) fault (taking t f (sotw_delivery t (message_of d))) in (g.wants ≡ f.wants) × (g.nonce ≡ d.nonce)
-kept_wants t f d None = (refl, refl)
-kept_wants t f d (Some x) = (refl, refl)
-
 delta_first : (t : TypeName) (s : Session) (q : DeltaRequest) (ms : List Message) (asks : Bool) → asks_for t (streams.Delta q) ≡ asks → ((k : Session) → folded t k (queues.lane_up t ms) ≡ ahead t k ms)
     → folded t s (queues.lane_up t (streams.Delta q ∷ ms)) ≡ ahead t s (streams.Delta q ∷ ms)
 delta_first t s q ms true is later =
@@ -374,7 +355,7 @@ down_answers Sotw all test c l x d rest q t down is own linked =
     let abreast : sotw_lanes.Abreast all t a (Some e) (shelf c t) =
     subst (λ y. sotw_lanes.Abreast all t a y (shelf c t)) here (subst (λ (y : Session). sotw_lanes.Abreast all t y lane.down (shelf c t)) (sotw_ahead t (at x.sessions t) l.up linked.sotws) lane.abreast) in
     let fault : Option (List ℕ) = fault_in e.kind test (sotw_delivery e.kind (message_of e)) in
-    let parts = kept_wants e.kind (shelf c e.kind) e fault in
+    let parts = delivered_parts e.kind (shelf c e.kind) e fault in
     let rejects : is_some (option_map failure fault) ≡ is_some (fault_at test t d) = some_mapped fault ∙ ap (λ k. is_some (fault_in k test (sotw_delivery k (message_of e)))) kind ∙ ap (λ y. is_some (fault_at test t y)) (sym made.is) in
     let given = sotw_answers all t a (shelf c t) e (answer e.kind test (shelf c e.kind) e) (ap texts parts.0 ∙ ap (λ k. texts (shelf c k).wants) kind) parts.1 abreast in
     subst (λ (p : Client × Message). (h : HasAnswer variants.StateOfTheWorld t a (session_after t a p.1)) × (h.rejects ≡ is_some (fault_at test t d))) (sym made.left) (given.0, given.1 ∙ rejects)

@@ -32,7 +32,7 @@ use Rattle.xds_model.proofs.SotwLanes.{IsHeld, Says, stated_in}
 
 -- ---- what is stated of a list of writes
 
-abbrev listed : List StampedWrite → List StatedResource
+abbrev pub listed : List StampedWrite → List StatedResource
 listed ws = map sotw_stated (map value_of (filter_map (λ w. w.body) ws))
 
 -- one write more in front, if it is picked

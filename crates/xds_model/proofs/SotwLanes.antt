@@ -102,11 +102,11 @@ asks_if_sent t s f sent has (inr never) = absurd (none_sent s.account.sent sent 
 
 -- ---- an answer: it lists what was wanted before, too
 
-same_twice : (b : Bool) → exactly_one b b ≡ false
+pub same_twice : (b : Bool) → exactly_one b b ≡ false
 same_twice true = refl
 same_twice false = refl
 
-untouched_again : (s : Selection) (q : List ℕ) → touches (sotw_touch s s) q ≡ false
+pub untouched_again : (s : Selection) (q : List ℕ) → touches (sotw_touch s s) q ≡ false
 untouched_again s q = sotw_touch_is_a_set s s q ∙ (λ i. same_twice s.star i || same_twice (set.contains s.names q) i)
 
 pub record Answered (t : TypeName) (w : Wants) (s after : Session) (sent : Sent) (rejects : Bool) : Type 0 where

@@ -21,7 +21,7 @@ use Rattle.xds_owed.specs.declared.variant.VariantName.TheVariants.{StateOfTheWo
 use Rattle.xds_owed.specs.Offers.{Offer}
 use Rattle.xds_ledger.specs.Ledgers.{nonce_text}
 use Rattle.xds_ledger.specs.Sessions as sessions
-use Rattle.xds_ledger.specs.Sessions.{Session, unopened, is_taken, send}
+use Rattle.xds_ledger.specs.Sessions.{Session, unopened, send}
 use Rattle.xds_sotw.specs.Polls.{take, response}
 use Rattle.xds_core.specs.Stores.{Store}
 use Rattle.xds_core.specs.Streams as streams
@@ -40,7 +40,7 @@ use Rattle.xds_model.specs.Knows.{TypedWrite}
 use Rattle.xds_model.specs.Claims.{asks_for}
 use Rattle.xds_model.proofs.Replicas.{some_is}
 use Rattle.xds_model.proofs.Queues.{cons-append, lane_down, lane_down-append, nonces_differ}
-use Rattle.xds_model.proofs.LinkSteps.{sending_facts, url_type, taken_by, IsSent, one_more, room_is}
+use Rattle.xds_model.proofs.LinkSteps.{sending_facts, taken_by, IsSent, one_more, room_is}
 use Rattle.xds_model.proofs.LinkTakes.{received_ok, answered_ok, nothing_wanted, connected_shelf, lost_shelf, addressed_to}
 use Rattle.xds_model.proofs.Firsts.{firsts, firsts_by, one_first, once, first_lane}
 use Rattle.xds_model.proofs.Delivering.{AllKnown}
@@ -49,6 +49,7 @@ use Rattle.xds_model.proofs.Lanes.{taken_if_sent}
 use Rattle.xds_model.proofs.SotwLanes.{Asks, Abreast, Says, stated_in, awaited, nothing_sent, none_sent}
 use Rattle.xds_model.proofs.SotwSteps.{answer, abreast_delivered, abreast_changed, abreast_first, abreast_sent, taken_last}
 use Rattle.xds_model.proofs.SotwDelivering.{response_says, stated_is_covered}
+use Rattle.xds_message.proofs.StampedWriteLemmas.{type_of_url-url}
 
 -- ---- the requests of a type
 
@@ -143,7 +144,7 @@ request_taken : (x : Stream) (t : TypeName) (q : Request) (z : Outcome × Stream
 request_taken x t q z url is =
     let made = taken_by (is_foreign x (streams.Sotw q)) x StateOfTheWorld (answered x.sessions (streams.Sotw q)) z is in
     let answer : made.0 ≡ answered_by x.sessions (streams.Sotw q) (type_of_url q.type_url) = unless_once (length q.type_url == 0) BadMessage (answered_by x.sessions (streams.Sotw q) (type_of_url q.type_url)) made.0 made.1 in
-    let typed : made.0 ≡ answered_by x.sessions (streams.Sotw q) (Some t) = answer ∙ ap (answered_by x.sessions (streams.Sotw q)) (ap type_of_url url ∙ url_type t) in
+    let typed : made.0 ≡ answered_by x.sessions (streams.Sotw q) (Some t) = answer ∙ ap (answered_by x.sessions (streams.Sotw q)) (ap type_of_url url ∙ type_of_url-url t) in
     made.2 ∙ ap (λ (a : Outcome × PerType Session). record { variant = Some StateOfTheWorld; count = x.count; sessions = a.1 }) typed
 
 lane_taken : (all : List TypedWrite) (t : TypeName) (s : Session) (count : ℕ) (q : Request) (ups : List Request) (downs : List Draft) (f : Shelf) → Lane all t s count (q ∷ ups) downs f → Lane all t (take t s q) count ups downs f
@@ -324,7 +325,7 @@ received_is test c (drafts.Delta d) q is = absurd cc
 received_is test c (drafts.Sotw d) q is =
     let made = received_ok streams.Sotw (sotw_receive test c (message_of d)) q is in
     let taken = answered_ok (sotw_answered test c (message_of d)) (addressing c (row d.kind).url) made.0 made.1 in
-    let typed : taken.0 ≡ d.kind = addressed_to c.broken (shelf c d.kind).asked d.kind taken.0 (ap (λ o. if c.broken then Err NoStream else addressed_or (option_and_then (if_asked c) o)) (sym (url_type d.kind)) ∙ taken.1) in
+    let typed : taken.0 ≡ d.kind = addressed_to c.broken (shelf c d.kind).asked d.kind taken.0 (ap (λ o. if c.broken then Err NoStream else addressed_or (option_and_then (if_asked c) o)) (sym (type_of_url-url d.kind)) ∙ taken.1) in
     record { draft = d; is = refl; left = made.2 ∙ ap (λ (p : Client × Request). (p.0, streams.Sotw p.1)) (taken.2 ∙ ap (sotw_answered test c (message_of d)) typed) }
 
 -- the client took the oldest response

@@ -39,7 +39,7 @@ use Rattle.xds_cache.specs.Sends.{failure, sotw_request}
 use Rattle.xds_cache.proofs.Interests.{wants_what_is_covered, shown_by_name, kept_by_name, holds_what_is_wanted}
 use Rattle.xds_model.specs.Knows.{TypedWrite}
 use Rattle.xds_model.proofs.ByOneName.{believed_after}
-use Rattle.xds_model.proofs.LaneSteps.{never_told}
+use Rattle.xds_model.proofs.LaneSteps.{never_told, begun_either}
 use Rattle.xds_model.proofs.SotwFolding.{names_of, answer_of, folded, AllTaken, NoneAnswers, touched_by, take_is, unsettled, believed_quiet, sending_folded, untouched_folded, touched_folded, touched_not_told}
 use Rattle.xds_model.proofs.SotwLanes.{naming, Asks, IsHeld, stated_in, Says, Delivers, Awaits, TouchedIsUnsure, Abreast, awaited, nothing_sent, awaits_none, none_sent, asks_if_sent, Answered, after_answer, held_after, told_accepted, none_accepted, no_removal}
 
@@ -89,7 +89,7 @@ delivered_by : (all : List TypedWrite) (t : TypeName) (s : Session) (m : Request
 delivered_by all t s m sent f d None has asked delivers answer lane = accepted all t s (take t s m) sent f d has asked answer delivers lane
 delivered_by all t s m sent f d (Some x) has asked delivers answer lane = rejected all t s (take t s m) sent f d asked answer delivers lane
 
-delivered_parts : (t : TypeName) (f : Shelf) (d : Drafted) (fault : Option (List ℕ)) → let g = option_map_or (λ x. rejecting f (sotw_delivery t (message_of d))) fault (taking t f (sotw_delivery t (message_of d))) in (g.wants ≡ f.wants) × (g.nonce ≡ d.nonce)
+pub delivered_parts : (t : TypeName) (f : Shelf) (d : Drafted) (fault : Option (List ℕ)) → let g = option_map_or (λ x. rejecting f (sotw_delivery t (message_of d))) fault (taking t f (sotw_delivery t (message_of d))) in (g.wants ≡ f.wants) × (g.nonce ≡ d.nonce)
 delivered_parts t f d None = (refl, refl)
 delivered_parts t f d (Some x) = (refl, refl)
 
@@ -167,7 +167,7 @@ none_changed true true false None held none is = none refl
 none_changed true true false (Some e) held none is = absurd cc
 none_changed false true mentioned b held none is = none is
 
-split : (a b : Bool) → (a || b) ≡ true → (a ≡ true) ⊎ (b ≡ true)
+pub split : (a b : Bool) → (a || b) ≡ true → (a ≡ true) ⊎ (b ≡ true)
 split true b is = inl refl
 split false b is = inr is
 
@@ -304,10 +304,6 @@ abreast_first all t m f asked lists some nonce within =
     }
 
 -- ---- a response is sent
-
-begun_either : (b : Bool) (x s : Session) → x.asked.begun ≡ true → s.asked.begun ≡ true → (if b then x else s).asked.begun ≡ true
-begun_either true x s left right = left
-begun_either false x s left right = right
 
 begun_folded : (t : TypeName) (s : Session) (ms : List Request) → s.asked.begun ≡ true → (folded t s ms).asked.begun ≡ true
 begun_folded t s [] begun = begun

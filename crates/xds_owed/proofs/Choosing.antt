@@ -1,16 +1,8 @@
 -- Small facts on tests and lists of names.
-use Rattle.std.proofs.Common.{◌≡◌, ℕ, List, [], ◌∷◌, Bool, true, false, cond, ◌||◌, ◌&&◌, refl, ap, ◌∙◌}
+use Rattle.std.proofs.Common.{◌≡◌, ℕ, List, [], ◌∷◌, Bool, true, false, ◌||◌, refl, ap, ◌∙◌}
 use Rattle.std.specs.Prelude.{bytes_eq}
 use Rattle.std.specs.List.{list_any}
 use Rattle.xds_resource.proofs.NameMaps.{has_text, bytes_eq_tells}
-
-pub cond_same : {X : Type 0} (b : Bool) (x : X) → cond b x x ≡ x
-cond_same true x = refl
-cond_same false x = refl
-
-pub and-false : (b : Bool) → (b && false) ≡ false
-and-false true = refl
-and-false false = refl
 
 -- a test that no name passes
 pub none_passes : (p : List ℕ → Bool) → ((name : List ℕ) → p name ≡ false) → (names : List (List ℕ)) → list_any p names ≡ false

@@ -6,6 +6,7 @@ use Rattle.std.proofs.lemmas.Bool.{cases_lt}
 use Rattle.xds_resource.specs.Writes.{StampedWrite}
 use Rattle.xds_catalogue.specs.Holdings.{Holdings, IsNumbered}
 use Rattle.xds_catalogue.specs.Next.{NoneAfter, IsNextChange}
+use Rattle.xds_owed.proofs.LookedThrough.{same_number}
 
 -- P holds of each name whose latest change has a number up to this one.
 abbrev pub LookedAt : (List ℕ → Type 0) → Holdings → ℕ → Type 0
@@ -13,9 +14,6 @@ LookedAt P h after = (name : List ℕ) (k : ℕ) → finmap.get h.latest name �
 
 not_zero : (k : ℕ) → 1 ≤ k → k ≤ 0 → ⊥
 not_zero k low high = omega arith
-
-same_number : (k number : ℕ) → k ≤ number → number ≤ k → k ≡ number
-same_number k number low high = omega arith
 
 module _ (P : List ℕ → Type 0) (h : Holdings) where
   pub none_looked_at : LookedAt P h 0

@@ -10,13 +10,10 @@ use Rattle.xds_catalogue.specs.Next.{NoneAfter, IsNextChange}
 use Rattle.xds_owed.specs.declared.entry.Entry.{Entry}
 use Rattle.xds_owed.specs.Owed.{Beliefs, present}
 use Rattle.xds_owed.proofs.ByName.{present_absent}
+use Rattle.xds_resource.proofs.NameMaps.{none_by_is_some}
 
 abbrev pub LookedThrough : Selection → Holdings → Beliefs → ℕ → Type 0
 LookedThrough s h b after = (name : List ℕ) (k : ℕ) → finmap.get h.latest name ≡ Some k → 1 ≤ k → k ≤ after → finmap.get b name ≡ None → present s h.entries name ≡ None
-
-none_by_is_some : {X : Type 0} (o : Option X) → is_some o ≡ false → o ≡ None
-none_by_is_some None e = refl
-none_by_is_some (Some x) e = absurd cc
 
 not_zero : (k : ℕ) → 1 ≤ k → k ≤ 0 → ⊥
 not_zero k low high = omega arith
@@ -24,7 +21,7 @@ not_zero k low high = omega arith
 pub looked_at_none : (s : Selection) (h : Holdings) (b : Beliefs) → LookedThrough s h b 0
 looked_at_none s h b name k is from none unheld = absurd (not_zero k from none)
 
-same_number : (k number : ℕ) → k ≤ number → number ≤ k → k ≡ number
+pub same_number : (k number : ℕ) → k ≤ number → number ≤ k → k ≡ number
 same_number k number low high = omega arith
 
 pub looked_at_more : (s : Selection) (h : Holdings) (b : Beliefs) (after number : ℕ) (w : StampedWrite) → IsNumbered h → IsNextChange h after number w

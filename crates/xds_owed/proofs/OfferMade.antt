@@ -11,7 +11,7 @@ use Rattle.xds_resource.specs.declared.types.TypeName.{TypeName}
 use Rattle.xds_resource.specs.Types.{row}
 use Rattle.xds_resource.specs.Writes.{StampedWrite, text_cmp, version_of}
 use Rattle.xds_resource.specs.Names.{put_some, put_all}
-use Rattle.xds_resource.proofs.NameMaps.{same_names, bytes_eq_same, bytes_eq_tells}
+use Rattle.xds_resource.proofs.NameMaps.{same_names, bytes_eq_same, bytes_eq_tells, cond_same}
 use Rattle.xds_resource.proofs.MadeMaps.{get-put_all, find_below, holds_first, holds_second}
 use Rattle.xds_interest.specs.Interests.{Selection, covers}
 use Rattle.xds_catalogue.specs.Holdings.{Entries, IsCatalogue}
@@ -26,7 +26,6 @@ use Rattle.xds_owed.specs.Variants.{is_delta, is_whole, is_told}
 use Rattle.xds_owed.specs.Owed.{Beliefs, live_version, present, owed}
 use Rattle.xds_owed.specs.Offers.{Offer, offer}
 use Rattle.xds_owed.specs.OfferParts.{stated, put_writes, removed}
-use Rattle.xds_owed.proofs.Choosing.{cond_same}
 use Rattle.xds_owed.proofs.ByName.{offer_says_it}
 
 -- ---- the content, as entries that are shown

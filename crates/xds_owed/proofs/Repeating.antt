@@ -17,6 +17,7 @@ use Rattle.xds_owed.specs.Offers.{Offer, offered, offer, same_offer}
 use Rattle.xds_owed.specs.Repeats.{same_saying, agrees}
 use Rattle.xds_owed.proofs.ByName.{offered_absent, offer_says_it}
 use Rattle.xds_owed.proofs.SameOffers.{same_due_itself, same_due_tells, offers_are_told_apart}
+use Rattle.xds_interest.proofs.Choices.{and_first, and_second}
 
 same_itself : (o : Option Due) → same_saying o o ≡ true
 same_itself None = refl
@@ -28,14 +29,6 @@ same_tells None (Some d) e = absurd cc
 same_tells (Some d) None e = absurd cc
 same_tells (Some d) (Some e) is = ap Some (same_due_tells d e is)
 
-first_true : (a b : Bool) → (a && b) ≡ true → a ≡ true
-first_true true b e = refl
-first_true false b e = absurd cc
-
-second_true : (a b : Bool) → (a && b) ≡ true → b ≡ true
-second_true true b e = e
-second_true false b e = absurd cc
-
 passes_at : {X : Type 0} (p : List ℕ → Bool) (k q : List ℕ) (x y : X) (rest : Option X) (tie : Bool) → bytes_eq q k ≡ tie → p k ≡ true → (rest ≡ Some y → p q ≡ true) → cond tie (Some x) rest ≡ Some y → p q ≡ true
 passes_at p k q x y rest true here passes later is = ap p (bytes_eq_tells q k here) ∙ passes
 passes_at p k q x y rest false other passes later is = later is
@@ -43,7 +36,7 @@ passes_at p k q x y rest false other passes later is = later is
 found_passes : {X : Type 0} (p : List ℕ → Bool) (es : List (List ℕ × X)) (q : List ℕ) (x : X) → list_all (λ e. p e.0) es ≡ true → finmap.find text_cmp q es ≡ Some x → p q ≡ true
 found_passes p [] q x all is = absurd cc
 found_passes p (e ∷ es) q x all is =
-    passes_at p e.0 q e.1 x (finmap.find text_cmp q es) (bytes_eq q e.0) refl (first_true (p e.0) _ all) (found_passes p es q x (second_true (p e.0) _ all))
+    passes_at p e.0 q e.1 x (finmap.find text_cmp q es) (bytes_eq q e.0) refl (and_first (p e.0) _ all) (found_passes p es q x (and_second (p e.0) _ all))
     (sym (ap (λ b. cond b (Some e.1) (finmap.find text_cmp q es)) (is_eq-slice_cmp q e.0)) ∙ is)
 
 -- a name of the map passes a test that all its names pass

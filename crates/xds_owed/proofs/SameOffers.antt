@@ -14,6 +14,7 @@ use Rattle.xds_owed.specs.declared.entry.Due.{Due}
 use Rattle.xds_owed.specs.declared.entry.Due.TheVariants.{Stated, Removed}
 use Rattle.xds_owed.specs.Offers.{Offer, same_due, is_within, same_offer}
 use Rattle.xds_owed.specs.OfferLaws.{OffersAreToldApart}
+use Rattle.xds_interest.proofs.Choices.{and_first, and_second}
 
 pub same_due_itself : (d : Due) → same_due d d ≡ true
 same_due_itself (Stated v) = bytes_eq_same v
@@ -24,14 +25,6 @@ same_due_tells (Stated v) (Stated w) is = ap Stated (bytes_eq_tells v w is)
 same_due_tells (Stated v) Removed is = absurd cc
 same_due_tells Removed (Stated w) is = absurd cc
 same_due_tells Removed Removed is = refl
-
-first_true : (a b : Bool) → (a && b) ≡ true → a ≡ true
-first_true true b e = refl
-first_true false b e = absurd cc
-
-second_true : (a b : Bool) → (a && b) ≡ true → b ≡ true
-second_true true b e = e
-second_true false b e = absurd cc
 
 -- whether a map says this of a name
 abbrev says : Offer → List ℕ → Due → Bool
@@ -47,7 +40,7 @@ said_at b e es q d false other said later is = later is
 found_is_said : (b : Offer) (es : List (List ℕ × Due)) (q : List ℕ) (d : Due) → list_all (λ e. says b e.0 e.1) es ≡ true → finmap.find text_cmp q es ≡ Some d → says b q d ≡ true
 found_is_said b [] q d all is = absurd cc
 found_is_said b (e ∷ es) q d all is =
-    said_at b e es q d (bytes_eq q e.0) refl (first_true (says b e.0 e.1) _ all) (found_is_said b es q d (second_true (says b e.0 e.1) _ all))
+    said_at b e es q d (bytes_eq q e.0) refl (and_first (says b e.0 e.1) _ all) (found_is_said b es q d (and_second (says b e.0 e.1) _ all))
     (sym (ap (λ x. cond x (Some e.1) (finmap.find text_cmp q es)) (is_eq-slice_cmp q e.0)) ∙ is)
 
 -- what a says, b says
@@ -62,7 +55,7 @@ agree (Some d) (Some e) left right = ap Some (same_due_tells d e (left d refl))
 
 same_offer_tells : (a b : Offer) → same_offer a b ≡ true → a ≡ b
 same_offer_tells a b is =
-    same_names a b (λ q. agree (finmap.get a q) (finmap.get b q) (λ d. within_says a b q d (first_true _ _ is)) (λ d. within_says b a q d (second_true _ _ is)))
+    same_names a b (λ q. agree (finmap.get a q) (finmap.get b q) (λ d. within_says a b q d (and_first _ _ is)) (λ d. within_says b a q d (and_second _ _ is)))
 
 -- each of some entries, all above the key k, is found where k stands before them
 abbrev FoundIn : List (List ℕ × Due) → List (List ℕ × Due) → Type 0
@@ -73,8 +66,8 @@ past_first k x all [] below found = refl
 past_first k x all (e ∷ es) below found =
     let apart : eq_by_cmp text_cmp e.0 k ≡ false =
     is_eq-slice_cmp e.0 k ∙ bytes_eq_swap e.0 k ∙ sym (is_eq-slice_cmp k e.0) ∙ less_is_no_tie (text_cmp k e.0) (holds_first (is_lt (text_cmp k e.0)) (below_all text_cmp k es) below) in
-    (λ i. (ap (λ b. option_map_or (same_due e.1) (cond b (Some x) (finmap.find text_cmp e.0 all)) false) apart ∙ first_true _ _ found) i
-    && past_first k x all es (holds_second (is_lt (text_cmp k e.0)) (below_all text_cmp k es) below) (second_true (option_map_or (same_due e.1) (finmap.find text_cmp e.0 all) false) _ found) i)
+    (λ i. (ap (λ b. option_map_or (same_due e.1) (cond b (Some x) (finmap.find text_cmp e.0 all)) false) apart ∙ and_first _ _ found) i
+    && past_first k x all es (holds_second (is_lt (text_cmp k e.0)) (below_all text_cmp k es) below) (and_second (option_map_or (same_due e.1) (finmap.find text_cmp e.0 all) false) _ found) i)
 
 found_in_itself : (es : List (List ℕ × Due)) → T (is_sorted text_cmp es) → FoundIn es es
 found_in_itself [] sorted = refl
@@ -85,8 +78,8 @@ found_in_itself (e ∷ es) sorted =
 by_entries : (a : Offer) (es : List (List ℕ × Due)) → FoundIn (finmap.entries a) es → list_all (λ e. says a e.0 e.1) es ≡ true
 by_entries a [] found = refl
 by_entries a (e ∷ es) found =
-    (λ i. (ap (λ o. option_map_or (same_due e.1) o false) (finmap.get-entries a e.0) ∙ first_true _ _ found) i
-    && by_entries a es (second_true (option_map_or (same_due e.1) (finmap.find text_cmp e.0 (finmap.entries a)) false) _ found) i)
+    (λ i. (ap (λ o. option_map_or (same_due e.1) o false) (finmap.get-entries a e.0) ∙ and_first _ _ found) i
+    && by_entries a es (and_second (option_map_or (same_due e.1) (finmap.find text_cmp e.0 (finmap.entries a)) false) _ found) i)
 
 within_itself : (a : Offer) → is_within a a ≡ true
 within_itself a = by_entries a (finmap.entries a) (found_in_itself (finmap.entries a) (finmap.entries_sorted a))

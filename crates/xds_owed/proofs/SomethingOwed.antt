@@ -43,7 +43,7 @@ passes_at : (p : List ℕ → Bool) (names : List (List ℕ)) (q : List ℕ) (an
 passes_at p names q true is passes listed = refl
 passes_at p names q false is passes listed = let fails = listed_fails p names q is listed in absurd cc
 
-is_some_of : {X : Type 0} (o : Option X) → is_some o ≡ true → (x : X) × (o ≡ Some x)
+pub is_some_of : {X : Type 0} (o : Option X) → is_some o ≡ true → (x : X) × (o ≡ Some x)
 is_some_of None e = absurd cc
 is_some_of (Some x) e = (x, refl)
 

@@ -13,7 +13,7 @@ use Rattle.xds_resource.specs.declared.types.TypeName.{TypeName}
 use Rattle.xds_resource.specs.Types.{row}
 use Rattle.xds_resource.specs.Resources.{value_of}
 use Rattle.xds_resource.specs.Writes.{StampedWrite, text_cmp, version_of}
-use Rattle.xds_resource.proofs.NameMaps.{has_text-keys}
+use Rattle.xds_resource.proofs.NameMaps.{has_text-keys, cond_same}
 use Rattle.xds_resource.proofs.MadeMaps.{EachFound, each_found}
 use Rattle.xds_interest.specs.Interests.{Selection, covers}
 use Rattle.xds_interest.specs.Asked.{unasked, sotw_asked}
@@ -34,10 +34,11 @@ use Rattle.xds_beliefs.specs.Believing.{believed_touched, beliefs_taken, beliefs
 use Rattle.xds_ledger.specs.Sessions.{Session, unopened, send}
 use Rattle.xds_owed.proofs.ByName.{present_absent, offer_says_it}
 use Rattle.xds_beliefs.proofs.ByName.{taken_by_name}
-use Rattle.xds_owed.proofs.Choosing.{cond_same, none_passes, listed_fails}
+use Rattle.xds_owed.proofs.Choosing.{none_passes, listed_fails}
 use Rattle.xds_beliefs.proofs.Made.{resumed_by_name}
 use Rattle.xds_sotw.specs.Polls.{take, sending, response, stated_writes, HasPolled}
 use Rattle.xds_program.specs.Answers.{objects_of, response_with, response_to}
+use Rattle.xds_beliefs.proofs.Stored.{or_true}
 
 -- ---- what is believed after the first request
 
@@ -150,10 +151,6 @@ any_kept p (w ∷ ws) = any_step (p w) (list_any p ws) w (filter p ws) (any_kept
 there_at : (s : Selection) (m : Entries) (name : List ℕ) (o : Option StampedWrite) → finmap.get m name ≡ o → list_any (is_there s m) (finmap.keys m) ≡ false → is_there s m name ≡ false
 there_at s m name None found none = ap is_some (present_absent s m name found)
 there_at s m name (Some w) found none = listed_fails (is_there s m) (finmap.keys m) name none (has_text-keys m name ∙ ap is_some found)
-
-or_true : (b : Bool) → (b || true) ≡ true
-or_true true = refl
-or_true false = refl
 
 -- no other names are present than the catalogue's
 there_among : (s : Selection) (m : Entries) (names : List (List ℕ)) (any : Bool) → list_any (is_there s m) (finmap.keys m) ≡ any → (list_any (is_there s m) names || any) ≡ any

@@ -22,10 +22,10 @@ not_both Less lt gt = absurd cc
 not_both Equal lt gt = refl
 not_both Greater lt gt = absurd cc
 
-not_Greater : (o : Ordering) → is_gt o ≡ false → o ≢ Greater
+pub not_Greater : (o : Ordering) → is_gt o ≡ false → o ≢ Greater
 not_Greater o e is = cc
 
-not_gt : (o : Ordering) → o ≢ Greater → is_gt o ≡ false
+pub not_gt : (o : Ordering) → o ≢ Greater → is_gt o ≡ false
 not_gt Less n = refl
 not_gt Equal n = refl
 not_gt Greater n = absurd (n refl)

@@ -3,12 +3,12 @@ use Rattle.std.proofs.Common.{inl, inr, ◌≡◌, ℕ, List, [], ◌∷◌, ◌
 use Rattle.std.specs.Prelude.{T, ◌&&◌, string_bytes, bytes_eq, is_some}
 use Rattle.std.specs.declared.cmp.Ordering.TheVariants.{Less}
 use Rattle.std.specs.Ordering.{nat_cmp, is_lt, is_eq, eq_by_cmp}
-use Rattle.std.specs.Option.{option_map, option_or}
+use Rattle.std.specs.Option.{option_or}
 use Rattle.std.specs.List.{AllByRecursion, list_any}
 use Rattle.std.specs.List.Sorted.{IsStrictlySortedBy}
 use Rattle.std.specs.Cmp.Lexicographic.{slice_cmp}
 use Rattle.std.specs.String.{string_cmp}
-use Rattle.std.specs.Map.{lookup, update}
+use Rattle.std.specs.Map.{lookup}
 use Rattle.std.specs.BTreeMap as tree
 use Rattle.std.specs.BTreeMap.{is_at}
 use Rattle.std.specs.FinMap as finmap
@@ -72,11 +72,11 @@ seen-removed m n k u = same_names _ _ (λ q. get-seen n q ∙ btree_map_updates_
 
 -- ---- in the order of names
 
-both_true : (a b : Bool) → a ≡ true → T b → T (a && b)
+pub both_true : (a b : Bool) → a ≡ true → T b → T (a && b)
 both_true true b e h = h
 both_true false b e h = absurd cc
 
-both_hold : (a b : Bool) → T a → T b → T (a && b)
+pub both_hold : (a b : Bool) → T a → T b → T (a && b)
 both_hold true b h k = k
 both_hold false b h k = absurd h
 
@@ -100,7 +100,7 @@ entries-seen m sorted =
 abbrev pub has_text : List (List ℕ) → List ℕ → Bool
 has_text texts q = list_any (bytes_eq q) texts
 
-cond_same : {X : Type 0} (b : Bool) (x : X) → cond b x x ≡ x
+pub cond_same : {X : Type 0} (b : Bool) (x : X) → cond b x x ≡ x
 cond_same true x = refl
 cond_same false x = refl
 
@@ -156,7 +156,7 @@ neither false b e = (refl, e)
 pub in_neither : (xs ys : List (List ℕ)) (q : List ℕ) → has_text (xs ++ ys) q ≡ false → (has_text xs q ≡ false) × (has_text ys q ≡ false)
 in_neither xs ys q e = neither _ _ (sym (has_text-append xs ys q) ∙ e)
 
-none_by_is_some : {X : Type 0} (o : Option X) → is_some o ≡ false → o ≡ None
+pub none_by_is_some : {X : Type 0} (o : Option X) → is_some o ≡ false → o ≡ None
 none_by_is_some None e = refl
 none_by_is_some (Some x) e = absurd cc
 

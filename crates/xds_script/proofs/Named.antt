@@ -4,7 +4,6 @@ use Rattle.std.specs.Prelude.{bytes_eq, not, ◌&&◌}
 use Rattle.std.specs.Option.{option_map, option_and_then, option_map_or}
 use Rattle.std.specs.Result.{result_ok}
 use Rattle.xds_resource.specs.declared.types.TypeName.{TypeName}
-use Rattle.xds_resource.specs.declared.types.TypeName.TheVariants.{Cluster, Endpoint, Listener, Route}
 use Rattle.xds_resource.specs.declared.refusal.Refusal.{Refusal}
 use Rattle.xds_resource.specs.declared.refusal.Refusal.TheVariants.{BadResource}
 use Rattle.xds_resource.specs.Types.{row, type_of_url}
@@ -12,6 +11,7 @@ use Rattle.xds_resource.specs.Refusals.{unless_refused}
 use Rattle.xds_resource.specs.Resources.{NamedBody, named_type, parsed, value_of, type_text, has_type, resource_of, front_conditions, object_conditions, from_object}
 use Rattle.xds_resource.proofs.NameMaps.{bytes_eq_tells}
 use Rattle.xds_script.specs.Commands.{resource_in}
+use Rattle.xds_message.proofs.StampedWriteLemmas.{type_of_url-url}
 
 passed : {A : Type 0} (b : Bool) (e : Refusal) (r : Result A Refusal) (a : A) → cond b (Err e) r ≡ Ok a → r ≡ Ok a
 passed true e r a h = cc
@@ -26,15 +26,9 @@ typed : {A : Type 0} (has named : Bool) (r : Result A Refusal) (a : A) → cond 
 typed true named r a h = refl
 typed false named r a h = cc
 
-own_url : (t : TypeName) → type_of_url (row t).url ≡ Some t
-own_url Cluster = refl
-own_url Endpoint = refl
-own_url Listener = refl
-own_url Route = refl
-
 named : (t : TypeName) (url : Option (List ℕ)) → option_map_or (λ u. bytes_eq u (row t).url) url false ≡ true → option_and_then type_of_url url ≡ Some t
 named t None h = cc
-named t (Some url) h = ap type_of_url (bytes_eq_tells url (row t).url h) ∙ own_url t
+named t (Some url) h = ap type_of_url (bytes_eq_tells url (row t).url h) ∙ type_of_url-url t
 
 -- a text that is a resource of a type names that type
 pub named_type-parsed : (t : TypeName) (text : List ℕ) (r : NamedBody) → parsed t text ≡ Ok r → named_type (value_of text) ≡ Some t

@@ -1,5 +1,5 @@
 -- What was done so far to settle a client of a type, in a world that runs.
-use Rattle.std.proofs.Common.{◌≡◌, inl, inr, ℕ, suc, ◌+◌, ◌<◌, ◌≤◌, List, [], ◌∷◌, ◌++◌, Bool, true, false, ◌||◌, Option, Some, None, refl, sym, ap, subst, ◌∙◌, length, drop, arith}
+use Rattle.std.proofs.Common.{◌≡◌, inl, inr, ℕ, suc, ◌+◌, ◌<◌, ◌≤◌, List, [], ◌∷◌, ◌++◌, Bool, true, false, Some, None, refl, sym, ap, subst, ◌∙◌, length, drop, arith}
 use Rattle.std.specs.Prelude.{is_some}
 use Rattle.std.specs.Option.{option_and_then}
 use Rattle.std.proofs.lemmas.List.{append-nil, append_assoc}
@@ -24,6 +24,10 @@ use Rattle.xds_peer.specs.Steps.{event_for}
 use Rattle.xds_world.specs.Played.{IsPlayed, HasStepped}
 use Rattle.xds_world.proofs.Plays.{played_one, after_both}
 use Rattle.xds_world.proofs.Weights.{weight, up_lightens, down_lightens, poll_burdens}
+use Rattle.xds_owed.proofs.SomethingOwed.{is_some_of}
+use Rattle.xds_model.proofs.SettlingSessions.{never_both}
+use Rattle.xds_beliefs.proofs.Stored.{or_true}
+use Rattle.xds_interest.proofs.Listed.{or-false}
 
 -- what was done since, from the world of a list to another, with how many responses of the type taken
 pub record Settles (test : Test) (c : ℕ) (t : TypeName) (before now : List Happening) (x : World) (responses : ℕ) : Type 0 where
@@ -104,10 +108,6 @@ settles_stopped test c t before now later x y responses step is next stepped = r
 
 -- ---- what it comes to
 
-some_there : {X : Type 0} (o : Option X) → is_some o ≡ true → (x : X) × (o ≡ Some x)
-some_there None is = absurd cc
-some_there (Some x) is = (x, refl)
-
 pub settled_few : (test : Test) (c : ℕ) (t : TypeName) (before later : List Happening) (settled : Bool) (responses : ℕ) → PutResources before → HasSettled test c t before later settled responses → responses ≤ 2
 settled_few test c t before later settled responses put is = subst (λ n. n ≤ 2) (sym is.counts) (two_responses_suffice test before put c t is.more is.steps)
 
@@ -123,7 +123,7 @@ pub settled_or_held_back : (test : Test) (c : ℕ) (t : TypeName) (before later 
     → HasSettled test c t before later settled responses → IsSettledOrHeldBack test c t later settled
 settled_or_held_back test c t before later settled responses put linked is not_settled =
     let left : world test later ≡ after test (world test before) is.more = ap (world test) is.longer ∙ after_both test empty_world before is.more in
-    let l = some_there (link_in (world test before) c) linked in
+    let l = is_some_of (link_in (world test before) c) linked in
     ap (λ w. is_held_back w c t) left
     ∙ unsettled_has_refused test before put c t is.more l.0 is.steps l.1 (sym (is.tells ∙ ap (λ w. is_settled w c t) left) ∙ not_settled)
 
@@ -140,30 +140,18 @@ left_to_do c before now x = load (polls (drop (length before) now)) (weight x c)
 left_is : (c : ℕ) (before now more : List Happening) (x : World) → now ≡ before ++ more → left_to_do c before now x ≡ load (polls more) (weight x c)
 left_is c before now more x longer = ap (λ l. load (polls l) (weight x c)) (ap (drop (length before)) longer ∙ drop-append_seam before more)
 
-or_false : (b : Bool) → (b || false) ≡ b
-or_false true = refl
-or_false false = refl
-
-or_true : (b : Bool) → (b || true) ≡ true
-or_true true = refl
-or_true false = refl
-
 lighter : (b : Bool) (m n : ℕ) → suc m ≡ n → load b m < load b n
 lighter true m n is = omega (arith, is)
 lighter false m n is = omega (arith, is)
-
-never_both : (b : Bool) → b ≡ true → b ≡ false → ⊥
-never_both true is not = absurd cc
-never_both false is not = absurd cc
 
 -- each step leaves less to do
 falls_by : (test : Test) (c : ℕ) (t : TypeName) (before now : List Happening) (x y : World) (responses : ℕ) (step : Step) → (is : Settles test c t before now x responses) → next_to_settle x c t ≡ Some (event_for c t step)
     → happens test x (event_for c t step) ≡ Some y → gave_nothing t (event_for c t step) (link_in y c) ≡ false → load (polls (is.more ++ event_for c t step ∷ [])) (weight y c) < load (polls is.more) (weight x c)
 falls_by test c t before now x y responses steps.Up is next happened gave =
-    subst (λ b. load b (weight y c) < load (polls is.more) (weight x c)) (sym (list_any-append is_poll is.more (Up c ∷ []) ∙ or_false (polls is.more)))
+    subst (λ b. load b (weight y c) < load (polls is.more) (weight x c)) (sym (list_any-append is_poll is.more (Up c ∷ []) ∙ or-false (polls is.more)))
     (lighter (polls is.more) (weight y c) (weight x c) (up_lightens test x y c happened))
 falls_by test c t before now x y responses steps.Down is next happened gave =
-    subst (λ b. load b (weight y c) < load (polls is.more) (weight x c)) (sym (list_any-append is_poll is.more (Down c ∷ []) ∙ or_false (polls is.more)))
+    subst (λ b. load b (weight y c) < load (polls is.more) (weight x c)) (sym (list_any-append is_poll is.more (Down c ∷ []) ∙ or-false (polls is.more)))
     (lighter (polls is.more) (weight y c) (weight x c) (down_lightens test x y c happened))
 falls_by test c t before now x y responses steps.Poll is next happened gave =
     subst (λ b. load b (weight y c) < load (polls is.more) (weight x c)) (sym (list_any-append is_poll is.more (Poll c (Some t) ∷ []) ∙ or_true (polls is.more))) (by_polls (polls is.more) refl)

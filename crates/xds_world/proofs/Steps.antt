@@ -17,17 +17,11 @@ use Rattle.xds_shelf.specs.Faults.{Test}
 use Rattle.xds_cache.specs.Clients.{unlinked}
 use Rattle.xds_model.specs.Happenings as happenings
 use Rattle.xds_model.specs.Worlds.{Peer, Link, World, at_site, happened_at, happens, with_peer, on_link, connected_to, opened, polled, under_way, up_taken, down_taken, taken_down, received, changed, wish_taken}
-use Rattle.xds_model.proofs.Replicas.{answered}
+use Rattle.xds_model.proofs.Replicas.{answered, some_is, ok_is}
 use Rattle.xds_peer.specs.Calls.{Gave, Happened}
 use Rattle.xds_peer.specs.Links.{link_up, first}
 use Rattle.xds_peer.specs.Peers.{peer_up, peer_polled, peer_lost, peer_connected, peer_down, peer_changed, link_down}
 use Rattle.xds_world.specs.Parts.{peer_event, link_at, link_of, leads, draft_in, stream_in, batch_in}
-
-ok_is : {X : Type 0} (x y : X) → ◌≡◌ {A = Result X Refusal} (Ok x) (Ok y) → x ≡ y
-ok_is x y e = cc
-
-some_is : {X : Type 0} (x y : X) → Some x ≡ Some y → x ≡ y
-some_is x y e = cc
 
 -- ---- replies
 

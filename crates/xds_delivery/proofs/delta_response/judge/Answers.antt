@@ -2,12 +2,13 @@ use Rattle.std.proofs.Common.{Ok, string_bytes, sym, ap, ◌∙◌}
 use Rattle.std.specs.Option.{option_map}
 use Rattle.xds_message.specs.Responses.{resource_of}
 use Rattle.xds_shelf.specs.Deliveries.{delta_stated}
-use Rattle.xds_delivery.proofs.Judging.{none_by_false, fault_more, stated_more}
+use Rattle.xds_delivery.proofs.Judging.{fault_more, stated_more}
 use Rattle.xds_delivery.proofs.delta_response.judge.Goals as goal
+use Rattle.xds_resource.proofs.NameMaps.{none_by_is_some}
 
 pub loop-resource-preserved : goal.loop-resource-preserved
 loop-resource-preserved g c =
-    let none = none_by_false c.in_ok-fault.fault (sym c.is_some.ensures ∙ c.if-is_some.false) in
+    let none = none_by_is_some c.in_ok-fault.fault (sym c.is_some.ensures ∙ c.if-is_some.false) in
     let stated = c.in_ok-fault.ensures.none (ap Ok none) in
     let test = g.A.Accept.accepts in
     let at = c.loop-resource.resource-index in
