@@ -1,3 +1,3 @@
 pub mod Made
-mod Stating
+pub mod Stating
 mod InPlace

@@ -29,7 +29,7 @@ named r = (r.name, r.version)
 
 -- ---- what is stated is present
 
-pub told_other : (same : Bool) (u version : List ℕ) → option_and_then stated_version (if same then None else Some (Stated u)) ≡ Some version → Some u ≡ Some version
+told_other : (same : Bool) (u version : List ℕ) → option_and_then stated_version (if same then None else Some (Stated u)) ≡ Some version → Some u ≡ Some version
 told_other true u version is = absurd cc
 told_other false u version is = is
 

@@ -14,6 +14,7 @@ use Rattle.xds_core.specs.Streams.{Stream, opening, requested, polled_first, loo
 use Rattle.xds_core.specs.Events.{Event, Open, Request, Poll, Owes, Close, Put, Delete, Merge, Snapshot, Reply, Opened, Answered, Polled, Owed, Closed, Written, Merged}
 use Rattle.xds_core.specs.Steps.{Core, Step, step, with_stream, stream_step}
 use Rattle.xds_core.proofs.StepLaws.{done_with, unless_once}
+use Rattle.xds_model.proofs.Replicas.{never}
 
 stepped_is : (p q : Reply × Core) → ◌≡◌ {A = Step} (Ok p) (Ok q) → q ≡ p
 stepped_is p q e = cc
@@ -63,13 +64,10 @@ opened_counted c counted m z is =
       | inr other ↦ (let below = counted m z (sym other.1 ∙ is) in omega (arith, below))
     ]
 
-never_there : (x : Stream) → ◌≡◌ {A = Option Stream} None (Some x) → ⊥
-never_there x e = cc
-
 closed_counted : (c : Core) (n : ℕ) → IsCounted c → IsCounted (record c { streams = finmap.remove c.streams n })
 closed_counted c n counted m z is =
     elim (get-removed nat_cmp_total nat_cmp-IsAntisymmetric c.streams n m) [
-      | inl here ↦ absurd (never_there z (sym here.1 ∙ is))
+      | inl here ↦ absurd (never z (sym here.1 ∙ is))
       | inr other ↦ counted m z (sym other.1 ∙ is)
     ]
 

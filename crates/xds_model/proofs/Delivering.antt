@@ -16,15 +16,14 @@ use Rattle.xds_interest.specs.Interests.{Selection, covers}
 use Rattle.xds_catalogue.specs.Holdings.{Holdings, Entries}
 use Rattle.xds_draft.specs.Drafts.{DraftedResource, drafted_resource}
 use Rattle.xds_owed.specs.declared.variant.VariantName.TheVariants.{Delta}
-use Rattle.xds_owed.specs.declared.entry.Entry.{Entry}
-use Rattle.xds_owed.specs.declared.entry.Entry.TheVariants.{Told, Unsure}
 use Rattle.xds_owed.specs.declared.entry.Due.{Due}
 use Rattle.xds_owed.specs.declared.entry.Due.TheVariants.{Stated, Removed}
 use Rattle.xds_owed.specs.Variants.{is_told}
-use Rattle.xds_owed.specs.Owed.{Beliefs, live_version, present, owed, owed_of}
-use Rattle.xds_owed.specs.Offers.{Offer, offer, stated_version}
+use Rattle.xds_owed.specs.Owed.{Beliefs, live_version, present, owed_of}
+use Rattle.xds_owed.specs.Offers.{Offer, offer}
 use Rattle.xds_owed.proofs.ByName.{offer_says_it}
 use Rattle.xds_delta.specs.Polls.{is_statement, is_removal, names_where, resource_of as drafted_of, resource_at, response}
+use Rattle.xds_delta.proofs.Stating.{present_if_stated, kept_at}
 use Rattle.xds_shelf.specs.Shelves.{Holding, Cache, marked}
 use Rattle.xds_shelf.specs.Faults.{Stated as StatedResource, stated_by, and_stated}
 use Rattle.xds_shelf.specs.Deliveries.{delta_stated}
@@ -152,22 +151,6 @@ removed_there : (replica : ℕ) (t : TypeName) (h : Holdings) (o : Offer) (numbe
 removed_there replica t h o number q = ap is_some (get-tabulate marked (names_where is_removal o) q) ∙ marked_there (has_text (names_where is_removal o) q) ∙ names_there is_removal o q
 
 -- ---- what is offered is present
-
-told_other : (same : Bool) (u version : List ℕ) → option_and_then stated_version (if same then None else Some (Stated u)) ≡ Some version → Some u ≡ Some version
-told_other true u version is = absurd cc
-told_other false u version is = is
-
-pub present_if_stated : (e : Option Entry) (p : Option (List ℕ)) (version : List ℕ) → option_and_then stated_version (owed e p) ≡ Some version → p ≡ Some version
-present_if_stated None None version is = absurd cc
-present_if_stated None (Some u) version is = is
-present_if_stated (Some (Told told)) None version is = absurd cc
-present_if_stated (Some (Told told)) (Some u) version is = told_other (bytes_eq told u) u version is
-present_if_stated (Some Unsure) None version is = absurd cc
-present_if_stated (Some Unsure) (Some u) version is = is
-
-kept_at : (tells : Bool) (o : Option Due) (version : List ℕ) → cond tells o None ≡ Some (Stated version) → option_and_then stated_version o ≡ Some version
-kept_at true o version is = ap (option_and_then stated_version) is
-kept_at false o version is = absurd cc
 
 present_at : (s : Selection) (m : Entries) (b : Beliefs) (t : TypeName) (q version : List ℕ) → finmap.get (offer Delta t s m b) q ≡ Some (Stated version) → present s m q ≡ Some version
 present_at s m b t q version is =

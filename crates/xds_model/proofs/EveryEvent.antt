@@ -27,7 +27,7 @@ use Rattle.xds_model.specs.declared.event.ClientKind.{ClientKind}
 use Rattle.xds_model.specs.Happenings.{Happening, Wish, AddReplica, AddClient, Put, Delete, Snapshot, Merge, Connect, Change, Up, Poll, Down, Lose}
 use Rattle.xds_model.specs.Worlds.{Site, Link, Peer, World, empty_world, at_site, happened_at, placed, pooled, with_peer, new_peer, connected_to, opened, sending, changed, wish_of, wish_taken, under_way, polled, up_taken, received, taken_down, down_taken, opening_requests, on_link, is_free, happens}
 use Rattle.xds_model.specs.Knows.{TypedWrite}
-use Rattle.xds_model.proofs.Replicas.{some_is, bound_some, mapped_some, if_some, if_both, both_parts, none_there, on_link_some}
+use Rattle.xds_model.proofs.Replicas.{some_is, bound_some, mapped_some, if_some, if_both, both_parts, none_there, on_link_some, never}
 use Rattle.xds_model.proofs.Delivering.{AllKnown}
 use Rattle.xds_model.proofs.ByKind.{LinkedAs, RestsAs, up_as, poll_as, down_as, opened_as, lost_as, fresh_as, changed_as, rests_as}
 use Rattle.xds_model.proofs.CoreSteps.{stream_step_is, open_is}
@@ -78,9 +78,6 @@ module _ (w left : World) (all : List TypedWrite) (c : ℕ) (p : Peer) (l : Link
 
 never_link : (k : Link) → ◌≡◌ {A = Option Link} (Some k) None → ⊥
 never_link k is = cc
-
-no_link : (k : Link) → ◌≡◌ {A = Option Link} None (Some k) → ⊥
-no_link k is = cc
 
 -- ---- Up, Poll, Down, Lose
 
@@ -170,7 +167,7 @@ fine_lose w left all c p l has link is fine =
     let x = at_site_is w l.replica e q made.1 in
     let here = fine.ups c p l has link in
     fine_here w left all c p l has link fine after (ap (λ y. y.peers) made.2 ∙ ap (λ y. finmap.insert y c after) (same_peers w l.replica e q x))
-    (stream_frame w left all c p l has link fine e q x refl (ap (λ y. y.sites) made.2)) (λ k at_k. absurd (no_link k at_k)) (λ none. lost_as all p.kind p.client l here.0 here.2)
+    (stream_frame w left all c p l has link fine e q x refl (ap (λ y. y.sites) made.2)) (λ k at_k. absurd (never k at_k)) (λ none. lost_as all p.kind p.client l here.0 here.2)
     (still_counted w left all c p l has link fine e q x (ap (λ y. y.sites) made.2))
 
 -- ---- Connect
@@ -202,7 +199,7 @@ fine_connect w left all c r p has none is fine =
       subst (λ y. LinkedAs p.kind all (clients.linked (is_greeted p.client false types) p.client) y opening) is_k
           (opened_as all p.kind p.client r n (is_greeted p.client false types) (fine.downs c p has none)),
     ))
-    (λ never. absurd (never_link (record { replica = r; stream = n; up = opening_requests p.kind p.client; down = [] }) never))
+    (λ none. absurd (never_link (record { replica = r; stream = n; up = opening_requests p.kind p.client; down = [] }) none))
     (λ d s k m other has_d at_k link_d same_replica same_number. let is_k = some_is (record { replica = r; stream = n; up = opening_requests p.kind p.client; down = [] }) k at_k in
     let le = below d s m has_d link_d (sym same_replica ∙ ap (λ y. y.replica) (sym is_k)) in let at_end : n ≡ m.stream = ap (λ y. y.stream) is_k ∙ same_number in absurd (omega (arith, le, at_end))) counted fine
 
@@ -235,9 +232,9 @@ fine_change_down : (w left : World) (all : List TypedWrite) (c : ℕ) (p : Peer)
     → left ≡ with_peer w c (changed p q) → Fine w all → Fine left all
 fine_change_down w left all c p t wish q has link wished is fine =
     let next : option_map (sending q.1) p.link ≡ None = ap (option_map (sending q.1)) link in
-    fine_peer w left all c (changed p q) (ap (λ y. y.peers) is) (λ e r m other has_e link_e. ap (λ y. stream_at y m.replica m.stream) is) (λ k at_k. absurd (no_link k (sym next ∙ at_k)))
+    fine_peer w left all c (changed p q) (ap (λ y. y.peers) is) (λ e r m other has_e link_e. ap (λ y. stream_at y m.replica m.stream) is) (λ k at_k. absurd (never k (sym next ∙ at_k)))
     (λ none. rests_as all p.kind p t wish q wished (fine.downs c p has link))
-    (λ d s k m other has_d at_k link_d same_replica same_number. no_link k (sym next ∙ at_k)) (λ r s at_r. fine.counted r s (ap (λ y. finmap.get y.sites r) (sym is) ∙ at_r)) fine
+    (λ d s k m other has_d at_k link_d same_replica same_number. never k (sym next ∙ at_k)) (λ r s at_r. fine.counted r s (ap (λ y. finmap.get y.sites r) (sym is) ∙ at_r)) fine
 
 fine_change : (w left : World) (all : List TypedWrite) (c : ℕ) (p : Peer) (t : TypeName) (wish : Wish) (q : Client × Option Message) (o : Option Link) → finmap.get w.peers c ≡ Some p → p.link ≡ o → wish_taken p t wish ≡ Some q → left ≡ with_peer w c (changed p q)
     → Fine w all → Fine left all
@@ -253,9 +250,6 @@ fine_quiet w left all r e q quiet is sites peers fine =
     fine_sites w left all peers
     (λ k m. ap (λ (s : FinMap nat_cmp Site). option_and_then (λ (y : Site). finmap.get y.core.streams m) (finmap.get s k)) sites ∙ frame_at w r e q x k m (λ same changes. never m (sym (quiet x.site.core) ∙ changes)))
     (λ k s at_k. counted_at w r e q x fine.counted k s (ap (λ m. finmap.get m k) (sym sites) ∙ at_k)) fine
-  where
-    never : (m : ℕ) → ◌≡◌ {A = Option ℕ} None (Some m) → ⊥
-    never m e = cc
 
 fine_added : (w left : World) (all : List TypedWrite) (r : ℕ) → finmap.get w.sites r ≡ None → left ≡ record w { sites = finmap.insert w.sites r (record { core = fresh_core r; journal = [] }) } → Fine w all → Fine left all
 fine_added w left all r none is fine =
@@ -270,14 +264,11 @@ fine_added w left all r none is fine =
       | inl here ↦ (λ n x is_open. absurd (never x (sym (finmap.get-empty nat_cmp n) ∙ ap (λ (y : Site). finmap.get y.core.streams n) (some_is (record { core = fresh_core r; journal = [] }) s (sym here.1 ∙ ap (λ y. finmap.get y.sites q) (sym is) ∙ has)) ∙ is_open)))
       | inr there ↦ fine.counted q s (sym there.1 ∙ ap (λ y. finmap.get y.sites q) (sym is) ∙ has)
     ]) fine
-  where
-    never : (x : Stream) → ◌≡◌ {A = Option Stream} None (Some x) → ⊥
-    never x e = cc
 
 fine_joined : (w left : World) (all : List TypedWrite) (c : ℕ) (kind : ClientKind) → left ≡ with_peer w c (new_peer c kind) → Fine w all → Fine left all
 fine_joined w left all c kind is fine =
-    fine_peer w left all c (new_peer c kind) (ap (λ y. y.peers) is) (λ e r m other has_e link_e. ap (λ y. stream_at y m.replica m.stream) is) (λ k at_k. absurd (no_link k at_k))
-    (λ none t. subst (RestsAs kind all t) (sym (at-each bare t)) (fresh_as all kind t)) (λ d s k m other has_d at_k link_d same_replica same_number. no_link k at_k)
+    fine_peer w left all c (new_peer c kind) (ap (λ y. y.peers) is) (λ e r m other has_e link_e. ap (λ y. stream_at y m.replica m.stream) is) (λ k at_k. absurd (never k at_k))
+    (λ none t. subst (RestsAs kind all t) (sym (at-each bare t)) (fresh_as all kind t)) (λ d s k m other has_d at_k link_d same_replica same_number. never k at_k)
     (λ r s at_r. fine.counted r s (ap (λ y. finmap.get y.sites r) (sym is) ∙ at_r)) fine
 
 -- a batch that joins the pool
@@ -335,11 +326,5 @@ fine_start = record {
   ups = λ c p l has. absurd (never p (sym (finmap.get-empty nat_cmp c) ∙ has));
   downs = λ c p has. absurd (never p (sym (finmap.get-empty nat_cmp c) ∙ has));
   apart = λ c d p q l m has. absurd (never p (sym (finmap.get-empty nat_cmp c) ∙ has));
-  counted = λ r s has. absurd (never_site s (sym (finmap.get-empty nat_cmp r) ∙ has));
+  counted = λ r s has. absurd (never s (sym (finmap.get-empty nat_cmp r) ∙ has));
 }
-  where
-    never : (p : Peer) → ◌≡◌ {A = Option Peer} None (Some p) → ⊥
-    never p e = cc
-
-    never_site : (s : Site) → ◌≡◌ {A = Option Site} None (Some s) → ⊥
-    never_site s e = cc

@@ -37,7 +37,7 @@ use Rattle.xds_shelf.specs.Shelves.{Shelf}
 use Rattle.xds_cache.specs.Clients.{Client, shelf}
 use Rattle.xds_model.specs.Worlds.{Link}
 use Rattle.xds_model.specs.Knows.{TypedWrite}
-use Rattle.xds_model.proofs.Replicas.{if_both, some_is, if_some, none_there, ok_is}
+use Rattle.xds_model.proofs.Replicas.{if_both, some_is, if_some, none_there, ok_is, never}
 use Rattle.xds_model.proofs.Folding.{folded, still_none, take_is, taken_meanwhile_all}
 use Rattle.xds_model.proofs.Lanes.{Abreast, nothing_sent, stated_in, is_removed_in}
 use Rattle.xds_model.proofs.ByOneName.{Says}
@@ -123,15 +123,12 @@ sending_is replica store x t o false d y full due is =
     let same = ok_is (option_map (response_of replica store x.sessions t o (x.count + 1)) x.variant, sent x t o) (Some d, y) is in
     record { kind = t; offer = o; due = due; room = full; sends = sym (ap (λ p. p.0) same); left = sym (ap (λ p. p.1) same) }
 
-never_some : (d : Draft) → ◌≡◌ {A = Option Draft} None (Some d) → ⊥
-never_some d e = cc
-
 polled_is : (replica : ℕ) (store : Store) (x y : Stream) (t : TypeName) (d : Draft) (o : Option Offer) → to_send store x t ≡ o → option_map_or (sending replica store x t) o (Ok (None, x)) ≡ Ok (Some d, y) → IsSent replica store x y d
-polled_is replica store x y t d None due is = absurd (never_some d (ap (λ p. p.0) (ok_is (None, x) (Some d, y) is)))
+polled_is replica store x y t d None due is = absurd (never d (ap (λ p. p.0) (ok_is (None, x) (Some d, y) is)))
 polled_is replica store x y t d (Some o) due is = sending_is replica store x t o (x.count == max_counter) d y refl due is
 
 first_is : (replica : ℕ) (store : Store) (x y : Stream) (d : Draft) (o : Option TypeName) → option_map_or (polled replica store x) o (Ok (None, x)) ≡ Ok (Some d, y) → IsSent replica store x y d
-first_is replica store x y d None is = absurd (never_some d (ap (λ p. p.0) (ok_is (None, x) (Some d, y) is)))
+first_is replica store x y d None is = absurd (never d (ap (λ p. p.0) (ok_is (None, x) (Some d, y) is)))
 first_is replica store x y d (Some t) is = polled_is replica store x y t d (to_send store x t) refl is
 
 pub poll_sent : (replica : ℕ) (store : Store) (x y : Stream) (ts : List TypeName) (d : Draft) → polled_first replica store x ts ≡ Ok (Some d, y) → IsSent replica store x y d

@@ -35,7 +35,7 @@ use Rattle.xds_model.specs.Happenings.{Wish, Names as AllNames, Edits}
 use Rattle.xds_model.specs.Worlds.{Link, Peer, opening_requests, under_way, received_in, sending, wish_of}
 use Rattle.xds_model.specs.Knows.{TypedWrite}
 use Rattle.xds_model.specs.Claims.{asks_for}
-use Rattle.xds_model.proofs.Replicas.{some_is, mapped_some}
+use Rattle.xds_model.proofs.Replicas.{some_is, mapped_some, never}
 use Rattle.xds_model.proofs.Delivering.{AllKnown}
 use Rattle.xds_model.proofs.Firsts.{firsts, firsts_by}
 use Rattle.xds_model.proofs.Folding as deltas
@@ -78,9 +78,6 @@ softer_settled : (v : VariantName) (t : TypeName) (a : Account) (b : Bool) (o : 
 softer_settled v t a false o = softer_itself a
 softer_settled v t a true None = softer_itself a
 softer_settled v t a true (Some sent) = (λ o is. absurd (never o is), λ x is. absurd (never x is))
-  where
-    never : {X : Type 0} (x : X) → ◌≡◌ {A = Option X} None (Some x) → ⊥
-    never x e = cc
 
 softer_taken : (v : VariantName) (t : TypeName) (s : Session) (answer : Answer) (names : Names) → answer.rejects ≡ false → Softer s.account (taken v t s answer names).account
 softer_taken v t s answer names accepts =
@@ -176,13 +173,10 @@ fair_requests all test t s [] downs accepts fair = fair
 fair_requests all test t s (m ∷ ms) downs accepts fair =
     fair_requests all test t (if asks_for t m then session_after t s m else s) ms downs accepts.1 (fair_soft all test t s (if asks_for t m then session_after t s m else s) downs (softer_if t s m (asks_for t m) accepts.0) fair)
 
-pub never_some : {X : Type 0} (x : X) → ◌≡◌ {A = Option X} None (Some x) → ⊥
-never_some x e = cc
-
 pub fair_opened : (k : ClientKind) (all : List TypedWrite) (test : Test) (c : Client) (r n : ℕ) → FairOn all test (record { replica = r; stream = n; up = opening_requests k c; down = [] }) opening
 fair_opened k all test c r n t =
     fair_requests all test t (at opening.sessions t) (opening_requests k c) [] (opening_accepts k c)
-    (subst (λ a. IsFair all test t a []) (sym (at-each unopened t)) (record { refused = λ o is. absurd (never_some o is); awaits = λ sent d has. absurd (never_some sent has) }))
+    (subst (λ a. IsFair all test t a []) (sym (at-each unopened t)) (record { refused = λ o is. absurd (never o is); awaits = λ sent d has. absurd (never sent has) }))
 
 -- ---- a poll
 
@@ -268,7 +262,7 @@ fair_poll_at k all test replica store c l x y d t known is kind (inr other) link
 
 kind_sent : (replica : ℕ) (store : Store) (x y : Stream) (d : Draft) (is : IsSent replica store x y d) (o : Option VariantName) → x.variant ≡ o → kind_of d ≡ is.kind
 kind_sent replica store x y d is None none =
-    absurd (never_some d (sym (is.sends ∙ ap (option_map (response_of replica store x.sessions is.kind is.offer (x.count + 1))) none)))
+    absurd (never d (sym (is.sends ∙ ap (option_map (response_of replica store x.sessions is.kind is.offer (x.count + 1))) none)))
 kind_sent replica store x y d is (Some variants.StateOfTheWorld) at_v = ap kind_of (some_is d _ (is.sends ∙ ap (option_map (response_of replica store x.sessions is.kind is.offer (x.count + 1))) at_v))
 kind_sent replica store x y d is (Some variants.Delta) at_v = ap kind_of (some_is d _ (is.sends ∙ ap (option_map (response_of replica store x.sessions is.kind is.offer (x.count + 1))) at_v))
 
@@ -285,13 +279,13 @@ fair_poll k all test replica store c l x y ts (Some d) known is linked fair t =
 fair_answer : (v : VariantName) (all : List TypedWrite) (test : Test) (t : TypeName) (a b : Session) (d : Draft) (downs : List Draft) → IsFair all test t a (d ∷ []) → (h : HasAnswer v t a b) → h.rejects ≡ is_some (fault_at test t d) → IsFair all test t b downs
 fair_answer v all test t a b d downs fair h rejects = record {
   refused = λ o is. by_answer h.rejects refl o (sym (ap (λ x. x.refused) h.account) ∙ is);
-  awaits = λ sent e has. absurd (never_some sent (sym (answered_quiet v t a.account h.sent h.rejects) ∙ sym (ap (λ x. x.sent) h.account) ∙ has));
+  awaits = λ sent e has. absurd (never sent (sym (answered_quiet v t a.account h.sent h.rejects) ∙ sym (ap (λ x. x.sent) h.account) ∙ has));
 }
   where
     by_answer : (r : Bool) → h.rejects ≡ r → (o : Offer) → (answered v t a.account h.sent h.rejects).refused ≡ Some o → IsBlamed all test t o
     by_answer true is o refused =
         subst (IsBlamed all test t) (some_is h.sent.offer o (sym (ap (λ r. (answered v t a.account h.sent r).refused) is) ∙ refused)) (fair.awaits h.sent d h.has refl (sym rejects ∙ is))
-    by_answer false is o refused = absurd (never_some o (sym (ap (λ r. (answered v t a.account h.sent r).refused) is) ∙ refused))
+    by_answer false is o refused = absurd (never o (sym (ap (λ r. (answered v t a.account h.sent r).refused) is) ∙ refused))
 
 fair_down_at : (k : ClientKind) (all : List TypedWrite) (test : Test) (c : Client) (l : Link) (x : Stream) (d : Draft) (rest : List Draft) (q : Client × Message) (t : TypeName) (own : Bool) → l.down ≡ d ∷ rest → received_in test k c d ≡ Some q → is_same_type (kind_of d) t ≡ own
     → LinkedAs k all c l x → FairOn all test l x → IsFair all test t (if own then session_after t (ahead t (at x.sessions t) l.up) q.1 else ahead t (at x.sessions t) l.up) (lane_down t rest)

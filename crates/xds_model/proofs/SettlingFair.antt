@@ -20,12 +20,12 @@ use Rattle.xds_model.specs.Happenings.{Happening, Wish, AddReplica, AddClient, P
 use Rattle.xds_model.specs.Worlds.{Site, Link, Peer, World, empty_world, at_site, happened_at, placed, pooled, with_peer, new_peer, connected_to, opened, sending, changed, wish_of, wish_taken, under_way, polled, up_taken, received, taken_down, down_taken, opening_requests, is_free, happens, after}
 use Rattle.xds_model.specs.Knows.{TypedWrite, made_now}
 use Rattle.xds_model.specs.Settling.{link_in}
-use Rattle.xds_model.proofs.Replicas.{some_is, bound_some, mapped_some, if_some, if_both, both_parts, none_there}
+use Rattle.xds_model.proofs.Replicas.{some_is, bound_some, mapped_some, if_some, if_both, both_parts, none_there, never}
 use Rattle.xds_model.proofs.CoreSteps.{open_is}
 use Rattle.xds_model.proofs.Everyone.{stream_at, AtSite, at_site_is, here_at, frame_at, Fine}
 use Rattle.xds_model.proofs.EveryEvent.{link_there, same_peers, pooled_is, same_replica_on, AllSitesKnown, opened_reply, same_stream_on, polled_reply, get_put}
 use Rattle.xds_model.proofs.SettlingSteps.{Spot, spot_of, link_at, linked_at, at_spot, at_stream}
-use Rattle.xds_model.proofs.SettlingBlame.{FairOn, fair_more, fair_up, fair_poll, fair_down, fair_changed, fair_opened, never_some}
+use Rattle.xds_model.proofs.SettlingBlame.{FairOn, fair_more, fair_up, fair_poll, fair_down, fair_changed, fair_opened}
 
 -- of every client that is up
 abbrev pub IsFairWorld : List TypedWrite → Test → World → Type 0
@@ -139,14 +139,14 @@ fair_lost test w left all c s is fine fair =
     let made = mapped_some (λ q. with_peer q.1 c after) (at_site w s.link.replica e) left is in
     let site = at_site_is w s.link.replica e made.0 made.1 in
     fair_peer w left all test c after (ap (λ y. y.peers) made.2 ∙ ap (λ y. finmap.insert y c after) (same_peers w s.link.replica e made.0 site))
-    (streams_kept w left all c s e made.0 site refl (ap (λ y. y.sites) made.2) fine) (λ l z linked there. absurd (never_some l linked)) fair
+    (streams_kept w left all c s e made.0 site refl (ap (λ y. y.sites) made.2) fine) (λ l z linked there. absurd (never l linked)) fair
 
 -- ---- Change
 
 fair_wished : (test : Test) (w left : World) (all : List TypedWrite) (c : ℕ) (p : Peer) (t : TypeName) (wish : Wish) (q : Client × Option Message) (o : Option Link) → finmap.get w.peers c ≡ Some p → p.link ≡ o → wish_taken p t wish ≡ Some q → left ≡ with_peer w c (changed p q) → Fine w all
     → IsFairWorld all test w → IsFairWorld all test left
 fair_wished test w left all c p t wish q None has linked wished is fine fair =
-    fair_peer w left all test c (changed p q) (ap (λ y. y.peers) is) (λ d m other at_d. ap (λ y. stream_at y m.replica m.stream) is) (λ l z link there. absurd (never_some l (sym (ap (option_map (sending q.1)) linked) ∙ link))) fair
+    fair_peer w left all test c (changed p q) (ap (λ y. y.peers) is) (λ d m other at_d. ap (λ y. stream_at y m.replica m.stream) is) (λ l z link there. absurd (never l (sym (ap (option_map (sending q.1)) linked) ∙ link))) fair
 fair_wished test w left all c p t wish q (Some l) has linked wished is fine fair =
     let s = spot_by w all c p l has linked fine in
     let now : stream_at left l.replica l.stream ≡ stream_at w l.replica l.stream = ap (λ y. stream_at y l.replica l.stream) is in
@@ -189,7 +189,7 @@ fair_quiet : (test : Test) (w left : World) (all : List TypedWrite) (r : ℕ) (e
 fair_quiet test w left all r e q quiet is sites peers fair =
     let x = at_site_is w r e q is in
     fair_sites w left all test peers
-    (λ k m. ap (λ (s : FinMap nat_cmp Site). option_and_then (λ (y : Site). finmap.get y.core.streams m) (finmap.get s k)) sites ∙ frame_at w r e q x k m (λ same changes. never_some m (sym (quiet x.site.core) ∙ changes))) fair
+    (λ k m. ap (λ (s : FinMap nat_cmp Site). option_and_then (λ (y : Site). finmap.get y.core.streams m) (finmap.get s k)) sites ∙ frame_at w r e q x k m (λ same changes. never m (sym (quiet x.site.core) ∙ changes))) fair
 
 fair_written : (test : Test) (w left : World) (all : List TypedWrite) (r : ℕ) (e : Event) → ((c : Core) → stream_changed c e ≡ None) → happened_at w r e ≡ Some left → IsFairWorld all test w → IsFairWorld all test left
 fair_written test w left all r e quiet is fair =
@@ -207,7 +207,7 @@ fair_added test w left all r none is fair =
     ]) fair
 
 fair_joined : (test : Test) (w left : World) (all : List TypedWrite) (c : ℕ) (after : Peer) → after.link ≡ None → left ≡ with_peer w c after → IsFairWorld all test w → IsFairWorld all test left
-fair_joined test w left all c after down is fair = fair_peer w left all test c after (ap (λ y. y.peers) is) (λ d m other linked. ap (λ y. stream_at y m.replica m.stream) is) (λ l z linked there. absurd (never_some l (sym down ∙ linked))) fair
+fair_joined test w left all c after down is fair = fair_peer w left all test c after (ap (λ y. y.peers) is) (λ d m other linked. ap (λ y. stream_at y m.replica m.stream) is) (λ l z linked there. absurd (never l (sym down ∙ linked))) fair
 
 -- ---- whatever happens
 
@@ -249,4 +249,4 @@ pub fair_step : (test : Test) (w left : World) (all : List TypedWrite) (h : Happ
 fair_step test w left all h is known fine fair c l x linked there t = fair_more all (made_now w h) test t _ _ (fair_happens test w left all h is known fine fair c l x linked there t)
 
 pub fair_start : (test : Test) → IsFairWorld [] test empty_world
-fair_start test c l x linked = absurd (never_some l (sym (ap (option_and_then (λ (p : Peer). p.link)) (finmap.get-empty nat_cmp c)) ∙ linked))
+fair_start test c l x linked = absurd (never l (sym (ap (option_and_then (λ (p : Peer). p.link)) (finmap.get-empty nat_cmp c)) ∙ linked))

@@ -41,14 +41,15 @@ use Rattle.xds_shelf.specs.Faults.{Test, Stated as StatedResource, first_reason,
 use Rattle.xds_shelf.specs.Deliveries.{sotw_stated, sotw_delivery, delta_delivery, fault_in}
 use Rattle.xds_model.specs.Knows.{TypedWrite}
 use Rattle.xds_model.proofs.Replicas.{some_is}
+use Rattle.xds_delta.proofs.Stating.{present_if_stated, kept_at}
 use Rattle.xds_model.proofs.Delivering as delivering
-use Rattle.xds_model.proofs.Delivering.{IsKnown, AllKnown, canonical_is, present_if_stated}
+use Rattle.xds_model.proofs.Delivering.{IsKnown, AllKnown, canonical_is}
 use Rattle.xds_model.proofs.LinkSteps.{sending_facts}
 use Rattle.xds_model.proofs.SotwDelivering as sotw_delivering
 use Rattle.xds_model.proofs.SotwDelivering.{offered_is}
 use Rattle.xds_message.proofs.StampedWriteLemmas.{from_value-canonical}
 use Rattle.xds_owed.proofs.SomethingOwed.{is_some_of}
-use Rattle.xds_model.proofs.SotwSteps.{split}
+use Rattle.xds_model.proofs.SotwSteps.{one_of_both}
 use Rattle.xds_model.proofs.SettlingSessions.{never_both}
 
 -- ---- one resource
@@ -258,10 +259,6 @@ sotw_listed all t m s o (e ∷ es) known sorted found =
 
 -- ---- what an offer states is present
 
-kept_at : (tells : Bool) (o : Option Due) (version : List ℕ) → (if tells then o else None) ≡ Some (Stated version) → option_and_then stated_version o ≡ Some version
-kept_at true o version is = ap (option_and_then stated_version) is
-kept_at false o version is = absurd cc
-
 whole_at : (p : Option (List ℕ)) (version : List ℕ) → option_map Stated p ≡ Some (Stated version) → p ≡ Some version
 whole_at None version is = absurd cc
 whole_at (Some v) version is = ap (option_and_then stated_version) is
@@ -319,7 +316,7 @@ removed_entry : (o : Offer) (q : List ℕ) (e : List ℕ × Due) (fs : List (Lis
     → has_text (map (λ x. x.0) (if says then e ∷ fs else fs)) q ≡ true → option_map_or is_removal (finmap.get o q) false ≡ true
 removed_entry o q e fs false says found later has = later has
 removed_entry o q e fs true says found later has =
-    elim (split (bytes_eq q e.0) (has_text (map (λ x. x.0) fs) q) has) [
+    elim (one_of_both (bytes_eq q e.0) (has_text (map (λ x. x.0) fs) q) has) [
       | inl same ↦ ap (λ n. option_map_or is_removal (finmap.get o n) false) (bytes_eq_tells q e.0 same) ∙ ap (λ x. option_map_or is_removal x false) found ∙ says
       | inr rest ↦ later rest
     ]

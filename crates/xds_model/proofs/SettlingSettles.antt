@@ -37,7 +37,7 @@ use Rattle.xds_model.specs.Worlds.{Site, Link, Peer, World, empty_world, happens
 use Rattle.xds_model.specs.Knows.{TypedWrite, Knowledge, nothing_known, learned, knows, made_now, wants}
 use Rattle.xds_model.specs.Claims.{holding_of, writes_of, PutResources, PutsAResource, asks_for, is_quiet, owes_nothing, is_settled}
 use Rattle.xds_model.specs.Settling.{link_in, gave_nothing, Done, IsAtEnd, SettlesWhereAllIsTaken}
-use Rattle.xds_model.proofs.Replicas.{some_is, bound_some, mapped_some, kept_start}
+use Rattle.xds_model.proofs.Replicas.{some_is, bound_some, mapped_some, kept_start, never}
 use Rattle.xds_model.proofs.Origins.{stamped_start}
 use Rattle.xds_model.proofs.Ranges.{ranged_start, sites_known}
 use Rattle.xds_model.proofs.Lanes as lanes
@@ -59,7 +59,6 @@ use Rattle.xds_model.proofs.SettlingPolls.{three_at}
 use Rattle.xds_model.proofs.SettlingEnds.{link_settled, done_if_settled}
 use Rattle.xds_model.proofs.SettlingFaults.{IsBlamed, stated_present, present_version}
 use Rattle.xds_model.proofs.SettlingFair.{IsFairWorld, fair_step, fair_start}
-use Rattle.xds_model.proofs.SettlingBlame.{never_some}
 
 -- ---- worlds as they come
 
@@ -96,7 +95,7 @@ owed_or_refused v t s m false due refused begins owes refuses none sends = inl (
 owed_or_refused v t s m true false refused begins owes refuses none sends = inl (λ i. begins i && (is_some (none i) || owes i))
 owed_or_refused v t s m true true true begins owes refuses none sends = inr refuses
 owed_or_refused v t s m true true false begins owes refuses none sends =
-    let never_some : Some (offer_now v t s m) ≡ None =
+    let nothing : Some (offer_now v t s m) ≡ None =
     sym (λ i. if begins i then (if is_none (none i) && owes i && not (refuses i) then Some (offer_now v t s m) else None) else None) ∙ sends in absurd cc
 
 refused_is : (o : Offer) (r : Option Offer) → option_map_or (same_offer o) r false ≡ true → r ≡ Some o
@@ -131,11 +130,11 @@ quiet_none Delta all c l x t linked none =
 -- a session that refused something covers what the client wants
 covered_sotw : (t : TypeName) (s : Session) (c : Client) (o : Offer) (name : List ℕ) → s.account.refused ≡ Some o → sotw_lanes.Asks t s (shelf c t) → covers s.asked.interest name ≡ is_wanted t (shelf c t).wants name
 covered_sotw t s c o name refused (inl asked) = ap (λ (a : Asked). covers a.interest name) asked.1 ∙ wants_what_is_covered t (shelf c t).wants name
-covered_sotw t s c o name refused (inr not_asked) = absurd (never_some o (sym (ap (λ (a : Session). a.account.refused) not_asked.1) ∙ refused))
+covered_sotw t s c o name refused (inr not_asked) = absurd (never o (sym (ap (λ (a : Session). a.account.refused) not_asked.1) ∙ refused))
 
 covered_delta : (t : TypeName) (s : Session) (c : Client) (o : Offer) (name : List ℕ) → s.account.refused ≡ Some o → lanes.Asks t s (shelf c t) → covers s.asked.interest name ≡ is_wanted t (shelf c t).wants name
 covered_delta t s c o name refused (inl asked) = ap (λ (a : Asked). covers a.interest name) asked.1 ∙ wants_what_is_covered t (shelf c t).wants name
-covered_delta t s c o name refused (inr not_asked) = absurd (never_some o (sym (ap (λ (a : Session). a.account.refused) not_asked.1) ∙ refused))
+covered_delta t s c o name refused (inr not_asked) = absurd (never o (sym (ap (λ (a : Session). a.account.refused) not_asked.1) ∙ refused))
 
 covered_as : (k : ClientKind) (all : List TypedWrite) (c : Client) (l : Link) (x : Stream) (t : TypeName) (o : Offer) (name : List ℕ) → LinkedAs k all c l x → (ahead t (at x.sessions t) l.up).account.refused ≡ Some o
     → covers (ahead t (at x.sessions t) l.up).asked.interest name ≡ is_wanted t (shelf c t).wants name

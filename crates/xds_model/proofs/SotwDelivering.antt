@@ -27,7 +27,8 @@ use Rattle.xds_shelf.specs.Faults.{Stated as StatedResource, stated_by, and_stat
 use Rattle.xds_shelf.specs.Deliveries.{sotw_stated}
 use Rattle.xds_model.specs.Knows.{TypedWrite}
 use Rattle.xds_model.proofs.Replicas.{some_is}
-use Rattle.xds_model.proofs.Delivering.{IsKnown, AllKnown, canonical_is, present_if_stated}
+use Rattle.xds_delta.proofs.Stating.{present_if_stated}
+use Rattle.xds_model.proofs.Delivering.{IsKnown, AllKnown, canonical_is}
 use Rattle.xds_model.proofs.SotwLanes.{IsHeld, Says, stated_in}
 
 -- ---- what is stated of a list of writes

@@ -167,15 +167,15 @@ none_changed true true false None held none is = none refl
 none_changed true true false (Some e) held none is = absurd cc
 none_changed false true mentioned b held none is = none is
 
-pub split : (a b : Bool) → (a || b) ≡ true → (a ≡ true) ⊎ (b ≡ true)
-split true b is = inl refl
-split false b is = inr is
+pub one_of_both : (a b : Bool) → (a || b) ≡ true → (a ≡ true) ⊎ (b ≡ true)
+one_of_both true b is = inl refl
+one_of_both false b is = inr is
 
 -- a name that was touched before, or is touched now
 still_unsure : (t : TypeName) (s after : Session) (sent : Sent) (touched : Touch) → ((name version : List ℕ) → touches touched name ≡ true → finmap.get after.account.beliefs name ≡ Some (Told version) → ⊥)
     → ((name version : List ℕ) → finmap.get after.account.beliefs name ≡ Some (Told version) → (touches touched name ≡ true) ⊎ (finmap.get s.account.beliefs name ≡ Some (Told version))) → TouchedIsUnsure t s sent → TouchedIsUnsure t after (touched_since sent touched)
 still_unsure t s after sent touched now kept before name version complete was told =
-    elim (split (list_any (λ x. touches x name) sent.touched) (touches touched name || false) (sym (list_any-append (λ x. touches x name) sent.touched (touched ∷ [])) ∙ was)) [
+    elim (one_of_both (list_any (λ x. touches x name) sent.touched) (touches touched name || false) (sym (list_any-append (λ x. touches x name) sent.touched (touched ∷ [])) ∙ was)) [
       | inl earlier ↦
           elim (kept name version told) [
             | inl new ↦ now name version new told
