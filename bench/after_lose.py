@@ -14,7 +14,7 @@ import sys
 import tempfile
 
 TOP = os.path.dirname(os.path.dirname(os.path.abspath(__file__)))
-LIBRARIES = ["xds_resource", "xds_interest", "xds_message", "xds_cache"]
+NAMED = ["xds_resource", "xds_interest", "xds_message", "xds_cache"]
 
 SOURCE = """// A client of which a stream is lost.
 #![tactic(auto)]
@@ -59,14 +59,23 @@ def left_out(folder, names):
     return [name for name in names if name == "must-fail"]
 
 
+def lines_of(names):
+    """The lines of crates.txt of these libraries and of all that stand below them, by their names, lowest first."""
+    with open(os.path.join(TOP, "crates.txt"), encoding="utf-8") as file:
+        lines = {line.partition(":")[0].strip(): line for line in file if ":" in line}
+    wanted = list(names)
+    for name in wanted:
+        wanted.extend(below for below in lines[name].partition(":")[2].split() if below in lines and below not in wanted)
+    return {name: line for name, line in lines.items() if name in wanted}
+
+
 def laid_out(top):
     """A copy of the libraries, beside an empty crate over them."""
-    with open(os.path.join(TOP, "crates.txt"), encoding="utf-8") as file:
-        lines = [line for line in file if line.partition(":")[0].strip() in LIBRARIES]
+    lines = lines_of(NAMED)
     with open(os.path.join(top, "crates.txt"), "w", encoding="utf-8") as file:
-        file.writelines(lines)
-        file.write("after_lose: " + " ".join(LIBRARIES + ["serde_json"]) + "\n")
-    for name in LIBRARIES:
+        file.writelines(lines.values())
+        file.write("after_lose: " + " ".join(NAMED + ["serde_json"]) + "\n")
+    for name in lines:
         shutil.copytree(os.path.join(TOP, "crates", name), os.path.join(top, "crates", name), ignore=left_out)
     shutil.copy(os.path.join(TOP, "HANDLES"), top)
     os.makedirs(os.path.join(top, "crates", "after_lose", "src"))

@@ -1,9 +1,8 @@
-pub mod Lists
+pub use Rattle.xds_fields.proofs.Lists
 pub mod OneMessage
 pub mod ReadsBack
 pub mod WrittenLemmas
-pub mod VersionLemmas
 pub mod OneDeltaMessage
 pub mod DeltaReadsBack
 pub mod DeltaWrittenLemmas
-pub mod StampedWriteLemmas
+pub use Rattle.xds_writes.proofs.StampedWriteLemmas

@@ -1,9 +1,9 @@
-pub mod Spelling
+pub use Rattle.xds_fields.specs.Spelling
 pub mod Messages
 pub mod Written
 pub mod Responses
-pub mod Versions
+pub use Rattle.xds_fields.specs.Versions
 pub mod DeltaMessages
 pub mod DeltaWritten
 pub mod Laws
-pub mod StampedWrites
+pub use Rattle.xds_writes.specs.StampedWrites

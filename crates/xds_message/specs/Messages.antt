@@ -1,19 +1,10 @@
 -- The messages of Envoy's `discovery.proto` that are exchanged here, and which JSON values spell them: the proto3 JSON
 -- mapping, of the fields that a control plane reads.
-use Rattle.std.specs.Prelude.{ℕ, ℤ, List, Option, codes}
+use Rattle.std.specs.Prelude.{ℕ, List, Option, codes}
 use Rattle.serde_json.specs.Data.{Data}
 use Rattle.xds_resource.specs.Fields.{field}
-use Rattle.xds_message.specs.Spelling.{IsObject, IsText, IsTexts, IsObjects, IsCode, IsInner}
-
--- who asks: of Envoy's Node its id and its cluster
-pub record Identity : Type 0 where
-  pub id : List ℕ
-  pub cluster : List ℕ
-
--- why a client rejects a response: of google.rpc.Status its code and its message
-pub record Failure : Type 0 where
-  pub code : ℤ
-  pub message : List ℕ
+use Rattle.xds_fields.specs.Spelling.{IsObject, IsText, IsTexts, IsObjects, IsInner}
+pub use Rattle.xds_fields.specs.Parts.{Identity, Failure, SpellsIdentity, SpellsFailure}
 
 -- a DiscoveryRequest
 pub record Request : Type 0 where
@@ -30,16 +21,6 @@ pub record Response : Type 0 where
   pub resources : List Data
   pub type_url : List ℕ
   pub nonce : List ℕ
-
-pub record SpellsIdentity (d : Data) (m : Identity) : Type 0 where
-  pub is_object : IsObject d
-  pub id : IsText (field (codes "id") (codes "id") d) m.id
-  pub cluster : IsText (field (codes "cluster") (codes "cluster") d) m.cluster
-
-pub record SpellsFailure (d : Data) (m : Failure) : Type 0 where
-  pub is_object : IsObject d
-  pub code : IsCode (field (codes "code") (codes "code") d) m.code
-  pub message : IsText (field (codes "message") (codes "message") d) m.message
 
 pub record SpellsRequest (d : Data) (m : Request) : Type 0 where
   pub is_object : IsObject d

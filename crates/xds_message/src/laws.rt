@@ -1,12 +1,9 @@
 // Laws of the messages. Each is a function that does nothing, whose clause is the law.
 ghost use Rattle.serde_json.specs.Data.{Data};
-ghost use Rattle.xds_resource.specs.declared.types.TypeName.{TypeName};
-ghost use Rattle.xds_resource.specs.Writes.{StampedWrite};
 ghost use Rattle.xds_message.specs.Messages.{Request, Response};
 ghost use Rattle.xds_message.specs.DeltaMessages.{DeltaRequest, DeltaResponse};
 ghost use Rattle.xds_message.specs.Laws.{SpellsOneRequest, SpellsOneResponse, IsSpelledByItsObject, IsRequestSpelledByItsObject};
 ghost use Rattle.xds_message.specs.Laws.{SpellsOneDeltaRequest, SpellsOneDeltaResponse, IsDeltaRequestSpelledByItsObject, IsDeltaResponseSpelledByItsObject};
-ghost use Rattle.xds_message.specs.StampedWrites.{SpellsOneWrite, IsWriteSpelledByItsObject, IsReadWriteSpelledByItsObject};
 
 /// A value spells one request at most.
 pub fn a_value_spells_one_request()
@@ -46,19 +43,4 @@ pub fn a_delta_request_is_spelled_by_its_object()
 /// The object that is written for a delta response spells it.
 pub fn a_delta_response_is_spelled_by_its_object()
     ensures { (m : DeltaResponse) → IsDeltaResponseSpelledByItsObject m }
-{}
-
-/// A value spells one stamped write at most.
-pub fn a_value_spells_one_write()
-    ensures { (d : Data) → SpellsOneWrite d }
-{}
-
-/// The object that is written for a stamped write spells it, if its body is no longer than a resource's may be.
-pub fn a_write_is_spelled_by_its_object()
-    ensures { (t : TypeName) (w : StampedWrite) → IsWriteSpelledByItsObject t w }
-{}
-
-/// The object that is written for a stamped write that was read spells it.
-pub fn a_write_that_was_read_is_spelled_by_its_object()
-    ensures { (d : Data) (t : TypeName) (w : StampedWrite) → IsReadWriteSpelledByItsObject d t w }
 {}

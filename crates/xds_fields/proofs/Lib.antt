@@ -1,0 +1,4 @@
+pub mod Lists
+pub mod OneField
+pub mod FieldsReadBack
+pub mod VersionLemmas

@@ -1,0 +1,4 @@
+pub mod Spelling
+pub mod Parts
+pub mod WrittenFields
+pub mod Versions

@@ -1,0 +1,9 @@
+// Stamped writes in the form in which replicas exchange and keep them, and batches of them.
+#![tactic(auto)]
+
+pub mod batch;
+pub mod laws;
+pub mod writes;
+
+pub use batch::Batch;
+pub use writes::{read_write, write_object};

@@ -1,0 +1,162 @@
+// Stamped writes in the form in which replicas exchange and keep them.
+ghost use Rattle.std.specs.Prelude.{◌≡◌, ◌≤◌, ℕ, suc, List, [], ◌∷◌, Some, Ok, true, false, codes, IfOk, IfErr, IfSome, IfNone, Contains};
+ghost use Rattle.serde_json.specs.Data.{Data, number, string, unsigned, depth};
+ghost use Rattle.serde_json.specs.Find.{get};
+ghost use Rattle.serde_json.specs.View.{view};
+ghost use Rattle.serde_json.specs.Written.{has_float};
+ghost use Rattle.xds_resource.specs.declared.types.TypeName.{TypeName};
+ghost use Rattle.xds_resource.specs.declared.refusal.Refusal.TheVariants.{NotJson, BadMessage, OutOfMemory};
+ghost use Rattle.xds_resource.specs.Any.{write_type, stamped_write};
+ghost use Rattle.xds_resource.specs.Resources.{NamedBody, max_nesting, from_value, is_valid_name as is_valid};
+ghost use Rattle.xds_resource.specs.Stamps.{IsStamp};
+ghost use Rattle.xds_resource.specs.Types.{row};
+ghost use Rattle.xds_resource.specs.Writes.{StampedWrite};
+ghost use Rattle.xds_fields.specs.Spelling.{IsJson, IsObject, Reads};
+ghost use Rattle.xds_writes.specs.StampedWrites.{SpellsWrite, IsSpelledBy, write_object as object_of};
+
+use serde_json::{Map, Value, put};
+use std::alloc::Global;
+use std::sync::ArcStr;
+use xds_fields::fields::{put_inner, read_json, set_field};
+use xds_resource::resource::is_valid_name;
+use xds_resource::stamp::MAX_COUNTER;
+use xds_resource::{AnyWrite, Refusal, Resource, ResourceType, Stamp, TypeName, Write};
+
+/// The write that the bytes spell: one JSON object. Keys that are not known are passed over.
+pub fn read_write(alloc: Global, bytes: &[u8]) -> Result<AnyWrite, Refusal>
+    ensures ok { IfOk result (λ w. (d : Data) × IsJson bytes.now d
+        × SpellsWrite d (write_type w) (stamped_write w)) }
+    ensures not_json { result ≡ Err NotJson → (d : Data) → IsJson bytes.now d → ⊥ }
+    ensures bad { result ≡ Err BadMessage → (d : Data) × IsJson bytes.now d
+        × ((t : TypeName) (w : StampedWrite) → SpellsWrite d t w → ⊥) }
+    ensures refused { IfErr result (λ e. Contains (NotJson ∷ BadMessage ∷ OutOfMemory ∷ []) e) }
+{
+    let value = read_json(alloc, bytes)?;
+    any_write_of(alloc, &value)
+}
+
+/// The object of a write: its type, name and stamp, and the body that it puts.
+pub fn write_object(alloc: Global, write: &AnyWrite) -> Result<Value, Refusal>
+    ensures ok { IfOk result
+        (λ v. view v ≡ object_of (write_type write.now) (stamped_write write.now)) }
+    ensures whole { IfOk result (λ v. has_float (view v) ≡ false) }
+    ensures shallow { IfOk result (λ v. depth (view v) ≤ suc max_nesting) }
+    ensures refused { IfErr result (λ e. e ≡ OutOfMemory) }
+{
+    let stamp = write.stamp();
+    let mut map = Map::new(alloc);
+    put(&mut map, alloc, "writer", Value::from(stamp.writer))?;
+    put(
+        &mut map,
+        alloc,
+        "typeUrl",
+        Value::try_from_str(alloc, write.type_name().url())?,
+    )?;
+    put(
+        &mut map,
+        alloc,
+        "name",
+        Value::try_from_str(alloc, write.name())?,
+    )?;
+    put(&mut map, alloc, "counter", Value::from(stamp.counter))?;
+    put_inner(alloc, &mut map, "body", write.value(alloc)?)?;
+    Ok(Value::Object(map))
+}
+
+fn any_write_of(alloc: Global, value: &Value) -> Result<AnyWrite, Refusal>
+    ensures { Reads (IsSpelledBy (view value.now)) (λ w. (write_type w, stamped_write w)) result }
+{
+    if !value.is_object() {
+        return Err(Refusal::BadMessage);
+    }
+    match type_of(value).ok_or(Refusal::BadMessage)? {
+        TypeName::Cluster => Ok(AnyWrite::Cluster(write_of(alloc, value)?)),
+        TypeName::Endpoint => Ok(AnyWrite::Endpoint(write_of(alloc, value)?)),
+        TypeName::Listener => Ok(AnyWrite::Listener(write_of(alloc, value)?)),
+        TypeName::Route => Ok(AnyWrite::Route(write_of(alloc, value)?)),
+    }
+}
+
+fn write_of<T: ResourceType>(alloc: Global, value: &Value) -> Result<Write<T>, Refusal>
+    requires is_object { IsObject (view value.now) }
+    requires typed { get (codes "typeUrl") (view value.now) ≡ Some (string (row T.TYPE).url) }
+    ensures { Reads (SpellsWrite (view value.now) T.TYPE) (λ w. w) result }
+{
+    let (Some(name), Some(stamp)) = (name_of(value), stamp_of(value)) else {
+        return Err(Refusal::BadMessage);
+    };
+    match set_field(value, "body", "body") {
+        Some(body) => Ok(Write::put(stamp, body_of(alloc, body, name)?)),
+        None => Ok(Write::deletion(stamp, ArcStr::from_str(alloc, name)?)),
+    }
+}
+
+// The resource that a body is, if it has this name.
+fn body_of<T: ResourceType>(alloc: Global, body: &Value, name: &str) -> Result<Resource<T>, Refusal>
+    ensures { Reads
+        (λ r. (r.name ≡ name.now) × (from_value T.TYPE (view body.now) ≡ Ok r)) (λ r. r) result }
+{
+    let resource = match Resource::from_value(alloc, body.clone()?) {
+        Ok(resource) => resource,
+        Err(Refusal::OutOfMemory) => return Err(Refusal::OutOfMemory),
+        Err(_) => return Err(Refusal::BadMessage),
+    };
+    if resource.name() == name {
+        Ok(resource)
+    } else {
+        Err(Refusal::BadMessage)
+    }
+}
+
+// The type of the table whose URL is there.
+fn type_of(value: &Value) -> Option<TypeName>
+    ensures found { IfSome result
+        (λ t. get (codes "typeUrl") (view value.now) ≡ Some (string (row t).url)) }
+    ensures unknown { IfNone result ((t : TypeName)
+        → get (codes "typeUrl") (view value.now) ≡ Some (string (row t).url) → ⊥) }
+{
+    TypeName::from_url(value.get("typeUrl")?.as_str()?)
+}
+
+// The name, if a resource may have it.
+fn name_of(value: &Value) -> Option<&str>
+    ensures found { IfSome result (λ s. get (codes "name") (view value.now) ≡ Some (string s.now)) }
+    ensures valid { IfSome result (λ s. is_valid s.now ≡ true) }
+    ensures unknown { IfNone result ((s : List ℕ)
+        → get (codes "name") (view value.now) ≡ Some (string s) → is_valid s ≡ true → ⊥) }
+{
+    let name = value.get("name")?.as_str()?;
+    if is_valid_name(name) {
+        Some(name)
+    } else {
+        None
+    }
+}
+
+// The stamp of the counter and the writer, if they are in range.
+fn stamp_of(value: &Value) -> Option<Stamp>
+    ensures counter { IfSome result (λ s.
+        get (codes "counter") (view value.now) ≡ Some (number (unsigned s.counter))) }
+    ensures writer { IfSome result (λ s.
+        get (codes "writer") (view value.now) ≡ Some (number (unsigned s.writer))) }
+    ensures unknown { IfNone result ((counter writer : ℕ)
+        → get (codes "counter") (view value.now) ≡ Some (number (unsigned counter))
+        → get (codes "writer") (view value.now) ≡ Some (number (unsigned writer))
+        → IsStamp counter writer → ⊥) }
+{
+    let counter = number_of(value, "counter")?;
+    let writer = u16::try_from(number_of(value, "writer")?).ok()?;
+    if counter == 0 || counter > MAX_COUNTER || writer == 0 {
+        return None;
+    }
+    Some(Stamp::new(counter, writer))
+}
+
+// The whole number that is there.
+fn number_of(value: &Value, key: &str) -> Option<u64>
+    ensures found { IfSome result (λ n. get key.now (view value.now) ≡ Some (number (unsigned n))) }
+    ensures unknown { IfNone result ((n : ℕ)
+        → get key.now (view value.now) ≡ Some (number (unsigned n)) → ⊥) }
+{
+    value.get(key)?.as_u64()
+}
