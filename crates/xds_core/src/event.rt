@@ -6,9 +6,9 @@ ghost use Rattle.xds_core.specs.Seen.{event_of, reply_of, answer_of};
 use std::alloc::Global;
 use xds_draft::Draft;
 use xds_ledger::Outcome;
-use xds_message::Batch;
 use xds_resource::{AnyResource, Refusal, Stamp, TypeName};
 use xds_streams::Request;
+use xds_writes::Batch;
 
 /// What happens at a replica. Streams go by the numbers that `Open` gave them.
 #[derive(Drop)]

@@ -20,11 +20,11 @@ use std::alloc::Global;
 use std::marker::Model;
 use xds_draft::Draft;
 use xds_ledger::Outcome;
-use xds_message::Batch;
 use xds_resource::stamp::MAX_COUNTER;
 use xds_resource::{AnyResource, Refusal, TypeName};
 use xds_store::{Catalogues, Marks};
 use xds_streams::{Request, Stream};
+use xds_writes::Batch;
 
 /// One replica: what it holds of each type, and its open streams.
 #[derive(Drop)]

@@ -5,4 +5,3 @@ pub mod WrittenLemmas
 pub mod OneDeltaMessage
 pub mod DeltaReadsBack
 pub mod DeltaWrittenLemmas
-pub use Rattle.xds_writes.proofs.StampedWriteLemmas

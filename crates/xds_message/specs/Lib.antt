@@ -6,4 +6,3 @@ pub use Rattle.xds_fields.specs.Versions
 pub mod DeltaMessages
 pub mod DeltaWritten
 pub mod Laws
-pub use Rattle.xds_writes.specs.StampedWrites

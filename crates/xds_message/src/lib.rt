@@ -12,4 +12,3 @@ pub use delta_response::{DeltaDiscoveryResponse, DeltaResource};
 pub use request::DiscoveryRequest;
 pub use response::DiscoveryResponse;
 pub use xds_fields::{Node, Status, Versions, copy_texts};
-pub use xds_writes::{Batch, read_write, write_object};

@@ -2,8 +2,8 @@
 use std::alloc::Global;
 use std::test::Fail;
 use xds_cases::cases::{Outcome, hold, told};
-use xds_message::{read_write, write_object};
 use xds_resource::{AnyWrite, Refusal};
+use xds_writes::{read_write, write_object};
 
 // What is written for the write that the text spells.
 struct WriteAgain;

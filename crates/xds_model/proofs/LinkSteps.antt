@@ -44,7 +44,7 @@ use Rattle.xds_model.proofs.ByOneName.{Says}
 use Rattle.xds_model.proofs.LaneSteps.{abreast_sent}
 use Rattle.xds_model.proofs.Delivering.{AllKnown, response_says, response_made, stated_is_covered}
 use Rattle.xds_model.proofs.Queues.{lane_up, of_own_type, of_other_type, AllDelta, lane_down, lane_down-append, all_numbered-later, none_answers, listed_draft, Lane, IsDeltaStream, Linked}
-use Rattle.xds_message.proofs.StampedWriteLemmas.{type_of_url-url}
+use Rattle.xds_writes.proofs.StampedWriteLemmas.{type_of_url-url}
 
 -- ---- a request is taken
 

@@ -46,7 +46,7 @@ use Rattle.xds_model.proofs.Lanes.{IsMade, Asks, Abreast, nothing_sent, taken_if
 use Rattle.xds_model.proofs.LaneSteps.{abreast_delivered, taken_delivered, abreast_changed, abreast_first, kept_made}
 use Rattle.xds_model.proofs.Queues.{of_type, lane_up, lane_up-append, of_own_type, of_other_type, AllDelta, all_delta-append, lane_down, all_numbered-append, listed_draft, Lane, Linked}
 use Rattle.xds_model.proofs.Firsts.{firsts, firsts_by, one_first, once, first_lane}
-use Rattle.xds_message.proofs.StampedWriteLemmas.{type_of_url-url}
+use Rattle.xds_writes.proofs.StampedWriteLemmas.{type_of_url-url}
 
 -- ---- Down
 

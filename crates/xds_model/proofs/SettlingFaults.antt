@@ -47,7 +47,7 @@ use Rattle.xds_model.proofs.Delivering.{IsKnown, AllKnown, canonical_is}
 use Rattle.xds_model.proofs.LinkSteps.{sending_facts}
 use Rattle.xds_model.proofs.SotwDelivering as sotw_delivering
 use Rattle.xds_model.proofs.SotwDelivering.{offered_is}
-use Rattle.xds_message.proofs.StampedWriteLemmas.{from_value-canonical}
+use Rattle.xds_writes.proofs.StampedWriteLemmas.{from_value-canonical}
 use Rattle.xds_owed.proofs.SomethingOwed.{is_some_of}
 use Rattle.xds_model.proofs.SotwSteps.{one_of_both}
 use Rattle.xds_model.proofs.SettlingSessions.{never_both}

@@ -58,7 +58,7 @@ use Rattle.xds_model.proofs.Everyone.{at_site_is, Fine}
 use Rattle.xds_model.proofs.SettlingSessions.{HasAnswer, delta_answers, sotw_answers}
 use Rattle.xds_model.proofs.SettlingFaults.{fault_at}
 use Rattle.xds_model.proofs.EveryEvent.{get_put}
-use Rattle.xds_message.proofs.StampedWriteLemmas.{type_of_url-url}
+use Rattle.xds_writes.proofs.StampedWriteLemmas.{type_of_url-url}
 use Rattle.xds_beliefs.proofs.Stored.{or_true}
 
 -- ---- where a client is

@@ -49,7 +49,7 @@ use Rattle.xds_model.proofs.Lanes.{taken_if_sent}
 use Rattle.xds_model.proofs.SotwLanes.{Asks, Abreast, Says, stated_in, awaited, nothing_sent, none_sent}
 use Rattle.xds_model.proofs.SotwSteps.{answer, abreast_delivered, abreast_changed, abreast_first, abreast_sent, taken_last}
 use Rattle.xds_model.proofs.SotwDelivering.{response_says, stated_is_covered}
-use Rattle.xds_message.proofs.StampedWriteLemmas.{type_of_url-url}
+use Rattle.xds_writes.proofs.StampedWriteLemmas.{type_of_url-url}
 
 -- ---- the requests of a type
 

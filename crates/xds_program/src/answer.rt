@@ -15,9 +15,10 @@ use std::alloc::Global;
 use xds_catalogue::Catalogue;
 use xds_draft::SotwDraft;
 use xds_ledger::Nonces;
-use xds_message::{DiscoveryRequest, read_write};
+use xds_message::DiscoveryRequest;
 use xds_resource::{AnyWrite, Refusal, ResourceType, TypeName, Write};
 use xds_sotw::Session;
+use xds_writes::read_write;
 
 /// Which line of an input is refused, and why.
 #[derive(Clone, Copy, Debug, PartialEq, Eq)]

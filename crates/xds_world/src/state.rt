@@ -23,11 +23,11 @@ use std::marker::Model;
 use xds_cache::Accept;
 use xds_core::{Event, Numbered, Reply, Request};
 use xds_draft::Draft;
-use xds_message::Batch;
 use xds_model::{ClientKind, Wish, WorldEvent};
 use xds_peer::parts::is_there;
 use xds_peer::{Link, Peer, Step};
 use xds_resource::{AnyResource, Refusal, TypeName};
+use xds_writes::Batch;
 
 /// Replicas, clients, and the batches that were taken.
 #[derive(Drop)]
