@@ -13,7 +13,8 @@ use serde_json::{Map, Value};
 use std::alloc::Global;
 use xds_resource::Refusal;
 
-/// The value of a JSON text, nested at most 127 deep.
+/// The value of a JSON text, nested at most 127 deep. Refused by `NotJson` where the bytes are no such text, and by
+/// `OutOfMemory`.
 pub fn read_json(alloc: Global, bytes: &[u8]) -> Result<Value, Refusal>
     ensures ok { IfOk result (λ v. IsJson bytes.now (view v)) }
     ensures not_json { result ≡ Err NotJson → (d : Data) → IsJson bytes.now d → ⊥ }
@@ -31,7 +32,8 @@ pub fn read_json(alloc: Global, bytes: &[u8]) -> Result<Value, Refusal>
     }
 }
 
-/// What a field is set to, under its lowerCamelCase name or the proto file's.
+/// What a field is set to, under its lowerCamelCase name or, where that isn't there, the proto file's; none where it is
+/// absent or `null`.
 pub fn set_field<'v>(value: &'v Value, camel: &str, proto: &str) -> Option<&'v Value>
     ensures { option_map (λ v. view v.now) result
         ≡ set_value (field camel.now proto.now (view value.now)) }
@@ -52,7 +54,7 @@ fn taken(value: Value, key: &str) -> Option<Value>
     }
 }
 
-/// What a field whose names are one is set to, which moves out of the object.
+/// What a field whose two names are one is set to, which moves out of the object; none where it is absent or `null`.
 pub fn taken_field(value: Value, key: &str) -> Option<Value>
     ensures { option_map view result ≡ set_value (field key.now key.now (view value)) }
 {
@@ -62,7 +64,8 @@ pub fn taken_field(value: Value, key: &str) -> Option<Value>
     }
 }
 
-/// A text field.
+/// A text field, empty where nothing is set. Refused by `BadMessage` where it is set to anything but a text, and by
+/// `OutOfMemory`.
 pub fn text_field(alloc: Global, value: &Value, camel: &str, proto: &str) -> Result<String, Refusal>
     ensures { Reads (IsText (field camel.now proto.now (view value.now))) string_bytes result }
 {
@@ -75,7 +78,8 @@ pub fn text_field(alloc: Global, value: &Value, camel: &str, proto: &str) -> Res
     }
 }
 
-/// A field that is a list of texts.
+/// A field that is a list of texts, empty where nothing is set. Refused by `BadMessage` where it is set to anything but
+/// a list of texts alone, and by `OutOfMemory`.
 pub fn texts_field(
     alloc: Global,
     value: &Value,
@@ -108,7 +112,7 @@ fn texts_of(alloc: Global, items: &Vec<Value>) -> Result<Vec<String>, Refusal>
     Ok(texts)
 }
 
-/// Equal texts.
+/// Equal texts. Refused only by `OutOfMemory`.
 pub fn copy_texts(alloc: Global, texts: &Vec<String>) -> Result<Vec<String>, Refusal>
     ensures ok { IfOk result
         (λ v. map string_bytes v.items ≡ map string_bytes texts.now.items) }
@@ -121,7 +125,8 @@ pub fn copy_texts(alloc: Global, texts: &Vec<String>) -> Result<Vec<String>, Ref
     Ok(copies)
 }
 
-/// A field that is a whole number of 32 bits, as a number or as a text of its digits.
+/// A field that is a whole number of 32 bits with a sign, as a number or as a text of its decimal digits, and 0 where
+/// nothing is set. Refused by `BadMessage` where it is set to anything else.
 pub fn code_field(value: &Value, camel: &str, proto: &str) -> Result<i32, Refusal>
     ensures reads { Reads (IsCode (field camel.now proto.now (view value.now))) (λ z. z) result }
     ensures memory { result ≢ Err OutOfMemory }
@@ -153,7 +158,7 @@ fn code_of_text(text: &str) -> Option<i32>
     }
 }
 
-/// Equal values.
+/// Equal values. Refused only by `OutOfMemory`.
 pub fn copy_values(alloc: Global, values: &Vec<Value>) -> Result<Vec<Value>, Refusal>
     ensures ok { IfOk result (λ v. map view v.items ≡ map view values.now.items) }
     ensures refused { IfErr result (λ e. e ≡ OutOfMemory) }
@@ -165,7 +170,7 @@ pub fn copy_values(alloc: Global, values: &Vec<Value>) -> Result<Vec<Value>, Ref
     Ok(copies)
 }
 
-/// Writes a text field, unless the text is empty.
+/// Writes a text field, unless the text is empty. Refused only by `OutOfMemory`.
 pub fn put_text(
     alloc: Global,
     map: &mut Map<String, Value>,
@@ -183,7 +188,7 @@ pub fn put_text(
     Ok(serde_json::put(map, alloc, key, value)?)
 }
 
-/// Writes a list field, unless the list is empty.
+/// Writes a list field, unless the list is empty. Refused only by `OutOfMemory`.
 pub fn put_list(
     alloc: Global,
     map: &mut Map<String, Value>,
@@ -200,7 +205,7 @@ pub fn put_list(
     Ok(serde_json::put(map, alloc, key, Value::Array(items))?)
 }
 
-/// Writes a code field, unless the code is 0.
+/// Writes a code field as a number, unless the code is 0. Refused only by `OutOfMemory`.
 pub fn put_code(
     alloc: Global,
     map: &mut Map<String, Value>,
@@ -217,7 +222,7 @@ pub fn put_code(
     Ok(serde_json::put(map, alloc, key, Value::from(code))?)
 }
 
-/// Writes a field that is there or not.
+/// Writes a field, if there is a value for it. Refused only by `OutOfMemory`.
 pub fn put_inner(
     alloc: Global,
     map: &mut Map<String, Value>,
@@ -234,7 +239,7 @@ pub fn put_inner(
     }
 }
 
-/// Writes a field that is a list of texts, unless the list is empty.
+/// Writes a field that is a list of texts, unless the list is empty. Refused only by `OutOfMemory`.
 pub fn put_texts(
     alloc: Global,
     map: &mut Map<String, Value>,

@@ -32,7 +32,7 @@ impl Model for Node {
 }
 
 impl Node {
-    /// An equal node.
+    /// An equal node. Refused only by `OutOfMemory`.
     pub fn try_copy(&self, alloc: Global) -> Result<Node, Refusal>
         ensures ok { IfOk result (λ n. n ≡ self.now) }
         ensures refused { IfErr result (λ e. e ≡ OutOfMemory) }
@@ -55,7 +55,7 @@ impl Node {
     }
 }
 
-/// An equal node, if there is one.
+/// An equal node, if there is one. Refused only by `OutOfMemory`.
 pub fn copy_node(alloc: Global, node: &Option<Node>) -> Result<Option<Node>, Refusal>
     ensures ok { IfOk result (λ n. n ≡ node.now) }
     ensures refused { IfErr result (λ e. e ≡ OutOfMemory) }
@@ -78,7 +78,8 @@ fn node_of(alloc: Global, value: &Value) -> Result<Node, Refusal>
     })
 }
 
-/// The node of a request.
+/// The node of a request, if its field `node` is set. Refused by `BadMessage` where that spells no node, and by
+/// `OutOfMemory`.
 pub fn node_field(alloc: Global, value: &Value) -> Result<Option<Node>, Refusal>
     ensures { Reads
         (IsInner SpellsIdentity (field (codes "node") (codes "node") (view value.now))) (λ m. m) result }
@@ -89,7 +90,7 @@ pub fn node_field(alloc: Global, value: &Value) -> Result<Option<Node>, Refusal>
     }
 }
 
-/// Writes the node of a request, if there is one.
+/// Writes the node of a request, if there is one. Refused only by `OutOfMemory`.
 pub fn put_node(
     alloc: Global,
     map: &mut Map<String, Value>,

@@ -33,7 +33,7 @@ impl Model for Status {
 }
 
 impl Status {
-    /// An equal status.
+    /// An equal status. Refused only by `OutOfMemory`.
     pub fn try_copy(&self, alloc: Global) -> Result<Status, Refusal>
         ensures ok { IfOk result (λ s. s ≡ self.now) }
         ensures refused { IfErr result (λ e. e ≡ OutOfMemory) }
@@ -57,7 +57,7 @@ impl Status {
     }
 }
 
-/// An equal status, if there is one.
+/// An equal status, if there is one. Refused only by `OutOfMemory`.
 pub fn copy_status(alloc: Global, status: &Option<Status>) -> Result<Option<Status>, Refusal>
     ensures ok { IfOk result (λ s. s ≡ status.now) }
     ensures refused { IfErr result (λ e. e ≡ OutOfMemory) }
@@ -80,7 +80,8 @@ fn status_of(alloc: Global, value: &Value) -> Result<Status, Refusal>
     })
 }
 
-/// Why the last response is rejected, if a request says so.
+/// Why the last response is rejected, if a request's `errorDetail` is set. Refused by `BadMessage` where that spells no
+/// status, and by `OutOfMemory`.
 pub fn error_detail_field(alloc: Global, value: &Value) -> Result<Option<Status>, Refusal>
     ensures { Reads
         (IsInner SpellsFailure
@@ -92,7 +93,7 @@ pub fn error_detail_field(alloc: Global, value: &Value) -> Result<Option<Status>
     }
 }
 
-/// Writes why the last response is rejected, if a request says so.
+/// Writes why the last response is rejected, if a request says so. Refused only by `OutOfMemory`.
 pub fn put_error_detail(
     alloc: Global,
     map: &mut Map<String, Value>,

@@ -45,7 +45,7 @@ impl Versions {
         }
     }
 
-    /// The version of a name.
+    /// The version of a name, if it has one.
     pub fn get(&self, name: &str) -> Option<&str>
         ensures { option_map (λ s. s.now) result ≡ finmap.get self.now name.now }
     {
@@ -55,7 +55,7 @@ impl Versions {
         }
     }
 
-    /// Sets the version of a name.
+    /// Sets the version of a name, in place of one that it has. Refused only by `OutOfMemory`, with nothing changed.
     pub fn insert(&mut self, alloc: Global, name: &str, version: &str) -> Result<(), Refusal>
         ensures ok { OnOk result (self.new ≡ finmap.insert self.old name.now version.now) }
         ensures err { OnErr result (self.new ≡ self.old) }
@@ -67,7 +67,7 @@ impl Versions {
         Ok(())
     }
 
-    /// The names, each with its version, in ascending order of names.
+    /// The names, each with its version, in ascending order of names. Refused only by `OutOfMemory`.
     pub fn pairs(&self, alloc: Global) -> Result<Vec<(&str, &str)>, Refusal>
         ensures ok { IfOk result
             (λ v. map (λ p. (p.0.now, p.1.now)) v.items ≡ finmap.entries self.now) }
@@ -80,7 +80,7 @@ impl Versions {
         Ok(pairs)
     }
 
-    /// Equal versions.
+    /// Equal versions. Refused only by `OutOfMemory`.
     pub fn try_copy(&self) -> Result<Versions, Refusal>
         ensures ok { IfOk result (λ v. v ≡ self.now) }
         ensures refused { IfErr result (λ e. e ≡ OutOfMemory) }
@@ -90,7 +90,7 @@ impl Versions {
         })
     }
 
-    /// The object of the versions, if there is one.
+    /// The object of the versions, and none where there is no version. Refused only by `OutOfMemory`.
     pub fn to_value(&self, alloc: Global) -> Result<Option<Value>, Refusal>
         ensures ok { IfOk result (λ v. option_map view v ≡ versions_data self.now) }
         ensures refused { IfErr result (λ e. e ≡ OutOfMemory) }
@@ -118,7 +118,8 @@ fn members_of(
     Ok(members)
 }
 
-/// A field that is an object whose values are texts.
+/// A field that is an object whose values are texts, with no version where nothing is set. Refused by `BadMessage`
+/// where it is set to anything else, and by `OutOfMemory`.
 pub fn versions_field(
     alloc: Global,
     value: &Value,

@@ -42,7 +42,7 @@ impl Batch {
         }
     }
 
-    /// An equal batch. No body is copied.
+    /// An equal batch. No body is copied. Refused only by `OutOfMemory`.
     pub fn try_copy(&self, alloc: Global) -> Result<Batch, Refusal>
         ensures ok { IfOk result (λ b. b ≡ self.now) }
         ensures refused { IfErr result (λ e. e ≡ OutOfMemory) }

@@ -22,7 +22,8 @@ use xds_resource::resource::is_valid_name;
 use xds_resource::stamp::MAX_COUNTER;
 use xds_resource::{AnyWrite, Refusal, Resource, ResourceType, Stamp, TypeName, Write};
 
-/// The write that the bytes spell: one JSON object. Keys that are not known are passed over.
+/// The write that the bytes spell: one JSON object. Keys that are not known are passed over. Refused by `NotJson` where
+/// the bytes are no JSON, by `BadMessage` where they spell no write, and by `OutOfMemory`.
 pub fn read_write(alloc: Global, bytes: &[u8]) -> Result<AnyWrite, Refusal>
     ensures ok { IfOk result (λ w. (d : Data) × IsJson bytes.now d
         × SpellsWrite d (write_type w) (stamped_write w)) }
@@ -35,7 +36,7 @@ pub fn read_write(alloc: Global, bytes: &[u8]) -> Result<AnyWrite, Refusal>
     any_write_of(alloc, &value)
 }
 
-/// The object of a write: its type, name and stamp, and the body that it puts.
+/// The object of a write: its type, name and stamp, and the body that it puts. Refused only by `OutOfMemory`.
 pub fn write_object(alloc: Global, write: &AnyWrite) -> Result<Value, Refusal>
     ensures ok { IfOk result
         (λ v. view v ≡ object_of (write_type write.now) (stamped_write write.now)) }
