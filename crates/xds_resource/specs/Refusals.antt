@@ -1,7 +1,7 @@
 -- The numbered refusals, and what a call answers that may also find no memory. This project's own.
 use Rattle.std.specs.Prelude.{◌≡◌, ◌≢◌, ℕ, List, [], ◌∷◌, Bool, if◌then◌else◌, Result, Ok, Err, codes}
 use Rattle.xds_resource.specs.declared.refusal.Refusal.{Refusal}
-use Rattle.xds_resource.specs.declared.refusal.Refusal.TheVariants.{NotJson, TooDeep, NotWhole, BadResource, BadName, TooLong, BadMessage, OutOfMemory, NotFound, CounterSpent, BadStamp, NoStream, WrongVariant, NonceSpent, Device, BadScript}
+use Rattle.xds_resource.specs.declared.refusal.Refusal.TheVariants.{NotJson, TooDeep, NotWhole, BadResource, BadName, TooLong, BadMessage, OutOfMemory, NotFound, CounterSpent, BadStamp, NoStream, WrongVariant, NonceSpent, EmptyFrame, FrameTooLong, UnknownKind, Truncated, Device, JournalFull, BadScript, BadTrace, Gap, BadGroup}
 
 abbrev pub number_of : Refusal → ℕ
 number_of NotJson = 1
@@ -18,8 +18,16 @@ number_of BadStamp = 11
 number_of NoStream = 12
 number_of WrongVariant = 13
 number_of NonceSpent = 14
+number_of EmptyFrame = 15
+number_of FrameTooLong = 16
+number_of UnknownKind = 17
+number_of Truncated = 18
 number_of Device = 19
+number_of JournalFull = 20
 number_of BadScript = 21
+number_of BadTrace = 22
+number_of Gap = 23
+number_of BadGroup = 24
 
 abbrev pub name_of : Refusal → List ℕ
 name_of NotJson = codes "NotJson"
@@ -36,8 +44,16 @@ name_of BadStamp = codes "BadStamp"
 name_of NoStream = codes "NoStream"
 name_of WrongVariant = codes "WrongVariant"
 name_of NonceSpent = codes "NonceSpent"
+name_of EmptyFrame = codes "EmptyFrame"
+name_of FrameTooLong = codes "FrameTooLong"
+name_of UnknownKind = codes "UnknownKind"
+name_of Truncated = codes "Truncated"
 name_of Device = codes "Device"
+name_of JournalFull = codes "JournalFull"
 name_of BadScript = codes "BadScript"
+name_of BadTrace = codes "BadTrace"
+name_of Gap = codes "Gap"
+name_of BadGroup = codes "BadGroup"
 
 -- a value, unless a condition holds: then the refusal of the first that does
 abbrev pub unless_refused : {A : Type 0} → List (Bool × Refusal) → A → Result A Refusal

@@ -49,12 +49,36 @@ pub enum Refusal {
     /// A stream has given out its greatest nonce.
     #[error("14 NonceSpent")]
     NonceSpent,
+    /// A frame says that nothing follows its length.
+    #[error("15 EmptyFrame")]
+    EmptyFrame,
+    /// A frame is longer than 16,777,216 bytes.
+    #[error("16 FrameTooLong")]
+    FrameTooLong,
+    /// A frame is of no kind that there is.
+    #[error("17 UnknownKind")]
+    UnknownKind,
+    /// The input ends within a frame.
+    #[error("18 Truncated")]
+    Truncated,
     /// A reader or a writer failed.
     #[error("19 Device")]
     Device,
+    /// A journal holds as many records as it may.
+    #[error("20 JournalFull")]
+    JournalFull,
     /// A line of a script is none.
     #[error("21 BadScript")]
     BadScript,
+    /// A line of a trace is none.
+    #[error("22 BadTrace")]
+    BadTrace,
+    /// The segments of a journal leave records out.
+    #[error("23 Gap")]
+    Gap,
+    /// A list of groups is none: there are more than 64, or one is empty or longer than 1,024 bytes.
+    #[error("24 BadGroup")]
+    BadGroup,
 }
 
 impl Refusal {
@@ -79,8 +103,16 @@ impl Refusal {
             Refusal::NoStream => 12,
             Refusal::WrongVariant => 13,
             Refusal::NonceSpent => 14,
+            Refusal::EmptyFrame => 15,
+            Refusal::FrameTooLong => 16,
+            Refusal::UnknownKind => 17,
+            Refusal::Truncated => 18,
             Refusal::Device => 19,
+            Refusal::JournalFull => 20,
             Refusal::BadScript => 21,
+            Refusal::BadTrace => 22,
+            Refusal::Gap => 23,
+            Refusal::BadGroup => 24,
         }
     }
 
@@ -103,8 +135,16 @@ impl Refusal {
             Refusal::NoStream => "NoStream",
             Refusal::WrongVariant => "WrongVariant",
             Refusal::NonceSpent => "NonceSpent",
+            Refusal::EmptyFrame => "EmptyFrame",
+            Refusal::FrameTooLong => "FrameTooLong",
+            Refusal::UnknownKind => "UnknownKind",
+            Refusal::Truncated => "Truncated",
             Refusal::Device => "Device",
+            Refusal::JournalFull => "JournalFull",
             Refusal::BadScript => "BadScript",
+            Refusal::BadTrace => "BadTrace",
+            Refusal::Gap => "Gap",
+            Refusal::BadGroup => "BadGroup",
         }
     }
 }

@@ -49,8 +49,16 @@ later_refusal n =
     else if n == 12 then refusals.NoStream
     else if n == 13 then refusals.WrongVariant
     else if n == 14 then refusals.NonceSpent
+    else if n == 15 then refusals.EmptyFrame
+    else if n == 16 then refusals.FrameTooLong
+    else if n == 17 then refusals.UnknownKind
+    else if n == 18 then refusals.Truncated
     else if n == 19 then refusals.Device
-    else refusals.BadScript
+    else if n == 20 then refusals.JournalFull
+    else if n == 21 then refusals.BadScript
+    else if n == 22 then refusals.BadTrace
+    else if n == 23 then refusals.Gap
+    else refusals.BadGroup
 
 abbrev pub numbered_refusal : ℕ → Refusal
 numbered_refusal n =
@@ -79,8 +87,16 @@ refusal_again refusals.BadStamp = refl
 refusal_again refusals.NoStream = refl
 refusal_again refusals.WrongVariant = refl
 refusal_again refusals.NonceSpent = refl
+refusal_again refusals.EmptyFrame = refl
+refusal_again refusals.FrameTooLong = refl
+refusal_again refusals.UnknownKind = refl
+refusal_again refusals.Truncated = refl
 refusal_again refusals.Device = refl
+refusal_again refusals.JournalFull = refl
 refusal_again refusals.BadScript = refl
+refusal_again refusals.BadTrace = refl
+refusal_again refusals.Gap = refl
+refusal_again refusals.BadGroup = refl
 
 abbrev pub refusal_code : Coded Refusal
 refusal_code = code_by ℕ coded_ℕ number_of numbered_refusal refusal_again
