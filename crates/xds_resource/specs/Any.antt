@@ -13,21 +13,25 @@ resource_type (resources.Cluster r) = types.Cluster
 resource_type (resources.Endpoint r) = types.Endpoint
 resource_type (resources.Listener r) = types.Listener
 resource_type (resources.Route r) = types.Route
+resource_type (resources.Secret r) = types.Secret
 
 abbrev pub named_body : AnyResource → NamedBody
 named_body (resources.Cluster r) = r
 named_body (resources.Endpoint r) = r
 named_body (resources.Listener r) = r
 named_body (resources.Route r) = r
+named_body (resources.Secret r) = r
 
 abbrev pub write_type : AnyWrite → TypeName
 write_type (writes.Cluster w) = types.Cluster
 write_type (writes.Endpoint w) = types.Endpoint
 write_type (writes.Listener w) = types.Listener
 write_type (writes.Route w) = types.Route
+write_type (writes.Secret w) = types.Secret
 
 abbrev pub stamped_write : AnyWrite → StampedWrite
 stamped_write (writes.Cluster w) = w
 stamped_write (writes.Endpoint w) = w
 stamped_write (writes.Listener w) = w
 stamped_write (writes.Route w) = w
+stamped_write (writes.Secret w) = w

@@ -4,6 +4,7 @@ pub mod Refusals
 pub mod Stamps
 pub mod Writes
 pub mod WriteOrder
+pub mod Groups
 pub mod Best
 pub mod Fields
 pub mod Resources

@@ -13,6 +13,7 @@ use Rattle.xds_resource.specs.declared.refusal.Refusal.TheVariants.{NotJson, Too
 use Rattle.xds_resource.specs.Types.{row, type_of_url}
 use Rattle.xds_resource.specs.Fields.{field}
 use Rattle.xds_resource.specs.Refusals.{unless_refused}
+use Rattle.xds_resource.specs.Groups.{IsGroups}
 use Rattle.xds_resource.specs.Writes.{StampedWrite}
 
 -- a resource: its name, and the compact text of its object
@@ -84,10 +85,12 @@ object_conditions t d = (not (is_resource t d), BadResource) ∷ (not (is_valid_
 abbrev pub from_object : TypeName → Data → Result NamedBody Refusal
 from_object t d = unless_refused (object_conditions t d) (resource_of t d)
 
--- what any resource's text has to be like
+-- What any resource's text has to be like. The last is never why one is refused, since the compact text of what was read
+-- is no longer than the text.
 abbrev pub front_conditions : List ℕ → List (Bool × Refusal)
 front_conditions text =
-    (nat_lt max_text (length text), TooLong) ∷ (is_none (read text), NotJson) ∷ (nat_lt max_nesting (depth (value_of text)), TooDeep) ∷ (has_float (value_of text), NotWhole) ∷ []
+    (nat_lt max_text (length text), TooLong) ∷ (is_none (read text), NotJson) ∷ (nat_lt max_nesting (depth (value_of text)), TooDeep) ∷ (has_float (value_of text), NotWhole)
+    ∷ (nat_lt max_text (length (compact_text (value_of text))), TooLong) ∷ []
 
 -- the text reads as the value, and is none that every type refuses
 abbrev pub ReadsAs : List ℕ → Data → Type 0
@@ -110,10 +113,11 @@ parsed t text = unless_refused (text_conditions t text) (resource_of t (value_of
 abbrev pub from_value : TypeName → Data → Result NamedBody Refusal
 from_value t d = unless_refused (value_conditions t d) (resource_of t d)
 
--- The body is the compact text of a whole, shallow value that is this resource, and reads as that value.
+-- The body is the compact text, not too long, of a whole, shallow value that is this resource, and reads as that value.
 pub record IsCanonical (t : TypeName) (r : NamedBody) : Type 0 where
   pub reads : read r.body ≡ Some (value_of r.body)
   pub text : compact_text (value_of r.body) ≡ r.body
+  pub short : length r.body ≤ max_text
   pub whole : has_float (value_of r.body) ≡ false
   pub shallow : depth (value_of r.body) ≤ max_nesting
   pub object : from_object t (value_of r.body) ≡ Ok r
@@ -126,15 +130,18 @@ named_type d = option_and_then type_of_url (type_text d)
 abbrev pub IsRefused : List ℕ → Refusal → Type 0
 IsRefused text e = MatchOption (named_type (value_of text)) ((t : TypeName) → parsed t text ≡ Err e) (λ t. parsed t text ≡ Err e)
 
--- A write of the type: its name is valid, and what it puts is a resource of that name.
+-- A write of the type: its name is valid, what it puts is a resource of that name, and it lists groups as they are kept. A
+-- deletion has none.
 pub record IsWritable (t : TypeName) (w : StampedWrite) : Type 0 where
   pub named : is_valid_name w.name ≡ true
   pub body : ForSome w.body (λ b. IsCanonical t (record { name = w.name; body = b }))
+  pub groups : IsGroups w.groups
+  pub bare : w.body ≡ None → w.groups ≡ []
 
--- the write that puts a resource
-abbrev pub written : ℕ → ℕ → NamedBody → StampedWrite
-written counter writer r = record { name = r.name; counter = counter; writer = writer; body = Some r.body }
+-- the write that puts a resource, for these groups
+abbrev pub written : ℕ → ℕ → NamedBody → List (List ℕ) → StampedWrite
+written counter writer r groups = record { name = r.name; counter = counter; writer = writer; body = Some r.body; groups = groups }
 
 -- the write that deletes the resource of a name
 abbrev pub deleted : ℕ → ℕ → List ℕ → StampedWrite
-deleted counter writer name = record { name = name; counter = counter; writer = writer; body = None }
+deleted counter writer name = record { name = name; counter = counter; writer = writer; body = None; groups = [] }

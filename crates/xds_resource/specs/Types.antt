@@ -4,7 +4,7 @@ use Rattle.std.specs.List.{position_or_len}
 use Rattle.std.specs.Ordering.{nat_cmp}
 use Rattle.std.specs.declared.cmp.Ordering.{Ordering}
 use Rattle.xds_resource.specs.declared.types.TypeName.{TypeName}
-use Rattle.xds_resource.specs.declared.types.TypeName.TheVariants.{Cluster, Endpoint, Listener, Route}
+use Rattle.xds_resource.specs.declared.types.TypeName.TheVariants.{Cluster, Endpoint, Listener, Route, Secret}
 
 -- what is known of a type
 pub record Row : Type 0 where
@@ -53,10 +53,18 @@ row Route = record {
   is_complete = false;
   rest_path = codes "/v3/discovery:routes";
 }
+row Secret = record {
+  word = codes "secret";
+  url = codes "type.googleapis.com/envoy.extensions.transport_sockets.tls.v3.Secret";
+  name_field = codes "name";
+  proto_name_field = codes "name";
+  is_complete = false;
+  rest_path = codes "/v3/discovery:secrets";
+}
 
 -- the types, in the order in which a server answers them
 abbrev pub types : List TypeName
-types = Cluster ∷ Endpoint ∷ Listener ∷ Route ∷ []
+types = Cluster ∷ Endpoint ∷ Listener ∷ Route ∷ Secret ∷ []
 
 -- the type of the table that has this URL
 abbrev pub type_of_url : List ℕ → Option TypeName

@@ -7,27 +7,36 @@ use Rattle.std.specs.Cmp.Lexicographic.{slice_cmp}
 use Rattle.std.specs.Option.{option_cmp}
 use Rattle.xds_resource.specs.Stamps.{version_text}
 
--- a write: its name, its stamp, and the body that it puts there, or none where it deletes
+-- a write: its name, its stamp, the body that it puts there, or none where it deletes, and the groups of clients that the
+-- body is for, of which there are none where it is for all
 pub record StampedWrite : Type 0 where
   pub name : List ℕ
   pub counter : ℕ
   pub writer : ℕ
   pub body : Option (List ℕ)
+  pub groups : List (List ℕ)
 
 abbrev pub write_code : Coded StampedWrite
 write_code =
-    code_by (List ℕ × (ℕ × (ℕ × Option (List ℕ)))) (coded× (coded_list coded_ℕ) (coded× coded_ℕ (coded× coded_ℕ (coded_option (coded_list coded_ℕ)))))
-    (λ w. (w.name, (w.counter, (w.writer, w.body)))) (λ p. record { name = p.0; counter = p.1.0; writer = p.1.1.0; body = p.1.1.1 }) (λ _. refl)
+    code_by (List ℕ × (ℕ × (ℕ × (Option (List ℕ) × List (List ℕ)))))
+    (coded× (coded_list coded_ℕ) (coded× coded_ℕ (coded× coded_ℕ (coded× (coded_option (coded_list coded_ℕ)) (coded_list (coded_list coded_ℕ))))))
+    (λ w. (w.name, (w.counter, (w.writer, (w.body, w.groups)))))
+    (λ p. record { name = p.0; counter = p.1.0; writer = p.1.1.0; body = p.1.1.1.0; groups = p.1.1.1.1 }) (λ _. refl)
 
 -- the order of names, and of bodies: byte by byte
 abbrev pub text_cmp : List ℕ → List ℕ → Ordering
 text_cmp = slice_cmp nat_cmp
 
--- By counter, then writer, then a deletion below a body, then the body's bytes. The name breaks the ties that are left,
--- which no two writes of one name have.
+-- the order of lists of groups: group by group
+abbrev pub groups_cmp : List (List ℕ) → List (List ℕ) → Ordering
+groups_cmp = slice_cmp text_cmp
+
+-- By counter, then writer, then a deletion below a body, then the body's bytes, then the groups. The name breaks the ties
+-- that are left, which no two writes of one name have.
 abbrev pub write_cmp : StampedWrite → StampedWrite → Ordering
 write_cmp =
-    then_cmp (on (λ w. w.counter) nat_cmp) (then_cmp (on (λ w. w.writer) nat_cmp) (then_cmp (on (λ w. w.body) (option_cmp text_cmp)) (on (λ w. w.name) text_cmp)))
+    then_cmp (on (λ w. w.counter) nat_cmp)
+    (then_cmp (on (λ w. w.writer) nat_cmp) (then_cmp (on (λ w. w.body) (option_cmp text_cmp)) (then_cmp (on (λ w. w.groups) groups_cmp) (on (λ w. w.name) text_cmp))))
 
 -- the version text of a write
 abbrev pub version_of : StampedWrite → List ℕ

@@ -7,10 +7,11 @@ ghost use Rattle.serde_json.specs.Written.{compact_text, has_float};
 ghost use Rattle.xds_resource.specs.Resources.{value_of, max_nesting, parsed, IsRefused, named_type as type_named};
 ghost use Rattle.xds_resource.specs.Any.{resource_type, named_body, write_type, stamped_write};
 
+use crate::groups::Groups;
 use crate::refusal::Refusal;
 use crate::resource::{Resource, read_text};
 use crate::stamp::Stamp;
-use crate::types::{Cluster, Endpoint, Listener, Route, TypeName};
+use crate::types::{Cluster, Endpoint, Listener, Route, Secret, TypeName};
 use crate::write::Write;
 use serde_json::Value;
 use std::alloc::Global;
@@ -22,6 +23,7 @@ pub enum AnyResource {
     Endpoint(Resource<Endpoint>),
     Listener(Resource<Listener>),
     Route(Resource<Route>),
+    Secret(Resource<Secret>),
 }
 
 impl AnyResource {
@@ -31,8 +33,7 @@ impl AnyResource {
         ensures read { IfOk result (λ r. parsed (resource_type r) text.now ≡ Ok (named_body r)) }
         ensures refused { IfErr result (λ e. e ≢ Refusal.OutOfMemory → IsRefused text.now e) }
     {
-        let value = read_text(alloc, text)?;
-        let body = value.to_string(alloc)?;
+        let (value, body) = read_text(alloc, text)?;
         let Some(type_name) = named_type(&value) else {
             return Err(Refusal::BadResource);
         };
@@ -47,6 +48,7 @@ impl AnyResource {
                 alloc, &value, body,
             )?)),
             TypeName::Route => Ok(AnyResource::Route(Resource::of_object(alloc, &value, body)?)),
+            TypeName::Secret => Ok(AnyResource::Secret(Resource::of_object(alloc, &value, body)?)),
         }
     }
 
@@ -58,6 +60,7 @@ impl AnyResource {
             AnyResource::Endpoint(_) => TypeName::Endpoint,
             AnyResource::Listener(_) => TypeName::Listener,
             AnyResource::Route(_) => TypeName::Route,
+            AnyResource::Secret(_) => TypeName::Secret,
         }
     }
 
@@ -69,6 +72,7 @@ impl AnyResource {
             AnyResource::Endpoint(resource) => resource.name(),
             AnyResource::Listener(resource) => resource.name(),
             AnyResource::Route(resource) => resource.name(),
+            AnyResource::Secret(resource) => resource.name(),
         }
     }
 
@@ -81,6 +85,7 @@ impl AnyResource {
             AnyResource::Endpoint(resource) => resource.body(),
             AnyResource::Listener(resource) => resource.body(),
             AnyResource::Route(resource) => resource.body(),
+            AnyResource::Secret(resource) => resource.body(),
         }
     }
 
@@ -94,6 +99,7 @@ impl AnyResource {
             AnyResource::Endpoint(resource) => AnyResource::Endpoint(resource.try_copy(alloc)?),
             AnyResource::Listener(resource) => AnyResource::Listener(resource.try_copy(alloc)?),
             AnyResource::Route(resource) => AnyResource::Route(resource.try_copy(alloc)?),
+            AnyResource::Secret(resource) => AnyResource::Secret(resource.try_copy(alloc)?),
         })
     }
 }
@@ -105,6 +111,7 @@ pub enum AnyWrite {
     Endpoint(Write<Endpoint>),
     Listener(Write<Listener>),
     Route(Write<Route>),
+    Secret(Write<Secret>),
 }
 
 impl AnyWrite {
@@ -116,6 +123,7 @@ impl AnyWrite {
             AnyWrite::Endpoint(_) => TypeName::Endpoint,
             AnyWrite::Listener(_) => TypeName::Listener,
             AnyWrite::Route(_) => TypeName::Route,
+            AnyWrite::Secret(_) => TypeName::Secret,
         }
     }
 
@@ -127,6 +135,7 @@ impl AnyWrite {
             AnyWrite::Endpoint(write) => write.name(),
             AnyWrite::Listener(write) => write.name(),
             AnyWrite::Route(write) => write.name(),
+            AnyWrite::Secret(write) => write.name(),
         }
     }
 
@@ -139,6 +148,7 @@ impl AnyWrite {
             AnyWrite::Endpoint(write) => write.stamp(),
             AnyWrite::Listener(write) => write.stamp(),
             AnyWrite::Route(write) => write.stamp(),
+            AnyWrite::Secret(write) => write.stamp(),
         }
     }
 
@@ -151,6 +161,20 @@ impl AnyWrite {
             AnyWrite::Endpoint(write) => write.body(),
             AnyWrite::Listener(write) => write.body(),
             AnyWrite::Route(write) => write.body(),
+            AnyWrite::Secret(write) => write.body(),
+        }
+    }
+
+    /// The groups of clients that the write is for.
+    pub fn groups(&self) -> &Groups
+        ensures { result.now ≡ (stamped_write self.now).groups }
+    {
+        match self {
+            AnyWrite::Cluster(write) => write.groups(),
+            AnyWrite::Endpoint(write) => write.groups(),
+            AnyWrite::Listener(write) => write.groups(),
+            AnyWrite::Route(write) => write.groups(),
+            AnyWrite::Secret(write) => write.groups(),
         }
     }
 
@@ -168,6 +192,7 @@ impl AnyWrite {
             AnyWrite::Endpoint(write) => write.value(alloc),
             AnyWrite::Listener(write) => write.value(alloc),
             AnyWrite::Route(write) => write.value(alloc),
+            AnyWrite::Secret(write) => write.value(alloc),
         }
     }
 
@@ -181,6 +206,7 @@ impl AnyWrite {
             AnyWrite::Endpoint(write) => AnyWrite::Endpoint(write.try_copy(alloc)?),
             AnyWrite::Listener(write) => AnyWrite::Listener(write.try_copy(alloc)?),
             AnyWrite::Route(write) => AnyWrite::Route(write.try_copy(alloc)?),
+            AnyWrite::Secret(write) => AnyWrite::Secret(write.try_copy(alloc)?),
         })
     }
 }

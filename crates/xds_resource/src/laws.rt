@@ -71,5 +71,6 @@ pub fn resources_are_canonical(resource: &AnyResource)
         AnyResource::Endpoint(resource) => resource.is_canonical(),
         AnyResource::Listener(resource) => resource.is_canonical(),
         AnyResource::Route(resource) => resource.is_canonical(),
+        AnyResource::Secret(resource) => resource.is_canonical(),
     }
 }

@@ -1,7 +1,8 @@
-// What the catalogue of an xDS control plane holds: resources of Envoy's four types, and stamped writes of them.
+// What the catalogue of an xDS control plane holds: resources of five of Envoy's types, and stamped writes of them.
 #![tactic(auto)]
 
 pub mod any;
+pub mod groups;
 mod json;
 pub mod laws;
 pub mod names;
@@ -12,9 +13,10 @@ pub mod types;
 pub mod write;
 
 pub use any::{AnyResource, AnyWrite};
+pub use groups::Groups;
 pub use names::NameMap;
 pub use refusal::Refusal;
 pub use resource::Resource;
 pub use stamp::Stamp;
-pub use types::{Cluster, Endpoint, Listener, ResourceType, Route, TypeName};
+pub use types::{Cluster, Endpoint, Listener, ResourceType, Route, Secret, TypeName};
 pub use write::Write;

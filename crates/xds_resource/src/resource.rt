@@ -1,5 +1,5 @@
 // Resources of one type, read from JSON.
-ghost use Rattle.std.specs.Prelude.{◌≡◌, ◌≤◌, IfOk, IfErr, OnOk, Some, None, Ok, true, false, string_bytes, List, ℕ};
+ghost use Rattle.std.specs.Prelude.{◌≡◌, ◌≤◌, IfOk, IfErr, OnOk, Some, None, Ok, true, false, string_bytes, length, List, ℕ};
 ghost use Rattle.std.specs.Option.{option_map};
 ghost use Rattle.std.specs.Arc.{arc_str_bytes};
 ghost use Rattle.serde_json.specs.Data.{depth};
@@ -7,7 +7,7 @@ ghost use Rattle.serde_json.specs.Read.{read};
 ghost use Rattle.serde_json.specs.View.{view};
 ghost use Rattle.serde_json.specs.Written.{compact_text, has_float};
 ghost use Rattle.xds_resource.specs.Refusals.{Gives, unless_refused};
-ghost use Rattle.xds_resource.specs.Resources.{IsCanonical, ReadsAs, is_valid_name as is_valid, has_type as names_type, resource_name as name_of, value_of, max_nesting, front_conditions, from_object, parsed, from_value as valued};
+ghost use Rattle.xds_resource.specs.Resources.{IsCanonical, ReadsAs, is_valid_name as is_valid, has_type as names_type, resource_name as name_of, value_of, max_nesting, max_text, front_conditions, from_object, parsed, from_value as valued};
 
 use crate::json::{field, is_whole, nests_within};
 use crate::refusal::Refusal;
@@ -48,13 +48,13 @@ impl<T: ResourceType> Model for Resource<T> {
 }
 
 impl<T: ResourceType> Resource<T> {
-    /// Reads a resource. Refused are, the first that applies: `TooLong`, `NotJson`, `TooDeep`, `NotWhole`,
-    /// `BadResource`, `BadName`.
+    /// Reads a resource. Refused are, the first that applies: `TooLong`, `NotJson`, `TooDeep`, `NotWhole`, `TooLong` by
+    /// the compact text, `BadResource`, `BadName`. A compact text is no longer than what it was read from, so the second
+    /// `TooLong` never comes.
     pub fn parse(alloc: Global, text: &str) -> Result<Resource<T>, Refusal>
         ensures { Gives (λ r. r) result (parsed T.TYPE text.now) }
     {
-        let value = read_text(alloc, text)?;
-        let body = value.to_string(alloc)?;
+        let (value, body) = read_text(alloc, text)?;
         Resource::of_object(alloc, &value, body)
     }
 
@@ -84,6 +84,7 @@ impl<T: ResourceType> Resource<T> {
     ) -> Result<Resource<T>, Refusal>
         requires whole { has_float (view value.now) ≡ false }
         requires shallow { depth (view value.now) ≤ max_nesting }
+        requires short { length (string_bytes body) ≤ max_text }
         requires text { string_bytes body ≡ compact_text (view value.now) }
         requires reads_back { read (string_bytes body) ≡ Some (view value.now) }
         ensures of_value { Gives (λ r. r) result (from_object T.TYPE (view value.now)) }
@@ -159,12 +160,15 @@ pub fn is_valid_name(name: &str) -> bool
     !name.is_empty() && name.len() <= MAX_NAME && name != "*"
 }
 
-// The value of a text, if it is one that any resource may have.
-pub(crate) fn read_text(alloc: Global, text: &str) -> Result<Value, Refusal>
-    ensures given { Gives view result (unless_refused (front_conditions text.now) (value_of text.now)) }
-    ensures reads { IfOk result (λ v. ReadsAs text.now (view v)) }
-    ensures shallow { IfOk result (λ v. depth (view v) ≤ max_nesting) }
-    ensures whole { IfOk result (λ v. has_float (view v) ≡ false) }
+// The value of a text, if it is one that any resource may have, and its compact text.
+pub(crate) fn read_text(alloc: Global, text: &str) -> Result<(Value, String), Refusal>
+    ensures given { Gives (λ p. view p.0) result (unless_refused (front_conditions text.now) (value_of text.now)) }
+    ensures reads { IfOk result (λ p. ReadsAs text.now (view p.0)) }
+    ensures shallow { IfOk result (λ p. depth (view p.0) ≤ max_nesting) }
+    ensures whole { IfOk result (λ p. has_float (view p.0) ≡ false) }
+    ensures short { IfOk result (λ p. length (string_bytes p.1) ≤ max_text) }
+    ensures body { IfOk result (λ p. string_bytes p.1 ≡ compact_text (view p.0)) }
+    ensures reads_back { IfOk result (λ p. read (string_bytes p.1) ≡ Some (view p.0)) }
 {
     if text.len() > MAX_TEXT {
         return Err(Refusal::TooLong);
@@ -185,7 +189,11 @@ pub(crate) fn read_text(alloc: Global, text: &str) -> Result<Value, Refusal>
     if !is_whole(&value) {
         return Err(Refusal::NotWhole);
     }
-    Ok(value)
+    let body = value.to_string(alloc)?;
+    if body.as_str().len() > MAX_TEXT {
+        return Err(Refusal::TooLong);
+    }
+    Ok((value, body))
 }
 
 // The value of a body. Every body reads, so that only memory can fail.

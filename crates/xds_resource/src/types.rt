@@ -8,17 +8,19 @@ pub enum TypeName {
     Endpoint,
     Listener,
     Route,
+    Secret,
 }
 
 impl TypeName {
     ghost use Rattle.xds_resource.specs.Types.{row, type_of_url, type_of_word};
 
     /// Every type, in the order in which a server answers them.
-    pub const ALL: [TypeName; 4] = [
+    pub const ALL: [TypeName; 5] = [
         TypeName::Cluster,
         TypeName::Endpoint,
         TypeName::Listener,
         TypeName::Route,
+        TypeName::Secret,
     ];
 
     /// The word that the programs use.
@@ -30,6 +32,7 @@ impl TypeName {
             TypeName::Endpoint => "endpoint",
             TypeName::Listener => "listener",
             TypeName::Route => "route",
+            TypeName::Secret => "secret",
         }
     }
 
@@ -43,6 +46,8 @@ impl TypeName {
                 "type.googleapis.com/envoy.config.endpoint.v3.ClusterLoadAssignment",
             TypeName::Listener => "type.googleapis.com/envoy.config.listener.v3.Listener",
             TypeName::Route => "type.googleapis.com/envoy.config.route.v3.RouteConfiguration",
+            TypeName::Secret =>
+                "type.googleapis.com/envoy.extensions.transport_sockets.tls.v3.Secret",
         }
     }
 
@@ -57,6 +62,9 @@ impl TypeName {
             ),
             "type.googleapis.com/envoy.config.listener.v3.Listener" => Some(TypeName::Listener),
             "type.googleapis.com/envoy.config.route.v3.RouteConfiguration" => Some(TypeName::Route),
+            "type.googleapis.com/envoy.extensions.transport_sockets.tls.v3.Secret" => Some(
+                TypeName::Secret,
+            ),
             _ => None,
         }
     }
@@ -70,6 +78,7 @@ impl TypeName {
             "endpoint" => Some(TypeName::Endpoint),
             "listener" => Some(TypeName::Listener),
             "route" => Some(TypeName::Route),
+            "secret" => Some(TypeName::Secret),
             _ => None,
         }
     }
@@ -79,7 +88,7 @@ impl TypeName {
         ensures { result.now ≡ (row self).name_field }
     {
         match self {
-            TypeName::Cluster | TypeName::Listener | TypeName::Route => "name",
+            TypeName::Cluster | TypeName::Listener | TypeName::Route | TypeName::Secret => "name",
             TypeName::Endpoint => "clusterName",
         }
     }
@@ -89,7 +98,7 @@ impl TypeName {
         ensures { result.now ≡ (row self).proto_name_field }
     {
         match self {
-            TypeName::Cluster | TypeName::Listener | TypeName::Route => "name",
+            TypeName::Cluster | TypeName::Listener | TypeName::Route | TypeName::Secret => "name",
             TypeName::Endpoint => "cluster_name",
         }
     }
@@ -100,7 +109,7 @@ impl TypeName {
     {
         match self {
             TypeName::Cluster | TypeName::Listener => true,
-            TypeName::Endpoint | TypeName::Route => false,
+            TypeName::Endpoint | TypeName::Route | TypeName::Secret => false,
         }
     }
 
@@ -113,6 +122,7 @@ impl TypeName {
             TypeName::Endpoint => "/v3/discovery:endpoints",
             TypeName::Listener => "/v3/discovery:listeners",
             TypeName::Route => "/v3/discovery:routes",
+            TypeName::Secret => "/v3/discovery:secrets",
         }
     }
 }
@@ -141,6 +151,10 @@ pub struct Listener;
 /// Route configurations (RDS).
 #[derive(Clone, Copy, Debug)]
 pub struct Route;
+
+/// TLS certificates, keys and what validates them (SDS).
+#[derive(Clone, Copy, Debug)]
+pub struct Secret;
 
 impl ResourceType for Cluster {
     ghost use Rattle.xds_resource.specs.declared.types.TypeName.TheVariants.{Cluster};
@@ -172,4 +186,12 @@ impl ResourceType for Route {
     ghost TYPE = { Route };
 
     const TYPE: TypeName = TypeName::Route;
+}
+
+impl ResourceType for Secret {
+    ghost use Rattle.xds_resource.specs.declared.types.TypeName.TheVariants.{Secret};
+
+    ghost TYPE = { Secret };
+
+    const TYPE: TypeName = TypeName::Secret;
 }

@@ -7,6 +7,7 @@ ghost use Rattle.serde_json.specs.View.{view};
 ghost use Rattle.serde_json.specs.Written.{compact_text, has_float};
 ghost use Rattle.xds_resource.specs.Resources.{is_valid_name, value_of, max_nesting, IsWritable, written, deleted};
 
+use crate::groups::Groups;
 use crate::refusal::Refusal;
 use crate::resource::{Resource, read_body};
 use crate::stamp::Stamp;
@@ -24,6 +25,7 @@ pub struct Write<T: ResourceType> {
     name: ArcStr<Global>,
     // The compact text of the resource's object, or none for a deletion.
     body: Option<ArcStr<Global>>,
+    groups: Groups,
     kind: PhantomData<T>,
 }
 
@@ -38,21 +40,22 @@ impl<T: ResourceType> Model for Write<T> {
 
     ghost use Rattle.xds_resource.specs.Resources.{IsWritable};
 
-    ghost view = { λ w. record { name = arc_str_bytes w.name; counter = w.stamp.counter; writer = w.stamp.writer; body = option_map arc_str_bytes w.body } };
+    ghost view = { λ w. record { name = arc_str_bytes w.name; counter = w.stamp.counter; writer = w.stamp.writer; body = option_map arc_str_bytes w.body; groups = w.groups } };
 
-    ghost invariant = { λ w. IsWritable T.TYPE (record { name = arc_str_bytes w.name; counter = w.stamp.counter; writer = w.stamp.writer; body = option_map arc_str_bytes w.body }) };
+    ghost invariant = { λ w. IsWritable T.TYPE (record { name = arc_str_bytes w.name; counter = w.stamp.counter; writer = w.stamp.writer; body = option_map arc_str_bytes w.body; groups = w.groups }) };
 }
 
 impl<T: ResourceType> Write<T> {
-    /// The write that puts a resource.
-    pub fn put(stamp: Stamp, resource: Resource<T>) -> Write<T>
-        ensures { result ≡ written stamp.counter stamp.writer resource }
+    /// The write that puts a resource, for clients of these groups, or for all where there are none.
+    pub fn put(stamp: Stamp, resource: Resource<T>, groups: Groups) -> Write<T>
+        ensures { result ≡ written stamp.counter stamp.writer resource groups }
     {
         let Resource { name, body, kind } = resource;
         Write {
             stamp,
             name,
             body: Some(body),
+            groups,
             kind,
         }
     }
@@ -66,6 +69,7 @@ impl<T: ResourceType> Write<T> {
             stamp,
             name,
             body: None,
+            groups: Groups::none(),
             kind: PhantomData,
         }
     }
@@ -93,6 +97,21 @@ impl<T: ResourceType> Write<T> {
             Some(text) => Some(text.as_str()),
             None => None,
         }
+    }
+
+    /// The groups of clients that the write is for. There are none where it is for all, and where it deletes.
+    pub fn groups(&self) -> &Groups
+        ensures { result.now ≡ self.now.groups }
+    {
+        &self.groups
+    }
+
+    /// The groups, shared: no text is copied. `OutOfMemory` where they have 2^63 owners.
+    pub fn shared_groups(&self) -> Result<Groups, Refusal>
+        ensures groups { IfOk result (λ g. g ≡ self.now.groups) }
+        ensures refused { IfErr result (λ e. e ≡ Refusal.OutOfMemory) }
+    {
+        Ok(self.groups.clone()?)
     }
 
     /// The name as a text that is shared: no bytes are copied. `OutOfMemory` where a text has 2^63 owners.
@@ -146,7 +165,7 @@ impl<T: ResourceType> Clone for Write<T> {
 
     ghost is_clone = { λ w c. c ≡ w };
 
-    // The texts are shared.
+    // The texts and the groups are shared.
     fn clone(&self) -> Result<Write<T>, AllocError> {
         let body = match &self.body {
             Some(text) => Some(text.clone()?),
@@ -156,6 +175,7 @@ impl<T: ResourceType> Clone for Write<T> {
             stamp: self.stamp,
             name: self.name.clone()?,
             body,
+            groups: self.groups.clone()?,
             kind: PhantomData,
         })
     }
@@ -225,6 +245,7 @@ impl<T: ResourceType> Ord for Write<T> {
         self.stamp
             .cmp(&other.stamp)
             .then(self.body.cmp(&other.body))
+            .then(self.groups.compare(&other.groups))
             .then(self.name.cmp(&other.name))
     }
 }
