@@ -244,10 +244,10 @@ pub fn put_texts(
     alloc: Global,
     map: &mut Map<String, Value>,
     key: &str,
-    texts: &Vec<String>,
+    texts: &[String],
 ) -> Result<(), Refusal>
     ensures ok { OnOk result (members_view map.new.entries
-        ≡ put_set key.now (list_data (map_items string (map_items string_bytes texts.now.items))) (members_view map.old.entries)) }
+        ≡ put_set key.now (list_data (map_items string (map_items string_bytes texts.now))) (members_view map.old.entries)) }
     ensures refused { IfErr result (λ e. e ≡ OutOfMemory) }
 {
     let values = text_values(alloc, texts)?;
@@ -255,9 +255,9 @@ pub fn put_texts(
 }
 
 // The texts as values.
-fn text_values(alloc: Global, texts: &Vec<String>) -> Result<Vec<Value>, Refusal>
+fn text_values(alloc: Global, texts: &[String]) -> Result<Vec<Value>, Refusal>
     ensures ok { IfOk result
-        (λ v. map view v.items ≡ map string (map string_bytes texts.now.items)) }
+        (λ v. map view v.items ≡ map string (map string_bytes texts.now)) }
     ensures refused { IfErr result (λ e. e ≡ OutOfMemory) }
 {
     let mut values = Vec::new(alloc);

@@ -5,7 +5,7 @@ ghost use Rattle.xds_resource.specs.declared.refusal.Refusal.TheVariants.{OutOfM
 
 use std::alloc::Global;
 use std::marker::Model;
-use xds_resource::{Cluster, Endpoint, Listener, Refusal, ResourceType, Route, Write};
+use xds_resource::{Cluster, Endpoint, Listener, Refusal, ResourceType, Route, Secret, Write};
 
 /// Writes of all types. Those of a type have an order; writes of different types don't meet.
 #[derive(Drop)]
@@ -14,6 +14,7 @@ pub struct Batch {
     pub endpoint: Vec<Write<Endpoint>>,
     pub listener: Vec<Write<Listener>>,
     pub route: Vec<Write<Route>>,
+    pub secret: Vec<Write<Secret>>,
 }
 
 impl Model for Batch {
@@ -26,7 +27,7 @@ impl Model for Batch {
 
     ghost coded = { per_type_code (coded_list write_code) };
 
-    ghost view = { λ b. record { cluster = b.cluster.items; endpoint = b.endpoint.items; listener = b.listener.items; route = b.route.items } };
+    ghost view = { λ b. record { cluster = b.cluster.items; endpoint = b.endpoint.items; listener = b.listener.items; route = b.route.items; secret = b.secret.items } };
 }
 
 impl Batch {
@@ -39,10 +40,11 @@ impl Batch {
             endpoint: Vec::new(alloc),
             listener: Vec::new(alloc),
             route: Vec::new(alloc),
+            secret: Vec::new(alloc),
         }
     }
 
-    /// An equal batch. No body is copied. Refused only by `OutOfMemory`.
+    /// An equal batch. No body and no group is copied. Refused only by `OutOfMemory`.
     pub fn try_copy(&self, alloc: Global) -> Result<Batch, Refusal>
         ensures ok { IfOk result (λ b. b ≡ self.now) }
         ensures refused { IfErr result (λ e. e ≡ OutOfMemory) }
@@ -52,6 +54,7 @@ impl Batch {
             endpoint: copy_writes(alloc, &self.endpoint)?,
             listener: copy_writes(alloc, &self.listener)?,
             route: copy_writes(alloc, &self.route)?,
+            secret: copy_writes(alloc, &self.secret)?,
         })
     }
 }

@@ -2,19 +2,14 @@
 ghost use Rattle.serde_json.specs.Data.{Data};
 ghost use Rattle.xds_resource.specs.declared.types.TypeName.{TypeName};
 ghost use Rattle.xds_resource.specs.Writes.{StampedWrite};
-ghost use Rattle.xds_writes.specs.StampedWrites.{SpellsOneWrite, IsWriteSpelledByItsObject, IsReadWriteSpelledByItsObject};
+ghost use Rattle.xds_writes.specs.StampedWrites.{SpellsOneWrite, IsWriteSpelledByItsObject};
 
 /// A value spells one stamped write at most.
 pub fn a_value_spells_one_write()
     ensures { (d : Data) → SpellsOneWrite d }
 {}
 
-/// The object that is written for a stamped write spells it, if its body is no longer than a resource's may be.
+/// The object that is written for a stamped write spells it.
 pub fn a_write_is_spelled_by_its_object()
     ensures { (t : TypeName) (w : StampedWrite) → IsWriteSpelledByItsObject t w }
-{}
-
-/// The object that is written for a stamped write that was read spells it.
-pub fn a_write_that_was_read_is_spelled_by_its_object()
-    ensures { (d : Data) (t : TypeName) (w : StampedWrite) → IsReadWriteSpelledByItsObject d t w }
 {}

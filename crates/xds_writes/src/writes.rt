@@ -12,15 +12,15 @@ ghost use Rattle.xds_resource.specs.Stamps.{IsStamp};
 ghost use Rattle.xds_resource.specs.Types.{row};
 ghost use Rattle.xds_resource.specs.Writes.{StampedWrite};
 ghost use Rattle.xds_fields.specs.Spelling.{IsJson, IsObject, Reads};
-ghost use Rattle.xds_writes.specs.StampedWrites.{SpellsWrite, IsSpelledBy, write_object as object_of};
+ghost use Rattle.xds_writes.specs.StampedWrites.{AreGroups, SpellsWrite, IsSpelledBy, write_object as object_of};
 
 use serde_json::{Map, Value, put};
 use std::alloc::Global;
 use std::sync::ArcStr;
-use xds_fields::fields::{put_inner, read_json, set_field};
+use xds_fields::fields::{put_inner, put_texts, read_json, set_field, texts_field};
 use xds_resource::resource::is_valid_name;
 use xds_resource::stamp::MAX_COUNTER;
-use xds_resource::{AnyWrite, Refusal, Resource, ResourceType, Stamp, TypeName, Write};
+use xds_resource::{AnyWrite, Groups, Refusal, Resource, ResourceType, Stamp, TypeName, Write};
 
 /// The write that the bytes spell: one JSON object. Keys that are not known are passed over. Refused by `NotJson` where
 /// the bytes are no JSON, by `BadMessage` where they spell no write, and by `OutOfMemory`.
@@ -36,7 +36,7 @@ pub fn read_write(alloc: Global, bytes: &[u8]) -> Result<AnyWrite, Refusal>
     any_write_of(alloc, &value)
 }
 
-/// The object of a write: its type, name and stamp, and the body that it puts. Refused only by `OutOfMemory`.
+/// The object of a write: its type, name and stamp, the body that it puts, and its groups, ascending, if it has any. Refused only by `OutOfMemory`.
 pub fn write_object(alloc: Global, write: &AnyWrite) -> Result<Value, Refusal>
     ensures ok { IfOk result
         (λ v. view v ≡ object_of (write_type write.now) (stamped_write write.now)) }
@@ -59,6 +59,7 @@ pub fn write_object(alloc: Global, write: &AnyWrite) -> Result<Value, Refusal>
         "name",
         Value::try_from_str(alloc, write.name())?,
     )?;
+    put_texts(alloc, &mut map, "groups", write.groups().texts())?;
     put(&mut map, alloc, "counter", Value::from(stamp.counter))?;
     put_inner(alloc, &mut map, "body", write.value(alloc)?)?;
     Ok(Value::Object(map))
@@ -75,6 +76,7 @@ fn any_write_of(alloc: Global, value: &Value) -> Result<AnyWrite, Refusal>
         TypeName::Endpoint => Ok(AnyWrite::Endpoint(write_of(alloc, value)?)),
         TypeName::Listener => Ok(AnyWrite::Listener(write_of(alloc, value)?)),
         TypeName::Route => Ok(AnyWrite::Route(write_of(alloc, value)?)),
+        TypeName::Secret => Ok(AnyWrite::Secret(write_of(alloc, value)?)),
     }
 }
 
@@ -86,9 +88,23 @@ fn write_of<T: ResourceType>(alloc: Global, value: &Value) -> Result<Write<T>, R
     let (Some(name), Some(stamp)) = (name_of(value), stamp_of(value)) else {
         return Err(Refusal::BadMessage);
     };
+    let groups = groups_field(alloc, value)?;
     match set_field(value, "body", "body") {
-        Some(body) => Ok(Write::put(stamp, body_of(alloc, body, name)?)),
-        None => Ok(Write::deletion(stamp, ArcStr::from_str(alloc, name)?)),
+        Some(body) => Ok(Write::put(stamp, body_of(alloc, body, name)?, groups)),
+        None if groups.is_empty() => Ok(Write::deletion(stamp, ArcStr::from_str(alloc, name)?)),
+        None => Err(Refusal::BadMessage),
+    }
+}
+
+// The groups that are there, none where nothing is set.
+fn groups_field(alloc: Global, value: &Value) -> Result<Groups, Refusal>
+    ensures { Reads (AreGroups (get (codes "groups") (view value.now))) (λ g. g) result }
+{
+    let texts = texts_field(alloc, value, "groups", "groups")?;
+    match Groups::new(alloc, texts.as_slice()) {
+        Ok(groups) => Ok(groups),
+        Err(Refusal::OutOfMemory) => Err(Refusal::OutOfMemory),
+        Err(_) => Err(Refusal::BadMessage),
     }
 }
 
