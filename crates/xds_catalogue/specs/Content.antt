@@ -11,9 +11,9 @@ use Rattle.xds_catalogue.specs.Holdings.{Entries}
 abbrev pub is_live : StampedWrite → Bool
 is_live w = is_some w.body
 
--- live, and wanted by a client of this interest
+-- live, and covered by the interest of a client
 abbrev pub is_shown : Selection → StampedWrite → Bool
-is_shown s w = is_live w && covers s w.name
+is_shown s w = is_live w && covers s w.name w.groups
 
 -- what a client of this interest sees, in ascending order of names
 abbrev pub content : Entries → Selection → List StampedWrite

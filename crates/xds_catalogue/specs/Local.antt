@@ -34,9 +34,9 @@ spent_conditions h = (greatest_counter h.entries == max_counter, CounterSpent) �
 abbrev pub has_live : Entries → List ℕ → Bool
 has_live m name = option_map_or is_live (finmap.get m name) false
 
--- the counter of the write that puts a resource, and what is held then
-abbrev pub putting : Holdings → NamedBody → ℕ → Result (ℕ × Holdings) Refusal
-putting h r writer = unless_refused (spent_conditions h) (next_counter h, joined h (written (next_counter h) writer r ∷ []))
+-- the counter of the write that puts a resource with these groups, and what is held then
+abbrev pub putting : Holdings → NamedBody → List (List ℕ) → ℕ → Result (ℕ × Holdings) Refusal
+putting h r groups writer = unless_refused (spent_conditions h) (next_counter h, joined h (written (next_counter h) writer r groups ∷ []))
 
 -- the counter of the write that deletes a live resource, and what is held then
 abbrev pub deleting : Holdings → List ℕ → ℕ → Result (ℕ × Holdings) Refusal

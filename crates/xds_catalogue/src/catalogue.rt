@@ -21,7 +21,7 @@ use std::marker::Model;
 use std::sync::ArcStr;
 use xds_interest::Interest;
 use xds_resource::stamp::MAX_COUNTER;
-use xds_resource::{Refusal, Resource, ResourceType, Stamp, Write};
+use xds_resource::{Groups, Refusal, Resource, ResourceType, Stamp, Write};
 
 /// The greatest write of each name of the type `T`. Deletions stay for good.
 #[derive(Drop)]
@@ -54,7 +54,7 @@ fn shown_of<'a, T: ResourceType>(
 {
     let mut shown = Vec::new(alloc);
     for write in writes {
-        if write.body().is_some() && interest.covers(write.name()) {
+        if write.body().is_some() && interest.covers(write.name(), write.groups()) {
             shown.push(*write)?;
         }
     }
@@ -154,17 +154,22 @@ impl<T: ResourceType> Catalogue<T> {
         }
     }
 
-    /// Puts a resource, as a new write even where an equal body stands. `writer` is the number of this replica,
-    /// from 1.
-    pub fn put(&mut self, resource: Resource<T>, writer: u16) -> Result<Stamp, Refusal>
+    /// Puts a resource with these groups, as a new write even where an equal body stands, and whatever groups that had.
+    /// `writer` is the number of this replica, from 1.
+    pub fn put(
+        &mut self,
+        resource: Resource<T>,
+        groups: Groups,
+        writer: u16,
+    ) -> Result<Stamp, Refusal>
         requires { 1 ≤ writer }
-        ensures puts { Gives (λ s. (s.counter, self.new)) result (putting self.old resource writer) }
-        ensures memory { IfErr result (λ e. e ≡ Refusal.OutOfMemory → IsOk (putting self.old resource writer)) }
+        ensures puts { Gives (λ s. (s.counter, self.new)) result (putting self.old resource groups writer) }
+        ensures memory { IfErr result (λ e. e ≡ Refusal.OutOfMemory → IsOk (putting self.old resource groups writer)) }
         ensures writer { IfOk result (λ s. s.writer ≡ writer) }
         ensures err { OnErr result (self.new ≡ self.old) }
     {
         let stamp = self.next_stamp(writer)?;
-        join(&mut self.tables, Write::put(stamp, resource))?;
+        join(&mut self.tables, Write::put(stamp, resource, groups))?;
         Ok(stamp)
     }
 

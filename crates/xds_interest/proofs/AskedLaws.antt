@@ -11,17 +11,17 @@ use Rattle.xds_resource.specs.declared.types.TypeName.{TypeName}
 use Rattle.xds_resource.specs.Types.{row}
 use Rattle.xds_resource.specs.Writes.{text_cmp}
 use Rattle.xds_resource.proofs.NameMaps.{bytes_eq_tells}
-use Rattle.xds_interest.specs.Interests.{star_text, is_star, has_name, names_among, covers}
+use Rattle.xds_interest.specs.Interests.{star_text, is_star, has_name, names_among, reaches}
 use Rattle.xds_interest.specs.SotW.{is_named, last_list, listed}
 use Rattle.xds_interest.specs.Delta.{Mention, last_said, is_subscribed, opens_unnamed, delta_interest}
 use Rattle.xds_interest.specs.Touched.{mentions}
 use Rattle.xds_interest.specs.Asked.{Asked, everything, names_after, star_after, IsStarOfComplete, sotw_asked, delta_asked, wanted_by}
 use Rattle.xds_interest.specs.Touches.{sotw_touch, delta_touch}
-use Rattle.xds_interest.specs.Laws.{SotwIsKept, DeltaIsKept, SotwTouchIsASet, DeltaTouchIsASet, KeptStarIsOfComplete, UntouchedKeepsCoverOfKept, UntouchedKeepsCoverOfKeptInDelta}
+use Rattle.xds_interest.specs.Laws.{SotwIsKept, DeltaIsKept, SotwTouchIsASet, DeltaTouchIsASet, KeptStarIsOfComplete, UntouchedKeepsReachOfKept, UntouchedKeepsReachOfKeptInDelta}
 use Rattle.xds_interest.proofs.Texts.{contains-from_texts, has_name-items, same_texts}
 use Rattle.xds_interest.proofs.Choices.{and_second, or_kept, word_now, complete_twice, exactly_one-swapped, kept_star, kept_name}
 use Rattle.xds_interest.proofs.Listed.{or-false, list_any-push}
-use Rattle.xds_interest.proofs.SotwLaws.{last_list-push, list_any-is_star, has_name-names_among, untouched_keeps_cover}
+use Rattle.xds_interest.proofs.SotwLaws.{last_list-push, list_any-is_star, has_name-names_among, untouched_keeps_reach}
 use Rattle.xds_interest.proofs.DeltaLaws.{last_word-push, star-push, contains-delta}
 
 -- ---- what is kept
@@ -97,12 +97,12 @@ kept_star_is_of_complete t = (λ incomplete. refl, λ a names. listed_star a nam
     listed_star : (a : Asked) (names : List (List ℕ)) → IsStarOfComplete t (sotw_asked t a names)
     listed_star a names = either names (a.named || is_named names)
 
-pub untouched_keeps_cover_of_kept : UntouchedKeepsCoverOfKept
-untouched_keeps_cover_of_kept t old names name untouched =
-    let new = (sotw_asked t old names).interest in sym (untouched_keeps_cover old.interest new name (sym (sotw_touch_is_a_set old.interest new name) ∙ untouched))
+pub untouched_keeps_reach_of_kept : UntouchedKeepsReachOfKept
+untouched_keeps_reach_of_kept t old names name untouched =
+    let new = (sotw_asked t old names).interest in sym (untouched_keeps_reach old.interest new name (sym (sotw_touch_is_a_set old.interest new name) ∙ untouched))
 
-pub untouched_keeps_cover_of_kept_in_delta : UntouchedKeepsCoverOfKeptInDelta
-untouched_keeps_cover_of_kept_in_delta t old m name begun allowed untouched =
+pub untouched_keeps_reach_of_kept_in_delta : UntouchedKeepsReachOfKeptInDelta
+untouched_keeps_reach_of_kept_in_delta t old m name begun allowed untouched =
     let parts : (mentions m name ≡ false) × (((row t).is_complete && mentions m star_text) ≡ false) = or_parts _ _ (sym (delta_touch_is_a_set t m name) ∙ untouched) in
     let star : (delta_asked t old m).interest.star ≡ old.interest.star =
     ap (λ b. (row t).is_complete && star_after m (if b then old.interest.star else not (is_named m.subscribe))) begun
@@ -122,8 +122,8 @@ wanted_now false false true before touched = refl
 wanted_now false false false before touched = absurd cc
 
 -- of a name that a request touches by name, its own part of the interest says what the whole interest says
-pub wanted_by-covers : (t : TypeName) (a : Asked) (m : Mention) (q : List ℕ) → set.contains (delta_touch t m).names q ≡ true → covers (wanted_by t a m) q ≡ covers (delta_asked t a m).interest q
-wanted_by-covers t a m q touched =
+pub wanted_by-reaches : (t : TypeName) (a : Asked) (m : Mention) (q : List ℕ) → set.contains (delta_touch t m).names q ≡ true → reaches (wanted_by t a m) q ≡ reaches (delta_asked t a m).interest q
+wanted_by-reaches t a m q touched =
     let mentioned : (not (is_star t q) && (has_name m.subscribe q || has_name m.unsubscribe q)) ≡ true =
     ap (λ b. not (is_star t q) && b) (sym (list_any-append (bytes_eq q) m.subscribe m.unsubscribe)) ∙ sym (has_name-names_among t (m.subscribe ++ m.unsubscribe) q)
     ∙ sym (contains-from_texts (names_among t (m.subscribe ++ m.unsubscribe)) q) ∙ touched in

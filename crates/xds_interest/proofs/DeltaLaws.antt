@@ -12,7 +12,7 @@ use Rattle.xds_resource.specs.Types.{row}
 use Rattle.xds_interest.specs.Interests.{star_text, is_star, has_name}
 use Rattle.xds_interest.specs.Delta.{Mention, said, last_said, is_subscribed, opens_unnamed, ever_subscribed, delta_interest}
 use Rattle.xds_interest.specs.Touched.{mentions}
-use Rattle.xds_interest.specs.Laws.{OneRequestMore, OneRequestMoreForTheStar, UntouchedKeepsCoverInDelta}
+use Rattle.xds_interest.specs.Laws.{OneRequestMore, OneRequestMoreForTheStar, UntouchedKeepsReachInDelta}
 use Rattle.xds_interest.proofs.Texts.{contains-from_texts}
 use Rattle.xds_interest.proofs.Choices.{and-true, and-false, and_implied, and_first, option_or-None, option_or_assoc, last_word, word_was_said, unmentioned, unmentioned_star}
 
@@ -68,8 +68,8 @@ delta_star_is_no_name t name starry ms = contains-delta t ms name ∙ ap (λ b. 
 pub delta_incomplete_has_no_star : (t : TypeName) → (row t).is_complete ≡ false → (ms : List Mention) → (delta_interest t ms).star ≡ false
 delta_incomplete_has_no_star t incomplete ms = ap (λ c. c && unwrap_or (last_said ms star_text) (opens_unnamed ms)) incomplete
 
-pub untouched_keeps_cover_in_delta : UntouchedKeepsCoverInDelta
-untouched_keeps_cover_in_delta t ms m name some untouched =
+pub untouched_keeps_reach_in_delta : UntouchedKeepsReachInDelta
+untouched_keeps_reach_in_delta t ms m name some untouched =
     let parts : (mentions m name ≡ false) × (((row t).is_complete && mentions m star_text) ≡ false) = or_parts _ _ untouched in
     let star : (delta_interest t (ms ++ m ∷ [])).star ≡ (delta_interest t ms).star =
     unmentioned_star (row t).is_complete (has_name m.subscribe star_text) (has_name m.unsubscribe star_text) _ _ (star-push ms m some) parts.1 in

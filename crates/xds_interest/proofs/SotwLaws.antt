@@ -12,7 +12,7 @@ use Rattle.xds_resource.specs.Types.{row}
 use Rattle.xds_resource.specs.Writes.{text_cmp}
 use Rattle.xds_interest.specs.Interests.{star_text, is_star, has_name, names_among}
 use Rattle.xds_interest.specs.SotW.{is_named, last_list, unnamed, listed, sotw_interest}
-use Rattle.xds_interest.specs.Laws.{LastListSaysAll, WhileNothingIsNamed, ListCoversItsNames, UntouchedKeepsCover}
+use Rattle.xds_interest.specs.Laws.{LastListSaysAll, WhileNothingIsNamed, ListReachesItsNames, UntouchedKeepsReach}
 use Rattle.xds_interest.proofs.Texts.{contains-from_texts}
 use Rattle.xds_interest.proofs.Choices.{and-false, and-or, and_second, or_kept, neither_one}
 
@@ -50,14 +50,14 @@ has_name-names_among t names name =
 pub contains-listed : (t : TypeName) (names : List (List ℕ)) (name : List ℕ) → set.contains (listed t names).names name ≡ (not (is_star t name) && has_name names name)
 contains-listed t names name = contains-from_texts (names_among t names) name ∙ has_name-names_among t names name
 
-pub list_covers_its_names : ListCoversItsNames
-list_covers_its_names t names name =
+pub list_reaches_its_names : ListReachesItsNames
+list_reaches_its_names t names name =
     (λ i. list_any-is_star t names i || contains-listed t names name i)
     ∙ or_kept (row t).is_complete (has_name names star_text) (has_name names name) (bytes_eq star_text name)
     (λ starry. ap (has_name names) (sym ((bytes_eq-Decides star_text name).0 (and_second (row t).is_complete _ starry))))
 
-pub untouched_keeps_cover : UntouchedKeepsCover
-untouched_keeps_cover old new name h = neither_one old.star new.star (set.contains old.names name) (set.contains new.names name) h
+pub untouched_keeps_reach : UntouchedKeepsReach
+untouched_keeps_reach old new name h = neither_one old.star new.star (set.contains old.names name) (set.contains new.names name) h
 
 pub sotw_star_is_no_name : (t : TypeName) (name : List ℕ) → is_star t name ≡ true → (lists : List (List (List ℕ))) → set.contains (sotw_interest t lists).names name ≡ false
 sotw_star_is_no_name t name starry lists = cases (list_any is_named lists)

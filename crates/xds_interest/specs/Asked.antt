@@ -6,7 +6,7 @@ use Rattle.std.specs.Coded.{Coded, code_by, coded×, coded_bool}
 use Rattle.xds_resource.specs.declared.types.TypeName.{TypeName}
 use Rattle.xds_resource.specs.Types.{row}
 use Rattle.xds_resource.specs.Writes.{text_cmp}
-use Rattle.xds_interest.specs.Interests.{Selection, selection_code, star_text, has_name, names_among}
+use Rattle.xds_interest.specs.Interests.{Selection, selection_code, star_text, has_name, names_among, in_cluster}
 use Rattle.xds_interest.specs.SotW.{is_named, listed, sotw_interest}
 use Rattle.xds_interest.specs.Delta.{Mention, delta_interest}
 
@@ -21,24 +21,24 @@ asked_code =
     code_by (Bool × (Bool × Selection)) (coded× coded_bool (coded× coded_bool selection_code)) (λ a. (a.begun, (a.named, a.interest)))
     (λ p. record { begun = p.0; named = p.1.0; interest = p.1.1 }) (λ _. refl)
 
--- a client that wants nothing
-abbrev pub nothing : Selection
-nothing = record { star = false; names = set.empty }
+-- a client of this cluster that wants nothing
+abbrev pub nothing : List ℕ → Selection
+nothing cluster = record { star = false; names = set.empty; cluster = cluster }
 
 -- all of a complete type, and nothing of an incomplete one
 abbrev pub everything : TypeName → Selection
-everything t = record { star = (row t).is_complete; names = set.empty }
+everything t = record { star = (row t).is_complete; names = set.empty; cluster = [] }
 
--- before the first request
-abbrev pub unasked : Asked
-unasked = record { begun = false; named = false; interest = nothing }
+-- before the first request of a client of this cluster
+abbrev pub unasked : List ℕ → Asked
+unasked cluster = record { begun = false; named = false; interest = nothing cluster }
 
 -- state of the world: after one list more
 abbrev pub sotw_asked : TypeName → Asked → List (List ℕ) → Asked
 sotw_asked t a names = record {
   begun = true;
   named = a.named || is_named names;
-  interest = if a.named || is_named names then listed t names else everything t;
+  interest = in_cluster a.interest.cluster (if a.named || is_named names then listed t names else everything t);
 }
 
 -- delta: whether the star stands after one request more, where it stood before or not
@@ -57,26 +57,43 @@ delta_asked t a m = record {
   interest = record {
     star = (row t).is_complete && star_after m (if a.begun then a.interest.star else not (is_named m.subscribe));
     names = set.from_list (names_after t m (set.items a.interest.names));
+    cluster = a.interest.cluster;
   };
 }
 
 -- delta: what a request leaves the client wanting of the names that it touches, which are those that it subscribes
 abbrev pub wanted_by : TypeName → Asked → Mention → Selection
-wanted_by t a m = record { star = (delta_asked t a m).interest.star; names = set.from_list (names_among t m.subscribe) }
+wanted_by t a m = record { star = (delta_asked t a m).interest.star; names = set.from_list (names_among t m.subscribe); cluster = a.interest.cluster }
 
 -- with more explicit names
 abbrev pub widened : Asked → set.FinSet text_cmp → Asked
 widened a names = record a { interest = record a.interest { names = set.union a.interest.names names } }
 
--- what is kept of a whole stream's lists
-abbrev pub sotw_kept : TypeName → List (List (List ℕ)) → Asked
-sotw_kept t [] = unasked
-sotw_kept t (names ∷ lists) = record { begun = true; named = list_any is_named (names ∷ lists); interest = sotw_interest t (names ∷ lists) }
+-- without some of its explicit names
+abbrev pub without_names : Asked → set.FinSet text_cmp → Asked
+without_names a names = record a { interest = record a.interest { names = set.difference a.interest.names names } }
 
--- what is kept of a whole stream's delta requests
-abbrev pub delta_kept : TypeName → List Mention → Asked
-delta_kept t [] = unasked
-delta_kept t (m ∷ ms) = record { begun = true; named = false; interest = delta_interest t (m ∷ ms) }
+-- delta: with the star of an interest, and without those texts of a list that the interest doesn't name
+abbrev pub narrowed : Asked → Selection → List (List ℕ) → Asked
+narrowed a wanted texts = record {
+  begun = true;
+  named = false;
+  interest = record {
+    star = wanted.star;
+    names = set.difference a.interest.names (set.difference (set.from_list texts) wanted.names);
+    cluster = a.interest.cluster;
+  };
+}
+
+-- what is kept of the lists of a whole stream, of a client of this cluster
+abbrev pub sotw_kept : TypeName → List ℕ → List (List (List ℕ)) → Asked
+sotw_kept t cluster [] = unasked cluster
+sotw_kept t cluster (names ∷ lists) = record { begun = true; named = list_any is_named (names ∷ lists); interest = in_cluster cluster (sotw_interest t (names ∷ lists)) }
+
+-- what is kept of the delta requests of a whole stream, of a client of this cluster
+abbrev pub delta_kept : TypeName → List ℕ → List Mention → Asked
+delta_kept t cluster [] = unasked cluster
+delta_kept t cluster (m ∷ ms) = record { begun = true; named = false; interest = in_cluster cluster (delta_interest t (m ∷ ms)) }
 
 -- the star of an incomplete type does not stand
 abbrev pub IsStarOfComplete : TypeName → Asked → Type 0

@@ -44,4 +44,5 @@ abbrev pub delta_interest : TypeName → List Mention → Selection
 delta_interest t ms = record {
   star = (row t).is_complete && unwrap_or (last_said ms star_text) (opens_unnamed ms);
   names = set.from_list (filter (λ text. is_subscribed ms text && not (is_star t text)) (ever_subscribed ms));
+  cluster = [];
 }

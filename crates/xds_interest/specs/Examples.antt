@@ -10,16 +10,16 @@ abbrev pub a : List ℕ
 a = codes "A"
 
 abbrev pub nothing : Selection
-nothing = record { star = false; names = set.empty }
+nothing = record { star = false; names = set.empty; cluster = [] }
 
 abbrev pub star_alone : Selection
-star_alone = record { star = true; names = set.empty }
+star_alone = record { star = true; names = set.empty; cluster = [] }
 
 abbrev pub a_alone : Selection
-a_alone = record { star = false; names = set.from_list (a ∷ []) }
+a_alone = record { star = false; names = set.from_list (a ∷ []); cluster = [] }
 
 abbrev pub star_and_a : Selection
-star_and_a = record { star = true; names = set.from_list (a ∷ []) }
+star_and_a = record { star = true; names = set.from_list (a ∷ []); cluster = [] }
 
 -- Clusters, state of the world: nothing, then `*` and A, then A, then nothing. The last list is empty and yet no star.
 pub record SotwClusters : Type 0 where
@@ -32,7 +32,7 @@ pub record SotwClusters : Type 0 where
 -- Routes, state of the world: an empty list is nothing, and `*` is a name.
 pub record SotwRoutes : Type 0 where
   pub first : sotw_interest Route ([] ∷ []) ≡ nothing
-  pub second : sotw_interest Route ([] ∷ (star_text ∷ []) ∷ []) ≡ record { star = false; names = set.from_list (star_text ∷ []) }
+  pub second : sotw_interest Route ([] ∷ (star_text ∷ []) ∷ []) ≡ record { star = false; names = set.from_list (star_text ∷ []); cluster = [] }
 
 -- a name that comes twice counts once
 abbrev pub SotwTwice : Type 0
@@ -56,5 +56,5 @@ pub record DeltaClusters : Type 0 where
 -- Routes, delta: an empty request is nothing, `*` is a name, and a name in both lists is subscribed.
 pub record DeltaRoutes : Type 0 where
   pub first : delta_interest Route (adds [] ∷ []) ≡ nothing
-  pub second : delta_interest Route (adds [] ∷ adds (star_text ∷ []) ∷ []) ≡ record { star = false; names = set.from_list (star_text ∷ []) }
+  pub second : delta_interest Route (adds [] ∷ adds (star_text ∷ []) ∷ []) ≡ record { star = false; names = set.from_list (star_text ∷ []); cluster = [] }
   pub both : delta_interest Route (record { subscribe = a ∷ []; unsubscribe = a ∷ [] } ∷ []) ≡ a_alone

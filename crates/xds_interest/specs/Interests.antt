@@ -1,24 +1,44 @@
--- What a client wants of one type: explicit names and the star, as Envoy's "xDS REST and gRPC protocol" has them.
-use Rattle.std.specs.Prelude.{ℕ, List, Bool, ◌&&◌, ◌||◌, not, bytes_eq, codes, refl}
+-- What a client wants of one type: explicit names and the star, as Envoy's "xDS REST and gRPC protocol" has them. Groups and clusters, which narrow the star, are this project's own.
+use Rattle.std.specs.Prelude.{ℕ, List, [], is_empty, Bool, ◌&&◌, ◌||◌, not, bytes_eq, Option, codes, refl}
 use Rattle.std.specs.List.{list_any, filter}
+use Rattle.std.specs.Option.{option_map_or}
 use Rattle.std.specs.FinSet as set
 use Rattle.std.specs.Coded.{Coded, code_by, coded×, coded_ℕ, coded_bool, coded_list}
 use Rattle.xds_resource.specs.declared.types.TypeName.{TypeName}
 use Rattle.xds_resource.specs.Types.{row}
+use Rattle.xds_resource.specs.Groups.{has_group}
 use Rattle.xds_resource.specs.Writes.{text_cmp}
 
--- an interest: whether it has the star, and its explicit names
+-- an interest: whether it has the star, its explicit names, and the text of the client's cluster, empty where it has none
 pub record Selection : Type 0 where
   pub star : Bool
   pub names : set.FinSet text_cmp
+  pub cluster : List ℕ
 
 abbrev pub selection_code : Coded Selection
 selection_code =
-    code_by (Bool × set.FinSet text_cmp) (coded× coded_bool (set.code (coded_list coded_ℕ))) (λ s. (s.star, s.names)) (λ p. record { star = p.0; names = p.1 }) (λ _. refl)
+    code_by (Bool × (set.FinSet text_cmp × List ℕ)) (coded× coded_bool (coded× (set.code (coded_list coded_ℕ)) (coded_list coded_ℕ))) (λ s. (s.star, (s.names, s.cluster)))
+    (λ p. record { star = p.0; names = p.1.0; cluster = p.1.1 }) (λ _. refl)
 
--- the star covers every name, and an explicit name covers itself
-abbrev pub covers : Selection → List ℕ → Bool
-covers s name = s.star || set.contains s.names name
+-- the star reaches every name, and an explicit name reaches itself
+abbrev pub reaches : Selection → List ℕ → Bool
+reaches s name = s.star || set.contains s.names name
+
+-- whether the star of a client of this cluster covers a write of these groups: it has none, or the cluster is among them
+abbrev pub is_open_to : List (List ℕ) → List ℕ → Bool
+is_open_to groups cluster = is_empty groups || has_group groups cluster
+
+-- whether an interest covers a write of this name and these groups: an explicit name covers it whatever its groups, the star what is open to the cluster
+abbrev pub covers : Selection → List ℕ → List (List ℕ) → Bool
+covers s name groups = set.contains s.names name || (s.star && is_open_to groups s.cluster)
+
+-- the same interest, of a client of another cluster
+abbrev pub in_cluster : List ℕ → Selection → Selection
+in_cluster cluster s = record s { cluster = cluster }
+
+-- a text that may be left out, which is then empty
+abbrev pub text_or_empty : {Y : Type 0} → (Y → List ℕ) → Option Y → List ℕ
+text_or_empty bytes text = option_map_or bytes text []
 
 -- how the star is written
 abbrev pub star_text : List ℕ

@@ -2,13 +2,12 @@
 ghost use Rattle.std.specs.Prelude.{◌≡◌, map, IfOk, IfErr, OnOk, OnErr};
 ghost use Rattle.std.specs.String.{string_bytes};
 ghost use Rattle.std.specs.FinSet as set;
-ghost use Rattle.xds_resource.specs.Writes.{text_cmp};
 ghost use Rattle.xds_resource.specs.declared.refusal.Refusal.TheVariants.{OutOfMemory};
-ghost use Rattle.xds_interest.specs.Delta.{Mention, mention_of};
-ghost use Rattle.xds_interest.specs.Asked as asked;
-ghost use Rattle.xds_interest.specs.Asked.{unasked, delta_asked, star_after, wanted_by, widened};
+ghost use Rattle.xds_interest.specs.Delta.{mention_of};
+ghost use Rattle.xds_interest.specs.Asked.{unasked, delta_asked, star_after, wanted_by, widened, without_names, narrowed};
 ghost use Rattle.xds_interest.specs.Touches.{delta_touch};
 
+use crate::cluster::ClusterText;
 use crate::interest::Interest;
 use crate::lists::has_star_text;
 use crate::names::NameSet;
@@ -52,13 +51,13 @@ fn touches_all(kind: TypeName, subscribe: &[String], unsubscribe: &[String]) -> 
 }
 
 impl<T: ResourceType> DeltaNames<T> {
-    /// Before the first request, when the client wants nothing.
-    pub fn new(alloc: Global) -> Self
-        ensures { result ≡ unasked }
+    /// Before the first request of a client of this cluster, when it wants nothing.
+    pub fn new(alloc: Global, cluster: ClusterText) -> Self
+        ensures { result ≡ unasked cluster }
     {
         DeltaNames {
             begun: false,
-            interest: Interest::nothing(alloc),
+            interest: Interest::nothing(alloc, cluster),
         }
     }
 
@@ -110,9 +109,10 @@ impl<T: ResourceType> DeltaNames<T> {
     {
         let star = self.has_star_after(subscribe, unsubscribe);
         let names = self.names_after(subscribe, unsubscribe)?;
+        let cluster = self.interest.shared_cluster()?;
         Ok(DeltaNames {
             begun: true,
-            interest: Interest::of_parts(star, names),
+            interest: Interest::of_parts(star, names, cluster),
         })
     }
 
@@ -130,7 +130,8 @@ impl<T: ResourceType> DeltaNames<T> {
         let star = self.has_star_after(subscribe, unsubscribe);
         let mut names = NameSet::new(alloc);
         names.insert_names(T::TYPE, subscribe)?;
-        Ok(Interest::of_parts(star, names))
+        let cluster = self.interest.shared_cluster()?;
+        Ok(Interest::of_parts(star, names, cluster))
     }
 
     /// Adds the explicit names of another interest, and answers those that were not there. Refused only by `OutOfMemory`,
@@ -146,18 +147,17 @@ impl<T: ResourceType> DeltaNames<T> {
         Ok(added)
     }
 
-    /// Takes back what `widen` added. It takes no memory.
+    /// Takes explicit names out; of those that `widen` answered it leaves what was there before. It takes no memory.
     pub fn take_back(&mut self, added: &NameSet)
-        ensures { (before : asked.Asked) → (names : set.FinSet text_cmp) → self.old ≡ widened before names → added.now ≡ set.difference names before.interest.names → self.new ≡ before }
+        ensures { self.new ≡ without_names self.old added.now }
     {
         self.interest.take_out(added);
     }
 
-    /// What is kept after one request more, once `widen` added what it subscribes; `wanted` is the answer of `wanted_by`. It
-    /// takes no memory.
+    /// Takes the star of an interest, and takes those of some texts out that it doesn't name. With the answer of `wanted_by`, once
+    /// `widen` added its names, it leaves what is kept after the request. It takes no memory.
     pub fn narrow(&mut self, wanted: &Interest<T>, unsubscribe: &[String])
-        ensures { (before : asked.Asked) → (m : Mention) → wanted.now ≡ wanted_by T.TYPE before m → m.unsubscribe ≡ map string_bytes unsubscribe.now
-            → self.old ≡ widened before wanted.now.names → self.new ≡ delta_asked T.TYPE before m }
+        ensures { self.new ≡ narrowed self.old wanted.now (map string_bytes unsubscribe.now) }
     {
         self.interest.narrow(wanted, unsubscribe);
         self.begun = true;

@@ -4,25 +4,28 @@ ghost use Rattle.std.specs.String.{string_bytes, string_cmp};
 ghost use Rattle.std.specs.List.Sorted.{IsStrictlySortedBy};
 ghost use Rattle.std.specs.FinSet as set;
 ghost use Rattle.xds_resource.specs.declared.refusal.Refusal.TheVariants.{OutOfMemory};
-ghost use Rattle.xds_interest.specs.Interests.{covers};
+ghost use Rattle.xds_interest.specs.Interests.{reaches, covers, is_open_to, in_cluster};
 ghost use Rattle.xds_interest.specs.SotW.{sotw_interest};
 ghost use Rattle.xds_interest.specs.Asked.{nothing};
 ghost use Rattle.xds_interest.specs.Touches.{sotw_touch};
 
+use crate::cluster::ClusterText;
 use crate::lists::has_star_text;
 use crate::names::NameSet;
 use crate::touched::Touched;
 use std::alloc::Global;
 use std::collections::btree_set::Iter;
 use std::marker::{Model, PhantomData};
-use xds_resource::{Refusal, ResourceType, TypeName};
+use xds_resource::{Groups, Refusal, ResourceType, TypeName};
 
 /// Which resources of the type `T` a client wants: those of explicit names, and all of them if it
 /// has the star. Only a complete type has a star; of an incomplete type `*` is a name as any other.
+/// The star doesn't cover a write that lists groups unless the client's cluster is among them.
 #[derive(Drop)]
 pub struct Interest<T: ResourceType> {
     star: bool,
     names: NameSet,
+    cluster: ClusterText,
     kind: PhantomData<T>,
 }
 
@@ -33,7 +36,7 @@ impl<T: ResourceType> Model for Interest<T> {
 
     ghost coded = { selection_code };
 
-    ghost view = { λ i. record { star = i.star; names = i.names } };
+    ghost view = { λ i. record { star = i.star; names = i.names; cluster = i.cluster } };
 }
 
 // Whether a stream's first list is the star, since it names nothing or names `*`.
@@ -43,43 +46,78 @@ fn opens_star(kind: TypeName, names: &[String]) -> bool
     kind.is_complete() && (names.is_empty() || has_star_text(names))
 }
 
+// Whether the star of a client of this cluster covers a write of these groups.
+fn is_open_to(groups: &Groups, cluster: &str) -> bool
+    ensures { result ≡ is_open_to groups.now cluster.now }
+{
+    groups.is_empty() || groups.has(cluster)
+}
+
 impl<T: ResourceType> Interest<T> {
-    /// The interest of a client that wants nothing.
-    pub fn nothing(alloc: Global) -> Interest<T>
-        ensures { result ≡ nothing }
+    /// The interest of a client of this cluster that wants nothing.
+    pub fn nothing(alloc: Global, cluster: ClusterText) -> Interest<T>
+        ensures { result ≡ nothing cluster }
     {
-        Interest::of_parts(false, NameSet::new(alloc))
+        Interest::of_parts(false, NameSet::new(alloc), cluster)
     }
 
-    pub(crate) fn of_parts(star: bool, names: NameSet) -> Interest<T>
-        ensures { result ≡ record { star = star; names = names } }
+    pub(crate) fn of_parts(star: bool, names: NameSet, cluster: ClusterText) -> Interest<T>
+        ensures { result ≡ record { star = star; names = names; cluster = cluster } }
     {
         Interest {
             star,
             names,
+            cluster,
             kind: PhantomData,
         }
     }
 
-    /// The interest of a client whose first request lists these names. No name at all is the star
-    /// of a complete type, and nothing of an incomplete one.
+    /// The interest of a client of this cluster whose first request lists these names. No name at
+    /// all is the star of a complete type, and nothing of an incomplete one.
     ///
     /// Refused only by `OutOfMemory`.
-    pub fn of_list(alloc: Global, names: &[String]) -> Result<Interest<T>, Refusal>
-        ensures ok { IfOk result (λ i. i ≡ sotw_interest T.TYPE (map string_bytes names.now ∷ [])) }
+    pub fn of_list(
+        alloc: Global,
+        names: &[String],
+        cluster: ClusterText,
+    ) -> Result<Interest<T>, Refusal>
+        ensures ok { IfOk result (λ i. i ≡ in_cluster cluster (sotw_interest T.TYPE (map string_bytes names.now ∷ []))) }
         ensures err { IfErr result (λ e. e ≡ OutOfMemory) }
     {
         let star = opens_star(T::TYPE, names);
         let mut explicit = NameSet::new(alloc);
         explicit.insert_names(T::TYPE, names)?;
-        Ok(Interest::of_parts(star, explicit))
+        Ok(Interest::of_parts(star, explicit, cluster))
     }
 
-    /// Whether the client wants the resource of this name, as one of its explicit names or by the star.
-    pub fn covers(&self, name: &str) -> bool
-        ensures { result ≡ covers self.now name.now }
+    /// Whether the client wants a resource of this name, of some groups or other: as one of its
+    /// explicit names, or by the star.
+    pub fn reaches(&self, name: &str) -> bool
+        ensures { result ≡ reaches self.now name.now }
     {
         self.star || self.names.contains(name)
+    }
+
+    /// Whether the client sees a resource of this name and these groups: as one of its explicit
+    /// names, or by the star where there are no groups or the client's cluster is among them.
+    pub fn covers(&self, name: &str, groups: &Groups) -> bool
+        ensures { result ≡ covers self.now name.now groups.now }
+    {
+        self.names.contains(name) || (self.star && is_open_to(groups, self.cluster.as_str()))
+    }
+
+    /// The text of the client's cluster, empty where it has none.
+    pub fn cluster(&self) -> &str
+        ensures { result.now ≡ self.now.cluster }
+    {
+        self.cluster.as_str()
+    }
+
+    pub(crate) fn shared_cluster(&self) -> Result<ClusterText, Refusal>
+        ensures ok { IfOk result (λ c. c ≡ self.now.cluster) }
+        ensures err { IfErr result (λ e. e ≡ OutOfMemory) }
+    {
+        self.cluster.try_copy()
     }
 
     /// Whether the client wants all resources of the type.
@@ -132,7 +170,7 @@ impl<T: ResourceType> Interest<T> {
 
     // Takes the star of another interest, and those of some texts out that it doesn't name. It takes no memory.
     pub(crate) fn narrow(&mut self, wanted: &Interest<T>, texts: &[String])
-        ensures { self.new ≡ record { star = wanted.now.star; names = set.difference self.old.names (set.difference (set.from_list (map string_bytes texts.now)) wanted.now.names) } }
+        ensures { self.new ≡ record self.old { star = wanted.now.star; names = set.difference self.old.names (set.difference (set.from_list (map string_bytes texts.now)) wanted.now.names) } }
     {
         self.names.remove_but(texts, &wanted.names);
         self.star = wanted.star;
@@ -151,15 +189,25 @@ impl<T: ResourceType> Interest<T> {
         Ok(Touched::of_parts(self.star != next.star, touched))
     }
 
+    // Takes another star and other explicit names. It takes no memory.
+    pub(crate) fn set(&mut self, star: bool, names: NameSet)
+        ensures { self.new ≡ record self.old { star = star; names = names } }
+    {
+        self.star = star;
+        self.names = names;
+    }
+
     /// An equal interest, with memory of its own. Refused only by `OutOfMemory`.
     pub fn try_copy(&self, alloc: Global) -> Result<Interest<T>, Refusal>
         ensures ok { IfOk result (λ i. i ≡ self.now) }
         ensures err { IfErr result (λ e. e ≡ OutOfMemory) }
     {
         let names = self.names.try_copy()?;
+        let cluster = self.cluster.try_copy()?;
         Ok(Interest {
             star: self.star,
             names,
+            cluster,
             kind: PhantomData,
         })
     }

@@ -1,6 +1,6 @@
 //! What interests are, as statements that the prover checks. The functions do nothing.
 ghost use Rattle.xds_interest.specs.Examples.{SotwClusters, SotwRoutes, SotwTwice, DeltaClusters, DeltaRoutes};
-ghost use Rattle.xds_interest.specs.Laws.{WhileNothingIsNamed, LastListSaysAll, ListCoversItsNames, OneRequestMore, OneRequestMoreForTheStar, StarIsNoName, IncompleteHasNoStar, UntouchedKeepsCover, UntouchedKeepsCoverInDelta, SotwIsKept, DeltaIsKept, SotwTouchIsASet, DeltaTouchIsASet, KeptStarIsOfComplete, UntouchedKeepsCoverOfKept, UntouchedKeepsCoverOfKeptInDelta};
+ghost use Rattle.xds_interest.specs.Laws.{WhileNothingIsNamed, LastListSaysAll, ListReachesItsNames, OneRequestMore, OneRequestMoreForTheStar, StarIsNoName, IncompleteHasNoStar, UntouchedKeepsReach, UntouchedKeepsReachInDelta, CoveredIsReached, WithoutGroupsReachedIsCovered, UntouchedKeepsCover, SotwIsKept, DeltaIsKept, WideningIsUndone, NarrowingIsTheRest, SotwTouchIsASet, DeltaTouchIsASet, KeptStarIsOfComplete, UntouchedKeepsReachOfKept, UntouchedKeepsReachOfKeptInDelta, UntouchedKeepsCoverOfKept, UntouchedKeepsCoverOfKeptInDelta};
 
 /// Streams of state of the world, worked out request by request. An empty list is the star of
 /// clusters only while nothing was named.
@@ -17,12 +17,12 @@ pub fn delta_examples()
 {}
 
 /// While no list has named anything, the interest is all of a complete type and nothing of an
-/// incomplete one. Once one has, the last list says all. A list covers the names that it has,
+/// incomplete one. Once one has, the last list says all. A list reaches the names that it has,
 /// and every name if it has the star.
 pub fn sotw_lists()
     ensures unnamed { WhileNothingIsNamed }
     ensures last { LastListSaysAll }
-    ensures covers { ListCoversItsNames }
+    ensures reaches { ListReachesItsNames }
 {}
 
 /// One delta request more changes what it mentions, and nothing else.
@@ -37,10 +37,18 @@ pub fn stars()
     ensures incomplete { IncompleteHasNoStar }
 {}
 
-/// A name that a request does not touch stays covered, or not covered.
-pub fn untouched_keeps_cover()
-    ensures sotw { UntouchedKeepsCover }
-    ensures delta { UntouchedKeepsCoverInDelta }
+/// A name that a request does not touch stays reached, or not reached.
+pub fn untouched_keeps_reach()
+    ensures sotw { UntouchedKeepsReach }
+    ensures delta { UntouchedKeepsReachInDelta }
+{}
+
+/// What is covered is reached, and what is reached and has no groups is covered. A name that a
+/// request does not touch stays covered, or not covered, whatever its groups.
+pub fn reach_and_cover()
+    ensures reached { CoveredIsReached }
+    ensures covered { WithoutGroupsReachedIsCovered }
+    ensures untouched { UntouchedKeepsCover }
 {}
 
 /// What is kept of a stream's requests suffices to tell the interest after the next.
@@ -49,16 +57,29 @@ pub fn what_is_kept_suffices()
     ensures delta { DeltaIsKept }
 {}
 
+/// A delta request can be taken in two steps, of which the first can be undone: the names that it
+/// subscribes come in, and then what else it unsubscribes goes out.
+pub fn requests_in_two_steps()
+    ensures undone { WideningIsUndone }
+    ensures rest { NarrowingIsTheRest }
+{}
+
 /// The touched names as a set are those of the definition.
 pub fn touched_names_are_a_set()
     ensures sotw { SotwTouchIsASet }
     ensures delta { DeltaTouchIsASet }
 {}
 
-/// A name that a request does not touch stays covered, or not covered, by what is kept of the
+/// A name that a request does not touch stays reached, or not reached, by what is kept of the
 /// requests. Only a complete type has the star there.
-pub fn untouched_keeps_cover_of_kept()
+pub fn untouched_keeps_reach_of_kept()
     ensures star { KeptStarIsOfComplete }
+    ensures sotw { UntouchedKeepsReachOfKept }
+    ensures delta { UntouchedKeepsReachOfKeptInDelta }
+{}
+
+/// And such a name stays covered, or not covered, whatever its groups.
+pub fn untouched_keeps_cover_of_kept()
     ensures sotw { UntouchedKeepsCoverOfKept }
     ensures delta { UntouchedKeepsCoverOfKeptInDelta }
 {}

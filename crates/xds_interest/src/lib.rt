@@ -1,6 +1,7 @@
 // What a client of an xDS control plane wants of one type, and what its requests leave of that.
 #![tactic(auto)]
 
+pub mod cluster;
 pub mod delta;
 pub mod interest;
 pub mod laws;
@@ -9,6 +10,7 @@ pub mod names;
 pub mod sotw;
 pub mod touched;
 
+pub use cluster::ClusterText;
 pub use delta::DeltaNames;
 pub use interest::Interest;
 pub use names::NameSet;

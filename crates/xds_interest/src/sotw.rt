@@ -5,6 +5,7 @@ ghost use Rattle.xds_resource.specs.declared.refusal.Refusal.TheVariants.{OutOfM
 ghost use Rattle.xds_interest.specs.Asked.{unasked, sotw_asked};
 ghost use Rattle.xds_interest.specs.Touches.{sotw_touch};
 
+use crate::cluster::ClusterText;
 use crate::interest::Interest;
 use crate::touched::Touched;
 use std::alloc::Global;
@@ -31,14 +32,14 @@ impl<T: ResourceType> Model for SotwNames<T> {
 }
 
 impl<T: ResourceType> SotwNames<T> {
-    /// Before the first request, when the client wants nothing.
-    pub fn new(alloc: Global) -> Self
-        ensures { result ≡ unasked }
+    /// Before the first request of a client of this cluster, when it wants nothing.
+    pub fn new(alloc: Global, cluster: ClusterText) -> Self
+        ensures { result ≡ unasked cluster }
     {
         SotwNames {
             begun: false,
             named: false,
-            interest: Interest::nothing(alloc),
+            interest: Interest::nothing(alloc, cluster),
         }
     }
 
@@ -60,10 +61,11 @@ impl<T: ResourceType> SotwNames<T> {
         ensures ok { IfOk result (λ n. n ≡ sotw_asked T.TYPE self.now (map string_bytes names.now)) }
         ensures err { IfErr result (λ e. e ≡ OutOfMemory) }
     {
+        let cluster = self.interest.shared_cluster()?;
         let interest = if self.named && names.is_empty() {
-            Interest::nothing(alloc)
+            Interest::nothing(alloc, cluster)
         } else {
-            Interest::of_list(alloc, names)?
+            Interest::of_list(alloc, names, cluster)?
         };
         Ok(SotwNames {
             begun: true,

@@ -1,10 +1,10 @@
 -- Catalogues of all types to which a batch was joined, for as long as it can be taken back. This project's own.
 use Rattle.std.specs.Prelude.{ℕ, ◌-◌}
 use Rattle.std.specs.List.{sum_by}
-use Rattle.xds_resource.specs.PerType.{PerType, at}
+use Rattle.xds_resource.specs.PerType.{PerType, at, per_type}
 use Rattle.xds_resource.specs.Types.{types}
 use Rattle.xds_catalogue.specs.Pending.{Pending}
-use Rattle.xds_store.specs.Stores.{Store, per_type}
+use Rattle.xds_store.specs.Stores.{Store}
 
 -- what was held before
 abbrev pub befores : PerType Pending → Store

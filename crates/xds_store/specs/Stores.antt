@@ -3,10 +3,9 @@ use Rattle.std.specs.Prelude.{ℕ, List, [], ◌∷◌, Bool, Result, Ok, Err, n
 use Rattle.std.specs.List.{list_any, sum_by}
 use Rattle.std.specs.FinMap as finmap
 use Rattle.xds_resource.specs.declared.types.TypeName.{TypeName}
-use Rattle.xds_resource.specs.declared.types.TypeName.TheVariants.{Cluster, Endpoint, Listener, Route}
 use Rattle.xds_resource.specs.declared.refusal.Refusal.{Refusal}
 use Rattle.xds_resource.specs.declared.refusal.Refusal.TheVariants.{CounterSpent}
-use Rattle.xds_resource.specs.PerType.{PerType, at, with_at}
+use Rattle.xds_resource.specs.PerType.{PerType, at, with_at, per_type}
 use Rattle.xds_resource.specs.Refusals.{unless_refused}
 use Rattle.xds_resource.specs.Resources.{NamedBody}
 use Rattle.xds_resource.specs.Stamps.{max_counter}
@@ -24,10 +23,6 @@ Store = PerType Holdings
 abbrev pub Batch : Type 0
 Batch = PerType (List StampedWrite)
 
--- one for each type
-abbrev pub per_type : {X : Type 0} → (TypeName → X) → PerType X
-per_type f = record { cluster = f Cluster; endpoint = f Endpoint; listener = f Listener; route = f Route }
-
 -- what is held of each type once a batch came
 abbrev pub merged : Store → Batch → Store
 merged s b = per_type (λ t. joined (at s t) (at b t))
@@ -44,14 +39,18 @@ grown s b = sum_by (λ t. changes_by (at s t) (at b t)) types
 abbrev pub merging : Store → Batch → Result (ℕ × Store) Refusal
 merging s b = unless_refused ((is_spent s b, CounterSpent) ∷ []) (grown s b, merged s b)
 
+-- What is held once a write of the type came. It is refused where the changes of the type can't be counted.
+abbrev pub joining_at : Store → TypeName → StampedWrite → Result Store Refusal
+joining_at s t w = unless_refused ((nat_lt max_counter (joined (at s t) (w ∷ [])).changes, CounterSpent) ∷ []) (with_at s t (joined (at s t) (w ∷ [])))
+
 -- what f makes of an answer, unless that is a refusal
 abbrev pub if_done : {X Y : Type 0} → (X → Y) → Result X Refusal → Result Y Refusal
 if_done f (Ok x) = Ok (f x)
 if_done f (Err e) = Err e
 
--- the counter of the write that puts a resource of the type, and what is held then
-abbrev pub putting_at : Store → TypeName → NamedBody → ℕ → Result (ℕ × Store) Refusal
-putting_at s t r writer = if_done (λ p. (p.0, with_at s t p.1)) (putting (at s t) r writer)
+-- the counter of the write that puts a resource of the type with these groups, and what is held then
+abbrev pub putting_at : Store → TypeName → NamedBody → List (List ℕ) → ℕ → Result (ℕ × Store) Refusal
+putting_at s t r groups writer = if_done (λ p. (p.0, with_at s t p.1)) (putting (at s t) r groups writer)
 
 -- the counter of the write that deletes a live resource of the type, and what is held then
 abbrev pub deleting_at : Store → TypeName → List ℕ → ℕ → Result (ℕ × Store) Refusal

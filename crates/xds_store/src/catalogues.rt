@@ -1,5 +1,5 @@
 // What a replica holds of each type.
-ghost use Rattle.std.specs.Prelude.{◌≡◌, ◌≤◌, [], ◌∷◌, nat_lt, IsOk, IfOk, IfErr, OnErr};
+ghost use Rattle.std.specs.Prelude.{◌≡◌, ◌≤◌, [], ◌∷◌, false, nat_lt, IsOk, IfOk, IfErr, OnErr};
 ghost use Rattle.std.specs.FinMap as finmap;
 ghost use Rattle.xds_resource.specs.Any.{resource_type, named_body, write_type, stamped_write};
 ghost use Rattle.xds_resource.specs.PerType.{at, each, with_at};
@@ -9,17 +9,17 @@ ghost use Rattle.xds_resource.specs.declared.refusal.Refusal.TheVariants.{Counte
 ghost use Rattle.xds_catalogue.specs.Holdings.{nothing_held};
 ghost use Rattle.xds_catalogue.specs.Joins.{joined};
 ghost use Rattle.xds_catalogue.specs.Local.{putting, deleting};
-ghost use Rattle.xds_store.specs.Stores.{merging, is_spent, putting_at, deleting_at, all_entries};
+ghost use Rattle.xds_store.specs.Stores.{merging, is_spent, joining_at, putting_at, deleting_at, all_entries};
 
-use crate::parts::{four, put};
+use crate::parts::{five, put};
 use crate::pending::Pending;
 use std::alloc::Global;
 use std::marker::Model;
 use std::mem;
 use xds_catalogue::Catalogue;
 use xds_resource::{
-    AnyResource, AnyWrite, Cluster, Endpoint, Listener, Refusal, ResourceType, Route, Stamp,
-    TypeName, Write,
+    AnyResource, AnyWrite, Cluster, Endpoint, Groups, Listener, Refusal, ResourceType, Route,
+    Secret, Stamp, TypeName, Write,
 };
 use xds_writes::Batch;
 
@@ -30,6 +30,7 @@ pub struct Marks {
     pub endpoint: u64,
     pub listener: u64,
     pub route: u64,
+    pub secret: u64,
 }
 
 /// What a replica holds of each type.
@@ -39,6 +40,7 @@ pub struct Catalogues {
     pub endpoint: Catalogue<Endpoint>,
     pub listener: Catalogue<Listener>,
     pub route: Catalogue<Route>,
+    pub secret: Catalogue<Secret>,
 }
 
 impl Model for Catalogues {
@@ -49,7 +51,7 @@ impl Model for Catalogues {
 
     ghost coded = { per_type_code holdings_code };
 
-    ghost view = { λ c. record { cluster = c.cluster; endpoint = c.endpoint; listener = c.listener; route = c.route } };
+    ghost view = { λ c. record { cluster = c.cluster; endpoint = c.endpoint; listener = c.listener; route = c.route; secret = c.secret } };
 }
 
 impl Catalogues {
@@ -62,15 +64,14 @@ impl Catalogues {
             endpoint: Catalogue::new(alloc),
             listener: Catalogue::new(alloc),
             route: Catalogue::new(alloc),
+            secret: Catalogue::new(alloc),
         }
     }
 
     /// Joins a write to the catalogue of its type.
     pub fn join(&mut self, write: AnyWrite) -> Result<(), Refusal>
-        ensures joins { Gives (λ _. self.new) result
-            (unless_refused
-            ((nat_lt max_counter (joined (at self.old (write_type write)) (stamped_write write ∷ [])).changes, CounterSpent) ∷ [])
-            (with_at self.old (write_type write) (joined (at self.old (write_type write)) (stamped_write write ∷ [])))) }
+        ensures joins { Gives (λ _. self.new) result (joining_at self.old (write_type write) (stamped_write write)) }
+        ensures memory { IfErr result (λ e. e ≡ OutOfMemory → IsOk (joining_at self.old (write_type write) (stamped_write write))) }
         ensures err { OnErr result (self.new ≡ self.old) }
     {
         match write {
@@ -78,22 +79,30 @@ impl Catalogues {
             AnyWrite::Endpoint(write) => join_one(&mut self.endpoint, write),
             AnyWrite::Listener(write) => join_one(&mut self.listener, write),
             AnyWrite::Route(write) => join_one(&mut self.route, write),
+            AnyWrite::Secret(write) => join_one(&mut self.secret, write),
         }
     }
 
-    /// Puts a resource, as a new write even where an equal body stands. `writer` is the number of this replica, from 1.
-    pub fn put(&mut self, resource: AnyResource, writer: u16) -> Result<Stamp, Refusal>
+    /// Puts a resource with these groups, as a new write even where an equal body stands, and whatever groups that had.
+    /// `writer` is the number of this replica, from 1.
+    pub fn put(
+        &mut self,
+        resource: AnyResource,
+        groups: Groups,
+        writer: u16,
+    ) -> Result<Stamp, Refusal>
         requires { 1 ≤ writer }
-        ensures puts { Gives (λ s. (s.counter, self.new)) result (putting_at self.old (resource_type resource) (named_body resource) writer) }
-        ensures memory { IfErr result (λ e. e ≡ OutOfMemory → IsOk (putting_at self.old (resource_type resource) (named_body resource) writer)) }
+        ensures puts { Gives (λ s. (s.counter, self.new)) result (putting_at self.old (resource_type resource) (named_body resource) groups writer) }
+        ensures memory { IfErr result (λ e. e ≡ OutOfMemory → IsOk (putting_at self.old (resource_type resource) (named_body resource) groups writer)) }
         ensures writer { IfOk result (λ s. s.writer ≡ writer) }
         ensures err { OnErr result (self.new ≡ self.old) }
     {
         match resource {
-            AnyResource::Cluster(resource) => self.cluster.put(resource, writer),
-            AnyResource::Endpoint(resource) => self.endpoint.put(resource, writer),
-            AnyResource::Listener(resource) => self.listener.put(resource, writer),
-            AnyResource::Route(resource) => self.route.put(resource, writer),
+            AnyResource::Cluster(resource) => self.cluster.put(resource, groups, writer),
+            AnyResource::Endpoint(resource) => self.endpoint.put(resource, groups, writer),
+            AnyResource::Listener(resource) => self.listener.put(resource, groups, writer),
+            AnyResource::Route(resource) => self.route.put(resource, groups, writer),
+            AnyResource::Secret(resource) => self.secret.put(resource, groups, writer),
         }
     }
 
@@ -110,6 +119,7 @@ impl Catalogues {
             TypeName::Endpoint => self.endpoint.delete(name, writer),
             TypeName::Listener => self.listener.delete(name, writer),
             TypeName::Route => self.route.delete(name, writer),
+            TypeName::Secret => self.secret.delete(name, writer),
         }
     }
 
@@ -145,6 +155,7 @@ impl Catalogues {
             || self.endpoint.is_spent_by(&batch.endpoint)
             || self.listener.is_spent_by(&batch.listener)
             || self.route.is_spent_by(&batch.route)
+            || self.secret.is_spent_by(&batch.secret)
     }
 
     /// All that is held, deletions included, of each type in ascending order of names. No body is copied.
@@ -152,17 +163,19 @@ impl Catalogues {
         ensures ok { IfOk result (λ b. b ≡ all_entries self.now) }
         ensures refused { IfErr result (λ e. e ≡ OutOfMemory) }
     {
-        let (cluster, endpoint, listener, route) = four(
+        let (cluster, endpoint, listener, route, secret) = five(
             writes_of(alloc, &self.cluster),
             writes_of(alloc, &self.endpoint),
             writes_of(alloc, &self.listener),
             writes_of(alloc, &self.route),
+            writes_of(alloc, &self.secret),
         )?;
         Ok(Batch {
             cluster,
             endpoint,
             listener,
             route,
+            secret,
         })
     }
 
@@ -177,6 +190,7 @@ impl Catalogues {
             TypeName::Endpoint => batch.endpoint = writes_of(alloc, &self.endpoint)?,
             TypeName::Listener => batch.listener = writes_of(alloc, &self.listener)?,
             TypeName::Route => batch.route = writes_of(alloc, &self.route)?,
+            TypeName::Secret => batch.secret = writes_of(alloc, &self.secret)?,
         }
         Ok(batch)
     }
@@ -187,12 +201,14 @@ impl Catalogues {
         ensures endpoint { result.endpoint ≡ self.now.endpoint.changes }
         ensures listener { result.listener ≡ self.now.listener.changes }
         ensures route { result.route ≡ self.now.route.changes }
+        ensures secret { result.secret ≡ self.now.secret.changes }
     {
         Marks {
             cluster: self.cluster.changes(),
             endpoint: self.endpoint.changes(),
             listener: self.listener.changes(),
             route: self.route.changes(),
+            secret: self.secret.changes(),
         }
     }
 
@@ -205,6 +221,7 @@ impl Catalogues {
             TypeName::Endpoint => self.endpoint.changes(),
             TypeName::Listener => self.listener.changes(),
             TypeName::Route => self.route.changes(),
+            TypeName::Secret => self.secret.changes(),
         }
     }
 
@@ -213,17 +230,19 @@ impl Catalogues {
         ensures ok { IfOk result (λ c. c ≡ self.now) }
         ensures refused { IfErr result (λ e. e ≡ OutOfMemory) }
     {
-        let (cluster, endpoint, listener, route) = four(
+        let (cluster, endpoint, listener, route, secret) = five(
             self.cluster.try_copy(alloc),
             self.endpoint.try_copy(alloc),
             self.listener.try_copy(alloc),
             self.route.try_copy(alloc),
+            self.secret.try_copy(alloc),
         )?;
         Ok(Catalogues {
             cluster,
             endpoint,
             listener,
             route,
+            secret,
         })
     }
 }
@@ -234,6 +253,7 @@ fn join_one<T: ResourceType>(catalogue: &mut Catalogue<T>, write: Write<T>) -> R
         (unless_refused
         ((nat_lt max_counter (joined catalogue.old (write ∷ [])).changes, CounterSpent) ∷ [])
         (joined catalogue.old (write ∷ []))) }
+    ensures memory { IfErr result (λ e. e ≡ OutOfMemory → nat_lt max_counter (joined catalogue.old (write ∷ [])).changes ≡ false) }
     ensures err { OnErr result (catalogue.new ≡ catalogue.old) }
 {
     catalogue.join_write(write)?;

@@ -6,7 +6,7 @@ ghost use Rattle.xds_store.specs.Pendings.{befores, afters, growth};
 use crate::catalogues::Catalogues;
 use std::marker::Model;
 use xds_catalogue::PendingJoin;
-use xds_resource::{Cluster, Endpoint, Listener, Route};
+use xds_resource::{Cluster, Endpoint, Listener, Route, Secret};
 use xds_writes::Batch;
 
 #[derive(Drop)]
@@ -15,6 +15,7 @@ pub(crate) struct Pending {
     endpoint: PendingJoin<Endpoint>,
     listener: PendingJoin<Listener>,
     route: PendingJoin<Route>,
+    secret: PendingJoin<Secret>,
 }
 
 impl Model for Pending {
@@ -26,7 +27,7 @@ impl Model for Pending {
 
     ghost coded = { per_type_code pending_code };
 
-    ghost view = { λ p. record { cluster = p.cluster; endpoint = p.endpoint; listener = p.listener; route = p.route } };
+    ghost view = { λ p. record { cluster = p.cluster; endpoint = p.endpoint; listener = p.listener; route = p.route; secret = p.secret } };
 }
 
 impl Pending {
@@ -41,6 +42,7 @@ impl Pending {
             endpoint,
             listener,
             route,
+            secret,
         } = held;
         let cluster = match cluster.start_join(batch.cluster) {
             Ok(pending) => pending,
@@ -50,6 +52,7 @@ impl Pending {
                     endpoint,
                     listener,
                     route,
+                    secret,
                 });
             }
         };
@@ -61,6 +64,7 @@ impl Pending {
                     endpoint,
                     listener,
                     route,
+                    secret,
                 });
             }
         };
@@ -72,21 +76,36 @@ impl Pending {
                     endpoint: endpoint.take_back(),
                     listener,
                     route,
+                    secret,
                 });
             }
         };
-        match route.start_join(batch.route) {
-            Ok(route) => Ok(Pending {
+        let route = match route.start_join(batch.route) {
+            Ok(pending) => pending,
+            Err(route) => {
+                return Err(Catalogues {
+                    cluster: cluster.take_back(),
+                    endpoint: endpoint.take_back(),
+                    listener: listener.take_back(),
+                    route,
+                    secret,
+                });
+            }
+        };
+        match secret.start_join(batch.secret) {
+            Ok(secret) => Ok(Pending {
                 cluster,
                 endpoint,
                 listener,
                 route,
+                secret,
             }),
-            Err(route) => Err(Catalogues {
+            Err(secret) => Err(Catalogues {
                 cluster: cluster.take_back(),
                 endpoint: endpoint.take_back(),
                 listener: listener.take_back(),
-                route,
+                route: route.take_back(),
+                secret,
             }),
         }
     }
@@ -99,6 +118,7 @@ impl Pending {
             + self.endpoint.grown() as u128
             + self.listener.grown() as u128
             + self.route.grown() as u128
+            + self.secret.grown() as u128
     }
 
     /// The catalogues with the batch.
@@ -110,6 +130,7 @@ impl Pending {
             endpoint: self.endpoint.finish(),
             listener: self.listener.finish(),
             route: self.route.finish(),
+            secret: self.secret.finish(),
         }
     }
 }
