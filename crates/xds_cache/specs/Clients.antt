@@ -6,14 +6,16 @@ use Rattle.xds_resource.specs.declared.types.TypeName.{TypeName}
 use Rattle.xds_resource.specs.declared.refusal.Refusal.{Refusal}
 use Rattle.xds_resource.specs.declared.refusal.Refusal.TheVariants.{BadMessage, NoStream}
 use Rattle.xds_resource.specs.Types.{type_of_url}
-use Rattle.xds_resource.specs.PerType.{PerType, per_type_code, at, with_at, each}
+use Rattle.xds_resource.specs.PerType.{PerType, per_type_code, per_type, at, with_at, each}
 use Rattle.xds_message.specs.Messages.{Identity}
 use Rattle.xds_shelf.specs.Shelves.{Wants, Cache, Shelf, shelf_code, bare, wanting, wants_some, connected, lost}
 
 pub record Client : Type 0 where
   -- the name that it sends of itself
   pub node_id : List ℕ
-  -- whether it sent that name on this stream
+  -- and the cluster that it says it belongs to; it never looks at it itself
+  pub cluster : List ℕ
+  -- whether it sent these two on this stream
   pub greeted : Bool
   -- whether it found no memory for a response: then it can't use its stream any more
   pub broken : Bool
@@ -21,12 +23,12 @@ pub record Client : Type 0 where
 
 abbrev pub client_code : Coded Client
 client_code =
-    code_by (List ℕ × (Bool × (Bool × PerType Shelf))) (coded× (coded_list coded_ℕ) (coded× coded_bool (coded× coded_bool (per_type_code shelf_code))))
-    (λ c. (c.node_id, (c.greeted, (c.broken, c.shelves)))) (λ p. record { node_id = p.0; greeted = p.1.0; broken = p.1.1.0; shelves = p.1.1.1 }) (λ _. refl)
+    code_by (List ℕ × (List ℕ × (Bool × (Bool × PerType Shelf)))) (coded× (coded_list coded_ℕ) (coded× (coded_list coded_ℕ) (coded× coded_bool (coded× coded_bool (per_type_code shelf_code)))))
+    (λ c. (c.node_id, (c.cluster, (c.greeted, (c.broken, c.shelves))))) (λ p. record { node_id = p.0; cluster = p.1.0; greeted = p.1.1.0; broken = p.1.1.1.0; shelves = p.1.1.1.1 }) (λ _. refl)
 
 -- a client that is new wants nothing, and has no stream
-abbrev pub fresh : List ℕ → Client
-fresh node_id = record { node_id = node_id; greeted = false; broken = false; shelves = each bare }
+abbrev pub fresh : List ℕ → List ℕ → Client
+fresh node_id cluster = record { node_id = node_id; cluster = cluster; greeted = false; broken = false; shelves = each bare }
 
 -- what it keeps of a type
 abbrev pub shelf : Client → TypeName → Shelf
@@ -39,12 +41,12 @@ view c t = (shelf c t).cache
 abbrev pub with_shelf : Client → TypeName → Shelf → Client
 with_shelf c t s = record c { shelves = with_at c.shelves t s }
 
-abbrev pub identity : List ℕ → Identity
-identity node_id = record { id = node_id; cluster = [] }
+abbrev pub identity : List ℕ → List ℕ → Identity
+identity node_id cluster = record { id = node_id; cluster = cluster }
 
 -- what the next request says of who asks: the first one on a stream alone says it
 abbrev pub node : Bool → Client → Option Identity
-node greeted c = if greeted then None else Some (identity c.node_id)
+node greeted c = if greeted then None else Some (identity c.node_id c.cluster)
 
 -- Whether a change to these is sent: on a stream, unless the type wasn't asked for there and nothing is wanted.
 abbrev pub is_sent : Bool → Shelf → Wants → Bool
@@ -64,28 +66,15 @@ changed up t w c = changing (is_sent up (shelf c t) w) t (shelf_after up t w c) 
 
 -- on a new stream
 abbrev pub linked : Bool → Client → Client
-linked greeted c = record c {
-  greeted = greeted;
-  shelves = record {
-    cluster = connected c.shelves.cluster;
-    endpoint = connected c.shelves.endpoint;
-    listener = connected c.shelves.listener;
-    route = connected c.shelves.route;
-  };
-}
+linked greeted c = record c { greeted = greeted; shelves = per_type (λ t. connected (shelf c t)) }
 
 -- once its stream is lost
 abbrev pub unlinked : Client → Client
-unlinked c = record c {
-  greeted = false;
-  broken = false;
-  shelves = record {
-    cluster = lost c.shelves.cluster;
-    endpoint = lost c.shelves.endpoint;
-    listener = lost c.shelves.listener;
-    route = lost c.shelves.route;
-  };
-}
+unlinked c = record c { greeted = false; broken = false; shelves = per_type (λ t. lost (shelf c t)) }
+
+-- A client that has no stream isn't broken: it can use the next one.
+abbrev pub IsUsableWhenDown : Bool → Client → Type 0
+IsUsableWhenDown up c = up ≡ false → c.broken ≡ false
 
 -- once it found no memory for a response
 abbrev pub broken_off : Client → Client

@@ -1,5 +1,5 @@
 -- What `change` and `receive` leave of a client and give to send. This project's own.
-use Rattle.std.specs.Prelude.{Bool, if◌then◌else◌, Option, Some, None, Result, Ok, Err}
+use Rattle.std.specs.Prelude.{Bool, ◌&&◌, if◌then◌else◌, Option, Some, None, Result, Ok, Err}
 use Rattle.std.specs.FinMap as finmap
 use Rattle.xds_resource.specs.declared.types.TypeName.{TypeName}
 use Rattle.xds_resource.specs.declared.refusal.Refusal.{Refusal}
@@ -18,13 +18,13 @@ Outcome X = Result (Client × X) Refusal
 
 -- ---- change
 
--- A client of the state of the world wants these texts, and on a stream sends them all.
+-- A client of the state of the world wants these texts, and on a stream sends them all. On a stream alone it may be of no use.
 abbrev pub sotw_changed : Bool → TypeName → Wants → Client → Client × Option Request
 sotw_changed up t w c =
     (changed up t w c, if is_sent up (shelf c t) w then Some (sotw_request t (node c.greeted c) (shelf_after up t w c) None) else None)
 
 abbrev pub sotw_change : Bool → TypeName → Wants → Client → Outcome (Option Request)
-sotw_change up t w c = if c.broken then Err NoStream else Ok (sotw_changed up t w c)
+sotw_change up t w c = if up && c.broken then Err NoStream else Ok (sotw_changed up t w c)
 
 -- A delta client subscribes and unsubscribes texts, and on a stream sends these two lists.
 abbrev pub delta_changed : Bool → TypeName → Wants → Wants → Client → Client × Option DeltaRequest
@@ -33,7 +33,7 @@ delta_changed up t subscribe unsubscribe c =
     (changed up t w c, if is_sent up (shelf c t) w then Some (delta_request t (node c.greeted c) subscribe unsubscribe finmap.empty) else None)
 
 abbrev pub delta_change : Bool → TypeName → Wants → Wants → Client → Outcome (Option DeltaRequest)
-delta_change up t subscribe unsubscribe c = if c.broken then Err NoStream else Ok (delta_changed up t subscribe unsubscribe c)
+delta_change up t subscribe unsubscribe c = if up && c.broken then Err NoStream else Ok (delta_changed up t subscribe unsubscribe c)
 
 -- ---- receive
 

@@ -6,7 +6,7 @@ use Rattle.xds_resource.specs.Types.{row}
 use Rattle.xds_message.specs.Messages.{Identity, Failure, Request}
 use Rattle.xds_message.specs.DeltaMessages.{DeltaRequest}
 use Rattle.xds_message.specs.Versions.{VersionMap}
-pub use Rattle.xds_shelf.specs.Shelves.{held_version, held_versions}
+pub use Rattle.xds_shelf.specs.Shelves.{cached_version, cached_versions}
 use Rattle.xds_shelf.specs.Shelves.{Wants, Shelf, texts, wants_some, connected}
 use Rattle.xds_cache.specs.Clients.{Client, shelf, node}
 
@@ -45,7 +45,7 @@ delta_request t who subscribe unsubscribe versions = record {
 
 -- The first request of a type on a stream subscribes all that is wanted, and says which versions are held.
 abbrev pub delta_first : Client → TypeName → Bool → DeltaRequest
-delta_first c t greeted = delta_request t (node greeted c) (shelf c t).wants finmap.empty (held_versions (shelf c t).cache)
+delta_first c t greeted = delta_request t (node greeted c) (shelf c t).wants finmap.empty (cached_versions (shelf c t).cache)
 
 -- the answer to a response
 abbrev pub delta_answer : TypeName → List ℕ → Option (List ℕ) → DeltaRequest

@@ -16,6 +16,8 @@ use xds_shelf::wants::{Wants, wants_some};
 #[derive(Drop)]
 pub(crate) struct Client {
     node_id: String,
+    // It is sent, and looked at nowhere else.
+    cluster: String,
     greeted: bool,
     broken: bool,
     shelves: Shelves,
@@ -30,16 +32,17 @@ impl Model for Client {
 
     ghost coded = { client_code };
 
-    ghost view = { λ c. record { node_id = string_bytes c.node_id; greeted = c.greeted; broken = c.broken; shelves = c.shelves } };
+    ghost view = { λ c. record { node_id = string_bytes c.node_id; cluster = string_bytes c.cluster; greeted = c.greeted; broken = c.broken; shelves = c.shelves } };
 }
 
 impl Client {
     /// A client that wants nothing.
-    pub(crate) fn new(alloc: Global, node_id: String) -> Client
-        ensures { result ≡ fresh (string_bytes node_id) }
+    pub(crate) fn new(alloc: Global, node_id: String, cluster: String) -> Client
+        ensures { result ≡ fresh (string_bytes node_id) (string_bytes cluster) }
     {
         Client {
             node_id,
+            cluster,
             greeted: false,
             broken: false,
             shelves: Shelves::new(alloc),
@@ -83,7 +86,7 @@ impl Client {
         }
         Ok(Some(Node {
             id: String::from_str(alloc, self.node_id.as_str())?,
-            cluster: String::new(alloc),
+            cluster: String::from_str(alloc, self.cluster.as_str())?,
         }))
     }
 

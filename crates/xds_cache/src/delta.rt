@@ -8,7 +8,7 @@ ghost use Rattle.xds_resource.specs.declared.refusal.Refusal.TheVariants.{OutOfM
 ghost use Rattle.xds_message.specs.Responses.{delta_response_of};
 ghost use Rattle.xds_shelf.specs.Shelves.{wants_of as set_of, wants_some as some_wanted};
 ghost use Rattle.xds_cache.specs.Clients.{fresh, shelf as shelf_of, view as view_of, node as node_of, addressing, linked, unlinked, broken_off};
-ghost use Rattle.xds_cache.specs.Sends.{delta_request, delta_answer, held_versions as versions_held, delta_first, first_requests, is_greeted};
+ghost use Rattle.xds_cache.specs.Sends.{delta_request, delta_answer, cached_versions as versions_cached, delta_first, first_requests, is_greeted};
 ghost use Rattle.xds_cache.specs.Receives.{delta_change, delta_changed, delta_receive};
 
 use crate::client::Client;
@@ -33,13 +33,15 @@ pub struct DeltaClient<A: Accept, L: Link> {
 
 impl<A: Accept, L: Link> Model for DeltaClient<A, L> {
     ghost use Rattle.xds_cache.specs.Clients as clients;
-    ghost use Rattle.xds_cache.specs.Clients.{client_code};
+    ghost use Rattle.xds_cache.specs.Clients.{client_code, IsUsableWhenDown};
 
     ghost Value = { clients.Client };
 
     ghost coded = { client_code };
 
     ghost view = { λ c. c.client };
+
+    ghost invariant = { λ c. IsUsableWhenDown L.IS_UP c.client };
 }
 
 // A request that subscribes and unsubscribes texts, and says which versions are held.
@@ -87,8 +89,8 @@ fn answer_to(
 }
 
 // The versions that are held.
-fn held_versions(alloc: Global, cache: &NameMap<Holding>) -> Result<Versions, Refusal>
-    ensures ok { IfOk result (λ v. v ≡ versions_held cache.now) }
+fn cached_versions(alloc: Global, cache: &NameMap<Holding>) -> Result<Versions, Refusal>
+    ensures ok { IfOk result (λ v. v ≡ versions_cached cache.now) }
     ensures err { IfErr result (λ e. e ≡ OutOfMemory) }
 {
     let mut versions = Versions::new(alloc);
@@ -150,8 +152,8 @@ impl<A: Accept, L: Link> DeltaClient<A, L> {
 
     /// Subscribes and unsubscribes texts of a type, and drops what is wanted no longer. A text in both lists is subscribed,
     /// and `*` in a complete type is the star. On a stream it answers the request to send, unless the type wasn't asked for
-    /// there and nothing is wanted. Refused are: `NoStream` where the client found no memory for a response, and
-    /// `OutOfMemory`; then nothing changed.
+    /// there and nothing is wanted. Refused are: `NoStream` where the client found no memory for a response on its stream,
+    /// and `OutOfMemory`; then nothing changed.
     pub fn change(
         &mut self,
         alloc: Global,
@@ -174,12 +176,13 @@ impl<A: Accept, L: Link> DeltaClient<A, L> {
 }
 
 impl<A: Accept> DeltaClient<A, Down> {
-    /// A client that wants nothing, and says this of itself.
-    pub fn new(alloc: Global, node_id: String) -> DeltaClient<A, Down>
-        ensures { result ≡ fresh (string_bytes node_id) }
+    /// A client that wants nothing, and says of itself this name and this cluster, which may be empty. It looks at the
+    /// cluster nowhere else: which resources the star covers is the server's to decide.
+    pub fn new(alloc: Global, node_id: String, cluster: String) -> DeltaClient<A, Down>
+        ensures { result ≡ fresh (string_bytes node_id) (string_bytes cluster) }
     {
         DeltaClient {
-            client: Client::new(alloc, node_id),
+            client: Client::new(alloc, node_id, cluster),
             test: PhantomData,
             link: PhantomData,
         }
@@ -204,7 +207,7 @@ impl<A: Accept> DeltaClient<A, Down> {
     {
         let shelf = self.client.shelf(kind);
         let node = self.client.node(alloc, greeted)?;
-        let versions = held_versions(alloc, &shelf.cache)?;
+        let versions = cached_versions(alloc, &shelf.cache)?;
         request_for(
             alloc,
             kind,

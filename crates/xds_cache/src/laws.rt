@@ -1,9 +1,9 @@
 //! What clients want and hold, as statements that the prover checks. The functions do nothing.
-ghost use Rattle.xds_cache.specs.Laws.{WantsWhatIsCovered, ListIsInterest, ListIsAsked, FirstIsAsked, FirstChangeIsAsked, ChangeIsAsked, WantedByName, ShownByName, KeptByName, HoldsWhatIsWanted};
+ghost use Rattle.xds_cache.specs.Laws.{WantsWhatIsReached, ListIsInterest, ListIsAsked, FirstIsAsked, FirstChangeIsAsked, ChangeIsAsked, WantedByName, ShownByName, KeptByName, HoldsWhatIsWanted};
 
-/// What a client wants is what its interest covers, and that is the interest that a server makes of its requests.
+/// What a client wants is what its interest reaches, and that is the interest that a server makes of its requests.
 pub fn interests_agree()
-    ensures covered { WantsWhatIsCovered }
+    ensures reached { WantsWhatIsReached }
     ensures listed { ListIsInterest }
     ensures asked { ListIsAsked }
     ensures first { FirstIsAsked }

@@ -1,6 +1,6 @@
-// The four shelves of a client.
+// The shelves of a client, one a type.
 ghost use Rattle.std.specs.Prelude.{◌≡◌};
-ghost use Rattle.xds_resource.specs.PerType.{at, with_at, each};
+ghost use Rattle.xds_resource.specs.PerType.{at, with_at, each, per_type};
 ghost use Rattle.xds_shelf.specs.Shelves.{bare, connected, lost};
 
 use std::alloc::Global;
@@ -14,6 +14,7 @@ pub(crate) struct Shelves {
     endpoint: Shelf,
     listener: Shelf,
     route: Shelf,
+    secret: Shelf,
 }
 
 impl Model for Shelves {
@@ -25,7 +26,7 @@ impl Model for Shelves {
 
     ghost coded = { per_type_code shelf_code };
 
-    ghost view = { λ s. record { cluster = s.cluster; endpoint = s.endpoint; listener = s.listener; route = s.route } };
+    ghost view = { λ s. record { cluster = s.cluster; endpoint = s.endpoint; listener = s.listener; route = s.route; secret = s.secret } };
 }
 
 // Puts a value in the place of another, which is dropped here, where its parts aren't looked at.
@@ -45,6 +46,7 @@ impl Shelves {
             endpoint: Shelf::new(alloc),
             listener: Shelf::new(alloc),
             route: Shelf::new(alloc),
+            secret: Shelf::new(alloc),
         }
     }
 
@@ -56,6 +58,7 @@ impl Shelves {
             TypeName::Endpoint => &self.endpoint,
             TypeName::Listener => &self.listener,
             TypeName::Route => &self.route,
+            TypeName::Secret => &self.secret,
         }
     }
 
@@ -68,36 +71,29 @@ impl Shelves {
             TypeName::Endpoint => set(&mut self.endpoint, shelf),
             TypeName::Listener => set(&mut self.listener, shelf),
             TypeName::Route => set(&mut self.route, shelf),
+            TypeName::Secret => set(&mut self.secret, shelf),
         }
     }
 
     /// At the start of a stream.
     pub(crate) fn connect(&mut self)
-        ensures { self.new ≡ record {
-          cluster = connected self.old.cluster;
-          endpoint = connected self.old.endpoint;
-          listener = connected self.old.listener;
-          route = connected self.old.route;
-        } }
+        ensures { self.new ≡ per_type (λ t. connected (at self.old t)) }
     {
         self.cluster.connect();
         self.endpoint.connect();
         self.listener.connect();
         self.route.connect();
+        self.secret.connect();
     }
 
     /// Once the stream is lost.
     pub(crate) fn lose(&mut self)
-        ensures { self.new ≡ record {
-          cluster = lost self.old.cluster;
-          endpoint = lost self.old.endpoint;
-          listener = lost self.old.listener;
-          route = lost self.old.route;
-        } }
+        ensures { self.new ≡ per_type (λ t. lost (at self.old t)) }
     {
         self.cluster.lose();
         self.endpoint.lose();
         self.listener.lose();
         self.route.lose();
+        self.secret.lose();
     }
 }

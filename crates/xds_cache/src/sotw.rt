@@ -33,13 +33,15 @@ pub struct SotwClient<A: Accept, L: Link> {
 
 impl<A: Accept, L: Link> Model for SotwClient<A, L> {
     ghost use Rattle.xds_cache.specs.Clients as clients;
-    ghost use Rattle.xds_cache.specs.Clients.{client_code};
+    ghost use Rattle.xds_cache.specs.Clients.{client_code, IsUsableWhenDown};
 
     ghost Value = { clients.Client };
 
     ghost coded = { client_code };
 
     ghost view = { λ c. c.client };
+
+    ghost invariant = { λ c. IsUsableWhenDown L.IS_UP c.client };
 }
 
 // A request for all that is wanted of a type.
@@ -93,7 +95,8 @@ impl<A: Accept, L: Link> SotwClient<A, L> {
 
     /// Sets what the client wants of a type, and drops what it wants no longer. `*` in a list of a complete type is the
     /// star. On a stream it answers the request to send, unless the type wasn't asked for there and nothing is wanted.
-    /// Refused are: `NoStream` where the client found no memory for a response, and `OutOfMemory`; then nothing changed.
+    /// Refused are: `NoStream` where the client found no memory for a response on its stream, and `OutOfMemory`; then
+    /// nothing changed.
     pub fn change(
         &mut self,
         alloc: Global,
@@ -118,12 +121,13 @@ impl<A: Accept, L: Link> SotwClient<A, L> {
 }
 
 impl<A: Accept> SotwClient<A, Down> {
-    /// A client that wants nothing, and says this of itself.
-    pub fn new(alloc: Global, node_id: String) -> SotwClient<A, Down>
-        ensures { result ≡ fresh (string_bytes node_id) }
+    /// A client that wants nothing, and says of itself this name and this cluster, which may be empty. It looks at the
+    /// cluster nowhere else: which resources the star covers is the server's to decide.
+    pub fn new(alloc: Global, node_id: String, cluster: String) -> SotwClient<A, Down>
+        ensures { result ≡ fresh (string_bytes node_id) (string_bytes cluster) }
     {
         SotwClient {
-            client: Client::new(alloc, node_id),
+            client: Client::new(alloc, node_id, cluster),
             test: PhantomData,
             link: PhantomData,
         }

@@ -8,9 +8,9 @@ use Rattle.xds_resource.specs.Writes.{text_cmp}
 use Rattle.xds_resource.specs.Names.{put_all, put_each}
 use Rattle.xds_resource.proofs.NameMaps.{has_text, same_names, get-tabulate, get-tabulated, in_neither, absent_key}
 use Rattle.xds_resource.proofs.MadeMaps.{get-put_all, get-put_each}
-use Rattle.xds_shelf.specs.Shelves.{Wants, Cache, Holding, marked, wants_of, wanted_after, wants_after, is_wanted, kept, kept_of}
+use Rattle.xds_shelf.specs.Shelves.{Wants, Cache, Holding, marked, wants_of, marked_after, wants_after, is_wanted, kept, kept_of}
 use Rattle.xds_shelf.specs.Deliveries.{shown_after, cache_after}
-use Rattle.xds_shelf.specs.Shelves.{held_version, held_versions}
+use Rattle.xds_shelf.specs.Shelves.{cached_version, cached_versions}
 use Rattle.xds_shelf.specs.Parts.{unless_dropped, as_before, left, added, version_told}
 
 or_none : {X : Type 0} (o : Option X) → option_or o None ≡ o
@@ -54,9 +54,9 @@ wanted_absent : (s b : Option (Unit {0})) (dropped : Bool) → s ≡ None → b 
 wanted_absent s b true no_s no_b = (λ i. if is_some (no_s i) then Some tt else None)
 wanted_absent s b false no_s no_b = (λ i. if is_some (no_s i) then Some tt else no_b i)
 
-pub get-wants_after : (subscribe unsubscribe before : Wants) (q : List ℕ) → finmap.get (wants_after subscribe unsubscribe before) q ≡ wanted_after subscribe unsubscribe before q
+pub get-wants_after : (subscribe unsubscribe before : Wants) (q : List ℕ) → finmap.get (wants_after subscribe unsubscribe before) q ≡ marked_after subscribe unsubscribe before q
 get-wants_after s u b q =
-    get-tabulated (wanted_after s u b) (finmap.keys s ++ finmap.keys b) q
+    get-tabulated (marked_after s u b) (finmap.keys s ++ finmap.keys b) q
     (λ e. let parts = in_neither (finmap.keys s) (finmap.keys b) q e in
     wanted_absent (finmap.get s q) (finmap.get b q) (finmap.contains_key u q) (absent_key s q parts.0) (absent_key b q parts.1))
 
@@ -134,7 +134,7 @@ version_at : (o : Option Holding) → option_and_then (λ h. Some h.version) o �
 version_at None = refl
 version_at (Some h) = refl
 
-pub put_all-held_versions : (cache : Cache) → put_all version_told finmap.empty (finmap.entries cache) ≡ held_versions cache
-put_all-held_versions cache = same_names _ _ (λ q.
+pub put_all-cached_versions : (cache : Cache) → put_all version_told finmap.empty (finmap.entries cache) ≡ cached_versions cache
+put_all-cached_versions cache = same_names _ _ (λ q.
     get-put_fresh version_told cache q ∙ version_at (finmap.get cache q)
-    ∙ sym (get-tabulated (held_version cache) (finmap.keys cache) q (λ e. ap (λ o. option_map (λ h. h.version) o) (absent_key cache q e))))
+    ∙ sym (get-tabulated (cached_version cache) (finmap.keys cache) q (λ e. ap (λ o. option_map (λ h. h.version) o) (absent_key cache q e))))

@@ -59,7 +59,7 @@ cache_after t w whole removed stated held = tabulate (shown_after t w whole remo
 abbrev pub taking : TypeName → Shelf → Delivery → Shelf
 taking t s d = record s { cache = cache_after t s.wants d.whole d.removed (statements t d) s.cache; nonce = d.nonce; accepted = d.version }
 
--- one that is rejected leaves its nonce alone
+-- of one that is rejected nothing but the nonce is kept
 abbrev pub rejecting : Shelf → Delivery → Shelf
 rejecting s d = record s { nonce = d.nonce }
 

@@ -8,7 +8,7 @@ use Rattle.xds_resource.specs.Types.{row}
 use Rattle.xds_resource.specs.Writes.{text_cmp}
 use Rattle.xds_resource.specs.Names.{tabulate}
 use Rattle.xds_message.specs.Versions.{VersionMap}
-use Rattle.xds_interest.specs.Interests.{Selection, star_text}
+use Rattle.xds_interest.specs.Interests.{Selection, star_text, in_cluster}
 use Rattle.xds_interest.specs.SotW.{is_named, listed}
 
 -- the texts that a client asks for; in a complete type `*` is the star
@@ -56,9 +56,9 @@ texts w = finmap.keys w
 abbrev pub wants_some : Wants → Bool
 wants_some w = is_named (texts w)
 
--- the interest that these texts are
-abbrev pub interest : TypeName → Wants → Selection
-interest t w = listed t (texts w)
+-- the interest that these texts are, of a client whose node is of this cluster
+abbrev pub interest : TypeName → List ℕ → Wants → Selection
+interest t cluster w = in_cluster cluster (listed t (texts w))
 
 -- whether the client wants the resource of a name: it asks for that name, or for the star
 abbrev pub is_wanted : TypeName → Wants → List ℕ → Bool
@@ -72,13 +72,13 @@ abbrev pub wants_of : List (List ℕ) → Wants
 wants_of names = tabulate marked names
 
 -- Whether a text is wanted after a change that subscribes and unsubscribes texts: one in both is subscribed.
-abbrev pub wanted_after : Wants → Wants → Wants → List ℕ → Option (Unit {0})
-wanted_after subscribe unsubscribe before name =
+abbrev pub marked_after : Wants → Wants → Wants → List ℕ → Option (Unit {0})
+marked_after subscribe unsubscribe before name =
     if finmap.contains_key subscribe name then Some tt else if finmap.contains_key unsubscribe name then None else finmap.get before name
 
 abbrev pub wants_after : Wants → Wants → Wants → Wants
 wants_after subscribe unsubscribe before =
-    tabulate (wanted_after subscribe unsubscribe before) (finmap.keys subscribe ++ finmap.keys before)
+    tabulate (marked_after subscribe unsubscribe before) (finmap.keys subscribe ++ finmap.keys before)
 
 -- ---- what is held
 
@@ -90,12 +90,12 @@ abbrev pub kept_of : TypeName → Wants → Cache → Cache
 kept_of t w cache = tabulate (kept t w cache) (finmap.keys cache)
 
 -- the version that is held of a name
-abbrev pub held_version : Cache → List ℕ → Option (List ℕ)
-held_version cache name = option_map (λ h. h.version) (finmap.get cache name)
+abbrev pub cached_version : Cache → List ℕ → Option (List ℕ)
+cached_version cache name = option_map (λ h. h.version) (finmap.get cache name)
 
 -- the versions that are held
-abbrev pub held_versions : Cache → VersionMap
-held_versions cache = tabulate (held_version cache) (finmap.keys cache)
+abbrev pub cached_versions : Cache → VersionMap
+cached_versions cache = tabulate (cached_version cache) (finmap.keys cache)
 
 -- once the client wants these, and asked for them or not
 abbrev pub wanting : TypeName → Wants → Bool → Shelf → Shelf

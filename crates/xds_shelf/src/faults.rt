@@ -25,6 +25,7 @@ fn read_resource(alloc: Global, kind: TypeName, value: Value) -> Result<AnyResou
         TypeName::Endpoint => AnyResource::Endpoint(Resource::from_value(alloc, value)?),
         TypeName::Listener => AnyResource::Listener(Resource::from_value(alloc, value)?),
         TypeName::Route => AnyResource::Route(Resource::from_value(alloc, value)?),
+        TypeName::Secret => AnyResource::Secret(Resource::from_value(alloc, value)?),
     })
 }
 

@@ -1,8 +1,8 @@
-use Rattle.xds_cache.proofs.Interests.{wants_what_is_covered, list_is_interest, list_is_asked, first_is_asked, first_change_is_asked, change_is_asked}
+use Rattle.xds_cache.proofs.Interests.{wants_what_is_reached, list_is_interest, list_is_asked, first_is_asked, first_change_is_asked, change_is_asked}
 use Rattle.xds_cache.proofs.laws.interests_agree.Goals as goal
 
-pub returns-clause-covered : goal.returns-clause-covered
-returns-clause-covered c = wants_what_is_covered
+pub returns-clause-reached : goal.returns-clause-reached
+returns-clause-reached c = wants_what_is_reached
 
 pub returns-clause-listed : goal.returns-clause-listed
 returns-clause-listed c = list_is_interest
