@@ -6,21 +6,23 @@ use Rattle.std.specs.FinMap as finmap
 use Rattle.xds_resource.specs.declared.types.TypeName.{TypeName}
 use Rattle.xds_resource.specs.Types.{row, is_same_type}
 use Rattle.xds_resource.specs.PerType.{at}
+use Rattle.xds_resource.specs.Groups.{IsGroups}
 use Rattle.xds_resource.specs.Resources.{IsCanonical}
 use Rattle.xds_resource.specs.Best.{best}
 use Rattle.xds_resource.specs.Writes.{StampedWrite, version_of}
+use Rattle.xds_interest.specs.Interests.{Selection, covers}
 use Rattle.xds_catalogue.specs.Holdings.{catalogue_of}
 use Rattle.xds_draft.specs.DraftTexts.{kind_of}
 use Rattle.xds_core.specs.Streams.{Message, url_of, owes_of}
 use Rattle.xds_core.specs.Steps.{fresh as fresh_core}
 use Rattle.xds_core.specs.Legal.{IsLegal, replayed}
-use Rattle.xds_shelf.specs.Shelves.{Cache, Holding, Wants, is_wanted}
+use Rattle.xds_shelf.specs.Shelves.{Cache, Holding, Wants, interest, is_wanted}
 use Rattle.xds_cache.specs.Clients as clients
 use Rattle.xds_shelf.specs.Faults.{Test}
 use Rattle.xds_model.specs.declared.event.ClientKind.TheVariants.{Sotw, Delta}
 use Rattle.xds_model.specs.Happenings.{Happening, Put}
 use Rattle.xds_model.specs.Worlds.{World, Site, Peer, Link, empty_world, world}
-use Rattle.xds_model.specs.Knows.{TypedWrite, knows, wants, link, made_after}
+use Rattle.xds_model.specs.Knows.{TypedWrite, knows, wants, cluster, link, made_after}
 use Rattle.xds_model.specs.Journal.{events_at}
 
 -- ---- settled
@@ -53,36 +55,36 @@ writes_of t ws = map (λ x. x.1) (filter (λ x. is_same_type x.0 t) ws)
 abbrev pub holding_of : StampedWrite → Option Holding
 holding_of w = option_map (λ body. record { version = version_of w; body = body }) w.body
 
--- what is live of a name among these writes
-abbrev pub live_at : List StampedWrite → List ℕ → Option Holding
-live_at ws name = option_and_then holding_of (best ws name)
+-- what is held of a write of a name, where an interest covers the name in the write's groups
+abbrev pub shown_of : Selection → List ℕ → StampedWrite → Option Holding
+shown_of s name w = if covers s name w.groups then holding_of w else None
 
--- what a client that wants these is to show of a name
-abbrev pub content_at : TypeName → List StampedWrite → Wants → List ℕ → Option Holding
-content_at t ws w name = if is_wanted t w name then live_at ws name else None
+-- what a client of a cluster that wants these is to show of a name: the greatest write of it, if that puts a resource and is covered
+abbrev pub content_at : TypeName → List StampedWrite → List ℕ → Wants → List ℕ → Option Holding
+content_at t ws cluster w name = option_and_then (shown_of (interest t cluster w) name) (best ws name)
 
--- a view shows exactly what is wanted of what is live
-abbrev pub IsExact : TypeName → List StampedWrite → Wants → Cache → Type 0
-IsExact t ws w view = (name : List ℕ) → finmap.get view name ≡ content_at t ws w name
+-- a view shows exactly what is covered of what is live
+abbrev pub IsExact : TypeName → List StampedWrite → List ℕ → Wants → Cache → Type 0
+IsExact t ws cluster w view = (name : List ℕ) → finmap.get view name ≡ content_at t ws cluster w name
 
 -- State of the world tells no version of a single resource, so there a view is compared by its bodies.
 abbrev pub body_at : Cache → List ℕ → Option (List ℕ)
 body_at view name = option_map (λ h. h.body) (finmap.get view name)
 
 -- the same, compared by bodies
-abbrev pub IsExactByBody : TypeName → List StampedWrite → Wants → Cache → Type 0
-IsExactByBody t ws w view = (name : List ℕ) → body_at view name ≡ option_map (λ h. h.body) (content_at t ws w name)
+abbrev pub IsExactByBody : TypeName → List StampedWrite → List ℕ → Wants → Cache → Type 0
+IsExactByBody t ws cluster w view = (name : List ℕ) → body_at view name ≡ option_map (λ h. h.body) (content_at t ws cluster w name)
 
--- a view shows what is wanted of what is live, and nothing that isn't wanted; what isn't live any more may be there, too
-abbrev pub Agrees : TypeName → List StampedWrite → Wants → Cache → Type 0
-Agrees t ws w view =
-    ((name : List ℕ) (h : Holding) → content_at t ws w name ≡ Some h → body_at view name ≡ Some h.body) × ((name : List ℕ) → is_wanted t w name ≡ false → finmap.get view name ≡ None)
+-- a view shows what is covered of what is live, and nothing that isn't wanted; what isn't live any more may be there, too
+abbrev pub Agrees : TypeName → List StampedWrite → List ℕ → Wants → Cache → Type 0
+Agrees t ws cluster w view =
+    ((name : List ℕ) (h : Holding) → content_at t ws cluster w name ≡ Some h → body_at view name ≡ Some h.body) × ((name : List ℕ) → is_wanted t w name ≡ false → finmap.get view name ≡ None)
 
 -- ---- what is put
 
--- what is put is a resource of its type
+-- what is put is a resource of its type, for groups that a write may list
 abbrev pub PutsAResource : Happening → Type 0
-PutsAResource (Put r t body) = IsCanonical t body
+PutsAResource (Put r t body groups) = IsCanonical t body × IsGroups groups
 PutsAResource h = ⊤
 
 abbrev pub PutResources : List Happening → Type 0
@@ -99,13 +101,13 @@ HoldsWhatItKnows test hs = (r : ℕ) (s : Site) (t : TypeName) → finmap.get (w
 abbrev pub SettledIsExact : Test → List Happening → Type 0
 SettledIsExact test hs =
     (c r : ℕ) (p : Peer) (t : TypeName) → finmap.get (world test hs).peers c ≡ Some p → p.kind ≡ Delta → link test hs c ≡ Some r → is_settled (world test hs) c t ≡ true
-    → IsExact t (writes_of t (knows test hs r)) (wants test hs c t) (clients.view p.client t)
+    → IsExact t (writes_of t (knows test hs r)) (cluster test hs c) (wants test hs c t) (clients.view p.client t)
 
 -- and for clients of the state of the world: of a complete type exactly, of another with what may remain
 abbrev pub SettledAgrees : Test → List Happening → Type 0
 SettledAgrees test hs =
     (c r : ℕ) (p : Peer) (t : TypeName) → finmap.get (world test hs).peers c ≡ Some p → p.kind ≡ Sotw → link test hs c ≡ Some r → is_settled (world test hs) c t ≡ true
-    → ((row t).is_complete ≡ true → IsExactByBody t (writes_of t (knows test hs r)) (wants test hs c t) (clients.view p.client t)) × Agrees t (writes_of t (knows test hs r)) (wants test hs c t) (clients.view p.client t)
+    → ((row t).is_complete ≡ true → IsExactByBody t (writes_of t (knows test hs r)) (cluster test hs c) (wants test hs c t) (clients.view p.client t)) × Agrees t (writes_of t (knows test hs r)) (cluster test hs c) (wants test hs c t) (clients.view p.client t)
 
 -- replicas that know the same writes hold the same, whatever came in which order and how often
 abbrev pub SameKnowledgeSameHoldings : Test → List Happening → Type 0
@@ -131,13 +133,13 @@ JournalsAreLegal test hs = (r : ℕ) (s : Site) → finmap.get (world test hs).s
 abbrev pub JournalsTellAll : Test → List Happening → Type 0
 JournalsTellAll test hs = (r : ℕ) (s : Site) → finmap.get (world test hs).sites r ≡ Some s → map (λ x. x.event) s.journal ≡ events_at test hs r
 
--- a client's link and wants, as the list of happenings tells them, are those that it has
+-- a client's link, cluster and wants, as the list of happenings tells them, are those that it has
 abbrev pub LinksAreFollowed : Test → List Happening → Type 0
 LinksAreFollowed test hs =
-    (c : ℕ) (p : Peer) → finmap.get (world test hs).peers c ≡ Some p → (link test hs c ≡ option_map (λ l. l.replica) p.link) × ((t : TypeName) → wants test hs c t ≡ (clients.shelf p.client t).wants)
+    (c : ℕ) (p : Peer) → finmap.get (world test hs).peers c ≡ Some p → (link test hs c ≡ option_map (λ l. l.replica) p.link) × (cluster test hs c ≡ p.client.cluster) × ((t : TypeName) → wants test hs c t ≡ (clients.shelf p.client t).wants)
 
 -- The headline, of one list of happenings: what replicas hold, what settled clients of both variants show, and that what is told
--- of links, wants, stamps and journals is so.
+-- of links, clusters, wants, stamps and journals is so.
 pub record Headline (test : Test) (hs : List Happening) : Type 0 where
   pub holds : HoldsWhatItKnows test hs
   pub same : SameKnowledgeSameHoldings test hs

@@ -12,8 +12,10 @@ pub data Wish : Type 0 where
 -- Replicas and clients go by their numbers, batches by their place in the pool, from 1.
 pub data Happening : Type 0 where
   AddReplica : ℕ → Happening
-  AddClient : ℕ → ClientKind → Happening
-  Put : ℕ → TypeName → NamedBody → Happening
+  -- a client, what it speaks, and the text of its cluster, empty where it has none
+  AddClient : ℕ → ClientKind → List ℕ → Happening
+  -- at a replica, a resource for these groups
+  Put : ℕ → TypeName → NamedBody → List (List ℕ) → Happening
   Delete : ℕ → TypeName → List ℕ → Happening
   Snapshot : ℕ → Happening
   -- a replica, and a batch

@@ -23,7 +23,7 @@ on_stream w c f = option_and_then (λ p. option_and_then (λ l. option_map (λ e
 -- What a happening is at a replica, in the world before it: the replica's number, and the event there. None where a replica comes, or
 -- where something happens at a client alone.
 abbrev pub event_at : World → Happening → Option (ℕ × Event)
-event_at w (Put r t body) = Some (r, events.Put t body)
+event_at w (Put r t body groups) = Some (r, events.Put t body groups)
 event_at w (Delete r t name) = Some (r, events.Delete t name)
 event_at w (Snapshot r) = Some (r, events.Snapshot)
 event_at w (Merge r b) = option_map (λ x. (r, events.Merge x.1)) (placed w.pool b)
@@ -32,7 +32,7 @@ event_at w (Up c) = on_stream w c (λ l. option_map (events.Request l.stream) (o
 event_at w (Poll c which) = on_stream w c (λ l. Some (events.Poll l.stream which))
 event_at w (Lose c) = on_stream w c (λ l. Some (events.Close l.stream))
 event_at w (AddReplica r) = None
-event_at w (AddClient c kind) = None
+event_at w (AddClient c kind cluster) = None
 event_at w (Change c t wish) = None
 event_at w (Down c) = None
 

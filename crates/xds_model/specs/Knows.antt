@@ -1,5 +1,5 @@
 -- What each replica knows, from the list of happenings alone: the writes made there, and of each batch merged there what its sender
--- knew when it was taken. What each client wants. This project's own.
+-- knew when it was taken. What each client wants, and of which cluster it is. This project's own.
 use Rattle.std.specs.Prelude.{ℕ, List, [], ◌∷◌, ◌++◌, if◌then◌else◌, ◌==◌, Option, Some, None}
 use Rattle.std.specs.Option.{option_map_or}
 use Rattle.std.specs.FinMap as finmap
@@ -10,7 +10,7 @@ use Rattle.xds_resource.specs.Writes.{StampedWrite}
 use Rattle.xds_core.specs.Events as events
 use Rattle.xds_shelf.specs.Faults.{Test}
 use Rattle.xds_shelf.specs.Shelves.{Wants, wants_of, wants_after}
-use Rattle.xds_model.specs.Happenings.{Wish, Names, Edits, Happening, Put, Delete, Snapshot, Merge, Connect, Change, Lose}
+use Rattle.xds_model.specs.Happenings.{Wish, Names, Edits, Happening, AddClient, Put, Delete, Snapshot, Merge, Connect, Change, Lose}
 use Rattle.xds_model.specs.Worlds.{World, empty_world, at_site, happens, placed}
 
 -- a write and its type
@@ -36,7 +36,7 @@ made write t other = []
 
 -- what is known after something happened that was possible, in the world before it
 abbrev pub learned : World → Happening → Knowledge → Knowledge
-learned w (Put r t body) k = learning k r (made (λ counter writer. written counter writer body) t (at_site w r (events.Put t body)))
+learned w (Put r t body groups) k = learning k r (made (λ counter writer. written counter writer body groups) t (at_site w r (events.Put t body groups)))
 learned w (Delete r t name) k = learning k r (made (λ counter writer. deleted counter writer name) t (at_site w r (events.Delete t name)))
 learned w (Snapshot r) k = record k { batches = k.batches ++ k.at r ∷ [] }
 learned w (Merge r b) k = option_map_or (learning k r) (placed k.batches b) k
@@ -70,6 +70,21 @@ wanted_after test w c t before (h ∷ hs) = option_map_or (λ x. wanted_after te
 abbrev pub wants : Test → List Happening → ℕ → TypeName → Wants
 wants test hs c t = wanted_after test empty_world c t finmap.empty hs
 
+-- ---- clusters
+
+-- the cluster that a client says it is of: what it was told when it came
+abbrev pub placing : ℕ → Happening → List ℕ → List ℕ
+placing c (AddClient d kind cluster) before = if d == c then cluster else before
+placing c h before = before
+
+abbrev pub cluster_after : Test → World → ℕ → List ℕ → List Happening → List ℕ
+cluster_after test w c before [] = before
+cluster_after test w c before (h ∷ hs) = option_map_or (λ x. cluster_after test x c (placing c h before) hs) (happens test w h) (cluster_after test w c before hs)
+
+-- the text of a client's cluster, empty where it has none
+abbrev pub cluster : Test → List Happening → ℕ → List ℕ
+cluster test hs c = cluster_after test empty_world c [] hs
+
 -- ---- links
 
 -- the replica that a client is linked to
@@ -90,7 +105,7 @@ link test hs c = linked_after test empty_world c None hs
 
 -- the write that is made where something happens, if one is
 abbrev pub made_now : World → Happening → List TypedWrite
-made_now w (Put r t body) = made (λ counter writer. written counter writer body) t (at_site w r (events.Put t body))
+made_now w (Put r t body groups) = made (λ counter writer. written counter writer body groups) t (at_site w r (events.Put t body groups))
 made_now w (Delete r t name) = made (λ counter writer. deleted counter writer name) t (at_site w r (events.Delete t name))
 made_now w h = []
 

@@ -14,8 +14,8 @@ wish_of (wishes.Edits subscribe unsubscribe) = happenings.Edits (map string_byte
 
 abbrev pub happening_of : WorldEvent → Happening
 happening_of (events.AddReplica replica) = happenings.AddReplica replica
-happening_of (events.AddClient client kind) = happenings.AddClient client kind
-happening_of (events.Put replica resource) = happenings.Put replica (resource_type resource) (named_body resource)
+happening_of (events.AddClient client kind cluster) = happenings.AddClient client kind (string_bytes cluster)
+happening_of (events.Put replica resource groups) = happenings.Put replica (resource_type resource) (named_body resource) groups
 happening_of (events.Delete replica kind name) = happenings.Delete replica kind (string_bytes name)
 happening_of (events.Snapshot replica) = happenings.Snapshot replica
 happening_of (events.Merge replica batch) = happenings.Merge replica batch

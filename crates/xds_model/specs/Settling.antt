@@ -1,25 +1,26 @@
 -- Settling a client of a type: its replica takes what the client asked for, answers until it owes nothing of the type, and the
 -- client takes the answers. This project's own.
-use Rattle.std.specs.Prelude.{◌≡◌, ◌⊎◌, ℕ, ◌+◌, ◌≤◌, List, [], ◌∷◌, ◌++◌, length, Bool, true, false, not, if◌then◌else◌, Option, Some, None, is_some, option_map}
+use Rattle.std.specs.Prelude.{◌≡◌, ◌⊎◌, ℕ, ◌+◌, ◌≤◌, List, [], ◌∷◌, ◌++◌, ◌==◌, Bool, true, false, ◌&&◌, not, if◌then◌else◌, Option, Some, None, is_some, option_map}
 use Rattle.std.specs.Option.{option_and_then, option_map_or}
 use Rattle.std.specs.List.{list_any}
 use Rattle.std.specs.FinMap as finmap
 use Rattle.xds_resource.specs.declared.types.TypeName.{TypeName}
 use Rattle.xds_resource.specs.Types.{row, is_same_type}
 use Rattle.xds_resource.specs.PerType.{at}
-use Rattle.xds_resource.specs.Resources.{max_text, value_of}
+use Rattle.xds_resource.specs.Resources.{value_of}
+use Rattle.xds_resource.specs.Stamps.{max_counter}
 use Rattle.xds_resource.specs.Writes.{StampedWrite}
 use Rattle.xds_draft.specs.declared.draft.Draft.{Draft}
 use Rattle.xds_draft.specs.DraftTexts.{kind_of}
 use Rattle.xds_owed.specs.Offers.{offer}
 use Rattle.xds_ledger.specs.Ledgers.{is_refused}
 use Rattle.xds_core.specs.Stores.{Store}
-use Rattle.xds_core.specs.Streams.{Stream, Message}
+use Rattle.xds_core.specs.Streams.{Stream, Message, to_send}
 use Rattle.xds_shelf.specs.Shelves.{Holding, Wants}
 use Rattle.xds_shelf.specs.Faults.{Test}
 use Rattle.xds_model.specs.Happenings.{Happening, Up, Poll, Down}
 use Rattle.xds_model.specs.Worlds.{World, Site, Link, world, after, happens}
-use Rattle.xds_model.specs.Knows.{knows, wants, link}
+use Rattle.xds_model.specs.Knows.{knows, wants, cluster, link}
 use Rattle.xds_model.specs.Claims.{writes_of, content_at, is_quiet, is_settled}
 
 -- whether a response of the type is under way
@@ -63,16 +64,31 @@ Done Ends test c t held w (h ∷ hs) = (held ≡ false) × ((next_to_settle w c 
 abbrev pub IsAtEnd : ℕ → TypeName → Bool → World → Type 0
 IsAtEnd c t held w = (held ≡ true) ⊎ (next_to_settle w c t ≡ None)
 
--- where settling gets no further: what is to be done isn't possible
+-- what f says of the stream of a client, beside what its replica holds; false where it has none
+abbrev pub says_of_stream : (Store → Stream → Bool) → World → ℕ → Bool
+says_of_stream f w c =
+    option_map_or (λ l. option_map_or (λ (s : Site). option_map_or (f s.core.store) (finmap.get s.core.streams l.stream) false) (finmap.get w.sites l.replica) false) (link_in w c) false
+
+-- whether a response of the type is to be sent on a stream that has no number left for it
+abbrev pub lacks_number : TypeName → Store → Stream → Bool
+lacks_number t store x = x.count == max_counter && is_some (to_send store x t)
+
+-- Whether the responses on the stream of a client are spent, and one of the type is due.
+abbrev pub is_spent_for : World → ℕ → TypeName → Bool
+is_spent_for w c t = says_of_stream (lacks_number t) w c
+
+-- Where settling gets no further: the replica is to be polled, and that isn't possible, since the responses on the stream are
+-- spent and one of the type is due.
 abbrev pub IsAtStop : Test → ℕ → TypeName → Bool → World → Type 0
-IsAtStop test c t held w = (held ≡ false) × ((is_some (next_to_settle w c t) ≡ true) × (option_and_then (happens test w) (next_to_settle w c t) ≡ None))
+IsAtStop test c t held w =
+    (held ≡ false) × (next_to_settle w c t ≡ Some (Poll c (Some t))) × (happens test w (Poll c (Some t)) ≡ None) × (is_spent_for w c t ≡ true)
 
 -- That these settle a client of a type, as far as polls help: until it is settled, or a poll gives nothing, since what the replica
 -- would send is what the client refused.
 abbrev pub IsSettling : Test → ℕ → TypeName → World → List Happening → Type 0
 IsSettling test c t w hs = Done (IsAtEnd c t) test c t false w hs
 
--- that these are done to settle a client of a type, and what is to be done next isn't possible
+-- that these are done to settle a client of a type, and that the poll that is to be done next isn't possible
 abbrev pub IsStopped : Test → ℕ → TypeName → World → List Happening → Type 0
 IsStopped test c t w hs = Done (IsAtStop test c t) test c t false w hs
 
@@ -92,8 +108,7 @@ would_repeat t store x =
 
 -- Whether the next response of the type to a client is held back: it is what the client refused last.
 abbrev pub is_held_back : World → ℕ → TypeName → Bool
-is_held_back w c t =
-    option_map_or (λ l. option_map_or (λ (s : Site). option_map_or (would_repeat t s.core.store) (finmap.get s.core.streams l.stream) false) (finmap.get w.sites l.replica) false) (link_in w c) false
+is_held_back w c t = says_of_stream (would_repeat t) w c
 
 -- ---- how many responses of the type were taken
 
@@ -106,7 +121,7 @@ abbrev pub taken_now : ℕ → TypeName → World → Happening → ℕ
 taken_now c t w (Down d) = option_map_or (λ l. takes_one t l.down) (link_in w c) 0
 taken_now c t w h = 0
 
--- responses of the type that a client takes while it is settled
+-- responses of the type that a client takes while it is being settled
 abbrev pub responses_taken : Test → ℕ → TypeName → World → List Happening → ℕ
 responses_taken test c t w [] = 0
 responses_taken test c t w (h ∷ hs) = taken_now c t w h + option_map_or (λ x. responses_taken test c t x hs) (happens test w h) 0
@@ -148,14 +163,12 @@ UnsettledHasRefused test hs =
     (c : ℕ) (t : TypeName) (more : List Happening) (l : Link) → IsSettling test c t (world test hs) more → link_in (world test hs) c ≡ Some l
     → is_settled (after test (world test hs) more) c t ≡ false → is_held_back (after test (world test hs) more) c t ≡ true
 
--- That a client's test takes what it is to show of these writes where it wants these, and that no such body is too long: a client
--- refuses a longer one, whatever its test answers.
-abbrev pub TakesAll : Test → TypeName → List StampedWrite → Wants → Type 0
-TakesAll test t ws w =
-    (name : List ℕ) (h : Holding) → content_at t ws w name ≡ Some h → (length h.body ≤ max_text) × (test (row t).url name (value_of h.body) ≡ true)
+-- that a client's test takes what the client is to show of these writes where it is of this cluster and wants these
+abbrev pub TakesAll : Test → TypeName → List StampedWrite → List ℕ → Wants → Type 0
+TakesAll test t ws cluster w = (name : List ℕ) (h : Holding) → content_at t ws cluster w name ≡ Some h → test (row t).url name (value_of h.body) ≡ true
 
 -- A client whose test takes all that it is to show of what its replica knows is settled where settling ends.
 abbrev pub SettlesWhereAllIsTaken : Test → List Happening → Type 0
 SettlesWhereAllIsTaken test hs =
-    (c r : ℕ) (t : TypeName) (more : List Happening) → link test hs c ≡ Some r → TakesAll test t (writes_of t (knows test hs r)) (wants test hs c t)
+    (c r : ℕ) (t : TypeName) (more : List Happening) → link test hs c ≡ Some r → TakesAll test t (writes_of t (knows test hs r)) (cluster test hs c) (wants test hs c t)
     → IsSettling test c t (world test hs) more → is_settled (after test (world test hs) more) c t ≡ true

@@ -90,8 +90,8 @@ pooled r (reply, w) = None
 abbrev pub with_peer : World → ℕ → Peer → World
 with_peer w c p = record w { peers = finmap.insert w.peers c p }
 
-abbrev pub new_peer : ℕ → ClientKind → Peer
-new_peer c kind = record { kind = kind; client = clients.fresh (decimal c); link = None }
+abbrev pub new_peer : ℕ → ClientKind → List ℕ → Peer
+new_peer c kind cluster = record { kind = kind; client = clients.fresh (decimal c) cluster; link = None }
 
 -- the requests at the start of a stream
 abbrev pub opening_requests : ClientKind → Client → List Message
@@ -111,9 +111,9 @@ opened c r p (events.Opened n, w) = Some (with_peer w c (connected_to p r n))
 opened c r p (reply, w) = None
 
 -- one more request under way
-abbrev pub sending : Option Message → Link → Link
-sending None l = l
-sending (Some m) l = record l { up = l.up ++ m ∷ [] }
+abbrev pub with_request : Option Message → Link → Link
+with_request None l = l
+with_request (Some m) l = record l { up = l.up ++ m ∷ [] }
 
 -- the client after a change, and the request that it sends, if any
 abbrev pub changed_by : {X : Type 0} → (X → Message) → Outcome (Option X) → Option (Client × Option Message)
@@ -130,7 +130,7 @@ abbrev pub wish_taken : Peer → TypeName → Wish → Option (Client × Option 
 wish_taken p t wish = wish_of p.kind p (is_some p.link) t wish
 
 abbrev pub changed : Peer → Client × Option Message → Peer
-changed p q = record { kind = p.kind; client = q.0; link = option_map (sending q.1) p.link }
+changed p q = record { kind = p.kind; client = q.0; link = option_map (with_request q.1) p.link }
 
 -- the client after a response, and its answer
 abbrev pub received_by : {X : Type 0} → (X → Message) → Outcome X → Option (Client × Message)
@@ -186,8 +186,8 @@ is_free w r = (nat_lt 0 r && not (nat_lt max_writer r)) && is_none (finmap.get w
 -- The world after something happened; none where that isn't possible or is refused.
 abbrev pub happens : Test → World → Happening → Option World
 happens test w (AddReplica r) = if is_free w r then Some (record w { sites = finmap.insert w.sites r (record { core = fresh_core r; journal = [] }) }) else None
-happens test w (AddClient c kind) = if is_none (finmap.get w.peers c) then Some (with_peer w c (new_peer c kind)) else None
-happens test w (Put r t body) = happened_at w r (events.Put t body)
+happens test w (AddClient c kind cluster) = if is_none (finmap.get w.peers c) then Some (with_peer w c (new_peer c kind cluster)) else None
+happens test w (Put r t body groups) = happened_at w r (events.Put t body groups)
 happens test w (Delete r t name) = happened_at w r (events.Delete t name)
 happens test w (Snapshot r) = option_and_then (pooled r) (at_site w r events.Snapshot)
 happens test w (Merge r b) = option_and_then (λ x. happened_at w r (events.Merge x.1)) (placed w.pool b)

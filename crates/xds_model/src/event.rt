@@ -7,7 +7,7 @@ ghost use Rattle.xds_model.specs.Seen.{happening_of, wish_of};
 use std::alloc::Global;
 use xds_message::copy_texts;
 use xds_resource::laws::resources_are_canonical;
-use xds_resource::{AnyResource, Refusal, TypeName};
+use xds_resource::{AnyResource, Groups, Refusal, TypeName};
 
 /// The variant that a client speaks.
 #[derive(Clone, Copy, Debug, PartialEq, Eq)]
@@ -31,10 +31,10 @@ pub enum Wish {
 pub enum WorldEvent {
     /// A replica that holds nothing comes.
     AddReplica(u16),
-    /// A client that wants nothing and has no stream comes.
-    AddClient(u32, ClientKind),
-    /// A resource is put at a replica.
-    Put(u16, AnyResource),
+    /// A client that wants nothing and has no stream comes. The text is that of its cluster, empty where it has none.
+    AddClient(u32, ClientKind, String),
+    /// A resource is put at a replica, for these groups.
+    Put(u16, AnyResource, Groups),
     /// The live resource of a name is deleted at a replica.
     Delete(u16, TypeName, String),
     /// All that a replica holds joins the pool, as a batch.
@@ -72,16 +72,21 @@ impl Wish {
 }
 
 impl WorldEvent {
-    /// An equal event, or `OutOfMemory`. No body is copied.
+    /// An equal event, or `OutOfMemory`. No body and no group is copied.
     pub fn try_copy(&self, alloc: Global) -> Result<WorldEvent, Refusal>
         ensures ok { IfOk result (λ e. happening_of e ≡ happening_of self.now) }
         ensures refused { IfErr result (λ e. e ≡ OutOfMemory) }
     {
         match self {
             WorldEvent::AddReplica(replica) => Ok(WorldEvent::AddReplica(*replica)),
-            WorldEvent::AddClient(client, kind) => Ok(WorldEvent::AddClient(*client, *kind)),
-            WorldEvent::Put(replica, resource) => {
-                Ok(WorldEvent::Put(*replica, resource.try_copy(alloc)?))
+            WorldEvent::AddClient(client, kind, cluster) => Ok(WorldEvent::AddClient(
+                *client,
+                *kind,
+                String::from_str(alloc, cluster.as_str())?,
+            )),
+            WorldEvent::Put(replica, resource, groups) => {
+                let copy = resource.try_copy(alloc)?;
+                Ok(WorldEvent::Put(*replica, copy, groups.try_copy(alloc)?))
             }
             WorldEvent::Delete(replica, kind, name) => Ok(WorldEvent::Delete(
                 *replica,
@@ -101,12 +106,13 @@ impl WorldEvent {
         }
     }
 
-    /// What an event puts is a resource of its type, as every resource is.
+    /// What an event puts is a resource of its type, as every resource is, for groups that a write may list, as all groups are.
     pub fn puts_a_resource(&self)
         ensures { PutsAResource (happening_of self.now) }
     {
-        if let WorldEvent::Put(_, resource) = self {
+        if let WorldEvent::Put(_, resource, groups) = self {
             resources_are_canonical(resource);
+            groups.texts();
         }
     }
 }

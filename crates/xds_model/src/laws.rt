@@ -23,13 +23,15 @@ pub fn journals_are_legal()
 {}
 
 /// A client that is up, to which nothing of a type is under way and nothing owed, shows exactly what its replica knows of what it
-/// wants; but of an incomplete type, in the state of the world, what is live there no longer may remain.
+/// wants, and of what its star covers in its cluster; but of an incomplete type, in the state of the world, what is live there no
+/// longer may remain.
 pub fn settled_clients_are_exact()
     ensures delta { (test : Test) (hs : List Happening) → PutResources hs → SettledIsExact test hs }
     ensures sotw { (test : Test) (hs : List Happening) → PutResources hs → SettledAgrees test hs }
 {}
 
-/// A client is up exactly where it was linked last and didn't lose that link, and wants what it was told to.
+/// A client is up exactly where it was linked last and didn't lose that link, is of the cluster that it came with, and wants what it
+/// was told to.
 pub fn links_are_followed()
     ensures { (test : Test) (hs : List Happening) → LinksAreFollowed test hs }
 {}
@@ -43,7 +45,7 @@ pub fn two_responses_suffice()
     ensures refused { (test : Test) (hs : List Happening) → PutResources hs → UnsettledHasRefused test hs }
 {}
 
-/// A client whose test takes all that it is to show of what its replica knows, none of it too long, is settled where settling ends.
+/// A client whose test takes all that it is to show of what its replica knows is settled where settling ends.
 pub fn settling_settles()
     ensures { (test : Test) (hs : List Happening) → PutResources hs → SettlesWhereAllIsTaken test hs }
 {}
