@@ -1,5 +1,5 @@
 -- What is printed of a client's view and of a replica's content. This project's own.
-use Rattle.std.specs.Prelude.{ℕ, List, [], ◌++◌, length, Bool, if◌then◌else◌, codes, decimal, unwrap_or, is_some, filter}
+use Rattle.std.specs.Prelude.{ℕ, List, [], ◌++◌, length, Bool, if◌then◌else◌, codes, decimal, unwrap_or, filter}
 use Rattle.std.specs.List.{flat_map}
 use Rattle.std.specs.Option.{option_map_or}
 use Rattle.std.specs.FinMap as finmap
@@ -8,6 +8,7 @@ use Rattle.xds_resource.specs.Types.{row}
 use Rattle.xds_resource.specs.PerType.{at}
 use Rattle.xds_resource.specs.Writes.{StampedWrite, version_of}
 use Rattle.xds_catalogue.specs.Holdings.{Holdings}
+use Rattle.xds_catalogue.specs.Content.{is_live}
 use Rattle.xds_shelf.specs.Shelves.{Cache, Holding}
 use Rattle.xds_cache.specs.Clients as clients
 use Rattle.xds_model.specs.declared.event.ClientKind.{ClientKind}
@@ -53,10 +54,6 @@ abbrev pub view_shown : World → ℕ → TypeName → List ℕ
 view_shown w client t = option_map_or (λ p. view_text client t (state_word w client t p) p.kind (clients.view p.client t)) (finmap.get w.peers client) none_text
 
 -- ---- content
-
--- a write that puts a resource
-abbrev pub is_live : StampedWrite → Bool
-is_live w = is_some w.body
 
 abbrev pub write_line : StampedWrite → List ℕ
 write_line w = version_of w ++ codes " " ++ unwrap_or w.body [] ++ codes "\n"

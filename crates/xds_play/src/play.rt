@@ -172,6 +172,7 @@ fn print_entries(
         TypeName::Endpoint => show_content(alloc, text, replica, &entries.endpoint),
         TypeName::Listener => show_content(alloc, text, replica, &entries.listener),
         TypeName::Route => show_content(alloc, text, replica, &entries.route),
+        TypeName::Secret => show_content(alloc, text, replica, &entries.secret),
     }
 }
 

@@ -1,4 +1,3 @@
-pub mod Splits
 pub mod FirstPoll
 pub mod Responding
 pub mod Taking

@@ -2,6 +2,7 @@
 use Rattle.std.proofs.Common.{◌≡◌, ◌<◌, ◌≤◌, ◌+◌, ◌-◌, inl, inr, ℕ, List, [], ◌∷◌, ◌++◌, length, take, Bool, true, false, cond, refl, ap, sym, ◌∙◌, subst, arith, append_assoc, append-nil, length-append, length-take}
 use Rattle.std.specs.Prelude.{map, slice_index, ◌==◌}
 use Rattle.std.proofs.lemmas.List.{map-append}
+use Rattle.std.proofs.lemmas.List.Splits.{length-slice_split}
 use Rattle.std.proofs.lemmas.List.Elements.{filter-append}
 use Rattle.std.specs.List.{filter}
 use Rattle.std.specs.FinMap as finmap
@@ -9,6 +10,7 @@ use Rattle.xds_resource.specs.declared.types.TypeName.{TypeName}
 use Rattle.xds_resource.specs.declared.refusal.Refusal.{Refusal}
 use Rattle.xds_resource.specs.Types.{is_same_type}
 use Rattle.xds_resource.specs.Writes.{StampedWrite}
+use Rattle.xds_resource.specs.TypedWrites.{TypedWrite, writes_of}
 use Rattle.xds_resource.specs.PerType.{PerType, at, with_at}
 use Rattle.xds_resource.proofs.TypesApart.{same_type, at-with_at, at-with_at_other}
 use Rattle.xds_catalogue.specs.Holdings.{Holdings, nothing_held, IsCatalogue}
@@ -17,8 +19,8 @@ use Rattle.xds_catalogue.proofs.Catalogues.{catalogue_of-IsCatalogue}
 use Rattle.xds_catalogue.proofs.Joining.{joined_again}
 use Rattle.xds_catalogue.proofs.OneWrite.{joined-nothing}
 use Rattle.xds_message.specs.Messages.{Request}
-use Rattle.xds_program.specs.Lines.{feed, lines, pieces, onto_first, without_last_feed}
-use Rattle.xds_program.specs.Answers.{TypedWrite, writes_of, held_of, response_by, answer_text}
+use Rattle.xds_script.specs.Lines.{feed, lines, pieces, without_last_feed}
+use Rattle.xds_program.specs.Answers.{held_of, response_by, answer_text}
 use Rattle.xds_program.specs.Faults.{IsWriteLine, IsRequestLine, AreWriteLines, RefusesWrite, RefusesRequest, IsAnswer, IsFault}
 use Rattle.xds_program.proofs.Responding.{response_by-same}
 
@@ -66,7 +68,7 @@ held_of-push p xs x agree t =
 pub record IsReadTo (input rest : List ℕ) (line : ℕ) (held : TypeName → Holdings) : Type 0 where
   pub before : List (List ℕ)
   pub writes : List TypedWrite
-  pub lines_are : lines input ≡ before ++ pieces rest
+  pub lines_are : lines input ≡ before ++ pieces feed rest
   pub writes_are : AreWriteLines before writes
   pub held_are : (t : TypeName) → held t ≡ held_of writes t
   pub number_is : line ≡ length before + 1
@@ -87,12 +89,12 @@ read_none input p empty = record {
   short = omega (arith, shorter_if (slice_index input (length input - 1) == feed) (length input - 1) input);
 }
 
-pub read_more : (input rest next bytes : List ℕ) (line : ℕ) (p : PerType Holdings) (x : TypedWrite) → IsReadTo input rest line (at p) → pieces rest ≡ bytes ∷ pieces next → length next < length rest
+pub read_more : (input rest next bytes : List ℕ) (line : ℕ) (p : PerType Holdings) (x : TypedWrite) → IsReadTo input rest line (at p) → pieces feed rest ≡ bytes ∷ pieces feed next → length next < length rest
     → IsWriteLine bytes x → IsReadTo input next (line + 1) (at (with_at p x.0 (joined (at p x.0) (x.1 ∷ []))))
 read_more input rest next bytes line p x r split shorter is = record {
   before = r.before ++ bytes ∷ [];
   writes = r.writes ++ x ∷ [];
-  lines_are = r.lines_are ∙ ap (λ (ps : List (List ℕ)). r.before ++ ps) split ∙ sym (append_assoc r.before (bytes ∷ []) (pieces next));
+  lines_are = r.lines_are ∙ ap (λ (ps : List (List ℕ)). r.before ++ ps) split ∙ sym (append_assoc r.before (bytes ∷ []) (pieces feed next));
   writes_are = AreWriteLines-push r.before r.writes bytes x r.writes_are is;
   held_are = held_of-push p r.writes x r.held_are;
   number_is = omega (arith, r.number_is, length-append r.before (bytes ∷ []));
@@ -104,7 +106,7 @@ pub held_named : (input rest : List ℕ) (line : ℕ) (held : TypeName → Holdi
 held_named input rest line held r t =
     subst (λ (h : Holdings). IsCatalogue h.entries) (sym (r.held_are t)) (catalogue_of-IsCatalogue (finmap.values nothing_held.entries ++ writes_of t r.writes))
 
-pub read_all : (replica : ℕ) (input rest output : List ℕ) (line : ℕ) (p : PerType Holdings) (m : Request) → IsReadTo input rest line (at p) → pieces rest ≡ rest ∷ [] → IsRequestLine rest m
+pub read_all : (replica : ℕ) (input rest output : List ℕ) (line : ℕ) (p : PerType Holdings) (m : Request) → IsReadTo input rest line (at p) → pieces feed rest ≡ rest ∷ [] → IsRequestLine rest m
     → output ≡ answer_text (response_by replica (at p) m) → IsAnswer replica input output
 read_all replica input rest output line p m r last is told = record {
   write_lines = r.before;
@@ -119,17 +121,15 @@ read_all replica input rest output line p m r last is told = record {
 
 -- ---- and where it stopped
 
-opened_if : (c : Bool) (b : ℕ) (ps : List (List ℕ)) → ((first : List ℕ) × (more : List (List ℕ)) × (ps ≡ first ∷ more))
-    → (first : List ℕ) × (more : List (List ℕ)) × (cond c ([] ∷ ps) (onto_first b ps) ≡ first ∷ more)
-opened_if true b ps h = ([], ps, refl)
-opened_if false b ps h = (b ∷ h.0, h.1, ap (onto_first b) h.2)
+some_piece : (ps : List (List ℕ)) → 0 < length ps → (first : List ℕ) × (more : List (List ℕ)) × (ps ≡ first ∷ more)
+some_piece [] h = absurd (omega (arith, h))
+some_piece (first ∷ more) h = (first, more, refl)
 
 -- there is always a piece
-pieces-cons : (bs : List ℕ) → (first : List ℕ) × (more : List (List ℕ)) × (pieces bs ≡ first ∷ more)
-pieces-cons [] = ([], [], refl)
-pieces-cons (b ∷ bs) = opened_if (b == feed) b (pieces bs) (pieces-cons bs)
+pieces-cons : (bs : List ℕ) → (first : List ℕ) × (more : List (List ℕ)) × (pieces feed bs ≡ first ∷ more)
+pieces-cons bs = some_piece (pieces feed bs) (omega (arith, length-slice_split (λ b. b == feed) bs))
 
-pub read_bad_write : (input rest next bytes : List ℕ) (line : ℕ) (p : PerType Holdings) (e : Refusal) → IsReadTo input rest line (at p) → pieces rest ≡ bytes ∷ pieces next
+pub read_bad_write : (input rest next bytes : List ℕ) (line : ℕ) (p : PerType Holdings) (e : Refusal) → IsReadTo input rest line (at p) → pieces feed rest ≡ bytes ∷ pieces feed next
     → RefusesWrite (at p) bytes e → IsFault input line e
 read_bad_write input rest next bytes line p e r split refused =
     let more = pieces-cons next in
@@ -145,7 +145,7 @@ read_bad_write input rest next bytes line p e r split refused =
       refused = subst (λ h. RefusesWrite h bytes e) same refused;
     }
 
-pub read_bad_request : (input rest : List ℕ) (line : ℕ) (p : PerType Holdings) (e : Refusal) → IsReadTo input rest line (at p) → pieces rest ≡ rest ∷ [] → RefusesRequest rest e → IsFault input line e
+pub read_bad_request : (input rest : List ℕ) (line : ℕ) (p : PerType Holdings) (e : Refusal) → IsReadTo input rest line (at p) → pieces feed rest ≡ rest ∷ [] → RefusesRequest rest e → IsFault input line e
 read_bad_request input rest line p e r last refused = record {
   before = r.before;
   at_fault = rest;

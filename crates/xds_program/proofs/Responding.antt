@@ -1,5 +1,5 @@
 -- The response to a request, from the type that it names and what is held of each type.
-use Rattle.std.proofs.Common.{◌≡◌, ℕ, Option, Some, None, refl, ap, sym, subst, ◌∙◌}
+use Rattle.std.proofs.Common.{◌≡◌, ℕ, Option, Some, None, refl, ap, sym, ◌∙◌}
 use Rattle.std.specs.Prelude.{IfOk, Result}
 use Rattle.std.specs.Option.{option_and_then, option_map}
 use Rattle.std.proofs.lemmas.Result.{IfOk-weaker}
@@ -7,7 +7,7 @@ use Rattle.xds_resource.specs.declared.types.TypeName.{TypeName}
 use Rattle.xds_resource.specs.Types.{type_of_url}
 use Rattle.xds_resource.specs.declared.refusal.Refusal.{Refusal}
 use Rattle.xds_resource.specs.PerType.{PerType, at}
-use Rattle.xds_catalogue.specs.Holdings.{Holdings, IsCatalogue}
+use Rattle.xds_catalogue.specs.Holdings.{Holdings}
 use Rattle.xds_draft.specs.Drafts.{Drafted, message_of}
 use Rattle.xds_message.specs.Messages.{Request}
 use Rattle.xds_program.specs.Answers.{response_to, response_by}
@@ -25,15 +25,9 @@ same_at replica f g m agree (Some t) = ap (λ h. response_to replica t h m) (agr
 pub response_by-same : (replica : ℕ) (f g : TypeName → Holdings) (m : Request) → ((t : TypeName) → f t ≡ g t) → response_by replica f m ≡ response_by replica g m
 response_by-same replica f g m agree = same_at replica f g m agree (type_of_url m.type_url)
 
--- ---- a replica's catalogues, seen as one and each by itself
-
--- in each of the catalogues each write stands under its own name
-pub named_at : (t : TypeName) (p q : PerType Holdings) → q ≡ p → ((s : TypeName) → IsCatalogue (at p s).entries) → IsCatalogue (at q t).entries
-named_at t p q same named = subst (λ (x : PerType Holdings). IsCatalogue (at x t).entries) (sym same) (named t)
-
--- the response of the catalogue of the type that a request names
-pub given_at : (t : TypeName) (p q : PerType Holdings) (replica : ℕ) (m : Request) (r : Result (Option Drafted) Refusal) → q ≡ p → type_of_url m.type_url ≡ Some t
-    → IfOk r (λ o. option_map message_of o ≡ response_to replica t (at q t) m) → IfOk r (λ o. option_map message_of o ≡ response_by replica (at p) m)
-given_at t p q replica m r same named =
-    IfOk-weaker r (λ o. option_map message_of o ≡ response_to replica t (at q t) m) (λ o. option_map message_of o ≡ response_by replica (at p) m)
-    (λ o given. given ∙ ap (λ (x : PerType Holdings). response_to replica t (at x t) m) same ∙ sym (response_by-typed replica (at p) m t named))
+-- the response of the type that a request names is the one to the request
+pub given_to : (replica : ℕ) (p : PerType Holdings) (m : Request) (t : TypeName) (r : Result (Option Drafted) Refusal) → type_of_url m.type_url ≡ Some t
+    → IfOk r (λ o. option_map message_of o ≡ response_to replica t (at p t) m) → IfOk r (λ o. option_map message_of o ≡ response_by replica (at p) m)
+given_to replica p m t r named =
+    IfOk-weaker r (λ o. option_map message_of o ≡ response_to replica t (at p t) m) (λ o. option_map message_of o ≡ response_by replica (at p) m)
+    (λ o given. given ∙ sym (response_by-typed replica (at p) m t named))

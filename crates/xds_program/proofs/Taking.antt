@@ -7,10 +7,10 @@ use Rattle.xds_resource.specs.declared.refusal.Refusal.{Refusal}
 use Rattle.xds_resource.specs.declared.refusal.Refusal.TheVariants.{OutOfMemory, CounterSpent}
 use Rattle.xds_resource.specs.Refusals.{Gives, unless_refused}
 use Rattle.xds_resource.specs.Stamps.{max_counter}
+use Rattle.xds_resource.specs.TypedWrites.{TypedWrite}
 use Rattle.xds_resource.proofs.Refusing.{memory_or_not}
 use Rattle.xds_catalogue.specs.Holdings.{Holdings}
 use Rattle.xds_catalogue.specs.Joins.{joined}
-use Rattle.xds_program.specs.Answers.{TypedWrite}
 use Rattle.xds_program.specs.Faults.{IsWriteLine, RefusesWrite}
 
 abbrev one_condition : {A : Type 0} → Bool → A → Result A Refusal

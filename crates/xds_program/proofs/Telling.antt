@@ -3,7 +3,7 @@ use Rattle.std.proofs.Common.{◌≡◌, ◌++◌, ap, sym, arith, codes, refl, 
 use Rattle.xds_resource.specs.declared.refusal.Refusal.{Refusal}
 use Rattle.xds_resource.specs.declared.refusal.Refusal.TheVariants.{Device as DeviceRefusal, OutOfMemory}
 use Rattle.clap.proofs.CountText.{decimal-count_text}
-use Rattle.xds_program.specs.Outcomes.{HasRun, IsCause, IsShown, IsUnable, RunsTask, fault_text, refusal_text}
+use Rattle.xds_program.specs.Outcomes.{HasRun, IsCause, IsShown, IsUnable, RunsTask, fault_line, refusal_line}
 use Rattle.xds_program.specs.declared.words.Task.{Task}
 use Rattle.xds_program.specs.Words.{Asks, Text}
 use Rattle.xds_program.specs.CommandLine.{faults}
@@ -19,15 +19,15 @@ tells d bytes (Ok x) whole part = inl whole
 tells d bytes (Err e) whole part = inr part.1
 
 -- the two refusals that are told without a line, in words
-pub device_text : codes "19 Device\n" ≡ refusal_text DeviceRefusal
+pub device_text : codes "19 Device\n" ≡ refusal_line DeviceRefusal
 device_text = ap (λ (number : List ℕ). number ++ codes " " ++ codes "Device" ++ codes "\n") (sym (decimal-count_text 19 (omega arith)))
 
-pub memory_text : codes "8 OutOfMemory\n" ≡ refusal_text OutOfMemory
+pub memory_text : codes "8 OutOfMemory\n" ≡ refusal_line OutOfMemory
 memory_text = ap (λ (number : List ℕ). number ++ codes " " ++ codes "OutOfMemory" ++ codes "\n") (sym (decimal-count_text 8 (omega arith)))
 
 -- a run that can't go on before anything is written
 pub unable : (May : List ℕ → Type 0) (input output errors : Device) (refusal : Refusal) (status : ℕ) → IsCause refusal input output → Stays output
-    → Tells errors (refusal_text refusal) → status ≡ 1 → IsUnable May status (record { input = input; output = output; errors = errors })
+    → Tells errors (refusal_line refusal) → status ≡ 1 → IsUnable May status (record { input = input; output = output; errors = errors })
 unable May input output errors refusal status cause stays told is = record {
   refusal = refusal;
   is_cause = cause;
@@ -37,13 +37,13 @@ unable May input output errors refusal status cause stays told is = record {
 }
 
 -- for want of memory
-pub no_memory : (May : List ℕ → Type 0) (input output errors : Device) (status : ℕ) → Stays output → Tells errors (refusal_text OutOfMemory) → status ≡ 1
+pub no_memory : (May : List ℕ → Type 0) (input output errors : Device) (status : ℕ) → Stays output → Tells errors (refusal_line OutOfMemory) → status ≡ 1
     → IsUnable May status (record { input = input; output = output; errors = errors })
 no_memory May input output errors status stays told is = unable May input output errors OutOfMemory status (inl refl) stays told is
 
 -- a run whose output failed in the midst of a text
 pub part_written : (May : List ℕ → Type 0) (input output errors : Device) (text : List ℕ) (refusal : Refusal) (status : ℕ) → May text
-    → (refusal ≡ DeviceRefusal) × WrotePart output text → Tells errors (refusal_text refusal) → status ≡ 1
+    → (refusal ≡ DeviceRefusal) × WrotePart output text → Tells errors (refusal_line refusal) → status ≡ 1
     → IsUnable May status (record { input = input; output = output; errors = errors })
 part_written May input output errors text refusal status may failed told is = record {
   refusal = refusal;
@@ -62,12 +62,12 @@ of_input P (Some all) bytes same h = subst P same h
 module _ (Is : List ℕ → List ℕ → Type 0) (Refuses : List ℕ → ℕ → Refusal → Type 0) (input output errors : Device) where
   -- for want of its input
   pub not_read : (refusal : Refusal) (status : ℕ) → (refusal ≡ OutOfMemory) ⊎ ((refusal ≡ DeviceRefusal) × HasFailed input) → Stays output
-      → Tells errors (refusal_text refusal) → status ≡ 1 → RunsTask Is Refuses status (record { input = input; output = output; errors = errors })
+      → Tells errors (refusal_line refusal) → status ≡ 1 → RunsTask Is Refuses status (record { input = input; output = output; errors = errors })
   not_read refusal status (inl memory) stays told is = inr (unable _ input output errors refusal status (inl memory) stays told is)
   not_read refusal status (inr failed) stays told is = inr (unable _ input output errors refusal status (inr (failed.0, inl failed.1)) stays told is)
 
   -- for want of memory, once the input was read
-  pub no_room : (status : ℕ) → Stays output → Tells errors (refusal_text OutOfMemory) → status ≡ 1 → RunsTask Is Refuses status (record { input = input; output = output; errors = errors })
+  pub no_room : (status : ℕ) → Stays output → Tells errors (refusal_line OutOfMemory) → status ≡ 1 → RunsTask Is Refuses status (record { input = input; output = output; errors = errors })
   no_room status stays told is = inr (no_memory _ input output errors status stays told is)
 
   -- what the bytes that were read call for, written whole
@@ -86,7 +86,7 @@ module _ (Is : List ℕ → List ℕ → Type 0) (Refuses : List ℕ → ℕ →
 
   -- what the bytes that were read call for, written in part
   pub text_begun : (bytes given text written : List ℕ) (refusal : Refusal) (status : ℕ) → IfSome input.before (λ all. bytes ≡ all)
-      → given ≡ bytes → Is given text → written ≡ text → (refusal ≡ DeviceRefusal) × WrotePart output written → Tells errors (refusal_text refusal) → status ≡ 1
+      → given ≡ bytes → Is given text → written ≡ text → (refusal ≡ DeviceRefusal) × WrotePart output written → Tells errors (refusal_line refusal) → status ≡ 1
       → RunsTask Is Refuses status (record { input = input; output = output; errors = errors })
   text_begun bytes given text written refusal status same lent is all failed told one =
       let of_bytes = of_input (λ b. Is b text) input.before bytes same (subst (λ (b : List ℕ). Is b text) lent is) in
@@ -95,7 +95,7 @@ module _ (Is : List ℕ → List ℕ → Type 0) (Refuses : List ℕ → ℕ →
 
   -- the first line that is refused, told, or no memory to tell it
   pub fault_told : (bytes given : List ℕ) (line : ℕ) (refusal : Refusal) (status : ℕ)
-      → IfSome input.before (λ all. bytes ≡ all) → given ≡ bytes → Refuses given line refusal → Tells errors (fault_text line refusal) ⊎ Tells errors (refusal_text OutOfMemory) → Stays output → status ≡ 1
+      → IfSome input.before (λ all. bytes ≡ all) → given ≡ bytes → Refuses given line refusal → Tells errors (fault_line line refusal) ⊎ Tells errors (refusal_line OutOfMemory) → Stays output → status ≡ 1
       → RunsTask Is Refuses status (record { input = input; output = output; errors = errors })
   fault_told bytes given line refusal status same lent is (inl told) stays one =
       let of_bytes = subst (λ (b : List ℕ). Refuses b line refusal) lent is in

@@ -1,12 +1,13 @@
 -- The answer to the first request of a fresh stream, over the catalogues of the writes that came before it: Envoy's
 -- state-of-the-world response. The version and the nonce are this project's own.
-use Rattle.std.specs.Prelude.{ℕ, List, [], ◌∷◌, ◌++◌, map, Bool, not, ◌||◌, ◌==◌, if◌then◌else◌, length, Option, Some, None, codes}
-use Rattle.std.specs.List.{filter, filter_map}
+use Rattle.std.specs.Prelude.{ℕ, List, [], ◌∷◌, ◌++◌, Bool, not, ◌||◌, ◌==◌, if◌then◌else◌, length, Option, Some, None, codes}
+use Rattle.std.specs.List.{filter_map}
 use Rattle.std.specs.Option.{option_map, option_and_then}
 use Rattle.serde_json.specs.Data.{Data}
 use Rattle.serde_json.specs.Written.{compact_text}
 use Rattle.xds_resource.specs.declared.types.TypeName.{TypeName}
-use Rattle.xds_resource.specs.Types.{row, type_of_url, is_same_type}
+use Rattle.xds_resource.specs.Types.{row, type_of_url}
+use Rattle.xds_resource.specs.TypedWrites.{TypedWrite, writes_of}
 use Rattle.xds_resource.specs.Writes.{StampedWrite}
 use Rattle.xds_resource.specs.Resources.{value_of}
 use Rattle.xds_interest.specs.Interests.{Selection}
@@ -17,14 +18,6 @@ use Rattle.xds_catalogue.specs.Content.{content}
 use Rattle.xds_message.specs.Messages.{Request, Response}
 use Rattle.xds_message.specs.Written.{response_object}
 use Rattle.xds_sotw.specs.Polls.{version_info}
-
--- a write and its type
-abbrev pub TypedWrite : Type 0
-TypedWrite = TypeName × StampedWrite
-
--- the writes of the type, in order
-abbrev pub writes_of : TypeName → List TypedWrite → List StampedWrite
-writes_of t xs = map (λ x. x.1) (filter (λ x. is_same_type x.0 t) xs)
 
 -- what is held of the type once these writes came, where nothing was held before
 abbrev pub held_of : List TypedWrite → TypeName → Holdings

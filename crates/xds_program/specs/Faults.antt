@@ -7,13 +7,14 @@ use Rattle.xds_resource.specs.declared.refusal.Refusal.{Refusal}
 use Rattle.xds_resource.specs.declared.refusal.Refusal.TheVariants.{NotJson, BadMessage, OutOfMemory, CounterSpent}
 use Rattle.xds_resource.specs.Stamps.{max_counter}
 use Rattle.xds_resource.specs.Writes.{StampedWrite}
+use Rattle.xds_resource.specs.TypedWrites.{TypedWrite}
 use Rattle.xds_message.specs.Spelling.{IsJson}
 use Rattle.xds_message.specs.Messages.{Request, SpellsRequest}
 use Rattle.xds_writes.specs.StampedWrites.{SpellsWrite}
 use Rattle.xds_catalogue.specs.Holdings.{Holdings}
 use Rattle.xds_catalogue.specs.Joins.{joined}
-use Rattle.xds_program.specs.Lines.{lines}
-use Rattle.xds_program.specs.Answers.{TypedWrite, held_of, answer}
+use Rattle.xds_script.specs.Lines.{lines}
+use Rattle.xds_program.specs.Answers.{held_of, answer}
 
 -- the line is JSON that spells the write
 abbrev pub IsWriteLine : List ℕ → TypedWrite → Type 0

@@ -16,12 +16,12 @@ use Rattle.xds_program.specs.Words.{Asks, Text}
 use Rattle.xds_program.specs.CommandLine.{faults}
 
 -- how a refusal is told
-abbrev pub refusal_text : Refusal → List ℕ
-refusal_text refusal = decimal (number_of refusal) ++ codes " " ++ name_of refusal ++ codes "\n"
+abbrev pub refusal_line : Refusal → List ℕ
+refusal_line refusal = decimal (number_of refusal) ++ codes " " ++ name_of refusal ++ codes "\n"
 
 -- how a refused line is told
-abbrev pub fault_text : ℕ → Refusal → List ℕ
-fault_text line refusal = codes "line " ++ decimal line ++ codes ": " ++ refusal_text refusal
+abbrev pub fault_line : ℕ → Refusal → List ℕ
+fault_line line refusal = codes "line " ++ decimal line ++ codes ": " ++ refusal_line refusal
 
 -- the reader, the output and the error output of a run
 pub record Streams : Type 0 where
@@ -30,22 +30,22 @@ pub record Streams : Type 0 where
   pub errors : Device
 
 -- a text that is called for is written, and no more
-pub record IsWritten (Is : List ℕ → Type 0) (output : Device) : Type 0 where
+pub record IsPrinted (Is : List ℕ → Type 0) (output : Device) : Type 0 where
   pub text : List ℕ
   pub is : Is text
   pub written : Wrote output text
 
 -- the line that is refused is told
-pub record IsRefused (Refuses : ℕ → Refusal → Type 0) (errors : Device) : Type 0 where
+pub record TellsFault (Refuses : ℕ → Refusal → Type 0) (errors : Device) : Type 0 where
   pub line : ℕ
   pub refusal : Refusal
   pub refuses : Refuses line refusal
-  pub told : Tells errors (fault_text line refusal)
+  pub told : Tells errors (fault_line line refusal)
 
 -- Status 0 comes with the text that the input calls for, and status 1 with the line that is refused and no output.
 abbrev pub HasOutcome : (List ℕ → List ℕ → Type 0) → (List ℕ → ℕ → Refusal → Type 0) → ℕ → Streams → Type 0
 HasOutcome Is Refuses status s = IfSome s.input.before (λ input.
-    ((status ≡ 0) × IsWritten (Is input) s.output × Stays s.errors) ⊎ ((status ≡ 1) × IsRefused (Refuses input) s.errors × Stays s.output))
+    ((status ≡ 0) × IsPrinted (Is input) s.output × Stays s.errors) ⊎ ((status ≡ 1) × TellsFault (Refuses input) s.errors × Stays s.output))
 
 -- There was no memory, or a device failed: the refusal says which.
 abbrev pub IsCause : Refusal → Device → Device → Type 0
@@ -56,7 +56,7 @@ pub record IsUnable (MayBegin : List ℕ → Type 0) (status : ℕ) (s : Streams
   pub refusal : Refusal
   pub is_cause : IsCause refusal s.input s.output
   pub output : Stays s.output ⊎ ((text : List ℕ) × MayBegin text × WrotePart s.output text)
-  pub told : Tells s.errors (refusal_text refusal)
+  pub told : Tells s.errors (refusal_line refusal)
   pub status_is : status ≡ 1
 
 -- a task has its outcome, or can't go on, at the latest in the midst of its text

@@ -6,18 +6,19 @@ ghost use Rattle.xds_catalogue.specs.Holdings.{IsCatalogue};
 ghost use Rattle.xds_catalogue.specs.Joins.{joined};
 ghost use Rattle.xds_message.specs.Messages.{Request};
 ghost use Rattle.xds_draft.specs.Drafts.{message_of};
-ghost use Rattle.xds_program.specs.Answers.{TypedWrite, response_to, response_by, answer_text};
+ghost use Rattle.xds_resource.specs.TypedWrites.{TypedWrite};
+ghost use Rattle.xds_program.specs.Answers.{response_to, response_by, answer_text};
 ghost use Rattle.xds_program.specs.Faults.{IsWriteLine, IsRequestLine, RefusesWrite, RefusesRequest, IsAnswer, IsFault};
 
-use crate::catalogues::Catalogues;
-use crate::lines::{split_line, without_last_feed};
 use std::alloc::Global;
 use xds_catalogue::Catalogue;
 use xds_draft::SotwDraft;
 use xds_ledger::Nonces;
 use xds_message::DiscoveryRequest;
-use xds_resource::{AnyWrite, Refusal, ResourceType, TypeName, Write};
+use xds_resource::{Refusal, ResourceType, TypeName};
+use xds_script::lines::{split_line, without_last_feed};
 use xds_sotw::Session;
+use xds_store::Catalogues;
 use xds_writes::read_write;
 
 /// Which line of an input is refused, and why.
@@ -108,14 +109,31 @@ fn respond_among(
         ≡ response_by replica (at catalogues.now) request.now) }
     ensures refused { IfErr result (λ e. e ≡ Refusal.OutOfMemory) }
 {
-    let Some(type_name) = TypeName::from_url(request.type_url.as_str()) else {
-        return Ok(None);
-    };
-    match type_name {
+    match TypeName::from_url(request.type_url.as_str()) {
+        Some(kind) => respond_of(alloc, replica, catalogues, kind, request),
+        None => Ok(None),
+    }
+}
+
+// The response to a request of this type.
+fn respond_of(
+    alloc: Global,
+    replica: u16,
+    catalogues: &Catalogues,
+    kind: TypeName,
+    request: &DiscoveryRequest,
+) -> Result<Option<SotwDraft>, Refusal>
+    requires { IsCatalogue (at catalogues.now kind).entries }
+    ensures given { IfOk result (λ o. option_map message_of o
+        ≡ response_to replica kind (at catalogues.now kind) request.now) }
+    ensures refused { IfErr result (λ e. e ≡ Refusal.OutOfMemory) }
+{
+    match kind {
         TypeName::Cluster => respond(alloc, replica, &catalogues.cluster, request),
         TypeName::Endpoint => respond(alloc, replica, &catalogues.endpoint, request),
         TypeName::Listener => respond(alloc, replica, &catalogues.listener, request),
         TypeName::Route => respond(alloc, replica, &catalogues.route, request),
+        TypeName::Secret => respond(alloc, replica, &catalogues.secret, request),
     }
 }
 

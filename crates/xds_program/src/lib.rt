@@ -2,10 +2,8 @@
 #![tactic(auto)]
 
 pub mod answer;
-mod catalogues;
 pub mod counted;
 pub mod laws;
-mod lines;
 pub mod run;
 pub mod words;
 

@@ -2,7 +2,7 @@
 ghost use Rattle.std.specs.Prelude.{◌≡◌, ◌≢◌, ◌⊎◌, map, string_bytes};
 ghost use Rattle.clap.specs.Words.{kind_of};
 ghost use Rattle.xds_program.specs.Devices.{Device, Tells, seen};
-ghost use Rattle.xds_program.specs.Outcomes.{HasRun, IsShown, IsUnable, RunsAnswer, RunsPlay, fault_text, refusal_text};
+ghost use Rattle.xds_program.specs.Outcomes.{HasRun, IsShown, IsUnable, RunsAnswer, RunsPlay, fault_line, refusal_line};
 
 use crate::answer::{LineFault, answer_lines};
 use crate::counted::{Counted, read_whole, write_whole};
@@ -105,7 +105,7 @@ pub fn play<I: Read, O: Write, E: Write>(
 /// Tells that there was no memory, or that a reader or a writer failed, and answers the status.
 pub fn tell<E: Write>(refusal: Refusal, errors: &mut Counted<E>) -> u8
     requires { (refusal ≡ Refusal.OutOfMemory) ⊎ (refusal ≡ Refusal.Device) }
-    ensures told { Tells (seen E.contents errors.old errors.new) (refusal_text refusal) }
+    ensures told { Tells (seen E.contents errors.old errors.new) (refusal_line refusal) }
     ensures status { result ≡ 1 }
 {
     let _ = write_whole(errors, refusal_line(refusal).as_bytes());
@@ -115,7 +115,7 @@ pub fn tell<E: Write>(refusal: Refusal, errors: &mut Counted<E>) -> u8
 // The refusal in words, without a need for memory.
 fn refusal_line(refusal: Refusal) -> &'static str
     requires { (refusal ≡ Refusal.OutOfMemory) ⊎ (refusal ≡ Refusal.Device) }
-    ensures { result.now ≡ refusal_text refusal }
+    ensures { result.now ≡ refusal_line refusal }
 {
     match refusal {
         Refusal::Device => "19 Device\n",
@@ -125,8 +125,8 @@ fn refusal_line(refusal: Refusal) -> &'static str
 
 // Tells which line is refused, or that there was no memory to say so.
 fn tell_fault<E: Write>(alloc: Global, fault: LineFault, errors: &mut Counted<E>) -> u8
-    ensures told { Tells (seen E.contents errors.old errors.new) (fault_text fault.line fault.refusal)
-        ⊎ Tells (seen E.contents errors.old errors.new) (refusal_text Refusal.OutOfMemory) }
+    ensures told { Tells (seen E.contents errors.old errors.new) (fault_line fault.line fault.refusal)
+        ⊎ Tells (seen E.contents errors.old errors.new) (refusal_line Refusal.OutOfMemory) }
     ensures status { result ≡ 1 }
 {
     let line = fault.line;

@@ -5,6 +5,7 @@ use Rattle.std.specs.Result.{result_ok}
 use Rattle.std.specs.List.{filter_map, list_all}
 use Rattle.xds_resource.specs.declared.types.TypeName.{TypeName}
 use Rattle.xds_resource.specs.Types.{type_of_word}
+use Rattle.xds_resource.specs.Groups.{groups_of}
 use Rattle.xds_resource.specs.Resources.{NamedBody, named_type, parsed, value_of}
 use Rattle.xds_model.specs.declared.event.ClientKind.{ClientKind}
 use Rattle.xds_model.specs.declared.event.ClientKind.TheVariants.{Sotw, Delta}
@@ -14,7 +15,8 @@ use Rattle.xds_model.specs.Seen.{happening_of}
 use Rattle.xds_script.specs.declared.command.Command.{Command}
 use Rattle.xds_script.specs.declared.command.Command.TheVariants as commands
 use Rattle.xds_script.specs.declared.command.Verb.{Verb}
-use Rattle.xds_script.specs.declared.command.Verb.TheVariants.{Replica, Client, Put, Delete, Snapshot, Merge, Connect, Names, Change, Up, Down, Lose, Poll, Settle, View, Content}
+use Rattle.xds_script.specs.declared.command.Verb.TheVariants.{Replica, Client, Put, PutIn, Delete, Snapshot, Merge, Connect, Names, Change, Up, Down, Lose, Poll, Settle, View, Content}
+use Rattle.xds_script.specs.Lines.{pieces}
 use Rattle.xds_script.specs.Words.{Text, is_empty, text_of, split_first, only, two, replica_number, whole_number}
 
 -- ---- verbs
@@ -24,6 +26,7 @@ abbrev pub word_of : Verb → Text
 word_of Replica = codes "replica"
 word_of Client = codes "client"
 word_of Put = codes "put"
+word_of PutIn = codes "putin"
 word_of Delete = codes "delete"
 word_of Snapshot = codes "snapshot"
 word_of Merge = codes "merge"
@@ -40,7 +43,7 @@ word_of Content = codes "content"
 
 abbrev pub verbs : List Verb
 verbs =
-    Replica ∷ Client ∷ Put ∷ Delete ∷ Snapshot ∷ Merge ∷ Connect ∷ Names ∷ Change ∷ Up ∷ Down ∷ Lose ∷ Poll ∷ Settle ∷ View ∷ Content ∷ []
+    Replica ∷ Client ∷ Put ∷ PutIn ∷ Delete ∷ Snapshot ∷ Merge ∷ Connect ∷ Names ∷ Change ∷ Up ∷ Down ∷ Lose ∷ Poll ∷ Settle ∷ View ∷ Content ∷ []
 
 -- the verb that is this word
 abbrev pub verb_of : Text → Option Verb
@@ -69,10 +72,19 @@ kind_of_word w = if bytes_eq w (codes "sotw") then Some Sotw else if bytes_eq w 
 abbrev pub client_and_type : List Text → Option (ℕ × TypeName)
 client_and_type ws = read_two whole_number type_of_word ws
 
--- a name is any word that isn't empty
+-- a name is any word that isn't empty, and so is a cluster
 abbrev pub name_in : Text → Option Text
 name_in [] = None
 name_in (b ∷ bs) = Some (b ∷ bs)
+
+-- a client's cluster, if a word stands there
+abbrev pub cluster_if_any : List Text → Option Text
+cluster_if_any [] = Some []
+cluster_if_any (w ∷ []) = name_in w
+cluster_if_any (w ∷ x ∷ ws) = None
+
+abbrev pub kind_and_cluster : List Text → Option (ClientKind × Text)
+kind_and_cluster ws = read_first kind_of_word cluster_if_any ws
 
 abbrev pub is_name : Text → Bool
 is_name w = is_some (name_in w)
@@ -114,6 +126,18 @@ resource_in text = option_and_then (λ t. option_map (λ r. (t, r)) (result_ok (
 abbrev pub resource_behind : List Text → Option (TypeName × NamedBody)
 resource_behind ws = option_and_then resource_in (text_of ws)
 
+-- a comma
+abbrev pub comma : ℕ
+comma = 44
+
+-- the groups that a word lists, with a comma between each two of them
+abbrev pub groups_in : Text → Option (List Text)
+groups_in word = result_ok (groups_of (pieces comma word))
+
+-- groups, and a resource that is for them
+abbrev pub groups_and_resource : List Text → Option (List Text × (TypeName × NamedBody))
+groups_and_resource ws = read_first groups_in resource_behind ws
+
 -- ---- commands
 
 -- what a line of a script says: something happens, a client settles, or what a client shows or a replica holds live is printed
@@ -132,8 +156,9 @@ said_of (commands.Content replica kind) = Lists replica kind
 -- what a verb says with the words behind it
 abbrev pub says : Verb → List Text → Option Said
 says Replica ws = option_map (λ r. Happens (happenings.AddReplica r)) (only_replica ws)
-says Client ws = option_map (λ p. Happens (happenings.AddClient p.0 p.1)) (read_two whole_number kind_of_word ws)
-says Put ws = option_map (λ p. Happens (happenings.Put p.0 p.1.0 p.1.1)) (read_first replica_number resource_behind ws)
+says Client ws = option_map (λ p. Happens (happenings.AddClient p.0 p.1.0 p.1.1)) (read_first whole_number kind_and_cluster ws)
+says Put ws = option_map (λ p. Happens (happenings.Put p.0 p.1.0 p.1.1 [])) (read_first replica_number resource_behind ws)
+says PutIn ws = option_map (λ p. Happens (happenings.Put p.0 p.1.1.0 p.1.1.1 p.1.0)) (read_first replica_number groups_and_resource ws)
 says Delete ws = option_map (λ p. Happens (happenings.Delete p.0 p.1.0 p.1.1)) (read_first replica_number (read_two type_of_word name_in) ws)
 says Snapshot ws = option_map (λ r. Happens (happenings.Snapshot r)) (only_replica ws)
 says Merge ws = option_map (λ p. Happens (happenings.Merge p.0 p.1)) (read_two replica_number whole_number ws)

@@ -6,21 +6,21 @@ use Rattle.std.specs.Str.{is_utf8}
 use Rattle.xds_resource.specs.declared.refusal.Refusal.{Refusal}
 use Rattle.xds_resource.specs.declared.refusal.Refusal.TheVariants.{OutOfMemory, BadScript}
 use Rattle.xds_script.specs.Lines.{lines}
-use Rattle.xds_script.specs.Words.{Text, words}
+use Rattle.xds_script.specs.Words.{words}
 use Rattle.xds_script.specs.Commands.{Said, says_words}
 
--- empty lines are skipped, and those that begin with `#`
-abbrev pub is_skipped : Text → Bool
+-- empty lines are skipped, and those that begin with `#`, whatever follows it
+abbrev pub is_skipped : List ℕ → Bool
 is_skipped [] = true
 is_skipped (b ∷ bs) = b == 35
 
--- what a text says, if anything; none where that is no command
-abbrev pub text_says : Text → Option (Option Said)
-text_says text = if is_skipped text then Some None else option_map Some (says_words (words text))
+-- what a line says that isn't skipped, which has to be UTF-8; none where that is no command
+abbrev pub text_says : List ℕ → Option Said
+text_says line = if is_utf8 line then says_words (words line) else None
 
--- what a line says, which has to be UTF-8
+-- what a line says, if anything; none where it is bad
 abbrev pub line_says : List ℕ → Option (Option Said)
-line_says line = if is_utf8 line then text_says line else None
+line_says line = if is_skipped line then Some None else option_map Some (text_says line)
 
 abbrev pub is_bad : List ℕ → Bool
 is_bad line = is_none (line_says line)

@@ -4,12 +4,12 @@ ghost use Rattle.std.specs.Option.{option_map};
 ghost use Rattle.xds_resource.specs.Types.{type_of_word};
 ghost use Rattle.xds_script.specs.declared.command.Verb.TheVariants as verbs;
 ghost use Rattle.xds_script.specs.Words.{replica_number, whole_number};
-ghost use Rattle.xds_script.specs.Commands.{read_two, read_first, only_replica, only_client, kind_of_word, client_and_type, type_if_any, said_of, says};
+ghost use Rattle.xds_script.specs.Commands.{read_two, read_first, only_replica, only_client, client_and_type, type_if_any, said_of, says};
 
 use crate::command::Command;
 use crate::numbers::{replica_number, whole_number};
 use crate::words::Words;
-use xds_model::{ClientKind, WorldEvent};
+use xds_model::WorldEvent;
 use xds_resource::TypeName;
 
 // A replica alone.
@@ -34,16 +34,6 @@ fn client_and_type(words: Words) -> Option<(u32, TypeName)>
     Some((client, TypeName::from_word(kind)?))
 }
 
-fn kind_of_word(word: &str) -> Option<ClientKind>
-    ensures { result ≡ kind_of_word word.now }
-{
-    match word {
-        "sotw" => Some(ClientKind::Sotw),
-        "delta" => Some(ClientKind::Delta),
-        _ => None,
-    }
-}
-
 // A type, if a word stands there.
 fn type_if_any(words: Words) -> Option<Option<TypeName>>
     ensures { result ≡ type_if_any words.entry }
@@ -62,15 +52,6 @@ pub(crate) fn add_replica(words: Words) -> Option<Command>
 {
     let replica = only_replica(words)?;
     Some(Command::Event(WorldEvent::AddReplica(replica)))
-}
-
-pub(crate) fn add_client(words: Words) -> Option<Command>
-    ensures { option_map said_of result ≡ says verbs.Client words.entry }
-{
-    let (client, kind) = words.two()?;
-    let client = whole_number(client)?;
-    let kind = kind_of_word(kind)?;
-    Some(Command::Event(WorldEvent::AddClient(client, kind)))
 }
 
 pub(crate) fn snapshot(words: Words) -> Option<Command>

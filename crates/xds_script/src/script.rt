@@ -61,25 +61,26 @@ fn take_line(alloc: Global, commands: &mut Vec<Command>, line: &[u8]) -> Result<
 fn read_line(alloc: Global, line: &[u8]) -> Result<Option<Command>, Refusal>
     ensures { Gives (option_map said_of) result (ok_or (line_says line.now) BadScript) }
 {
+    if is_skipped(line) {
+        return Ok(None);
+    }
+    Ok(Some(read_text(alloc, line)?))
+}
+
+// What a line says that isn't skipped.
+fn read_text(alloc: Global, line: &[u8]) -> Result<Command, Refusal>
+    ensures { Gives said_of result (ok_or (text_says line.now) BadScript) }
+{
     match str::from_utf8(line) {
-        Ok(text) => read_text(alloc, text),
+        Ok(text) => read_words(alloc, Words::of(text)),
         Err(_) => Err(Refusal::BadScript),
     }
 }
 
-fn read_text(alloc: Global, text: &str) -> Result<Option<Command>, Refusal>
-    ensures { Gives (option_map said_of) result (ok_or (text_says text.now) BadScript) }
+fn is_skipped(line: &[u8]) -> bool
+    ensures { result ≡ is_skipped line.now }
 {
-    if is_skipped(text.as_bytes()) {
-        return Ok(None);
-    }
-    Ok(Some(read_words(alloc, Words::of(text))?))
-}
-
-fn is_skipped(text: &[u8]) -> bool
-    ensures { result ≡ is_skipped text.now }
-{
-    match text {
+    match line {
         [] => true,
         [first, ..] => *first == b'#',
     }
@@ -100,8 +101,9 @@ fn read_command(alloc: Global, verb: Verb, words: Words) -> Result<Command, Refu
 {
     match verb {
         Verb::Replica => plain::add_replica(words).ok_or(Refusal::BadScript),
-        Verb::Client => plain::add_client(words).ok_or(Refusal::BadScript),
+        Verb::Client => texts::add_client(alloc, words),
         Verb::Put => texts::put(alloc, words),
+        Verb::PutIn => texts::put_in(alloc, words),
         Verb::Delete => texts::delete(alloc, words),
         Verb::Snapshot => plain::snapshot(words).ok_or(Refusal::BadScript),
         Verb::Merge => plain::merge(words).ok_or(Refusal::BadScript),

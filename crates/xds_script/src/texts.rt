@@ -1,19 +1,20 @@
 // Commands that hold texts.
-ghost use Rattle.std.specs.Prelude.{◌≡◌, ◌≢◌, ◌<◌, ◌++◌, Option, OnOk, IfErr, map, string_bytes, true, false};
+ghost use Rattle.std.specs.Prelude.{◌≡◌, ◌≢◌, ◌<◌, ◌++◌, Option, OnOk, IfOk, IfErr, map, string_bytes, true, false};
 ghost use Rattle.std.specs.Option.{option_map, ok_or, option_to_list};
 ghost use Rattle.xds_resource.specs.declared.refusal.Refusal.TheVariants.{BadScript, OutOfMemory};
 ghost use Rattle.xds_resource.specs.Refusals.{Gives};
 ghost use Rattle.xds_resource.specs.Any.{resource_type, named_body};
 ghost use Rattle.xds_model.specs.Seen.{wish_of};
 ghost use Rattle.xds_script.specs.declared.command.Verb.TheVariants as verbs;
-ghost use Rattle.xds_script.specs.Commands.{resource_behind, name_in, name_behind, names_in, edits_in, is_edit, subscribed_in, unsubscribed_in, said_of, says};
+ghost use Rattle.xds_script.specs.Lines.{pieces};
+ghost use Rattle.xds_script.specs.Commands.{cluster_if_any, comma, groups_in, groups_and_resource, kind_of_word, kind_and_cluster, resource_behind, name_in, name_behind, names_in, edits_in, is_edit, subscribed_in, unsubscribed_in, said_of, says};
 
 use crate::command::Command;
 use crate::numbers::{replica_number, whole_number};
 use crate::words::Words;
 use std::alloc::Global;
-use xds_model::{Wish, WorldEvent};
-use xds_resource::{AnyResource, Refusal, TypeName};
+use xds_model::{ClientKind, Wish, WorldEvent};
+use xds_resource::{AnyResource, Groups, Refusal, TypeName};
 
 // The name that the word is.
 fn name_in(alloc: Global, word: &str) -> Result<String, Refusal>
@@ -43,7 +44,77 @@ pub(crate) fn put(alloc: Global, words: Words) -> Result<Command, Refusal>
     let (replica, rest) = words.split_first().ok_or(Refusal::BadScript)?;
     let replica = replica_number(replica).ok_or(Refusal::BadScript)?;
     let resource = resource_behind(alloc, rest)?;
-    Ok(Command::Event(WorldEvent::Put(replica, resource)))
+    let groups = Groups::none();
+    Ok(Command::Event(WorldEvent::Put(replica, resource, groups)))
+}
+
+// The groups that the word lists.
+fn groups_in(alloc: Global, word: &str) -> Result<Groups, Refusal>
+    ensures { Gives (λ g. g) result (ok_or (groups_in word.now) BadScript) }
+{
+    let texts = pieces_of(alloc, word)?;
+    match Groups::new(alloc, texts.as_slice()) {
+        Ok(groups) => Ok(groups),
+        Err(Refusal::OutOfMemory) => Err(Refusal::OutOfMemory),
+        Err(_) => Err(Refusal::BadScript),
+    }
+}
+
+// What stands between the commas of the word.
+fn pieces_of(alloc: Global, word: &str) -> Result<Vec<String>, Refusal>
+    ensures pieces { IfOk result (λ v. map string_bytes v.items ≡ pieces comma word.now) }
+    ensures refused { IfErr result (λ e. e ≡ OutOfMemory) }
+{
+    let mut texts = Vec::new(alloc);
+    let mut rest = word;
+    while let Some((text, following)) = rest.split_once(',') {
+        texts.push(String::from_str(alloc, text)?)?;
+        rest = following;
+    }
+    texts.push(String::from_str(alloc, rest)?)?;
+    Ok(texts)
+}
+
+pub(crate) fn put_in(alloc: Global, words: Words) -> Result<Command, Refusal>
+    ensures { Gives said_of result (ok_or (says verbs.PutIn words.entry) BadScript) }
+{
+    let (replica, rest) = words.split_first().ok_or(Refusal::BadScript)?;
+    let replica = replica_number(replica).ok_or(Refusal::BadScript)?;
+    let (groups, rest) = rest.split_first().ok_or(Refusal::BadScript)?;
+    let groups = groups_in(alloc, groups)?;
+    let resource = resource_behind(alloc, rest)?;
+    Ok(Command::Event(WorldEvent::Put(replica, resource, groups)))
+}
+
+fn kind_of_word(word: &str) -> Option<ClientKind>
+    ensures { result ≡ kind_of_word word.now }
+{
+    match word {
+        "sotw" => Some(ClientKind::Sotw),
+        "delta" => Some(ClientKind::Delta),
+        _ => None,
+    }
+}
+
+// A client's cluster, if a word stands there.
+fn cluster_if_any(alloc: Global, words: Words) -> Result<String, Refusal>
+    ensures { Gives string_bytes result (ok_or (cluster_if_any words.entry) BadScript) }
+{
+    if words.is_empty() {
+        return Ok(String::new(alloc));
+    }
+    name_in(alloc, words.only().ok_or(Refusal::BadScript)?)
+}
+
+pub(crate) fn add_client(alloc: Global, words: Words) -> Result<Command, Refusal>
+    ensures { Gives said_of result (ok_or (says verbs.Client words.entry) BadScript) }
+{
+    let (client, rest) = words.split_first().ok_or(Refusal::BadScript)?;
+    let client = whole_number(client).ok_or(Refusal::BadScript)?;
+    let (kind, rest) = rest.split_first().ok_or(Refusal::BadScript)?;
+    let kind = kind_of_word(kind).ok_or(Refusal::BadScript)?;
+    let cluster = cluster_if_any(alloc, rest)?;
+    Ok(Command::Event(WorldEvent::AddClient(client, kind, cluster)))
 }
 
 pub(crate) fn delete(alloc: Global, words: Words) -> Result<Command, Refusal>

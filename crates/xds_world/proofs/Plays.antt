@@ -8,7 +8,7 @@ use Rattle.xds_model.specs.Worlds.{World, happens, after, world, empty_world}
 use Rattle.xds_model.specs.Claims.{PutsAResource}
 use Rattle.xds_model.proofs.Headline.{put_more}
 use Rattle.xds_peer.specs.Calls.{Happened}
-use Rattle.xds_world.specs.Played.{IsPlayed}
+use Rattle.xds_world.specs.Played.{IsWorldOf}
 
 after_more : (test : Test) (w : World) (hs : List Happening) (h : Happening) → after test w (hs ++ h ∷ []) ≡ option_map_or (λ x. x) (happens test (after test w hs) h) (after test w hs)
 after_more test w [] h = refl
@@ -29,9 +29,9 @@ and_one test w left hs h b is happened =
     left_is w left b (happens test w h) happened ∙ ap (λ w. option_map_or (λ x. x) (happens test w h) w) is ∙ sym (after_more test empty_world hs h)
 
 -- and what is put is still a resource
-pub played_one : (test : Test) (w left : World) (hs more : List Happening) (h : Happening) (b : Bool) → IsPlayed test w hs → PutsAResource h → Happened w b left (happens test w h) → more ≡ hs ++ h ∷ [] → IsPlayed test left more
+pub played_one : (test : Test) (w left : World) (hs more : List Happening) (h : Happening) (b : Bool) → IsWorldOf test w hs → PutsAResource h → Happened w b left (happens test w h) → more ≡ hs ++ h ∷ [] → IsWorldOf test left more
 played_one test w left hs more h b is puts happened longer =
-    subst (IsPlayed test left) (sym longer) (record { world = and_one test w left hs h b is.world happened; put = put_more hs h is.put puts })
+    subst (IsWorldOf test left) (sym longer) (record { world = and_one test w left hs h b is.world happened; put = put_more hs h is.put puts })
 
 -- what a list is seen as, with one item more
 pub map_pushed : {X Y : Type 0} (f : X → Y) (xs ys : List X) (x : X) (y : Y) → ys ≡ xs ++ x ∷ [] → f x ≡ y → map f ys ≡ map f xs ++ y ∷ []

@@ -21,7 +21,7 @@ use Rattle.xds_peer.specs.declared.link.Step.{Step}
 use Rattle.xds_peer.specs.declared.link.Step.TheVariants as steps
 use Rattle.xds_world.specs.Settled.{IsSettledByTaking, IsSettledOrHeldBack}
 use Rattle.xds_peer.specs.Steps.{event_for}
-use Rattle.xds_world.specs.Played.{IsPlayed, HasStepped}
+use Rattle.xds_world.specs.Played.{IsWorldOf, HasStepped}
 use Rattle.xds_world.proofs.Plays.{played_one, after_both}
 use Rattle.xds_world.proofs.Weights.{weight, up_lightens, down_lightens, poll_burdens}
 use Rattle.xds_owed.proofs.SomethingOwed.{is_some_of}
@@ -36,9 +36,9 @@ pub record Settles (test : Test) (c : ℕ) (t : TypeName) (before now : List Hap
   pub walked : Walked test c t (world test before) more x
   pub counts : responses ≡ responses_taken test c t (world test before) more
   pub put : PutResources before
-  pub played : IsPlayed test x now
+  pub played : IsWorldOf test x now
 
-pub settles_start : (test : Test) (c : ℕ) (t : TypeName) (before : List Happening) (w : World) → IsPlayed test w before → Settles test c t before before w 0
+pub settles_start : (test : Test) (c : ℕ) (t : TypeName) (before : List Happening) (w : World) → IsWorldOf test w before → Settles test c t before before w 0
 settles_start test c t before w is = record { more = []; longer = sym (append-nil before); walked = sym is.world; counts = refl; put = is.put; played = is }
 
 -- what is put in a step of settling: nothing
@@ -48,7 +48,7 @@ puts_nothing c t steps.Poll = tt
 puts_nothing c t steps.Down = tt
 
 -- and so all is still played
-pub still_played : (test : Test) (c : ℕ) (t : TypeName) (now later : List Happening) (x y : World) (step : Step) → IsPlayed test x now → HasStepped test x now true y later (event_for c t step) → IsPlayed test y later
+pub still_played : (test : Test) (c : ℕ) (t : TypeName) (now later : List Happening) (x y : World) (step : Step) → IsWorldOf test x now → HasStepped test x now true y later (event_for c t step) → IsWorldOf test y later
 still_played test c t now later x y step is stepped = played_one test x y now later (event_for c t step) true is (puts_nothing c t step) stepped.0 stepped.1
 
 pub settles_more : (test : Test) (c : ℕ) (t : TypeName) (before now later : List Happening) (x y : World) (responses taken : ℕ) (step : Step) → Settles test c t before now x responses → next_to_settle x c t ≡ Some (event_for c t step)
@@ -86,7 +86,7 @@ pub settles_held : (test : Test) (c : ℕ) (t : TypeName) (before now later : Li
     → HasSettled test c t before later settled (responses + taken)
 settles_held test c t before now later x y responses taken settled step is next stepped gave takes tells =
     let h : Happening = event_for c t step in
-    let played : IsPlayed test y later = still_played test c t now later x y step is.played stepped in
+    let played : IsWorldOf test y later = still_played test c t now later x y step is.played stepped in
     record {
       more = is.more ++ h ∷ [];
       longer = stepped.1 ∙ ap (λ l. l ++ h ∷ []) is.longer ∙ append_assoc before is.more (h ∷ []);

@@ -17,11 +17,13 @@ use Rattle.xds_shelf.specs.Faults.{Test}
 use Rattle.xds_cache.specs.Clients.{unlinked}
 use Rattle.xds_model.specs.Happenings as happenings
 use Rattle.xds_model.specs.Worlds.{Peer, Link, World, at_site, happened_at, happens, with_peer, on_link, connected_to, opened, polled, under_way, up_taken, down_taken, taken_down, received, changed, wish_taken}
+use Rattle.xds_model.specs.Settling.{link_in}
 use Rattle.xds_model.proofs.Replicas.{answered, some_is, ok_is}
 use Rattle.xds_peer.specs.Calls.{Gave, Happened}
-use Rattle.xds_peer.specs.Links.{link_up, first}
+use Rattle.xds_model.specs.Journal.{oldest}
+use Rattle.xds_peer.specs.Links.{link_up}
 use Rattle.xds_peer.specs.Peers.{peer_up, peer_polled, peer_lost, peer_connected, peer_down, peer_changed, link_down}
-use Rattle.xds_world.specs.Parts.{peer_event, link_at, link_of, leads, draft_in, stream_in, batch_in}
+use Rattle.xds_world.specs.Parts.{peer_event, leads, draft_in, stream_in, batch_in}
 
 -- ---- replies
 
@@ -108,6 +110,10 @@ edited w w1 w2 c r e y p left f b x has makes is happened gives =
     (ap (option_and_then (λ p. option_map (with_peer w1 c) (f p))) (ap (λ m. finmap.get m c) (peers_stay w r e y w1 is) ∙ has) ∙ ap (option_map (with_peer w1 c)) makes)
     gives happened w
 
+-- the link of a client, if there is one
+abbrev link_of : Option Peer → Option Link
+link_of o = option_and_then (λ p. p.link) o
+
 -- a client that is up, and its link
 abbrev pub Found : World → ℕ → ℕ → ℕ → Type 0
 Found w c r n = (p : Peer) × (l : Link) × (finmap.get w.peers c ≡ Some p) × (p.link ≡ Some l) × (l.replica ≡ r) × (l.stream ≡ n)
@@ -120,7 +126,7 @@ found_peer : (w : World) (c r n : ℕ) (o : Option Peer) → finmap.get w.peers 
 found_peer w c r n None has is = absurd cc
 found_peer w c r n (Some p) has is = found_link w c r n p p.link has refl is
 
-found : (w : World) (c r n : ℕ) → Some (r, n) ≡ option_map leads (link_at w c) → Found w c r n
+found : (w : World) (c r n : ℕ) → Some (r, n) ≡ option_map leads (link_in w c) → Found w c r n
 found w c r n is = found_peer w c r n (finmap.get w.peers c) refl is
 
 -- what f makes of a client that is up
@@ -136,13 +142,13 @@ none_led : (o : Option Link) → None ≡ option_map leads o → o ≡ None
 none_led None is = refl
 none_led (Some l) is = absurd cc
 
-pub no_link : (w : World) (c : ℕ) (f : Peer → Link → Option World) → None ≡ option_map leads (link_at w c) → Happened w false w (on_link w c f)
-no_link w c f is = (no_link_of w c f (finmap.get w.peers c) (none_led (link_at w c) is), refl)
+pub no_link : (w : World) (c : ℕ) (f : Peer → Link → Option World) → None ≡ option_map leads (link_in w c) → Happened w false w (on_link w c f)
+no_link w c f is = (no_link_of w c f (finmap.get w.peers c) (none_led (link_in w c) is), refl)
 
 -- ---- up
 
 -- the replica takes the oldest request
-up_rest : (w : World) (l : Link) (m : Message) (up : List Message) → l.up ≡ up → Some m ≡ first up → (rest : List Message) × (l.up ≡ m ∷ rest)
+up_rest : (w : World) (l : Link) (m : Message) (up : List Message) → l.up ≡ up → Some m ≡ oldest up → (rest : List Message) × (l.up ≡ m ∷ rest)
 up_rest w l m [] is old = absurd cc
 up_rest w l m (x ∷ rest) is old = (rest, is ∙ ap (λ z. z ∷ rest) (sym (some_is m x old)))
 
@@ -156,8 +162,8 @@ none_mapped f None is = refl
 none_mapped f (Some x) is = absurd cc
 
 -- the oldest request of a client that is up
-old_at : (w : World) (c r n : ℕ) (at : Found w c r n) (o : Option Message) → o ≡ option_and_then (λ l. first l.up) (link_at w c) → o ≡ first at.1.up
-old_at w c r n at o is = is ∙ ap (λ q. option_and_then (λ l. first l.up) (link_of q)) at.2 ∙ ap (option_and_then (λ l. first l.up)) at.3
+old_at : (w : World) (c r n : ℕ) (at : Found w c r n) (o : Option Message) → o ≡ option_and_then (λ l. oldest l.up) (link_in w c) → o ≡ oldest at.1.up
+old_at w c r n at o is = is ∙ ap (λ q. option_and_then (λ l. oldest l.up) (link_of q)) at.2 ∙ ap (option_and_then (λ l. oldest l.up)) at.3
 
 up_taken_is : (test : Test) (w : World) (c r n : ℕ) (at : Found w c r n) (m : Message) (rest : List Message) → at.1.up ≡ m ∷ rest
     → happens test w (happenings.Up c) ≡ option_map (λ q. with_peer q.1 c (record at.0 { link = Some (record at.1 { up = rest }) })) (at_site w r (events.Request n m))
@@ -165,7 +171,7 @@ up_taken_is test w c r n at m rest is =
     on_found w c r n at (λ p l. up_taken w c p l l.up) ∙ ap (up_taken w c at.0 at.1) is
     ∙ (λ i. option_map (λ q. with_peer q.1 c (record at.0 { link = Some (record at.1 { up = rest }) })) (at_site w (at.4 i) (events.Request (at.5 i) m)))
 
-pub up_done : (test : Test) (w w1 w2 : World) (c r n : ℕ) (m : Message) (b : Bool) → Some (r, n) ≡ option_map leads (link_at w c) → Some m ≡ option_and_then (λ l. first l.up) (link_at w c)
+pub up_done : (test : Test) (w w1 w2 : World) (c r n : ℕ) (m : Message) (b : Bool) → Some (r, n) ≡ option_map leads (link_in w c) → Some m ≡ option_and_then (λ l. oldest l.up) (link_in w c)
     → Happened w true w1 (happened_at w r (events.Request n m)) → Happened w1 b w2 (peer_event w1 c peer_up) → Happened w b w2 (happens test w (happenings.Up c))
 up_done test w w1 w2 c r n m b led old done dropped =
     let at = found w c r n led in
@@ -175,21 +181,21 @@ up_done test w w1 w2 c r n m b led old done dropped =
     (ap (option_and_then (λ l. option_map (λ k. record at.0 { link = Some k }) (link_up l l.up))) at.3 ∙ ap (λ up. option_map (λ k. record at.0 { link = Some k }) (link_up at.1 up)) rest.1)
     says.1 dropped (up_taken_is test w c r n at m rest.0 rest.1 ∙ ap (option_map (λ q. with_peer q.1 c (record at.0 { link = Some (record at.1 { up = rest.0 }) }))) says.1)
 
-pub up_refused : (test : Test) (w w1 : World) (c r n : ℕ) (m : Message) → Some (r, n) ≡ option_map leads (link_at w c) → Some m ≡ option_and_then (λ l. first l.up) (link_at w c)
+pub up_refused : (test : Test) (w w1 : World) (c r n : ℕ) (m : Message) → Some (r, n) ≡ option_map leads (link_in w c) → Some m ≡ option_and_then (λ l. oldest l.up) (link_in w c)
     → Happened w false w1 (happened_at w r (events.Request n m)) → Happened w false w1 (happens test w (happenings.Up c))
 up_refused test w w1 c r n m led old done =
     let at = found w c r n led in
     let rest = up_rest w at.1 m at.1.up refl (old_at w c r n at (Some m) old) in
     (up_taken_is test w c r n at m rest.0 rest.1 ∙ ap (option_map (λ q. with_peer q.1 c (record at.0 { link = Some (record at.1 { up = rest.0 }) }))) (none_mapped (λ p. p.1) (at_site w r (events.Request n m)) done.0), done.1)
 
-no_first : (w : World) (c : ℕ) (p : Peer) (l : Link) (up : List Message) → None ≡ first up → up_taken w c p l up ≡ None
-no_first w c p l [] is = refl
-no_first w c p l (m ∷ rest) is = absurd cc
+none_oldest : (w : World) (c : ℕ) (p : Peer) (l : Link) (up : List Message) → None ≡ oldest up → up_taken w c p l up ≡ None
+none_oldest w c p l [] is = refl
+none_oldest w c p l (m ∷ rest) is = absurd cc
 
-pub up_empty : (test : Test) (w : World) (c r n : ℕ) → Some (r, n) ≡ option_map leads (link_at w c) → None ≡ option_and_then (λ l. first l.up) (link_at w c) → Happened w false w (happens test w (happenings.Up c))
+pub up_empty : (test : Test) (w : World) (c r n : ℕ) → Some (r, n) ≡ option_map leads (link_in w c) → None ≡ option_and_then (λ l. oldest l.up) (link_in w c) → Happened w false w (happens test w (happenings.Up c))
 up_empty test w c r n led old =
     let at = found w c r n led in
-    (on_found w c r n at (λ p l. up_taken w c p l l.up) ∙ no_first w c at.0 at.1 at.1.up (old_at w c r n at None old), refl)
+    (on_found w c r n at (λ p l. up_taken w c p l l.up) ∙ none_oldest w c at.0 at.1 at.1.up (old_at w c r n at None old), refl)
 
 -- ---- poll
 
@@ -198,7 +204,7 @@ poll_is test w c r n at which =
     on_found w c r n at (λ p l. option_and_then (polled c p l) (at_site w l.replica (events.Poll l.stream which)))
     ∙ (λ i. option_and_then (polled c at.0 at.1) (at_site w (at.4 i) (events.Poll (at.5 i) which)))
 
-pub poll_done : (test : Test) (w w1 w2 : World) (c r n : ℕ) (which : Option TypeName) (o : Option Draft) (b : Bool) → Some (r, n) ≡ option_map leads (link_at w c) → Gave events.Polled w (Some o) w1 (at_site w r (events.Poll n which))
+pub poll_done : (test : Test) (w w1 w2 : World) (c r n : ℕ) (which : Option TypeName) (o : Option Draft) (b : Bool) → Some (r, n) ≡ option_map leads (link_in w c) → Gave events.Polled w (Some o) w1 (at_site w r (events.Poll n which))
     → Happened w1 b w2 (peer_event w1 c (peer_polled o)) → Happened w b w2 (happens test w (happenings.Poll c which))
 poll_done test w w1 w2 c r n which o b led gave responded =
     let at = found w c r n led in
@@ -206,7 +212,7 @@ poll_done test w w1 w2 c r n which o b led gave responded =
     (ap (option_and_then (λ l. Some (record at.0 { link = Some (record l { down = l.down ++ under_way o }) }))) at.3)
     gave responded (poll_is test w c r n at which ∙ ap (option_and_then (polled c at.0 at.1)) gave)
 
-pub poll_refused : (test : Test) (w w1 : World) (c r n : ℕ) (which : Option TypeName) → Some (r, n) ≡ option_map leads (link_at w c) → Gave {Y = Reply} events.Polled w None w1 (at_site w r (events.Poll n which))
+pub poll_refused : (test : Test) (w w1 : World) (c r n : ℕ) (which : Option TypeName) → Some (r, n) ≡ option_map leads (link_in w c) → Gave {Y = Reply} events.Polled w None w1 (at_site w r (events.Poll n which))
     → Happened w false w1 (happens test w (happenings.Poll c which))
 poll_refused test w w1 c r n which led gave =
     let at = found w c r n led in
@@ -219,7 +225,7 @@ lose_is test w c r n at =
     on_found w c r n at (λ p l. option_map (λ q. with_peer q.1 c (record p { client = unlinked p.client; link = None })) (at_site w l.replica (events.Close l.stream)))
     ∙ (λ i. option_map (λ q. with_peer q.1 c (record at.0 { client = unlinked at.0.client; link = None })) (at_site w (at.4 i) (events.Close (at.5 i))))
 
-pub lose_done : (test : Test) (w w1 w2 : World) (c r n : ℕ) (b : Bool) → Some (r, n) ≡ option_map leads (link_at w c) → Happened w true w1 (happened_at w r (events.Close n)) → Happened w1 b w2 (peer_event w1 c peer_lost)
+pub lose_done : (test : Test) (w w1 w2 : World) (c r n : ℕ) (b : Bool) → Some (r, n) ≡ option_map leads (link_in w c) → Happened w true w1 (happened_at w r (events.Close n)) → Happened w1 b w2 (peer_event w1 c peer_lost)
     → Happened w b w2 (happens test w (happenings.Lose c))
 lose_done test w w1 w2 c r n b led done lost =
     let at = found w c r n led in
@@ -228,7 +234,7 @@ lose_done test w w1 w2 c r n b led done lost =
     (ap (option_map (λ l. record at.0 { client = unlinked at.0.client; link = None })) at.3) says.1 lost
     (lose_is test w c r n at ∙ ap (option_map (λ q. with_peer q.1 c (record at.0 { client = unlinked at.0.client; link = None }))) says.1)
 
-pub lose_refused : (test : Test) (w w1 : World) (c r n : ℕ) → Some (r, n) ≡ option_map leads (link_at w c) → Happened w false w1 (happened_at w r (events.Close n)) → Happened w false w1 (happens test w (happenings.Lose c))
+pub lose_refused : (test : Test) (w w1 : World) (c r n : ℕ) → Some (r, n) ≡ option_map leads (link_in w c) → Happened w false w1 (happened_at w r (events.Close n)) → Happened w false w1 (happens test w (happenings.Lose c))
 lose_refused test w w1 c r n led done =
     let at = found w c r n led in
     (lose_is test w c r n at ∙ ap (option_map (λ q. with_peer q.1 c (record at.0 { client = unlinked at.0.client; link = None }))) (none_mapped (λ p. p.1) (at_site w r (events.Close n)) done.0), done.1)
@@ -300,7 +306,7 @@ pub change_done : (test : Test) (w w2 : World) (c : ℕ) (t : TypeName) (wish : 
 change_done test w w2 c t wish b is = happened_same w w2 b (peer_event w c (peer_changed t wish)) (happens test w (happenings.Change c t wish)) (change_is w c t wish (finmap.get w.peers c)) is
 
 -- the same where the change may find no memory
-pub poll_within : (test : Test) (w w1 w2 : World) (c r n : ℕ) (which : Option TypeName) (o : Option Draft) → Some (r, n) ≡ option_map leads (link_at w c) → Gave events.Polled w (Some o) w1 (at_site w r (events.Poll n which))
+pub poll_within : (test : Test) (w w1 w2 : World) (c r n : ℕ) (which : Option TypeName) (o : Option Draft) → Some (r, n) ≡ option_map leads (link_in w c) → Gave events.Polled w (Some o) w1 (at_site w r (events.Poll n which))
     → (q : Result Bool Refusal) → IfOk q (λ b. Happened w1 b w2 (peer_event w1 c (peer_polled o))) → IfOk q (λ b. Happened w b w2 (happens test w (happenings.Poll c which)))
 poll_within test w w1 w2 c r n which o led gave (Ok b) responded = poll_done test w w1 w2 c r n which o b led gave responded
 poll_within test w w1 w2 c r n which o led gave (Err e) responded = responded

@@ -110,7 +110,7 @@ abbrev pub AtStream : Type 0
 AtStream = (ℕ × Message) ⊎ ((ℕ × Option TypeName) ⊎ ((ℕ × Option TypeName) ⊎ ℕ))
 
 abbrev pub OfStore : Type 0
-OfStore = (TypeName × NamedBody) ⊎ ((TypeName × List ℕ) ⊎ Batch)
+OfStore = (TypeName × (NamedBody × List (List ℕ))) ⊎ ((TypeName × List ℕ) ⊎ Batch)
 
 -- an event of a stream or of the store; with a flag those that say no more
 abbrev pub EventParts : Type 0
@@ -122,7 +122,7 @@ event_parts (events.Request n m) = inl (inl (n, m))
 event_parts (events.Poll n which) = inl (inr (inl (n, which)))
 event_parts (events.Owes n which) = inl (inr (inr (inl (n, which))))
 event_parts (events.Close n) = inl (inr (inr (inr n)))
-event_parts (events.Put t r) = inr (inl (inl (t, r)))
+event_parts (events.Put t r groups) = inr (inl (inl (t, (r, groups))))
 event_parts (events.Delete t name) = inr (inl (inr (inl (t, name))))
 event_parts (events.Merge b) = inr (inl (inr (inr b)))
 event_parts events.Snapshot = inr (inr false)
@@ -132,7 +132,7 @@ event_of_parts (inl (inl p)) = events.Request p.0 p.1
 event_of_parts (inl (inr (inl p))) = events.Poll p.0 p.1
 event_of_parts (inl (inr (inr (inl p)))) = events.Owes p.0 p.1
 event_of_parts (inl (inr (inr (inr n)))) = events.Close n
-event_of_parts (inr (inl (inl p))) = events.Put p.0 p.1
+event_of_parts (inr (inl (inl p))) = events.Put p.0 p.1.0 p.1.1
 event_of_parts (inr (inl (inr (inl p)))) = events.Delete p.0 p.1
 event_of_parts (inr (inl (inr (inr b)))) = events.Merge b
 event_of_parts (inr (inr true)) = events.Open
@@ -144,7 +144,7 @@ event_again (events.Request n m) = refl
 event_again (events.Poll n which) = refl
 event_again (events.Owes n which) = refl
 event_again (events.Close n) = refl
-event_again (events.Put t r) = refl
+event_again (events.Put t r groups) = refl
 event_again (events.Delete t name) = refl
 event_again (events.Merge b) = refl
 event_again events.Snapshot = refl
@@ -155,7 +155,7 @@ which_code = coded× coded_ℕ (coded_option type_code)
 abbrev pub event_code : Coded Event
 event_code =
     code_by EventParts
-    (coded⊎ (coded⊎ (coded× coded_ℕ message_code) (coded⊎ which_code (coded⊎ which_code coded_ℕ))) (coded⊎ (coded⊎ (coded× type_code named_body_code) (coded⊎ (coded× type_code text_code) batch_code)) coded_bool))
+    (coded⊎ (coded⊎ (coded× coded_ℕ message_code) (coded⊎ which_code (coded⊎ which_code coded_ℕ))) (coded⊎ (coded⊎ (coded× type_code (coded× named_body_code (coded_list text_code))) (coded⊎ (coded× type_code text_code) batch_code)) coded_bool))
     event_parts event_of_parts event_again
 
 -- a number, by whether it is a stream's, a count of changes, or a stamp with its writer

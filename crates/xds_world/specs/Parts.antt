@@ -1,7 +1,5 @@
 -- What the parts of a world do, one by one: the answers of the functions that do it. This project's own.
 use Rattle.std.specs.Prelude.{ℕ, [], Option, Some, None, option_map, Ok, Err}
-use Rattle.std.specs.Option.{option_and_then}
-use Rattle.std.specs.FinMap as finmap
 use Rattle.xds_draft.specs.declared.draft.Draft.{Draft}
 use Rattle.xds_core.specs.Stores.{Batch}
 use Rattle.xds_core.specs.Events as events
@@ -29,7 +27,7 @@ answered s e = if_answered s e (step s.core e)
 
 -- a client that nothing is known of
 abbrev pub blank : Peer
-blank = record { kind = Sotw; client = clients.fresh []; link = None }
+blank = record { kind = Sotw; client = clients.fresh [] []; link = None }
 
 -- what f makes of a client, in its world
 abbrev pub peer_event : World → ℕ → (Peer → Option Peer) → Option World
@@ -38,13 +36,6 @@ peer_event w c f = on_peer w c (λ p. option_map (with_peer w c) (f p))
 -- where the stream of a client leads, and its number there
 abbrev pub leads : Link → ℕ × ℕ
 leads l = (l.replica, l.stream)
-
-abbrev pub link_of : Option Peer → Option Link
-link_of o = option_and_then (λ p. p.link) o
-
--- the link of a client that is up
-abbrev pub link_at : World → ℕ → Option Link
-link_at w c = link_of (finmap.get w.peers c)
 
 -- ---- what the replies to some events say
 

@@ -8,7 +8,7 @@ use Rattle.xds_model.specs.Claims.{PutResources}
 use Rattle.xds_model.specs.Settling.{HasSettled, HasStopped}
 
 -- the world is the one that the list leads to, in which what is put are resources
-pub record IsPlayed (test : Test) (w : World) (hs : List Happening) : Type 0 where
+pub record IsWorldOf (test : Test) (w : World) (hs : List Happening) : Type 0 where
   pub world : w ≡ world test hs
   pub put : PutResources hs
 

@@ -3,7 +3,7 @@ use Rattle.std.specs.Prelude.{◌≡◌, ℕ, List, Bool, true, false, Some, Non
 use Rattle.xds_resource.specs.declared.types.TypeName.{TypeName}
 use Rattle.xds_shelf.specs.Faults.{Test}
 use Rattle.xds_model.specs.Claims.{Headline, writes_of}
-use Rattle.xds_model.specs.Knows.{knows, wants, link}
+use Rattle.xds_model.specs.Knows.{knows, cluster, wants, link}
 use Rattle.xds_model.specs.Worlds.{world}
 use Rattle.xds_model.specs.Settling.{link_in, is_held_back, HasStopped, TakesAll}
 use Rattle.xds_model.specs.Happenings.{Happening}
@@ -19,7 +19,7 @@ HasFailed test c t before unsettled.OutOfMemory = ⊤
 -- where the client's test takes all that it is to show of what its replica knows, it is settled
 abbrev pub IsSettledByTaking : Test → ℕ → TypeName → List Happening → Bool → Type 0
 IsSettledByTaking test c t before settled =
-    (r : ℕ) → link test before c ≡ Some r → TakesAll test t (writes_of t (knows test before r)) (wants test before c t) → settled ≡ true
+    (r : ℕ) → link test before c ≡ Some r → TakesAll test t (writes_of t (knows test before r)) (cluster test before c) (wants test before c t) → settled ≡ true
 
 -- a client that isn't settled refused what its replica would send it
 abbrev pub IsSettledOrHeldBack : Test → ℕ → TypeName → List Happening → Bool → Type 0

@@ -5,7 +5,7 @@ ghost use Rattle.xds_model.specs.Seen.{happening_of};
 ghost use Rattle.xds_model.specs.Worlds.{empty_world};
 ghost use Rattle.xds_model.specs.Settling.{link_in, gave_nothing, taken_now};
 ghost use Rattle.xds_peer.specs.Steps.{event_for};
-ghost use Rattle.xds_world.specs.Played.{IsPlayed, HasStepped, HasEnded};
+ghost use Rattle.xds_world.specs.Played.{IsWorldOf, HasStepped, HasEnded};
 
 use crate::state::State;
 use std::alloc::Global;
@@ -24,7 +24,7 @@ pub(crate) struct Run<A: Accept> {
 impl<A: Accept> Run<A> {
     /// A world in which nothing happened.
     pub(crate) fn new(alloc: Global) -> Run<A>
-        ensures played { IsPlayed A.accepts result.state (map happening_of result.events.items) }
+        ensures played { IsWorldOf A.accepts result.state (map happening_of result.events.items) }
         ensures empty { map happening_of result.events.items ≡ [] }
     {
         Run {
@@ -35,8 +35,8 @@ impl<A: Accept> Run<A> {
 
     /// Something happens, or isn't possible. Refused only by `OutOfMemory`, and then the run is of no use any more.
     pub(crate) fn play(&mut self, alloc: Global, event: &WorldEvent) -> Result<(), Refusal>
-        requires { IsPlayed A.accepts self.old.state (map happening_of self.old.events.items) }
-        ensures played { OnOk result (IsPlayed A.accepts self.new.state (map happening_of self.new.events.items)) }
+        requires { IsWorldOf A.accepts self.old.state (map happening_of self.old.events.items) }
+        ensures played { OnOk result (IsWorldOf A.accepts self.new.state (map happening_of self.new.events.items)) }
         ensures longer { OnOk result (map happening_of self.new.events.items ≡ map happening_of self.old.events.items ++ happening_of event.now ∷ []) }
         ensures refused { IfErr result (λ e. e ≡ OutOfMemory) }
     {

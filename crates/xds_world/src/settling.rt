@@ -5,7 +5,7 @@ ghost use Rattle.xds_model.specs.Seen.{happening_of};
 ghost use Rattle.xds_model.specs.Claims.{Headline};
 ghost use Rattle.xds_model.specs.Settling.{HasSettled, IsQuietFor, link_in};
 ghost use Rattle.xds_model.specs.Worlds.{world as world_of};
-ghost use Rattle.xds_world.specs.Played.{IsPlayed, HasEnded};
+ghost use Rattle.xds_world.specs.Played.{IsWorldOf, HasEnded};
 ghost use Rattle.xds_world.specs.Settled.{HasFailed, IsSettledByTaking, IsSettledOrHeldBack};
 
 use crate::run::Run;
@@ -98,8 +98,8 @@ fn settle_run<A: Accept>(
     client: u32,
     kind: TypeName,
 ) -> Result<Option<(bool, u64)>, Refusal>
-    requires { IsPlayed A.accepts run.old.state (map happening_of run.old.events.items) }
-    ensures played { OnOk result (IsPlayed A.accepts run.new.state (map happening_of run.new.events.items)) }
+    requires { IsWorldOf A.accepts run.old.state (map happening_of run.old.events.items) }
+    ensures played { OnOk result (IsWorldOf A.accepts run.new.state (map happening_of run.new.events.items)) }
     ensures ended { IfOk result (λ o. HasEnded A.accepts client kind (map happening_of run.old.events.items) (map happening_of run.new.events.items) o) }
     ensures refused { IfErr result (λ e. e ≡ OutOfMemory) }
 {

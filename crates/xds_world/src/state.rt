@@ -12,10 +12,10 @@ ghost use Rattle.xds_model.specs.Seen.{happening_of, wish_of};
 ghost use Rattle.xds_model.specs.Settling.{link_in, next_to_settle, taken_now, gave_nothing};
 ghost use Rattle.xds_model.specs.Worlds.{empty_world, at_site, happened_at, happens, placed};
 ghost use Rattle.xds_peer.specs.Calls.{Gave, Happened};
-ghost use Rattle.xds_peer.specs.Links.{first};
+ghost use Rattle.xds_model.specs.Journal.{oldest};
 ghost use Rattle.xds_peer.specs.Peers.{peer_up, peer_polled, peer_lost, peer_connected};
 ghost use Rattle.xds_peer.specs.Steps.{event_for};
-ghost use Rattle.xds_world.specs.Parts.{blank, leads, link_at, draft_in, stream_in, batch_in, peer_event};
+ghost use Rattle.xds_world.specs.Parts.{blank, leads, draft_in, stream_in, batch_in, peer_event};
 
 use crate::site::Site;
 use std::alloc::Global;
@@ -26,7 +26,7 @@ use xds_draft::Draft;
 use xds_model::{ClientKind, Wish, WorldEvent};
 use xds_peer::parts::is_there;
 use xds_peer::{Link, Peer, Step};
-use xds_resource::{AnyResource, Refusal, TypeName};
+use xds_resource::{AnyResource, Groups, Refusal, TypeName};
 use xds_writes::Batch;
 
 /// Replicas, clients, and the batches that were taken.
@@ -206,7 +206,7 @@ impl<A: Accept> State<A> {
 
     // The replica that a client's stream leads to, and the number of the stream there.
     fn link_of(&self, client: u32) -> Option<(u16, u64)>
-        ensures { result ≡ option_map leads (link_at self.now client) }
+        ensures { result ≡ option_map leads (link_in self.now client) }
     {
         let peer = self.peers.get(client as u64)?;
         let link = peer.link()?;
@@ -215,7 +215,7 @@ impl<A: Accept> State<A> {
 
     // A copy of the oldest request of a client that is under way.
     fn oldest_request(&self, alloc: Global, client: u32) -> Result<Option<Request>, Refusal>
-        ensures ok { IfOk result (λ o. option_map message_of o ≡ option_and_then (λ l. first l.up) (link_at self.now client)) }
+        ensures ok { IfOk result (λ o. option_map message_of o ≡ option_and_then (λ l. oldest l.up) (link_in self.now client)) }
         ensures refused { IfErr result (λ e. e ≡ OutOfMemory) }
     {
         let Some(peer) = self.peers.get(client as u64) else {
@@ -328,15 +328,23 @@ impl<A: Accept> State<A> {
         Ok(true)
     }
 
-    fn add_client(&mut self, alloc: Global, client: u32, kind: ClientKind) -> Result<bool, Refusal>
-        ensures ok { IfOk result (λ b. Happened self.old b self.new (happens A.accepts self.old (happenings.AddClient client kind))) }
+    fn add_client(
+        &mut self,
+        alloc: Global,
+        client: u32,
+        kind: ClientKind,
+        cluster: &str,
+    ) -> Result<bool, Refusal>
+        ensures ok { IfOk result (λ b. Happened self.old b self.new (happens A.accepts self.old (happenings.AddClient client kind cluster.now))) }
         ensures refused { IfErr result (λ e. e ≡ OutOfMemory) }
     {
         let number = client as u64;
         if self.peers.get(number).is_some() {
             return Ok(false);
         }
-        let peer = Peer::new(alloc, kind, node_id(alloc, client)?);
+        let node_id = node_id(alloc, client)?;
+        let cluster = String::from_str(alloc, cluster)?;
+        let peer = Peer::new(alloc, kind, node_id, cluster);
         self.peers.insert(number, peer)?;
         Ok(true)
     }
@@ -433,12 +441,19 @@ impl<A: Accept> State<A> {
         Ok(self.lose_link(alloc, client))
     }
 
-    fn put(&mut self, alloc: Global, replica: u16, resource: &AnyResource) -> Result<bool, Refusal>
-        ensures ok { IfOk result (λ b. Happened self.old b self.new (happens A.accepts self.old (happenings.Put replica (resource_type resource.now) (named_body resource.now)))) }
+    fn put(
+        &mut self,
+        alloc: Global,
+        replica: u16,
+        resource: &AnyResource,
+        groups: &Groups,
+    ) -> Result<bool, Refusal>
+        ensures ok { IfOk result (λ b. Happened self.old b self.new (happens A.accepts self.old (happenings.Put replica (resource_type resource.now) (named_body resource.now) groups.now))) }
         ensures refused { IfErr result (λ e. e ≡ OutOfMemory) }
     {
         let resource = resource.try_copy(alloc)?;
-        self.happened_at(alloc, replica, Event::Put(resource))
+        let groups = groups.try_copy(alloc)?;
+        self.happened_at(alloc, replica, Event::Put(resource, groups))
     }
 
     fn delete(
@@ -463,8 +478,12 @@ impl<A: Accept> State<A> {
     {
         match event {
             WorldEvent::AddReplica(replica) => self.add_replica(alloc, *replica),
-            WorldEvent::AddClient(client, kind) => self.add_client(alloc, *client, *kind),
-            WorldEvent::Put(replica, resource) => self.put(alloc, *replica, resource),
+            WorldEvent::AddClient(client, kind, cluster) => {
+                self.add_client(alloc, *client, *kind, cluster.as_str())
+            }
+            WorldEvent::Put(replica, resource, groups) => {
+                self.put(alloc, *replica, resource, groups)
+            }
             WorldEvent::Delete(replica, kind, name) => {
                 self.delete(alloc, *replica, *kind, name.as_str())
             }
@@ -534,5 +553,10 @@ fn batch_in(reply: Option<Reply>) -> Option<Batch>
 fn blank_peer<A: Accept>(alloc: Global) -> Peer<A>
     ensures { result ≡ blank }
 {
-    Peer::new(alloc, ClientKind::Sotw, String::new(alloc))
+    Peer::new(
+        alloc,
+        ClientKind::Sotw,
+        String::new(alloc),
+        String::new(alloc),
+    )
 }

@@ -31,13 +31,13 @@ impl<A: Accept> Model for World<A> {
     ghost use Rattle.std.specs.Prelude.{◌≡◌, List, map};
     ghost use Rattle.xds_model.specs.Happenings.{Happening};
     ghost use Rattle.xds_model.specs.Seen.{happening_of};
-    ghost use Rattle.xds_world.specs.Played.{IsPlayed};
+    ghost use Rattle.xds_world.specs.Played.{IsWorldOf};
 
     ghost Value = { List Happening };
 
     ghost view = { λ w. map happening_of w.run.events.items };
 
-    ghost invariant = { λ w. IsPlayed A.accepts w.run.state (map happening_of w.run.events.items) };
+    ghost invariant = { λ w. IsWorldOf A.accepts w.run.state (map happening_of w.run.events.items) };
 }
 
 /// The world in which these events happened, from the start. The headline holds of it: what replicas hold are the best writes of

@@ -1,6 +1,6 @@
 use Rattle.std.proofs.Common.{◌≡◌, ◌++◌, map, drop}
 use Rattle.std.specs.Prelude.{filter}
-use Rattle.xds_play.specs.Shown.{is_live}
+use Rattle.xds_catalogue.specs.Content.{is_live}
 use Rattle.xds_play.proofs.show.live_among.Given as goal
 
 abbrev pub invariant-loop-write : goal.invariant-loop-write

@@ -1,9 +1,9 @@
 use Rattle.std.proofs.Common.{◌≡◌, ◌++◌, map, drop}
 use Rattle.xds_model.specs.Seen.{happening_of}
-use Rattle.xds_world.specs.Played.{IsPlayed}
+use Rattle.xds_world.specs.Played.{IsWorldOf}
 use Rattle.xds_world.proofs.world.more.Given as goal
 
 abbrev pub invariant-loop-event : goal.invariant-loop-event
 invariant-loop-event g l =
-    IsPlayed g.A.Accept.accepts l.run.state (map happening_of l.run.events.items)
+    IsWorldOf g.A.Accept.accepts l.run.state (map happening_of l.run.events.items)
     × (map happening_of l.run.events.items ++ map happening_of (drop l.event-index l.events) ≡ l.fn.world ++ map happening_of l.events)
