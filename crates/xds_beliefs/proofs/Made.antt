@@ -8,7 +8,7 @@ use Rattle.xds_resource.specs.Writes.{text_cmp}
 use Rattle.xds_resource.specs.Names.{put_all, put_each}
 use Rattle.xds_resource.proofs.NameMaps.{has_text, same_names, get-tabulated, in_neither, absent_key, cond_same}
 use Rattle.xds_resource.proofs.MadeMaps.{get-put_all, get-put_each}
-use Rattle.xds_interest.specs.Interests.{Selection, covers}
+use Rattle.xds_interest.specs.Interests.{Selection, reaches}
 use Rattle.xds_interest.specs.Touches.{Touch, touches}
 use Rattle.xds_interest.proofs.Texts.{contains-from_texts}
 use Rattle.xds_owed.specs.declared.entry.Entry.{Entry}
@@ -44,11 +44,11 @@ accepted_made whole sent b =
     ∙ accepted_parts whole (was_touched sent q) (finmap.get sent.offer q) (finmap.get b q) ∙ sym (accepted_by_name whole sent b q))
 
 abbrev left : Bool → Bool → Option Entry → Option Entry
-left touched covered e = option_or (option_and_then (λ x. if touched then (if covered then Some Unsure else None) else Some x) e) None
+left touched reached e = option_or (option_and_then (λ x. if touched then (if reached then Some Unsure else None) else Some x) e) None
 
-taken_parts : (touched covered mentioned : Bool) (e : Option Entry)
-    → cond mentioned (option_or (if touched && covered then Some Unsure else None) (left touched covered e)) (left touched covered e)
-    ≡ (if touched then believed_touched covered mentioned e else e)
+taken_parts : (touched reached mentioned : Bool) (e : Option Entry)
+    → cond mentioned (option_or (if touched && reached then Some Unsure else None) (left touched reached e)) (left touched reached e)
+    ≡ (if touched then believed_touched reached mentioned e else e)
 taken_parts true true true None = refl
 taken_parts true true true (Some x) = refl
 taken_parts true true false None = refl
@@ -57,10 +57,10 @@ taken_parts true false true None = refl
 taken_parts true false true (Some x) = refl
 taken_parts true false false None = refl
 taken_parts true false false (Some x) = refl
-taken_parts false covered true None = refl
-taken_parts false covered true (Some x) = refl
-taken_parts false covered false None = refl
-taken_parts false covered false (Some x) = refl
+taken_parts false reached true None = refl
+taken_parts false reached true (Some x) = refl
+taken_parts false reached false None = refl
+taken_parts false reached false (Some x) = refl
 
 pub taken_made : (s : Selection) (touched : Touch) (names : List (List ℕ)) (b : Beliefs)
     → put_each (made_unsure s touched) (put_all (left_by s touched) finmap.empty (finmap.entries b)) names ≡ beliefs_taken s touched (set.from_list names) b
@@ -71,8 +71,8 @@ taken_made s touched names b =
     get-put_each (made_unsure s touched) before names q
     ∙ ap (λ o. cond (has_text names q) (option_or made o) o)
     (get-put_all (left_by s touched) finmap.empty b q ∙ ap (option_or (option_and_then (left_by s touched q) (finmap.get b q))) (finmap.get-empty text_cmp q))
-    ∙ taken_parts (touches touched q) (covers s q) (has_text names q) (finmap.get b q)
-    ∙ ap (λ m. if touches touched q then believed_touched (covers s q) m (finmap.get b q) else finmap.get b q) (sym (contains-from_texts names q))
+    ∙ taken_parts (touches touched q) (reaches s q) (has_text names q) (finmap.get b q)
+    ∙ ap (λ m. if touches touched q then believed_touched (reaches s q) m (finmap.get b q) else finmap.get b q) (sym (contains-from_texts names q))
     ∙ sym (taken_by_name s touched (set.from_list names) b q))
 
 told_parts : (o : Option (List ℕ)) (e : Option Entry) → option_or (option_and_then (λ v. Some (Told v)) o) e ≡ option_or (option_map Told o) e

@@ -1,12 +1,13 @@
 -- What a server believes that a client holds, once a response is accepted and once a request's names are taken. This project's own.
-use Rattle.std.specs.Prelude.{ℕ, List, [], ◌∷◌, ◌++◌, Bool, ◌&&◌, ◌||◌, not, if◌then◌else◌, Option, Some, None, is_some, option_map, refl}
+use Rattle.std.specs.Prelude.{ℕ, ◌-◌, T, List, [], ◌∷◌, ◌++◌, length, take, Bool, ◌&&◌, ◌||◌, not, if◌then◌else◌, Option, Some, None, is_some, option_map, refl}
 use Rattle.std.specs.Option.{option_or}
 use Rattle.std.specs.List.{list_any}
 use Rattle.std.specs.FinMap as finmap
+use Rattle.std.specs.FinMap.Entries.{is_sorted}
 use Rattle.std.specs.FinSet as set
 use Rattle.xds_resource.specs.Writes.{text_cmp}
 use Rattle.xds_resource.specs.Names.{tabulate}
-use Rattle.xds_interest.specs.Interests.{Selection, covers}
+use Rattle.xds_interest.specs.Interests.{Selection, reaches}
 use Rattle.std.specs.Coded.{Coded, code_by, coded×, coded_ℕ, coded_list}
 use Rattle.xds_interest.specs.Touches.{Touch, touch_code, touches}
 use Rattle.xds_owed.specs.declared.entry.Entry.{Entry}
@@ -29,6 +30,10 @@ sent_code =
 -- the response that is unanswered, once a request touched names
 abbrev pub touched_since : Sent → Touch → Sent
 touched_since sent touch = record sent { touched = sent.touched ++ touch ∷ [] }
+
+-- the same without the touch that was noted last
+abbrev pub last_touch_forgotten : Sent → Sent
+last_touch_forgotten sent = record sent { touched = take (length sent.touched - 1) sent.touched }
 
 -- ---- answers
 
@@ -53,18 +58,26 @@ beliefs_accepted whole sent beliefs =
 
 -- ---- names
 
--- What is believed of a name that a request touches: nothing if the interest doesn't cover it, and else unsure if the
+-- What is believed of a name that a request touches: nothing if the interest doesn't reach it, and else unsure if the
 -- request mentions it or it was believed held.
 abbrev pub believed_touched : Bool → Bool → Option Entry → Option Entry
-believed_touched covered mentioned before = if covered && (mentioned || is_some before) then Some Unsure else None
+believed_touched reached mentioned before = if reached && (mentioned || is_some before) then Some Unsure else None
 
 -- the same of any name: one that isn't touched keeps what is believed of it
 abbrev pub believed_taken : Selection → Touch → set.FinSet text_cmp → Beliefs → List ℕ → Option Entry
 believed_taken s touch mentioned beliefs name =
-    if touches touch name then believed_touched (covers s name) (set.contains mentioned name) (finmap.get beliefs name) else finmap.get beliefs name
+    if touches touch name then believed_touched (reaches s name) (set.contains mentioned name) (finmap.get beliefs name) else finmap.get beliefs name
 
 abbrev pub beliefs_taken : Selection → Touch → set.FinSet text_cmp → Beliefs → Beliefs
 beliefs_taken s touch mentioned beliefs = tabulate (believed_taken s touch mentioned beliefs) (set.items mentioned ++ finmap.keys beliefs)
+
+-- names with versions, as a client says that it holds them: their names ascend
+abbrev pub AreInOrder : List (List ℕ × List ℕ) → Type 0
+AreInOrder pairs = T (is_sorted text_cmp pairs)
+
+-- the version of each of them
+abbrev pub versions_of : List (List ℕ × List ℕ) → finmap.FinMap text_cmp (List ℕ)
+versions_of pairs = finmap.from_sorted pairs
 
 -- what is believed once a client said which versions it holds: it was told these
 abbrev pub beliefs_resumed : finmap.FinMap text_cmp (List ℕ) → Beliefs → Beliefs

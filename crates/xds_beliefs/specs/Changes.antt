@@ -4,7 +4,7 @@ use Rattle.std.specs.List.{filter}
 use Rattle.std.specs.FinMap as finmap
 use Rattle.xds_resource.specs.Writes.{text_cmp}
 use Rattle.xds_resource.specs.Names.{put_all, put_each}
-use Rattle.xds_interest.specs.Interests.{Selection, covers}
+use Rattle.xds_interest.specs.Interests.{Selection, reaches}
 use Rattle.xds_interest.specs.Touches.{Touch}
 use Rattle.xds_owed.specs.declared.entry.Entry.{Entry}
 use Rattle.xds_owed.specs.declared.entry.Entry.TheVariants.{Told, Unsure}
@@ -30,12 +30,12 @@ changes_answered sent rejects = if rejects then finmap.empty else changes_told s
 
 -- of a touched name that isn't mentioned
 abbrev pub left_touched : Bool → Option Entry → Option Entry
-left_touched covered before = if covered && is_some before then Some Unsure else None
+left_touched reached before = if reached && is_some before then Some Unsure else None
 
 -- and so with each of some names
 abbrev pub changes_left : Selection → Beliefs → Changes → List (List ℕ) → Changes
 changes_left s b c [] = c
-changes_left s b c (n ∷ ns) = changes_left s b (finmap.insert c n (left_touched (covers s n) (believed_now c b n))) ns
+changes_left s b c (n ∷ ns) = changes_left s b (finmap.insert c n (left_touched (reaches s n) (believed_now c b n))) ns
 
 -- of each of some names that a request mentions
 abbrev pub changes_unsure : Selection → Touch → Changes → List (List ℕ) → Changes

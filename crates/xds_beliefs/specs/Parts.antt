@@ -1,7 +1,7 @@
 -- The parts from which what is believed is made, entry by entry: the answers of the functions that make it. This project's own.
 use Rattle.std.specs.Prelude.{ℕ, List, Bool, ◌&&◌, ◌||◌, not, if◌then◌else◌, Option, Some, None, is_some}
 use Rattle.std.specs.FinMap as finmap
-use Rattle.xds_interest.specs.Interests.{Selection, covers}
+use Rattle.xds_interest.specs.Interests.{Selection, reaches}
 use Rattle.xds_interest.specs.Touches.{Touch, touches}
 use Rattle.xds_owed.specs.declared.entry.Entry.{Entry}
 use Rattle.xds_owed.specs.declared.entry.Entry.TheVariants.{Told, Unsure}
@@ -18,11 +18,11 @@ kept_beside whole sent name entry = if is_some (finmap.get sent.offer name) || (
 
 -- of a name that was believed held, after a request that doesn't mention it
 abbrev pub left_by : Selection → Touch → List ℕ → Entry → Option Entry
-left_by s touched name entry = if touches touched name then (if covers s name then Some Unsure else None) else Some entry
+left_by s touched name entry = if touches touched name then (if reaches s name then Some Unsure else None) else Some entry
 
 -- of a name that a request mentions
 abbrev pub made_unsure : Selection → Touch → List ℕ → Option Entry
-made_unsure s touched name = if touches touched name && covers s name then Some Unsure else None
+made_unsure s touched name = if touches touched name && reaches s name then Some Unsure else None
 
 -- of a name that a client says it holds at a version
 abbrev pub told_as : List ℕ → List ℕ → Option Entry

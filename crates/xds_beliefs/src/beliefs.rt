@@ -6,7 +6,7 @@ ghost use Rattle.std.specs.FinSet as set;
 ghost use Rattle.xds_resource.specs.declared.refusal.Refusal.TheVariants.{OutOfMemory};
 ghost use Rattle.xds_resource.specs.Writes.{text_cmp};
 ghost use Rattle.xds_resource.specs.Names.{put_all, put_some};
-ghost use Rattle.xds_beliefs.specs.Believing.{was_touched, beliefs_accepted, beliefs_taken, beliefs_resumed};
+ghost use Rattle.xds_beliefs.specs.Believing.{was_touched, beliefs_accepted, beliefs_taken, AreInOrder, versions_of, beliefs_resumed};
 ghost use Rattle.xds_beliefs.specs.Parts.{told_unless_touched, kept_beside, left_by, made_unsure};
 
 use crate::copying::put_entry;
@@ -106,7 +106,7 @@ fn put_left<T: ResourceType>(
 {
     if !touched.touches(name) {
         put_entry(alloc, next, name, entry)
-    } else if interest.covers(name) {
+    } else if interest.reaches(name) {
         next.put(alloc, name, Some(Entry::Unsure))
     } else {
         Ok(())
@@ -138,7 +138,7 @@ pub fn made_unsure<T: ResourceType>(
 ) -> Option<Entry>
     ensures { result ≡ made_unsure interest.now touched.now name.now }
 {
-    if touched.touches(name) && interest.covers(name) {
+    if touched.touches(name) && interest.reaches(name) {
         Some(Entry::Unsure)
     } else {
         None
@@ -165,8 +165,8 @@ fn taken<T: ResourceType>(
 
 // After a client said which versions it holds, in ascending order of names.
 fn resumed(alloc: Global, versions: &[(&str, &str)], beliefs: Beliefs) -> Result<Beliefs, Refusal>
-    ensures ok { (held : finmap.FinMap text_cmp (List ℕ)) → map (λ p. (p.0.now, p.1.now)) versions.now ≡ finmap.entries held
-        → IfOk result (λ m. m ≡ beliefs_resumed held beliefs) }
+    requires sorted { AreInOrder (map (λ p. (p.0.now, p.1.now)) versions.now) }
+    ensures ok { IfOk result (λ m. m ≡ beliefs_resumed (versions_of (map (λ p. (p.0.now, p.1.now)) versions.now)) beliefs) }
     ensures err { IfErr result (λ e. e ≡ OutOfMemory) }
 {
     let mut next = beliefs;
@@ -186,8 +186,8 @@ pub fn beliefs_after<T: ResourceType>(
     versions: &[(&str, &str)],
     beliefs: &Beliefs,
 ) -> Result<Beliefs, Refusal>
-    ensures ok { (held : finmap.FinMap text_cmp (List ℕ)) → map (λ p. (p.0.now, p.1.now)) versions.now ≡ finmap.entries held
-        → IfOk result (λ m. m ≡ beliefs_resumed held (beliefs_taken interest.now touched.now (set.from_list (map string_bytes mentioned.entry)) beliefs.now)) }
+    requires sorted { AreInOrder (map (λ p. (p.0.now, p.1.now)) versions.now) }
+    ensures ok { IfOk result (λ m. m ≡ beliefs_resumed (versions_of (map (λ p. (p.0.now, p.1.now)) versions.now)) (beliefs_taken interest.now touched.now (set.from_list (map string_bytes mentioned.entry)) beliefs.now)) }
     ensures err { IfErr result (λ e. e ≡ OutOfMemory) }
 {
     let left = taken(alloc, interest, touched, mentioned, beliefs)?;

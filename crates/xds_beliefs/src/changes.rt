@@ -6,10 +6,10 @@ ghost use Rattle.std.specs.FinSet as set;
 ghost use Rattle.xds_resource.specs.declared.refusal.Refusal.TheVariants.{OutOfMemory};
 ghost use Rattle.xds_resource.specs.Names.{put_some, put_all};
 ghost use Rattle.xds_resource.specs.Writes.{text_cmp};
-ghost use Rattle.xds_interest.specs.Interests.{covers};
+ghost use Rattle.xds_interest.specs.Interests.{reaches};
 ghost use Rattle.xds_beliefs.specs.Changes as specs;
 ghost use Rattle.xds_beliefs.specs.Changes.{believed_now, left_touched, changes_left, changes_unsure, change_as};
-ghost use Rattle.xds_beliefs.specs.Believing.{was_touched, beliefs_taken, beliefs_resumed};
+ghost use Rattle.xds_beliefs.specs.Believing.{was_touched, beliefs_taken, AreInOrder, versions_of, beliefs_resumed};
 ghost use Rattle.xds_owed.specs.Owed as owed;
 ghost use Rattle.xds_beliefs.specs.Parts as parts;
 
@@ -66,10 +66,10 @@ fn put_left<T: ResourceType>(
     changes: &mut NameMap<Option<Entry>>,
     name: &str,
 ) -> Result<(), Refusal>
-    ensures ok { OnOk result (changes.new ≡ finmap.insert changes.old name.now (left_touched (covers interest.now name.now) (believed_now changes.old beliefs.now name.now))) }
+    ensures ok { OnOk result (changes.new ≡ finmap.insert changes.old name.now (left_touched (reaches interest.now name.now) (believed_now changes.old beliefs.now name.now))) }
     ensures err { IfErr result (λ e. e ≡ OutOfMemory) }
 {
-    let left = if interest.covers(name) && is_believed(beliefs, changes, name) {
+    let left = if interest.reaches(name) && is_believed(beliefs, changes, name) {
         Some(Entry::Unsure)
     } else {
         None
@@ -158,9 +158,10 @@ pub fn changes_after<T: ResourceType>(
     beliefs: &Beliefs,
     changes: NameMap<Option<Entry>>,
 ) -> Result<NameMap<Option<Entry>>, Refusal>
-    requires { touched.now.all ≡ false }
-    ensures ok { (held : finmap.FinMap text_cmp (List ℕ)) → map (λ p. (p.0.now, p.1.now)) versions.now ≡ finmap.entries held → (before : owed.Beliefs) → ((name : List ℕ) → finmap.get before name ≡ believed_now changes beliefs.now name)
-        → IfOk result (λ m. (name : List ℕ) → finmap.get (beliefs_resumed held (beliefs_taken interest.now touched.now (set.from_list (map string_bytes mentioned.entry)) before)) name ≡ believed_now m beliefs.now name) }
+    requires some { touched.now.all ≡ false }
+    requires sorted { AreInOrder (map (λ p. (p.0.now, p.1.now)) versions.now) }
+    ensures ok { (before : owed.Beliefs) → ((name : List ℕ) → finmap.get before name ≡ believed_now changes beliefs.now name)
+        → IfOk result (λ m. (name : List ℕ) → finmap.get (beliefs_resumed (versions_of (map (λ p. (p.0.now, p.1.now)) versions.now)) (beliefs_taken interest.now touched.now (set.from_list (map string_bytes mentioned.entry)) before)) name ≡ believed_now m beliefs.now name) }
     ensures err { IfErr result (λ e. e ≡ OutOfMemory) }
 {
     let left = changes_left(alloc, interest, touched.names(), beliefs, changes)?;

@@ -1,9 +1,7 @@
 // A response that was sent and isn't answered.
 ghost use Rattle.std.specs.Prelude.{◌≡◌, [], ◌∷◌, ◌++◌, IfOk, IfErr, OnOk, OnErr};
 ghost use Rattle.xds_resource.specs.declared.refusal.Refusal.TheVariants.{OutOfMemory};
-ghost use Rattle.xds_interest.specs.Touches.{Touch};
-ghost use Rattle.xds_beliefs.specs.Believing as ledgers;
-ghost use Rattle.xds_beliefs.specs.Believing.{was_touched, touched_since};
+ghost use Rattle.xds_beliefs.specs.Believing.{was_touched, touched_since, last_touch_forgotten};
 
 use crate::copying::{copy_offer, copy_touches};
 use std::alloc::Global;
@@ -67,7 +65,7 @@ impl Sent {
 
     /// Takes back what was noted last. It takes no memory.
     pub fn forget(&mut self)
-        ensures { (before : ledgers.Sent) → (touched : Touch) → self.old ≡ touched_since before touched → self.new ≡ before }
+        ensures { self.new ≡ last_touch_forgotten self.old }
     {
         self.touched.pop();
     }

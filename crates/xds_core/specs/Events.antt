@@ -14,7 +14,8 @@ pub data Event : Type 0 where
   Poll : ℕ → Option TypeName → Event
   Owes : ℕ → Option TypeName → Event
   Close : ℕ → Event
-  Put : TypeName → NamedBody → Event
+  -- a resource, in these groups
+  Put : TypeName → NamedBody → List (List ℕ) → Event
   Delete : TypeName → List ℕ → Event
   Merge : Batch → Event
   Snapshot : Event

@@ -33,7 +33,7 @@ stream_changed c (Request n m) = Some n
 stream_changed c (Poll n which) = Some n
 stream_changed c (Owes n which) = None
 stream_changed c (Close n) = Some n
-stream_changed c (Put t r) = None
+stream_changed c (Put t r groups) = None
 stream_changed c (Delete t name) = None
 stream_changed c (Merge b) = None
 stream_changed c Snapshot = None
@@ -44,7 +44,7 @@ StreamsStandApart = (c : Core) (e : Event) (n : ℕ) → stream_changed c e ≢ 
 
 -- whether an event may change what is held
 abbrev pub is_write : Event → Bool
-is_write (Put t r) = true
+is_write (Put t r groups) = true
 is_write (Delete t name) = true
 is_write (Merge b) = true
 is_write e = false
@@ -63,7 +63,7 @@ CountersNeverFall = (c : Core) (e : Event) (t : TypeName) → greatest_counter (
 
 -- the counter of an own write is above all that are held of its type
 abbrev pub OwnCountersRise : Type 0
-OwnCountersRise = (c after : Core) (t : TypeName) (r : NamedBody) (counter writer : ℕ) → step c (Put t r) ≡ Ok (Written counter writer, after) → counter ≡ greatest_counter (at c.store t).entries + 1
+OwnCountersRise = (c after : Core) (t : TypeName) (r : NamedBody) (groups : List (List ℕ)) (counter writer : ℕ) → step c (Put t r groups) ≡ Ok (Written counter writer, after) → counter ≡ greatest_counter (at c.store t).entries + 1
 
 abbrev pub OwnDeletionsRise : Type 0
 OwnDeletionsRise = (c after : Core) (t : TypeName) (name : List ℕ) (counter writer : ℕ) → step c (Delete t name) ≡ Ok (Written counter writer, after) → counter ≡ greatest_counter (at c.store t).entries + 1

@@ -1,7 +1,8 @@
 -- Lists of records: events with their answers. This project's own.
-use Rattle.std.specs.Prelude.{◌≡◌, List, [], ◌∷◌, Result, Ok, Err, IsOk, IsSome, ⊤}
+use Rattle.std.specs.Prelude.{◌≡◌, List, [], ◌∷◌, Result, Ok, Err, IsOk, IsSomeAnd, ⊤}
 use Rattle.std.specs.FinMap as finmap
 use Rattle.xds_resource.specs.declared.refusal.Refusal.{Refusal}
+use Rattle.xds_streams.specs.Streams.{looked_at, IsToRespond}
 use Rattle.xds_core.specs.Events.{Event, Poll, Owes, Close, Reply}
 use Rattle.xds_core.specs.Steps.{Core, Step, step}
 
@@ -34,10 +35,10 @@ abbrev pub IsLegal : Core → List Record → Type 0
 IsLegal c [] = ⊤
 IsLegal c (r ∷ rs) = (answer_of (step c r.event) ≡ r.answer) × IsLegal (after c r.event) rs
 
--- What holds where an event finds no memory: no other refusal applies, but perhaps that a stream has no number left. A look and
--- a close need no memory.
+-- What holds where an event finds no memory: no other refusal applies. A poll needs memory only where a response is due and
+-- the stream has a number left for it; a look and a close need none.
 abbrev pub IsShort : Core → Event → Type 0
-IsShort c (Poll n which) = IsSome (finmap.get c.streams n)
+IsShort c (Poll n which) = IsSomeAnd (finmap.get c.streams n) (λ s. IsToRespond c.store s (looked_at which))
 IsShort c (Owes n which) = ⊥
 IsShort c (Close n) = ⊥
 IsShort c e = IsOk (step c e)

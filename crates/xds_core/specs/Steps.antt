@@ -45,7 +45,7 @@ with_stream c n s = record c { streams = finmap.insert c.streams n s }
 abbrev pub on_stream : Core → ℕ → (Stream → Step) → Step
 on_stream c n f = option_map_or f (finmap.get c.streams n) (Err NoStream)
 
--- the number of the stream that is opened next
+-- a stream opens: it answers the stream's number, and what is left
 abbrev pub opening_step : Core → Step
 opening_step c =
     unless_refused ((c.opened == max_counter, CounterSpent) ∷ []) (Opened (c.opened + 1), record c { opened = c.opened + 1; streams = finmap.insert c.streams (c.opened + 1) opening })
@@ -70,7 +70,7 @@ step c (Request n m) = stream_step c n Answered (λ s. requested s m)
 step c (Poll n which) = stream_step c n Polled (λ s. polled_first c.replica c.store s (looked_at which))
 step c (Owes n which) = on_stream c n (λ s. Ok (Owed (owes_some c.store s (looked_at which)), c))
 step c (Close n) = close_step c n
-step c (Put t r) = write_step c (putting_at c.store t r c.replica)
+step c (Put t r groups) = write_step c (putting_at c.store t r groups c.replica)
 step c (Delete t name) = write_step c (deleting_at c.store t name c.replica)
 step c (Merge b) = merge_step c b
 step c Snapshot = Ok (Entries (all_entries c.store), c)

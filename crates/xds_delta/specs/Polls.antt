@@ -16,7 +16,7 @@ use Rattle.xds_owed.specs.declared.entry.Due.TheVariants.{Stated, Removed}
 use Rattle.xds_owed.specs.Offers.{Offer}
 use Rattle.xds_ledger.specs.Sessions as sessions
 use Rattle.xds_ledger.specs.Sessions.{Session, Answer, delta_names}
-use Rattle.xds_ledger.specs.Texts.{held_version}
+use Rattle.xds_ledger.specs.Texts.{replica_version}
 
 -- the two lists of a request
 abbrev pub mention : DeltaRequest → Mention
@@ -62,7 +62,7 @@ resource_at m name = option_and_then resource_of (finmap.get m name)
 abbrev pub response : ℕ → TypeName → Holdings → Offer → ℕ → DraftedDelta
 response replica t h o number = record {
   kind = t;
-  system_version_info = held_version replica h.changes;
+  system_version_info = replica_version replica h.changes;
   nonce = decimal number;
   resources = filter_map (resource_at h.entries) (names_where is_statement o);
   removed_resources = names_where is_removal o;

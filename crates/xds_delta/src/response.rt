@@ -9,7 +9,7 @@ use std::alloc::Global;
 use xds_catalogue::Catalogue;
 use xds_draft::DeltaDraft;
 use xds_ledger::Due;
-use xds_ledger::texts::{held_version, nonce_text};
+use xds_ledger::texts::{replica_version, nonce_text};
 use xds_resource::{NameMap, Refusal, ResourceType};
 
 // Adds what an offer says of a name: its live resource, or that it is gone.
@@ -60,7 +60,7 @@ pub(crate) fn response<T: ResourceType>(
     ensures ok { IfOk result (λ d. d ≡ response_of replica T.TYPE catalogue.now offer.now number) }
     ensures refused { IfErr result (λ e. e ≡ OutOfMemory) }
 {
-    let version = held_version(alloc, replica, catalogue.changes())?;
+    let version = replica_version(alloc, replica, catalogue.changes())?;
     let nonce = nonce_text(alloc, number)?;
     let draft = DeltaDraft::new(alloc, T::TYPE, version, nonce);
     let all = say_all(alloc, draft, catalogue, offer)?;

@@ -1,20 +1,22 @@
 // What an incremental (delta) client asked for of one type, and what it was told.
-ghost use Rattle.std.specs.Prelude.{◌≡◌, ◌≤◌, ◌⊎◌, true, false, is_some, IsSome, IfSome, IfOk, IfErr, OnOk, OnErr};
+ghost use Rattle.std.specs.Prelude.{◌≡◌, ◌<◌, ◌≤◌, ◌⊎◌, true, false, is_some, IsSome, IfSome, IfOk, IfErr, OnOk, OnErr};
 ghost use Rattle.std.specs.FinMap as finmap;
 ghost use Rattle.xds_resource.specs.Stamps.{max_counter};
 ghost use Rattle.xds_resource.specs.declared.refusal.Refusal.TheVariants.{OutOfMemory, NonceSpent};
 ghost use Rattle.xds_interest.specs.Touches.{delta_touch};
+ghost use Rattle.xds_owed.specs.Offers.{offer};
+ghost use Rattle.xds_owed.specs.declared.variant.VariantName.TheVariants.{Delta};
 ghost use Rattle.xds_ledger.specs.Sessions.{unopened, is_taken, outcome};
 ghost use Rattle.xds_delta.specs.Parts.{account_after, account_taken, session_taken};
 ghost use Rattle.xds_delta.specs.Polls as polls;
-ghost use Rattle.xds_delta.specs.Polls.{HasPolled, mention, sending};
+ghost use Rattle.xds_delta.specs.Polls.{HasPolled, mention, sending, response as response_of};
 
 use crate::response::response;
 use std::alloc::Global;
 use std::marker::Model;
 use xds_catalogue::Catalogue;
 use xds_draft::DeltaDraft;
-use xds_interest::{DeltaNames, Interest, Touched};
+use xds_interest::{ClusterText, DeltaNames, Interest, Touched};
 use xds_ledger::{Delta, Due, Ledger, Nonces, Outcome};
 use xds_message::DeltaDiscoveryRequest;
 use xds_resource::{NameMap, Refusal, ResourceType};
@@ -110,12 +112,12 @@ fn take_names<T: ResourceType>(
 }
 
 impl<T: ResourceType> Session<T> {
-    /// Before the first request. It is owed nothing.
-    pub fn new(alloc: Global) -> Session<T>
-        ensures { result ≡ unopened }
+    /// Before the first request, of a client with this cluster text. It is owed nothing.
+    pub fn new(alloc: Global, cluster: ClusterText) -> Session<T>
+        ensures { result ≡ unopened cluster }
     {
         Session {
-            names: DeltaNames::new(alloc),
+            names: DeltaNames::new(alloc, cluster),
             ledger: Ledger::new(alloc),
         }
     }
@@ -216,27 +218,28 @@ impl<T: ResourceType> Session<T> {
         self.names.has_begun() && self.ledger.sends(self.names.interest(), catalogue)
     }
 
-    // The offer of the next response, if one is to be sent.
-    fn sending(
+    // What a response says now, and that response as the one of this number.
+    fn respond(
         &self,
         alloc: Global,
+        replica: u16,
         catalogue: &Catalogue<T>,
-    ) -> Result<Option<NameMap<Due>>, Refusal>
-        ensures ok { IfOk result (λ o. o ≡ sending T.TYPE self.now catalogue.now.entries) }
+        number: u64,
+    ) -> Result<(NameMap<Due>, DeltaDraft), Refusal>
+        ensures offer { IfOk result (λ p. p.0 ≡ offer Delta T.TYPE self.now.asked.interest catalogue.now.entries self.now.account.beliefs) }
+        ensures draft { IfOk result (λ p. p.1 ≡ response_of replica T.TYPE catalogue.now p.0 number) }
         ensures refused { IfErr result (λ e. e ≡ OutOfMemory) }
     {
-        if !self.names.has_begun() {
-            return Ok(None);
-        }
         let interest = self.names.interest();
-        let offer = self.ledger.sending(alloc, interest, catalogue)?;
-        Ok(offer)
+        let offer = self.ledger.offer(alloc, interest, catalogue)?;
+        let draft = response(alloc, replica, catalogue, &offer, number)?;
+        Ok((offer, draft))
     }
 
     /// The next response, if one is to be sent: nothing of the type is unanswered, something is owed, and it isn't
     /// what the client refused. It states and removes all that is owed. `replica` is the number of this replica.
-    /// Refused by `OutOfMemory`, or by `NonceSpent` where a response is to be sent and the stream has no nonce left;
-    /// then nothing is sent, and no nonce is drawn.
+    /// Refused only where a response is to be sent: by `NonceSpent` where the stream has no nonce left, and else by
+    /// `OutOfMemory`; then nothing is sent, and no nonce is drawn.
     pub fn poll(
         &mut self,
         alloc: Global,
@@ -247,14 +250,15 @@ impl<T: ResourceType> Session<T> {
         ensures ok { IfOk result (λ answer. HasPolled replica T.TYPE catalogue.now self.old nonces.old answer self.new nonces.new) }
         ensures bound { IfOk result (λ answer. IfSome answer (λ _. nonces.new ≤ max_counter)) }
         ensures err { OnErr result ((self.new ≡ self.old) × (nonces.new ≡ nonces.old)) }
-        ensures refused { IfErr result (λ e. (e ≡ OutOfMemory) ⊎ ((e ≡ NonceSpent) × (nonces.old ≡ max_counter) × IsSome (sending T.TYPE self.old catalogue.now.entries))) }
+        ensures refused { IfErr result (λ e. IsSome (sending T.TYPE self.old catalogue.now.entries) × (((e ≡ NonceSpent) × (nonces.old ≡ max_counter)) ⊎ ((e ≡ OutOfMemory) × (nonces.old < max_counter)))) }
     {
-        let Some(offer) = self.sending(alloc, catalogue)? else {
+        if !self.sends(catalogue) {
             return Ok(None);
-        };
-        let number = nonces.upcoming()?;
-        let draft = response(alloc, replica, catalogue, &offer, number)?;
-        nonces.next()?;
+        }
+        let mut drawn = *nonces;
+        let number = drawn.next()?;
+        let (offer, draft) = self.respond(alloc, replica, catalogue, number)?;
+        *nonces = drawn;
         self.ledger.send(alloc, offer, number);
         Ok(Some(draft))
     }

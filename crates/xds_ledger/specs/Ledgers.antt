@@ -12,7 +12,7 @@ use Rattle.xds_catalogue.specs.Holdings.{Entries}
 use Rattle.xds_owed.specs.declared.variant.VariantName.{VariantName}
 use Rattle.xds_owed.specs.declared.entry.Entry.{Entry}
 use Rattle.xds_owed.specs.declared.entry.Due.{Due}
-pub use Rattle.xds_beliefs.specs.Believing.{Sent, sent_code, touched_since, was_touched, once_told, believed_accepted, beliefs_accepted, believed_touched, believed_taken, beliefs_taken, beliefs_resumed}
+pub use Rattle.xds_beliefs.specs.Believing.{Sent, sent_code, touched_since, last_touch_forgotten, was_touched, once_told, believed_accepted, beliefs_accepted, believed_touched, believed_taken, beliefs_taken, AreInOrder, versions_of, beliefs_resumed}
 use Rattle.xds_owed.specs.Variants.{is_whole}
 use Rattle.xds_owed.specs.Owed.{entry_code, something_owed}
 use Rattle.xds_owed.specs.Offers.{Offer, due_code, offer, same_offer}
@@ -35,8 +35,8 @@ account_code =
     (λ a. (a.beliefs, (a.nonce, (a.accepted, (a.sent, a.refused))))) (λ p. record { beliefs = p.0; nonce = p.1.0; accepted = p.1.1.0; sent = p.1.1.1.0; refused = p.1.1.1.1 }) (λ _. refl)
 
 -- before the first request
-abbrev pub opened : Account
-opened = record { beliefs = finmap.empty; nonce = 0; accepted = false; sent = None; refused = None }
+abbrev pub untold : Account
+untold = record { beliefs = finmap.empty; nonce = 0; accepted = false; sent = None; refused = None }
 
 -- ---- what is due
 
@@ -98,6 +98,10 @@ settled v t a nonce rejects = if answers a nonce then option_map_or (λ sent. an
 -- what a request touched is noted with the unanswered response, if there is one
 abbrev pub noted : Account → Touch → Account
 noted a touched = record a { sent = option_map (λ sent. touched_since sent touched) a.sent }
+
+-- the same without what was noted last
+abbrev pub forgotten : Account → Account
+forgotten a = record a { sent = option_map last_touch_forgotten a.sent }
 
 -- Once a request's names are taken: its interest, what it touches, and the names that it mentions.
 abbrev pub touch : Account → Selection → Touch → set.FinSet text_cmp → Account

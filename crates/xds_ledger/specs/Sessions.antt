@@ -15,7 +15,7 @@ use Rattle.xds_ledger.specs.declared.outcome.Outcome.{Outcome}
 use Rattle.xds_ledger.specs.declared.outcome.Outcome.TheVariants.{Taken, Ignored}
 use Rattle.xds_owed.specs.Offers.{Offer}
 use Rattle.xds_ledger.specs.Ledgers as ledgers
-use Rattle.xds_ledger.specs.Ledgers.{Account, account_code, opened, is_stale, settled, touch, resume}
+use Rattle.xds_ledger.specs.Ledgers.{Account, account_code, untold, is_stale, settled, touch, resume}
 
 pub record Session : Type 0 where
   pub asked : Asked
@@ -24,9 +24,9 @@ pub record Session : Type 0 where
 abbrev pub session_code : Coded Session
 session_code = code_by (Asked × Account) (coded× asked_code account_code) (λ s. (s.asked, s.account)) (λ p. record { asked = p.0; account = p.1 }) (λ _. refl)
 
--- before the first request: it is owed nothing
-abbrev pub unopened : Session
-unopened = record { asked = unasked; account = opened }
+-- before the first request, of a client with this cluster text: it is owed nothing
+abbrev pub unopened : List ℕ → Session
+unopened cluster = record { asked = unasked cluster; account = untold }
 
 -- the nonce of a request, and whether it has an error
 pub record Answer : Type 0 where

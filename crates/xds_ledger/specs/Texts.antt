@@ -1,7 +1,18 @@
--- The texts that a response has beside its resources, in both variants: its nonce is a decimal number, and the version of
--- all that a replica holds is made of two. This project's own.
-use Rattle.std.specs.Prelude.{ℕ, List, ◌∷◌, ◌++◌, decimal}
+-- The texts that a response has beside its resources: its nonce is a decimal number, and a version is made of the replica's
+-- number, its count of changes, and what the client asked for. This project's own.
+use Rattle.std.specs.Prelude.{ℕ, List, [], ◌∷◌, ◌++◌, codes, decimal, if◌then◌else◌}
+use Rattle.xds_interest.specs.Interests.{Selection}
 
--- the replica and its count of changes
-abbrev pub held_version : ℕ → ℕ → List ℕ
-held_version replica changes = decimal replica ++ 46 ∷ decimal changes
+-- the version of all that a replica holds: the replica and its count of changes
+abbrev pub replica_version : ℕ → ℕ → List ℕ
+replica_version replica changes = decimal replica ++ 46 ∷ decimal changes
+
+-- an `@` and a client's cluster text, if it has one
+abbrev pub at_cluster : List ℕ → List ℕ
+at_cluster [] = []
+at_cluster (c ∷ cs) = 64 ∷ c ∷ cs
+
+-- The version of what a client of this interest sees of a replica. With the star that depends on the client's cluster text;
+-- without it, on the names.
+abbrev pub interest_version : ℕ → ℕ → Selection → List ℕ
+interest_version replica changes s = replica_version replica changes ++ (if s.star then at_cluster s.cluster else codes ".named")

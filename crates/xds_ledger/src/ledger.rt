@@ -2,7 +2,7 @@
 ghost use Rattle.std.specs.Prelude.{◌≡◌, bytes_eq, is_some, IfOk, IfErr};
 ghost use Rattle.xds_resource.specs.declared.refusal.Refusal.TheVariants.{OutOfMemory};
 ghost use Rattle.xds_ledger.specs.Ledgers as ledgers;
-ghost use Rattle.xds_ledger.specs.Ledgers.{opened, nonce_text};
+ghost use Rattle.xds_ledger.specs.Ledgers.{untold, nonce_text};
 ghost use Rattle.xds_owed.specs.Offers.{offer as offer_of};
 
 use itoa::Buffer;
@@ -13,7 +13,7 @@ use xds_beliefs::copying::{copy_beliefs, copy_offer};
 use xds_catalogue::Catalogue;
 use xds_interest::Interest;
 use xds_owed::repeats::repeats;
-use xds_owed::{Beliefs, Due, Variant, is_same_offer, offer, something_owed};
+use xds_owed::{Beliefs, Due, Variant, offer, something_owed};
 use xds_resource::{NameMap, Refusal, ResourceType};
 
 /// What a client was told of one type on one stream, and what is unanswered. Contracts see it as an account.
@@ -53,7 +53,7 @@ fn is_nonce(number: u64, text: &str) -> bool
 impl<T: ResourceType, V: Variant> Ledger<T, V> {
     /// Before the first request.
     pub fn new(alloc: Global) -> Ledger<T, V>
-        ensures { result ≡ opened }
+        ensures { result ≡ untold }
     {
         Ledger {
             beliefs: Beliefs::new(alloc),
@@ -109,38 +109,8 @@ impl<T: ResourceType, V: Variant> Ledger<T, V> {
         self.sent.is_some() || self.is_due(interest, catalogue)
     }
 
-    /// The offer that is to be sent now, if there is one: nothing is unanswered, a response is due, and the offer
-    /// isn't the one that was refused last. Refused only by `OutOfMemory`.
-    pub fn sending(
-        &self,
-        alloc: Global,
-        interest: &Interest<T>,
-        catalogue: &Catalogue<T>,
-    ) -> Result<Option<NameMap<Due>>, Refusal>
-        ensures ok { IfOk result (λ o. o ≡ ledgers.sending V.NAME T.TYPE interest.now catalogue.now.entries self.now) }
-        ensures err { IfErr result (λ e. e ≡ OutOfMemory) }
-    {
-        if self.sent.is_some() || !self.is_due(interest, catalogue) {
-            return Ok(None);
-        }
-        let offer = self.offer(alloc, interest, catalogue)?;
-        if self.is_refused(&offer) {
-            return Ok(None);
-        }
-        Ok(Some(offer))
-    }
-
-    /// Whether this is the offer that was refused last.
-    pub fn is_refused(&self, offer: &NameMap<Due>) -> bool
-        ensures { result ≡ ledgers.is_refused self.now offer.now }
-    {
-        match &self.refused {
-            Some(refused) => is_same_offer(offer, refused),
-            None => false,
-        }
-    }
-
-    /// Whether `sending` has an offer. It takes no memory.
+    /// Whether a response is to be sent: nothing is unanswered, a response is due, and its offer isn't the one that was
+    /// refused last. It takes no memory.
     pub fn sends(&self, interest: &Interest<T>, catalogue: &Catalogue<T>) -> bool
         ensures { result ≡ is_some (ledgers.sending V.NAME T.TYPE interest.now catalogue.now.entries self.now) }
     {

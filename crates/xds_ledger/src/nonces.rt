@@ -35,26 +35,17 @@ impl Nonces {
         Nonces { last: 0 }
     }
 
-    /// The number that is drawn next; after the greatest, 9,223,372,036,854,775,807, it is `NonceSpent`.
-    pub fn upcoming(&self) -> Result<u64, Refusal>
-        ensures ok { IfOk result (λ n. n ≡ self.now + 1) }
+    /// Draws the next number; after the greatest, 9,223,372,036,854,775,807, it is `NonceSpent`.
+    pub fn next(&mut self) -> Result<u64, Refusal>
+        ensures ok { IfOk result (λ n. (n ≡ self.old + 1) × (self.new ≡ self.old + 1)) }
         ensures bound { IfOk result (λ n. n ≤ max_counter) }
-        ensures spent { IfErr result (λ e. (e ≡ NonceSpent) × (self.now ≡ max_counter)) }
+        ensures spent { IfErr result (λ e. (e ≡ NonceSpent) × (self.old ≡ max_counter) × (self.new ≡ self.old)) }
     {
         if self.last == MAX_COUNTER {
             return Err(Refusal::NonceSpent);
         }
-        Ok(self.last + 1)
-    }
-
-    /// Draws the next number.
-    pub fn next(&mut self) -> Result<u64, Refusal>
-        ensures ok { IfOk result (λ n. (n ≡ self.old + 1) × (self.new ≡ self.old + 1)) }
-        ensures spent { IfErr result (λ e. (e ≡ NonceSpent) × (self.old ≡ max_counter) × (self.new ≡ self.old)) }
-    {
-        let number = self.upcoming()?;
-        self.last = number;
-        Ok(number)
+        self.last += 1;
+        Ok(self.last)
     }
 
     /// Whether the greatest number was drawn.

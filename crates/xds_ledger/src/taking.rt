@@ -5,10 +5,8 @@ ghost use Rattle.std.specs.FinMap as finmap;
 ghost use Rattle.std.specs.FinSet as set;
 ghost use Rattle.xds_resource.specs.Writes.{text_cmp};
 ghost use Rattle.xds_resource.specs.declared.refusal.Refusal.TheVariants.{OutOfMemory};
-ghost use Rattle.xds_interest.specs.Touches.{Touch};
 ghost use Rattle.xds_beliefs.specs.Changes.{believed_now, changes_answered};
-ghost use Rattle.xds_ledger.specs.Ledgers as ledgers;
-ghost use Rattle.xds_ledger.specs.Ledgers.{answered, beliefs_accepted, beliefs_taken, beliefs_resumed, noted, settled, touch, resume};
+ghost use Rattle.xds_ledger.specs.Ledgers.{answered, beliefs_accepted, beliefs_taken, AreInOrder, versions_of, beliefs_resumed, noted, forgotten, settled, touch, resume};
 ghost use Rattle.xds_owed.specs.Owed as owed;
 ghost use Rattle.xds_owed.specs.Variants.{is_whole};
 
@@ -33,9 +31,10 @@ fn change_beliefs<T: ResourceType>(
     beliefs: &mut Beliefs,
     start: NameMap<Option<Entry>>,
 ) -> Result<(), Refusal>
-    requires { touched.now.all ≡ false }
-    ensures ok { (held : finmap.FinMap text_cmp (List ℕ)) → map (λ p. (p.0.now, p.1.now)) versions.now ≡ finmap.entries held → (before : owed.Beliefs) → ((name : List ℕ) → finmap.get before name ≡ believed_now start beliefs.old name)
-        → OnOk result (beliefs.new ≡ beliefs_resumed held (beliefs_taken interest.now touched.now (set.from_list (map string_bytes mentioned.entry)) before)) }
+    requires some { touched.now.all ≡ false }
+    requires sorted { AreInOrder (map (λ p. (p.0.now, p.1.now)) versions.now) }
+    ensures ok { (before : owed.Beliefs) → ((name : List ℕ) → finmap.get before name ≡ believed_now start beliefs.old name)
+        → OnOk result (beliefs.new ≡ beliefs_resumed (versions_of (map (λ p. (p.0.now, p.1.now)) versions.now)) (beliefs_taken interest.now touched.now (set.from_list (map string_bytes mentioned.entry)) before)) }
     ensures err { OnErr result (beliefs.new ≡ beliefs.old) }
     ensures refused { IfErr result (λ e. e ≡ OutOfMemory) }
 {
@@ -61,8 +60,8 @@ impl<T: ResourceType, V: Variant> Ledger<T, V> {
         mentioned: Iter<'_, String>,
         versions: &[(&str, &str)],
     ) -> Result<(), Refusal>
-        ensures ok { (held : finmap.FinMap text_cmp (List ℕ)) → map (λ p. (p.0.now, p.1.now)) versions.now ≡ finmap.entries held
-            → OnOk result (self.new ≡ resume (touch (settled V.NAME T.TYPE self.old nonce.now rejects) interest.now touched (set.from_list (map string_bytes mentioned.entry))) held) }
+        requires sorted { AreInOrder (map (λ p. (p.0.now, p.1.now)) versions.now) }
+        ensures ok { OnOk result (self.new ≡ resume (touch (settled V.NAME T.TYPE self.old nonce.now rejects) interest.now touched (set.from_list (map string_bytes mentioned.entry))) (versions_of (map (λ p. (p.0.now, p.1.now)) versions.now))) }
         ensures err { OnErr result (self.new ≡ self.old) }
         ensures refused { IfErr result (λ e. e ≡ OutOfMemory) }
     {
@@ -83,8 +82,8 @@ impl<T: ResourceType, V: Variant> Ledger<T, V> {
         mentioned: Iter<'_, String>,
         versions: &[(&str, &str)],
     ) -> Result<(), Refusal>
-        ensures ok { (held : finmap.FinMap text_cmp (List ℕ)) → map (λ p. (p.0.now, p.1.now)) versions.now ≡ finmap.entries held
-            → OnOk result (IfSome self.old.sent (λ sent. self.new ≡ resume (touch (answered V.NAME T.TYPE self.old sent rejects) interest.now touched (set.from_list (map string_bytes mentioned.entry))) held)) }
+        requires sorted { AreInOrder (map (λ p. (p.0.now, p.1.now)) versions.now) }
+        ensures ok { OnOk result (IfSome self.old.sent (λ sent. self.new ≡ resume (touch (answered V.NAME T.TYPE self.old sent rejects) interest.now touched (set.from_list (map string_bytes mentioned.entry))) (versions_of (map (λ p. (p.0.now, p.1.now)) versions.now)))) }
         ensures err { OnErr result (self.new ≡ self.old) }
         ensures refused { IfErr result (λ e. e ≡ OutOfMemory) }
     {
@@ -105,8 +104,8 @@ impl<T: ResourceType, V: Variant> Ledger<T, V> {
         mentioned: Iter<'_, String>,
         versions: &[(&str, &str)],
     ) -> Result<(), Refusal>
-        ensures ok { (held : finmap.FinMap text_cmp (List ℕ)) → map (λ p. (p.0.now, p.1.now)) versions.now ≡ finmap.entries held
-            → OnOk result (IfSome self.old.sent (λ sent. self.new ≡ resume (touch (answered V.NAME T.TYPE self.old sent rejects) interest.now touched (set.from_list (map string_bytes mentioned.entry))) held)) }
+        requires sorted { AreInOrder (map (λ p. (p.0.now, p.1.now)) versions.now) }
+        ensures ok { OnOk result (IfSome self.old.sent (λ sent. self.new ≡ resume (touch (answered V.NAME T.TYPE self.old sent rejects) interest.now touched (set.from_list (map string_bytes mentioned.entry))) (versions_of (map (λ p. (p.0.now, p.1.now)) versions.now)))) }
         ensures err { OnErr result (self.new ≡ self.old) }
         ensures refused { IfErr result (λ e. e ≡ OutOfMemory) }
     {
@@ -133,8 +132,8 @@ impl<T: ResourceType, V: Variant> Ledger<T, V> {
     ) -> Result<(), Refusal>
         requires some { touched.all ≡ false }
         requires partial { (not rejects && is_whole V.NAME T.TYPE) ≡ false }
-        ensures ok { (held : finmap.FinMap text_cmp (List ℕ)) → map (λ p. (p.0.now, p.1.now)) versions.now ≡ finmap.entries held
-            → OnOk result (IfSome self.old.sent (λ sent. self.new ≡ resume (touch (answered V.NAME T.TYPE self.old sent rejects) interest.now touched (set.from_list (map string_bytes mentioned.entry))) held)) }
+        requires sorted { AreInOrder (map (λ p. (p.0.now, p.1.now)) versions.now) }
+        ensures ok { OnOk result (IfSome self.old.sent (λ sent. self.new ≡ resume (touch (answered V.NAME T.TYPE self.old sent rejects) interest.now touched (set.from_list (map string_bytes mentioned.entry))) (versions_of (map (λ p. (p.0.now, p.1.now)) versions.now)))) }
         ensures err { OnErr result (self.new ≡ self.old) }
         ensures refused { IfErr result (λ e. e ≡ OutOfMemory) }
     {
@@ -200,8 +199,8 @@ impl<T: ResourceType, V: Variant> Ledger<T, V> {
         mentioned: Iter<'_, String>,
         versions: &[(&str, &str)],
     ) -> Result<(), Refusal>
-        ensures ok { (held : finmap.FinMap text_cmp (List ℕ)) → map (λ p. (p.0.now, p.1.now)) versions.now ≡ finmap.entries held
-            → OnOk result (self.new ≡ resume (touch self.old interest.now touched (set.from_list (map string_bytes mentioned.entry))) held) }
+        requires sorted { AreInOrder (map (λ p. (p.0.now, p.1.now)) versions.now) }
+        ensures ok { OnOk result (self.new ≡ resume (touch self.old interest.now touched (set.from_list (map string_bytes mentioned.entry))) (versions_of (map (λ p. (p.0.now, p.1.now)) versions.now))) }
         ensures err { OnErr result (self.new ≡ self.old) }
         ensures refused { IfErr result (λ e. e ≡ OutOfMemory) }
     {
@@ -220,8 +219,8 @@ impl<T: ResourceType, V: Variant> Ledger<T, V> {
         mentioned: Iter<'_, String>,
         versions: &[(&str, &str)],
     ) -> Result<(), Refusal>
-        ensures ok { (held : finmap.FinMap text_cmp (List ℕ)) → map (λ p. (p.0.now, p.1.now)) versions.now ≡ finmap.entries held
-            → OnOk result (self.new ≡ resume (touch self.old interest.now touched (set.from_list (map string_bytes mentioned.entry))) held) }
+        requires sorted { AreInOrder (map (λ p. (p.0.now, p.1.now)) versions.now) }
+        ensures ok { OnOk result (self.new ≡ resume (touch self.old interest.now touched (set.from_list (map string_bytes mentioned.entry))) (versions_of (map (λ p. (p.0.now, p.1.now)) versions.now))) }
         ensures err { OnErr result (self.new ≡ self.old) }
         ensures refused { IfErr result (λ e. e ≡ OutOfMemory) }
     {
@@ -240,9 +239,9 @@ impl<T: ResourceType, V: Variant> Ledger<T, V> {
         mentioned: Iter<'_, String>,
         versions: &[(&str, &str)],
     ) -> Result<(), Refusal>
-        requires { touched.all ≡ false }
-        ensures ok { (held : finmap.FinMap text_cmp (List ℕ)) → map (λ p. (p.0.now, p.1.now)) versions.now ≡ finmap.entries held
-            → OnOk result (self.new ≡ resume (touch self.old interest.now touched (set.from_list (map string_bytes mentioned.entry))) held) }
+        requires some { touched.all ≡ false }
+        requires sorted { AreInOrder (map (λ p. (p.0.now, p.1.now)) versions.now) }
+        ensures ok { OnOk result (self.new ≡ resume (touch self.old interest.now touched (set.from_list (map string_bytes mentioned.entry))) (versions_of (map (λ p. (p.0.now, p.1.now)) versions.now))) }
         ensures err { OnErr result (self.new ≡ self.old) }
         ensures refused { IfErr result (λ e. e ≡ OutOfMemory) }
     {
@@ -271,7 +270,7 @@ impl<T: ResourceType, V: Variant> Ledger<T, V> {
 
     // Takes back what was noted last. It takes no memory.
     fn forget(&mut self)
-        ensures { (before : ledgers.Account) → (touched : Touch) → self.old ≡ noted before touched → self.new ≡ before }
+        ensures { self.new ≡ forgotten self.old }
     {
         if let Some(sent) = &mut self.sent {
             sent.forget();

@@ -5,18 +5,18 @@ use Rattle.std.specs.Option.{option_and_then, option_map_or}
 use Rattle.std.specs.FinMap as finmap
 use Rattle.xds_resource.specs.declared.types.TypeName.{TypeName}
 use Rattle.xds_resource.proofs.NameMaps.{has_text, get-tabulated, absent_key, in_neither, cond_same}
-use Rattle.xds_interest.specs.Interests.{Selection, covers}
+use Rattle.xds_interest.specs.Interests.{Selection}
 use Rattle.xds_catalogue.specs.Holdings.{Entries}
 use Rattle.xds_owed.specs.declared.variant.VariantName.{VariantName}
 use Rattle.xds_owed.specs.declared.entry.Due.TheVariants.{Stated}
 use Rattle.xds_owed.specs.Variants.{is_whole, is_told}
-use Rattle.xds_owed.specs.Owed.{Beliefs, live_version, present, owed, owed_of, is_owed, something_owed, names_known}
+use Rattle.xds_owed.specs.Owed.{Beliefs, version_shown, present, owed, owed_of, is_owed, something_owed, names_known}
 use Rattle.xds_owed.specs.Offers.{offered}
 use Rattle.xds_owed.specs.OfferLaws.{OfferSaysIt, NothingOwed}
 use Rattle.xds_owed.proofs.Choosing.{listed_fails}
 
 pub present_absent : (s : Selection) (m : Entries) (q : List ℕ) → finmap.get m q ≡ None → present s m q ≡ None
-present_absent s m q e = ap (λ o. if covers s q then option_and_then live_version o else None) e ∙ cond_same (covers s q) None
+present_absent s m q e = ap (option_and_then (version_shown s q)) e
 
 -- nothing is owed of a name that neither knows
 pub owed_absent : (s : Selection) (m : Entries) (b : Beliefs) (q : List ℕ) → finmap.get b q ≡ None → finmap.get m q ≡ None → owed_of s m b q ≡ None

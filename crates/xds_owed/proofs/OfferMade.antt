@@ -11,7 +11,7 @@ use Rattle.xds_resource.specs.declared.types.TypeName.{TypeName}
 use Rattle.xds_resource.specs.Types.{row}
 use Rattle.xds_resource.specs.Writes.{StampedWrite, text_cmp, version_of}
 use Rattle.xds_resource.specs.Names.{put_some, put_all}
-use Rattle.xds_resource.proofs.NameMaps.{same_names, bytes_eq_same, bytes_eq_tells, cond_same}
+use Rattle.xds_resource.proofs.NameMaps.{same_names, bytes_eq_same, bytes_eq_tells}
 use Rattle.xds_resource.proofs.MadeMaps.{get-put_all, find_below, holds_first, holds_second}
 use Rattle.xds_interest.specs.Interests.{Selection, covers}
 use Rattle.xds_catalogue.specs.Holdings.{Entries, IsCatalogue}
@@ -23,7 +23,7 @@ use Rattle.xds_owed.specs.declared.entry.Entry.TheVariants.{Told, Unsure}
 use Rattle.xds_owed.specs.declared.entry.Due.{Due}
 use Rattle.xds_owed.specs.declared.entry.Due.TheVariants.{Stated, Removed}
 use Rattle.xds_owed.specs.Variants.{is_delta, is_whole, is_told}
-use Rattle.xds_owed.specs.Owed.{Beliefs, live_version, present, owed}
+use Rattle.xds_owed.specs.Owed.{Beliefs, version_shown, present, owed}
 use Rattle.xds_owed.specs.Offers.{Offer, offer}
 use Rattle.xds_owed.specs.OfferParts.{stated, put_writes, removed}
 use Rattle.xds_owed.proofs.ByName.{offer_says_it}
@@ -91,11 +91,11 @@ shown_cases whole false true e version = refl
 shown_cases whole false false e version = refl
 
 base_at : (whole : Bool) (s : Selection) (m : Entries) (b : Beliefs) (q : List ℕ) (o : Option StampedWrite) → IfSome o (λ w. w.name ≡ q)
-    → option_or (option_and_then (if_shown s (stated whole b) q) o) None ≡ stated_at whole (finmap.get b q) (if covers s q then option_and_then live_version o else None)
-base_at whole s m b q None named = ap (stated_at whole (finmap.get b q)) (sym (cond_same (covers s q) None))
+    → option_or (option_and_then (if_shown s (stated whole b) q) o) None ≡ stated_at whole (finmap.get b q) (option_and_then (version_shown s q) o)
+base_at whole s m b q None named = refl
 base_at whole s m b q (Some w) named =
-    ap (λ n. option_or (if is_live w && covers s n then (if whole then Some (Stated (version_of w)) else owed (finmap.get b n) (Some (version_of w))) else None) None) named
-    ∙ shown_cases whole (is_live w) (covers s q) (finmap.get b q) (version_of w)
+    ap (λ n. option_or (if is_live w && covers s n w.groups then (if whole then Some (Stated (version_of w)) else owed (finmap.get b n) (Some (version_of w))) else None) None) named
+    ∙ shown_cases whole (is_live w) (covers s q w.groups) (finmap.get b q) (version_of w)
 
 get-base : (whole : Bool) (s : Selection) (m : Entries) (b : Beliefs) (q : List ℕ) → IsCatalogue m → finmap.get (base whole s m b) q ≡ stated_at whole (finmap.get b q) (present s m q)
 get-base whole s m b q named =

@@ -14,7 +14,7 @@ use Rattle.xds_owed.specs.declared.variant.VariantName.{VariantName}
 use Rattle.xds_owed.specs.declared.entry.Due.{Due}
 use Rattle.xds_owed.specs.Owed.{Beliefs}
 use Rattle.xds_owed.specs.Offers.{Offer, offered, offer, same_offer}
-use Rattle.xds_owed.specs.Repeats.{same_saying, agrees}
+use Rattle.xds_owed.specs.Repeats.{same_saying, still_says}
 use Rattle.xds_owed.proofs.ByName.{offered_absent, offer_says_it}
 use Rattle.xds_owed.proofs.SameOffers.{same_due_itself, same_due_tells, offers_are_told_apart}
 use Rattle.xds_interest.proofs.Choices.{and_first, and_second}
@@ -54,36 +54,36 @@ one_fails p (e ∷ es) none = fails_first p e es (p e.0) refl none (one_fails p 
 
 module _ (refused : Offer) (v : VariantName) (t : TypeName) (s : Selection) (m : Entries) (b : Beliefs) where
   agree_all_at : (q : List ℕ) (r : Option Due) (e : Option _) (w : Option _) → finmap.get refused q ≡ r → finmap.get b q ≡ e → finmap.get m q ≡ w
-      → ((d : Due) → finmap.get refused q ≡ Some d → agrees refused v t s m b q ≡ true) → ((x : _) → finmap.get b q ≡ Some x → agrees refused v t s m b q ≡ true)
-      → (is_some (finmap.get m q) ≡ true → agrees refused v t s m b q ≡ true) → agrees refused v t s m b q ≡ true
+      → ((d : Due) → finmap.get refused q ≡ Some d → still_says refused v t s m b q ≡ true) → ((x : _) → finmap.get b q ≡ Some x → still_says refused v t s m b q ≡ true)
+      → (is_some (finmap.get m q) ≡ true → still_says refused v t s m b q ≡ true) → still_says refused v t s m b q ≡ true
   agree_all_at q (Some d) e w has unheld unknown said believed held = said d has
   agree_all_at q None (Some x) w has unheld unknown said believed held = believed x unheld
   agree_all_at q None None (Some x) has unheld unknown said believed held = held (ap is_some unknown)
   agree_all_at q None None None has unheld unknown said believed held = λ i. same_saying (has i) (offered_absent v t s m b q unheld unknown i)
 
   -- where they agree of each name that either may speak of, they are the same
-  pub repeats_where : list_all (λ e. agrees refused v t s m b e.0) (finmap.entries refused) ≡ true → list_all (λ e. agrees refused v t s m b e.0) (finmap.entries b) ≡ true
-      → ((name : List ℕ) → is_some (finmap.get m name) ≡ true → agrees refused v t s m b name ≡ true) → same_offer (offer v t s m b) refused ≡ true
+  pub repeats_where : list_all (λ e. still_says refused v t s m b e.0) (finmap.entries refused) ≡ true → list_all (λ e. still_says refused v t s m b e.0) (finmap.entries b) ≡ true
+      → ((name : List ℕ) → is_some (finmap.get m name) ≡ true → still_says refused v t s m b name ≡ true) → same_offer (offer v t s m b) refused ≡ true
   repeats_where said believed held =
       (offers_are_told_apart (offer v t s m b) refused).1
       (same_names (offer v t s m b) refused
       (λ q. offer_says_it v t s m b q
       ∙ sym (same_tells (finmap.get refused q) (offered v t s m b q)
-      (agree_all_at q (finmap.get refused q) (finmap.get b q) (finmap.get m q) refl refl refl (λ d. named_passes (agrees refused v t s m b) refused q d said) (λ x. named_passes (agrees refused v t s m b) b q x believed) (held q)))))
+      (agree_all_at q (finmap.get refused q) (finmap.get b q) (finmap.get m q) refl refl refl (λ d. named_passes (still_says refused v t s m b) refused q d said) (λ x. named_passes (still_says refused v t s m b) b q x believed) (held q)))))
 
   -- where they don't agree of some name, they differ
-  pub differs_where : (name : List ℕ) → agrees refused v t s m b name ≡ false → same_offer (offer v t s m b) refused ≡ false
+  pub differs_where : (name : List ℕ) → still_says refused v t s m b name ≡ false → same_offer (offer v t s m b) refused ≡ false
   differs_where name apart =
       false_from_ne_true _ (λ same. true≢false (sym (same_itself (finmap.get refused name))
       ∙ ap (same_saying (finmap.get refused name)) (sym (sym (offer_says_it v t s m b name) ∙ ap (λ o. finmap.get o name) ((offers_are_told_apart (offer v t s m b) refused).0 same))) ∙ apart))
 
   -- what the entries of a map tell
-  pub differs_among : {X : Type 0} (n : finmap.FinMap text_cmp X) → list_all (λ e. agrees refused v t s m b e.0) (finmap.entries n) ≡ false → false ≡ same_offer (offer v t s m b) refused
-  differs_among n apart = let one = one_fails (agrees refused v t s m b) (finmap.entries n) apart in sym (differs_where one.0 one.1)
+  pub differs_among : {X : Type 0} (n : finmap.FinMap text_cmp X) → list_all (λ e. still_says refused v t s m b e.0) (finmap.entries n) ≡ false → false ≡ same_offer (offer v t s m b) refused
+  differs_among n apart = let one = one_fails (still_says refused v t s m b) (finmap.entries n) apart in sym (differs_where one.0 one.1)
 
   -- once they agree of each name that was told or is believed, the others decide
-  pub others_decide : (result : Bool) → list_all (λ e. agrees refused v t s m b e.0) (finmap.entries refused) ≡ true → list_all (λ e. agrees refused v t s m b e.0) (finmap.entries b) ≡ true
-      → (result ≡ true → (name : List ℕ) → is_some (finmap.get m name) ≡ true → agrees refused v t s m b name ≡ true) → (result ≡ false → (name : List ℕ) × (agrees refused v t s m b name ≡ false))
+  pub others_decide : (result : Bool) → list_all (λ e. still_says refused v t s m b e.0) (finmap.entries refused) ≡ true → list_all (λ e. still_says refused v t s m b e.0) (finmap.entries b) ≡ true
+      → (result ≡ true → (name : List ℕ) → is_some (finmap.get m name) ≡ true → still_says refused v t s m b name ≡ true) → (result ≡ false → (name : List ℕ) × (still_says refused v t s m b name ≡ false))
       → result ≡ same_offer (offer v t s m b) refused
   others_decide true said believed all one = sym (repeats_where said believed (all refl))
   others_decide false said believed all one = let other = one refl in sym (differs_where other.0 other.1)

@@ -12,7 +12,7 @@ use Rattle.xds_owed.specs.Offers.{Offer, offered, offer, same_offer}
 abbrev pub OfferSaysIt : Type 0
 OfferSaysIt = (v : VariantName) (t : TypeName) (s : Selection) (m : Entries) (b : Beliefs) (name : List ℕ) → finmap.get (offer v t s m b) name ≡ offered v t s m b name
 
--- where something is owed of no name, nothing is owed of any
+-- where nothing that can be told is owed of any name that is known, nothing that can be told is owed of any name at all
 abbrev pub NothingOwed : Type 0
 NothingOwed = (v : VariantName) (t : TypeName) (s : Selection) (m : Entries) (b : Beliefs) (name : List ℕ) → something_owed v t s m b ≡ false → is_owed v t s m b name ≡ false
 

@@ -43,9 +43,13 @@ entry_code = code_by (Option (List ℕ)) (coded_option (coded_list coded_ℕ)) t
 abbrev pub live_version : StampedWrite → Option (List ℕ)
 live_version w = if is_live w then Some (version_of w) else None
 
--- The version at which a name is present: the interest covers it, and the catalogue has a live write of it.
+-- the version at which a write of a name is shown: it is live, and the interest covers the name in the write's groups
+abbrev pub version_shown : Selection → List ℕ → StampedWrite → Option (List ℕ)
+version_shown s name w = if covers s name w.groups then live_version w else None
+
+-- The version at which a name is present: the catalogue has a live write of it, which the interest covers.
 abbrev pub present : Selection → Entries → List ℕ → Option (List ℕ)
-present s m name = if covers s name then option_and_then live_version (finmap.get m name) else None
+present s m name = option_and_then (version_shown s name) (finmap.get m name)
 
 -- what is due to a client that was told this version, where this one is present
 abbrev pub owed_after : List ℕ → Option (List ℕ) → Option Due
@@ -79,6 +83,6 @@ is_owed v t s m beliefs name = option_map_or (is_told v t) (owed_of s m beliefs 
 abbrev pub is_owed_at : VariantName → TypeName → Selection → Entries → List ℕ → Entry → Bool
 is_owed_at v t s m name entry = option_map_or (is_told v t) (owed (Some entry) (present s m name)) false
 
--- whether something is owed of some name
+-- whether something that can be told is owed of some name
 abbrev pub something_owed : VariantName → TypeName → Selection → Entries → Beliefs → Bool
 something_owed v t s m beliefs = list_any (is_owed v t s m beliefs) (names_known m beliefs)

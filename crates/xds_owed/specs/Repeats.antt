@@ -37,5 +37,5 @@ same_saying (Some d) None = false
 same_saying (Some d) (Some e) = same_due d e
 
 -- whether an offer says of a name what a response would say now
-abbrev pub agrees : Offer → VariantName → TypeName → Selection → Entries → Beliefs → List ℕ → Bool
-agrees refused v t s m b name = same_saying (finmap.get refused name) (offered v t s m b name)
+abbrev pub still_says : Offer → VariantName → TypeName → Selection → Entries → Beliefs → List ℕ → Bool
+still_says refused v t s m b name = same_saying (finmap.get refused name) (offered v t s m b name)

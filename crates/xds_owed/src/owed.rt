@@ -25,10 +25,10 @@ pub fn present<T: ResourceType>(
 ) -> Option<Stamp>
     ensures { option_map (λ s. version_text s.counter s.writer) result ≡ present interest.now catalogue.now.entries name.now }
 {
-    if !interest.covers(name) {
+    let write = catalogue.get(name)?;
+    if !interest.covers(name, write.groups()) {
         return None;
     }
-    let write = catalogue.get(name)?;
     match write.body() {
         Some(_) => Some(write.stamp()),
         None => None,

@@ -4,7 +4,7 @@ ghost use Rattle.std.specs.List.{list_all};
 ghost use Rattle.std.specs.FinMap as finmap;
 ghost use Rattle.xds_resource.specs.Stamps.{version_text};
 ghost use Rattle.xds_owed.specs.Offers.{offer, same_offer};
-ghost use Rattle.xds_owed.specs.Repeats.{due_said, said_of as due_of, agrees};
+ghost use Rattle.xds_owed.specs.Repeats.{due_said, said_of as due_of, still_says};
 
 use crate::believed::Beliefs;
 use crate::entry::{Due, Entry};
@@ -41,7 +41,7 @@ fn said_of(
 }
 
 // Whether an offer says of a name what a response would say now.
-fn agrees<T: ResourceType>(
+fn still_says<T: ResourceType>(
     refused: &NameMap<Due>,
     variant: VariantName,
     interest: &Interest<T>,
@@ -49,7 +49,7 @@ fn agrees<T: ResourceType>(
     beliefs: &Beliefs,
     name: &str,
 ) -> bool
-    ensures { result ≡ agrees refused.now variant T.TYPE interest.now catalogue.now.entries beliefs.now name.now }
+    ensures { result ≡ still_says refused.now variant T.TYPE interest.now catalogue.now.entries beliefs.now name.now }
 {
     let stamp = present(interest, catalogue, name);
     match (
@@ -64,17 +64,17 @@ fn agrees<T: ResourceType>(
 }
 
 // Whether it does so of each name that it speaks of.
-fn agrees_where_said<T: ResourceType>(
+fn still_says_where_said<T: ResourceType>(
     refused: &NameMap<Due>,
     variant: VariantName,
     interest: &Interest<T>,
     catalogue: &Catalogue<T>,
     beliefs: &Beliefs,
 ) -> bool
-    ensures { result ≡ list_all (λ e. agrees refused.now variant T.TYPE interest.now catalogue.now.entries beliefs.now e.0) (finmap.entries refused.now) }
+    ensures { result ≡ list_all (λ e. still_says refused.now variant T.TYPE interest.now catalogue.now.entries beliefs.now e.0) (finmap.entries refused.now) }
 {
     for (name, _due) in refused.iter() {
-        if !agrees(refused, variant, interest, catalogue, beliefs, name) {
+        if !still_says(refused, variant, interest, catalogue, beliefs, name) {
             return false;
         }
     }
@@ -82,17 +82,17 @@ fn agrees_where_said<T: ResourceType>(
 }
 
 // Whether it does so of each name with an entry.
-fn agrees_where_believed<T: ResourceType>(
+fn still_says_where_believed<T: ResourceType>(
     refused: &NameMap<Due>,
     variant: VariantName,
     interest: &Interest<T>,
     catalogue: &Catalogue<T>,
     beliefs: &Beliefs,
 ) -> bool
-    ensures { result ≡ list_all (λ e. agrees refused.now variant T.TYPE interest.now catalogue.now.entries beliefs.now e.0) (finmap.entries beliefs.now) }
+    ensures { result ≡ list_all (λ e. still_says refused.now variant T.TYPE interest.now catalogue.now.entries beliefs.now e.0) (finmap.entries beliefs.now) }
 {
     for (name, _entry) in beliefs.iter() {
-        if !agrees(refused, variant, interest, catalogue, beliefs, name) {
+        if !still_says(refused, variant, interest, catalogue, beliefs, name) {
             return false;
         }
     }
@@ -100,7 +100,7 @@ fn agrees_where_believed<T: ResourceType>(
 }
 
 // Whether it does so of each name that the catalogue holds.
-fn agrees_where_held<T: ResourceType>(
+fn still_says_where_held<T: ResourceType>(
     refused: &NameMap<Due>,
     variant: VariantName,
     interest: &Interest<T>,
@@ -108,12 +108,12 @@ fn agrees_where_held<T: ResourceType>(
     beliefs: &Beliefs,
 ) -> bool
     ensures all { result ≡ true → (name : List ℕ) → is_some (finmap.get catalogue.now.entries name) ≡ true
-        → agrees refused.now variant T.TYPE interest.now catalogue.now.entries beliefs.now name ≡ true }
-    ensures one { result ≡ false → (name : List ℕ) × (agrees refused.now variant T.TYPE interest.now catalogue.now.entries beliefs.now name ≡ false) }
+        → still_says refused.now variant T.TYPE interest.now catalogue.now.entries beliefs.now name ≡ true }
+    ensures one { result ≡ false → (name : List ℕ) × (still_says refused.now variant T.TYPE interest.now catalogue.now.entries beliefs.now name ≡ false) }
 {
     let mut after = 0;
     while let Some((number, write)) = catalogue.next_change(after) {
-        if !agrees(refused, variant, interest, catalogue, beliefs, write.name()) {
+        if !still_says(refused, variant, interest, catalogue, beliefs, write.name()) {
             return false;
         }
         after = number;
@@ -131,11 +131,11 @@ pub fn repeats<T: ResourceType>(
 ) -> bool
     ensures { result ≡ same_offer (offer variant T.TYPE interest.now catalogue.now.entries beliefs.now) refused.now }
 {
-    if !agrees_where_said(refused, variant, interest, catalogue, beliefs) {
+    if !still_says_where_said(refused, variant, interest, catalogue, beliefs) {
         return false;
     }
-    if !agrees_where_believed(refused, variant, interest, catalogue, beliefs) {
+    if !still_says_where_believed(refused, variant, interest, catalogue, beliefs) {
         return false;
     }
-    agrees_where_held(refused, variant, interest, catalogue, beliefs)
+    still_says_where_held(refused, variant, interest, catalogue, beliefs)
 }

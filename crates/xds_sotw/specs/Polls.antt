@@ -14,7 +14,7 @@ use Rattle.xds_owed.specs.declared.variant.VariantName.TheVariants.{StateOfTheWo
 use Rattle.xds_owed.specs.Offers.{Offer}
 use Rattle.xds_ledger.specs.Sessions as sessions
 use Rattle.xds_ledger.specs.Sessions.{Session, sotw_names}
-use Rattle.xds_ledger.specs.Texts.{held_version}
+use Rattle.xds_ledger.specs.Texts.{interest_version}
 
 -- the session after a request with this nonce, with or without an error, and with this list of names
 abbrev pub take_list : TypeName → Session → List ℕ → Bool → List (List ℕ) → Session
@@ -31,10 +31,6 @@ sending t s m = sessions.sending StateOfTheWorld t s m
 abbrev pub owes : TypeName → Session → Entries → Bool
 owes t s m = sessions.owes StateOfTheWorld t s m
 
--- the version of all that the replica holds, and `.named` where not all resources were asked for
-abbrev pub version_info : ℕ → ℕ → Bool → List ℕ
-version_info replica changes star = held_version replica changes ++ (if star then [] else codes ".named")
-
 -- the live writes that the interest covers and the offer speaks of, in ascending order of names
 abbrev pub stated_writes : Entries → Selection → Offer → List StampedWrite
 stated_writes m s o = filter (λ w. is_some (finmap.get o w.name)) (content m s)
@@ -43,7 +39,7 @@ stated_writes m s o = filter (λ w. is_some (finmap.get o w.name)) (content m s)
 abbrev pub response : ℕ → TypeName → Holdings → Selection → Offer → ℕ → Drafted
 response replica t h s o number = record {
   kind = t;
-  version_info = version_info replica h.changes s.star;
+  version_info = interest_version replica h.changes s;
   nonce = decimal number;
   bodies = filter_map (λ w. w.body) (stated_writes h.entries s o);
 }

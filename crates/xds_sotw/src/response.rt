@@ -1,26 +1,16 @@
 // The response that an offer makes.
-ghost use Rattle.std.specs.Prelude.{◌≡◌, map, IfOk, IfErr, OnOk, string_bytes, decimal};
+ghost use Rattle.std.specs.Prelude.{◌≡◌, map, IfOk, IfErr, OnOk};
 ghost use Rattle.xds_resource.specs.declared.refusal.Refusal.TheVariants.{OutOfMemory};
 ghost use Rattle.xds_sotw.specs.Parts.{pushed, pushed_all};
-ghost use Rattle.xds_sotw.specs.Polls.{version_info, response as response_of};
+ghost use Rattle.xds_sotw.specs.Polls.{response as response_of};
 
 use std::alloc::Global;
 use xds_catalogue::Catalogue;
 use xds_draft::SotwDraft;
 use xds_interest::Interest;
 use xds_ledger::Due;
-use xds_ledger::texts::{held_version, nonce_text};
+use xds_ledger::texts::{interest_version, nonce_text};
 use xds_resource::{NameMap, Refusal, ResourceType, Write};
-
-// The version of the resources, by the replica, the catalogue's count of changes, and whether all were asked for.
-fn version_text(alloc: Global, replica: u16, changes: u64, star: bool) -> Result<String, Refusal>
-    ensures text { IfOk result (λ s. string_bytes s ≡ version_info replica changes star) }
-    ensures refused { IfErr result (λ e. e ≡ OutOfMemory) }
-{
-    let mut text = held_version(alloc, replica, changes)?;
-    text.push_str(if star { "" } else { ".named" })?;
-    Ok(text)
-}
 
 // Adds a write's body, if the offer speaks of its name.
 fn push_offered<T: ResourceType>(
@@ -65,7 +55,7 @@ pub(crate) fn response<T: ResourceType>(
     ensures ok { IfOk result (λ d. d ≡ response_of replica T.TYPE catalogue.now interest.now offer.now number) }
     ensures refused { IfErr result (λ e. e ≡ OutOfMemory) }
 {
-    let version = version_text(alloc, replica, catalogue.changes(), interest.has_star())?;
+    let version = interest_version(alloc, replica, catalogue.changes(), interest)?;
     let nonce = nonce_text(alloc, number)?;
     let shown = catalogue.content(alloc, interest)?;
     let draft = push_all(

@@ -1,7 +1,7 @@
 -- What a replica keeps of a stream: its variant, once the first request decided it, how many responses were sent on it, and a
 -- session of each type. A type that wasn't asked for has a session before its first request. The protocol is that of
--- Envoy's "xDS REST and gRPC protocol"; the variant of a stream is this project's own.
-use Rattle.std.specs.Prelude.{◌≡◌, ℕ, ◌+◌, ◌==◌, List, [], ◌∷◌, length, Bool, true, false, not, if◌then◌else◌, Option, Some, None, is_some, option_map, find, Result, Ok, Err, refl}
+-- Envoy's "xDS REST and gRPC protocol"; the variant of a stream, and its cluster text, are this project's own.
+use Rattle.std.specs.Prelude.{◌≡◌, ℕ, ◌+◌, ◌==◌, ◌<◌, List, [], ◌∷◌, length, Bool, true, false, not, if◌then◌else◌, Option, Some, None, is_some, IsSome, option_map, find, Result, Ok, Err, refl}
 use Rattle.std.specs.Coded.{Coded, code_by, coded×, coded_ℕ, coded_bool, coded_option}
 use Rattle.std.specs.Option.{option_map_or, option_and_then}
 use Rattle.std.specs.List.{list_any}
@@ -13,6 +13,7 @@ use Rattle.xds_resource.specs.Refusals.{unless_refused}
 use Rattle.xds_resource.specs.Stamps.{max_counter}
 use Rattle.xds_resource.specs.Types.{types, type_of_url}
 use Rattle.xds_message.specs.Messages as messages
+use Rattle.xds_message.specs.Messages.{Identity}
 use Rattle.xds_message.specs.DeltaMessages.{DeltaRequest}
 use Rattle.xds_draft.specs.declared.draft.Draft.{Draft}
 use Rattle.xds_draft.specs.declared.draft.Draft.TheVariants as drafts
@@ -53,7 +54,7 @@ stream_code =
 
 -- before the first request
 abbrev pub opening : Stream
-opening = record { variant = None; count = 0; sessions = each unopened }
+opening = record { variant = None; count = 0; sessions = each (unopened []) }
 
 -- a request of either variant
 pub data Message : Type 0 where
@@ -71,6 +72,14 @@ url_of (Delta m) = m.type_url
 abbrev pub nonce_of : Message → List ℕ
 nonce_of (Sotw m) = m.response_nonce
 nonce_of (Delta m) = m.response_nonce
+
+-- the cluster text of the node in a request, if there is one
+abbrev pub cluster_in : Option Identity → List ℕ
+cluster_in node = option_map_or (λ n. n.cluster) node []
+
+abbrev pub cluster_of : Message → List ℕ
+cluster_of (Sotw m) = cluster_in m.node
+cluster_of (Delta m) = cluster_in m.node
 
 -- whether two variants are the same
 abbrev pub is_same_variant : VariantName → VariantName → Bool
@@ -95,10 +104,15 @@ answered_by ss m (Some t) = (sessions.outcome (at ss t) (nonce_of m), with_at ss
 abbrev pub answered : PerType Session → Message → Result (Outcome × PerType Session) Refusal
 answered ss m = unless_refused ((length (url_of m) == 0, BadMessage) ∷ []) (answered_by ss m (type_of_url (url_of m)))
 
--- What a request becomes on a stream, and the stream after it. The first decides the variant, be it of a type outside the table.
+-- the sessions that a request comes to: those of the stream, which the first request makes for the cluster text of its node
+abbrev pub sessions_for : Stream → Message → PerType Session
+sessions_for s m = if is_some s.variant then s.sessions else each (unopened (cluster_of m))
+
+-- What a request becomes on a stream, and the stream after it. The first that isn't refused decides the variant and the
+-- cluster text, be it of a type outside the table; the nodes of later ones aren't looked at.
 abbrev pub requested : Stream → Message → Result (Outcome × Stream) Refusal
 requested s m =
-    if is_foreign s m then Err WrongVariant else if_done (λ p. (p.0, record { variant = Some (variant_of m); count = s.count; sessions = p.1 })) (answered s.sessions m)
+    if is_foreign s m then Err WrongVariant else if_done (λ p. (p.0, record { variant = Some (variant_of m); count = s.count; sessions = p.1 })) (answered (sessions_for s m) m)
 
 -- ---- what is sent
 
@@ -120,13 +134,13 @@ response_of replica store ss t o number variants.StateOfTheWorld = drafts.Sotw (
 response_of replica store ss t o number variants.Delta = drafts.Delta (delta.response replica t (at store t) o number)
 
 -- this offer is sent, where the stream has a number left for it
-abbrev pub sending : ℕ → Store → Stream → TypeName → Offer → Result (Option Draft × Stream) Refusal
-sending replica store s t o =
+abbrev pub responding : ℕ → Store → Stream → TypeName → Offer → Result (Option Draft × Stream) Refusal
+responding replica store s t o =
     unless_refused ((s.count == max_counter, NonceSpent) ∷ []) (option_map (response_of replica store s.sessions t o (s.count + 1)) s.variant, sent s t o)
 
 -- the response of the type, if one is to be sent, and the stream then
 abbrev pub polled : ℕ → Store → Stream → TypeName → Result (Option Draft × Stream) Refusal
-polled replica store s t = option_map_or (sending replica store s t) (to_send store s t) (Ok (None, s))
+polled replica store s t = option_map_or (responding replica store s t) (to_send store s t) (Ok (None, s))
 
 -- one type, or all in the order of the table
 abbrev pub looked_at : Option TypeName → List TypeName
@@ -140,6 +154,10 @@ first_due store s ts = find (λ t. is_some (to_send store s t)) ts
 -- the response of the first of these types that has one to send
 abbrev pub polled_first : ℕ → Store → Stream → List TypeName → Result (Option Draft × Stream) Refusal
 polled_first replica store s ts = option_map_or (polled replica store s) (first_due store s ts) (Ok (None, s))
+
+-- What holds where a poll of these types finds no memory: one of them has a response to send, and the stream has a number left.
+abbrev pub IsToRespond : Store → Stream → List TypeName → Type 0
+IsToRespond store s ts = IsSome (first_due store s ts) × (s.count < max_counter)
 
 -- whether the client is owed something of these types
 abbrev pub owes_some : Store → Stream → List TypeName → Bool

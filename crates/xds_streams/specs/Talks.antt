@@ -1,5 +1,5 @@
 -- A stream whose variant is decided: how many responses were sent on it, and a session of each type. This project's own.
-use Rattle.std.specs.Prelude.{ℕ, Some, refl}
+use Rattle.std.specs.Prelude.{ℕ, List, Some, refl}
 use Rattle.std.specs.Coded.{Coded, code_by, coded×, coded_ℕ}
 use Rattle.xds_resource.specs.declared.types.TypeName.{TypeName}
 use Rattle.xds_resource.specs.PerType.{PerType, per_type_code, each, with_at}
@@ -14,9 +14,9 @@ pub record Talk : Type 0 where
 abbrev pub talk_code : Coded Talk
 talk_code = code_by (ℕ × PerType Session) (coded× coded_ℕ (per_type_code session_code)) (λ t. (t.count, t.sessions)) (λ p. record { count = p.0; sessions = p.1 }) (λ _. refl)
 
--- before the first request of a type is taken
-abbrev pub begun : Talk
-begun = record { count = 0; sessions = each unopened }
+-- before the first request of a type is taken, of a client with this cluster text
+abbrev pub begun : List ℕ → Talk
+begun cluster = record { count = 0; sessions = each (unopened cluster) }
 
 -- with this session of a type
 abbrev pub with_session : Talk → TypeName → Session → Talk
