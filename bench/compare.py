@@ -11,15 +11,30 @@ import random
 import subprocess
 import sys
 
-PREFIX = "type.googleapis.com/envoy.config."
+PREFIX = "type.googleapis.com/envoy."
 # the URL, the name field and its other spelling, and whether a response lists everything
 TYPES = {
-    "cluster": (PREFIX + "cluster.v3.Cluster", "name", "name", True),
-    "endpoint": (PREFIX + "endpoint.v3.ClusterLoadAssignment", "clusterName", "cluster_name", False),
-    "listener": (PREFIX + "listener.v3.Listener", "name", "name", True),
-    "route": (PREFIX + "route.v3.RouteConfiguration", "name", "name", False),
+    "cluster": (PREFIX + "config.cluster.v3.Cluster", "name", "name", True),
+    "endpoint": (PREFIX + "config.endpoint.v3.ClusterLoadAssignment", "clusterName", "cluster_name", False),
+    "listener": (PREFIX + "config.listener.v3.Listener", "name", "name", True),
+    "route": (PREFIX + "config.route.v3.RouteConfiguration", "name", "name", False),
+    "secret": (PREFIX + "extensions.transport_sockets.tls.v3.Secret", "name", "name", False),
 }
 NAMES = ["a", "b", "c", "\u00e9", "a b", "B", "zz", "0"]
+CLUSTERS = ["g1", "g2", "\u00e9", ""]
+
+
+def groups_of(texts):
+    """The groups that a list of texts is, in ascending order, or none where it is no such list."""
+    if not isinstance(texts, list) or not all(isinstance(text, str) and 1 <= len(text.encode()) <= 1024 for text in texts):
+        return None
+    groups = sorted({text.encode() for text in texts})
+    return groups if len(groups) <= 64 else None
+
+
+def is_open_to(groups, cluster):
+    """Whether the star of a client of this cluster covers a write of these groups."""
+    return not groups or cluster.encode() in groups
 
 
 def in_order(value):
@@ -52,7 +67,7 @@ def some_value(pick, depth=0):
 
 def some_write(pick):
     """The word of a type, a write of it, and whether the write is good."""
-    word = pick.choice(["cluster", "cluster", "endpoint", "listener", "route"])
+    word = pick.choice(["cluster", "cluster", "endpoint", "listener", "route", "secret"])
     url, field, other, _ = TYPES[word]
     name = pick.choice(NAMES)
     write = {"typeUrl": url, "name": name, "counter": pick.randrange(1, 6), "writer": pick.choice([1, 2, 3, 65535])}
@@ -66,11 +81,15 @@ def some_write(pick):
         if fault < 0.01:
             body["f"], good = 1.5, False
         elif fault < 0.02:
-            body["@type"], good = PREFIX + "x", False
+            body["@type"], good = PREFIX + "config.x", False
         elif fault < 0.03:
             write["name"], good = "other", False
     elif pick.random() < 0.3:
         write["body"] = None
+    if pick.random() < 0.5:
+        write["groups"] = some_groups(pick)
+        groups = groups_of(write["groups"] or [])
+        good = good and groups is not None and (write.get("body") is not None or not groups)
     fault = pick.random()
     for key, value in [("counter", 0), ("writer", 65536), ("name", "*"), ("typeUrl", PREFIX + "q"), ("counter", "1")]:
         fault -= 0.01
@@ -80,6 +99,15 @@ def some_write(pick):
     if fault < 0.05:
         write["extra"] = [1.5, {"a": None}]
     return word, write, good
+
+
+def some_groups(pick):
+    """Groups as a write lists them, now and then no list of groups."""
+    if pick.random() < 0.03:
+        return pick.choice(["g1", {}, ["g1", 1], [""], ["g1", None], ["x" * 1025], ["g%d" % at for at in range(65)]])
+    if pick.random() < 0.05:
+        return pick.choice([None, ["x" * 1024], ["g%d" % (at % 64) for at in range(200)]])
+    return [pick.choice(["g1", "g2", "\u00e9", "g10", "z"]) for _ in range(pick.randrange(4))]
 
 
 def some_request(pick):
@@ -96,8 +124,10 @@ def some_request(pick):
     if pick.random() < 0.7:
         names = [pick.choice(NAMES + ["*", "missing"]) for _ in range(pick.randrange(4))]
         request[pick.choice(["resourceNames", "resource_names"])] = names
-    if pick.random() < 0.3:
+    if pick.random() < 0.6:
         request["node"] = {"id": "n", "x": 1.25}
+        if pick.random() < 0.8:
+            request["node"]["cluster"] = pick.choice(CLUSTERS)
     return request, word
 
 
@@ -111,19 +141,20 @@ def answer(replica, held, changes, word, request):
     """What a fresh stream's first poll gives, by what is held of the type."""
     url, _, _, complete = TYPES[word]
     names = request.get("resourceNames", request.get("resource_names", []))
+    cluster = request.get("node", {}).get("cluster", "")
     star = complete and (not names or "*" in names)
-    shown = [held[name][1] for name in sorted(held, key=str.encode)]
-    shown = [body for body in shown if body is not None and (star or body_name(word, body) in names)]
+    shown = []
+    for name in sorted(held, key=str.encode):
+        (_, _, _, _, groups), body = held[name]
+        if body is not None and (name in names or star and is_open_to(groups, cluster)):
+            shown.append(body)
     if not complete and not shown:
         return b""
-    response = {"nonce": "1", "typeUrl": url, "versionInfo": "%d.%d%s" % (replica, changes, "" if star else ".named")}
+    ending = ".named" if not star else "@" + cluster if cluster else ""
+    response = {"nonce": "1", "typeUrl": url, "versionInfo": "%d.%d%s" % (replica, changes, ending)}
     if shown:
         response["resources"] = shown
     return compact(response) + b"\n"
-
-
-def body_name(word, body):
-    return body.get(TYPES[word][1], body.get(TYPES[word][2]))
 
 
 def one(program, seed):
@@ -143,7 +174,7 @@ def one(program, seed):
             fault = fault or (number, "7 BadMessage")
             continue
         body = write.get("body")
-        rank = (write["counter"], write["writer"], body is not None, b"" if body is None else compact(body))
+        rank = (write["counter"], write["writer"], body is not None, b"" if body is None else compact(body), groups_of(write.get("groups") or []))
         old = held[word].get(write["name"])
         if old is None or rank > old[0]:
             held[word][write["name"]] = (rank, body)

@@ -12,15 +12,29 @@ import random
 import subprocess
 import sys
 
-PREFIX = "type.googleapis.com/envoy.config."
+PREFIX = "type.googleapis.com/envoy."
 # the URL, the name field and its other spelling, and whether a response lists everything
 TYPES = {
-    "cluster": (PREFIX + "cluster.v3.Cluster", "name", "name", True),
-    "endpoint": (PREFIX + "endpoint.v3.ClusterLoadAssignment", "clusterName", "cluster_name", False),
-    "listener": (PREFIX + "listener.v3.Listener", "name", "name", True),
-    "route": (PREFIX + "route.v3.RouteConfiguration", "name", "name", False),
+    "cluster": (PREFIX + "config.cluster.v3.Cluster", "name", "name", True),
+    "endpoint": (PREFIX + "config.endpoint.v3.ClusterLoadAssignment", "clusterName", "cluster_name", False),
+    "listener": (PREFIX + "config.listener.v3.Listener", "name", "name", True),
+    "route": (PREFIX + "config.route.v3.RouteConfiguration", "name", "name", False),
+    "secret": (PREFIX + "extensions.transport_sockets.tls.v3.Secret", "name", "name", False),
 }
 UNSURE = object()
+
+
+def groups_of(texts):
+    """The groups that a list of texts is, in ascending order, or none where it is no such list."""
+    if not isinstance(texts, list) or not all(isinstance(text, str) and 1 <= len(text.encode()) <= 1024 for text in texts):
+        return None
+    groups = sorted({text.encode() for text in texts})
+    return groups if len(groups) <= 64 else None
+
+
+def is_open_to(groups, cluster):
+    """Whether the star of a client of this cluster covers a write of these groups."""
+    return not groups or cluster.encode() in groups
 
 
 def is_complete(kind):
@@ -57,24 +71,24 @@ class Catalogue:
         self.changes = 0
 
     def join(self, name, write):
-        """A write is its counter, its writer, and its body or none for a deletion."""
+        """A write is its counter, its writer, its body or none for a deletion, and its groups."""
         old = self.entries.get(name)
         if old is None or rank(write) > rank(old):
             self.entries[name] = write
             self.changes += 1
 
-    def stamp(self, name, writer, body):
+    def stamp(self, name, writer, body, groups=()):
         counter = max((write[0] for write in self.entries.values()), default=0) + 1
-        self.join(name, (counter, writer, body))
+        self.join(name, (counter, writer, body, list(groups)))
 
     def live(self, name):
         write = self.entries.get(name)
-        return None if write is None or write[2] is None else ("%d-%d" % write[:2], write[2])
+        return None if write is None or write[2] is None else ("%d-%d" % write[:2], write[2], write[3])
 
 
 def rank(write):
-    counter, writer, body = write
-    return counter, writer, body is not None, b"" if body is None else body.encode()
+    counter, writer, body, groups = write
+    return counter, writer, body is not None, b"" if body is None else body.encode(), groups
 
 
 class Session:
@@ -85,6 +99,8 @@ class Session:
         self.asked = False
         self.named = False
         self.star, self.names = False, set()
+        # the cluster of the first request of the stream
+        self.cluster = ""
         self.believed = {}
         self.last_nonce = ""
         # the response that is unanswered: its nonce, its offer, and what was touched since; all of it where that is `True`
@@ -93,8 +109,13 @@ class Session:
         self.refused = None
         self.was_accepted = False
 
-    def covers(self, name):
+    def reaches(self, name):
         return self.star or name in self.names
+
+    def present(self, catalogue, name):
+        """The version, the body and the groups of what is live under a name, if the interest covers it."""
+        live = catalogue.live(name)
+        return live if live and (name in self.names or self.star and is_open_to(live[2], self.cluster)) else None
 
     def new_interest(self, first, request):
         """The star, the names, what was touched, and what was mentioned."""
@@ -137,7 +158,7 @@ class Session:
         candidates = set(self.believed) | mentioned if touched is True else touched
         for name in candidates:
             had = self.believed.pop(name, None) is not None
-            if self.covers(name) and (had or name in mentioned):
+            if self.reaches(name) and (had or name in mentioned):
                 self.believed[name] = UNSURE
         if self.unanswered is not None:
             self.touched = True if touched is True or self.touched is True else self.touched | touched
@@ -167,7 +188,7 @@ class Session:
         """Of each name that is owed, its version, or none where it is gone."""
         found = {}
         for name in set(catalogue.entries) | set(self.believed):
-            live = catalogue.live(name) if self.covers(name) else None
+            live = self.present(catalogue, name)
             believed = self.believed.get(name)
             if live is None:
                 if believed is not None:
@@ -192,7 +213,7 @@ class Session:
         if self.is_delta:
             return owed
         if is_complete(self.kind):
-            return {name: catalogue.live(name)[0] for name in catalogue.entries if self.covers(name) and catalogue.live(name)}
+            return {name: self.present(catalogue, name)[0] for name in catalogue.entries if self.present(catalogue, name)}
         return {name: version for name, version in owed.items() if version is not None}
 
     def poll(self, catalogue, nonce):
@@ -202,7 +223,7 @@ class Session:
         if offer == self.refused:
             return None
         self.unanswered, self.touched, self.last_nonce = (nonce, offer), set(), nonce
-        stated = [(name, *catalogue.live(name)) for name in by_bytes(offer) if offer[name] is not None]
+        stated = [(name, *catalogue.live(name)[:2]) for name in by_bytes(offer) if offer[name] is not None]
         removed = [name for name in by_bytes(offer) if offer[name] is None]
         return {"kind": self.kind, "nonce": nonce, "resources": stated, "removed": removed}
 
@@ -214,12 +235,21 @@ class Replica:
         self.streams = []
 
     def open(self, is_delta):
-        self.streams.append([0, {kind: Session(kind, is_delta) for kind in TYPES}])
+        """A stream is the count of its responses, its sessions, and whether it has taken a request."""
+        self.streams.append([0, {kind: Session(kind, is_delta) for kind in TYPES}, False])
         return len(self.streams) - 1
+
+    def request(self, stream, request):
+        _, sessions, has_begun = self.streams[stream]
+        if not has_begun:
+            self.streams[stream][2] = True
+            for session in sessions.values():
+                session.cluster = request.get("cluster", "")
+        sessions[request["kind"]].take(request)
 
     def poll(self, stream, kinds):
         for kind in kinds:
-            count, sessions = self.streams[stream]
+            count, sessions, _ = self.streams[stream]
             response = sessions[kind].poll(self.catalogues[kind], str(count + 1))
             if response:
                 self.streams[stream][0] += 1
@@ -234,13 +264,16 @@ class Replica:
 
 
 class Client:
-    def __init__(self, is_delta):
+    def __init__(self, is_delta, cluster):
         self.is_delta = is_delta
+        self.cluster = cluster
         self.wanted = {kind: set() for kind in TYPES}
         self.cache = {kind: {} for kind in TYPES}
         self.nonce = dict.fromkeys(TYPES, "")
         self.asked = dict.fromkeys(TYPES, False)
         self.link = None
+        # whether a request on the stream has said who the client is
+        self.greeted = False
 
     def wants(self, kind, name):
         texts = self.wanted[kind]
@@ -248,6 +281,8 @@ class Client:
 
     def request(self, kind, nonce, error=False, subscribe=(), unsubscribe=()):
         request = {"kind": kind, "nonce": nonce, "error": error}
+        if not self.greeted:
+            self.greeted, request["cluster"] = True, self.cluster
         if self.is_delta:
             return {**request, "subscribe": list(subscribe), "unsubscribe": list(unsubscribe)}
         return {**request, "names": list(self.wanted[kind])}
@@ -255,6 +290,7 @@ class Client:
     def connect(self, replica):
         """The replica, the stream's number there, and what is under way up and down."""
         self.link = [replica, replica.open(self.is_delta), [], []]
+        self.greeted = False
         for kind in TYPES:
             self.nonce[kind], self.asked[kind] = "", bool(self.wanted[kind])
             if self.asked[kind]:
@@ -326,6 +362,13 @@ def kind_word(word):
     return word == "delta"
 
 
+def groups_word(word):
+    groups = groups_of(word.split(","))
+    if groups is None:
+        raise BadScript
+    return groups
+
+
 def depth(value):
     if isinstance(value, dict):
         value = list(value.values())
@@ -362,7 +405,6 @@ def resource(text):
 
 READERS = {
     "replica": [replica_number],
-    "client": [whole_number, kind_word],
     "delete": [replica_number, type_word, name_word],
     "snapshot": [replica_number],
     "merge": [replica_number, whole_number],
@@ -382,6 +424,14 @@ def command(line):
         if len(words) < 2:
             raise BadScript
         return verb, replica_number(words[0]), *resource(" ".join(words[1:]))
+    if verb == "putin":
+        if len(words) < 3:
+            raise BadScript
+        return verb, replica_number(words[0]), groups_word(words[1]), *resource(" ".join(words[2:]))
+    if verb == "client":
+        if len(words) not in (2, 3):
+            raise BadScript
+        return verb, whole_number(words[0]), kind_word(words[1]), name_word(words[2]) if len(words) == 3 else ""
     if verb == "poll":
         if len(words) not in (1, 2):
             raise BadScript
@@ -408,9 +458,8 @@ def commands(script):
     found = []
     for at, line in enumerate(lines, 1):
         try:
-            text = line.decode()
-            if text and not text.startswith("#"):
-                found.append(command(text))
+            if line and not line.startswith(b"#"):
+                found.append(command(line.decode()))
         except (BadScript, UnicodeDecodeError):
             return at
     return found
@@ -427,12 +476,15 @@ class World:
     def replica(self, replica):
         self.replicas.setdefault(replica, Replica(replica))
 
-    def client(self, client, is_delta):
-        self.clients.setdefault(client, Client(is_delta))
+    def client(self, client, is_delta, cluster):
+        self.clients.setdefault(client, Client(is_delta, cluster))
 
     def put(self, replica, kind, name, body):
+        self.putin(replica, [], kind, name, body)
+
+    def putin(self, replica, groups, kind, name, body):
         if replica in self.replicas:
-            self.replicas[replica].catalogues[kind].stamp(name, replica, body)
+            self.replicas[replica].catalogues[kind].stamp(name, replica, body, groups)
 
     def delete(self, replica, kind, name):
         if replica in self.replicas and self.replicas[replica].catalogues[kind].live(name):
@@ -464,8 +516,7 @@ class World:
     def up(self, client):
         link = self.link(client)
         if link and link[2]:
-            request = link[2].pop(0)
-            link[0].streams[link[1]][1][request["kind"]].take(request)
+            link[0].request(link[1], link[2].pop(0))
 
     def down(self, client):
         link = self.link(client)
@@ -514,7 +565,7 @@ class World:
         catalogue = self.replicas[replica].catalogues[kind]
         live = [catalogue.live(name) for name in by_bytes(catalogue.entries) if catalogue.live(name)]
         self.printed.append("content %d %s %d" % (replica, kind, len(live)))
-        self.printed += [" ".join(entry) for entry in live]
+        self.printed += [" ".join(entry[:2]) for entry in live]
 
 
 def played(script):
@@ -531,8 +582,9 @@ def played(script):
 # ---- random scripts
 
 NAMES = ["a", "b", "\u00e9", "B"]
+GROUPS = ["g1", "g2", "\u00e9"]
 BAD_LINES = [" ", "up", "up 0", "up 01", "replica 65536", "client 1 rest", "names 1 cluster ", "change 1 cluster", "change 1 cluster a",
-             "change 1 cluster +", "put 1 {}", "poll 1 x", "view 1", "Replica 1", "up +1", "merge 1  1", "lose 4294967296", "\u00e9"]
+             "change 1 cluster +", "put 1 {}", "client 1 sotw ", "client 1 sotw g1 g2", "putin 1 g1", "putin 1 g1, {}", "poll 1 x", "view 1", "Replica 1", "up +1", "merge 1  1", "lose 4294967296", "\u00e9"]
 
 
 def some_body(pick, kind, name):
@@ -547,6 +599,17 @@ def some_body(pick, kind, name):
     items = list(body.items())
     pick.shuffle(items)
     return json.dumps(dict(items), ensure_ascii=pick.random() < 0.5, separators=pick.choice([(",", ":"), (", ", ": ")]))
+
+
+def some_put(pick, replica, kind):
+    body = some_body(pick, kind, pick.choice(NAMES))
+    if pick.random() < 0.5:
+        return "put %d %s" % (replica, body)
+    if pick.random() < 0.01:
+        groups = ["g%d" % at for at in range(pick.choice([64, 65]))] * 2
+    else:
+        groups = [pick.choice(GROUPS) for _ in range(pick.randrange(1, 4))]
+    return "putin %d %s %s" % (replica, ",".join(groups), body)
 
 
 def some_wish(pick, client, kind, is_delta):
@@ -566,7 +629,7 @@ def some_line(pick, replicas, clients, kinds):
         [14, 5, 3, 5, 12, 8, 18, 16, 16, 2, 6, 7, 2],
     )[0]
     if verb == "put":
-        return "put %d %s" % (replica, some_body(pick, kind, pick.choice(NAMES)))
+        return some_put(pick, replica, kind)
     if verb == "delete":
         return "delete %d %s %s" % (replica, kind, pick.choice(NAMES))
     if verb == "snapshot":
@@ -591,9 +654,9 @@ def some_script(pick):
     clients = [(client, pick.random() < 0.5) for client in pick.sample([1, 2, 3, 4294967295], pick.randrange(1, 4))]
     kinds = list(TYPES) if pick.random() < 0.3 else pick.sample(list(TYPES), pick.choice([1, 1, 2]))
     lines = ["replica %d" % replica for replica in replicas]
-    lines += ["client %d %s" % (client, "delta" if is_delta else "sotw") for client, is_delta in clients]
+    lines += ["client %d %s%s" % (client, "delta" if is_delta else "sotw", pick.choice(["", " g1", " g2", " \u00e9"])) for client, is_delta in clients]
     lines += [some_wish(pick, client, kind, is_delta) for client, is_delta in clients for kind in kinds if pick.random() < 0.7]
-    lines += ["put %d %s" % (pick.choice(replicas), some_body(pick, pick.choice(kinds), pick.choice(NAMES))) for _ in range(pick.randrange(8))]
+    lines += [some_put(pick, pick.choice(replicas), pick.choice(kinds)) for _ in range(pick.randrange(8))]
     lines += ["connect %d %d" % (client, pick.choice(replicas)) for client, _ in clients if pick.random() < 0.85]
     lines += [some_line(pick, replicas, clients, kinds) for _ in range(pick.randrange(5, 90))]
     lines += ["%s %d %s" % (verb, client, kind) for client, _ in clients for kind in kinds for verb in ("view", "settle", "view")]
@@ -605,6 +668,8 @@ def some_script(pick):
     script = "\n".join(lines).encode()
     if pick.random() < 0.01:
         script = script.replace(b"a", b"\xff", 1)
+    if pick.random() < 0.1:
+        script = script.replace(b"# a comment", b"# \xff", 1)
     return script + pick.choice([b"", b"\n"])
 
 

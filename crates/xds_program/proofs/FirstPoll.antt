@@ -15,7 +15,7 @@ use Rattle.xds_resource.specs.Resources.{value_of}
 use Rattle.xds_resource.specs.Writes.{StampedWrite, text_cmp, version_of}
 use Rattle.xds_resource.proofs.NameMaps.{has_text-keys, cond_same}
 use Rattle.xds_resource.proofs.MadeMaps.{EachFound, each_found}
-use Rattle.xds_interest.specs.Interests.{Selection, covers}
+use Rattle.xds_interest.specs.Interests.{Selection, reaches, covers, in_cluster}
 use Rattle.xds_interest.specs.Asked.{unasked, sotw_asked}
 use Rattle.xds_interest.specs.SotW.{sotw_interest}
 use Rattle.xds_interest.specs.Touches.{Touch, touches}
@@ -36,6 +36,7 @@ use Rattle.xds_owed.proofs.ByName.{present_absent, offer_says_it}
 use Rattle.xds_beliefs.proofs.ByName.{taken_by_name}
 use Rattle.xds_owed.proofs.Choosing.{none_passes, listed_fails}
 use Rattle.xds_beliefs.proofs.Made.{resumed_by_name}
+use Rattle.xds_streams.specs.Streams.{cluster_in}
 use Rattle.xds_sotw.specs.Polls.{take, sending, response, stated_writes, HasPolled}
 use Rattle.xds_program.specs.Answers.{objects_of, response_with, response_to}
 use Rattle.xds_beliefs.proofs.Stored.{or_true}
@@ -50,9 +51,9 @@ unsure_if : (b : Bool) → IfSome (cond b (Some Unsure) None) (λ (e : Entry). e
 unsure_if true = refl
 unsure_if false = tt
 
-touched_unsure : (touched covered mentioned : Bool) (o : Option Entry) → o ≡ None → IfSome (if touched then believed_touched covered mentioned o else o) (λ e. e ≡ Unsure)
-touched_unsure true covered mentioned o none = unsure_if (covered && (mentioned || is_some o))
-touched_unsure false covered mentioned o none = subst (λ x. IfSome x (λ (e : Entry). e ≡ Unsure)) (sym none) tt
+touched_unsure : (touched reached mentioned : Bool) (o : Option Entry) → o ≡ None → IfSome (if touched then believed_touched reached mentioned o else o) (λ e. e ≡ Unsure)
+touched_unsure true reached mentioned o none = unsure_if (reached && (mentioned || is_some o))
+touched_unsure false reached mentioned o none = subst (λ x. IfSome x (λ (e : Entry). e ≡ Unsure)) (sym none) tt
 
 -- what a request leaves where nothing was believed before, and no version is said
 pub first_unsure : (s : Selection) (touched : Touch) (mentioned : set.FinSet text_cmp) → AreUnsure (beliefs_resumed finmap.empty (beliefs_taken s touched mentioned finmap.empty))
@@ -61,7 +62,7 @@ first_unsure s touched mentioned q =
     (sym (resumed_by_name finmap.empty (beliefs_taken s touched mentioned finmap.empty) q
     ∙ ap (λ o. option_or (option_map Told o) (finmap.get (beliefs_taken s touched mentioned finmap.empty) q)) (finmap.get-empty text_cmp q)
     ∙ taken_by_name s touched mentioned finmap.empty q))
-    (touched_unsure (touches touched q) (covers s q) (set.contains mentioned q) (finmap.get finmap.empty q) (finmap.get-empty text_cmp q))
+    (touched_unsure (touches touched q) (reaches s q) (set.contains mentioned q) (finmap.get finmap.empty q) (finmap.get-empty text_cmp q))
 
 -- ---- what is present
 
@@ -69,7 +70,8 @@ first_unsure s touched mentioned q =
 shown_there : (s : Selection) (m : Entries) (name : List ℕ) (w : StampedWrite) → finmap.get m name ≡ Some w → w.name ≡ name
     → present s m name ≡ cond (is_shown s w) (Some (version_of w)) None
 shown_there s m name w found named =
-    ap (λ o. if covers s name then option_and_then live_version o else None) found ∙ ap (λ n. if covers s n then live_version w else None) (sym named) ∙ both (covers s w.name) (is_live w)
+    ap (option_and_then (λ (v : StampedWrite). if covers s name v.groups then live_version v else None)) found ∙ ap (λ n. if covers s n w.groups then live_version w else None) (sym named)
+    ∙ both (covers s w.name w.groups) (is_live w)
   where
     both : (covered live : Bool) → cond covered (cond live (Some (version_of w)) None) None ≡ cond (live && covered) (Some (version_of w)) None
     both true true = refl
@@ -179,10 +181,10 @@ sent_if false o = refl
 abbrev is_answered : TypeName → Selection → Entries → Bool
 is_answered t s m = (row t).is_complete || not (length (content m s) == 0)
 
-first_sending : (t : TypeName) (m : Entries) (r : Request) → IsCatalogue m
-    → let after = take t unopened r in sending t after m ≡ cond (is_answered t after.asked.interest m) (Some (offer StateOfTheWorld t after.asked.interest m after.account.beliefs)) None
-first_sending t m r named =
-    let after : Session = take t unopened r in
+first_sending : (t : TypeName) (m : Entries) (cluster : List ℕ) (r : Request) → IsCatalogue m
+    → let after = take t (unopened cluster) r in sending t after m ≡ cond (is_answered t after.asked.interest m) (Some (offer StateOfTheWorld t after.asked.interest m after.account.beliefs)) None
+first_sending t m cluster r named =
+    let after : Session = take t (unopened cluster) r in
     let s : Selection = after.asked.interest in
     let b : Beliefs = after.account.beliefs in
     let unsure : AreUnsure b = first_unsure s _ _ in
@@ -201,15 +203,15 @@ values_of [] = refl
 values_of (w ∷ ws) = values_step w.body (filter_map (λ (v : StampedWrite). v.body) ws) (objects_of ws) (values_of ws)
 
 message_made : (replica : ℕ) (t : TypeName) (h : Holdings) (s : Selection) (o : Offer) → stated_writes h.entries s o ≡ content h.entries s
-    → message_of (response replica t h s o 1) ≡ response_with replica t h.changes s.star (content h.entries s)
+    → message_of (response replica t h s o 1) ≡ response_with replica t h.changes s (content h.entries s)
 message_made replica t h s o whole =
     let resources = ap (λ ws. map value_of (filter_map (λ (w : StampedWrite). w.body) ws)) whole ∙ values_of (content h.entries s) in
     λ i. record (message_of (response replica t h s o 1)) { resources = resources i; nonce = decimal_digit 1 (omega arith) i }
 
 -- what a stream's first list asks for
-first_asked : (t : TypeName) (names : List (List ℕ)) → (sotw_asked t unasked names).interest ≡ sotw_interest t (names ∷ [])
-first_asked t [] = refl
-first_asked t (name ∷ names) = refl
+first_asked : (t : TypeName) (cluster : List ℕ) (names : List (List ℕ)) → (sotw_asked t (unasked cluster) names).interest ≡ in_cluster cluster (sotw_interest t (names ∷ []))
+first_asked t cluster [] = refl
+first_asked t cluster (name ∷ names) = refl
 
 -- what a poll that draws the first nonce answers and leaves, where this offer is to be sent, if one is
 abbrev Polled : ℕ → TypeName → Holdings → Session → Option Drafted → Session → ℕ → Option Offer → Type 0
@@ -223,20 +225,20 @@ answered_if replica t h before o answer after count false is = ap (option_map me
 
 -- the first poll gives the response with the content
 pub first_poll : (replica : ℕ) (t : TypeName) (h : Holdings) (r : Request) (answer : Option Drafted) (after : Session) (count : ℕ) → IsCatalogue h.entries
-    → HasPolled replica t h (take t unopened r) 0 answer after count → option_map message_of answer ≡ response_to replica t h r
+    → HasPolled replica t h (take t (unopened (cluster_in r.node)) r) 0 answer after count → option_map message_of answer ≡ response_to replica t h r
 first_poll replica t h r answer after count named polled =
-    let before : Session = take t unopened r in
+    let before : Session = take t (unopened (cluster_in r.node)) r in
     let s : Selection = before.asked.interest in
     let o : Offer = offer StateOfTheWorld t s h.entries before.account.beliefs in
     let whole : stated_writes h.entries s o ≡ content h.entries s = states_content t s h.entries before.account.beliefs (first_unsure s _ _) named in
-    answered_if replica t h before o answer after count (is_answered t s h.entries) (subst (Polled replica t h before answer after count) (first_sending t h.entries r named) polled)
+    answered_if replica t h before o answer after count (is_answered t s h.entries) (subst (Polled replica t h before answer after count) (first_sending t h.entries (cluster_in r.node) r named) polled)
     ∙ ap (λ x. cond (is_answered t s h.entries) (Some x) None) (message_made replica t h s o whole)
-    ∙ ap (λ i. cond (is_answered t i h.entries) (Some (response_with replica t h.changes i.star (content h.entries i))) None) (first_asked t r.resource_names)
+    ∙ ap (λ i. cond (is_answered t i h.entries) (Some (response_with replica t h.changes i (content h.entries i))) None) (first_asked t (cluster_in r.node) r.resource_names)
 
 -- the same from what the calls ensure
 pub first_poll_by : (replica : ℕ) (t : TypeName) (h : Holdings) (r : Request) (start before : Session) (drawn : ℕ) (answer : Option Drafted) (after : Session) (count : ℕ) → IsCatalogue h.entries
-    → start ≡ unopened → before ≡ take t start r → drawn ≡ 0 → HasPolled replica t h before drawn answer after count → option_map message_of answer ≡ response_to replica t h r
+    → start ≡ unopened (cluster_in r.node) → before ≡ take t start r → drawn ≡ 0 → HasPolled replica t h before drawn answer after count → option_map message_of answer ≡ response_to replica t h r
 first_poll_by replica t h r start before drawn answer after count named fresh taken none polled =
     first_poll replica t h r answer after count named
-    (subst (λ n. HasPolled replica t h (take t unopened r) n answer after count) none
+    (subst (λ n. HasPolled replica t h (take t (unopened (cluster_in r.node)) r) n answer after count) none
     (subst (λ s. HasPolled replica t h s drawn answer after count) (taken ∙ ap (λ s. take t s r) fresh) polled))

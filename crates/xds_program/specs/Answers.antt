@@ -10,14 +10,15 @@ use Rattle.xds_resource.specs.Types.{row, type_of_url}
 use Rattle.xds_resource.specs.TypedWrites.{TypedWrite, writes_of}
 use Rattle.xds_resource.specs.Writes.{StampedWrite}
 use Rattle.xds_resource.specs.Resources.{value_of}
-use Rattle.xds_interest.specs.Interests.{Selection}
+use Rattle.xds_interest.specs.Interests.{Selection, in_cluster}
 use Rattle.xds_interest.specs.SotW.{sotw_interest}
 use Rattle.xds_catalogue.specs.Holdings.{Holdings, nothing_held}
 use Rattle.xds_catalogue.specs.Joins.{joined}
 use Rattle.xds_catalogue.specs.Content.{content}
 use Rattle.xds_message.specs.Messages.{Request, Response}
 use Rattle.xds_message.specs.Written.{response_object}
-use Rattle.xds_sotw.specs.Polls.{version_info}
+use Rattle.xds_ledger.specs.Texts.{interest_version}
+use Rattle.xds_streams.specs.Streams.{cluster_in}
 
 -- what is held of the type once these writes came, where nothing was held before
 abbrev pub held_of : List TypedWrite → TypeName → Holdings
@@ -27,23 +28,23 @@ held_of xs t = joined nothing_held (writes_of t xs)
 abbrev pub objects_of : List StampedWrite → List Data
 objects_of ws = filter_map (λ w. option_map value_of w.body) ws
 
--- the response with this content
-abbrev pub response_with : ℕ → TypeName → ℕ → Bool → List StampedWrite → Response
-response_with replica t changes star shown = record {
-  version_info = version_info replica changes star;
+-- the response with this content, to a client of this interest
+abbrev pub response_with : ℕ → TypeName → ℕ → Selection → List StampedWrite → Response
+response_with replica t changes s shown = record {
+  version_info = interest_version replica changes s;
   resources = objects_of shown;
   type_url = (row t).url;
   nonce = codes "1";
 }
 
--- what a fresh stream's one list of names asks for
+-- what a fresh stream's one list of names asks for, of a client of the cluster that the request's node says
 abbrev pub asked : TypeName → Request → Selection
-asked t m = sotw_interest t (m.resource_names ∷ [])
+asked t m = in_cluster (cluster_in m.node) (sotw_interest t (m.resource_names ∷ []))
 
 -- A complete type is answered with its content, and an incomplete one only where there is some.
 abbrev pub response_to : ℕ → TypeName → Holdings → Request → Option Response
 response_to replica t h m =
-    if (row t).is_complete || not (length (content h.entries (asked t m)) == 0) then Some (response_with replica t h.changes (asked t m).star (content h.entries (asked t m))) else None
+    if (row t).is_complete || not (length (content h.entries (asked t m)) == 0) then Some (response_with replica t h.changes (asked t m) (content h.entries (asked t m))) else None
 
 -- a response's text, and a line feed
 abbrev pub answer_text : Option Response → List ℕ

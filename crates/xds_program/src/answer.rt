@@ -6,6 +6,7 @@ ghost use Rattle.xds_catalogue.specs.Holdings.{IsCatalogue};
 ghost use Rattle.xds_catalogue.specs.Joins.{joined};
 ghost use Rattle.xds_message.specs.Messages.{Request};
 ghost use Rattle.xds_draft.specs.Drafts.{message_of};
+ghost use Rattle.xds_streams.specs.Streams.{cluster_in};
 ghost use Rattle.xds_resource.specs.TypedWrites.{TypedWrite};
 ghost use Rattle.xds_program.specs.Answers.{response_to, response_by, answer_text};
 ghost use Rattle.xds_program.specs.Faults.{IsWriteLine, IsRequestLine, RefusesWrite, RefusesRequest, IsAnswer, IsFault};
@@ -13,6 +14,7 @@ ghost use Rattle.xds_program.specs.Faults.{IsWriteLine, IsRequestLine, RefusesWr
 use std::alloc::Global;
 use xds_catalogue::Catalogue;
 use xds_draft::SotwDraft;
+use xds_interest::ClusterText;
 use xds_ledger::Nonces;
 use xds_message::DiscoveryRequest;
 use xds_resource::{Refusal, ResourceType, TypeName};
@@ -137,6 +139,17 @@ fn respond_of(
     }
 }
 
+// The text of the cluster of the node that a request comes from, empty where it has none.
+fn cluster_of(alloc: Global, request: &DiscoveryRequest) -> Result<ClusterText, Refusal>
+    ensures ok { IfOk result (λ c. c ≡ cluster_in request.now.node) }
+    ensures refused { IfErr result (λ e. e ≡ Refusal.OutOfMemory) }
+{
+    match &request.node {
+        Some(node) => ClusterText::new(alloc, node.cluster.as_str()),
+        None => Ok(ClusterText::none()),
+    }
+}
+
 // The response to a request of the type `T`, the first of a fresh stream.
 fn respond<T: ResourceType>(
     alloc: Global,
@@ -149,7 +162,7 @@ fn respond<T: ResourceType>(
         (λ o. option_map message_of o ≡ response_to replica T.TYPE catalogue.now request.now) }
     ensures refused { IfErr result (λ e. e ≡ Refusal.OutOfMemory) }
 {
-    let mut session = Session::new(alloc);
+    let mut session = Session::new(alloc, cluster_of(alloc, request)?);
     session.take(alloc, request)?;
     session.poll(alloc, replica, catalogue, &mut Nonces::new())
 }

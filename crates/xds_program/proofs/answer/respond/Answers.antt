@@ -1,7 +1,8 @@
-use Rattle.std.proofs.Common.{◌≡◌}
+use Rattle.std.proofs.Common.{◌≡◌, ap, ◌∙◌}
 use Rattle.std.specs.Option.{option_map}
 use Rattle.std.proofs.lemmas.Result.{IfOk-weaker}
 use Rattle.xds_draft.specs.Drafts.{message_of}
+use Rattle.xds_ledger.specs.Sessions.{unopened}
 use Rattle.xds_sotw.specs.Polls.{HasPolled}
 use Rattle.xds_program.specs.Answers.{response_to}
 use Rattle.xds_program.proofs.FirstPoll.{first_poll_by}
@@ -14,5 +15,5 @@ returns-clause-given g c =
     let r = c.args.request.now in
     IfOk-weaker c.poll.result (λ answer. HasPolled c.args.replica t h c.take.new.self c.new.result answer c.poll.new.self c.poll.new.nonces)
     (λ answer. option_map message_of answer ≡ response_to c.args.replica t h r)
-    (λ answer polled. first_poll_by c.args.replica t h r c.new-session.result c.take.new.self c.new.result answer c.poll.new.self c.poll.new.nonces c.requires c.new-session.ensures c.in_ok-take.ensures.ok c.new.ensures polled)
+    (λ answer polled. first_poll_by c.args.replica t h r c.new-session.result c.take.new.self c.new.result answer c.poll.new.self c.poll.new.nonces c.requires (c.new-session.ensures ∙ ap unopened c.in_ok-cluster_of.ensures.ok) c.in_ok-take.ensures.ok c.new.ensures polled)
     c.poll.ensures.ok
