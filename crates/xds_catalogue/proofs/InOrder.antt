@@ -16,7 +16,7 @@ use Rattle.std.proofs.lemmas.Slice.Eq.{bytes_eq-Decides}
 use Rattle.std.proofs.lemmas.Cmp.{nat_list_cmp_total}
 use Rattle.xds_resource.specs.Writes.{StampedWrite, text_cmp}
 use Rattle.xds_resource.proofs.WriteTies.{text_cmp-IsAntisymmetric}
-use Rattle.xds_interest.specs.Interests.{Selection, has_name}
+use Rattle.xds_interest.specs.Interests.{Selection, has_name, is_open_to}
 use Rattle.xds_interest.proofs.Texts.{contains-from_texts}
 use Rattle.xds_catalogue.specs.Holdings.{Entries, IsCatalogue}
 use Rattle.xds_catalogue.specs.Content.{is_live, is_shown, if_live, live_at, content}
@@ -152,11 +152,12 @@ values-live : (m : Entries) (ns : List (List ℕ)) → map (λ e. e.1) (live_und
 values-live m [] = refl
 values-live m (n ∷ ns) = values_pair n (live_at m n) (live_under m ns) ∙ ap (cons_option (live_at m n)) (values-live m ns)
 
-covered : (w : StampedWrite) (l r : Bool) → (if r then (if l then Some w else None) else None) ≡ (if (l && (false || r)) then Some w else None)
-covered w true true = refl
-covered w true false = refl
-covered w false true = refl
-covered w false false = refl
+-- without the star, covered is what has an explicit name (r), be it open to the cluster (o) or not
+covered : (w : StampedWrite) (l r o : Bool) → (if r then (if l then Some w else None) else None) ≡ (if (l && (r || (false && o))) then Some w else None)
+covered w true true o = refl
+covered w true false o = refl
+covered w false true o = refl
+covered w false false o = refl
 
 abbrev if_none : Bool → Option StampedWrite
 if_none r = if r then None else None
@@ -168,7 +169,8 @@ none_either false = refl
 shown_at : (s : Selection) (q : List ℕ) (o : Option StampedWrite) (r : Bool) → s.star ≡ false → set.contains s.names q ≡ r → IfSome o (λ w. w.name ≡ q) → (if r then option_and_then if_live o else None) ≡ option_and_then (if_shown s) o
 shown_at s q None r no_star has named = none_either r
 shown_at s q (Some w) r no_star has named =
-    covered w (is_live w) r ∙ (λ i. if (is_live w && (sym no_star i || sym (ap (set.contains s.names) named ∙ has) i)) then Some w else None)
+    let in_group = is_open_to w.groups s.cluster in
+    covered w (is_live w) r in_group ∙ (λ i. if (is_live w && (sym (ap (set.contains s.names) named ∙ has) i || (sym no_star i && in_group))) then Some w else None)
 
 -- an interest without the star is shown what stands live under its names
 pub content-names : (m : Entries) (s : Selection) (ns : List (List ℕ)) → IsCatalogue m → s.star ≡ false → set.from_list ns ≡ s.names → Ascend ns → filter_map (live_at m) ns ≡ content m s

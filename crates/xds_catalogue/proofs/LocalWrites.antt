@@ -67,14 +67,14 @@ pub unless_refused-refused : {B : Type 0} (h : Holdings) (y : B) (e : Refusal) �
 unless_refused-refused h y e was = refused_at (greatest_counter h.entries == max_counter) (h.changes == max_counter) (next_counter h) y e was
 
 -- a put whose write was joined
-pub putting-Ok : (h k : Holdings) (r : NamedBody) (writer c n : ℕ) → next h ≡ Ok c → joining h (written c writer r ∷ []) ≡ Ok (n, k) → putting h r writer ≡ Ok (c, k)
-putting-Ok h k r writer c n next_is joins =
+pub putting-Ok : (h k : Holdings) (r : NamedBody) (groups : List (List ℕ)) (writer c n : ℕ) → next h ≡ Ok c → joining h (written c writer r groups ∷ []) ≡ Ok (n, k) → putting h r groups writer ≡ Ok (c, k)
+putting-Ok h k r groups writer c n next_is joins =
     let is = next-value h c next_is in
-    unless_refused-append (spent_conditions h) [] (next_counter h) c (next_counter h, joined h (written (next_counter h) writer r ∷ [])) next_is
-    ∙ ap (λ m. Ok (m, joined h (written m writer r ∷ []))) is ∙ ap (λ l. Ok (c, l)) (joined_Ok h k (written c writer r ∷ []) n joins)
+    unless_refused-append (spent_conditions h) [] (next_counter h) c (next_counter h, joined h (written (next_counter h) writer r groups ∷ [])) next_is
+    ∙ ap (λ m. Ok (m, joined h (written m writer r groups ∷ []))) is ∙ ap (λ l. Ok (c, l)) (joined_Ok h k (written c writer r groups ∷ []) n joins)
 
-pub putting-fits : (h : Holdings) (r : NamedBody) (writer c : ℕ) (e : Refusal) → next h ≡ Ok c → h.changes ≤ max_counter → joining h (written c writer r ∷ []) ≡ Err e → putting h r writer ≡ Err e
-putting-fits h r writer c e next_is short was = absurd (next_fits h c (written c writer r) e next_is short was)
+pub putting-fits : (h : Holdings) (r : NamedBody) (groups : List (List ℕ)) (writer c : ℕ) (e : Refusal) → next h ≡ Ok c → h.changes ≤ max_counter → joining h (written c writer r groups ∷ []) ≡ Err e → putting h r groups writer ≡ Err e
+putting-fits h r groups writer c e next_is short was = absurd (next_fits h c (written c writer r groups) e next_is short was)
 
 past_front : {A : Type 0} (b : Bool) (r : Result A Refusal) → b ≡ true → cond (not b) (Err NotFound) r ≡ r
 past_front b r live = ap (λ b. cond (not b) (Err NotFound) r) live

@@ -113,6 +113,8 @@ impl<T: ResourceType> Names<T> {
             Some(entry) => {
                 if let Some(held) = self.by_name.get_mut(name) {
                     drop(mem::replace(held, entry));
+                } else {
+                    drop(entry);
                 }
             }
             None => drop(self.by_name.remove(name)),

@@ -4,8 +4,8 @@ use std::sync::ArcStr;
 use std::test::Fail;
 use xds_cases::cases::{Outcome, first_word, hold, told, words_of};
 use xds_catalogue::Catalogue;
-use xds_interest::Interest;
-use xds_resource::{Cluster, Refusal, Resource, ResourceType, Route, Stamp, Write};
+use xds_interest::{ClusterText, Interest};
+use xds_resource::{Cluster, Groups, Refusal, Resource, ResourceType, Route, Secret, Stamp, Write};
 
 // The answers to the steps of a script over a new catalogue of clusters, a space before each.
 struct Answers;
@@ -13,6 +13,15 @@ struct Answers;
 impl Outcome for Answers {
     fn of(alloc: Global, given: &str) -> Result<String, Fail> {
         answers_of::<Cluster>(alloc, given)
+    }
+}
+
+// The same over a new catalogue of secrets.
+struct SecretAnswers;
+
+impl Outcome for SecretAnswers {
+    fn of(alloc: Global, given: &str) -> Result<String, Fail> {
+        answers_of::<Secret>(alloc, given)
     }
 }
 
@@ -54,27 +63,72 @@ fn answer_to<T: ResourceType>(
     rest: &str,
 ) -> Result<String, Refusal> {
     match verb {
-        "put" => catalogue
-            .put(Resource::parse(alloc, rest)?, 1)?
-            .version_text(alloc),
+        "put" => put_text(alloc, catalogue, Groups::none(), rest),
+        "putin" => {
+            let (groups, rest) = groups_among(alloc, rest)?;
+            put_text(alloc, catalogue, groups, rest)
+        }
         "delete" => catalogue.delete(rest, 1)?.version_text(alloc),
-        "join" => count_text(alloc, catalogue.join_write(write_of(alloc, rest)?)?),
+        "join" => join_text(alloc, catalogue, Groups::none(), rest),
+        "joinin" => {
+            let (groups, rest) = groups_among(alloc, rest)?;
+            join_text(alloc, catalogue, groups, rest)
+        }
         "get" => held_text(alloc, catalogue, rest),
+        "groups" => groups_text(alloc, catalogue, rest),
         "copy" => held_text(alloc, &catalogue.try_copy(alloc)?, rest),
-        "want" => shown(alloc, catalogue, rest),
+        "want" => shown(alloc, catalogue, "", rest),
+        "wantin" => {
+            let (cluster, names) = rest.split_once(' ').unwrap_or((rest, ""));
+            shown(alloc, catalogue, cluster, names)
+        }
         "next" => next_text(alloc, catalogue, rest),
         _ => count_text(alloc, catalogue.changes()),
     }
 }
 
-// The write of a version that puts a body, or that deletes `a` where `-` stands in the body's place.
-fn write_of<T: ResourceType>(alloc: Global, given: &str) -> Result<Write<T>, Refusal> {
+// The groups that stand before a space, apart by commas, and what stands behind it.
+fn groups_among<'a>(alloc: Global, given: &'a str) -> Result<(Groups, &'a str), Refusal> {
+    let (listed, rest) = given.split_once(' ').ok_or(Refusal::BadMessage)?;
+    let mut texts = Vec::new(alloc);
+    for group in listed.split(",") {
+        texts.push(String::from_str(alloc, group)?)?;
+    }
+    Ok((Groups::new(alloc, &texts)?, rest))
+}
+
+fn put_text<T: ResourceType>(
+    alloc: Global,
+    catalogue: &mut Catalogue<T>,
+    groups: Groups,
+    body: &str,
+) -> Result<String, Refusal> {
+    let resource = Resource::parse(alloc, body)?;
+    catalogue.put(resource, groups, 1)?.version_text(alloc)
+}
+
+fn join_text<T: ResourceType>(
+    alloc: Global,
+    catalogue: &mut Catalogue<T>,
+    groups: Groups,
+    given: &str,
+) -> Result<String, Refusal> {
+    let write = write_of(alloc, groups, given)?;
+    count_text(alloc, catalogue.join_write(write)?)
+}
+
+// The write of a version that puts a body with these groups, or that deletes `a` where `-` stands in the body's place.
+fn write_of<T: ResourceType>(
+    alloc: Global,
+    groups: Groups,
+    given: &str,
+) -> Result<Write<T>, Refusal> {
     let (version, body) = given.split_once(' ').ok_or(Refusal::BadMessage)?;
     let stamp = Stamp::parse_version(version)?;
     if body == "-" {
         return Ok(Write::deletion(stamp, ArcStr::from_str(alloc, "a")?));
     }
-    Ok(Write::put(stamp, Resource::parse(alloc, body)?))
+    Ok(Write::put(stamp, Resource::parse(alloc, body)?, groups))
 }
 
 fn count_text(alloc: Global, count: u64) -> Result<String, Refusal> {
@@ -95,6 +149,21 @@ fn held_text<T: ResourceType>(
     Ok(text)
 }
 
+// The groups of what stands under a name, each with a comma behind it.
+fn groups_text<T: ResourceType>(
+    alloc: Global,
+    catalogue: &Catalogue<T>,
+    name: &str,
+) -> Result<String, Refusal> {
+    let write = catalogue.get(name).ok_or(Refusal::NotFound)?;
+    let mut text = String::new(alloc);
+    for group in write.groups().texts() {
+        text.push_str(group.as_str())?;
+        text.push_str(",")?;
+    }
+    Ok(text)
+}
+
 // The number and the name of the entry that changed next after a number.
 fn next_text<T: ResourceType>(
     alloc: Global,
@@ -109,14 +178,16 @@ fn next_text<T: ResourceType>(
     Ok(format!(in alloc; "{number}{name}")?)
 }
 
-// The names that a client of this interest sees, one after another.
+// The names that a client of this cluster sees that wants these, one after another.
 fn shown<T: ResourceType>(
     alloc: Global,
     catalogue: &Catalogue<T>,
+    cluster: &str,
     wanted: &str,
 ) -> Result<String, Refusal> {
     let names = words_of(alloc, wanted)?;
-    let interest = Interest::of_list(alloc, &names)?;
+    let cluster = ClusterText::new(alloc, cluster)?;
+    let interest = Interest::of_list(alloc, &names, cluster)?;
     let listed = names_shown(alloc, catalogue, &interest);
     drop(interest);
     listed
@@ -179,8 +250,8 @@ fn told_of_exchange(
     one: &str,
     two: &str,
 ) -> Result<String, Refusal> {
-    first.put(Resource::parse(alloc, one)?, 1)?;
-    second.put(Resource::parse(alloc, two)?, 2)?;
+    first.put(Resource::parse(alloc, one)?, Groups::none(), 1)?;
+    second.put(Resource::parse(alloc, two)?, Groups::none(), 2)?;
     let (gained, second_gained) = exchanged(alloc, first, second)?;
     let again = first.join_all(sent(alloc, second)?)?;
     let held = held_text(alloc, first, "a")?;
@@ -208,6 +279,27 @@ fn two_replicas_agree(rt: HostRuntime) -> Result<(), Fail> {
     hold::<Exchange, HostRuntime>(
         &rt,
         r#"{"@type":"CDS","name":"a"} and {"@type":"CDS","name":"a","x":1} => 1 0 0 1-2{"@type":"CDS","name":"a","x":1} 1-2{"@type":"CDS","name":"a","x":1}"#,
+    )
+}
+
+#[test]
+fn groups_narrow_the_star_alone(rt: HostRuntime) -> Result<(), Fail> {
+    hold::<Answers, HostRuntime>(
+        &rt,
+        r#"putin g1 {"@type":"CDS","name":"a"}; put {"@type":"CDS","name":"b"}; putin g2 {"@type":"CDS","name":"c"}; wantin g1; want ; wantin g2; wantin g1 c; wantin g1 * c; want c; wantin g =>  1-1 2-1 3-1 ab b bc c abc c b
+putin g1 {"@type":"CDS","name":"a"}; putin g2 {"@type":"CDS","name":"a"}; wantin g1; wantin g2; groups a; put {"@type":"CDS","name":"a"}; wantin g1; groups a; changes  =>  1-1 2-1  a g2, 3-1 a  3
+putin g2,g1,g2 {"@type":"CDS","name":"a"}; groups a; delete a; groups a; wantin g1; put {"@type":"CDS","name":"a"}; want  =>  1-1 g1,g2, 2-1   3-1 a
+putin g1,, {"@type":"CDS","name":"a"}; groups a; changes  =>  24 BadGroup 9 NotFound 0
+join 1-1 {"@type":"CDS","name":"a"}; joinin g2 1-1 {"@type":"CDS","name":"a"}; joinin g1 1-1 {"@type":"CDS","name":"a"}; joinin g1,g3 1-1 {"@type":"CDS","name":"a"}; groups a; joinin g2,g1 1-1 {"@type":"CDS","name":"a"}; joinin g3 1-1 {"@type":"CDS","name":"a"}; groups a; changes  =>  1 1 0 0 g2, 0 1 g3, 3
+joinin g9 1-1 {"@type":"CDS","name":"a","x":1}; join 1-1 {"@type":"CDS","name":"a"}; groups a; joinin g1 1-1 -; want  =>  1 1  0 a"#,
+    )
+}
+
+#[test]
+fn secrets_are_seen_by_name_alone(rt: HostRuntime) -> Result<(), Fail> {
+    hold::<SecretAnswers, HostRuntime>(
+        &rt,
+        r#"putin g1 {"@type":"SDS","name":"s"}; want ; wantin g1 *; want s; put {"@type":"RDS","name":"s"} =>  1-1   s 4 BadResource"#,
     )
 }
 

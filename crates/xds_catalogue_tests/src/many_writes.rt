@@ -2,7 +2,7 @@
 use std::alloc::Global;
 use std::test::Fail;
 use xds_catalogue::Catalogue;
-use xds_resource::{Cluster, Refusal, Resource, Stamp, Write};
+use xds_resource::{Cluster, Groups, Refusal, Resource, Stamp, Write};
 
 // One of 10,000 writes: of 2,500 names, each with four counters, by counter and then by name.
 fn numbered(alloc: Global, number: u64) -> Result<Write<Cluster>, Refusal> {
@@ -13,6 +13,7 @@ fn numbered(alloc: Global, number: u64) -> Result<Write<Cluster>, Refusal> {
     Ok(Write::put(
         Stamp::new(counter, 1),
         Resource::parse(alloc, body.as_str())?,
+        Groups::none(),
     ))
 }
 

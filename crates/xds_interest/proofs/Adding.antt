@@ -10,7 +10,8 @@ use Rattle.xds_resource.specs.Writes.{text_cmp}
 use Rattle.xds_resource.proofs.NameMaps.{bytes_eq_tells}
 use Rattle.xds_interest.specs.Interests.{Selection, has_name, names_among}
 use Rattle.xds_interest.specs.Delta.{Mention}
-use Rattle.xds_interest.specs.Asked.{Asked, names_after, delta_asked, wanted_by, widened}
+use Rattle.xds_interest.specs.Asked.{Asked, names_after, delta_asked, widened, without_names}
+use Rattle.xds_interest.specs.Laws.{WideningIsUndone, NarrowingIsTheRest}
 use Rattle.xds_interest.proofs.Texts.{contains-from_texts, same_texts}
 use Rattle.xds_interest.proofs.Listed.{or_swap, or_assoc, or-false, list_any-push, texts_more}
 use Rattle.xds_interest.proofs.NameSets.{contains-insert, contains-remove}
@@ -197,14 +198,14 @@ pub difference-union_rest : (s n : set.FinSet text_cmp) → set.difference (set.
 difference-union_rest s n = same_texts _ _ (λ q.
     contains-difference (set.union s n) (set.difference n s) q ∙ (λ i. contains-union s n q i && not (contains-difference n s q i)) ∙ back (set.contains s q) (set.contains n q))
 
-narrowed : (a s u : Bool) → ((a || s) && not (u && not s)) ≡ ((a && not u) || s)
-narrowed true true true = refl
-narrowed true true false = refl
-narrowed true false true = refl
-narrowed true false false = refl
-narrowed false true true = refl
-narrowed false true false = refl
-narrowed false false u = refl
+added_or_left : (a s u : Bool) → ((a || s) && not (u && not s)) ≡ ((a && not u) || s)
+added_or_left true true true = refl
+added_or_left true true false = refl
+added_or_left true false true = refl
+added_or_left true false false = refl
+added_or_left false true true = refl
+added_or_left false true false = refl
+added_or_left false false u = refl
 
 -- the explicit names after a request, once those that it subscribes were added
 pub narrowed_names : (t : TypeName) (m : Mention) (before : set.FinSet text_cmp)
@@ -215,7 +216,7 @@ narrowed_names t m before =
     let u : set.FinSet text_cmp = set.from_list m.unsubscribe in
     same_texts _ _ (λ q.
     contains-difference (set.union before s) (set.difference u s) q ∙ (λ i. contains-union before s q i && not (contains-difference u s q i))
-    ∙ narrowed (set.contains before q) (set.contains s q) (set.contains u q)
+    ∙ added_or_left (set.contains before q) (set.contains s q) (set.contains u q)
     ∙ ap (λ b. b || set.contains s q) (sym (contains-difference before u q)) ∙ sym (contains-union (set.difference before u) s q))
     ∙ names_after_made t m before
 
@@ -230,22 +231,17 @@ pub widened_by : (now : Asked) (begun : Bool) (held new : Selection) (wanted add
 widened_by now begun held new wanted added is rest put =
     ap (kept_as begun) (put ∙ (λ i. record held { names = (ap (set.union held.names) rest ∙ union-rest held.names wanted) i })) ∙ ap (λ a. widened a wanted) is
 
-pub taken_back : (before : Asked) (names added : set.FinSet text_cmp) (begun : Bool) (held new : Selection) → kept_as begun held ≡ widened before names
-    → added ≡ set.difference names before.interest.names → new ≡ record held { names = set.difference held.names added } → kept_as begun new ≡ before
-taken_back before names added begun held new is rest out =
-    let star : new.star ≡ before.interest.star = ap (λ s. s.star) out ∙ ap (λ a. a.interest.star) is in
-    let explicit : new.names ≡ before.interest.names =
-    ap (λ s. s.names) out ∙ (λ i. set.difference (is i).interest.names (rest i)) ∙ difference-union_rest before.interest.names names in
-    (λ i. record { begun = (is i).begun; named = (is i).named; interest = record { star = star i; names = explicit i } })
+pub taken_out : (now : Asked) (begun : Bool) (held new : Selection) (out : set.FinSet text_cmp) → kept_as begun held ≡ now → new ≡ record held { names = set.difference held.names out }
+    → kept_as begun new ≡ without_names now out
+taken_out now begun held new out is took = ap (kept_as begun) took ∙ ap (λ a. without_names a out) is
 
-pub narrowed_to : (t : TypeName) (before : Asked) (m : Mention) (begun : Bool) (held new wanted : Selection) (texts : List (List ℕ)) → wanted ≡ wanted_by t before m → m.unsubscribe ≡ texts
-    → kept_as begun held ≡ widened before wanted.names
-    → new ≡ record { star = wanted.star; names = set.difference held.names (set.difference (set.from_list texts) wanted.names) } → kept_as true new ≡ delta_asked t before m
-narrowed_to t before m begun held new wanted texts here listed is out =
-    let star : new.star ≡ (delta_asked t before m).interest.star = ap (λ s. s.star) out ∙ ap (λ s. s.star) here in
-    let explicit : new.names ≡ (delta_asked t before m).interest.names =
-    ap (λ s. s.names) out
-    ∙ (λ i. set.difference (is i).interest.names (set.difference (set.from_list (sym listed i)) wanted.names))
-    ∙ (λ i. set.difference (set.union before.interest.names (here i).names) (set.difference (set.from_list m.unsubscribe) (here i).names))
-    ∙ narrowed_names t m before.interest.names in
-    (λ i. record { begun = true; named = false; interest = record { star = star i; names = explicit i } })
+pub widening_is_undone : WideningIsUndone
+widening_is_undone before names =
+    (λ i. record { begun = before.begun; named = before.named; interest = record before.interest { names = difference-union_rest before.interest.names names i } })
+
+pub narrowing_is_the_rest : NarrowingIsTheRest
+narrowing_is_the_rest t before m = (λ i. record {
+  begun = true;
+  named = false;
+  interest = record { star = (delta_asked t before m).interest.star; names = narrowed_names t m before.interest.names i; cluster = before.interest.cluster };
+})

@@ -1,9 +1,10 @@
 pub mod Texts
 pub mod Listed
 pub mod Choices
+pub mod Reaching
 pub mod SotwLaws
 pub mod DeltaLaws
 pub mod AskedLaws
 pub mod NameSets
 pub mod Made
-mod Adding
+pub mod Adding

@@ -9,7 +9,7 @@ use Rattle.std.proofs.lemmas.List.Folds.{list_any-append}
 use Rattle.xds_resource.specs.declared.types.TypeName.{TypeName}
 use Rattle.xds_resource.specs.Types.{row}
 use Rattle.xds_resource.specs.Writes.{text_cmp}
-use Rattle.xds_interest.specs.Interests.{Selection, star_text, is_star, has_name, names_among}
+use Rattle.xds_interest.specs.Interests.{Selection, star_text, is_star, has_name, names_among, in_cluster}
 use Rattle.xds_interest.specs.SotW.{is_named, sotw_interest}
 use Rattle.xds_interest.specs.Delta.{Mention}
 use Rattle.xds_interest.specs.Touched.{exactly_one}
@@ -21,8 +21,8 @@ use Rattle.xds_interest.proofs.NameSets.{union-empty, contains-union_list, conta
 use Rattle.xds_interest.proofs.SotwLaws.{list_any-is_star, has_name-names_among}
 use Rattle.xds_interest.proofs.AskedLaws.{contains-names_after}
 
-abbrev pub selection : Bool → set.FinSet text_cmp → Selection
-selection star names = record { star = star; names = names }
+abbrev pub selection : Bool → set.FinSet text_cmp → List ℕ → Selection
+selection star names cluster = record { star = star; names = names; cluster = cluster }
 
 -- ---- the first list
 
@@ -45,9 +45,9 @@ names_of_first : (t : TypeName) (texts : List (List ℕ)) → set.union set.empt
 names_of_first t [] = union-empty set.empty
 names_of_first t (x ∷ xs) = union-empty (set.from_list (names_among t (x ∷ xs)))
 
-pub first_made : (t : TypeName) (texts : List (List ℕ)) (star : Bool) (names : set.FinSet text_cmp) → star ≡ (sotw_interest t (texts ∷ [])).star
-    → names ≡ set.union set.empty (set.from_list (names_among t texts)) → selection star names ≡ sotw_interest t (texts ∷ [])
-first_made t texts star names star_is names_are = (λ i. record { star = star_is i; names = (names_are ∙ names_of_first t texts) i })
+pub first_made : (t : TypeName) (texts : List (List ℕ)) (star : Bool) (names : set.FinSet text_cmp) (cluster : List ℕ) → star ≡ (sotw_interest t (texts ∷ [])).star
+    → names ≡ set.union set.empty (set.from_list (names_among t texts)) → selection star names cluster ≡ in_cluster cluster (sotw_interest t (texts ∷ []))
+first_made t texts star names cluster star_is names_are = (λ i. record { star = star_is i; names = (names_are ∙ names_of_first t texts) i; cluster = cluster })
 
 -- ---- touched names
 

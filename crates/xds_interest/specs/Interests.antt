@@ -1,5 +1,5 @@
 -- What a client wants of one type: explicit names and the star, as Envoy's "xDS REST and gRPC protocol" has them. Groups and clusters, which narrow the star, are this project's own.
-use Rattle.std.specs.Prelude.{ℕ, List, [], is_empty, Bool, ◌&&◌, ◌||◌, not, bytes_eq, Option, codes, refl}
+use Rattle.std.specs.Prelude.{ℕ, ◌==◌, List, [], length, Bool, ◌&&◌, ◌||◌, not, bytes_eq, Option, codes, refl}
 use Rattle.std.specs.List.{list_any, filter}
 use Rattle.std.specs.Option.{option_map_or}
 use Rattle.std.specs.FinSet as set
@@ -26,7 +26,7 @@ reaches s name = s.star || set.contains s.names name
 
 -- whether the star of a client of this cluster covers a write of these groups: it has none, or the cluster is among them
 abbrev pub is_open_to : List (List ℕ) → List ℕ → Bool
-is_open_to groups cluster = is_empty groups || has_group groups cluster
+is_open_to groups cluster = (length groups == 0) || has_group groups cluster
 
 -- whether an interest covers a write of this name and these groups: an explicit name covers it whatever its groups, the star what is open to the cluster
 abbrev pub covers : Selection → List ℕ → List (List ℕ) → Bool

@@ -189,14 +189,6 @@ impl<T: ResourceType> Interest<T> {
         Ok(Touched::of_parts(self.star != next.star, touched))
     }
 
-    // Takes another star and other explicit names. It takes no memory.
-    pub(crate) fn set(&mut self, star: bool, names: NameSet)
-        ensures { self.new ≡ record self.old { star = star; names = names } }
-    {
-        self.star = star;
-        self.names = names;
-    }
-
     /// An equal interest, with memory of its own. Refused only by `OutOfMemory`.
     pub fn try_copy(&self, alloc: Global) -> Result<Interest<T>, Refusal>
         ensures ok { IfOk result (λ i. i ≡ self.now) }

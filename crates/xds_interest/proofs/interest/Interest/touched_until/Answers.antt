@@ -6,8 +6,8 @@ use Rattle.xds_interest.proofs.interest.Interest.touched_until.Goals as goal
 
 pub returns-clause-ok : goal.returns-clause-ok
 returns-clause-ok g c =
-    let old = selection c.self.inside.star c.self.inside.names in
-    let new = selection c.next.inside.star c.next.inside.names in
+    let old = selection c.self.inside.star c.self.inside.names c.self.inside.cluster in
+    let new = selection c.next.inside.star c.next.inside.names c.next.inside.cluster in
     c.of_parts.ensures
     ∙ sotw_touch_is old new _ _ (differ old.star new.star)
     (c.in_ok-insert_difference-2.ensures.ok
