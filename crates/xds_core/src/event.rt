@@ -6,7 +6,7 @@ ghost use Rattle.xds_core.specs.Seen.{event_of, reply_of, answer_of};
 use std::alloc::Global;
 use xds_draft::Draft;
 use xds_ledger::Outcome;
-use xds_resource::{AnyResource, Refusal, Stamp, TypeName};
+use xds_resource::{AnyResource, Groups, Refusal, Stamp, TypeName};
 use xds_streams::Request;
 use xds_writes::Batch;
 
@@ -23,8 +23,8 @@ pub enum Event {
     Owes(u64, Option<TypeName>),
     /// A stream closes.
     Close(u64),
-    /// A resource is put here.
-    Put(AnyResource),
+    /// A resource is put here, for the clients of these groups.
+    Put(AnyResource, Groups),
     /// The live resource of a name is deleted here.
     Delete(TypeName, String),
     /// Writes come from another replica.
@@ -68,7 +68,9 @@ impl Event {
             Event::Poll(stream, kind) => Ok(Event::Poll(*stream, *kind)),
             Event::Owes(stream, kind) => Ok(Event::Owes(*stream, *kind)),
             Event::Close(stream) => Ok(Event::Close(*stream)),
-            Event::Put(resource) => Ok(Event::Put(resource.try_copy(alloc)?)),
+            Event::Put(resource, groups) => {
+                Ok(Event::Put(resource.try_copy(alloc)?, groups.try_copy(alloc)?))
+            }
             Event::Delete(kind, name) => Ok(Event::Delete(
                 *kind,
                 String::from_str(alloc, name.as_str())?,

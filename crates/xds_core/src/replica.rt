@@ -21,7 +21,7 @@ use std::marker::Model;
 use xds_draft::Draft;
 use xds_ledger::Outcome;
 use xds_resource::stamp::MAX_COUNTER;
-use xds_resource::{AnyResource, Refusal, TypeName};
+use xds_resource::{AnyResource, Groups, Refusal, TypeName};
 use xds_store::{Catalogues, Marks};
 use xds_streams::{Request, Stream};
 use xds_writes::Batch;
@@ -71,7 +71,7 @@ impl Core {
     /// (`NoStream`); a request of the other variant than the stream's (`WrongVariant`), then one that names no type
     /// (`BadMessage`); the deletion of a name that isn't live (`NotFound`); a stream or a write more than can be
     /// counted (`CounterSpent`); a response more than a stream can number (`NonceSpent`); and, last, what finds no
-    /// memory (`OutOfMemory`), which `Owes` and `Close` never need.
+    /// memory (`OutOfMemory`), which `Owes` and `Close` never need, and `Poll` only where it has a response to give.
     pub fn step(&mut self, event: Event) -> Result<Reply, Refusal>
         ensures steps { Gives (λ r. (reply_of r, self.new)) result (step self.old (event_of event)) }
         ensures memory { IfErr result (λ e. e ≡ OutOfMemory → IsShort self.old (event_of event)) }
@@ -83,7 +83,7 @@ impl Core {
             Event::Poll(stream, which) => self.poll(stream, which),
             Event::Owes(stream, which) => self.look(stream, which),
             Event::Close(stream) => self.close(stream),
-            Event::Put(resource) => self.put(resource),
+            Event::Put(resource, groups) => self.put(resource, groups),
             Event::Delete(kind, name) => self.delete(kind, name.as_str()),
             Event::Merge(batch) => self.merge(batch),
             Event::Snapshot => self.snapshot(),
@@ -152,12 +152,12 @@ impl Core {
         }
     }
 
-    fn put(&mut self, resource: AnyResource) -> Result<Reply, Refusal>
-        ensures steps { Gives (λ r. (reply_of r, self.new)) result (step self.old (events.Put (resource_type resource) (named_body resource))) }
-        ensures memory { IfErr result (λ e. e ≡ OutOfMemory → IsShort self.old (events.Put (resource_type resource) (named_body resource))) }
+    fn put(&mut self, resource: AnyResource, groups: Groups) -> Result<Reply, Refusal>
+        ensures steps { Gives (λ r. (reply_of r, self.new)) result (step self.old (events.Put (resource_type resource) (named_body resource) groups)) }
+        ensures memory { IfErr result (λ e. e ≡ OutOfMemory → IsShort self.old (events.Put (resource_type resource) (named_body resource) groups)) }
         ensures err { OnErr result (self.new ≡ self.old) }
     {
-        let stamp = self.held.put(resource, self.replica)?;
+        let stamp = self.held.put(resource, groups, self.replica)?;
         Ok(Reply::Written(stamp))
     }
 
@@ -202,6 +202,7 @@ impl Core {
         ensures endpoint { result.endpoint ≡ self.now.store.endpoint.changes }
         ensures listener { result.listener ≡ self.now.store.listener.changes }
         ensures route { result.route ≡ self.now.store.route.changes }
+        ensures secret { result.secret ≡ self.now.store.secret.changes }
     {
         self.held.marks()
     }

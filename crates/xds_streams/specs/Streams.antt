@@ -47,9 +47,12 @@ abbrev pub flagged_again : (v : VariantName) → flagged_variant (variant_flag v
 flagged_again variants.StateOfTheWorld = refl
 flagged_again variants.Delta = refl
 
+abbrev pub variant_code : Coded VariantName
+variant_code = code_by Bool coded_bool variant_flag flagged_variant flagged_again
+
 abbrev pub stream_code : Coded Stream
 stream_code =
-    code_by (Option VariantName × (ℕ × PerType Session)) (coded× (coded_option (code_by Bool coded_bool variant_flag flagged_variant flagged_again)) (coded× coded_ℕ (per_type_code session_code)))
+    code_by (Option VariantName × (ℕ × PerType Session)) (coded× (coded_option variant_code) (coded× coded_ℕ (per_type_code session_code)))
     (λ s. (s.variant, (s.count, s.sessions))) (λ p. record { variant = p.0; count = p.1.0; sessions = p.1.1 }) (λ _. refl)
 
 -- before the first request

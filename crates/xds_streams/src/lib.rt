@@ -1,10 +1,10 @@
 // The streams of a replica: what becomes of a request, and what is sent.
 #![tactic(auto)]
 
-mod delta_stream;
 pub mod request;
-mod sotw_stream;
+mod session;
 pub mod stream;
+mod talk;
 
 pub use request::Request;
 pub use stream::Stream;

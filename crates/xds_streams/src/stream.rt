@@ -1,49 +1,38 @@
-// A stream, in one of its three states.
-ghost use Rattle.std.specs.Prelude.{◌≡◌, is_some, IsOk, IfOk, IfErr, OnErr};
+// A stream, before its first request and after it.
+ghost use Rattle.std.specs.Prelude.{◌≡◌, ◌==◌, [], ◌∷◌, length, is_some, IsOk, IfOk, IfErr, OnErr};
 ghost use Rattle.xds_resource.specs.Refusals.{Gives};
 ghost use Rattle.xds_resource.specs.Types.{types};
 ghost use Rattle.xds_resource.specs.declared.refusal.Refusal.TheVariants.{OutOfMemory};
-ghost use Rattle.xds_draft.specs.declared.draft.Draft.TheVariants as drafts;
-ghost use Rattle.xds_streams.specs.Streams as streams;
-ghost use Rattle.xds_streams.specs.Streams.{opening, looked_at, owes_of, owes_some, to_send, first_due, polled, polled_first, requested};
+ghost use Rattle.xds_streams.specs.Streams.{IsToRespond, opening, looked_at, is_foreign, owes_of, owes_some, to_send, first_due, polled, polled_first, requested, url_of};
 ghost use Rattle.xds_streams.specs.Seen.{message_of};
-ghost use Rattle.xds_streams.specs.States.{stream_of, tagged};
 
-use crate::delta_stream::DeltaStream;
 use crate::request::Request;
-use crate::sotw_stream::SotwStream;
+use crate::talk::Talk;
 use std::alloc::Global;
 use std::marker::Model;
-use xds_draft::{DeltaDraft, Draft, SotwDraft};
+use xds_draft::Draft;
+use xds_interest::ClusterText;
 use xds_ledger::Outcome;
-use xds_message::{DeltaDiscoveryRequest, DiscoveryRequest};
 use xds_resource::{Refusal, TypeName};
 use xds_store::Catalogues;
 use xds_store::parts::put;
 
-// The first request decides the variant.
-#[derive(Drop)]
-enum State {
-    Opening,
-    Sotw(SotwStream),
-    Delta(DeltaStream),
-}
-
-/// A stream. Contracts see its variant, the number of its last response, and a session of each type.
+/// A stream. Contracts see its variant, once the first request decided it, the number of its last response, and a session
+/// of each type.
 #[derive(Drop)]
 pub struct Stream {
-    state: State,
+    talk: Option<Talk>,
 }
 
 impl Model for Stream {
     ghost use Rattle.xds_streams.specs.Streams.{Stream, stream_code};
-    ghost use Rattle.xds_streams.specs.States.{stream_of, tagged};
+    ghost use Rattle.xds_streams.specs.Talks.{stream_of};
 
     ghost Value = { Stream };
 
     ghost coded = { stream_code };
 
-    ghost view = { λ s. stream_of s.state };
+    ghost view = { λ s. stream_of s.talk };
 }
 
 impl Stream {
@@ -51,104 +40,70 @@ impl Stream {
     pub fn opening() -> Stream
         ensures { result ≡ opening }
     {
-        Stream {
-            state: State::Opening,
-        }
+        Stream { talk: None }
     }
 
     /// What becomes of a request. Refused by `WrongVariant` where it isn't of the stream's variant, by `BadMessage`
-    /// where it names no type, and by `OutOfMemory`, in this order.
+    /// where it names no type, and by `OutOfMemory`, in this order. The first that isn't refused decides the variant and,
+    /// by the cluster of its node, which groups the stars of the stream cover.
     pub fn request(&mut self, alloc: Global, request: &Request) -> Result<Outcome, Refusal>
         ensures answers { Gives (λ o. (o, self.new)) result (requested self.old (message_of request.now)) }
         ensures memory { IfErr result (λ e. e ≡ OutOfMemory → IsOk (requested self.old (message_of request.now))) }
         ensures err { OnErr result (self.new ≡ self.old) }
     {
-        match request {
-            Request::Sotw(request) => self.request_sotw(alloc, request),
-            Request::Delta(request) => self.request_delta(alloc, request),
+        if self.is_foreign(request) {
+            return Err(Refusal::WrongVariant);
+        }
+        if request.type_url().is_empty() {
+            return Err(Refusal::BadMessage);
+        }
+        self.take(alloc, request)
+    }
+
+    // Whether a request is of another variant than the stream.
+    fn is_foreign(&self, request: &Request) -> bool
+        ensures { result ≡ is_foreign self.now (message_of request.now) }
+    {
+        match &self.talk {
+            Some(talk) => talk.variant().is_delta() != request.variant().is_delta(),
+            None => false,
         }
     }
 
-    fn request_sotw(
-        &mut self,
-        alloc: Global,
-        request: &DiscoveryRequest,
-    ) -> Result<Outcome, Refusal>
-        ensures answers { Gives (λ o. (o, self.new)) result (requested self.old (streams.Sotw request.now)) }
-        ensures memory { IfErr result (λ e. e ≡ OutOfMemory → IsOk (requested self.old (streams.Sotw request.now))) }
+    // Takes a request of the stream's variant that names a type.
+    fn take(&mut self, alloc: Global, request: &Request) -> Result<Outcome, Refusal>
+        requires variant { is_foreign self.old (message_of request.now) ≡ false }
+        requires named { (length (url_of (message_of request.now)) == 0) ≡ false }
+        ensures answers { Gives (λ o. (o, self.new)) result (requested self.old (message_of request.now)) }
+        ensures memory { IfErr result (λ e. IsOk (requested self.old (message_of request.now))) }
         ensures err { OnErr result (self.new ≡ self.old) }
     {
-        match &mut self.state {
-            State::Opening => self.begin_sotw(alloc, request),
-            State::Sotw(stream) => stream.request(alloc, request),
-            State::Delta(_) => Err(Refusal::WrongVariant),
+        match &mut self.talk {
+            Some(talk) => talk.request(alloc, request),
+            None => self.begin(alloc, request),
         }
     }
 
-    fn request_delta(
-        &mut self,
-        alloc: Global,
-        request: &DeltaDiscoveryRequest,
-    ) -> Result<Outcome, Refusal>
-        ensures answers { Gives (λ o. (o, self.new)) result (requested self.old (streams.Delta request.now)) }
-        ensures memory { IfErr result (λ e. e ≡ OutOfMemory → IsOk (requested self.old (streams.Delta request.now))) }
+    // Takes the first request.
+    fn begin(&mut self, alloc: Global, request: &Request) -> Result<Outcome, Refusal>
+        requires opening { self.old ≡ opening }
+        requires named { (length (url_of (message_of request.now)) == 0) ≡ false }
+        ensures answers { Gives (λ o. (o, self.new)) result (requested self.old (message_of request.now)) }
         ensures err { OnErr result (self.new ≡ self.old) }
+        ensures refused { IfErr result (λ e. e ≡ OutOfMemory) }
     {
-        match &mut self.state {
-            State::Opening => self.begin_delta(alloc, request),
-            State::Sotw(_) => Err(Refusal::WrongVariant),
-            State::Delta(stream) => stream.request(alloc, request),
-        }
-    }
-
-    // The first request, where it is of the state-of-the-world variant.
-    fn begin_sotw(&mut self, alloc: Global, request: &DiscoveryRequest) -> Result<Outcome, Refusal>
-        requires { self.old ≡ opening }
-        ensures answers { Gives (λ o. (o, self.new)) result (requested self.old (streams.Sotw request.now)) }
-        ensures memory { IfErr result (λ e. e ≡ OutOfMemory → IsOk (requested self.old (streams.Sotw request.now))) }
-        ensures err { OnErr result (self.new ≡ self.old) }
-    {
-        let mut stream = SotwStream::new(alloc);
-        match stream.request(alloc, request) {
+        let cluster = ClusterText::new(alloc, request.cluster())?;
+        let mut talk = Talk::new(alloc, request.variant(), &cluster)?;
+        match talk.request(alloc, request) {
             Ok(outcome) => {
-                self.set(State::Sotw(stream));
+                put(&mut self.talk, Some(talk));
                 Ok(outcome)
             }
             Err(refusal) => {
-                drop(stream);
+                drop(talk);
                 Err(refusal)
             }
         }
-    }
-
-    // The first request, where it is of the incremental variant.
-    fn begin_delta(
-        &mut self,
-        alloc: Global,
-        request: &DeltaDiscoveryRequest,
-    ) -> Result<Outcome, Refusal>
-        requires { self.old ≡ opening }
-        ensures answers { Gives (λ o. (o, self.new)) result (requested self.old (streams.Delta request.now)) }
-        ensures memory { IfErr result (λ e. e ≡ OutOfMemory → IsOk (requested self.old (streams.Delta request.now))) }
-        ensures err { OnErr result (self.new ≡ self.old) }
-    {
-        let mut stream = DeltaStream::new(alloc);
-        match stream.request(alloc, request) {
-            Ok(outcome) => {
-                self.set(State::Delta(stream));
-                Ok(outcome)
-            }
-            Err(refusal) => {
-                drop(stream);
-                Err(refusal)
-            }
-        }
-    }
-
-    fn set(&mut self, state: State)
-        ensures { self.new ≡ stream_of state }
-    {
-        put(&mut self.state, state);
     }
 
     /// Whether the client is owed something, of a type or at all. It takes no memory.
@@ -162,6 +117,7 @@ impl Stream {
                     || self.owes_type(held, TypeName::Endpoint)
                     || self.owes_type(held, TypeName::Listener)
                     || self.owes_type(held, TypeName::Route)
+                    || self.owes_type(held, TypeName::Secret)
             }
         }
     }
@@ -169,15 +125,14 @@ impl Stream {
     fn owes_type(&self, held: &Catalogues, kind: TypeName) -> bool
         ensures { result ≡ owes_of held.now self.now kind }
     {
-        match &self.state {
-            State::Opening => false,
-            State::Sotw(stream) => stream.owes(held, kind),
-            State::Delta(stream) => stream.owes(held, kind),
+        match &self.talk {
+            Some(talk) => talk.owes(held, kind),
+            None => false,
         }
     }
 
-    /// The next response: of a type, or of the first in the order of the types that has one. Refused by `NonceSpent`
-    /// and `OutOfMemory`.
+    /// The next response: of a type, or of the first in the order of the types that has one. Refused only where one is to
+    /// be sent: by `NonceSpent` where the stream has no number left, and else by `OutOfMemory`.
     pub fn poll(
         &mut self,
         alloc: Global,
@@ -186,6 +141,7 @@ impl Stream {
         which: Option<TypeName>,
     ) -> Result<Option<Draft>, Refusal>
         ensures polls { Gives (λ o. (o, self.new)) result (polled_first replica held.now self.old (looked_at which)) }
+        ensures memory { IfErr result (λ e. e ≡ OutOfMemory → IsToRespond held.now self.old (looked_at which)) }
         ensures err { OnErr result (self.new ≡ self.old) }
     {
         match which {
@@ -213,6 +169,8 @@ impl Stream {
             Some(TypeName::Listener)
         } else if self.sends_type(held, TypeName::Route) {
             Some(TypeName::Route)
+        } else if self.sends_type(held, TypeName::Secret) {
+            Some(TypeName::Secret)
         } else {
             None
         }
@@ -221,10 +179,9 @@ impl Stream {
     fn sends_type(&self, held: &Catalogues, kind: TypeName) -> bool
         ensures { result ≡ is_some (to_send held.now self.now kind) }
     {
-        match &self.state {
-            State::Opening => false,
-            State::Sotw(stream) => stream.sends(held, kind),
-            State::Delta(stream) => stream.sends(held, kind),
+        match &self.talk {
+            Some(talk) => talk.sends(held, kind),
+            None => false,
         }
     }
 
@@ -236,6 +193,7 @@ impl Stream {
         held: &Catalogues,
     ) -> Result<Option<Draft>, Refusal>
         ensures polls { Gives (λ o. (o, self.new)) result (polled_first replica held.now self.old types) }
+        ensures memory { IfErr result (λ e. e ≡ OutOfMemory → IsToRespond held.now self.old types) }
         ensures err { OnErr result (self.new ≡ self.old) }
     {
         match self.first_due(held) {
@@ -252,12 +210,12 @@ impl Stream {
         kind: TypeName,
     ) -> Result<Option<Draft>, Refusal>
         ensures polls { Gives (λ o. (o, self.new)) result (polled replica held.now self.old kind) }
+        ensures memory { IfErr result (λ e. e ≡ OutOfMemory → IsToRespond held.now self.old (kind ∷ [])) }
         ensures err { OnErr result (self.new ≡ self.old) }
     {
-        match &mut self.state {
-            State::Opening => Ok(None),
-            State::Sotw(stream) => sotw_draft(stream.poll(alloc, replica, held, kind)),
-            State::Delta(stream) => delta_draft(stream.poll(alloc, replica, held, kind)),
+        match &mut self.talk {
+            Some(talk) => talk.poll(alloc, replica, held, kind),
+            None => Ok(None),
         }
     }
 
@@ -266,33 +224,10 @@ impl Stream {
         ensures ok { IfOk result (λ s. s ≡ self.now) }
         ensures refused { IfErr result (λ e. e ≡ OutOfMemory) }
     {
-        let state = match &self.state {
-            State::Opening => State::Opening,
-            State::Sotw(stream) => State::Sotw(stream.try_copy(alloc)?),
-            State::Delta(stream) => State::Delta(stream.try_copy(alloc)?),
+        let talk = match &self.talk {
+            Some(talk) => Some(talk.try_copy(alloc)?),
+            None => None,
         };
-        Ok(Stream { state })
-    }
-}
-
-// A state-of-the-world response as one of either variant.
-fn sotw_draft(polled: Result<Option<SotwDraft>, Refusal>) -> Result<Option<Draft>, Refusal>
-    ensures { result ≡ tagged drafts.Sotw polled }
-{
-    match polled {
-        Ok(Some(draft)) => Ok(Some(Draft::Sotw(draft))),
-        Ok(None) => Ok(None),
-        Err(refusal) => Err(refusal),
-    }
-}
-
-// An incremental response as one of either variant.
-fn delta_draft(polled: Result<Option<DeltaDraft>, Refusal>) -> Result<Option<Draft>, Refusal>
-    ensures { result ≡ tagged drafts.Delta polled }
-{
-    match polled {
-        Ok(Some(draft)) => Ok(Some(Draft::Delta(draft))),
-        Ok(None) => Ok(None),
-        Err(refusal) => Err(refusal),
+        Ok(Stream { talk })
     }
 }

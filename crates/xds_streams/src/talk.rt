@@ -1,0 +1,190 @@
+// A stream whose variant is decided.
+ghost use Rattle.std.specs.Prelude.{◌≡◌, [], ◌∷◌, is_some, IfOk, IfErr, OnOk, OnErr};
+ghost use Rattle.xds_resource.specs.PerType.{at};
+ghost use Rattle.xds_resource.specs.Refusals.{Gives};
+ghost use Rattle.xds_resource.specs.declared.refusal.Refusal.TheVariants.{OutOfMemory};
+ghost use Rattle.xds_resource.specs.Types.{type_of_url};
+ghost use Rattle.xds_ledger.specs.Sessions.{outcome};
+ghost use Rattle.xds_streams.specs.Seen.{message_of};
+ghost use Rattle.xds_streams.specs.Streams.{IsToRespond, variant_of, nonce_of, url_of, session_after, answered_by, owes_of, to_send, polled};
+ghost use Rattle.xds_streams.specs.Talks.{begun, stream_in, with_session};
+
+use crate::request::Request;
+use crate::session::Session;
+use std::alloc::Global;
+use std::marker::Model;
+use xds_draft::Draft;
+use xds_interest::ClusterText;
+use xds_ledger::{Nonces, Outcome, VariantName};
+use xds_resource::{Cluster, Endpoint, Listener, Refusal, Route, Secret, TypeName};
+use xds_store::Catalogues;
+use xds_store::parts::five;
+
+/// A variant, the numbers of the responses, and a session of each type, all of the variant.
+#[derive(Drop)]
+pub(crate) struct Talk {
+    variant: VariantName,
+    nonces: Nonces,
+    cluster: Session<Cluster>,
+    endpoint: Session<Endpoint>,
+    listener: Session<Listener>,
+    route: Session<Route>,
+    secret: Session<Secret>,
+}
+
+impl Model for Talk {
+    ghost use Rattle.std.specs.Prelude.{◌≡◌};
+    ghost use Rattle.xds_streams.specs.Talks as talks;
+    ghost use Rattle.xds_streams.specs.Talks.{talk_code};
+
+    ghost Value = { talks.Talk };
+
+    ghost coded = { talk_code };
+
+    ghost view = { λ t. record { variant = t.variant; count = t.nonces; sessions = record { cluster = t.cluster.session; endpoint = t.endpoint.session; listener = t.listener.session; route = t.route.session; secret = t.secret.session } } };
+
+    ghost invariant = { λ t. record { cluster : t.cluster.variant ≡ t.variant; endpoint : t.endpoint.variant ≡ t.variant; listener : t.listener.variant ≡ t.variant; route : t.route.variant ≡ t.variant; secret : t.secret.variant ≡ t.variant } };
+}
+
+impl Talk {
+    /// Before the first request, of a client with this cluster text. Refused only by `OutOfMemory`.
+    pub(crate) fn new(
+        alloc: Global,
+        variant: VariantName,
+        text: &ClusterText,
+    ) -> Result<Talk, Refusal>
+        ensures ok { IfOk result (λ t. t ≡ begun variant text.now) }
+        ensures refused { IfErr result (λ e. e ≡ OutOfMemory) }
+    {
+        let (cluster, endpoint, listener, route, secret) = five(
+            text.try_copy(),
+            text.try_copy(),
+            text.try_copy(),
+            text.try_copy(),
+            text.try_copy(),
+        )?;
+        Ok(Talk {
+            variant,
+            nonces: Nonces::new(),
+            cluster: Session::new(alloc, variant, cluster),
+            endpoint: Session::new(alloc, variant, endpoint),
+            listener: Session::new(alloc, variant, listener),
+            route: Session::new(alloc, variant, route),
+            secret: Session::new(alloc, variant, secret),
+        })
+    }
+
+    pub(crate) fn variant(&self) -> VariantName
+        ensures { result ≡ self.now.variant }
+    {
+        self.variant
+    }
+
+    /// What becomes of a request of the variant. Refused only by `OutOfMemory`, and then nothing is taken.
+    pub(crate) fn request(&mut self, alloc: Global, request: &Request) -> Result<Outcome, Refusal>
+        requires { variant_of (message_of request.now) ≡ self.old.variant }
+        ensures answers { IfOk result (λ o. (o, self.new.sessions) ≡ answered_by self.old.sessions (message_of request.now) (type_of_url (url_of (message_of request.now)))) }
+        ensures stays { (self.new.variant ≡ self.old.variant) × (self.new.count ≡ self.old.count) }
+        ensures err { OnErr result (self.new ≡ self.old) }
+        ensures refused { IfErr result (λ e. e ≡ OutOfMemory) }
+    {
+        match TypeName::from_url(request.type_url()) {
+            Some(kind) => self.take(alloc, kind, request),
+            None => Ok(Outcome::Ignored),
+        }
+    }
+
+    // Takes a request of a type.
+    fn take(
+        &mut self,
+        alloc: Global,
+        kind: TypeName,
+        request: &Request,
+    ) -> Result<Outcome, Refusal>
+        requires { variant_of (message_of request.now) ≡ self.old.variant }
+        ensures ok { OnOk result (self.new ≡ with_session self.old kind (session_after kind (at self.old.sessions kind) (message_of request.now))) }
+        ensures taken { IfOk result (λ o. o ≡ outcome (at self.old.sessions kind) (nonce_of (message_of request.now))) }
+        ensures err { OnErr result (self.new ≡ self.old) }
+        ensures refused { IfErr result (λ e. e ≡ OutOfMemory) }
+    {
+        match kind {
+            TypeName::Cluster => self.cluster.take(alloc, request),
+            TypeName::Endpoint => self.endpoint.take(alloc, request),
+            TypeName::Listener => self.listener.take(alloc, request),
+            TypeName::Route => self.route.take(alloc, request),
+            TypeName::Secret => self.secret.take(alloc, request),
+        }
+    }
+
+    /// Whether the client is owed something of the type. It takes no memory.
+    pub(crate) fn owes(&self, held: &Catalogues, kind: TypeName) -> bool
+        ensures { result ≡ owes_of held.now (stream_in self.now) kind }
+    {
+        match kind {
+            TypeName::Cluster => self.cluster.owes(&held.cluster),
+            TypeName::Endpoint => self.endpoint.owes(&held.endpoint),
+            TypeName::Listener => self.listener.owes(&held.listener),
+            TypeName::Route => self.route.owes(&held.route),
+            TypeName::Secret => self.secret.owes(&held.secret),
+        }
+    }
+
+    /// Whether a response of the type is to be sent. It takes no memory.
+    pub(crate) fn sends(&self, held: &Catalogues, kind: TypeName) -> bool
+        ensures { result ≡ is_some (to_send held.now (stream_in self.now) kind) }
+    {
+        match kind {
+            TypeName::Cluster => self.cluster.sends(&held.cluster),
+            TypeName::Endpoint => self.endpoint.sends(&held.endpoint),
+            TypeName::Listener => self.listener.sends(&held.listener),
+            TypeName::Route => self.route.sends(&held.route),
+            TypeName::Secret => self.secret.sends(&held.secret),
+        }
+    }
+
+    /// The next response of the type, if one is to be sent. Refused only where one is: by `NonceSpent` where the stream
+    /// has no number left, and else by `OutOfMemory`.
+    pub(crate) fn poll(
+        &mut self,
+        alloc: Global,
+        replica: u16,
+        held: &Catalogues,
+        kind: TypeName,
+    ) -> Result<Option<Draft>, Refusal>
+        ensures polls { Gives (λ o. (o, stream_in self.new)) result (polled replica held.now (stream_in self.old) kind) }
+        ensures memory { IfErr result (λ e. e ≡ OutOfMemory → IsToRespond held.now (stream_in self.old) (kind ∷ [])) }
+        ensures err { OnErr result (self.new ≡ self.old) }
+    {
+        let nonces = &mut self.nonces;
+        match kind {
+            TypeName::Cluster => self.cluster.poll(alloc, replica, &held.cluster, nonces),
+            TypeName::Endpoint => self.endpoint.poll(alloc, replica, &held.endpoint, nonces),
+            TypeName::Listener => self.listener.poll(alloc, replica, &held.listener, nonces),
+            TypeName::Route => self.route.poll(alloc, replica, &held.route, nonces),
+            TypeName::Secret => self.secret.poll(alloc, replica, &held.secret, nonces),
+        }
+    }
+
+    /// An equal talk, with memory of its own. Refused only by `OutOfMemory`.
+    pub(crate) fn try_copy(&self, alloc: Global) -> Result<Talk, Refusal>
+        ensures ok { IfOk result (λ t. t ≡ self.now) }
+        ensures refused { IfErr result (λ e. e ≡ OutOfMemory) }
+    {
+        let (cluster, endpoint, listener, route, secret) = five(
+            self.cluster.try_copy(alloc),
+            self.endpoint.try_copy(alloc),
+            self.listener.try_copy(alloc),
+            self.route.try_copy(alloc),
+            self.secret.try_copy(alloc),
+        )?;
+        Ok(Talk {
+            variant: self.variant,
+            nonces: self.nonces,
+            cluster,
+            endpoint,
+            listener,
+            route,
+            secret,
+        })
+    }
+}
