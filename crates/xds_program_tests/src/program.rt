@@ -16,7 +16,7 @@ fn words(alloc: Global, given: &str) -> Result<Vec<String>, Fail> {
 }
 
 // The status of a run over words and the input after a `|`, its output and its error output. `~` is a line feed, and
-// `A!`, `B!` and `Q!` are lines that put the clusters `a` and `b` and the route `q`.
+// `A!`, `B!` and `Q!` are lines that put the clusters `a` and `b` and the route `q`, and `G!` lines that put clusters in groups.
 pub(crate) struct Run;
 
 impl Outcome for Run {
@@ -25,24 +25,30 @@ impl Outcome for Run {
         let input = replaced(alloc, input, "A!", A)?;
         let input = replaced(alloc, input.as_str(), "B!", B)?;
         let input = replaced(alloc, input.as_str(), "Q!", Q)?;
+        let input = replaced(alloc, input.as_str(), "G!", GROUPED)?;
         let input = replaced(alloc, input.as_str(), "~", "\n")?;
         let input = written_out(alloc, input.as_str())?;
-        let words = words(alloc, given)?;
-        let mut input = Counted::new(input.as_bytes());
-        let mut output = Counted::new(Vec::new(alloc));
-        let mut errors = Counted::new(Vec::new(alloc));
-        let status = run(
-            alloc,
-            words.as_slice(),
-            &mut input,
-            &mut output,
-            &mut errors,
-        );
-        let output = String::from_utf8(output.inner).ok().ok_or("output")?;
-        let errors = String::from_utf8(errors.inner).ok().ok_or("errors")?;
-        let told = format!(in alloc; "{status} {output}{errors}")?;
-        Ok(replaced(alloc, told.as_str(), "\n", "~")?)
+        told(alloc, given, input.as_bytes())
     }
+}
+
+// The status of a run over words and an input, its output and its error output, with `~` for a line feed.
+pub(crate) fn told(alloc: Global, given: &str, input: &[u8]) -> Result<String, Fail> {
+    let words = words(alloc, given)?;
+    let mut input = Counted::new(input);
+    let mut output = Counted::new(Vec::new(alloc));
+    let mut errors = Counted::new(Vec::new(alloc));
+    let status = run(
+        alloc,
+        words.as_slice(),
+        &mut input,
+        &mut output,
+        &mut errors,
+    );
+    let output = String::from_utf8(output.inner).ok().ok_or("output")?;
+    let errors = String::from_utf8(errors.inner).ok().ok_or("errors")?;
+    let told = format!(in alloc; "{status} {output}{errors}")?;
+    Ok(replaced(alloc, told.as_str(), "\n", "~")?)
 }
 
 const A: &str =
@@ -81,6 +87,38 @@ fn the_greatest_write_of_a_name_stands(rt: HostRuntime) -> Result<(), Fail> {
         r#"answer|{"body":{"@type":"CDS","name":"a","x":1},"counter":1,"name":"a","typeUrl":"CDS","writer":1}~{"body":{"@type":"CDS","name":"a","x":2},"counter":1,"name":"a","typeUrl":"CDS","writer":2}~B!{"counter":3,"name":"b","typeUrl":"CDS","writer":1}~{"typeUrl":"CDS"}~ => 0 {"nonce":"1","resources":[{"@type":"CDS","name":"a","x":2}],"typeUrl":"CDS","versionInfo":"1.4"}~
 answer|A!{"counter":1,"name":"a","typeUrl":"CDS","writer":1}~{"typeUrl":"CDS"}~ => 0 {"nonce":"1","resources":[{"@type":"CDS","name":"a"}],"typeUrl":"CDS","versionInfo":"1.1"}~
 answer|{"body":{"@type":"CDS","name":"a","x":9},"counter":1,"name":"a","typeUrl":"CDS","writer":1}~{"body":{"@type":"CDS","name":"a","x":10},"counter":1,"name":"a","typeUrl":"CDS","writer":1}~{"typeUrl":"CDS"}~ => 0 {"nonce":"1","resources":[{"@type":"CDS","name":"a","x":9}],"typeUrl":"CDS","versionInfo":"1.1"}~"#,
+    )
+}
+
+// Clusters `a` in the group g1, `b` in none, and `c` in the group g2.
+const GROUPED: &str = r#"{"body":{"@type":"CDS","name":"a"},"counter":1,"groups":["g1"],"name":"a","typeUrl":"CDS","writer":1}~{"body":{"@type":"CDS","name":"b"},"counter":2,"name":"b","typeUrl":"CDS","writer":1}~{"body":{"@type":"CDS","name":"c"},"counter":3,"groups":["g2"],"name":"c","typeUrl":"CDS","writer":1}~"#;
+
+#[test]
+fn the_star_covers_what_is_open_to_the_cluster(rt: HostRuntime) -> Result<(), Fail> {
+    hold::<Run, HostRuntime>(
+        &rt,
+        r#"answer|G!{"node":{"cluster":"g1"},"typeUrl":"CDS"}~ => 0 {"nonce":"1","resources":[{"@type":"CDS","name":"a"},{"@type":"CDS","name":"b"}],"typeUrl":"CDS","versionInfo":"1.3@g1"}~
+answer|G!{"node":{"cluster":"g1","id":"n"},"resourceNames":["*"],"typeUrl":"CDS"}~ => 0 {"nonce":"1","resources":[{"@type":"CDS","name":"a"},{"@type":"CDS","name":"b"}],"typeUrl":"CDS","versionInfo":"1.3@g1"}~
+answer|G!{"typeUrl":"CDS"}~ => 0 {"nonce":"1","resources":[{"@type":"CDS","name":"b"}],"typeUrl":"CDS","versionInfo":"1.3"}~
+answer|G!{"node":{"cluster":"","id":"g1"},"typeUrl":"CDS"}~ => 0 {"nonce":"1","resources":[{"@type":"CDS","name":"b"}],"typeUrl":"CDS","versionInfo":"1.3"}~
+answer|G!{"node":{"cluster":"g3"},"typeUrl":"CDS"}~ => 0 {"nonce":"1","resources":[{"@type":"CDS","name":"b"}],"typeUrl":"CDS","versionInfo":"1.3@g3"}~
+answer|G!{"node":{"cluster":"g1"},"resourceNames":["c"],"typeUrl":"CDS"}~ => 0 {"nonce":"1","resources":[{"@type":"CDS","name":"c"}],"typeUrl":"CDS","versionInfo":"1.3.named"}~
+answer --replica 7|G!{"node":{"cluster":"g1"},"resourceNames":["*","c"],"typeUrl":"CDS"}~ => 0 {"nonce":"1","resources":[{"@type":"CDS","name":"a"},{"@type":"CDS","name":"b"},{"@type":"CDS","name":"c"}],"typeUrl":"CDS","versionInfo":"7.3@g1"}~
+answer|{"body":{"@type":"CDS","name":"a"},"counter":1,"groups":["z","g1","z"],"name":"a","typeUrl":"CDS","writer":1}~{"node":{"cluster":"z"},"typeUrl":"CDS"}~ => 0 {"nonce":"1","resources":[{"@type":"CDS","name":"a"}],"typeUrl":"CDS","versionInfo":"1.1@z"}~
+answer|{"body":{"@type":"CDS","name":"a"},"counter":1,"groups":null,"name":"a","typeUrl":"CDS","writer":1}~{"counter":1,"groups":[],"name":"b","typeUrl":"CDS","writer":1}~{"typeUrl":"CDS"}~ => 0 {"nonce":"1","resources":[{"@type":"CDS","name":"a"}],"typeUrl":"CDS","versionInfo":"1.2"}~
+answer|{"body":{"@type":"CDS","name":"a"},"counter":1,"groups":["g1","g2"],"name":"a","typeUrl":"CDS","writer":1}~{"body":{"@type":"CDS","name":"a"},"counter":1,"groups":["g2"],"name":"a","typeUrl":"CDS","writer":1}~{"body":{"@type":"CDS","name":"a"},"counter":1,"groups":["g1","g9"],"name":"a","typeUrl":"CDS","writer":1}~{"node":{"cluster":"g2"},"typeUrl":"CDS"}~ => 0 {"nonce":"1","resources":[{"@type":"CDS","name":"a"}],"typeUrl":"CDS","versionInfo":"1.2@g2"}~
+answer|{"body":{"@type":"CDS","name":"a"},"counter":1,"groups":[""],"name":"a","typeUrl":"CDS","writer":1}~{"typeUrl":"CDS"}~ => 1 line 1: 7 BadMessage~
+answer|{"body":{"@type":"CDS","name":"a"},"counter":1,"groups":"g1","name":"a","typeUrl":"CDS","writer":1}~{"typeUrl":"CDS"}~ => 1 line 1: 7 BadMessage~
+answer|{"counter":1,"groups":["g1"],"name":"a","typeUrl":"CDS","writer":1}~{"typeUrl":"CDS"}~ => 1 line 1: 7 BadMessage~"#,
+    )
+}
+
+#[test]
+fn secrets_are_answered_by_name(rt: HostRuntime) -> Result<(), Fail> {
+    hold::<Run, HostRuntime>(
+        &rt,
+        r#"answer|{"body":{"@type":"SDS","name":"s"},"counter":1,"name":"s","typeUrl":"SDS","writer":1}~{"resourceNames":["s"],"typeUrl":"SDS"}~ => 0 {"nonce":"1","resources":[{"@type":"SDS","name":"s"}],"typeUrl":"SDS","versionInfo":"1.1.named"}~
+answer|{"body":{"@type":"SDS","name":"s"},"counter":1,"name":"s","typeUrl":"SDS","writer":1}~{"typeUrl":"SDS"}~ => 0 "#,
     )
 }
 

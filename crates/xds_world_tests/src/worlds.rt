@@ -3,7 +3,7 @@ use std::alloc::Global;
 use std::test::Fail;
 use xds_cache::AcceptAll;
 use xds_model::{ClientKind, Wish, WorldEvent};
-use xds_resource::{AnyResource, Refusal, TypeName};
+use xds_resource::{AnyResource, Groups, Refusal, TypeName};
 use xds_world::{Unsettled, World, more, play, settle};
 
 const CLUSTER: &str =
@@ -22,8 +22,12 @@ fn begun(alloc: Global) -> Result<World<AcceptAll>, Refusal> {
     let wish = wants_all(alloc)?;
     let mut events = Vec::new(alloc);
     events.push(WorldEvent::AddReplica(1))?;
-    events.push(WorldEvent::Put(1, resource))?;
-    events.push(WorldEvent::AddClient(7, ClientKind::Delta))?;
+    events.push(WorldEvent::Put(1, resource, Groups::none()))?;
+    events.push(WorldEvent::AddClient(
+        7,
+        ClientKind::Delta,
+        String::new(alloc),
+    ))?;
     events.push(WorldEvent::Change(7, TypeName::Cluster, wish))?;
     events.push(WorldEvent::Connect(7, 2))?;
     play(alloc, events.as_slice())
