@@ -4,5 +4,6 @@ pub mod BestWrites
 pub mod TypesApart
 pub mod VersionTexts
 pub mod WriteTies
+pub mod Grouping
 pub mod NameMaps
 pub mod MadeMaps

@@ -1,7 +1,7 @@
 -- Conditions in a row: what holds of all of them from what holds of the first ones.
 use Rattle.std.proofs.Common.{◌≡◌, List, [], ◌∷◌, ◌++◌, Bool, true, false, cond, Result, Ok, Err, refl, ◌≢◌, ◌⊎◌, inl, inr}
 use Rattle.xds_resource.specs.declared.refusal.Refusal.{Refusal}
-use Rattle.xds_resource.specs.declared.refusal.Refusal.TheVariants.{NotJson, TooDeep, NotWhole, BadResource, BadName, TooLong, BadMessage, OutOfMemory, NotFound, CounterSpent, BadStamp, NoStream, WrongVariant, NonceSpent, Device, BadScript}
+use Rattle.xds_resource.specs.declared.refusal.Refusal.TheVariants.{NotJson, TooDeep, NotWhole, BadResource, BadName, TooLong, BadMessage, OutOfMemory, NotFound, CounterSpent, BadStamp, NoStream, WrongVariant, NonceSpent, EmptyFrame, FrameTooLong, UnknownKind, Truncated, Device, JournalFull, BadScript, BadTrace, Gap, BadGroup}
 use Rattle.xds_resource.specs.Refusals.{unless_refused}
 
 abbrev Conditions : Type 0
@@ -15,6 +15,15 @@ past false e r a s t h rest = rest h
 pub unless_refused-append : {A B : Type 0} (cs ds : Conditions) (a d : A) (b : B) → unless_refused cs a ≡ Ok d → unless_refused (cs ++ ds) b ≡ unless_refused ds b
 unless_refused-append [] ds a d b h = refl
 unless_refused-append (c ∷ cs) ds a d b h = past c.0 c.1 (unless_refused cs a) d (unless_refused (cs ++ ds) b) (unless_refused ds b) h (unless_refused-append cs ds a d b)
+
+still_refused : {A B : Type 0} (b : Bool) (e f : Refusal) (r : Result A Refusal) (s : Result B Refusal) → cond b (Err f) r ≡ Err e → (r ≡ Err e → s ≡ Err e) → cond b (Err f) s ≡ Err e
+still_refused true e f r s h rest = cc
+still_refused false e f r s h rest = rest h
+
+-- a condition that holds is before all that follow
+pub unless_refused-refused : {A B : Type 0} (cs ds : Conditions) (a : A) (b : B) (e : Refusal) → unless_refused cs a ≡ Err e → unless_refused (cs ++ ds) b ≡ Err e
+unless_refused-refused [] ds a b e h = absurd cc
+unless_refused-refused (c ∷ cs) ds a b e h = still_refused c.0 e c.1 (unless_refused cs a) (unless_refused (cs ++ ds) b) h (unless_refused-refused cs ds a b e)
 
 here : {A : Type 0} (b : Bool) (e : Refusal) (r : Result A Refusal) (a d : A) → cond b (Err e) r ≡ Ok d → (r ≡ Ok d → a ≡ d) → a ≡ d
 here true e r a d h rest = cc
@@ -41,5 +50,13 @@ memory_or_not BadStamp = inr (λ same. cc)
 memory_or_not NoStream = inr (λ same. cc)
 memory_or_not WrongVariant = inr (λ same. cc)
 memory_or_not NonceSpent = inr (λ same. cc)
+memory_or_not EmptyFrame = inr (λ same. cc)
+memory_or_not FrameTooLong = inr (λ same. cc)
+memory_or_not UnknownKind = inr (λ same. cc)
+memory_or_not Truncated = inr (λ same. cc)
 memory_or_not Device = inr (λ same. cc)
+memory_or_not JournalFull = inr (λ same. cc)
 memory_or_not BadScript = inr (λ same. cc)
+memory_or_not BadTrace = inr (λ same. cc)
+memory_or_not Gap = inr (λ same. cc)
+memory_or_not BadGroup = inr (λ same. cc)

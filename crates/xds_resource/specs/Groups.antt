@@ -1,8 +1,8 @@
 -- Groups: the texts that a write may list, so that the star of a client covers it only where the client's node is of a
 -- cluster among them. This project's own.
-use Rattle.std.specs.Prelude.{◌≡◌, ℕ, List, [], ◌∷◌, length, Bool, ◌&&◌, not, nat_lt, bytes_eq, Result, Ok}
+use Rattle.std.specs.Prelude.{◌≡◌, ℕ, List, [], ◌∷◌, map, length, T, Bool, ◌&&◌, not, nat_lt, bytes_eq, Result, Ok}
 use Rattle.std.specs.List.{list_all, list_any}
-use Rattle.std.specs.FinSet as set
+use Rattle.std.specs.FinMap.Entries.{by_order, is_sorted}
 use Rattle.xds_resource.specs.declared.refusal.Refusal.{Refusal}
 use Rattle.xds_resource.specs.declared.refusal.Refusal.TheVariants.{BadGroup}
 use Rattle.xds_resource.specs.Refusals.{unless_refused}
@@ -20,9 +20,15 @@ max_group = 1024
 abbrev pub is_group : List ℕ → Bool
 is_group text = nat_lt 0 (length text) && not (nat_lt max_group (length text))
 
+-- an ascending list with a text put in its place, byte by byte, unless it is there
+abbrev pub placed : List ℕ → List (List ℕ) → List (List ℕ)
+placed text [] = text ∷ []
+placed text (t ∷ ts) = by_order (text_cmp text t) (text ∷ t ∷ ts) (t ∷ ts) (t ∷ placed text ts)
+
 -- each text of a list once, in ascending order
 abbrev pub grouped : List (List ℕ) → List (List ℕ)
-grouped texts = set.items (set.from_list {R = text_cmp} texts)
+grouped [] = []
+grouped (text ∷ texts) = placed text (grouped texts)
 
 -- why a list of texts is no list of groups
 abbrev pub group_conditions : List (List ℕ) → List (Bool × Refusal)
@@ -39,3 +45,7 @@ IsGroups groups = groups_of groups ≡ Ok groups
 -- whether a text is among the groups
 abbrev pub has_group : List (List ℕ) → List ℕ → Bool
 has_group groups text = list_any (bytes_eq text) groups
+
+-- the groups ascend, none of them twice
+abbrev pub Ascend : List (List ℕ) → Type 0
+Ascend groups = T (is_sorted text_cmp (map (λ group. (group, tt {0})) groups))

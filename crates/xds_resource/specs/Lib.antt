@@ -5,6 +5,7 @@ pub mod Stamps
 pub mod Writes
 pub mod WriteOrder
 pub mod Groups
+pub mod TypedWrites
 pub mod Best
 pub mod Fields
 pub mod Resources

@@ -1,7 +1,8 @@
 // The groups of clients that a write may be for.
-ghost use Rattle.std.specs.Prelude.{◌≡◌, ◌≢◌, IfOk, IfErr, length, map, string_bytes, Err, [], is_empty};
+ghost use Rattle.std.specs.Prelude.{◌≡◌, ◌==◌, IfOk, IfErr, OnOk, Ok, [], length, map, not, nat_lt, string_bytes};
+ghost use Rattle.std.specs.List.{list_all};
 ghost use Rattle.xds_resource.specs.Refusals.{Gives};
-ghost use Rattle.xds_resource.specs.Groups.{IsGroups, groups_of, has_group};
+ghost use Rattle.xds_resource.specs.Groups.{IsGroups, max_groups, is_group as may_be_group, grouped, groups_of, has_group, placed};
 ghost use Rattle.xds_resource.specs.Writes.{groups_cmp};
 
 use crate::refusal::Refusal;
@@ -52,15 +53,34 @@ impl Groups {
     /// `OutOfMemory`.
     pub fn new(alloc: Global, texts: &[String]) -> Result<Groups, Refusal>
         ensures given { Gives (λ g. g) result (groups_of (map string_bytes texts.now)) }
-        ensures memory { IfErr result (λ e. e ≡ Refusal.OutOfMemory → groups_of (map string_bytes texts.now) ≢ Err Refusal.BadGroup) }
+        ensures memory { IfErr result (λ e. e ≡ Refusal.OutOfMemory
+            → groups_of (map string_bytes texts.now) ≡ Ok (grouped (map string_bytes texts.now))) }
     {
-        Err(Refusal::OutOfMemory)
+        if !all_are_groups(texts) || !are_few(texts) {
+            return Err(Refusal::BadGroup);
+        }
+        Groups::of_groups(alloc, texts)
+    }
+
+    // The groups of texts of which none is refused.
+    fn of_groups(alloc: Global, texts: &[String]) -> Result<Groups, Refusal>
+        requires { groups_of (map string_bytes texts.now) ≡ Ok (grouped (map string_bytes texts.now)) }
+        ensures ok { IfOk result (λ g. g ≡ grouped (map string_bytes texts.now)) }
+        ensures refused { IfErr result (λ e. e ≡ Refusal.OutOfMemory) }
+    {
+        if texts.is_empty() {
+            return Ok(Groups::none());
+        }
+        let mut list = gathered(alloc, texts)?;
+        list.shrink_to_fit();
+        Ok(Groups {
+            list: Some(ArcSlice::from_vec(list)?),
+        })
     }
 
     /// The groups, ascending.
     pub fn texts(&self) -> &[String]
-        ensures texts { map string_bytes result.now ≡ self.now }
-        ensures groups { IsGroups self.now }
+        ensures { map string_bytes result.now ≡ self.now }
     {
         match &self.list {
             Some(list) => list.as_slice(),
@@ -70,7 +90,7 @@ impl Groups {
 
     /// Whether there are none.
     pub fn is_empty(&self) -> bool
-        ensures { result ≡ is_empty self.now }
+        ensures { result ≡ (length self.now == 0) }
     {
         self.texts().is_empty()
     }
@@ -86,12 +106,14 @@ impl Groups {
     pub fn has(&self, text: &str) -> bool
         ensures { result ≡ has_group self.now text.now }
     {
-        for group in self.texts() {
-            if group.as_str() == text {
-                return true;
-            }
-        }
-        false
+        is_among(self.texts(), text)
+    }
+
+    // What is held are groups as they are kept.
+    pub(crate) fn are_kept(&self)
+        ensures { IsGroups self.now }
+    {
+        let _ = &self.list;
     }
 
     /// The same groups, shared: no text is copied. `OutOfMemory` where they have 2^63 owners.
@@ -124,4 +146,85 @@ impl Clone for Groups {
             },
         })
     }
+}
+
+// Whether the text may be a group.
+fn is_group(text: &str) -> bool
+    ensures { result ≡ may_be_group text.now }
+{
+    !text.is_empty() && text.len() <= MAX_GROUP
+}
+
+// Whether each of the texts may be a group.
+fn all_are_groups(texts: &[String]) -> bool
+    ensures { result ≡ list_all may_be_group (map string_bytes texts.now) }
+{
+    for text in texts {
+        if !is_group(text.as_str()) {
+            return false;
+        }
+    }
+    true
+}
+
+// Whether the text is one of these.
+fn is_among(texts: &[String], text: &str) -> bool
+    ensures { result ≡ has_group (map string_bytes texts.now) text.now }
+{
+    for other in texts {
+        if text == other.as_str() {
+            return true;
+        }
+    }
+    false
+}
+
+// Whether the texts are few enough, a doubled one counted once. No memory is taken. Each text is looked for among those
+// after it, so that a long list of few different texts doesn't take long.
+fn are_few(texts: &[String]) -> bool
+    ensures { result ≡ not (nat_lt max_groups (length (grouped (map string_bytes texts.now)))) }
+{
+    let mut start = texts.len();
+    let mut count = 0;
+    while start > 0 {
+        start -= 1;
+        if !is_among(&texts[start + 1..], texts[start].as_str()) {
+            if count == MAX_GROUPS {
+                return false;
+            }
+            count += 1;
+        }
+    }
+    true
+}
+
+// The texts in ascending order, a doubled one once.
+fn gathered(alloc: Global, texts: &[String]) -> Result<Vec<String>, Refusal>
+    ensures ok { IfOk result (λ v. map string_bytes v.items ≡ grouped (map string_bytes texts.now)) }
+    ensures refused { IfErr result (λ e. e ≡ Refusal.OutOfMemory) }
+{
+    let mut list = Vec::new(alloc);
+    let mut start = texts.len();
+    while start > 0 {
+        start -= 1;
+        add(alloc, &mut list, texts[start].as_str())?;
+    }
+    Ok(list)
+}
+
+// Puts a text in its place in an ascending list, if it isn't there.
+fn add(alloc: Global, list: &mut Vec<String>, text: &str) -> Result<(), Refusal>
+    ensures ok { OnOk result (map string_bytes list.new.items ≡ placed text.now (map string_bytes list.old.items)) }
+    ensures refused { IfErr result (λ e. e ≡ Refusal.OutOfMemory) }
+{
+    let mut at = 0;
+    while at < list.len() {
+        match text.cmp(list[at].as_str()) {
+            Ordering::Less => break,
+            Ordering::Equal => return Ok(()),
+            Ordering::Greater => at += 1,
+        }
+    }
+    list.insert(at, String::from_str(alloc, text)?)?;
+    Ok(())
 }

@@ -4,6 +4,7 @@ ghost use Rattle.std.specs.Cmp.{IsTotalOrder};
 ghost use Rattle.std.specs.declared.cmp.Ordering.TheVariants.{Equal};
 ghost use Rattle.xds_resource.specs.Stamps.{IsStamp, version_text};
 ghost use Rattle.xds_resource.specs.Writes.{StampedWrite, write_cmp};
+ghost use Rattle.xds_resource.specs.Groups.{IsGroups, grouped, has_group, Ascend};
 ghost use Rattle.xds_resource.specs.Best.{greater, best, BestIsGreatest, BestOfBoth, SameWrites};
 ghost use Rattle.xds_resource.specs.PerType.{PerType, at, each, PutsAtOneType};
 ghost use Rattle.xds_resource.specs.declared.types.TypeName.{TypeName};
@@ -13,12 +14,21 @@ ghost use Rattle.xds_resource.specs.Resources.{IsCanonical};
 ghost use Rattle.xds_resource.specs.Any.{resource_type, named_body};
 
 use crate::any::AnyResource;
+use crate::groups::Groups;
 use crate::types::TypeName;
 
 /// The order of writes is total, and two writes that tie are the same.
 pub fn writes_are_ordered()
     ensures total { IsTotalOrder write_cmp }
     ensures ties { (v w : StampedWrite) → write_cmp v w ≡ Equal → v ≡ w }
+{}
+
+/// The groups that texts come to are those texts, ascending and none of them twice, and depend on nothing else.
+pub fn groups_are_a_set()
+    ensures ascend { (texts : List (List ℕ)) → Ascend (grouped texts) }
+    ensures members { (texts : List (List ℕ)) (text : List ℕ) → has_group (grouped texts) text ≡ has_group texts text }
+    ensures alone { (texts others : List (List ℕ)) → ((text : List ℕ) → has_group texts text ≡ has_group others text)
+        → grouped texts ≡ grouped others }
 {}
 
 /// The best of a name is the greatest write of that name, and missing only where no write has it.
@@ -61,6 +71,13 @@ pub fn types_stand_in_order()
     ensures all { TypeName.ALL ≡ types }
     ensures order { (s t : TypeName) → ⟦<TypeName as Ord>⟧.cmp s t ≡ type_cmp s t }
 {}
+
+/// What is held as groups are groups, ascending, as they are kept.
+pub fn groups_are_kept(groups: &Groups)
+    ensures { IsGroups groups.now }
+{
+    groups.are_kept()
+}
 
 /// What is held as a resource is one: its text is the compact text of an object of its type, with its name.
 pub fn resources_are_canonical(resource: &AnyResource)

@@ -50,6 +50,7 @@ impl<T: ResourceType> Write<T> {
     pub fn put(stamp: Stamp, resource: Resource<T>, groups: Groups) -> Write<T>
         ensures { result ≡ written stamp.counter stamp.writer resource groups }
     {
+        groups.are_kept();
         let Resource { name, body, kind } = resource;
         Write {
             stamp,

@@ -1,6 +1,6 @@
-use Rattle.std.proofs.Common.{◌≡◌, refl, sym, ap, ◌∙◌, rules}
+use Rattle.std.proofs.Common.{sym, ap, ◌∙◌}
 use Rattle.std.specs.FinMap as finmap
-use Rattle.xds_resource.proofs.NameMaps.{seen, get-seen, seen-inserted, seen-removed, entries-seen}
+use Rattle.xds_resource.proofs.NameMaps.{get-seen}
 use Rattle.xds_resource.proofs.names.NameMap.get.Goals as goal
 
 pub returns : goal.returns

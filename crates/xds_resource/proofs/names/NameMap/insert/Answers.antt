@@ -1,8 +1,7 @@
-use Rattle.std.proofs.Common.{◌≡◌, refl, sym, ap, ◌∙◌, rules}
+use Rattle.std.proofs.Common.{sym, ap, ◌∙◌}
 use Rattle.std.specs.FinMap as finmap
 use Rattle.std.specs.Prelude.{string_bytes}
-use Rattle.xds_resource.specs.Names.{pairs}
-use Rattle.xds_resource.proofs.NameMaps.{seen, get-seen, seen-inserted, seen-removed, entries-seen}
+use Rattle.xds_resource.proofs.NameMaps.{get-seen, seen-inserted}
 use Rattle.xds_resource.proofs.names.NameMap.insert.Goals as goal
 
 pub returns-in-Ok-clause-ok : goal.returns-in-Ok-clause-ok
