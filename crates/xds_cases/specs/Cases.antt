@@ -8,12 +8,14 @@ use Rattle.xds_resource.specs.Types.{row}
 use Rattle.xds_resource.specs.Refusals.{number_of, name_of}
 use Rattle.xds_resource.specs.declared.refusal.Refusal.{Refusal}
 use Rattle.xds_resource.specs.declared.refusal.Refusal.TheVariants.{OutOfMemory, BadScript}
-use Rattle.xds_resource.specs.declared.types.TypeName.TheVariants.{Cluster, Endpoint, Listener, Route}
+use Rattle.xds_resource.specs.declared.types.TypeName.TheVariants.{Cluster, Endpoint, Listener, Route, Secret}
 use Rattle.xds_cases.specs.Texts.{Text, around, pieces, replaced}
 
 -- a text with the types' URLs in place of their short names
 unfoldable pub with_urls : Text → Text
-with_urls text = replaced (codes "RDS") (row Route).url (replaced (codes "LDS") (row Listener).url (replaced (codes "EDS") (row Endpoint).url (replaced (codes "CDS") (row Cluster).url text)))
+with_urls text =
+    replaced (codes "SDS") (row Secret).url
+    (replaced (codes "RDS") (row Route).url (replaced (codes "LDS") (row Listener).url (replaced (codes "EDS") (row Endpoint).url (replaced (codes "CDS") (row Cluster).url text))))
 
 -- whether these are digits that write a 64-bit number
 abbrev pub is_number : Text → Bool

@@ -23,8 +23,8 @@ pub trait Outcome {
         ensures { IfOk result (λ made. may_make given.now (string_bytes made)) };
 }
 
-/// Compares each case's outcome with the one that is wanted. In a case `CDS`, `EDS`, `LDS` and `RDS` stand for the URLs
-/// of the types, and `<[*3>` stands for `[[[`.
+/// Compares each case's outcome with the one that is wanted. In a case `CDS`, `EDS`, `LDS`, `RDS` and `SDS` stand for
+/// the URLs of the types, and `<[*3>` stands for `[[[`.
 pub fn hold<O: Outcome, R: AllocGlobal>(rt: &R, cases: &str) -> Result<(), Fail>
     ensures { OnOk result (All (Holds O.may_make) (lines cases.now)) }
 {
@@ -121,7 +121,8 @@ fn with_urls(alloc: Global, text: &str) -> Result<String, Refusal>
     let text = replaced(alloc, text, "CDS", TypeName::Cluster.url())?;
     let text = replaced(alloc, text.as_str(), "EDS", TypeName::Endpoint.url())?;
     let text = replaced(alloc, text.as_str(), "LDS", TypeName::Listener.url())?;
-    replaced(alloc, text.as_str(), "RDS", TypeName::Route.url())
+    let text = replaced(alloc, text.as_str(), "RDS", TypeName::Route.url())?;
+    replaced(alloc, text.as_str(), "SDS", TypeName::Secret.url())
 }
 
 // The text, with each `<[*3>` in it written out.
