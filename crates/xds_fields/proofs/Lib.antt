@@ -2,3 +2,4 @@ pub mod Lists
 pub mod OneField
 pub mod FieldsReadBack
 pub mod VersionLemmas
+pub mod FieldsWithin

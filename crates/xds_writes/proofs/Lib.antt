@@ -1,1 +1,3 @@
 pub mod StampedWriteLemmas
+pub mod ReadGroups
+pub mod ReadWrites

@@ -1,25 +1,28 @@
--- A value spells one stamped write at most, and the object that is written for one spells it.
-use Rattle.std.proofs.Common.{◌≡◌, ◌≤◌, ℕ, List, [], length, Bool, true, false, cond, Option, IsSomeAnd, Some, None, Result, Ok, Err, option_map, codes, refl, sym, ap, ◌∙◌, subst}
-use Rattle.std.proofs.lemmas.Bool.{le-leb, ltb-false}
+-- A value spells one stamped write at most, and the object that is written for one spells it, is shallow and holds no float.
+use Rattle.std.proofs.Common.{◌≡◌, ◌≤◌, ℕ, suc, List, [], map, length, false, Option, IsSomeAnd, Some, None, Result, Ok, Err, option_map, codes, refl, sym, ap, ◌∙◌, subst, arith}
+use Rattle.std.proofs.lemmas.Bool.{le-leb}
+use Rattle.std.specs.Prelude.{IfSome}
 use Rattle.std.specs.Option.{ForSome}
-use Rattle.std.specs.Prelude.{nat_lt}
-use Rattle.serde_json.specs.Written.{compact_text, has_float}
+use Rattle.serde_json.specs.declared.value.Value.{Value}
+use Rattle.serde_json.specs.View.{view}
+use Rattle.serde_json.specs.Written.{has_float}
 use Rattle.serde_json.specs.Data.{Data, null, boolean, number, string, array, object, unsigned, depth}
 use Rattle.serde_json.specs.Find.{get}
 use Rattle.xds_resource.specs.declared.types.TypeName.{TypeName}
-use Rattle.xds_resource.specs.declared.types.TypeName.TheVariants.{Cluster, Endpoint, Listener, Route}
+use Rattle.xds_resource.specs.declared.types.TypeName.TheVariants.{Cluster, Endpoint, Listener, Route, Secret}
 use Rattle.xds_resource.specs.declared.refusal.Refusal.{Refusal}
-use Rattle.xds_resource.specs.declared.refusal.Refusal.TheVariants.{NotWhole, TooLong}
-use Rattle.xds_resource.proofs.Refusing.{unless_refused-value}
 use Rattle.xds_resource.specs.Fields.{first_of}
 use Rattle.xds_resource.specs.Types.{row, type_of_url}
 use Rattle.xds_resource.specs.Writes.{StampedWrite}
-use Rattle.xds_resource.specs.Resources.{max_text, max_nesting, NamedBody, value_of, from_object, from_value, value_conditions, resource_of, IsCanonical}
+use Rattle.xds_resource.specs.Groups.{groups_of}
+use Rattle.xds_resource.specs.Resources.{max_text, max_nesting, NamedBody, value_of, from_object, from_value, IsCanonical}
 use Rattle.xds_resource.proofs.Naming.{from_value-from_object}
-use Rattle.xds_fields.specs.Spelling.{IsOrDefault, set_value}
-use Rattle.xds_writes.specs.StampedWrites.{IsBodyOf, IsBody, SpellsWrite, SpellsOneWrite, write_fields, IsWriteSpelledByItsObject, IsReadWriteSpelledByItsObject}
-use Rattle.xds_fields.proofs.OneField.{IsOrDefault-unique, IsSomeAnd-unique}
-use Rattle.xds_fields.proofs.FieldsReadBack.{get_member-members_set}
+use Rattle.xds_fields.specs.Spelling.{IsTexts, set_value}
+use Rattle.xds_fields.specs.WrittenFields.{list_data}
+use Rattle.xds_writes.specs.StampedWrites.{IsBodyOf, IsBody, AreGroups, SpellsWrite, SpellsOneWrite, write_fields, write_object, IsWriteSpelledByItsObject}
+use Rattle.xds_fields.proofs.OneField.{IsOrDefault-unique, IsSomeAnd-unique, IsTexts-unique}
+use Rattle.xds_fields.proofs.FieldsReadBack.{get_member-members_set, IsTexts-list_data}
+use Rattle.xds_fields.proofs.FieldsWithin.{IsWithin, HasNoFloat, members_depth-members_set, members_have_float-members_set, IsWithin-list_data, HasNoFloat-list_data, items_depth-texts, items_have_float-texts}
 
 -- ---- one write
 
@@ -28,6 +31,7 @@ type_of_url-url Cluster = refl
 type_of_url-url Endpoint = refl
 type_of_url-url Listener = refl
 type_of_url-url Route = refl
+type_of_url-url Secret = refl
 
 same_some : (s t : TypeName) → Some s ≡ Some t → s ≡ t
 same_some s t e = cc
@@ -35,10 +39,10 @@ same_some s t e = cc
 pub url-injective : (s t : TypeName) → (row s).url ≡ (row t).url → s ≡ t
 url-injective s t e = same_some s t (sym (type_of_url-url s) ∙ ap type_of_url e ∙ type_of_url-url t)
 
-same_text : (o : Option Data) (s t : List ℕ) → o ≡ Some (string s) → o ≡ Some (string t) → s ≡ t
+pub same_text : (o : Option Data) (s t : List ℕ) → o ≡ Some (string s) → o ≡ Some (string t) → s ≡ t
 same_text o s t p q = let same = sym p ∙ q in cc
 
-same_number : (o : Option Data) (m n : ℕ) → o ≡ Some (number (unsigned m)) → o ≡ Some (number (unsigned n)) → m ≡ n
+pub same_number : (o : Option Data) (m n : ℕ) → o ≡ Some (number (unsigned m)) → o ≡ Some (number (unsigned n)) → m ≡ n
 same_number o m n p q = let same = sym p ∙ q in cc
 
 abbrev body_or_empty : Result NamedBody Refusal → List ℕ
@@ -55,13 +59,22 @@ IsBody-unique : (t : TypeName) (name : List ℕ) (o : Option Data) (a b : Option
 IsBody-unique t name o a b p q =
     IsOrDefault-unique None _ (λ d x y v w. IsSomeAnd-unique (IsBodyOf t name d) (IsBodyOf-unique t name d) x y v w) (set_value o) a b p q
 
+same_groups : (r : Result (List (List ℕ)) Refusal) (gs hs : List (List ℕ)) → r ≡ Ok gs → r ≡ Ok hs → gs ≡ hs
+same_groups r gs hs p q = let same = sym p ∙ q in cc
+
+pub AreGroups-unique : (o : Option Data) (gs hs : List (List ℕ)) → AreGroups o gs → AreGroups o hs → gs ≡ hs
+AreGroups-unique o gs hs p q =
+    let same = IsTexts-unique o p.0 q.0 p.1 q.1 in
+    same_groups (groups_of q.0) gs hs (ap groups_of (sym same) ∙ p.2) q.2
+
 same_write : (t : TypeName) (d : Data) (v w : StampedWrite) → SpellsWrite d t v → SpellsWrite d t w → v ≡ w
 same_write t d v w p q =
     let name = same_text _ v.name w.name p.name q.name in
     let counter = same_number _ v.counter w.counter p.counter q.counter in
     let writer = same_number _ v.writer w.writer p.writer q.writer in
     let body = IsBody-unique t w.name _ v.body w.body (subst (λ n. IsBody t n (get (codes "body") d) v.body) name p.body) q.body in
-    λ i. record { name = name i; counter = counter i; writer = writer i; body = body i }
+    let groups = AreGroups-unique _ v.groups w.groups p.groups q.groups in
+    λ i. record { name = name i; counter = counter i; writer = writer i; body = body i; groups = groups i }
 
 pub SpellsWrite-unique : (d : Data) → SpellsOneWrite d
 SpellsWrite-unique d s t v w p q =
@@ -78,23 +91,23 @@ set_value-from_object t (string s) r h = refl
 set_value-from_object t (array ds) r h = refl
 set_value-from_object t (object ms) r h = refl
 
-pub from_value-canonical : (t : TypeName) (r : NamedBody) → IsCanonical t r → length r.body ≤ max_text → from_value t (value_of r.body) ≡ Ok r
-from_value-canonical t r h short =
-    from_value-from_object t (value_of r.body) h.whole (subst (λ s. length s ≤ max_text) (sym h.text) short) (le-leb (depth (value_of r.body)) max_nesting h.shallow) ∙ h.object
+pub from_value-canonical : (t : TypeName) (r : NamedBody) → IsCanonical t r → from_value t (value_of r.body) ≡ Ok r
+from_value-canonical t r h =
+    from_value-from_object t (value_of r.body) h.whole (subst (λ s. length s ≤ max_text) (sym h.text) h.short) (le-leb (depth (value_of r.body)) max_nesting h.shallow) ∙ h.object
 
-IsBody-value_of : (t : TypeName) (name : List ℕ) (body : Option (List ℕ)) → ForSome body (λ b. IsCanonical t (record { name = name; body = b })) → ForSome body (λ b. length b ≤ max_text) → IsBody t name (option_map value_of body) body
-IsBody-value_of t name None h short = refl
-IsBody-value_of t name (Some b) h short =
+IsBody-value_of : (t : TypeName) (name : List ℕ) (body : Option (List ℕ)) → ForSome body (λ b. IsCanonical t (record { name = name; body = b })) → IsBody t name (option_map value_of body) body
+IsBody-value_of t name None h = refl
+IsBody-value_of t name (Some b) h =
     let d = value_of b in
     let r : NamedBody = record { name = name; body = b } in
-    rw (set_value-from_object t d r (h b refl).object) (from_value-canonical t r (h b refl) (short b refl))
+    rw (set_value-from_object t d r (h b refl).object) (from_value-canonical t r (h b refl))
 
 first_of-None : (o : Option Data) → first_of o None ≡ o
 first_of-None None = refl
 first_of-None (Some d) = refl
 
 pub SpellsWrite-write_object : (t : TypeName) (w : StampedWrite) → IsWriteSpelledByItsObject t w
-SpellsWrite-write_object t w h stamp short =
+SpellsWrite-write_object t w h stamp =
     let at = λ (key : List ℕ). get_member-members_set key (write_fields t w) in
     record {
       is_object = refl;
@@ -104,27 +117,31 @@ SpellsWrite-write_object t w h stamp short =
       counter = at (codes "counter");
       writer = at (codes "writer");
       stamp = stamp;
-      body = subst (λ o. IsBody t w.name o w.body) (sym (at (codes "body") ∙ first_of-None (option_map value_of w.body))) (IsBody-value_of t w.name w.body h.body short);
+      body = subst (λ o. IsBody t w.name o w.body) (sym (at (codes "body") ∙ first_of-None (option_map value_of w.body))) (IsBody-value_of t w.name w.body h.body);
+      groups = (w.groups, subst (λ o. IsTexts o w.groups) (sym (at (codes "groups") ∙ first_of-None (list_data (map string w.groups)))) (IsTexts-list_data w.groups), h.groups);
+      bare = h.bare;
     }
 
--- ---- a write that was read
+-- ---- how deep the object nests, and that it holds no float
 
-second_passed : {A : Type 0} (a b : Bool) (e f : Refusal) (r : Result A Refusal) (x : A) → cond a (Err e) (cond b (Err f) r) ≡ Ok x → b ≡ false
-second_passed true b e f r x h = cc
-second_passed false true e f r x h = cc
-second_passed false false e f r x h = refl
+no_float : (o : Option Value) (b : Option Data) → option_map view o ≡ b → IfSome o (λ v. has_float (view v) ≡ false) → HasNoFloat b
+no_float None b e h = subst HasNoFloat e tt
+no_float (Some v) b e h = subst HasNoFloat e h
 
--- the body that a value has is short
-pub short-from_value : (t : TypeName) (d : Data) (r : NamedBody) → from_value t d ≡ Ok r → length r.body ≤ max_text
-short-from_value t d r h =
-    let text = ap (λ (x : NamedBody). x.body) (unless_refused-value (value_conditions t d) (resource_of t d) r h) in
-    let passed = second_passed (has_float d) (nat_lt max_text (length (compact_text d))) NotWhole TooLong _ r h in
-    subst (λ s. length s ≤ max_text) text (ltb-false max_text (length (compact_text d)) passed)
+within : (o : Option Value) (b : Option Data) (n : ℕ) → option_map view o ≡ b → IfSome o (λ v. depth (view v) ≤ n) → IsWithin n b
+within None b n e h = subst (IsWithin n) e tt
+within (Some v) b n e h = subst (IsWithin n) e h
 
-IsBody-short : (t : TypeName) (name : List ℕ) (o : Option Data) (body : Option (List ℕ)) → IsOrDefault None (λ d b. IsSomeAnd b (IsBodyOf t name d)) o body → (b : List ℕ) → body ≡ Some b → length b ≤ max_text
-IsBody-short t name None body h b is = let none = sym h ∙ is in cc
-IsBody-short t name (Some d) None h b is = absurd h
-IsBody-short t name (Some d) (Some c) h b is = subst (λ s. length s ≤ max_text) (let same = is in cc) (short-from_value t d (record { name = name; body = c }) h)
+pub has_float-write_object : (t : TypeName) (w : StampedWrite) (o : Option Value) → option_map view o ≡ option_map value_of w.body → IfSome o (λ v. has_float (view v) ≡ false)
+    → has_float (write_object t w) ≡ false
+has_float-write_object t w o e h =
+    members_have_float-members_set (write_fields t w)
+    (no_float o _ e h, (refl, (HasNoFloat-list_data (map string w.groups) (items_have_float-texts w.groups), (refl, (refl, (refl, tt))))))
 
-pub SpellsWrite-read : (d : Data) (t : TypeName) (w : StampedWrite) → IsReadWriteSpelledByItsObject d t w
-SpellsWrite-read d t w h writable = SpellsWrite-write_object t w writable h.stamp (λ b is. IsBody-short t w.name _ w.body h.body b is)
+pub depth-write_object : (t : TypeName) (w : StampedWrite) (o : Option Value) → option_map view o ≡ option_map value_of w.body → IfSome o (λ v. depth (view v) ≤ max_nesting)
+    → depth (write_object t w) ≤ suc max_nesting
+depth-write_object t w o e h =
+    let zeros : 0 ≤ max_nesting = omega arith in
+    let listed : IsWithin max_nesting (list_data (map string w.groups)) = IsWithin-list_data (map string w.groups) 99 (omega (arith, items_depth-texts w.groups)) in
+    let all = members_depth-members_set (write_fields t w) max_nesting (within o _ max_nesting e h, (zeros, (listed, (zeros, (zeros, (zeros, tt)))))) in
+    omega arith

@@ -1,18 +1,19 @@
 // Stamped writes in the form in which replicas exchange and keep them.
-ghost use Rattle.std.specs.Prelude.{◌≡◌, ◌≤◌, ℕ, suc, List, [], ◌∷◌, Some, Ok, true, false, codes, IfOk, IfErr, IfSome, IfNone, Contains};
+ghost use Rattle.std.specs.Prelude.{◌≡◌, ◌≤◌, ℕ, suc, List, [], ◌∷◌, map, string_bytes, option_map, IsSomeAnd, Some, Ok, true, false, codes, IfOk, IfErr, IfSome, IfNone, Contains};
 ghost use Rattle.serde_json.specs.Data.{Data, number, string, unsigned, depth};
 ghost use Rattle.serde_json.specs.Find.{get};
 ghost use Rattle.serde_json.specs.View.{view};
 ghost use Rattle.serde_json.specs.Written.{has_float};
 ghost use Rattle.xds_resource.specs.declared.types.TypeName.{TypeName};
 ghost use Rattle.xds_resource.specs.declared.refusal.Refusal.TheVariants.{NotJson, BadMessage, OutOfMemory};
+ghost use Rattle.xds_resource.specs.Groups.{groups_of};
 ghost use Rattle.xds_resource.specs.Any.{write_type, stamped_write};
-ghost use Rattle.xds_resource.specs.Resources.{NamedBody, max_nesting, from_value, is_valid_name as is_valid};
+ghost use Rattle.xds_resource.specs.Resources.{max_nesting, value_of, from_value, deleted, is_valid_name as is_valid};
 ghost use Rattle.xds_resource.specs.Stamps.{IsStamp};
 ghost use Rattle.xds_resource.specs.Types.{row};
 ghost use Rattle.xds_resource.specs.Writes.{StampedWrite};
 ghost use Rattle.xds_fields.specs.Spelling.{IsJson, IsObject, Reads};
-ghost use Rattle.xds_writes.specs.StampedWrites.{AreGroups, SpellsWrite, IsSpelledBy, write_object as object_of};
+ghost use Rattle.xds_writes.specs.StampedWrites.{IsBodyOf, AreGroups, SpellsWrite, IsSpelledBy, write_object as object_of};
 
 use serde_json::{Map, Value, put};
 use std::alloc::Global;
@@ -44,6 +45,17 @@ pub fn write_object(alloc: Global, write: &AnyWrite) -> Result<Value, Refusal>
     ensures shallow { IfOk result (λ v. depth (view v) ≤ suc max_nesting) }
     ensures refused { IfErr result (λ e. e ≡ OutOfMemory) }
 {
+    let body = write.value(alloc)?;
+    object_with(alloc, write, body)
+}
+
+// The object of a write that has this body.
+fn object_with(alloc: Global, write: &AnyWrite, body: Option<Value>) -> Result<Value, Refusal>
+    requires { option_map view body ≡ option_map value_of (stamped_write write.now).body }
+    ensures ok { IfOk result
+        (λ v. view v ≡ object_of (write_type write.now) (stamped_write write.now)) }
+    ensures refused { IfErr result (λ e. e ≡ OutOfMemory) }
+{
     let stamp = write.stamp();
     let mut map = Map::new(alloc);
     put(&mut map, alloc, "writer", Value::from(stamp.writer))?;
@@ -61,7 +73,7 @@ pub fn write_object(alloc: Global, write: &AnyWrite) -> Result<Value, Refusal>
     )?;
     put_texts(alloc, &mut map, "groups", write.groups().texts())?;
     put(&mut map, alloc, "counter", Value::from(stamp.counter))?;
-    put_inner(alloc, &mut map, "body", write.value(alloc)?)?;
+    put_inner(alloc, &mut map, "body", body)?;
     Ok(Value::Object(map))
 }
 
@@ -90,10 +102,41 @@ fn write_of<T: ResourceType>(alloc: Global, value: &Value) -> Result<Write<T>, R
     };
     let groups = groups_field(alloc, value)?;
     match set_field(value, "body", "body") {
-        Some(body) => Ok(Write::put(stamp, body_of(alloc, body, name)?, groups)),
-        None if groups.is_empty() => Ok(Write::deletion(stamp, ArcStr::from_str(alloc, name)?)),
-        None => Err(Refusal::BadMessage),
+        Some(body) => put_of(alloc, stamp, name, body, groups),
+        None => deletion_of(alloc, stamp, name, groups),
     }
+}
+
+// The write that puts what a body is, if that is a resource of this name.
+fn put_of<T: ResourceType>(
+    alloc: Global,
+    stamp: Stamp,
+    name: &str,
+    body: &Value,
+    groups: Groups,
+) -> Result<Write<T>, Refusal>
+    ensures { Reads (λ w. IsSomeAnd w.body (IsBodyOf T.TYPE name.now (view body.now))
+        × (w ≡ record { name = name.now; counter = stamp.counter; writer = stamp.writer; body = w.body; groups = groups })) (λ w. w) result }
+{
+    let resource = body_of(alloc, body, name)?;
+    Ok(Write::put(stamp, resource, groups))
+}
+
+// The write that deletes, which has no groups.
+fn deletion_of<T: ResourceType>(
+    alloc: Global,
+    stamp: Stamp,
+    name: &str,
+    groups: Groups,
+) -> Result<Write<T>, Refusal>
+    requires { is_valid name.now ≡ true }
+    ensures { Reads (λ w. (groups ≡ []) × (w ≡ deleted stamp.counter stamp.writer name.now))
+        (λ w. w) result }
+{
+    if !groups.is_empty() {
+        return Err(Refusal::BadMessage);
+    }
+    Ok(Write::deletion(stamp, ArcStr::from_str(alloc, name)?))
 }
 
 // The groups that are there, none where nothing is set.
@@ -101,7 +144,14 @@ fn groups_field(alloc: Global, value: &Value) -> Result<Groups, Refusal>
     ensures { Reads (AreGroups (get (codes "groups") (view value.now))) (λ g. g) result }
 {
     let texts = texts_field(alloc, value, "groups", "groups")?;
-    match Groups::new(alloc, texts.as_slice()) {
+    groups_from(alloc, texts.as_slice())
+}
+
+// The groups that the texts come to.
+fn groups_from(alloc: Global, texts: &[String]) -> Result<Groups, Refusal>
+    ensures { Reads (λ groups. groups_of (map string_bytes texts.now) ≡ Ok groups) (λ g. g) result }
+{
+    match Groups::new(alloc, texts) {
         Ok(groups) => Ok(groups),
         Err(Refusal::OutOfMemory) => Err(Refusal::OutOfMemory),
         Err(_) => Err(Refusal::BadMessage),
