@@ -3,6 +3,8 @@
 #![tactic(auto)]
 
 #[cfg(test)]
+mod groups;
+#[cfg(test)]
 mod interest;
 #[cfg(test)]
 mod resource;

@@ -4,7 +4,8 @@ use std::alloc::Global;
 use std::test::Fail;
 use xds_cases::cases::{Outcome, first_word, hold, told};
 use xds_resource::{
-    AnyResource, Cluster, Endpoint, Listener, Refusal, Resource, ResourceType, Route, TypeName,
+    AnyResource, Cluster, Endpoint, Listener, Refusal, Resource, ResourceType, Route, Secret,
+    TypeName,
 };
 
 // Name and body of the resource that a text is, after the word of its type.
@@ -18,6 +19,7 @@ impl Outcome for ParsedText {
             TypeName::Endpoint => parsed::<Endpoint>(alloc, text),
             TypeName::Listener => parsed::<Listener>(alloc, text),
             TypeName::Route => parsed::<Route>(alloc, text),
+            TypeName::Secret => parsed::<Secret>(alloc, text),
         };
         Ok(told(alloc, parsed)?)
     }
@@ -63,6 +65,8 @@ cluster null => 4 BadResource
 listener {"@type":"CDS","name":"a"} => 4 BadResource
 cluster {"@type":"CDS","name":"a"}} => 1 NotJson
 route  => 1 NotJson
+secret {"name":"s", "@type":"SDS"} => s {"@type":"SDS","name":"s"}
+secret {"@type":"RDS","name":"s"} => 4 BadResource
 endpoint {"@type":"EDS","clusterName":"a"} => a {"@type":"EDS","clusterName":"a"}
 endpoint {"@type":"EDS","cluster_name":"b"} => b {"@type":"EDS","cluster_name":"b"}
 endpoint {"@type":"EDS","clusterName":"a","cluster_name":"b"} => a {"@type":"EDS","clusterName":"a","cluster_name":"b"}
@@ -147,6 +151,7 @@ fn the_type_tells_which_resource_it_is(rt: HostRuntime) -> Result<(), Fail> {
 {"@type":"EDS","clusterName":"a"} => endpoint a {"@type":"EDS","clusterName":"a"}
 {"@type":"LDS","name":"a"} => listener a {"@type":"LDS","name":"a"}
 {"@type":"RDS","name":"a"} => route a {"@type":"RDS","name":"a"}
+{"@type":"SDS","name":"s"} => secret s {"@type":"SDS","name":"s"}
 {"@type":"type.googleapis.com/x.Y","name":"a"} => 4 BadResource
 {"x":1.5} => 3 NotWhole
 { => 1 NotJson"#,
@@ -185,6 +190,7 @@ fn a_word_names_a_row_of_the_table(rt: HostRuntime) -> Result<(), Fail> {
 endpoint => endpoint EDS clusterName cluster_name incomplete /v3/discovery:endpoints
 listener => listener LDS name name complete /v3/discovery:listeners
 route => route RDS name name incomplete /v3/discovery:routes
+secret => secret SDS name name incomplete /v3/discovery:secrets
 CDS => none"#,
     )
 }
@@ -208,8 +214,16 @@ fn refusals_print_number_and_name(rt: HostRuntime) -> Result<(), Fail> {
         Refusal::NoStream,
         Refusal::WrongVariant,
         Refusal::NonceSpent,
+        Refusal::EmptyFrame,
+        Refusal::FrameTooLong,
+        Refusal::UnknownKind,
+        Refusal::Truncated,
         Refusal::Device,
+        Refusal::JournalFull,
         Refusal::BadScript,
+        Refusal::BadTrace,
+        Refusal::Gap,
+        Refusal::BadGroup,
     ]
     .as_slice()
     {
@@ -217,7 +231,7 @@ fn refusals_print_number_and_name(rt: HostRuntime) -> Result<(), Fail> {
         printed.push_str(" ")?;
     }
     let wanted =
-        "1 NotJson 2 TooDeep 3 NotWhole 4 BadResource 5 BadName 6 TooLong 7 BadMessage 8 OutOfMemory 9 NotFound 10 CounterSpent 11 BadStamp 12 NoStream 13 WrongVariant 14 NonceSpent 19 Device 21 BadScript ";
+        "1 NotJson 2 TooDeep 3 NotWhole 4 BadResource 5 BadName 6 TooLong 7 BadMessage 8 OutOfMemory 9 NotFound 10 CounterSpent 11 BadStamp 12 NoStream 13 WrongVariant 14 NonceSpent 15 EmptyFrame 16 FrameTooLong 17 UnknownKind 18 Truncated 19 Device 20 JournalFull 21 BadScript 22 BadTrace 23 Gap 24 BadGroup ";
     assert_eq!(rt; printed.as_str(), wanted);
     Ok(())
 }

@@ -1,11 +1,12 @@
 // Stamps and version texts, and the order of writes.
+use crate::groups::texts_of;
 use std::alloc::Global;
 use std::cmp::Ordering;
 use std::sync::ArcStr;
 use std::test::Fail;
 use xds_cases::cases::{Outcome, first_word, hold, told};
 use xds_resource::stamp::MAX_COUNTER;
-use xds_resource::{Cluster, Refusal, Resource, Stamp, Write};
+use xds_resource::{Cluster, Groups, Refusal, Resource, Stamp, Write};
 
 // The version text of the stamp that a version text names.
 struct VersionAgain;
@@ -90,14 +91,17 @@ fn order_of(first: &Write<Cluster>, second: &Write<Cluster>) -> &'static str {
     if is_same { order } else { "at odds" }
 }
 
-// The write of a version that puts a body, or that deletes `a` where `-` stands in the body's place.
+// The write of a version that puts a body, for the groups behind `in`, or that deletes `a` where `-` stands in the body's
+// place.
 fn write_of(alloc: Global, given: &str) -> Result<Write<Cluster>, Refusal> {
     let (version, body) = given.split_once(' ').ok_or(Refusal::BadMessage)?;
     let stamp = Stamp::parse_version(version)?;
     if body == "-" {
         return Ok(Write::deletion(stamp, ArcStr::from_str(alloc, "a")?));
     }
-    Ok(Write::put(stamp, Resource::parse(alloc, body)?))
+    let (body, groups) = body.split_once(" in ").unwrap_or((body, ""));
+    let groups = Groups::new(alloc, &texts_of(alloc, groups)?)?;
+    Ok(Write::put(stamp, Resource::parse(alloc, body)?, groups))
 }
 
 #[test]
@@ -111,6 +115,12 @@ fn writes_are_ordered(rt: HostRuntime) -> Result<(), Fail> {
 2-1 {"@type":"CDS","name":"a","x":1} and 2-1 {"@type":"CDS","name":"a","x":2} => less
 2-1 {"@type":"CDS","name":"a","x":2} and 2-1 {"@type":"CDS", "x":2,"name":"a"} => equal
 2-1 {"@type":"CDS","name":"b","x":2} and 2-2 {"@type":"CDS","name":"a"} => less
-2-2 {"@type":"CDS","name":"a"} and 1-2 {"@type":"CDS","name":"b","x":9} => greater"#,
+2-2 {"@type":"CDS","name":"a"} and 1-2 {"@type":"CDS","name":"b","x":9} => greater
+2-1 {"@type":"CDS","name":"a"} and 2-1 {"@type":"CDS","name":"a"} in g => less
+2-1 {"@type":"CDS","name":"a"} in g,h and 2-1 {"@type":"CDS","name":"a"} in g => greater
+2-1 {"@type":"CDS","name":"a"} in g,z and 2-1 {"@type":"CDS","name":"a"} in h => less
+2-1 {"@type":"CDS","name":"a"} in h,g,h and 2-1 {"@type":"CDS","name":"a"} in g,h => equal
+2-1 {"@type":"CDS","name":"a","x":1} in z and 2-1 {"@type":"CDS","name":"a","x":2} => less
+2-2 {"@type":"CDS","name":"a"} and 2-1 {"@type":"CDS","name":"a"} in g => greater"#,
     )
 }

@@ -3,7 +3,7 @@ use std::alloc::{AllocError, Global};
 use std::mem;
 use std::test::Fail;
 use xds_cases::cases::{Outcome, hold, words_of};
-use xds_interest::{DeltaNames, Interest, SotwNames, Touched};
+use xds_interest::{ClusterText, DeltaNames, Interest, SotwNames, Touched};
 use xds_resource::{Cluster, Refusal, ResourceType, Route};
 
 // An interest, its star as `+`, and after `:` what was touched, all names as `!`.
@@ -55,7 +55,7 @@ fn sotw_steps<T: ResourceType>(
 }
 
 fn sotw<T: ResourceType>(alloc: Global, lists: &str) -> Result<String, Refusal> {
-    let mut kept = SotwNames::<T>::new(alloc);
+    let mut kept = SotwNames::<T>::new(alloc, ClusterText::none());
     let told = sotw_steps(alloc, &mut kept, lists);
     drop(kept);
     told
@@ -117,7 +117,7 @@ fn delta<T: ResourceType>(
     in_place: bool,
     requests: &str,
 ) -> Result<String, Refusal> {
-    let mut kept = DeltaNames::<T>::new(alloc);
+    let mut kept = DeltaNames::<T>::new(alloc, ClusterText::none());
     let told = delta_steps(alloc, &mut kept, in_place, requests);
     drop(kept);
     told

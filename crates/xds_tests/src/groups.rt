@@ -1,0 +1,89 @@
+// Lists of groups.
+use std::alloc::Global;
+use std::test::Fail;
+use xds_cases::cases::{Outcome, hold, told};
+use xds_resource::{Groups, Refusal};
+
+// The texts between commas. An empty text has none.
+pub fn texts_of(alloc: Global, text: &str) -> Result<Vec<String>, Refusal> {
+    let mut texts = Vec::new(alloc);
+    if text.is_empty() {
+        return Ok(texts);
+    }
+    for part in text.split(',') {
+        texts.push(String::from_str(alloc, part)?)?;
+    }
+    Ok(texts)
+}
+
+// The groups that the texts between commas come to, and which of `a`, `b` and `c` they have.
+struct ListedGroups;
+
+impl Outcome for ListedGroups {
+    fn of(alloc: Global, given: &str) -> Result<String, Fail> {
+        Ok(told(alloc, listed(alloc, given))?)
+    }
+}
+
+fn listed(alloc: Global, given: &str) -> Result<String, Refusal> {
+    let texts = texts_of(alloc, given)?;
+    let groups = Groups::new(alloc, &texts)?.try_copy(alloc)?;
+    let mut all = String::new(alloc);
+    for text in groups.texts() {
+        all.push_str(text.as_str())?;
+        all.push(',')?;
+    }
+    all.push_str(if groups.is_empty() { "none" } else { " has:" })?;
+    for text in ["a", "b", "c"].as_slice() {
+        all.push_str(if groups.has(text) { text } else { "" })?;
+    }
+    Ok(all)
+}
+
+#[test]
+fn texts_come_to_groups(rt: HostRuntime) -> Result<(), Fail> {
+    hold::<ListedGroups, HostRuntime>(
+        &rt,
+        " => none
+b,a => a,b, has:ab
+c,a,c,a => a,c, has:ac
+ab,b,a,B => B,a,ab,b, has:ab
+c,*, c =>  c,*,c, has:c
+a,,b => 24 BadGroup
+, => 24 BadGroup
+<g*1024> => <g*1024>, has:
+<g*1025> => 24 BadGroup
+a,<g*1025> => 24 BadGroup",
+    )
+}
+
+// How many groups the numbers from 1 come to, each of them listed twice.
+struct CountedGroups;
+
+impl Outcome for CountedGroups {
+    fn of(alloc: Global, given: &str) -> Result<String, Fail> {
+        Ok(told(alloc, counted(alloc, given))?)
+    }
+}
+
+fn counted(alloc: Global, given: &str) -> Result<String, Refusal> {
+    let most = given.parse::<u16>().ok().ok_or(Refusal::BadScript)?;
+    let mut texts = Vec::new(alloc);
+    for number in 0..most {
+        texts.push(number.to_string(alloc)?)?;
+        texts.push(number.to_string(alloc)?)?;
+    }
+    Ok(Groups::new(alloc, &texts)?.len().to_string(alloc)?)
+}
+
+#[test]
+fn there_are_64_groups_at_most(rt: HostRuntime) -> Result<(), Fail> {
+    hold::<CountedGroups, HostRuntime>(
+        &rt,
+        "0 => 0
+1 => 1
+64 => 64
+65 => 24 BadGroup
+300 => 24 BadGroup",
+    )
+}
