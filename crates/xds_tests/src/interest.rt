@@ -55,9 +55,9 @@ endpoint: B => names:B",
 }
 
 // Whether a name is reached and covered by the interest of a client in a cluster, as `CLUSTER:NAMES:NAME:GROUPS`.
-struct Covered;
+struct CoveredNames;
 
-impl Outcome for Covered {
+impl Outcome for CoveredNames {
     fn of(alloc: Global, given: &str) -> Result<String, Fail> {
         let (cluster, rest) = given.split_once(':').ok_or("no cluster")?;
         let (names, rest) = rest.split_once(':').ok_or("no names")?;
@@ -92,7 +92,7 @@ fn covered(
 
 #[test]
 fn the_star_covers_open_writes_and_those_of_the_cluster(rt: HostRuntime) -> Result<(), Fail> {
-    hold::<Covered, HostRuntime>(
+    hold::<CoveredNames, HostRuntime>(
         &rt,
         "g1:*:A: => covered
 g1:*:A:g1 => covered
