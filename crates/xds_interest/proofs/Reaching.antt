@@ -1,5 +1,5 @@
 -- What an interest reaches and what it covers.
-use Rattle.std.proofs.Common.{◌≡◌, Bool, true, false, ◌&&◌, ◌||◌, sym, ap, ◌∙◌, refl}
+use Rattle.std.proofs.Common.{◌≡◌, Bool, true, false, ◌&&◌, ◌||◌, ap, ◌∙◌, refl}
 use Rattle.std.specs.FinSet as set
 use Rattle.std.proofs.lemmas.Bool.{or_parts}
 use Rattle.xds_interest.specs.Interests.{is_open_to}
