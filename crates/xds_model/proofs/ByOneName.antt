@@ -39,13 +39,13 @@ untouched_none touched b = refl
 -- delta, the response accepted: a name that is stated and untouched is wanted
 pub told_accepted : (touched wanted removed : Bool) (o : Option Due) (b : Option Entry) (stated held : Option Holding) → Says o removed stated → ((v : List ℕ) → o ≡ Some (Stated v) → touched ≡ false → wanted ≡ true)
     → (wanted ≡ false → held ≡ None) → IsTold b held → IsTold (believed_accepted false touched o b) (held_after wanted removed stated held)
-told_accepted true wanted removed (Some d) b stated held says covered within told v is = absurd cc
-told_accepted false wanted removed (Some (Stated w)) b stated held says covered within told v is =
-    (says.0, (λ i. if covered w refl refl i then option_or (says.1 i) (if false || removed then None else held) else None), says.2 ∙ told_is w v is)
-told_accepted false wanted removed (Some Removed) b stated held says covered within told v is = absurd cc
-told_accepted touched true removed None b stated held says covered within told v is =
+told_accepted true wanted removed (Some d) b stated held says reached within told v is = absurd cc
+told_accepted false wanted removed (Some (Stated w)) b stated held says reached within told v is =
+    (says.0, (λ i. if reached w refl refl i then option_or (says.1 i) (if false || removed then None else held) else None), says.2 ∙ told_is w v is)
+told_accepted false wanted removed (Some Removed) b stated held says reached within told v is = absurd cc
+told_accepted touched true removed None b stated held says reached within told v is =
     let was = told v (sym (untouched_none touched b) ∙ is) in (was.0, (λ i. option_or (says.0 i) (if false || says.1 i then None else held)) ∙ was.1, was.2)
-told_accepted touched false removed None b stated held says covered within told v is =
+told_accepted touched false removed None b stated held says reached within told v is =
     let was = told v (sym (untouched_none touched b) ∙ is) in let never : None ≡ Some was.0 = sym (within refl) ∙ was.1 in absurd cc
 
 pub none_accepted : (touched wanted removed : Bool) (o : Option Due) (b : Option Entry) (stated held : Option Holding) → Says o removed stated → IsNone b held → IsNone (believed_accepted false touched o b) (held_after wanted removed stated held)
@@ -60,13 +60,13 @@ none_accepted touched false removed None b stated held says none is = refl
 
 -- what is believed of a name after a request's names were taken
 abbrev pub believed_after : Bool → Bool → Bool → Option Entry → Option Entry
-believed_after touched covered mentioned b = if touched then believed_touched covered mentioned b else b
+believed_after touched reached mentioned b = if touched then believed_touched reached mentioned b else b
 
 -- what is held of a name once the client wants something else
 abbrev pub kept_after : Bool → Option Holding → Option Holding
 kept_after wanted held = if wanted then held else None
 
-never_told : (covered known : Bool) (v : List ℕ) → (if covered && known then Some Unsure else None) ≡ Some (Told v) → ⊥
+never_told : (reached known : Bool) (v : List ℕ) → (if reached && known then Some Unsure else None) ≡ Some (Told v) → ⊥
 never_told true true v e = cc
 never_told true false v e = cc
 never_told false known v e = cc

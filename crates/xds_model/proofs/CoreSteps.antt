@@ -84,7 +84,7 @@ step_counted c (Request n m) q is counted = let made = stream_step_is c n Answer
 step_counted c (Poll n which) q is counted = let made = stream_step_is c n Polled (λ s. polled_first c.replica c.store s (looked_at which)) q is in subst IsCounted (sym (ap (λ y. y.1) made.4)) (put_counted c n made.0 made.1.1 made.2 counted)
 step_counted c (Owes n which) q is counted = looked_counted c n (λ s. owes_some c.store s (looked_at which)) q (finmap.get c.streams n) is counted
 step_counted c (Close n) q is counted = subst IsCounted (sym (ap (λ y. y.1) (close_is c n q is))) (closed_counted c n counted)
-step_counted c (Put t r) q is counted = stored_counted c (λ n. Written n c.replica) (putting_at c.store t r c.replica) q is counted
+step_counted c (Put t r groups) q is counted = stored_counted c (λ n. Written n c.replica) (putting_at c.store t r groups c.replica) q is counted
 step_counted c (Delete t name) q is counted = stored_counted c (λ n. Written n c.replica) (deleting_at c.store t name c.replica) q is counted
 step_counted c (Merge b) q is counted = stored_counted c Merged (merging c.store b) q is counted
 step_counted c Snapshot q is counted = subst IsCounted (sym (ap (λ y. y.1) (stepped_is _ q is))) counted

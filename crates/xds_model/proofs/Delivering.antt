@@ -12,14 +12,15 @@ use Rattle.xds_resource.specs.Resources.{NamedBody, IsCanonical, value_of, resou
 use Rattle.xds_resource.specs.Writes.{StampedWrite, text_cmp, version_of}
 use Rattle.xds_resource.proofs.NameMaps.{has_text, get-insert, get-tabulate, has_text-keys, bytes_eq_tells, bytes_eq_swap}
 use Rattle.xds_resource.proofs.MadeMaps.{EachFound, each_found}
-use Rattle.xds_interest.specs.Interests.{Selection, covers}
+use Rattle.xds_interest.specs.Interests.{Selection, reaches, covers}
+use Rattle.xds_interest.proofs.Reaching.{covered_is_reached}
 use Rattle.xds_catalogue.specs.Holdings.{Holdings, Entries}
 use Rattle.xds_draft.specs.Drafts.{DraftedResource, drafted_resource}
 use Rattle.xds_owed.specs.declared.variant.VariantName.TheVariants.{Delta}
 use Rattle.xds_owed.specs.declared.entry.Due.{Due}
 use Rattle.xds_owed.specs.declared.entry.Due.TheVariants.{Stated, Removed}
 use Rattle.xds_owed.specs.Variants.{is_told}
-use Rattle.xds_owed.specs.Owed.{Beliefs, live_version, present, owed_of}
+use Rattle.xds_owed.specs.Owed.{Beliefs, live_version, version_shown, present, owed_of}
 use Rattle.xds_owed.specs.Offers.{Offer, offer}
 use Rattle.xds_owed.proofs.ByName.{offer_says_it}
 use Rattle.xds_delta.specs.Polls.{is_statement, is_removal, names_where, resource_of as drafted_of, resource_at, response}
@@ -28,8 +29,8 @@ use Rattle.xds_shelf.specs.Shelves.{Holding, Cache, marked}
 use Rattle.xds_shelf.specs.Faults.{Stated as StatedResource, stated_by, and_stated}
 use Rattle.xds_shelf.specs.Deliveries.{delta_stated}
 use Rattle.xds_model.specs.Knows.{TypedWrite}
-use Rattle.xds_model.specs.Claims.{holding_of}
-use Rattle.xds_model.proofs.Replicas.{some_is, ok_is}
+use Rattle.xds_model.specs.Claims.{holding_of, shown_of}
+use Rattle.xds_model.proofs.Replicas.{some_is, ok_is, if_both}
 use Rattle.xds_model.proofs.ByOneName.{Says}
 use Rattle.xds_model.proofs.Lanes.{IsMade, stated_in, is_removed_in}
 
@@ -47,6 +48,10 @@ AllKnown all t m = (name : List ℕ) (w : StampedWrite) → finmap.get m name �
 -- what is live under a name
 abbrev pub live : Entries → List ℕ → Option Holding
 live m name = option_and_then holding_of (finmap.get m name)
+
+-- what of that an interest covers
+abbrev pub shown_in : Selection → Entries → List ℕ → Option Holding
+shown_in s m name = option_and_then (shown_of s name) (finmap.get m name)
 
 -- ---- a canonical body is the resource that it was
 
@@ -161,11 +166,13 @@ live_body : (w : StampedWrite) (version : List ℕ) (b : Option (List ℕ)) → 
 live_body w version None is = absurd cc
 live_body w version (Some body) is = (record { version = version_of w; body = body }, refl, some_is (version_of w) version is)
 
-pub live_at : (covered : Bool) (o : Option StampedWrite) (version : List ℕ) → (if covered then option_and_then live_version o else None) ≡ Some version
-    → (covered ≡ true) × (h : Holding) × (option_and_then holding_of o ≡ Some h) × (h.version ≡ version)
-live_at false o version is = absurd cc
-live_at true None version is = absurd cc
-live_at true (Some w) version is = let body = live_body w version w.body is in (refl, body.0, body.1, body.2)
+-- what is present is reached, and live at that version
+pub live_at : (s : Selection) (q : List ℕ) (o : Option StampedWrite) (version : List ℕ) → option_and_then (version_shown s q) o ≡ Some version
+    → (reaches s q ≡ true) × (h : Holding) × (option_and_then holding_of o ≡ Some h) × (h.version ≡ version)
+live_at s q None version is = absurd cc
+live_at s q (Some w) version is =
+    let shown = if_both (covers s q w.groups) (live_version w) version is in
+    let body = live_body w version w.body shown.1 in (covered_is_reached s q w.groups shown.0, body.0, body.1, body.2)
 
 -- ---- what a response says
 
@@ -173,7 +180,7 @@ says_by : (s : Selection) (m : Entries) (b : Beliefs) (t : TypeName) (q : List �
     → stated ≡ option_or (cond (option_map_or is_statement x false) (live m q) None) None → Says x removed stated
 says_by s m b t q None removed stated is gone states = (states, gone)
 says_by s m b t q (Some (Stated version)) removed stated is gone states =
-    let at = live_at (covers s q) (finmap.get m q) version (present_at s m b t q version is) in
+    let at = live_at s q (finmap.get m q) version (present_at s m b t q version is) in
     (at.1, states ∙ ap (λ o. option_or o None) at.2, at.3)
 says_by s m b t q (Some Removed) removed stated is gone states = (states, gone)
 
@@ -199,6 +206,6 @@ pub response_made : (all : List TypedWrite) (replica : ℕ) (t : TypeName) (h : 
 response_made all replica t h o number q x known is =
     live_made all t h.entries q x (finmap.get h.entries q) refl known (only_live (option_map_or is_statement (finmap.get o q) false) (live h.entries q) x (sym (stated_there all replica t h o number q known) ∙ is))
 
--- what is stated is covered
-pub stated_is_covered : (s : Selection) (m : Entries) (b : Beliefs) (t : TypeName) (q version : List ℕ) → finmap.get (offer Delta t s m b) q ≡ Some (Stated version) → covers s q ≡ true
-stated_is_covered s m b t q version is = (live_at (covers s q) (finmap.get m q) version (present_at s m b t q version is)).0
+-- what is stated is reached
+pub stated_is_reached : (s : Selection) (m : Entries) (b : Beliefs) (t : TypeName) (q version : List ℕ) → finmap.get (offer Delta t s m b) q ≡ Some (Stated version) → reaches s q ≡ true
+stated_is_reached s m b t q version is = (live_at s q (finmap.get m q) version (present_at s m b t q version is)).0

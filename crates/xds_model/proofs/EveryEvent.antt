@@ -1,5 +1,5 @@
 -- What is kept of all clients is kept by whatever happens.
-use Rattle.std.proofs.Common.{◌≡◌, ◌≢◌, inl, inr, ℕ, ◌+◌, ◌≤◌, List, [], ◌∷◌, ◌++◌, true, false, ◌&&◌, not, Option, Some, None, refl, sym, ap, subst, ◌∙◌, arith}
+use Rattle.std.proofs.Common.{◌≡◌, ◌≢◌, inl, inr, ℕ, ◌+◌, ◌≤◌, List, [], ◌∷◌, ◌++◌, Bool, true, false, ◌&&◌, not, Option, Some, None, refl, sym, ap, subst, ◌∙◌, arith}
 use Rattle.std.specs.Prelude.{if◌then◌else◌, is_none, is_some, option_map, nat_lt}
 use Rattle.std.specs.Option.{option_and_then}
 use Rattle.std.specs.Ordering.{nat_cmp}
@@ -25,11 +25,11 @@ use Rattle.xds_cache.specs.Sends.{is_greeted}
 use Rattle.xds_resource.specs.Types.{types}
 use Rattle.xds_model.specs.declared.event.ClientKind.{ClientKind}
 use Rattle.xds_model.specs.Happenings.{Happening, Wish, AddReplica, AddClient, Put, Delete, Snapshot, Merge, Connect, Change, Up, Poll, Down, Lose}
-use Rattle.xds_model.specs.Worlds.{Site, Link, Peer, World, empty_world, at_site, happened_at, placed, pooled, with_peer, new_peer, connected_to, opened, sending, changed, wish_of, wish_taken, under_way, polled, up_taken, received, taken_down, down_taken, opening_requests, on_link, is_free, happens}
+use Rattle.xds_model.specs.Worlds.{Site, Link, Peer, World, empty_world, at_site, happened_at, placed, pooled, with_peer, new_peer, connected_to, opened, with_request, changed, wish_of, wish_taken, under_way, polled, up_taken, received, taken_down, down_taken, opening_requests, on_link, is_free, happens}
 use Rattle.xds_model.specs.Knows.{TypedWrite}
 use Rattle.xds_model.proofs.Replicas.{some_is, bound_some, mapped_some, if_some, if_both, both_parts, none_there, on_link_some, never}
 use Rattle.xds_model.proofs.Delivering.{AllKnown}
-use Rattle.xds_model.proofs.ByKind.{LinkedAs, RestsAs, up_as, poll_as, down_as, opened_as, lost_as, fresh_as, changed_as, rests_as}
+use Rattle.xds_model.proofs.ByKind.{LinkedTo, RestsAs, received_stays, wished_is, up_to, poll_to, down_to, opened_to, lost_to, fresh_as, changed_to, rests_as}
 use Rattle.xds_model.proofs.CoreSteps.{stream_step_is, open_is}
 use Rattle.xds_model.proofs.Everyone.{stream_at, AllCounted, AtSite, at_site_is, here_at, frame_at, counted_at, Fine, fine_sites, fine_peer}
 
@@ -70,11 +70,11 @@ module _ (w left : World) (all : List TypedWrite) (c : ℕ) (p : Peer) (l : Link
   -- the client stays where it is, or is down
   fine_here : (after : Peer) → left.peers ≡ finmap.insert w.peers c after
       → ((d : ℕ) (r : Peer) (m : Link) → c ≢ d → finmap.get w.peers d ≡ Some r → r.link ≡ Some m → stream_at left m.replica m.stream ≡ stream_at w m.replica m.stream)
-      → ((k : Link) → after.link ≡ Some k → (x : Stream) × (k.replica ≡ l.replica) × (k.stream ≡ l.stream) × (stream_at left l.replica l.stream ≡ Some x) × LinkedAs after.kind all after.client k x)
-      → (after.link ≡ None → (t : TypeName) → RestsAs after.kind all t (shelf after.client t)) → AllCounted left → Fine left all
-  fine_here after peers frame here down counted =
+      → ((k : Link) → after.link ≡ Some k → (x : Stream) × (k.replica ≡ l.replica) × (k.stream ≡ l.stream) × (stream_at left l.replica l.stream ≡ Some x) × LinkedTo after.kind all after.client k x)
+      → (after.link ≡ None → (t : TypeName) → RestsAs after.kind all t (shelf after.client t)) → after.client.broken ≡ false → AllCounted left → Fine left all
+  fine_here after peers frame here down of_use counted =
       fine_peer w left all c after peers frame (λ k at_k. let x = here k at_k in (x.0, (λ i. stream_at left (x.1 i) (x.2 i)) ∙ x.3, x.4)) down
-      (λ d r k m other has_d at_k link_d same_replica same_number. let x = here k at_k in apart_from d r m other has_d link_d (sym same_replica ∙ x.1) (sym x.2 ∙ same_number)) counted fine
+      (λ d r k m other has_d at_k link_d same_replica same_number. let x = here k at_k in apart_from d r m other has_d link_d (sym same_replica ∙ x.1) (sym x.2 ∙ same_number)) of_use counted fine
 
 never_link : (k : Link) → ◌≡◌ {A = Option Link} (Some k) None → ⊥
 never_link k is = cc
@@ -101,9 +101,9 @@ fine_up w left all c p l (m ∷ rest) up has link is fine =
       sym (ap (λ y. y.replica) is_k),
       sym (ap (λ y. y.stream) is_k),
       now,
-      subst (λ y. LinkedAs p.kind all p.client y at_core.1.1) is_k (up_as all p.kind p.client l here.0 m rest at_core.1 up (ap (λ s. requested s m) (sym same) ∙ at_core.3) here.2),
+      subst (λ y. LinkedTo p.kind all p.client y at_core.1.1) is_k (up_to all p.kind p.client l here.0 m rest at_core.1 up (ap (λ s. requested s m) (sym same) ∙ at_core.3) here.2),
     ))
-    (λ none. absurd (never_link (record l { up = rest }) none)) (still_counted w left all c p l has link fine e q x (ap (λ y. y.sites) made.2))
+    (λ none. absurd (never_link (record l { up = rest }) none)) (fine.usable c p has) (still_counted w left all c p l has link fine e q x (ap (λ y. y.sites) made.2))
 
 -- what a poll of the client's stream gave
 pub polled_reply : (c : ℕ) (p : Peer) (l : Link) (reply : Reply) (w left : World) (o : Option Draft) → reply ≡ Polled o → polled c p l (reply, w) ≡ Some left → left ≡ with_peer w c (record p { link = Some (record l { down = l.down ++ under_way o }) })
@@ -134,11 +134,11 @@ fine_poll w left all c p l which known has link is fine =
       sym (ap (λ y. y.replica) is_k),
       sym (ap (λ y. y.stream) is_k),
       now,
-      subst (λ y. LinkedAs p.kind all p.client y at_core.1.1) is_k
-          (poll_as all p.kind x.site.core.replica x.site.core.store p.client l here.0 at_core.1.1 (looked_at which) o (λ t. known l.replica x.site t x.has)
+      subst (λ y. LinkedTo p.kind all p.client y at_core.1.1) is_k
+          (poll_to all p.kind x.site.core.replica x.site.core.store p.client l here.0 at_core.1.1 (looked_at which) o (λ t. known l.replica x.site t x.has)
           (ap (λ s. polled_first x.site.core.replica x.site.core.store s (looked_at which)) (sym same) ∙ at_core.3) here.2),
     ))
-    (λ none. absurd (never_link (record l { down = l.down ++ under_way o }) none)) (still_counted w left all c p l has link fine e q x (ap (λ y. y.sites) left_is))
+    (λ none. absurd (never_link (record l { down = l.down ++ under_way o }) none)) (fine.usable c p has) (still_counted w left all c p l has link fine e q x (ap (λ y. y.sites) left_is))
 
 fine_down : (test : Test) (w left : World) (all : List TypedWrite) (c : ℕ) (p : Peer) (l : Link) (ds : List Draft) → l.down ≡ ds → finmap.get w.peers c ≡ Some p → p.link ≡ Some l → down_taken test w c p l ds ≡ Some left → Fine w all → Fine left all
 fine_down test w left all c p l [] down has link is fine = absurd cc
@@ -153,9 +153,9 @@ fine_down test w left all c p l (d ∷ rest) down has link is fine =
       sym (ap (λ y. y.replica) is_k),
       sym (ap (λ y. y.stream) is_k),
       ap (λ y. stream_at y l.replica l.stream) made.2 ∙ here.1,
-      subst (λ y. LinkedAs p.kind all q.0 y here.0) is_k (down_as all p.kind test p.client l here.0 d rest q down made.1 here.2),
+      subst (λ y. LinkedTo p.kind all q.0 y here.0) is_k (down_to all p.kind test p.client l here.0 d rest q down made.1 here.2),
     ))
-    (λ none. absurd (never_link next none)) (λ r s at_r. fine.counted r s (ap (λ y. finmap.get y.sites r) (sym made.2) ∙ at_r))
+    (λ none. absurd (never_link next none)) ((received_stays p.kind test p.client d q made.1).1 ∙ fine.usable c p has) (λ r s at_r. fine.counted r s (ap (λ y. finmap.get y.sites r) (sym made.2) ∙ at_r))
 
 fine_lose : (w left : World) (all : List TypedWrite) (c : ℕ) (p : Peer) (l : Link) → finmap.get w.peers c ≡ Some p → p.link ≡ Some l
     → option_map (λ q. with_peer q.1 c (record p { client = unlinked p.client; link = None })) (at_site w l.replica (events.Close l.stream)) ≡ Some left → Fine w all → Fine left all
@@ -167,7 +167,7 @@ fine_lose w left all c p l has link is fine =
     let x = at_site_is w l.replica e q made.1 in
     let here = fine.ups c p l has link in
     fine_here w left all c p l has link fine after (ap (λ y. y.peers) made.2 ∙ ap (λ y. finmap.insert y c after) (same_peers w l.replica e q x))
-    (stream_frame w left all c p l has link fine e q x refl (ap (λ y. y.sites) made.2)) (λ k at_k. absurd (never k at_k)) (λ none. lost_as all p.kind p.client l here.0 here.2)
+    (stream_frame w left all c p l has link fine e q x refl (ap (λ y. y.sites) made.2)) (λ k at_k. absurd (never k at_k)) (λ none. lost_to all p.kind p.client l here.0 here.2) refl
     (still_counted w left all c p l has link fine e q x (ap (λ y. y.sites) made.2))
 
 -- ---- Connect
@@ -196,45 +196,49 @@ fine_connect w left all c r p has none is fine =
     (λ k at_k. let is_k = some_is (record { replica = r; stream = n; up = opening_requests p.kind p.client; down = [] }) k at_k in (
       opening,
       (λ i. stream_at left (ap (λ y. y.replica) (sym is_k) i) (ap (λ y. y.stream) (sym is_k) i)) ∙ now,
-      subst (λ y. LinkedAs p.kind all (clients.linked (is_greeted p.client false types) p.client) y opening) is_k
-          (opened_as all p.kind p.client r n (is_greeted p.client false types) (fine.downs c p has none)),
+      subst (λ y. LinkedTo p.kind all (clients.linked (is_greeted p.client false types) p.client) y opening) is_k
+          (opened_to all p.kind p.client r n (fine.downs c p has none)),
     ))
     (λ none. absurd (never_link (record { replica = r; stream = n; up = opening_requests p.kind p.client; down = [] }) none))
     (λ d s k m other has_d at_k link_d same_replica same_number. let is_k = some_is (record { replica = r; stream = n; up = opening_requests p.kind p.client; down = [] }) k at_k in
-    let le = below d s m has_d link_d (sym same_replica ∙ ap (λ y. y.replica) (sym is_k)) in let at_end : n ≡ m.stream = ap (λ y. y.stream) is_k ∙ same_number in absurd (omega (arith, le, at_end))) counted fine
+    let le = below d s m has_d link_d (sym same_replica ∙ ap (λ y. y.replica) (sym is_k)) in let at_end : n ≡ m.stream = ap (λ y. y.stream) is_k ∙ same_number in absurd (omega (arith, le, at_end))) (fine.usable c p has) counted fine
 
 -- ---- Change
 
-pub same_replica_on : (o : Option Message) (l : Link) → (sending o l).replica ≡ l.replica
+pub same_replica_on : (o : Option Message) (l : Link) → (with_request o l).replica ≡ l.replica
 same_replica_on None l = refl
 same_replica_on (Some m) l = refl
 
-pub same_stream_on : (o : Option Message) (l : Link) → (sending o l).stream ≡ l.stream
+pub same_stream_on : (o : Option Message) (l : Link) → (with_request o l).stream ≡ l.stream
 same_stream_on None l = refl
 same_stream_on (Some m) l = refl
+
+-- a client that is told to want something else stays of use
+wished_usable : (p : Peer) (up : Bool) (t : TypeName) (wish : Wish) (q : Client × Option Message) → wish_of p.kind p up t wish ≡ Some q → p.client.broken ≡ false → q.0.broken ≡ false
+wished_usable p up t wish q is usable = ap (λ (c : Client). c.broken) (wished_is p.kind p up t wish q is).left ∙ usable
 
 fine_change_up : (w left : World) (all : List TypedWrite) (c : ℕ) (p : Peer) (l : Link) (t : TypeName) (wish : Wish) (q : Client × Option Message) → finmap.get w.peers c ≡ Some p → p.link ≡ Some l → wish_of p.kind p true t wish ≡ Some q
     → left ≡ with_peer w c (changed p q) → Fine w all → Fine left all
 fine_change_up w left all c p l t wish q has link wished is fine =
     let here = fine.ups c p l has link in
-    let next : option_map (sending q.1) p.link ≡ Some (sending q.1 l) = ap (option_map (sending q.1)) link in
+    let next : option_map (with_request q.1) p.link ≡ Some (with_request q.1 l) = ap (option_map (with_request q.1)) link in
     fine_here w left all c p l has link fine (changed p q) (ap (λ y. y.peers) is) (λ e r m other has_e link_e. ap (λ y. stream_at y m.replica m.stream) is)
-    (λ k at_k. let is_k : sending q.1 l ≡ k = some_is (sending q.1 l) k (sym next ∙ at_k) in (
+    (λ k at_k. let is_k : with_request q.1 l ≡ k = some_is (with_request q.1 l) k (sym next ∙ at_k) in (
       here.0,
       sym (ap (λ y. y.replica) is_k) ∙ same_replica_on q.1 l,
       sym (ap (λ y. y.stream) is_k) ∙ same_stream_on q.1 l,
       ap (λ y. stream_at y l.replica l.stream) is ∙ here.1,
-      subst (λ y. LinkedAs p.kind all q.0 y here.0) is_k (changed_as all p.kind p l here.0 t wish q wished here.2),
+      subst (λ y. LinkedTo p.kind all q.0 y here.0) is_k (changed_to all p.kind p l here.0 t wish q wished here.2),
     ))
-    (λ none. absurd (never_link (sending q.1 l) (sym next ∙ none))) (λ r s at_r. fine.counted r s (ap (λ y. finmap.get y.sites r) (sym is) ∙ at_r))
+    (λ none. absurd (never_link (with_request q.1 l) (sym next ∙ none))) (wished_usable p true t wish q wished (fine.usable c p has)) (λ r s at_r. fine.counted r s (ap (λ y. finmap.get y.sites r) (sym is) ∙ at_r))
 
 fine_change_down : (w left : World) (all : List TypedWrite) (c : ℕ) (p : Peer) (t : TypeName) (wish : Wish) (q : Client × Option Message) → finmap.get w.peers c ≡ Some p → p.link ≡ None → wish_of p.kind p false t wish ≡ Some q
     → left ≡ with_peer w c (changed p q) → Fine w all → Fine left all
 fine_change_down w left all c p t wish q has link wished is fine =
-    let next : option_map (sending q.1) p.link ≡ None = ap (option_map (sending q.1)) link in
+    let next : option_map (with_request q.1) p.link ≡ None = ap (option_map (with_request q.1)) link in
     fine_peer w left all c (changed p q) (ap (λ y. y.peers) is) (λ e r m other has_e link_e. ap (λ y. stream_at y m.replica m.stream) is) (λ k at_k. absurd (never k (sym next ∙ at_k)))
     (λ none. rests_as all p.kind p t wish q wished (fine.downs c p has link))
-    (λ d s k m other has_d at_k link_d same_replica same_number. never k (sym next ∙ at_k)) (λ r s at_r. fine.counted r s (ap (λ y. finmap.get y.sites r) (sym is) ∙ at_r)) fine
+    (λ d s k m other has_d at_k link_d same_replica same_number. never k (sym next ∙ at_k)) (wished_usable p false t wish q wished (fine.usable c p has)) (λ r s at_r. fine.counted r s (ap (λ y. finmap.get y.sites r) (sym is) ∙ at_r)) fine
 
 fine_change : (w left : World) (all : List TypedWrite) (c : ℕ) (p : Peer) (t : TypeName) (wish : Wish) (q : Client × Option Message) (o : Option Link) → finmap.get w.peers c ≡ Some p → p.link ≡ o → wish_taken p t wish ≡ Some q → left ≡ with_peer w c (changed p q)
     → Fine w all → Fine left all
@@ -265,10 +269,10 @@ fine_added w left all r none is fine =
       | inr there ↦ fine.counted q s (sym there.1 ∙ ap (λ y. finmap.get y.sites q) (sym is) ∙ has)
     ]) fine
 
-fine_joined : (w left : World) (all : List TypedWrite) (c : ℕ) (kind : ClientKind) → left ≡ with_peer w c (new_peer c kind) → Fine w all → Fine left all
-fine_joined w left all c kind is fine =
-    fine_peer w left all c (new_peer c kind) (ap (λ y. y.peers) is) (λ e r m other has_e link_e. ap (λ y. stream_at y m.replica m.stream) is) (λ k at_k. absurd (never k at_k))
-    (λ none t. subst (RestsAs kind all t) (sym (at-each bare t)) (fresh_as all kind t)) (λ d s k m other has_d at_k link_d same_replica same_number. never k at_k)
+fine_joined : (w left : World) (all : List TypedWrite) (c : ℕ) (kind : ClientKind) (cluster : List ℕ) → left ≡ with_peer w c (new_peer c kind cluster) → Fine w all → Fine left all
+fine_joined w left all c kind cluster is fine =
+    fine_peer w left all c (new_peer c kind cluster) (ap (λ y. y.peers) is) (λ e r m other has_e link_e. ap (λ y. stream_at y m.replica m.stream) is) (λ k at_k. absurd (never k at_k))
+    (λ none t. subst (RestsAs kind all t) (sym (at-each bare t)) (fresh_as all kind t)) (λ d s k m other has_d at_k link_d same_replica same_number. never k at_k) refl
     (λ r s at_r. fine.counted r s (ap (λ y. finmap.get y.sites r) (sym is) ∙ at_r)) fine
 
 -- a batch that joins the pool
@@ -294,8 +298,8 @@ pub fine_step : (test : Test) (w left : World) (all : List TypedWrite) (h : Happ
 fine_step test w left all (AddReplica r) is known fine =
     let made = if_some (is_free w r) (record w { sites = finmap.insert w.sites r (record { core = fresh_core r; journal = [] }) }) left is in
     fine_added w left all r (none_there (finmap.get w.sites r) (both_parts (nat_lt 0 r && not (nat_lt max_writer r)) (is_none (finmap.get w.sites r)) made.0).1) made.1 fine
-fine_step test w left all (AddClient c kind) is known fine = fine_joined w left all c kind (if_some (is_none (finmap.get w.peers c)) (with_peer w c (new_peer c kind)) left is).1 fine
-fine_step test w left all (Put r t body) is known fine = fine_written w left all r (events.Put t body) (λ c. refl) is fine
+fine_step test w left all (AddClient c kind cluster) is known fine = fine_joined w left all c kind cluster (if_some (is_none (finmap.get w.peers c)) (with_peer w c (new_peer c kind cluster)) left is).1 fine
+fine_step test w left all (Put r t body groups) is known fine = fine_written w left all r (events.Put t body groups) (λ c. refl) is fine
 fine_step test w left all (Delete r t name) is known fine = fine_written w left all r (events.Delete t name) (λ c. refl) is fine
 fine_step test w left all (Snapshot r) is known fine =
     let made = bound_some (pooled r) (at_site w r events.Snapshot) left is in
@@ -326,5 +330,6 @@ fine_start = record {
   ups = λ c p l has. absurd (never p (sym (finmap.get-empty nat_cmp c) ∙ has));
   downs = λ c p has. absurd (never p (sym (finmap.get-empty nat_cmp c) ∙ has));
   apart = λ c d p q l m has. absurd (never p (sym (finmap.get-empty nat_cmp c) ∙ has));
+  usable = λ c p has. absurd (never p (sym (finmap.get-empty nat_cmp c) ∙ has));
   counted = λ r s has. absurd (never s (sym (finmap.get-empty nat_cmp r) ∙ has));
 }

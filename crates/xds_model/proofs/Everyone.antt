@@ -1,5 +1,5 @@
 -- What is kept of all clients of a world and of the streams that they are linked by, whatever happens.
-use Rattle.std.proofs.Common.{◌≡◌, ◌≢◌, ◌⊎◌, inl, inr, ℕ, List, Option, Some, None, Ok, refl, sym, ap, subst, ◌∙◌}
+use Rattle.std.proofs.Common.{◌≡◌, ◌≢◌, ◌⊎◌, inl, inr, ℕ, List, false, Option, Some, None, Ok, refl, sym, ap, subst, ◌∙◌}
 use Rattle.std.specs.Option.{option_and_then}
 use Rattle.std.specs.Cmp.{nat_cmp_total}
 use Rattle.std.specs.FinMap as finmap
@@ -16,7 +16,7 @@ use Rattle.xds_cache.specs.Clients.{shelf}
 use Rattle.xds_model.specs.Worlds.{Site, Link, Peer, World, recorded, at_site}
 use Rattle.xds_model.specs.Knows.{TypedWrite}
 use Rattle.xds_model.proofs.Replicas.{answered, some_is}
-use Rattle.xds_model.proofs.ByKind.{LinkedAs, RestsAs}
+use Rattle.xds_model.proofs.ByKind.{LinkedTo, RestsAs}
 use Rattle.xds_model.proofs.CoreSteps.{IsCounted, step_counted}
 
 -- ---- streams of a world
@@ -82,10 +82,12 @@ counted_at w r e p x counted q s has =
 
 pub record Fine (w : World) (all : List TypedWrite) : Type 0 where
   -- a client that is up has a stream at its replica
-  pub ups : (c : ℕ) (p : Peer) (l : Link) → finmap.get w.peers c ≡ Some p → p.link ≡ Some l → (x : Stream) × (stream_at w l.replica l.stream ≡ Some x) × LinkedAs p.kind all p.client l x
+  pub ups : (c : ℕ) (p : Peer) (l : Link) → finmap.get w.peers c ≡ Some p → p.link ≡ Some l → (x : Stream) × (stream_at w l.replica l.stream ≡ Some x) × LinkedTo p.kind all p.client l x
   pub downs : (c : ℕ) (p : Peer) → finmap.get w.peers c ≡ Some p → p.link ≡ None → (t : TypeName) → RestsAs p.kind all t (shelf p.client t)
   -- no two have the same
   pub apart : (c d : ℕ) (p q : Peer) (l m : Link) → finmap.get w.peers c ≡ Some p → finmap.get w.peers d ≡ Some q → p.link ≡ Some l → q.link ≡ Some m → l.replica ≡ m.replica → l.stream ≡ m.stream → c ≡ d
+  -- none is of no use
+  pub usable : (c : ℕ) (p : Peer) → finmap.get w.peers c ≡ Some p → p.client.broken ≡ false
   pub counted : AllCounted w
 
 -- no client changed
@@ -94,6 +96,7 @@ fine_sites w left all same frame counted fine = record {
   ups = λ c p l has link. let x = fine.ups c p l (ap (λ m. finmap.get m c) (sym same) ∙ has) link in (x.0, frame l.replica l.stream ∙ x.1, x.2);
   downs = λ c p has. fine.downs c p (ap (λ m. finmap.get m c) (sym same) ∙ has);
   apart = λ c d p q l m has_c has_d. fine.apart c d p q l m (ap (λ k. finmap.get k c) (sym same) ∙ has_c) (ap (λ k. finmap.get k d) (sym same) ∙ has_d);
+  usable = λ c p has. fine.usable c p (ap (λ m. finmap.get m c) (sym same) ∙ has);
   counted = counted;
 }
 
@@ -112,16 +115,16 @@ module _ (w left : World) (all : List TypedWrite) (c : ℕ) (p : Peer) (peers : 
 
   -- where it is, if it is up
   abbrev pub Here : Type 0
-  Here = (l : Link) → p.link ≡ Some l → (x : Stream) × (stream_at left l.replica l.stream ≡ Some x) × LinkedAs p.kind all p.client l x
+  Here = (l : Link) → p.link ≡ Some l → (x : Stream) × (stream_at left l.replica l.stream ≡ Some x) × LinkedTo p.kind all p.client l x
 
   abbrev pub Alone : Type 0
   Alone = (d : ℕ) (q : Peer) (l m : Link) → c ≢ d → finmap.get w.peers d ≡ Some q → p.link ≡ Some l → q.link ≡ Some m → l.replica ≡ m.replica → l.stream ≡ m.stream → ⊥
 
-  pub fine_peer : Frame → Here → (p.link ≡ None → (t : TypeName) → RestsAs p.kind all t (shelf p.client t)) → Alone → AllCounted left → Fine w all → Fine left all
-  fine_peer frame here down alone counted fine = record {
+  pub fine_peer : Frame → Here → (p.link ≡ None → (t : TypeName) → RestsAs p.kind all t (shelf p.client t)) → Alone → p.client.broken ≡ false → AllCounted left → Fine w all → Fine left all
+  fine_peer frame here down alone of_use counted fine = record {
     ups = λ d q l has link.
         elim (found d q has) [
-          | inl same ↦ subst (λ (y : Peer). (x : Stream) × (stream_at left l.replica l.stream ≡ Some x) × LinkedAs y.kind all y.client l x) same.1 (here l (ap (λ y. y.link) same.1 ∙ link))
+          | inl same ↦ subst (λ (y : Peer). (x : Stream) × (stream_at left l.replica l.stream ≡ Some x) × LinkedTo y.kind all y.client l x) same.1 (here l (ap (λ y. y.link) same.1 ∙ link))
           | inr other ↦ (let x = fine.ups d q l other.1 link in (x.0, frame d q l other.0 other.1 link ∙ x.1, x.2))
         ];
     downs = λ d q has link.
@@ -141,6 +144,11 @@ module _ (w left : World) (all : List TypedWrite) (c : ℕ) (p : Peer) (peers : 
                 | inl second ↦ absurd (alone a q m l first.0 first.1 (ap (λ y. y.link) second.1 ∙ link_b) link_a (sym same_replica) (sym same_stream))
                 | inr second ↦ fine.apart a b q r l m first.1 second.1 link_a link_b same_replica same_stream
               ]
+        ];
+    usable = λ d q has.
+        elim (found d q has) [
+          | inl same ↦ ap (λ (y : Peer). y.client.broken) (sym same.1) ∙ of_use
+          | inr other ↦ fine.usable d q other.1
         ];
     counted = counted;
   }

@@ -3,7 +3,7 @@ use Rattle.std.proofs.Common.{◌≡◌, ◌⊎◌, inl, inr, List, [], ◌∷�
 use Rattle.std.specs.Prelude.{if◌then◌else◌, ⊤}
 use Rattle.std.specs.List.{filter_map, cons_option}
 use Rattle.xds_resource.specs.declared.types.TypeName.{TypeName}
-use Rattle.xds_resource.specs.declared.types.TypeName.TheVariants.{Cluster, Endpoint, Listener, Route}
+use Rattle.xds_resource.specs.declared.types.TypeName.TheVariants.{Cluster, Endpoint, Listener, Route, Secret}
 use Rattle.xds_resource.specs.Types.{types, is_same_type}
 use Rattle.xds_core.specs.Streams.{Message}
 use Rattle.xds_shelf.specs.Shelves.{wants_some}
@@ -21,10 +21,11 @@ IsOnce t [] = ⊥
 IsOnce t (s ∷ ss) = ((s ≡ t) × IsOut t ss) ⊎ ((is_same_type s t ≡ false) × IsOnce t ss)
 
 pub once : (t : TypeName) → IsOnce t types
-once Cluster = inl (refl, (refl, (refl, (refl, tt))))
-once Endpoint = inr (refl, inl (refl, (refl, (refl, tt))))
-once Listener = inr (refl, inr (refl, inl (refl, (refl, tt))))
-once Route = inr (refl, inr (refl, inr (refl, inl (refl, tt))))
+once Cluster = inl (refl, (refl, (refl, (refl, (refl, tt)))))
+once Endpoint = inr (refl, inl (refl, (refl, (refl, (refl, tt)))))
+once Listener = inr (refl, inr (refl, inl (refl, (refl, (refl, tt)))))
+once Route = inr (refl, inr (refl, inr (refl, inl (refl, (refl, tt)))))
+once Secret = inr (refl, inr (refl, inr (refl, inr (refl, inl (refl, tt)))))
 
 -- requests of either variant
 module _ {X : Type 0} (tag : X → Message) (make : TypeName → Bool → X) (c : Client) where

@@ -1,5 +1,5 @@
--- Where clients are linked and what they want, as the list of happenings tells it, is where they are linked and what they want.
-use Rattle.std.proofs.Common.{◌≡◌, ◌≢◌, inl, inr, ℕ, List, [], ◌∷◌, ◌++◌, Bool, true, false, Option, Some, None, refl, sym, ap, subst, ◌∙◌}
+-- Where clients are linked, of which cluster they are and what they want, as the list of happenings tells it, is so.
+use Rattle.std.proofs.Common.{◌≡◌, ◌≢◌, inl, inr, ℕ, List, [], ◌∷◌, ◌++◌, Bool, true, false, ◌&&◌, Option, Some, None, refl, sym, ap, subst, ◌∙◌}
 use Rattle.std.specs.Prelude.{◌==◌, if◌then◌else◌, is_none, is_some, option_map}
 use Rattle.std.specs.Option.{option_and_then, option_map_or}
 use Rattle.std.specs.Ordering.{nat_cmp}
@@ -31,12 +31,12 @@ use Rattle.xds_cache.specs.Receives.{sotw_change, sotw_changed, delta_change, de
 use Rattle.xds_model.specs.declared.event.ClientKind.{ClientKind}
 use Rattle.xds_model.specs.declared.event.ClientKind.TheVariants.{Sotw, Delta}
 use Rattle.xds_model.specs.Happenings.{Happening, Wish, Names, Edits, AddReplica, AddClient, Put, Delete, Snapshot, Merge, Connect, Change, Up, Poll, Down, Lose}
-use Rattle.xds_model.specs.Worlds.{Site, Link, Peer, World, empty_world, at_site, happened_at, placed, pooled, with_peer, new_peer, connected_to, opened, sending, changed, wish_of, wish_taken, under_way, polled, up_taken, received, received_in, taken_down, down_taken, is_free, happens, after}
-use Rattle.xds_model.specs.Knows.{wished, wishing, wanted_after, wants, linking, linked_after, link}
+use Rattle.xds_model.specs.Worlds.{Site, Link, Peer, World, empty_world, at_site, happened_at, placed, pooled, with_peer, new_peer, connected_to, opened, with_request, changed, wish_of, wish_taken, under_way, polled, up_taken, received, received_in, taken_down, down_taken, is_free, happens, after}
+use Rattle.xds_model.specs.Knows.{wished, wishing, wanted_after, wants, placing, cluster_after, cluster as cluster_of, linking, linked_after, link}
 use Rattle.xds_model.specs.Claims.{LinksAreFollowed}
 use Rattle.xds_model.proofs.Replicas.{if_then, some_is, bound_some, mapped_some, if_some, none_there}
 use Rattle.xds_model.proofs.LinkTakes.{received_ok, answered_ok, connected_shelf, lost_shelf}
-use Rattle.xds_model.proofs.ByKind.{changed_ok, changed_once}
+use Rattle.xds_model.proofs.ByKind.{received_stays, changed_ok, changed_once, wished_is}
 use Rattle.xds_model.proofs.Everyone.{at_site_is}
 use Rattle.xds_model.proofs.EveryEvent.{link_there, same_peers, pooled_is, same_replica_on}
 
@@ -53,7 +53,7 @@ module _ {Y : Type 0} (look : Option Peer → Y) (w left : World) (d : ℕ) (aft
       ]
 
   -- and one that did
-  changed_look : (g : Y → Y) (before : Peer) → finmap.get w.peers d ≡ Some before → look (Some after) ≡ g (look (Some before)) → look (finmap.get left.peers c) ≡ (if d == c then g (look (finmap.get w.peers c)) else look (finmap.get w.peers c))
+  changed_look : (g : Y → Y) (before : Option Peer) → finmap.get w.peers d ≡ before → look (Some after) ≡ g (look before) → look (finmap.get left.peers c) ≡ (if d == c then g (look (finmap.get w.peers c)) else look (finmap.get w.peers c))
   changed_look g before has now =
       ap (λ m. look (finmap.get m c)) peers
       ∙ elim (get-inserted nat_cmp_total nat_cmp-IsAntisymmetric w.peers d after c) [
@@ -80,6 +80,10 @@ linked_to o = option_and_then replica_of o
 abbrev pub wanted_of : TypeName → Option Peer → Wants
 wanted_of t o = option_map_or (λ p. (shelf p.client t).wants) o finmap.empty
 
+-- of which cluster it is
+abbrev pub placed_of : Option Peer → List ℕ
+placed_of o = option_map_or (λ p. p.client.cluster) o []
+
 -- ---- what stays
 
 -- a client that is where it was and wants what it wanted
@@ -89,6 +93,7 @@ pub record Stays (w left : World) (d : ℕ) : Type 0 where
   pub has : finmap.get w.peers d ≡ Some before
   pub peers : left.peers ≡ finmap.insert w.peers d after
   pub replica : replica_of after ≡ replica_of before
+  pub cluster : after.client.cluster ≡ before.client.cluster
   pub wants : (t : TypeName) → (shelf after.client t).wants ≡ (shelf before.client t).wants
 
 delivered_wants : (t : TypeName) (test : Test) (s : Shelf) (d : Delivery) (o : Option (List ℕ)) → (option_map_or (λ fault. rejecting s d) o (taking t s d)).wants ≡ s.wants
@@ -130,6 +135,7 @@ up_stays w left d p l (m ∷ rest) has at_link is =
       has = has;
       peers = ap (λ y. y.peers) made.2 ∙ ap (λ y. finmap.insert y d after) (same_peers w l.replica e made.0 (at_site_is w l.replica e made.0 made.1));
       replica = ap (option_map (λ k. k.replica)) (sym at_link);
+      cluster = refl;
       wants = λ t. refl;
     }
 
@@ -144,6 +150,7 @@ poll_stays w left d p l which has at_link is =
       has = has;
       peers = ap (λ y. y.peers) polls.1 ∙ ap (λ y. finmap.insert y d (record p { link = Some (record l { down = polls.0 }) })) (same_peers w l.replica e made.0 (at_site_is w l.replica e made.0 made.1));
       replica = ap (option_map (λ k. k.replica)) (sym at_link);
+      cluster = refl;
       wants = λ t. refl;
     }
   where
@@ -167,6 +174,7 @@ down_stays test w left d p l (x ∷ rest) has at_link is =
       has = has;
       peers = ap (λ y. y.peers) made.2;
       replica = ap (option_map (λ k. k.replica)) (sym at_link);
+      cluster = (received_stays p.kind test p.client x made.0 made.1).0;
       wants = λ t. received_wants test p.kind p.client x made.0 t made.1;
     }
 
@@ -179,13 +187,14 @@ pub record Comes (w left : World) (d : ℕ) : Type 0 where
   pub has : finmap.get w.peers d ≡ Some before
   pub peers : left.peers ≡ finmap.insert w.peers d after
 
-connected_comes : (test : Test) (w left : World) (d r : ℕ) → happens test w (Connect d r) ≡ Some left → (x : Comes w left d) × (replica_of x.after ≡ Some r) × ((t : TypeName) → (shelf x.after.client t).wants ≡ (shelf x.before.client t).wants)
+connected_comes : (test : Test) (w left : World) (d r : ℕ) → happens test w (Connect d r) ≡ Some left → (x : Comes w left d) × (replica_of x.after ≡ Some r) × (x.after.client.cluster ≡ x.before.client.cluster) × ((t : TypeName) → (shelf x.after.client t).wants ≡ (shelf x.before.client t).wants)
 connected_comes test w left d r is =
     let peer = bound_some (λ p. if is_none p.link then option_and_then (opened d r p) (at_site w r events.Open) else None) (finmap.get w.peers d) left is in
     let p = peer.0 in
     let made = bound_some (opened d r p) (at_site w r events.Open) left (if_then (is_none p.link) (option_and_then (opened d r p) (at_site w r events.Open)) left peer.2) in
     let opens = opened_peer p made.0.0 made.0.1 left made.2 in (
       record { before = p; after = connected_to p r opens.0; has = peer.1; peers = ap (λ y. y.peers) opens.1 ∙ ap (λ y. finmap.insert y d (connected_to p r opens.0)) (same_peers w r events.Open made.0 (at_site_is w r events.Open made.0 made.1)) },
+      refl,
       refl,
       λ t. ap (λ (f : Shelf). f.wants) (connected_shelf p.client (is_greeted p.client false types) t),
     )
@@ -200,7 +209,7 @@ connected_comes test w left d r is =
     opened_peer p (events.Merged n) x y e = absurd cc
     opened_peer p (events.Entries b) x y e = absurd cc
 
-lost_comes : (test : Test) (w left : World) (d : ℕ) → happens test w (Lose d) ≡ Some left → (x : Comes w left d) × (replica_of x.after ≡ None) × ((t : TypeName) → (shelf x.after.client t).wants ≡ (shelf x.before.client t).wants)
+lost_comes : (test : Test) (w left : World) (d : ℕ) → happens test w (Lose d) ≡ Some left → (x : Comes w left d) × (replica_of x.after ≡ None) × (x.after.client.cluster ≡ x.before.client.cluster) × ((t : TypeName) → (shelf x.after.client t).wants ≡ (shelf x.before.client t).wants)
 lost_comes test w left d is =
     let at_link = link_there w d (λ p l. option_map (λ q. with_peer q.1 d (record p { client = unlinked p.client; link = None })) (at_site w l.replica (events.Close l.stream))) left is in
     let p = at_link.0 in
@@ -208,6 +217,7 @@ lost_comes test w left d is =
     let after : Peer = record p { client = unlinked p.client; link = None } in
     let made = mapped_some (λ q. with_peer q.1 d after) (at_site w at_link.1.replica e) left at_link.4 in (
       record { before = p; after = after; has = at_link.2; peers = ap (λ y. y.peers) made.2 ∙ ap (λ y. finmap.insert y d after) (same_peers w at_link.1.replica e made.0 (at_site_is w at_link.1.replica e made.0 made.1)) },
+      refl,
       refl,
       λ t. ap (λ (f : Shelf). f.wants) (lost_shelf p.client t),
     )
@@ -233,25 +243,25 @@ wished_wants : (k : ClientKind) (p : Peer) (up : Bool) (s : TypeName) (wish : Wi
     → (shelf q.0 t).wants ≡ (if is_same_type s t then wished wish (shelf p.client t).wants else (shelf p.client t).wants)
 wished_wants Sotw p up s (Names names) q t is =
     let made = changed_ok streams.Sotw (sotw_change up s (wants_of names) p.client) q is in
-    ap (λ (x : Client × Option Message). (shelf x.0 t).wants) made.2 ∙ ap (λ (x : Client × Option messages.Request). (shelf x.0 t).wants) (changed_once p.client.broken (sotw_changed up s (wants_of names) p.client) made.0 made.1)
+    ap (λ (x : Client × Option Message). (shelf x.0 t).wants) made.2 ∙ ap (λ (x : Client × Option messages.Request). (shelf x.0 t).wants) (changed_once (up && p.client.broken) (sotw_changed up s (wants_of names) p.client) made.0 made.1)
     ∙ wanted_changed up s (wants_of names) p.client t
 wished_wants Sotw p up s (Edits subscribe unsubscribe) q t is = absurd cc
 wished_wants Delta p up s (Names names) q t is = absurd cc
 wished_wants Delta p up s (Edits subscribe unsubscribe) q t is =
     let made = changed_ok streams.Delta (delta_change up s (wants_of subscribe) (wants_of unsubscribe) p.client) q is in
     ap (λ (x : Client × Option Message). (shelf x.0 t).wants) made.2
-    ∙ ap (λ (x : Client × Option DeltaRequest). (shelf x.0 t).wants) (changed_once p.client.broken (delta_changed up s (wants_of subscribe) (wants_of unsubscribe) p.client) made.0 made.1)
+    ∙ ap (λ (x : Client × Option DeltaRequest). (shelf x.0 t).wants) (changed_once (up && p.client.broken) (delta_changed up s (wants_of subscribe) (wants_of unsubscribe) p.client) made.0 made.1)
     ∙ wanted_changed up s (wants_after (wants_of subscribe) (wants_of unsubscribe) (shelf p.client s).wants) p.client t ∙ same_wanted s t p.client (Edits subscribe unsubscribe)
 
 changed_comes : (test : Test) (w left : World) (d : ℕ) (s : TypeName) (wish : Wish) → happens test w (Change d s wish) ≡ Some left
-    → (x : Comes w left d) × (replica_of x.after ≡ replica_of x.before) × ((t : TypeName) → (shelf x.after.client t).wants ≡ (if is_same_type s t then wished wish (shelf x.before.client t).wants else (shelf x.before.client t).wants))
+    → (x : Comes w left d) × (replica_of x.after ≡ replica_of x.before) × (x.after.client.cluster ≡ x.before.client.cluster) × ((t : TypeName) → (shelf x.after.client t).wants ≡ (if is_same_type s t then wished wish (shelf x.before.client t).wants else (shelf x.before.client t).wants))
 changed_comes test w left d s wish is =
     let peer = bound_some (λ p. option_map (λ q. with_peer w d (changed p q)) (wish_taken p s wish)) (finmap.get w.peers d) left is in
     let p = peer.0 in
     let made = mapped_some (λ q. with_peer w d (changed p q)) (wish_taken p s wish) left peer.2 in
-    (record { before = p; after = changed p made.0; has = peer.1; peers = ap (λ y. y.peers) made.2 }, same_place made.0.1 p.link, λ t. wished_wants p.kind p (is_some p.link) s wish made.0 t made.1)
+    (record { before = p; after = changed p made.0; has = peer.1; peers = ap (λ y. y.peers) made.2 }, same_place made.0.1 p.link, ap (λ (c : Client). c.cluster) (wished_is p.kind p (is_some p.link) s wish made.0 made.1).left, λ t. wished_wants p.kind p (is_some p.link) s wish made.0 t made.1)
   where
-    same_place : (o : Option Message) (l : Option Link) → option_map (λ k. k.replica) (option_map (sending o) l) ≡ option_map (λ k. k.replica) l
+    same_place : (o : Option Message) (l : Option Link) → option_map (λ k. k.replica) (option_map (with_request o) l) ≡ option_map (λ k. k.replica) l
     same_place o None = refl
     same_place o (Some l) = ap Some (same_replica_on o l)
 
@@ -277,8 +287,11 @@ stays_link w left d c x = kept_look linked_to w left d x.after x.peers c (Some x
 stays_wants : (w left : World) (d c : ℕ) (t : TypeName) → Stays w left d → wanted_of t (finmap.get left.peers c) ≡ wanted_of t (finmap.get w.peers c)
 stays_wants w left d c t x = kept_look (wanted_of t) w left d x.after x.peers c (Some x.before) x.has (x.wants t)
 
-joined_is : (w left : World) (d : ℕ) (kind : ClientKind) → (if is_none (finmap.get w.peers d) then Some (with_peer w d (new_peer d kind)) else None) ≡ Some left → (finmap.get w.peers d ≡ None) × (left.peers ≡ finmap.insert w.peers d (new_peer d kind))
-joined_is w left d kind is = let made = if_some (is_none (finmap.get w.peers d)) (with_peer w d (new_peer d kind)) left is in (none_there (finmap.get w.peers d) made.0, ap (λ y. y.peers) made.1)
+stays_cluster : (w left : World) (d c : ℕ) → Stays w left d → placed_of (finmap.get left.peers c) ≡ placed_of (finmap.get w.peers c)
+stays_cluster w left d c x = kept_look placed_of w left d x.after x.peers c (Some x.before) x.has x.cluster
+
+joined_is : (w left : World) (d : ℕ) (kind : ClientKind) (cluster : List ℕ) → (if is_none (finmap.get w.peers d) then Some (with_peer w d (new_peer d kind cluster)) else None) ≡ Some left → (finmap.get w.peers d ≡ None) × (left.peers ≡ finmap.insert w.peers d (new_peer d kind cluster))
+joined_is w left d kind cluster is = let made = if_some (is_none (finmap.get w.peers d)) (with_peer w d (new_peer d kind cluster)) left is in (none_there (finmap.get w.peers d) made.0, ap (λ y. y.peers) made.1)
 
 up_of : (test : Test) (w left : World) (d : ℕ) → happens test w (Up d) ≡ Some left → Stays w left d
 up_of test w left d is = let at_link = link_there w d (λ p l. up_taken w d p l l.up) left is in up_stays w left d at_link.0 at_link.1 at_link.1.up at_link.2 at_link.3 at_link.4
@@ -291,31 +304,45 @@ down_of test w left d is = let at_link = link_there w d (λ p l. down_taken test
 
 link_step : (test : Test) (w left : World) (c : ℕ) (h : Happening) → happens test w h ≡ Some left → linked_to (finmap.get left.peers c) ≡ linking c h (linked_to (finmap.get w.peers c))
 link_step test w left c (AddReplica r) is = ap (λ m. linked_to (finmap.get m c)) (added_peers w left r _ is)
-link_step test w left c (AddClient d kind) is = let made = joined_is w left d kind is in kept_look linked_to w left d (new_peer d kind) made.1 c None made.0 refl
-link_step test w left c (Put r t body) is = ap (λ m. linked_to (finmap.get m c)) (written_peers w left r (events.Put t body) is)
+link_step test w left c (AddClient d kind cluster) is = let made = joined_is w left d kind cluster is in kept_look linked_to w left d (new_peer d kind cluster) made.1 c None made.0 refl
+link_step test w left c (Put r t body groups) is = ap (λ m. linked_to (finmap.get m c)) (written_peers w left r (events.Put t body groups) is)
 link_step test w left c (Delete r t name) is = ap (λ m. linked_to (finmap.get m c)) (written_peers w left r (events.Delete t name) is)
 link_step test w left c (Snapshot r) is = ap (λ m. linked_to (finmap.get m c)) (pooled_peers w left r is)
 link_step test w left c (Merge r b) is = ap (λ m. linked_to (finmap.get m c)) (merged_peers w left r b is)
-link_step test w left c (Connect d r) is = let x = connected_comes test w left d r is in changed_look linked_to w left d x.0.after x.0.peers c (λ o. Some r) x.0.before x.0.has x.1
+link_step test w left c (Connect d r) is = let x = connected_comes test w left d r is in changed_look linked_to w left d x.0.after x.0.peers c (λ o. Some r) (Some x.0.before) x.0.has x.1
 link_step test w left c (Change d s wish) is = let x = changed_comes test w left d s wish is in kept_look linked_to w left d x.0.after x.0.peers c (Some x.0.before) x.0.has x.1
 link_step test w left c (Up d) is = stays_link w left d c (up_of test w left d is)
 link_step test w left c (Poll d which) is = stays_link w left d c (poll_of test w left d which is)
 link_step test w left c (Down d) is = stays_link w left d c (down_of test w left d is)
-link_step test w left c (Lose d) is = let x = lost_comes test w left d is in changed_look linked_to w left d x.0.after x.0.peers c (λ o. None) x.0.before x.0.has x.1
+link_step test w left c (Lose d) is = let x = lost_comes test w left d is in changed_look linked_to w left d x.0.after x.0.peers c (λ o. None) (Some x.0.before) x.0.has x.1
 
 wants_step : (test : Test) (w left : World) (c : ℕ) (t : TypeName) (h : Happening) → happens test w h ≡ Some left → wanted_of t (finmap.get left.peers c) ≡ wishing c t h (wanted_of t (finmap.get w.peers c))
 wants_step test w left c t (AddReplica r) is = ap (λ m. wanted_of t (finmap.get m c)) (added_peers w left r _ is)
-wants_step test w left c t (AddClient d kind) is = let made = joined_is w left d kind is in kept_look (wanted_of t) w left d (new_peer d kind) made.1 c None made.0 (ap (λ (f : Shelf). f.wants) (at-each bare t))
-wants_step test w left c t (Put r s body) is = ap (λ m. wanted_of t (finmap.get m c)) (written_peers w left r (events.Put s body) is)
+wants_step test w left c t (AddClient d kind cluster) is = let made = joined_is w left d kind cluster is in kept_look (wanted_of t) w left d (new_peer d kind cluster) made.1 c None made.0 (ap (λ (f : Shelf). f.wants) (at-each bare t))
+wants_step test w left c t (Put r s body groups) is = ap (λ m. wanted_of t (finmap.get m c)) (written_peers w left r (events.Put s body groups) is)
 wants_step test w left c t (Delete r s name) is = ap (λ m. wanted_of t (finmap.get m c)) (written_peers w left r (events.Delete s name) is)
 wants_step test w left c t (Snapshot r) is = ap (λ m. wanted_of t (finmap.get m c)) (pooled_peers w left r is)
 wants_step test w left c t (Merge r b) is = ap (λ m. wanted_of t (finmap.get m c)) (merged_peers w left r b is)
-wants_step test w left c t (Connect d r) is = let x = connected_comes test w left d r is in kept_look (wanted_of t) w left d x.0.after x.0.peers c (Some x.0.before) x.0.has (x.2 t)
-wants_step test w left c t (Change d s wish) is = let x = changed_comes test w left d s wish is in changed_look (wanted_of t) w left d x.0.after x.0.peers c (λ before. if is_same_type s t then wished wish before else before) x.0.before x.0.has (x.2 t)
+wants_step test w left c t (Connect d r) is = let x = connected_comes test w left d r is in kept_look (wanted_of t) w left d x.0.after x.0.peers c (Some x.0.before) x.0.has (x.3 t)
+wants_step test w left c t (Change d s wish) is = let x = changed_comes test w left d s wish is in changed_look (wanted_of t) w left d x.0.after x.0.peers c (λ before. if is_same_type s t then wished wish before else before) (Some x.0.before) x.0.has (x.3 t)
 wants_step test w left c t (Up d) is = stays_wants w left d c t (up_of test w left d is)
 wants_step test w left c t (Poll d which) is = stays_wants w left d c t (poll_of test w left d which is)
 wants_step test w left c t (Down d) is = stays_wants w left d c t (down_of test w left d is)
-wants_step test w left c t (Lose d) is = let x = lost_comes test w left d is in kept_look (wanted_of t) w left d x.0.after x.0.peers c (Some x.0.before) x.0.has (x.2 t)
+wants_step test w left c t (Lose d) is = let x = lost_comes test w left d is in kept_look (wanted_of t) w left d x.0.after x.0.peers c (Some x.0.before) x.0.has (x.3 t)
+
+cluster_step : (test : Test) (w left : World) (c : ℕ) (h : Happening) → happens test w h ≡ Some left → placed_of (finmap.get left.peers c) ≡ placing c h (placed_of (finmap.get w.peers c))
+cluster_step test w left c (AddReplica r) is = ap (λ m. placed_of (finmap.get m c)) (added_peers w left r _ is)
+cluster_step test w left c (AddClient d kind cluster) is = let made = joined_is w left d kind cluster is in changed_look placed_of w left d (new_peer d kind cluster) made.1 c (λ o. cluster) None made.0 refl
+cluster_step test w left c (Put r t body groups) is = ap (λ m. placed_of (finmap.get m c)) (written_peers w left r (events.Put t body groups) is)
+cluster_step test w left c (Delete r t name) is = ap (λ m. placed_of (finmap.get m c)) (written_peers w left r (events.Delete t name) is)
+cluster_step test w left c (Snapshot r) is = ap (λ m. placed_of (finmap.get m c)) (pooled_peers w left r is)
+cluster_step test w left c (Merge r b) is = ap (λ m. placed_of (finmap.get m c)) (merged_peers w left r b is)
+cluster_step test w left c (Connect d r) is = let x = connected_comes test w left d r is in kept_look placed_of w left d x.0.after x.0.peers c (Some x.0.before) x.0.has x.2
+cluster_step test w left c (Change d s wish) is = let x = changed_comes test w left d s wish is in kept_look placed_of w left d x.0.after x.0.peers c (Some x.0.before) x.0.has x.2
+cluster_step test w left c (Up d) is = stays_cluster w left d c (up_of test w left d is)
+cluster_step test w left c (Poll d which) is = stays_cluster w left d c (poll_of test w left d which is)
+cluster_step test w left c (Down d) is = stays_cluster w left d c (down_of test w left d is)
+cluster_step test w left c (Lose d) is = let x = lost_comes test w left d is in kept_look placed_of w left d x.0.after x.0.peers c (Some x.0.before) x.0.has x.2
 
 -- ---- whatever list of happenings
 
@@ -337,12 +364,24 @@ wanting_after : (test : Test) (hs : List Happening) (c : ℕ) (t : TypeName) (w 
 wanting_after test [] c t w = refl
 wanting_after test (h ∷ hs) c t w = wants_or test w c t h hs (happens test w h) refl (wanting_after test hs c t)
 
--- where a client is linked, and what it wants
+cluster_or : (test : Test) (w : World) (c : ℕ) (h : Happening) (hs : List Happening) (o : Option World) → happens test w h ≡ o → ((x : World) → cluster_after test x c (placed_of (finmap.get x.peers c)) hs ≡ placed_of (finmap.get (after test x hs).peers c))
+    → option_map_or (λ x. cluster_after test x c (placing c h (placed_of (finmap.get w.peers c))) hs) o (cluster_after test w c (placed_of (finmap.get w.peers c)) hs) ≡ placed_of (finmap.get (after test (option_map_or (λ x. x) o w) hs).peers c)
+cluster_or test w c h hs None is later = later w
+cluster_or test w c h hs (Some x) is later = ap (λ o. cluster_after test x c o hs) (sym (cluster_step test w x c h is)) ∙ later x
+
+placing_after : (test : Test) (hs : List Happening) (c : ℕ) (w : World) → cluster_after test w c (placed_of (finmap.get w.peers c)) hs ≡ placed_of (finmap.get (after test w hs).peers c)
+placing_after test [] c w = refl
+placing_after test (h ∷ hs) c w = cluster_or test w c h hs (happens test w h) refl (placing_after test hs c)
+
+-- where a client is linked, of which cluster it is, and what it wants
 pub link_is : (test : Test) (hs : List Happening) (c : ℕ) → link test hs c ≡ linked_to (finmap.get (after test empty_world hs).peers c)
 link_is test hs c = ap (λ o. linked_after test empty_world c (linked_to o) hs) (sym (finmap.get-empty nat_cmp c)) ∙ link_after test hs c empty_world
+
+pub cluster_is : (test : Test) (hs : List Happening) (c : ℕ) → cluster_of test hs c ≡ placed_of (finmap.get (after test empty_world hs).peers c)
+cluster_is test hs c = ap (λ o. cluster_after test empty_world c (placed_of o) hs) (sym (finmap.get-empty nat_cmp c)) ∙ placing_after test hs c empty_world
 
 pub wants_are : (test : Test) (hs : List Happening) (c : ℕ) (t : TypeName) → wants test hs c t ≡ wanted_of t (finmap.get (after test empty_world hs).peers c)
 wants_are test hs c t = ap (λ o. wanted_after test empty_world c t (wanted_of t o) hs) (sym (finmap.get-empty nat_cmp c)) ∙ wanting_after test hs c t empty_world
 
 pub links_are_followed : (test : Test) (hs : List Happening) → LinksAreFollowed test hs
-links_are_followed test hs c p has = (link_is test hs c ∙ ap linked_to has, λ t. wants_are test hs c t ∙ ap (wanted_of t) has)
+links_are_followed test hs c p has = (link_is test hs c ∙ ap linked_to has, cluster_is test hs c ∙ ap placed_of has, λ t. wants_are test hs c t ∙ ap (wanted_of t) has)

@@ -8,25 +8,27 @@ use Rattle.xds_resource.specs.PerType.{at}
 use Rattle.xds_resource.specs.Best.{best}
 use Rattle.xds_catalogue.proofs.Catalogues.{get-catalogue_of}
 use Rattle.xds_core.specs.Streams.{Stream, owes_of}
-use Rattle.xds_shelf.specs.Shelves.{is_wanted}
+use Rattle.xds_shelf.specs.Shelves.{interest, is_wanted}
 use Rattle.xds_cache.specs.Clients.{shelf}
 use Rattle.xds_shelf.specs.Faults.{Test}
 use Rattle.xds_model.specs.Happenings.{Happening}
 use Rattle.xds_model.specs.Worlds.{Site, Link, Peer, World, empty_world, happens, after, world}
-use Rattle.xds_model.specs.Knows.{TypedWrite, Knowledge, nothing_known, learned, known_after, knows, made_now, made_after, wants, link}
-use Rattle.xds_model.specs.Claims.{writes_of, holding_of, content_at, PutResources, PutsAResource, SettledIsExact, SettledAgrees, Headline, is_quiet, owes_nothing, is_settled_on, is_settled}
+use Rattle.xds_model.specs.Knows.{TypedWrite, Knowledge, nothing_known, learned, known_after, knows, made_now, made_after, wants, cluster as cluster_of, link}
+use Rattle.xds_model.specs.Claims.{writes_of, shown_of, content_at, PutResources, PutsAResource, SettledIsExact, SettledAgrees, Headline, is_quiet, owes_nothing, is_settled_on, is_settled}
 use Rattle.xds_model.proofs.Replicas.{both_parts, holds_what_it_knows, same_knowledge, Kept, kept_start, kept_step, some_is}
 use Rattle.xds_model.proofs.Origins.{one_write_a_stamp, Stamped, stamped_start, stamped_step}
 use Rattle.xds_model.proofs.Ranges.{opposite, Ranged, ranged_start, ranged_step, sites_known}
-use Rattle.xds_model.proofs.ByKind.{LinkedAs}
+use Rattle.xds_model.proofs.ByKind.{LinkedTo}
 use Rattle.xds_model.proofs.Everyone.{stream_at, Fine}
 use Rattle.xds_model.proofs.EveryEvent.{fine_start, fine_step}
 use Rattle.xds_model.proofs.More.{fine_more}
-use Rattle.xds_model.proofs.Delivering.{AllKnown, live}
+use Rattle.xds_model.proofs.Delivering.{AllKnown, shown_in}
+use Rattle.xds_model.proofs.Queues.{started}
+use Rattle.xds_model.proofs.Starting.{owes_started}
 use Rattle.xds_model.proofs.Settled.{link_shows}
 use Rattle.xds_model.proofs.SotwSettled.{link_shows as sotw_link_shows}
 use Rattle.xds_model.proofs.Journals.{journals_are_legal, journals_tell_all}
-use Rattle.xds_model.proofs.Followed.{links_are_followed, linked_to, wanted_of, link_is, wants_are}
+use Rattle.xds_model.proofs.Followed.{links_are_followed, linked_to, wanted_of, placed_of, link_is, cluster_is, wants_are}
 
 -- all that is kept of a world
 pub record Sure (w : World) (k : Knowledge) (all : List TypedWrite) : Type 0 where
@@ -88,9 +90,10 @@ pub record Settled (test : Test) (hs : List Happening) (c r : ℕ) (p : Peer) (t
   pub stream : Stream
   pub quiet : is_quiet t link ≡ true
   pub nothing : owes_of site.core.store stream t ≡ false
-  pub linked : LinkedAs p.kind (made_after test empty_world [] hs) p.client link stream
+  pub linked : LinkedTo p.kind (made_after test empty_world [] hs) p.client link stream
   pub known : AllKnown (made_after test empty_world [] hs) t (at site.core.store t).entries
   pub held : (name : List ℕ) → finmap.get (at site.core.store t).entries name ≡ best (writes_of t (knows test hs r)) name
+  pub placed : cluster_of test hs c ≡ p.client.cluster
   pub wanted : wants test hs c t ≡ (shelf p.client t).wants
 
 pub settled_link : (test : Test) (hs : List Happening) (c r : ℕ) (p : Peer) (t : TypeName) → PutResources hs → finmap.get (world test hs).peers c ≡ Some p → link test hs c ≡ Some r → is_settled (world test hs) c t ≡ true → Settled test hs c r p t
@@ -110,17 +113,18 @@ settled_link test hs c r p t put has linked settled =
       stream = rest.stream;
       quiet = rest.quiet;
       nothing = rest.nothing;
-      linked = subst (LinkedAs p.kind all p.client rest.link) same here.2;
+      linked = subst (LinkedTo p.kind all p.client rest.link) same here.2;
       known = sites_known w k all all_sure.kept all_sure.stamped all_sure.ranged rest.link.replica rest.site t rest.there;
       held = λ name.
           ap (λ m. finmap.get m name) (all_sure.kept.holds rest.link.replica rest.site t rest.there) ∙ get-catalogue_of (writes_of t (k.at rest.link.replica)) name ∙ ap (λ n. best (writes_of t (k.at n)) name) replica;
+      placed = cluster_is test hs c ∙ ap placed_of has;
       wanted = wants_are test hs c t ∙ ap (wanted_of t) has;
     }
 
 -- what is to be shown, by what the replica holds and by what it knows
 shown_is : (test : Test) (hs : List Happening) (c r : ℕ) (p : Peer) (t : TypeName) (name : List ℕ) → (s : Settled test hs c r p t)
-    → (if is_wanted t (shelf p.client t).wants name then live (at s.site.core.store t).entries name else None) ≡ content_at t (writes_of t (knows test hs r)) (wants test hs c t) name
-shown_is test hs c r p t name s = λ i. if is_wanted t (sym s.wanted i) name then option_and_then holding_of (s.held name i) else None
+    → shown_in (interest t p.client.cluster (shelf p.client t).wants) (at s.site.core.store t).entries name ≡ content_at t (writes_of t (knows test hs r)) (cluster_of test hs c) (wants test hs c t) name
+shown_is test hs c r p t name s = λ i. option_and_then (shown_of (interest t (sym s.placed i) (sym s.wanted i)) name) (s.held name i)
 
 -- the clients' half, for delta clients
 pub settled_is_exact : (test : Test) (hs : List Happening) → PutResources hs → SettledIsExact test hs
@@ -128,7 +132,7 @@ settled_is_exact test hs put c r p t has delta linked settled name =
     let all : List TypedWrite = made_after test empty_world [] hs in
     let all_sure = sure test hs put in
     let s = settled_link test hs c r p t put has linked settled in
-    link_shows all t p.client s.link s.stream s.site.core.store name (subst (λ v. LinkedAs v all p.client s.link s.stream) delta s.linked) all_sure.stamped.unique all_sure.ranged.stamps s.known s.quiet s.nothing ∙ shown_is test hs c r p t name s
+    link_shows all t p.client s.link (started p.client.cluster s.stream) s.site.core.store name (subst (λ v. LinkedTo v all p.client s.link s.stream) delta s.linked).1 all_sure.stamped.unique all_sure.ranged.stamps s.known s.quiet (owes_started p.client.cluster s.site.core.store s.stream t ∙ s.nothing) ∙ shown_is test hs c r p t name s
 
 -- and for clients of the state of the world
 pub settled_agrees : (test : Test) (hs : List Happening) → PutResources hs → SettledAgrees test hs
@@ -136,7 +140,7 @@ settled_agrees test hs put c r p t has sotw linked settled =
     let all : List TypedWrite = made_after test empty_world [] hs in
     let all_sure = sure test hs put in
     let s = settled_link test hs c r p t put has linked settled in
-    let shows = sotw_link_shows all t p.client s.link s.stream s.site.core.store (subst (λ v. LinkedAs v all p.client s.link s.stream) sotw s.linked) all_sure.stamped.unique all_sure.ranged.stamps s.known s.quiet s.nothing in (
+    let shows = sotw_link_shows all t p.client s.link (started p.client.cluster s.stream) s.site.core.store (subst (λ v. LinkedTo v all p.client s.link s.stream) sotw s.linked).1 all_sure.stamped.unique all_sure.ranged.stamps s.known s.quiet (owes_started p.client.cluster s.site.core.store s.stream t ∙ s.nothing) in (
       λ complete name. shows.exact name complete ∙ ap (option_map (λ h. h.body)) (shown_is test hs c r p t name s),
       (λ name h is. shows.agrees name h (shown_is test hs c r p t name s ∙ is), λ name unwanted. shows.within name (ap (λ w. is_wanted t w name) (sym s.wanted) ∙ unwanted)),
     )

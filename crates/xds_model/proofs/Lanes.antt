@@ -10,7 +10,7 @@ use Rattle.xds_resource.specs.Types.{row}
 use Rattle.xds_resource.specs.Stamps.{max_counter}
 use Rattle.xds_resource.specs.Writes.{StampedWrite, text_cmp}
 use Rattle.xds_resource.proofs.NameMaps.{same_names}
-use Rattle.xds_interest.specs.Interests.{covers}
+use Rattle.xds_interest.specs.Interests.{reaches}
 use Rattle.xds_interest.specs.Asked.{Asked, delta_asked}
 use Rattle.xds_interest.specs.Touches.{touches, delta_touch}
 use Rattle.xds_interest.proofs.AskedLaws.{delta_touch_is_a_set}
@@ -43,12 +43,12 @@ abbrev pub IsMade : List TypedWrite → TypeName → List ℕ → Holding → Ty
 IsMade all t name h = (w : StampedWrite) × Contains all (t, w) × (w.name ≡ name) × (holding_of w ≡ Some h)
 
 -- what is kept of the requests where these texts are wanted
-abbrev pub asking : TypeName → Wants → Asked
-asking t w = record { begun = true; named = false; interest = interest t w }
+abbrev pub asking : List ℕ → TypeName → Wants → Asked
+asking cluster t w = record { begun = true; named = false; interest = interest t cluster w }
 
 -- the client asked for the type on its stream, and its session has its interest; or it didn't, and wants nothing
-abbrev pub Asks : TypeName → Session → Shelf → Type 0
-Asks t s f = ((f.asked ≡ true) × (s.asked ≡ asking t f.wants)) ⊎ ((f.asked ≡ false) × (s ≡ unopened) × (wants_some f.wants ≡ false))
+abbrev pub Asks : List ℕ → TypeName → Session → Shelf → Type 0
+Asks cluster t s f = ((f.asked ≡ true) × (s.asked ≡ asking cluster t f.wants)) ⊎ ((f.asked ≡ false) × (s ≡ unopened cluster) × (wants_some f.wants ≡ false))
 
 -- what a response states, and what it removes
 abbrev pub stated_in : TypeName → DraftedDelta → Cache
@@ -72,8 +72,8 @@ Awaits all t n None w (Some d) = ⊥
 Awaits all t n (Some sent) w None = ⊥
 Awaits all t n (Some sent) w (Some d) = Delivers all t n sent w d
 
-pub record Abreast (all : List TypedWrite) (t : TypeName) (s : Session) (down : Option DraftedDelta) (f : Shelf) : Type 0 where
-  pub asks : Asks t s f
+pub record Abreast (cluster : List ℕ) (all : List TypedWrite) (t : TypeName) (s : Session) (down : Option DraftedDelta) (f : Shelf) : Type 0 where
+  pub asks : Asks cluster t s f
   pub awaits : Awaits all t s.account.nonce s.account.sent f.wants down
   pub told : (name : List ℕ) → IsTold (finmap.get s.account.beliefs name) (finmap.get f.cache name)
   pub none : (name : List ℕ) → IsNone (finmap.get s.account.beliefs name) (finmap.get f.cache name)
@@ -81,9 +81,9 @@ pub record Abreast (all : List TypedWrite) (t : TypeName) (s : Session) (down : 
   pub made : (name : List ℕ) (h : Holding) → finmap.get f.cache name ≡ Some h → IsMade all t name h
 
 -- what a session asked for, where the client asked
-pub asked_of : (t : TypeName) (s : Session) (f : Shelf) → f.asked ≡ true → Asks t s f → s.asked ≡ asking t f.wants
-asked_of t s f asked (inl is) = is.1
-asked_of t s f asked (inr never) = let not_asked : true ≡ false = sym asked ∙ never.0 in absurd cc
+pub asked_of : (cluster : List ℕ) (t : TypeName) (s : Session) (f : Shelf) → f.asked ≡ true → Asks cluster t s f → s.asked ≡ asking cluster t f.wants
+asked_of cluster t s f asked (inl is) = is.1
+asked_of cluster t s f asked (inr never) = let not_asked : true ≡ false = sym asked ∙ never.0 in absurd cc
 
 -- ---- what awaits
 
@@ -110,7 +110,7 @@ awaits_none all t n (Some sent) w is = absurd cc
 pub believed_by_name : (v : VariantName) (t : TypeName) (s : Session) (answer : Answer) (names : Names) (q : List ℕ)
     → finmap.get (taken v t s answer names).account.beliefs q
     ≡ resumed_after (finmap.get names.versions q)
-    (believed_after (touches names.touched q) (covers names.asked.interest q) (set.contains names.mentioned q) (finmap.get (settled v t s.account answer.nonce answer.rejects).beliefs q))
+    (believed_after (touches names.touched q) (reaches names.asked.interest q) (set.contains names.mentioned q) (finmap.get (settled v t s.account answer.nonce answer.rejects).beliefs q))
 believed_by_name v t s answer names q =
     let before : Beliefs = (settled v t s.account answer.nonce answer.rejects).beliefs in
     resumed_by_name names.versions (beliefs_taken names.asked.interest names.touched names.mentioned before) q
@@ -152,17 +152,17 @@ none_left (e ∷ es) is = absurd cc
 pub no_texts : texts finmap.empty ≡ []
 no_texts = ap (map (λ e. e.0)) (none_left (finmap.entries {R = text_cmp} finmap.empty) (sym (finmap.len-entries {R = text_cmp} finmap.empty) ∙ finmap.len-empty text_cmp (Unit {0})))
 
-asked_again : (t : TypeName) (w : Wants) → delta_asked t (asking t w) (record { subscribe = []; unsubscribe = [] }) ≡ asking t w
-asked_again t w =
+asked_again : (cluster : List ℕ) (t : TypeName) (w : Wants) → delta_asked t (asking cluster t w) (record { subscribe = []; unsubscribe = [] }) ≡ asking cluster t w
+asked_again cluster t w =
     ap (λ x. record { begun = true; named = false; interest = x })
-    (ap (λ names. (delta_asked t (asking t w) (record { subscribe = names; unsubscribe = names })).interest) (sym no_texts) ∙ sym (change_is_asked t finmap.empty finmap.empty w) ∙ ap (interest t) (same_wants w))
+    (ap (λ names. (delta_asked t (asking cluster t w) (record { subscribe = names; unsubscribe = names })).interest) (sym no_texts) ∙ sym (change_is_asked t cluster finmap.empty finmap.empty w) ∙ ap (interest t cluster) (same_wants w))
 
 -- the names of an answer
-abbrev answer_names : TypeName → Wants → Names
-answer_names t w = delta_names t (asking t w) (record { subscribe = []; unsubscribe = [] }) finmap.empty
+abbrev answer_names : List ℕ → TypeName → Wants → Names
+answer_names cluster t w = delta_names t (asking cluster t w) (record { subscribe = []; unsubscribe = [] }) finmap.empty
 
-pub record Answered (t : TypeName) (w : Wants) (s after : Session) (sent : Sent) (rejects : Bool) : Type 0 where
-  pub asked : after.asked ≡ asking t w
+pub record Answered (cluster : List ℕ) (t : TypeName) (w : Wants) (s after : Session) (sent : Sent) (rejects : Bool) : Type 0 where
+  pub asked : after.asked ≡ asking cluster t w
   pub quiet : after.account.sent ≡ None
   pub beliefs : (q : List ℕ) → finmap.get after.account.beliefs q ≡ finmap.get (answered Delta t s.account sent rejects).beliefs q
 
@@ -171,18 +171,18 @@ answered_quiet t a sent true = refl
 answered_quiet t a sent false = refl
 
 -- the session after an answer to what it sent
-pub after_answer : (t : TypeName) (w : Wants) (s : Session) (nonce : List ℕ) (fault : Option (List ℕ)) (sent : Sent) → s.asked ≡ asking t w → s.account.sent ≡ Some sent → bytes_eq nonce (nonce_text s.account.nonce) ≡ true
-    → Answered t w s (take t s (delta_answer t nonce fault)) sent (is_some (option_map failure fault))
-after_answer t w s nonce fault sent asked has same =
+pub after_answer : (cluster : List ℕ) (t : TypeName) (w : Wants) (s : Session) (nonce : List ℕ) (fault : Option (List ℕ)) (sent : Sent) → s.asked ≡ asking cluster t w → s.account.sent ≡ Some sent → bytes_eq nonce (nonce_text s.account.nonce) ≡ true
+    → Answered cluster t w s (take t s (delta_answer t nonce fault)) sent (is_some (option_map failure fault))
+after_answer cluster t w s nonce fault sent asked has same =
     let m : DeltaRequest = delta_answer t nonce fault in
-    let is : take t s m ≡ taken Delta t s (answer_in m) (answer_names t w) = take_is t s m (taken_if_sent s nonce sent has) ∙ ap (λ a. taken Delta t s (answer_in m) (delta_names t a (mention m) finmap.empty)) asked in
+    let is : take t s m ≡ taken Delta t s (answer_in m) (answer_names cluster t w) = take_is t s m (taken_if_sent s nonce sent has) ∙ ap (λ a. taken Delta t s (answer_in m) (delta_names t a (mention m) finmap.empty)) asked in
     let account : settled Delta t s.account nonce (is_some (option_map failure fault)) ≡ answered Delta t s.account sent (is_some (option_map failure fault)) = settles Delta t s.account nonce (is_some (option_map failure fault)) sent has same in
     record {
-      asked = ap (λ x. x.asked) is ∙ asked_again t w;
-      quiet = ap (λ x. x.account.sent) is ∙ ap (λ (a : Account). option_map (λ x. touched_since x (answer_names t w).touched) a.sent) account
-          ∙ ap (option_map (λ x. touched_since x (answer_names t w).touched)) (answered_quiet t s.account sent (is_some (option_map failure fault)));
-      beliefs = λ q. ap (λ x. finmap.get x.account.beliefs q) is ∙ believed_by_name Delta t s (answer_in m) (answer_names t w) q
-          ∙ nothing_resumed (believed_after (touches (answer_names t w).touched q) (covers (answer_names t w).asked.interest q) (set.contains (answer_names t w).mentioned q) (finmap.get (settled Delta t s.account nonce (is_some (option_map failure fault))).beliefs q)) q
-          ∙ ap (λ b. believed_after b (covers (answer_names t w).asked.interest q) (set.contains (answer_names t w).mentioned q) (finmap.get (settled Delta t s.account nonce (is_some (option_map failure fault))).beliefs q)) (unmentioned t q)
+      asked = ap (λ x. x.asked) is ∙ asked_again cluster t w;
+      quiet = ap (λ x. x.account.sent) is ∙ ap (λ (a : Account). option_map (λ x. touched_since x (answer_names cluster t w).touched) a.sent) account
+          ∙ ap (option_map (λ x. touched_since x (answer_names cluster t w).touched)) (answered_quiet t s.account sent (is_some (option_map failure fault)));
+      beliefs = λ q. ap (λ x. finmap.get x.account.beliefs q) is ∙ believed_by_name Delta t s (answer_in m) (answer_names cluster t w) q
+          ∙ nothing_resumed (believed_after (touches (answer_names cluster t w).touched q) (reaches (answer_names cluster t w).asked.interest q) (set.contains (answer_names cluster t w).mentioned q) (finmap.get (settled Delta t s.account nonce (is_some (option_map failure fault))).beliefs q)) q
+          ∙ ap (λ b. believed_after b (reaches (answer_names cluster t w).asked.interest q) (set.contains (answer_names cluster t w).mentioned q) (finmap.get (settled Delta t s.account nonce (is_some (option_map failure fault))).beliefs q)) (unmentioned t q)
           ∙ ap (λ (a : Account). finmap.get a.beliefs q) account;
     }

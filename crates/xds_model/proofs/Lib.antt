@@ -9,6 +9,7 @@ pub mod Delivering
 pub mod Queues
 pub mod LinkSteps
 pub mod Firsts
+pub mod Starting
 pub mod LinkTakes
 pub mod SotwFolding
 pub mod SotwLanes

@@ -6,7 +6,6 @@ use Rattle.std.specs.List.{cons_option, list_any}
 use Rattle.std.specs.FinMap as finmap
 use Rattle.std.proofs.Math.Bool.{and-false}
 use Rattle.xds_resource.specs.declared.types.TypeName.{TypeName}
-use Rattle.xds_resource.specs.declared.types.TypeName.TheVariants.{Cluster, Endpoint, Listener, Route}
 use Rattle.xds_resource.specs.declared.refusal.Refusal.{Refusal}
 use Rattle.xds_resource.specs.declared.refusal.Refusal.TheVariants.{NoStream}
 use Rattle.xds_resource.specs.Types.{row, types, is_same_type}
@@ -22,6 +21,8 @@ use Rattle.xds_message.specs.DeltaMessages.{DeltaRequest}
 use Rattle.xds_draft.specs.declared.draft.Draft.{Draft}
 use Rattle.xds_draft.specs.declared.draft.Draft.TheVariants as drafts
 use Rattle.xds_draft.specs.Drafts.{DraftedDelta, delta_message_of}
+use Rattle.xds_draft.specs.DraftTexts.{kind_of}
+use Rattle.xds_owed.specs.declared.variant.VariantName.TheVariants as variants
 use Rattle.xds_owed.specs.declared.entry.Entry.TheVariants.{Told}
 use Rattle.xds_ledger.specs.Sessions.{Session, unopened}
 use Rattle.xds_delta.specs.Polls.{take, mention}
@@ -32,19 +33,20 @@ use Rattle.xds_shelf.specs.Faults.{Test}
 use Rattle.xds_cache.specs.Clients.{Client, shelf, with_shelf, node, is_sent, shelf_after, changed, linked, unlinked, addressing, addressed_or, if_asked}
 use Rattle.xds_shelf.specs.Deliveries.{delta_delivery, fault_in, delivered}
 use Rattle.xds_cache.specs.Sends.{delta_request, delta_answer, delta_first}
-use Rattle.xds_shelf.specs.Shelves.{held_version}
-use Rattle.xds_shelf.specs.Shelves.{held_versions}
+use Rattle.xds_shelf.specs.Shelves.{cached_version}
+use Rattle.xds_shelf.specs.Shelves.{cached_versions}
 use Rattle.xds_cache.specs.Receives.{Outcome, delta_receive, delta_answered, if_addressed}
 use Rattle.xds_cache.proofs.Interests.{kept_by_name, holds_what_is_wanted, first_change_is_asked, first_is_asked}
 use Rattle.xds_model.specs.declared.event.ClientKind.TheVariants.{Delta}
 use Rattle.xds_model.specs.Worlds.{Link, received_in, received_by, opening_requests}
 use Rattle.xds_model.specs.Knows.{TypedWrite}
-use Rattle.xds_model.proofs.Replicas.{some_is}
+use Rattle.xds_model.proofs.Replicas.{some_is, at-per_type}
 use Rattle.xds_model.proofs.Folding.{folded, folded_more, taken_more}
 use Rattle.xds_model.proofs.ByOneName.{version_held}
 use Rattle.xds_model.proofs.Lanes.{IsMade, Asks, Abreast, nothing_sent, taken_if_plain, no_texts}
 use Rattle.xds_model.proofs.LaneSteps.{abreast_delivered, taken_delivered, abreast_changed, abreast_first, kept_made}
-use Rattle.xds_model.proofs.Queues.{of_type, lane_up, lane_up-append, of_own_type, of_other_type, AllDelta, all_delta-append, lane_down, all_numbered-append, listed_draft, Lane, Linked}
+use Rattle.xds_model.proofs.Queues.{of_type, lane_up, lane_up-append, of_own_type, of_other_type, AllDelta, all_delta-append, lane_down, all_numbered-append, listed_draft, Lane, Linked, started}
+use Rattle.xds_model.proofs.LinkSteps.{undecided_session, quiet_folded}
 use Rattle.xds_model.proofs.Firsts.{firsts, firsts_by, one_first, once, first_lane}
 use Rattle.xds_writes.proofs.StampedWriteLemmas.{type_of_url-url}
 
@@ -63,23 +65,38 @@ one_down d rest (Some e) is = (ap Some (sym (delta_is (head_is (drafts.Delta d) 
     delta_is : {x y : DraftedDelta} → drafts.Delta x ≡ drafts.Delta y → x ≡ y
     delta_is e = cc
 
+pub not_empty : (d : Draft) (ds es : List Draft) → es ≡ d ∷ ds → es ≡ [] → ⊥
+not_empty d ds es is empty = let never : d ∷ ds ≡ [] = sym is ∙ empty in absurd cc
+
+pub own_first : (d : Draft) (rest ds : List Draft) → ds ≡ d ∷ rest → lane_down (kind_of d) ds ≡ d ∷ lane_down (kind_of d) rest
+own_first d rest ds is = ap (lane_down (kind_of d)) is ∙ ap (λ b. if b then d ∷ lane_down (kind_of d) rest else lane_down (kind_of d) rest) (is_same_type-same (kind_of d))
+
+-- while the stream's variant isn't decided, no response is under way
+pub none_brought : (all : List TypedWrite) (c : Client) (l : Link) (x : Stream) (d : Draft) (rest : List Draft) → l.down ≡ d ∷ rest → x.variant ≡ None → Linked all c l x → ⊥
+none_brought all c l x d rest down none linked =
+    let t : TypeName = kind_of d in
+    let lane = linked.lanes t in
+    let quiet = ap (λ (s : Session). s.account.sent) (undecided_session variants.Delta c.cluster x t linked.variant none) in
+    let nothing = nothing_sent all t (folded t (at x.sessions t) (lane_up t l.up)).account.nonce (folded t (at x.sessions t) (lane_up t l.up)).account.sent (shelf c t).wants lane.down (quiet_folded t (at x.sessions t) (lane_up t l.up) quiet) lane.abreast.awaits in
+    not_empty d (lane_down t rest) (lane_down t l.down) (own_first d rest l.down down) (lane.downs_are ∙ ap listed_draft nothing)
+
 -- the lane of the type of a response that the client took
-lane_delivered : (all : List TypedWrite) (t : TypeName) (test : Test) (s : Session) (count : ℕ) (ups : List DeltaRequest) (rest : List Draft) (d : DraftedDelta) (f : Shelf) → Lane all t s count ups (drafts.Delta d ∷ rest) f
-    → Lane all t s count (ups ++ delta_answer t d.nonce (fault_in t test (delta_delivery (delta_message_of d))) ∷ []) rest (delivered t test f (delta_delivery (delta_message_of d)))
-lane_delivered all t test s count ups rest d f lane =
+lane_delivered : (cluster : List ℕ) (all : List TypedWrite) (t : TypeName) (test : Test) (s : Session) (count : ℕ) (ups : List DeltaRequest) (rest : List Draft) (d : DraftedDelta) (f : Shelf) → Lane cluster all t s count ups (drafts.Delta d ∷ rest) f
+    → Lane cluster all t s count (ups ++ delta_answer t d.nonce (fault_in t test (delta_delivery (delta_message_of d))) ∷ []) rest (delivered t test f (delta_delivery (delta_message_of d)))
+lane_delivered cluster all t test s count ups rest d f lane =
     let fault : Option (List ℕ) = fault_in t test (delta_delivery (delta_message_of d)) in
     let a : DeltaRequest = delta_answer t d.nonce fault in
     let here = one_down d rest lane.down lane.downs_are in
-    let abreast : Abreast all t (folded t s ups) (Some d) f = subst (λ x. Abreast all t (folded t s ups) x f) here.0 lane.abreast in
+    let abreast : Abreast cluster all t (folded t s ups) (Some d) f = subst (λ x. Abreast cluster all t (folded t s ups) x f) here.0 lane.abreast in
     let number = lane.answered d here.0 in
     record {
       down = None;
       downs_are = here.1;
       stands = lane.stands;
-      taken = taken_more t s ups a lane.taken (taken_delivered all t (folded t s ups) f d d.nonce abreast);
+      taken = taken_more t s ups a lane.taken (taken_delivered cluster all t (folded t s ups) f d d.nonce abreast);
       numbered = all_numbered-append count ups (a ∷ []) lane.numbered ((number.0, number.1, number.2), tt);
       answered = λ e is. absurd (never e is);
-      abreast = subst (λ x. Abreast all t x None (delivered t test f (delta_delivery (delta_message_of d)))) (sym (folded_more t s ups a)) (abreast_delivered all t test (folded t s ups) f d abreast);
+      abreast = subst (λ x. Abreast cluster all t x None (delivered t test f (delta_delivery (delta_message_of d)))) (sym (folded_more t s ups a)) (abreast_delivered cluster all t test (folded t s ups) f d abreast);
     }
   where
     never : (e : DraftedDelta) → ◌≡◌ {A = Option DraftedDelta} None (Some e) → ⊥
@@ -93,27 +110,27 @@ other_more : (s t : TypeName) (ms : List Message) (a : DeltaRequest) → a.type_
 other_more s t ms a url other = lane_up-append t ms (streams.Delta a ∷ []) ∙ ap (λ o. lane_up t ms ++ cons_option o []) (of_other_type s t a url other) ∙ append-nil (lane_up t ms)
 
 down_lane : (all : List TypedWrite) (test : Test) (c : Client) (l : Link) (x : Stream) (d : DraftedDelta) (rest : List Draft) (t : TypeName) → ((d.kind ≡ t) × (is_same_type d.kind t ≡ true)) ⊎ ((d.kind ≢ t) × (is_same_type d.kind t ≡ false))
-    → Lane all t (at x.sessions t) x.count (lane_up t l.up) (lane_down t (drafts.Delta d ∷ rest)) (shelf c t)
+    → Lane c.cluster all t (at x.sessions t) x.count (lane_up t l.up) (lane_down t (drafts.Delta d ∷ rest)) (shelf c t)
     → let s = d.kind in
-    Lane all t (at x.sessions t) x.count (lane_up t (l.up ++ streams.Delta (delta_answer s d.nonce (fault_in s test (delta_delivery (delta_message_of d)))) ∷ [])) (lane_down t rest)
+    Lane c.cluster all t (at x.sessions t) x.count (lane_up t (l.up ++ streams.Delta (delta_answer s d.nonce (fault_in s test (delta_delivery (delta_message_of d)))) ∷ [])) (lane_down t rest)
     (at (with_at c.shelves s (delivered s test (shelf c s) (delta_delivery (delta_message_of d)))) t)
 down_lane all test c l x d rest t (inl same) lane =
     let s : TypeName = d.kind in
     let a : DeltaRequest = delta_answer s d.nonce (fault_in s test (delta_delivery (delta_message_of d))) in
     let f : Shelf = delivered s test (shelf c s) (delta_delivery (delta_message_of d)) in
-    let here : Lane all s (at x.sessions s) x.count (lane_up s l.up) (drafts.Delta d ∷ lane_down s rest) (shelf c s) =
-    subst (λ b. Lane all s (at x.sessions s) x.count (lane_up s l.up) (if b then drafts.Delta d ∷ lane_down s rest else lane_down s rest) (shelf c s)) (is_same_type-same s)
-    (subst (λ r. Lane all r (at x.sessions r) x.count (lane_up r l.up) (lane_down r (drafts.Delta d ∷ rest)) (shelf c r)) (sym same.0) lane) in
-    subst (λ r. Lane all r (at x.sessions r) x.count (lane_up r (l.up ++ streams.Delta a ∷ [])) (lane_down r rest) (at (with_at c.shelves s f) r)) same.0
-    (subst (λ ups. Lane all s (at x.sessions s) x.count ups (lane_down s rest) (at (with_at c.shelves s f) s)) (sym (own_more s l.up a refl))
-    (subst (Lane all s (at x.sessions s) x.count (lane_up s l.up ++ a ∷ []) (lane_down s rest)) (sym (at-with_at c.shelves s f)) (lane_delivered all s test (at x.sessions s) x.count (lane_up s l.up) (lane_down s rest) d (shelf c s) here)))
+    let here : Lane c.cluster all s (at x.sessions s) x.count (lane_up s l.up) (drafts.Delta d ∷ lane_down s rest) (shelf c s) =
+    subst (λ b. Lane c.cluster all s (at x.sessions s) x.count (lane_up s l.up) (if b then drafts.Delta d ∷ lane_down s rest else lane_down s rest) (shelf c s)) (is_same_type-same s)
+    (subst (λ r. Lane c.cluster all r (at x.sessions r) x.count (lane_up r l.up) (lane_down r (drafts.Delta d ∷ rest)) (shelf c r)) (sym same.0) lane) in
+    subst (λ r. Lane c.cluster all r (at x.sessions r) x.count (lane_up r (l.up ++ streams.Delta a ∷ [])) (lane_down r rest) (at (with_at c.shelves s f) r)) same.0
+    (subst (λ ups. Lane c.cluster all s (at x.sessions s) x.count ups (lane_down s rest) (at (with_at c.shelves s f) s)) (sym (own_more s l.up a refl))
+    (subst (Lane c.cluster all s (at x.sessions s) x.count (lane_up s l.up ++ a ∷ []) (lane_down s rest)) (sym (at-with_at c.shelves s f)) (lane_delivered c.cluster all s test (at x.sessions s) x.count (lane_up s l.up) (lane_down s rest) d (shelf c s) here)))
 down_lane all test c l x d rest t (inr other) lane =
     let s : TypeName = d.kind in
     let a : DeltaRequest = delta_answer s d.nonce (fault_in s test (delta_delivery (delta_message_of d))) in
     let f : Shelf = delivered s test (shelf c s) (delta_delivery (delta_message_of d)) in
-    subst (λ ups. Lane all t (at x.sessions t) x.count ups (lane_down t rest) (at (with_at c.shelves s f) t)) (sym (other_more s t l.up a refl other.1))
-    (subst (Lane all t (at x.sessions t) x.count (lane_up t l.up) (lane_down t rest)) (sym (at-with_at_other c.shelves s f t (λ e. other.0 (sym e))))
-    (subst (λ b. Lane all t (at x.sessions t) x.count (lane_up t l.up) (if b then drafts.Delta d ∷ lane_down t rest else lane_down t rest) (shelf c t)) other.1 lane))
+    subst (λ ups. Lane c.cluster all t (at x.sessions t) x.count ups (lane_down t rest) (at (with_at c.shelves s f) t)) (sym (other_more s t l.up a refl other.1))
+    (subst (Lane c.cluster all t (at x.sessions t) x.count (lane_up t l.up) (lane_down t rest)) (sym (at-with_at_other c.shelves s f t (λ e. other.0 (sym e))))
+    (subst (λ b. Lane c.cluster all t (at x.sessions t) x.count (lane_up t l.up) (if b then drafts.Delta d ∷ lane_down t rest else lane_down t rest) (shelf c t)) other.1 lane))
 
 -- what a client took
 pub record IsReceived (test : Test) (c : Client) (d : Draft) (q : Client × Message) : Type 0 where
@@ -158,7 +175,7 @@ linked_down all test c l x d rest q down is linked =
       counted = linked.counted;
       deltas = all_delta-append l.up (streams.Delta a ∷ []) linked.deltas ((s, a, refl, refl), tt);
       lanes = λ t.
-          down_lane all test c l x is.draft rest t (same_type s t) (subst (λ ds. Lane all t (at x.sessions t) x.count (lane_up t l.up) (lane_down t ds) (shelf c t)) (down ∙ ap (λ k. k ∷ rest) is.is) (linked.lanes t));
+          down_lane all test c l x is.draft rest t (same_type s t) (subst (λ ds. Lane c.cluster all t (at x.sessions t) x.count (lane_up t l.up) (lane_down t ds) (shelf c t)) (down ∙ ap (λ k. k ∷ rest) is.is) (linked.lanes t));
     })
 
 -- ---- nothing wanted
@@ -178,13 +195,13 @@ nothing_wanted t w q none = (λ i. is_some (absent q i) || ((row t).is_complete 
 
 -- ---- a type that wasn't asked for
 
-asks_none : (t : TypeName) (s : Session) (f : Shelf) → f.asked ≡ false → Asks t s f → (s ≡ unopened) × (wants_some f.wants ≡ false)
-asks_none t s f not_asked (inl asked) = let never : false ≡ true = sym not_asked ∙ asked.0 in absurd cc
-asks_none t s f not_asked (inr never) = (never.1, never.2)
+asks_none : (cluster : List ℕ) (t : TypeName) (s : Session) (f : Shelf) → f.asked ≡ false → Asks cluster t s f → (s ≡ unopened cluster) × (wants_some f.wants ≡ false)
+asks_none cluster t s f not_asked (inl asked) = let never : false ≡ true = sym not_asked ∙ asked.0 in absurd cc
+asks_none cluster t s f not_asked (inr never) = (never.1, never.2)
 
 -- nothing is held, and nothing is believed
-pub abreast_unopened : (all : List TypedWrite) (t : TypeName) (f : Shelf) → f.asked ≡ false → wants_some f.wants ≡ false → ((q : List ℕ) → finmap.get f.cache q ≡ None) → Abreast all t unopened None f
-abreast_unopened all t f not_asked none empty = record {
+pub abreast_unopened : (cluster : List ℕ) (all : List TypedWrite) (t : TypeName) (f : Shelf) → f.asked ≡ false → wants_some f.wants ≡ false → ((q : List ℕ) → finmap.get f.cache q ≡ None) → Abreast cluster all t (unopened cluster) None f
+abreast_unopened cluster all t f not_asked none empty = record {
   asks = inr (not_asked, refl, none);
   awaits = tt;
   told = λ q v is. let never : None ≡ Some (Told v) = sym (finmap.get-empty text_cmp q) ∙ is in absurd cc;
@@ -196,9 +213,9 @@ abreast_unopened all t f not_asked none empty = record {
 -- ---- Change
 
 -- what is under way and kept once the client wants something else of a type, and says so
-lane_changed : (all : List TypedWrite) (t : TypeName) (who : Option Identity) (subscribe unsubscribe : Wants) (s : Session) (count : ℕ) (ups : List DeltaRequest) (downs : List Draft) (f : Shelf) → f.asked ≡ true → Lane all t s count ups downs f
-    → Lane all t s count (ups ++ delta_request t who subscribe unsubscribe finmap.empty ∷ []) downs (wanting t (wants_after subscribe unsubscribe f.wants) true f)
-lane_changed all t who subscribe unsubscribe s count ups downs f asked lane =
+lane_changed : (cluster : List ℕ) (all : List TypedWrite) (t : TypeName) (who : Option Identity) (subscribe unsubscribe : Wants) (s : Session) (count : ℕ) (ups : List DeltaRequest) (downs : List Draft) (f : Shelf) → f.asked ≡ true → Lane cluster all t s count ups downs f
+    → Lane cluster all t s count (ups ++ delta_request t who subscribe unsubscribe finmap.empty ∷ []) downs (wanting t (wants_after subscribe unsubscribe f.wants) true f)
+lane_changed cluster all t who subscribe unsubscribe s count ups downs f asked lane =
     let q : DeltaRequest = delta_request t who subscribe unsubscribe finmap.empty in
     record {
       down = lane.down;
@@ -207,24 +224,24 @@ lane_changed all t who subscribe unsubscribe s count ups downs f asked lane =
       taken = taken_more t s ups q lane.taken (taken_if_plain (folded t s ups));
       numbered = all_numbered-append count ups (q ∷ []) lane.numbered ((zero, omega arith, refl), tt);
       answered = lane.answered;
-      abreast = subst (λ x. Abreast all t x lane.down (wanting t (wants_after subscribe unsubscribe f.wants) true f)) (sym (folded_more t s ups q)) (abreast_changed all t who subscribe unsubscribe (folded t s ups) lane.down f asked lane.abreast);
+      abreast = subst (λ x. Abreast cluster all t x lane.down (wanting t (wants_after subscribe unsubscribe f.wants) true f)) (sym (folded_more t s ups q)) (abreast_changed cluster all t who subscribe unsubscribe (folded t s ups) lane.down f asked lane.abreast);
     }
 
 -- the same for the first time on its stream
-lane_asked : (all : List TypedWrite) (t : TypeName) (who : Option Identity) (subscribe unsubscribe : Wants) (s : Session) (count : ℕ) (ups : List DeltaRequest) (downs : List Draft) (f : Shelf) → f.asked ≡ false
-    → wants_some (wants_after subscribe unsubscribe f.wants) ≡ true → Lane all t s count ups downs f
-    → Lane all t s count (ups ++ delta_request t who subscribe unsubscribe finmap.empty ∷ []) downs (wanting t (wants_after subscribe unsubscribe f.wants) true f)
-lane_asked all t who subscribe unsubscribe s count ups downs f not_asked some lane =
+lane_asked : (cluster : List ℕ) (all : List TypedWrite) (t : TypeName) (who : Option Identity) (subscribe unsubscribe : Wants) (s : Session) (count : ℕ) (ups : List DeltaRequest) (downs : List Draft) (f : Shelf) → f.asked ≡ false
+    → wants_some (wants_after subscribe unsubscribe f.wants) ≡ true → Lane cluster all t s count ups downs f
+    → Lane cluster all t s count (ups ++ delta_request t who subscribe unsubscribe finmap.empty ∷ []) downs (wanting t (wants_after subscribe unsubscribe f.wants) true f)
+lane_asked cluster all t who subscribe unsubscribe s count ups downs f not_asked some lane =
     let q : DeltaRequest = delta_request t who subscribe unsubscribe finmap.empty in
     let w : Wants = wants_after subscribe unsubscribe f.wants in
-    let before = asks_none t (folded t s ups) f not_asked lane.abreast.asks in
+    let before = asks_none cluster t (folded t s ups) f not_asked lane.abreast.asks in
     let none : lane.down ≡ None = nothing_sent all t (folded t s ups).account.nonce (folded t s ups).account.sent f.wants lane.down (ap (λ x. x.account.sent) before.0) lane.abreast.awaits in
     let empty : f.wants ≡ finmap.empty = empty_wants f.wants before.1 in
     let absent : (name : List ℕ) → finmap.get (kept_of t w f.cache) name ≡ None =
     λ name. kept_by_name t w f.cache name ∙ ap (λ o. if is_wanted t w name then o else None) (lane.abreast.within name (nothing_wanted t f.wants name before.1)) ∙ if_none (is_wanted t w name) in
-    let first : Abreast all t (take t unopened q) None (wanting t w true f) =
-    abreast_first all t q (wanting t w true f) refl
-    (subst (λ (x : Wants). wants_some (wants_after subscribe unsubscribe x) ≡ true → (delta_asked t unasked (mention q)).interest ≡ interest t (wants_after subscribe unsubscribe x)) (sym empty) (first_change_is_asked t subscribe unsubscribe) some)
+    let first : Abreast cluster all t (take t (unopened cluster) q) None (wanting t w true f) =
+    abreast_first cluster all t q (wanting t w true f) refl
+    (subst (λ (x : Wants). wants_some (wants_after subscribe unsubscribe x) ≡ true → (delta_asked t (unasked cluster) (mention q)).interest ≡ interest t cluster (wants_after subscribe unsubscribe x)) (sym empty) (first_change_is_asked t cluster subscribe unsubscribe) some)
     (λ name. finmap.get-empty text_cmp name ∙ ap version_held (sym (absent name))) (λ name unwanted. absent name)
     (λ name h held. absurd (never h (sym (absent name) ∙ held))) in
     record {
@@ -234,7 +251,7 @@ lane_asked all t who subscribe unsubscribe s count ups downs f not_asked some la
       taken = taken_more t s ups q lane.taken (taken_if_plain (folded t s ups));
       numbered = all_numbered-append count ups (q ∷ []) lane.numbered ((zero, omega arith, refl), tt);
       answered = λ d is. absurd (never_draft d is);
-      abreast = subst (λ x. Abreast all t x None (wanting t w true f)) (sym (folded_more t s ups q ∙ ap (λ x. take t x q) before.0)) first;
+      abreast = subst (λ x. Abreast cluster all t x None (wanting t w true f)) (sym (folded_more t s ups q ∙ ap (λ x. take t x q) before.0)) first;
     }
   where
     if_none : (b : Bool) → ◌≡◌ {A = Option Holding} (if b then None else None) None
@@ -248,10 +265,10 @@ lane_asked all t who subscribe unsubscribe s count ups downs f not_asked some la
     never_draft d e = cc
 
 -- what isn't sent: nothing is wanted, and the type wasn't asked for
-lane_unsent : (all : List TypedWrite) (t : TypeName) (s : Session) (count : ℕ) (ups : List DeltaRequest) (downs : List Draft) (f : Shelf) (w : Wants) → f.asked ≡ false → wants_some w ≡ false → Lane all t s count ups downs f
-    → Lane all t s count ups downs (wanting t w f.asked f)
-lane_unsent all t s count ups downs f w not_asked some lane =
-    let before = asks_none t (folded t s ups) f not_asked lane.abreast.asks in
+lane_unsent : (cluster : List ℕ) (all : List TypedWrite) (t : TypeName) (s : Session) (count : ℕ) (ups : List DeltaRequest) (downs : List Draft) (f : Shelf) (w : Wants) → f.asked ≡ false → wants_some w ≡ false → Lane cluster all t s count ups downs f
+    → Lane cluster all t s count ups downs (wanting t w f.asked f)
+lane_unsent cluster all t s count ups downs f w not_asked some lane =
+    let before = asks_none cluster t (folded t s ups) f not_asked lane.abreast.asks in
     let none : lane.down ≡ None = nothing_sent all t (folded t s ups).account.nonce (folded t s ups).account.sent f.wants lane.down (ap (λ x. x.account.sent) before.0) lane.abreast.awaits in
     let absent : (name : List ℕ) → finmap.get (kept_of t w f.cache) name ≡ None =
     λ name. kept_by_name t w f.cache name ∙ ap (λ b. if b then finmap.get f.cache name else None) (nothing_wanted t w name some) in
@@ -262,7 +279,7 @@ lane_unsent all t s count ups downs f w not_asked some lane =
       taken = lane.taken;
       numbered = lane.numbered;
       answered = λ d is. absurd (never_draft d is);
-      abreast = subst (λ x. Abreast all t x None (wanting t w f.asked f)) (sym before.0) (abreast_unopened all t (wanting t w f.asked f) not_asked some absent);
+      abreast = subst (λ x. Abreast cluster all t x None (wanting t w f.asked f)) (sym before.0) (abreast_unopened cluster all t (wanting t w f.asked f) not_asked some absent);
     }
   where
     never_draft : (d : DraftedDelta) → ◌≡◌ {A = Option DraftedDelta} None (Some d) → ⊥
@@ -272,41 +289,41 @@ lane_unsent all t s count ups downs f w not_asked some lane =
 abbrev pub wished_requests : Bool → DeltaRequest → List Message
 wished_requests sent q = if sent then streams.Delta q ∷ [] else []
 
-lane_wished : (all : List TypedWrite) (t : TypeName) (who : Option Identity) (subscribe unsubscribe : Wants) (s : Session) (count : ℕ) (ms : List Message) (downs : List Draft) (f : Shelf) (asked some : Bool) → f.asked ≡ asked
-    → wants_some (wants_after subscribe unsubscribe f.wants) ≡ some → Lane all t s count (lane_up t ms) downs f
+lane_wished : (cluster : List ℕ) (all : List TypedWrite) (t : TypeName) (who : Option Identity) (subscribe unsubscribe : Wants) (s : Session) (count : ℕ) (ms : List Message) (downs : List Draft) (f : Shelf) (asked some : Bool) → f.asked ≡ asked
+    → wants_some (wants_after subscribe unsubscribe f.wants) ≡ some → Lane cluster all t s count (lane_up t ms) downs f
     → let sent = (if asked then true else some) in
-    Lane all t s count (lane_up t (ms ++ wished_requests sent (delta_request t who subscribe unsubscribe finmap.empty))) downs (wanting t (wants_after subscribe unsubscribe f.wants) (if sent then true else f.asked) f)
-lane_wished all t who subscribe unsubscribe s count ms downs f true some asked is lane =
-    subst (λ ups. Lane all t s count ups downs (wanting t (wants_after subscribe unsubscribe f.wants) true f)) (sym (own_more t ms (delta_request t who subscribe unsubscribe finmap.empty) refl))
-    (lane_changed all t who subscribe unsubscribe s count (lane_up t ms) downs f asked lane)
-lane_wished all t who subscribe unsubscribe s count ms downs f false true asked is lane =
-    subst (λ ups. Lane all t s count ups downs (wanting t (wants_after subscribe unsubscribe f.wants) true f)) (sym (own_more t ms (delta_request t who subscribe unsubscribe finmap.empty) refl))
-    (lane_asked all t who subscribe unsubscribe s count (lane_up t ms) downs f asked is lane)
-lane_wished all t who subscribe unsubscribe s count ms downs f false false asked is lane =
-    subst (λ l. Lane all t s count (lane_up t l) downs (wanting t (wants_after subscribe unsubscribe f.wants) f.asked f)) (sym (append-nil ms)) (lane_unsent all t s count (lane_up t ms) downs f (wants_after subscribe unsubscribe f.wants) asked is lane)
+    Lane cluster all t s count (lane_up t (ms ++ wished_requests sent (delta_request t who subscribe unsubscribe finmap.empty))) downs (wanting t (wants_after subscribe unsubscribe f.wants) (if sent then true else f.asked) f)
+lane_wished cluster all t who subscribe unsubscribe s count ms downs f true some asked is lane =
+    subst (λ ups. Lane cluster all t s count ups downs (wanting t (wants_after subscribe unsubscribe f.wants) true f)) (sym (own_more t ms (delta_request t who subscribe unsubscribe finmap.empty) refl))
+    (lane_changed cluster all t who subscribe unsubscribe s count (lane_up t ms) downs f asked lane)
+lane_wished cluster all t who subscribe unsubscribe s count ms downs f false true asked is lane =
+    subst (λ ups. Lane cluster all t s count ups downs (wanting t (wants_after subscribe unsubscribe f.wants) true f)) (sym (own_more t ms (delta_request t who subscribe unsubscribe finmap.empty) refl))
+    (lane_asked cluster all t who subscribe unsubscribe s count (lane_up t ms) downs f asked is lane)
+lane_wished cluster all t who subscribe unsubscribe s count ms downs f false false asked is lane =
+    subst (λ l. Lane cluster all t s count (lane_up t l) downs (wanting t (wants_after subscribe unsubscribe f.wants) f.asked f)) (sym (append-nil ms)) (lane_unsent cluster all t s count (lane_up t ms) downs f (wants_after subscribe unsubscribe f.wants) asked is lane)
 
 -- what a message of another type adds
-lane_beside : (all : List TypedWrite) (s t : TypeName) (k : Session) (count : ℕ) (ms : List Message) (downs : List Draft) (f : Shelf) (q : DeltaRequest) (sent : Bool) → q.type_url ≡ (row s).url → is_same_type s t ≡ false
-    → Lane all t k count (lane_up t ms) downs f → Lane all t k count (lane_up t (ms ++ wished_requests sent q)) downs f
-lane_beside all s t k count ms downs f q true url other lane = subst (λ ups. Lane all t k count ups downs f) (sym (other_more s t ms q url other)) lane
-lane_beside all s t k count ms downs f q false url other lane = subst (λ l. Lane all t k count (lane_up t l) downs f) (sym (append-nil ms)) lane
+lane_beside : (cluster : List ℕ) (all : List TypedWrite) (s t : TypeName) (k : Session) (count : ℕ) (ms : List Message) (downs : List Draft) (f : Shelf) (q : DeltaRequest) (sent : Bool) → q.type_url ≡ (row s).url → is_same_type s t ≡ false
+    → Lane cluster all t k count (lane_up t ms) downs f → Lane cluster all t k count (lane_up t (ms ++ wished_requests sent q)) downs f
+lane_beside cluster all s t k count ms downs f q true url other lane = subst (λ ups. Lane cluster all t k count ups downs f) (sym (other_more s t ms q url other)) lane
+lane_beside cluster all s t k count ms downs f q false url other lane = subst (λ l. Lane cluster all t k count (lane_up t l) downs f) (sym (append-nil ms)) lane
 
 change_lane : (all : List TypedWrite) (c : Client) (l : Link) (x : Stream) (s t : TypeName) (who : Option Identity) (subscribe unsubscribe : Wants) → ((s ≡ t) × (is_same_type s t ≡ true)) ⊎ ((s ≢ t) × (is_same_type s t ≡ false))
-    → Lane all t (at x.sessions t) x.count (lane_up t l.up) (lane_down t l.down) (shelf c t)
+    → Lane c.cluster all t (at x.sessions t) x.count (lane_up t l.up) (lane_down t l.down) (shelf c t)
     → let w = wants_after subscribe unsubscribe (shelf c s).wants in
-    Lane all t (at x.sessions t) x.count (lane_up t (l.up ++ wished_requests (is_sent true (shelf c s) w) (delta_request s who subscribe unsubscribe finmap.empty))) (lane_down t l.down) (at (with_at c.shelves s (shelf_after true s w c)) t)
+    Lane c.cluster all t (at x.sessions t) x.count (lane_up t (l.up ++ wished_requests (is_sent true (shelf c s) w) (delta_request s who subscribe unsubscribe finmap.empty))) (lane_down t l.down) (at (with_at c.shelves s (shelf_after true s w c)) t)
 change_lane all c l x s t who subscribe unsubscribe (inl same) lane =
     let w : Wants = wants_after subscribe unsubscribe (shelf c s).wants in
     let q : DeltaRequest = delta_request s who subscribe unsubscribe finmap.empty in
-    subst (λ r. Lane all r (at x.sessions r) x.count (lane_up r (l.up ++ wished_requests (is_sent true (shelf c s) w) q)) (lane_down r l.down) (at (with_at c.shelves s (shelf_after true s w c)) r)) same.0
-    (subst (Lane all s (at x.sessions s) x.count (lane_up s (l.up ++ wished_requests (is_sent true (shelf c s) w) q)) (lane_down s l.down)) (sym (at-with_at c.shelves s (shelf_after true s w c)))
-    (lane_wished all s who subscribe unsubscribe (at x.sessions s) x.count l.up (lane_down s l.down) (shelf c s) (shelf c s).asked (wants_some w) refl refl
-    (subst (λ r. Lane all r (at x.sessions r) x.count (lane_up r l.up) (lane_down r l.down) (shelf c r)) (sym same.0) lane)))
+    subst (λ r. Lane c.cluster all r (at x.sessions r) x.count (lane_up r (l.up ++ wished_requests (is_sent true (shelf c s) w) q)) (lane_down r l.down) (at (with_at c.shelves s (shelf_after true s w c)) r)) same.0
+    (subst (Lane c.cluster all s (at x.sessions s) x.count (lane_up s (l.up ++ wished_requests (is_sent true (shelf c s) w) q)) (lane_down s l.down)) (sym (at-with_at c.shelves s (shelf_after true s w c)))
+    (lane_wished c.cluster all s who subscribe unsubscribe (at x.sessions s) x.count l.up (lane_down s l.down) (shelf c s) (shelf c s).asked (wants_some w) refl refl
+    (subst (λ r. Lane c.cluster all r (at x.sessions r) x.count (lane_up r l.up) (lane_down r l.down) (shelf c r)) (sym same.0) lane)))
 change_lane all c l x s t who subscribe unsubscribe (inr other) lane =
     let w : Wants = wants_after subscribe unsubscribe (shelf c s).wants in
     let q : DeltaRequest = delta_request s who subscribe unsubscribe finmap.empty in
-    subst (Lane all t (at x.sessions t) x.count (lane_up t (l.up ++ wished_requests (is_sent true (shelf c s) w) q)) (lane_down t l.down)) (sym (at-with_at_other c.shelves s (shelf_after true s w c) t (λ e. other.0 (sym e))))
-    (lane_beside all s t (at x.sessions t) x.count l.up (lane_down t l.down) (shelf c t) q (is_sent true (shelf c s) w) refl other.1 lane)
+    subst (Lane c.cluster all t (at x.sessions t) x.count (lane_up t (l.up ++ wished_requests (is_sent true (shelf c s) w) q)) (lane_down t l.down)) (sym (at-with_at_other c.shelves s (shelf_after true s w c) t (λ e. other.0 (sym e))))
+    (lane_beside c.cluster all s t (at x.sessions t) x.count l.up (lane_down t l.down) (shelf c t) q (is_sent true (shelf c s) w) refl other.1 lane)
 
 wished_deltas : (s : TypeName) (q : DeltaRequest) (sent : Bool) → q.type_url ≡ (row s).url → AllDelta (wished_requests sent q)
 wished_deltas s q true url = ((s, q, refl, url), tt)
@@ -333,8 +350,8 @@ pub record Rests (all : List TypedWrite) (t : TypeName) (f : Shelf) : Type 0 whe
   pub within : (name : List ℕ) → is_wanted t f.wants name ≡ false → finmap.get f.cache name ≡ None
   pub made : (name : List ℕ) (h : Holding) → finmap.get f.cache name ≡ Some h → IsMade all t name h
 
-held_by_name : (cache : Cache) (q : List ℕ) → finmap.get (held_versions cache) q ≡ version_held (finmap.get cache q)
-held_by_name cache q = get-tabulated (held_version cache) (finmap.keys cache) q (λ absent. ap version_held (absent_key cache q absent))
+held_by_name : (cache : Cache) (q : List ℕ) → finmap.get (cached_versions cache) q ≡ version_held (finmap.get cache q)
+held_by_name cache q = get-tabulated (cached_version cache) (finmap.keys cache) q (λ absent. ap version_held (absent_key cache q absent))
 
 first_own : (c : Client) (t : TypeName) (g : Bool) → of_type t (streams.Delta (delta_first c t g)) ≡ Some (delta_first c t g)
 first_own c t g = of_own_type t t (delta_first c t g) refl (is_same_type-same t)
@@ -351,65 +368,59 @@ first_deltas : (c : Client) (greeted : Bool) (ts : List TypeName) → AllDelta (
 first_deltas c greeted [] = tt
 first_deltas c greeted (s ∷ ss) = deltas_by c greeted s ss (wants_some (shelf c s).wants) (λ g. first_deltas c g ss)
 
-star_of_none : (t : TypeName) → IsStarOfComplete t unopened.asked
-star_of_none t incomplete = refl
+star_of_none : (cluster : List ℕ) (t : TypeName) → IsStarOfComplete t (unopened cluster).asked
+star_of_none cluster t incomplete = refl
 
 -- the lane of a type at the start of a stream
-lane_opened : (all : List TypedWrite) (t : TypeName) (f : Shelf) (q : DeltaRequest) (some : Bool) → wants_some f.wants ≡ some → q.response_nonce ≡ [] → mention q ≡ record { subscribe = texts f.wants; unsubscribe = [] }
-    → ((name : List ℕ) → finmap.get q.initial_resource_versions name ≡ version_held (finmap.get f.cache name)) → Rests all t f → Lane all t unopened 0 (if some then q ∷ [] else []) [] (connected f)
-lane_opened all t f q true some nonce says held rests = record {
+lane_opened : (cluster : List ℕ) (all : List TypedWrite) (t : TypeName) (f : Shelf) (q : DeltaRequest) (some : Bool) → wants_some f.wants ≡ some → q.response_nonce ≡ [] → mention q ≡ record { subscribe = texts f.wants; unsubscribe = [] }
+    → ((name : List ℕ) → finmap.get q.initial_resource_versions name ≡ version_held (finmap.get f.cache name)) → Rests all t f → Lane cluster all t (unopened cluster) 0 (if some then q ∷ [] else []) [] (connected f)
+lane_opened cluster all t f q true some nonce says held rests = record {
   down = None;
   downs_are = refl;
-  stands = star_of_none t;
+  stands = star_of_none cluster t;
   taken = (refl, tt);
   numbered = ((zero, omega arith, nonce), tt);
   answered = λ d is. absurd (never_draft d is);
-  abreast = abreast_first all t q (connected f) some (ap (λ m. (delta_asked t unasked m).interest) says ∙ first_is_asked t f.wants some) held rests.within rests.made;
+  abreast = abreast_first cluster all t q (connected f) some (ap (λ m. (delta_asked t (unasked cluster) m).interest) says ∙ first_is_asked t cluster f.wants some) held rests.within rests.made;
 }
   where
     never_draft : (d : DraftedDelta) → ◌≡◌ {A = Option DraftedDelta} None (Some d) → ⊥
     never_draft d e = cc
-lane_opened all t f q false some nonce says held rests = record {
+lane_opened cluster all t f q false some nonce says held rests = record {
   down = None;
   downs_are = refl;
-  stands = star_of_none t;
+  stands = star_of_none cluster t;
   taken = tt;
   numbered = tt;
   answered = λ d is. absurd (never_draft d is);
-  abreast = abreast_unopened all t (connected f) some some (λ name. rests.within name (nothing_wanted t f.wants name some));
+  abreast = abreast_unopened cluster all t (connected f) some some (λ name. rests.within name (nothing_wanted t f.wants name some));
 }
   where
     never_draft : (d : DraftedDelta) → ◌≡◌ {A = Option DraftedDelta} None (Some d) → ⊥
     never_draft d e = cc
 
 pub connected_shelf : (c : Client) (greeted : Bool) (t : TypeName) → shelf (linked greeted c) t ≡ connected (shelf c t)
-connected_shelf c greeted Cluster = refl
-connected_shelf c greeted Endpoint = refl
-connected_shelf c greeted Listener = refl
-connected_shelf c greeted Route = refl
+connected_shelf c greeted t = at-per_type (λ s. connected (shelf c s)) t
 
 -- the client connected
 pub linked_opened : (all : List TypedWrite) (c : Client) (r n : ℕ) (greeted : Bool) → ((t : TypeName) → Rests all t (shelf c t))
-    → Linked all (linked greeted c) (record { replica = r; stream = n; up = opening_requests Delta c; down = [] }) opening
+    → Linked all (linked greeted c) (record { replica = r; stream = n; up = opening_requests Delta c; down = [] }) (started c.cluster opening)
 linked_opened all c r n greeted rests = record {
   variant = inl (refl, refl);
   counted = omega arith;
   deltas = first_deltas c false types;
   lanes = λ t.
       let first = first_lane streams.Delta (delta_first c) c of_type (first_own c) (first_other c) t false types (once t) in
-      subst (λ k. Lane all t k 0 (lane_up t (firsts streams.Delta (delta_first c) c false types)) [] (shelf (linked greeted c) t)) (sym (at-each unopened t))
-      (subst (λ ups. Lane all t unopened 0 ups [] (shelf (linked greeted c) t)) (sym first.1)
-      (subst (Lane all t unopened 0 (one_first streams.Delta (delta_first c) c t first.0) []) (sym (connected_shelf c greeted t))
-      (lane_opened all t (shelf c t) (delta_first c t first.0) (wants_some (shelf c t).wants) refl refl (ap (λ l. record { subscribe = texts (shelf c t).wants; unsubscribe = l }) no_texts) (held_by_name (shelf c t).cache) (rests t))));
+      subst (λ k. Lane c.cluster all t k 0 (lane_up t (firsts streams.Delta (delta_first c) c false types)) [] (shelf (linked greeted c) t)) (sym (at-each (unopened c.cluster) t))
+      (subst (λ ups. Lane c.cluster all t (unopened c.cluster) 0 ups [] (shelf (linked greeted c) t)) (sym first.1)
+      (subst (Lane c.cluster all t (unopened c.cluster) 0 (one_first streams.Delta (delta_first c) c t first.0) []) (sym (connected_shelf c greeted t))
+      (lane_opened c.cluster all t (shelf c t) (delta_first c t first.0) (wants_some (shelf c t).wants) refl refl (ap (λ l. record { subscribe = texts (shelf c t).wants; unsubscribe = l }) no_texts) (held_by_name (shelf c t).cache) (rests t))));
 }
 
 -- ---- its loss
 
 pub lost_shelf : (c : Client) (t : TypeName) → shelf (unlinked c) t ≡ lost (shelf c t)
-lost_shelf c Cluster = refl
-lost_shelf c Endpoint = refl
-lost_shelf c Listener = refl
-lost_shelf c Route = refl
+lost_shelf c t = at-per_type (λ s. lost (shelf c s)) t
 
 pub rests_lost : (all : List TypedWrite) (c : Client) (l : Link) (x : Stream) → Linked all c l x → (t : TypeName) → Rests all t (shelf (unlinked c) t)
 rests_lost all c l x linked t =

@@ -20,7 +20,7 @@ use Rattle.xds_model.specs.Worlds.{Link, World}
 use Rattle.xds_model.specs.Knows.{TypedWrite}
 use Rattle.xds_model.proofs.Folding.{folded}
 use Rattle.xds_model.proofs.Lanes.{IsMade, Delivers, Awaits, Abreast}
-use Rattle.xds_model.proofs.Queues.{Lane, Linked}
+use Rattle.xds_model.proofs.Queues.{Lane, Linked, started}
 use Rattle.xds_model.proofs.LinkTakes.{Rests}
 use Rattle.xds_model.proofs.SotwFolding.{folded as folded_sotw}
 use Rattle.xds_model.proofs.SotwLanes as sotw
@@ -41,8 +41,8 @@ module _ (all more : List TypedWrite) where
   awaits_more t n (Some sent) w None is = absurd is
   awaits_more t n (Some sent) w (Some d) is = delivers_more t n sent w d is
 
-  abreast_more : (t : TypeName) (s : Session) (d : Option DraftedDelta) (f : Shelf) → Abreast all t s d f → Abreast (all ++ more) t s d f
-  abreast_more t s d f lane = record {
+  abreast_more : (cluster : List ℕ) (t : TypeName) (s : Session) (d : Option DraftedDelta) (f : Shelf) → Abreast cluster all t s d f → Abreast cluster (all ++ more) t s d f
+  abreast_more cluster t s d f lane = record {
     asks = lane.asks;
     awaits = awaits_more t s.account.nonce s.account.sent f.wants d lane.awaits;
     told = lane.told;
@@ -51,19 +51,19 @@ module _ (all more : List TypedWrite) where
     made = λ name h held. made_more t name h (lane.made name h held);
   }
 
-  lane_more : (t : TypeName) (s : Session) (count : ℕ) (ups : List DeltaRequest) (downs : List Draft) (f : Shelf) → Lane all t s count ups downs f → Lane (all ++ more) t s count ups downs f
-  lane_more t s count ups downs f lane = record {
+  lane_more : (cluster : List ℕ) (t : TypeName) (s : Session) (count : ℕ) (ups : List DeltaRequest) (downs : List Draft) (f : Shelf) → Lane cluster all t s count ups downs f → Lane cluster (all ++ more) t s count ups downs f
+  lane_more cluster t s count ups downs f lane = record {
     down = lane.down;
     downs_are = lane.downs_are;
     stands = lane.stands;
     taken = lane.taken;
     numbered = lane.numbered;
     answered = lane.answered;
-    abreast = abreast_more t (folded t s ups) lane.down f lane.abreast;
+    abreast = abreast_more cluster t (folded t s ups) lane.down f lane.abreast;
   }
 
   linked_more : (c : Client) (l : Link) (x : Stream) → Linked all c l x → Linked (all ++ more) c l x
-  linked_more c l x linked = record { variant = linked.variant; counted = linked.counted; deltas = linked.deltas; lanes = λ t. lane_more t _ _ _ _ (shelf c t) (linked.lanes t) }
+  linked_more c l x linked = record { variant = linked.variant; counted = linked.counted; deltas = linked.deltas; lanes = λ t. lane_more c.cluster t _ _ _ _ (shelf c t) (linked.lanes t) }
 
   rests_more : (t : TypeName) (f : Shelf) → Rests all t f → Rests (all ++ more) t f
   rests_more t f rests = record { within = rests.within; made = λ name h held. made_more t name h (rests.made name h held) }
@@ -86,8 +86,8 @@ module _ (all more : List TypedWrite) where
   sotw_awaits_more t n (Some sent) w last None is = absurd is
   sotw_awaits_more t n (Some sent) w last (Some d) is = (sotw_delivers_more t n sent w d is.0, is.1)
 
-  sotw_abreast_more : (t : TypeName) (s : Session) (d : Option Drafted) (f : Shelf) → sotw.Abreast all t s d f → sotw.Abreast (all ++ more) t s d f
-  sotw_abreast_more t s d f lane = record {
+  sotw_abreast_more : (cluster : List ℕ) (t : TypeName) (s : Session) (d : Option Drafted) (f : Shelf) → sotw.Abreast cluster all t s d f → sotw.Abreast cluster (all ++ more) t s d f
+  sotw_abreast_more cluster t s d f lane = record {
     asks = lane.asks;
     awaits = sotw_awaits_more t s.account.nonce s.account.sent f.wants f.nonce d lane.awaits;
     touched = lane.touched;
@@ -96,19 +96,19 @@ module _ (all more : List TypedWrite) where
     within = lane.within;
   }
 
-  sotw_lane_more : (t : TypeName) (s : Session) (count : ℕ) (ups : List Request) (downs : List Draft) (f : Shelf) → sotws.Lane all t s count ups downs f → sotws.Lane (all ++ more) t s count ups downs f
-  sotw_lane_more t s count ups downs f lane = record {
+  sotw_lane_more : (cluster : List ℕ) (t : TypeName) (s : Session) (count : ℕ) (ups : List Request) (downs : List Draft) (f : Shelf) → sotws.Lane cluster all t s count ups downs f → sotws.Lane cluster (all ++ more) t s count ups downs f
+  sotw_lane_more cluster t s count ups downs f lane = record {
     down = lane.down;
     downs_are = lane.downs_are;
     taken = lane.taken;
     numbered = lane.numbered;
     answered = lane.answered;
     last = lane.last;
-    abreast = sotw_abreast_more t (folded_sotw t s ups) lane.down f lane.abreast;
+    abreast = sotw_abreast_more cluster t (folded_sotw t s ups) lane.down f lane.abreast;
   }
 
   more_as : (k : ClientKind) (c : Client) (l : Link) (x : Stream) → LinkedAs k all c l x → LinkedAs k (all ++ more) c l x
-  more_as Sotw c l x linked = record { variant = linked.variant; counted = linked.counted; sotws = linked.sotws; lanes = λ t. sotw_lane_more t _ _ _ _ (shelf c t) (linked.lanes t) }
+  more_as Sotw c l x linked = record { variant = linked.variant; counted = linked.counted; sotws = linked.sotws; lanes = λ t. sotw_lane_more c.cluster t _ _ _ _ (shelf c t) (linked.lanes t) }
   more_as Delta c l x linked = linked_more c l x linked
 
   rest_as : (k : ClientKind) (t : TypeName) (f : Shelf) → RestsAs k all t f → RestsAs k (all ++ more) t f
@@ -117,8 +117,9 @@ module _ (all more : List TypedWrite) where
 
   pub fine_more : (w : World) → Fine w all → Fine w (all ++ more)
   fine_more w fine = record {
-    ups = λ c p l has link. let x = fine.ups c p l has link in (x.0, x.1, more_as p.kind p.client l x.0 x.2);
+    ups = λ c p l has link. let x = fine.ups c p l has link in (x.0, x.1, (x.2.0, more_as p.kind p.client l (started p.client.cluster x.0) x.2.1));
     downs = λ c p has none t. rest_as p.kind t (shelf p.client t) (fine.downs c p has none t);
     apart = fine.apart;
+    usable = fine.usable;
     counted = fine.counted;
   }

@@ -209,17 +209,17 @@ placed_among (y ∷ xs) zero x is = absurd cc
 placed_among (y ∷ xs) (suc zero) x is = subst (λ z. Contains (y ∷ xs) z) (some_is y x is) (Contains-head y xs)
 placed_among (y ∷ xs) (suc (suc n)) x is = Contains-tail y x xs (placed_among xs (suc n) x is)
 
-put_stamped : (w : World) (k : Knowledge) (all : List TypedWrite) (r : ℕ) (t : TypeName) (body : NamedBody) (p : Reply × World) → at_site w r (events.Put t body) ≡ Some p → Kept w k → Stamped w k all
-    → Stamped p.1 (learned w (Put r t body) k) (all ++ made_now w (Put r t body))
-put_stamped w k all r t body p is kept stamped =
-    let made = answered w r (events.Put t body) p is in
+put_stamped : (w : World) (k : Knowledge) (all : List TypedWrite) (r : ℕ) (t : TypeName) (body : NamedBody) (groups : List (List ℕ)) (p : Reply × World) → at_site w r (events.Put t body groups) ≡ Some p → Kept w k → Stamped w k all
+    → Stamped p.1 (learned w (Put r t body groups) k) (all ++ made_now w (Put r t body groups))
+put_stamped w k all r t body groups p is kept stamped =
+    let made = answered w r (events.Put t body groups) p is in
     let c = made.0.core in
-    let done = done_with (λ x. (Written x.0 c.replica, record c { store = x.1 })) (putting_at c.store t body c.replica) made.1 made.3 in
+    let done = done_with (λ x. (Written x.0 c.replica, record c { store = x.1 })) (putting_at c.store t body groups c.replica) made.1 made.3 in
     let x = done.0 in
-    let which = put_is c.store t body c.replica x done.1 in
-    let told : at_site w r (events.Put t body) ≡ Some (Written x.0 c.replica, p.1) = is ∙ (λ i. Some ((ap (λ y. y.0) made.4 ∙ ap (λ y. y.0) done.2) i, p.1)) in
-    subst (λ o. Stamped p.1 (learning k r (made_of (λ counter writer. written counter writer body) t o)) (all ++ made_of (λ counter writer. written counter writer body) t o)) (sym told)
-    (stamped_more w p.1 k all r made.0 (t, written x.0 c.replica body) made.2 (stamped.numbers r made.0 made.2) which.0 (site_numbered w r (events.Put t body) p is stamped.numbers) kept stamped)
+    let which = put_is c.store t body groups c.replica x done.1 in
+    let told : at_site w r (events.Put t body groups) ≡ Some (Written x.0 c.replica, p.1) = is ∙ (λ i. Some ((ap (λ y. y.0) made.4 ∙ ap (λ y. y.0) done.2) i, p.1)) in
+    subst (λ o. Stamped p.1 (learning k r (made_of (λ counter writer. written counter writer body groups) t o)) (all ++ made_of (λ counter writer. written counter writer body groups) t o)) (sym told)
+    (stamped_more w p.1 k all r made.0 (t, written x.0 c.replica body groups) made.2 (stamped.numbers r made.0 made.2) which.0 (site_numbered w r (events.Put t body groups) p is stamped.numbers) kept stamped)
 
 delete_stamped : (w : World) (k : Knowledge) (all : List TypedWrite) (r : ℕ) (t : TypeName) (name : List ℕ) (p : Reply × World) → at_site w r (events.Delete t name) ≡ Some p → Kept w k → Stamped w k all
     → Stamped p.1 (learned w (Delete r t name) k) (all ++ made_now w (Delete r t name))
@@ -273,8 +273,8 @@ down_come test w left c p l (d ∷ rest) is = let made = mapped_some (λ q. with
 pub sites_come : (test : Test) (w left : World) (h : Happening) → happens test w h ≡ Some left → SitesCome w left (event_at w h)
 sites_come test w left (AddReplica r) is =
     let made = if_some (is_free w r) (record w { sites = finmap.insert w.sites r (record { core = fresh_core r; journal = [] }) }) left is in inl (r, made.0, ap (λ x. x.sites) made.1, refl)
-sites_come test w left (AddClient c kind) is = inr (inr (ap (λ x. x.sites) (if_some (is_none (finmap.get w.peers c)) (with_peer w c (new_peer c kind)) left is).1, refl))
-sites_come test w left (Put r t body) is = let made = mapped_some (λ p. p.1) (at_site w r (events.Put t body)) left is in inr (inl (r, events.Put t body, made.0, made.1, ap (λ x. x.sites) made.2, refl))
+sites_come test w left (AddClient c kind cluster) is = inr (inr (ap (λ x. x.sites) (if_some (is_none (finmap.get w.peers c)) (with_peer w c (new_peer c kind cluster)) left is).1, refl))
+sites_come test w left (Put r t body groups) is = let made = mapped_some (λ p. p.1) (at_site w r (events.Put t body groups)) left is in inr (inl (r, events.Put t body groups, made.0, made.1, ap (λ x. x.sites) made.2, refl))
 sites_come test w left (Delete r t name) is = let made = mapped_some (λ p. p.1) (at_site w r (events.Delete t name)) left is in inr (inl (r, events.Delete t name, made.0, made.1, ap (λ x. x.sites) made.2, refl))
 sites_come test w left (Snapshot r) is = let made = bound_some (pooled r) (at_site w r events.Snapshot) left is in inr (inl (r, events.Snapshot, made.0, made.1, pooled_sites r made.0.0 made.0.1 left made.2, refl))
 sites_come test w left (Merge r b) is =
@@ -314,16 +314,16 @@ numbered_step test w left h is numbered = numbered_come w left (event_at w h) (s
 
 -- whatever happens
 pub stamped_step : (test : Test) (w left : World) (k : Knowledge) (all : List TypedWrite) (h : Happening) → happens test w h ≡ Some left → Kept w k → Stamped w k all → Stamped left (learned w h k) (all ++ made_now w h)
-stamped_step test w left k all (Put r t body) is kept stamped =
-    let made = mapped_some (λ p. p.1) (at_site w r (events.Put t body)) left is in
-    subst (λ x. Stamped x (learned w (Put r t body) k) (all ++ made_now w (Put r t body))) (sym made.2) (put_stamped w k all r t body made.0 made.1 kept stamped)
+stamped_step test w left k all (Put r t body groups) is kept stamped =
+    let made = mapped_some (λ p. p.1) (at_site w r (events.Put t body groups)) left is in
+    subst (λ x. Stamped x (learned w (Put r t body groups) k) (all ++ made_now w (Put r t body groups))) (sym made.2) (put_stamped w k all r t body groups made.0 made.1 kept stamped)
 stamped_step test w left k all (Delete r t name) is kept stamped =
     let made = mapped_some (λ p. p.1) (at_site w r (events.Delete t name)) left is in
     subst (λ x. Stamped x (learned w (Delete r t name) k) (all ++ made_now w (Delete r t name))) (sym made.2) (delete_stamped w k all r t name made.0 made.1 kept stamped)
 stamped_step test w left k all (Snapshot r) is kept stamped = stamped_batch w left k all r (numbered_step test w left (Snapshot r) is stamped.numbers) stamped
 stamped_step test w left k all (Merge r b) is kept stamped = merged_stamped w left k all r b (placed k.batches b) refl (numbered_step test w left (Merge r b) is stamped.numbers) stamped
 stamped_step test w left k all (AddReplica r) is kept stamped = stamped_quiet w left k all (numbered_step test w left (AddReplica r) is stamped.numbers) stamped
-stamped_step test w left k all (AddClient c kind) is kept stamped = stamped_quiet w left k all (numbered_step test w left (AddClient c kind) is stamped.numbers) stamped
+stamped_step test w left k all (AddClient c kind cluster) is kept stamped = stamped_quiet w left k all (numbered_step test w left (AddClient c kind cluster) is stamped.numbers) stamped
 stamped_step test w left k all (Connect c r) is kept stamped = stamped_quiet w left k all (numbered_step test w left (Connect c r) is stamped.numbers) stamped
 stamped_step test w left k all (Change c t wish) is kept stamped = stamped_quiet w left k all (numbered_step test w left (Change c t wish) is stamped.numbers) stamped
 stamped_step test w left k all (Up c) is kept stamped = stamped_quiet w left k all (numbered_step test w left (Up c) is stamped.numbers) stamped

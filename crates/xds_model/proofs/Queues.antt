@@ -1,6 +1,6 @@
 -- What is under way on a link, of one type: a lane for each type, and what keeps all lanes of a link.
 use Rattle.std.proofs.Common.{◌≡◌, ◌⊎◌, ℕ, zero, suc, ◌≤◌, ◌<◌, List, [], ◌∷◌, ◌++◌, Bool, true, false, Option, Some, None, refl, sym, ap, ◌∙◌, arith}
-use Rattle.std.specs.Prelude.{bytes_eq, if◌then◌else◌, option_map, decimal, ⊤, length}
+use Rattle.std.specs.Prelude.{bytes_eq, if◌then◌else◌, is_some, option_map, decimal, ⊤, length}
 use Rattle.std.specs.List.{filter, filter_map, cons_option}
 use Rattle.std.proofs.lemmas.Fmt.{decimal_injective, decimal_nonempty}
 use Rattle.xds_resource.specs.declared.types.TypeName.{TypeName}
@@ -14,6 +14,7 @@ use Rattle.xds_draft.specs.declared.draft.Draft.{Draft}
 use Rattle.xds_draft.specs.declared.draft.Draft.TheVariants as drafts
 use Rattle.xds_draft.specs.Drafts.{DraftedDelta}
 use Rattle.xds_draft.specs.DraftTexts.{kind_of}
+use Rattle.xds_owed.specs.declared.variant.VariantName.{VariantName}
 use Rattle.xds_owed.specs.declared.variant.VariantName.TheVariants as variants
 use Rattle.xds_ledger.specs.Ledgers.{nonce_text}
 use Rattle.xds_ledger.specs.Sessions.{Session, unopened}
@@ -118,22 +119,26 @@ abbrev pub listed_draft : Option DraftedDelta → List Draft
 listed_draft down = under_way (option_map drafts.Delta down)
 
 -- of one type: the session of a replica, the requests and responses under way, and the shelf of the client
-pub record Lane (all : List TypedWrite) (t : TypeName) (s : Session) (count : ℕ) (ups : List DeltaRequest) (downs : List Draft) (f : Shelf) : Type 0 where
+pub record Lane (cluster : List ℕ) (all : List TypedWrite) (t : TypeName) (s : Session) (count : ℕ) (ups : List DeltaRequest) (downs : List Draft) (f : Shelf) : Type 0 where
   pub down : Option DraftedDelta
   pub downs_are : downs ≡ listed_draft down
   pub stands : IsStarOfComplete t s.asked
   pub taken : AllTaken t s ups
   pub numbered : AllNumbered count ups
   pub answered : (d : DraftedDelta) → down ≡ Some d → (k : ℕ) × (k ≤ count) × (d.nonce ≡ nonce_text k)
-  pub abreast : Abreast all t (folded t s ups) down f
+  pub abreast : Abreast cluster all t (folded t s ups) down f
 
--- a stream whose variant isn't decided has no session of any type
-abbrev pub IsDeltaStream : Stream → Type 0
-IsDeltaStream x = ((x.variant ≡ None) × (x.sessions ≡ each unopened)) ⊎ (x.variant ≡ Some variants.Delta)
+-- a stream of a variant, for a client of a cluster: while its variant isn't decided, it has no session of any type
+abbrev pub Speaks : VariantName → List ℕ → Stream → Type 0
+Speaks v cluster x = ((x.variant ≡ None) × (x.sessions ≡ each (unopened cluster))) ⊎ (x.variant ≡ Some v)
+
+-- a stream as it is for a client of a cluster: before the first request it has the sessions that this request makes
+abbrev pub started : List ℕ → Stream → Stream
+started cluster x = record x { sessions = if is_some x.variant then x.sessions else each (unopened cluster) }
 
 -- a link of an incremental client
 pub record Linked (all : List TypedWrite) (c : Client) (l : Link) (x : Stream) : Type 0 where
-  pub variant : IsDeltaStream x
+  pub variant : Speaks variants.Delta c.cluster x
   pub counted : x.count ≤ max_counter
   pub deltas : AllDelta l.up
-  pub lanes : (t : TypeName) → Lane all t (at x.sessions t) x.count (lane_up t l.up) (lane_down t l.down) (shelf c t)
+  pub lanes : (t : TypeName) → Lane c.cluster all t (at x.sessions t) x.count (lane_up t l.up) (lane_down t l.down) (shelf c t)

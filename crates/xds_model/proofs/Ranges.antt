@@ -158,26 +158,26 @@ unspent_live false false b x y is = refl
 next_within : (g : ℕ) → (g == max_counter) ≡ false → g ≤ max_counter → g + 1 ≤ max_counter
 next_within g not_full within = elim (eqb_tells g max_counter) [ inl same ↦ (let never : true ≡ false = sym same.0 ∙ not_full in absurd cc) | inr other ↦ omega (arith, within, other.1) ]
 
-put_ranged : (test : Test) (w left : World) (k : Knowledge) (all : List TypedWrite) (r : ℕ) (t : TypeName) (body : NamedBody) → happens test w (Put r t body) ≡ Some left → IsCanonical t body
-    → ((q : ℕ) (s : Site) → finmap.get left.sites q ≡ Some s → (1 ≤ q) × (q ≤ max_writer)) → Kept w k → Stamped w k all → Ranged w all → Ranged left (all ++ made_now w (Put r t body))
-put_ranged test w left k all r t body is canonical sites kept stamped ranged =
-    let asked = mapped_some (λ p. p.1) (at_site w r (events.Put t body)) left is in
+put_ranged : (test : Test) (w left : World) (k : Knowledge) (all : List TypedWrite) (r : ℕ) (t : TypeName) (body : NamedBody) (groups : List (List ℕ)) → happens test w (Put r t body groups) ≡ Some left → IsCanonical t body
+    → ((q : ℕ) (s : Site) → finmap.get left.sites q ≡ Some s → (1 ≤ q) × (q ≤ max_writer)) → Kept w k → Stamped w k all → Ranged w all → Ranged left (all ++ made_now w (Put r t body groups))
+put_ranged test w left k all r t body groups is canonical sites kept stamped ranged =
+    let asked = mapped_some (λ p. p.1) (at_site w r (events.Put t body groups)) left is in
     let p = asked.0 in
-    let made = answered w r (events.Put t body) p asked.1 in
+    let made = answered w r (events.Put t body groups) p asked.1 in
     let c = made.0.core in
-    let done = done_with (λ x. (Written x.0 c.replica, record c { store = x.1 })) (putting_at c.store t body c.replica) made.1 made.3 in
+    let done = done_with (λ x. (Written x.0 c.replica, record c { store = x.1 })) (putting_at c.store t body groups c.replica) made.1 made.3 in
     let x = done.0 in
-    let which = put_is c.store t body c.replica x done.1 in
-    let room = done_with (λ y. (y.0, with_at c.store t y.1)) (putting (at c.store t) body c.replica) x done.1 in
+    let which = put_is c.store t body groups c.replica x done.1 in
+    let room = done_with (λ y. (y.0, with_at c.store t y.1)) (putting (at c.store t) body groups c.replica) x done.1 in
     let full : (greatest_counter (at c.store t).entries == max_counter) ≡ false =
-    unspent (greatest_counter (at c.store t).entries == max_counter) ((at {X = Holdings} c.store t).changes == max_counter) (next_counter (at c.store t), joined (at c.store t) (written (next_counter (at c.store t)) c.replica body ∷ [])) room.0 room.1 in
-    let told : at_site w r (events.Put t body) ≡ Some (Written x.0 c.replica, p.1) = asked.1 ∙ (λ i. Some ((ap (λ y. y.0) made.4 ∙ ap (λ y. y.0) done.2) i, p.1)) in
+    unspent (greatest_counter (at c.store t).entries == max_counter) ((at {X = Holdings} c.store t).changes == max_counter) (next_counter (at c.store t), joined (at c.store t) (written (next_counter (at c.store t)) c.replica body groups ∷ [])) room.0 room.1 in
+    let told : at_site w r (events.Put t body groups) ≡ Some (Written x.0 c.replica, p.1) = asked.1 ∙ (λ i. Some ((ap (λ y. y.0) made.4 ∙ ap (λ y. y.0) done.2) i, p.1)) in
     let within = held_within w k all r made.0 t made.2 kept stamped ranged in
     let next = next_within (greatest_counter (at c.store t).entries) full within in
     let number : c.replica ≡ r = stamped.numbers r made.0 made.2 in
     let range = ranged.sites r made.0 made.2 in
-    subst (λ o. Ranged left (all ++ made_of (λ counter writer. written counter writer body) t o)) (sym told)
-    (ranged_more w left all t (written x.0 c.replica body) sites
+    subst (λ o. Ranged left (all ++ made_of (λ counter writer. written counter writer body groups) t o)) (sym told)
+    (ranged_more w left all t (written x.0 c.replica body groups) sites
     (record { counter_from = subst (λ n. 1 ≤ n) (sym which.0) (omega arith); counter_to = subst (λ n. n ≤ max_counter) (sym which.0) next; writer_from = subst (λ n. 1 ≤ n) (sym number) range.0; writer_to = subst (λ n. n ≤ max_writer) (sym number) range.1 })
     (λ b has. subst (λ y. IsCanonical t (record { name = body.name; body = y })) (some_is body.body b has) canonical) ranged)
 
@@ -208,10 +208,10 @@ delete_ranged test w left k all r t name is sites kept stamped ranged =
     never b e = cc
 
 pub ranged_step : (test : Test) (w left : World) (k : Knowledge) (all : List TypedWrite) (h : Happening) → happens test w h ≡ Some left → PutsAResource h → Kept w k → Stamped w k all → Ranged w all → Ranged left (all ++ made_now w h)
-ranged_step test w left k all (Put r t body) is sound kept stamped ranged = put_ranged test w left k all r t body is sound (in_range_step test w left (Put r t body) is ranged.sites) kept stamped ranged
+ranged_step test w left k all (Put r t body groups) is sound kept stamped ranged = put_ranged test w left k all r t body groups is sound.0 (in_range_step test w left (Put r t body groups) is ranged.sites) kept stamped ranged
 ranged_step test w left k all (Delete r t name) is sound kept stamped ranged = delete_ranged test w left k all r t name is (in_range_step test w left (Delete r t name) is ranged.sites) kept stamped ranged
 ranged_step test w left k all (AddReplica r) is sound kept stamped ranged = ranged_same w left all (in_range_step test w left (AddReplica r) is ranged.sites) ranged
-ranged_step test w left k all (AddClient c kind) is sound kept stamped ranged = ranged_same w left all (in_range_step test w left (AddClient c kind) is ranged.sites) ranged
+ranged_step test w left k all (AddClient c kind cluster) is sound kept stamped ranged = ranged_same w left all (in_range_step test w left (AddClient c kind cluster) is ranged.sites) ranged
 ranged_step test w left k all (Snapshot r) is sound kept stamped ranged = ranged_same w left all (in_range_step test w left (Snapshot r) is ranged.sites) ranged
 ranged_step test w left k all (Merge r b) is sound kept stamped ranged = ranged_same w left all (in_range_step test w left (Merge r b) is ranged.sites) ranged
 ranged_step test w left k all (Connect c r) is sound kept stamped ranged = ranged_same w left all (in_range_step test w left (Connect c r) is ranged.sites) ranged

@@ -1,5 +1,5 @@
 -- The replicas' half of the headline: what a replica holds are the best writes of what it knows.
-use Rattle.std.proofs.Common.{◌≡◌, ◌≢◌, inl, inr, ℕ, zero, suc, List, [], ◌∷◌, ◌++◌, map, Bool, true, false, Option, Some, None, Result, Ok, Err, refl, sym, ap, subst, ◌∙◌, append-nil}
+use Rattle.std.proofs.Common.{◌≡◌, ◌≢◌, ◌⊎◌, inl, inr, ℕ, zero, suc, List, [], ◌∷◌, ◌++◌, map, Bool, true, false, Option, Some, None, Result, Ok, Err, refl, sym, ap, subst, ◌∙◌, append-nil}
 use Rattle.std.specs.Prelude.{◌==◌, ◌&&◌, not, nat_lt, if◌then◌else◌, is_none, option_map, ⊤}
 use Rattle.std.specs.Option.{option_and_then, option_map_or}
 use Rattle.std.specs.List.{filter}
@@ -13,18 +13,19 @@ use Rattle.std.proofs.lemmas.Bool.Decides.{eqb_tells}
 use Rattle.xds_resource.specs.declared.types.TypeName.{TypeName}
 use Rattle.xds_resource.specs.Types.{is_same_type}
 use Rattle.xds_resource.specs.Stamps.{max_writer}
-use Rattle.xds_resource.specs.PerType.{at, with_at, each}
-use Rattle.xds_resource.specs.declared.types.TypeName.TheVariants.{Cluster, Endpoint, Listener, Route}
+use Rattle.xds_resource.specs.PerType.{per_type, at, with_at, each}
+use Rattle.xds_resource.specs.declared.types.TypeName.TheVariants.{Cluster, Endpoint, Listener, Route, Secret}
 use Rattle.xds_resource.specs.declared.refusal.Refusal.{Refusal}
 use Rattle.xds_resource.specs.declared.refusal.Refusal.TheVariants.{CounterSpent}
 use Rattle.xds_resource.specs.Resources.{NamedBody, written, deleted}
+use Rattle.xds_resource.proofs.TypesApart.{same_type, is_same_type-same, at-with_at, at-with_at_other, at-each}
 use Rattle.xds_resource.specs.Writes.{StampedWrite}
 use Rattle.xds_catalogue.specs.Holdings.{Holdings, nothing_held, catalogue_of}
 use Rattle.xds_catalogue.specs.Joins.{joined}
 use Rattle.xds_catalogue.proofs.Catalogues.{catalogue_of-entries}
 use Rattle.xds_catalogue.proofs.JoinLaws.{joins_the_writes, order_does_not_matter}
 use Rattle.xds_catalogue.proofs.Lookups.{get-inserted}
-use Rattle.xds_core.specs.Stores.{Store, Batch, per_type, putting_at, deleting_at, merging, merged, is_spent, grown, all_entries}
+use Rattle.xds_core.specs.Stores.{Store, Batch, putting_at, deleting_at, merging, merged, is_spent, grown, all_entries}
 use Rattle.xds_core.specs.Events as events
 use Rattle.xds_core.specs.Events.{Event, Request, Reply, Opened, Answered, Polled, Owed, Closed, Written, Merged, Entries}
 use Rattle.xds_core.specs.Streams.{Message}
@@ -186,28 +187,25 @@ peers_kept w k peers kept = record { holds = kept.holds; carries = kept.carries;
 
 placed_known : (p : Store) (known : List TypedWrite) (t u : TypeName) (wr : StampedWrite) → ((v : TypeName) → (at p v).entries ≡ catalogue_of (writes_of v known))
     → (at (with_at p t (joined (at p t) (wr ∷ []))) u).entries ≡ catalogue_of (writes_of u known ++ writes_of u ((t, wr) ∷ []))
-placed_known p known Cluster Cluster wr h = joined_known p.cluster (writes_of Cluster known) (wr ∷ []) (h Cluster)
-placed_known p known Cluster Endpoint wr h = h Endpoint ∙ ap catalogue_of (sym (append-nil (writes_of Endpoint known)))
-placed_known p known Cluster Listener wr h = h Listener ∙ ap catalogue_of (sym (append-nil (writes_of Listener known)))
-placed_known p known Cluster Route wr h = h Route ∙ ap catalogue_of (sym (append-nil (writes_of Route known)))
-placed_known p known Endpoint Cluster wr h = h Cluster ∙ ap catalogue_of (sym (append-nil (writes_of Cluster known)))
-placed_known p known Endpoint Endpoint wr h = joined_known p.endpoint (writes_of Endpoint known) (wr ∷ []) (h Endpoint)
-placed_known p known Endpoint Listener wr h = h Listener ∙ ap catalogue_of (sym (append-nil (writes_of Listener known)))
-placed_known p known Endpoint Route wr h = h Route ∙ ap catalogue_of (sym (append-nil (writes_of Route known)))
-placed_known p known Listener Cluster wr h = h Cluster ∙ ap catalogue_of (sym (append-nil (writes_of Cluster known)))
-placed_known p known Listener Endpoint wr h = h Endpoint ∙ ap catalogue_of (sym (append-nil (writes_of Endpoint known)))
-placed_known p known Listener Listener wr h = joined_known p.listener (writes_of Listener known) (wr ∷ []) (h Listener)
-placed_known p known Listener Route wr h = h Route ∙ ap catalogue_of (sym (append-nil (writes_of Route known)))
-placed_known p known Route Cluster wr h = h Cluster ∙ ap catalogue_of (sym (append-nil (writes_of Cluster known)))
-placed_known p known Route Endpoint wr h = h Endpoint ∙ ap catalogue_of (sym (append-nil (writes_of Endpoint known)))
-placed_known p known Route Listener wr h = h Listener ∙ ap catalogue_of (sym (append-nil (writes_of Listener known)))
-placed_known p known Route Route wr h = joined_known p.route (writes_of Route known) (wr ∷ []) (h Route)
+placed_known p known t u wr h = by_type (same_type t u)
+  where
+    by_type : ((t ≡ u) × (is_same_type t u ≡ true)) ⊎ ((t ≢ u) × (is_same_type t u ≡ false))
+        → (at (with_at p t (joined (at p t) (wr ∷ []))) u).entries ≡ catalogue_of (writes_of u known ++ writes_of u ((t, wr) ∷ []))
+    by_type (inl same) =
+        subst (λ v. (at (with_at p t (joined (at p t) (wr ∷ []))) v).entries ≡ catalogue_of (writes_of v known ++ writes_of v ((t, wr) ∷ []))) same.0
+        (ap (λ (h : Holdings). h.entries) (at-with_at p t (joined (at p t) (wr ∷ []))) ∙ joined_known (at p t) (writes_of t known) (wr ∷ []) (h t)
+        ∙ ap (λ b. catalogue_of (writes_of t known ++ map (λ (x : TypedWrite). x.1) (if b then (t, wr) ∷ [] else []))) (sym (is_same_type-same t)))
+    by_type (inr other) =
+        ap (λ (h : Holdings). h.entries) (at-with_at_other p t (joined (at p t) (wr ∷ [])) u (λ e. other.0 (sym e))) ∙ h u ∙ ap catalogue_of (sym (append-nil (writes_of u known)))
+        ∙ ap (λ b. catalogue_of (writes_of u known ++ map (λ (x : TypedWrite). x.1) (if b then (t, wr) ∷ [] else []))) (sym other.1)
 
-at-per_type : {X : Type 0} (f : TypeName → X) (t : TypeName) → at (per_type f) t ≡ f t
+-- what is made for each type is there
+pub at-per_type : {X : Type 0} (f : TypeName → X) (t : TypeName) → at (per_type f) t ≡ f t
 at-per_type f Cluster = refl
 at-per_type f Endpoint = refl
 at-per_type f Listener = refl
 at-per_type f Route = refl
+at-per_type f Secret = refl
 
 -- a replica that wrote, from what its step leaves
 own_write : (w : World) (k : Knowledge) (r : ℕ) (s site : Site) (t : TypeName) (wr : StampedWrite) → finmap.get w.sites r ≡ Some s → site.core.store ≡ with_at s.core.store t (joined (at s.core.store t) (wr ∷ [])) → Kept w k
@@ -215,19 +213,19 @@ own_write : (w : World) (k : Knowledge) (r : ℕ) (s site : Site) (t : TypeName)
 own_write w k r s site t wr has is kept =
     site_learned w k r site ((t, wr) ∷ []) (λ u. ap (λ p. (at {X = Holdings} p u).entries) is ∙ placed_known s.core.store (k.at r) t u wr (λ v. kept.holds r s v has) ∙ ap catalogue_of (sym (writes_of-append u (k.at r) ((t, wr) ∷ [])))) kept
 
-put_kept : (w : World) (k : Knowledge) (r : ℕ) (t : TypeName) (body : NamedBody) (p : Reply × World) → at_site w r (events.Put t body) ≡ Some p → Kept w k → Kept p.1 (learned w (Put r t body) k)
-put_kept w k r t body p is kept =
-    let made = answered w r (events.Put t body) p is in
+put_kept : (w : World) (k : Knowledge) (r : ℕ) (t : TypeName) (body : NamedBody) (groups : List (List ℕ)) (p : Reply × World) → at_site w r (events.Put t body groups) ≡ Some p → Kept w k → Kept p.1 (learned w (Put r t body groups) k)
+put_kept w k r t body groups p is kept =
+    let made = answered w r (events.Put t body groups) p is in
     let s = made.0 in
     let c = s.core in
-    let done = done_with (λ x. (Written x.0 c.replica, record c { store = x.1 })) (putting_at c.store t body c.replica) made.1 made.3 in
+    let done = done_with (λ x. (Written x.0 c.replica, record c { store = x.1 })) (putting_at c.store t body groups c.replica) made.1 made.3 in
     let x = done.0 in
-    let which = put_is c.store t body c.replica x done.1 in
-    let wr = written x.0 c.replica body in
-    let stored : made.1.1.store ≡ with_at c.store t (joined (at c.store t) (wr ∷ [])) = ap (λ y. y.1.store) done.2 ∙ which.1 ∙ ap (λ n. with_at c.store t (joined (at c.store t) (written n c.replica body ∷ []))) (sym which.0) in
-    let told : at_site w r (events.Put t body) ≡ Some (Written x.0 c.replica, p.1) = is ∙ (λ i. Some ((ap (λ y. y.0) made.4 ∙ ap (λ y. y.0) done.2) i, p.1)) in
-    subst (λ o. Kept p.1 (learning k r (made_of (λ counter writer. written counter writer body) t o))) (sym told)
-    (subst (λ y. Kept y (learning k r ((t, wr) ∷ []))) (sym (ap (λ y. y.1) made.4)) (own_write w k r s (recorded s (events.Put t body) made.1) t wr made.2 stored kept))
+    let which = put_is c.store t body groups c.replica x done.1 in
+    let wr = written x.0 c.replica body groups in
+    let stored : made.1.1.store ≡ with_at c.store t (joined (at c.store t) (wr ∷ [])) = ap (λ y. y.1.store) done.2 ∙ which.1 ∙ ap (λ n. with_at c.store t (joined (at c.store t) (written n c.replica body groups ∷ []))) (sym which.0) in
+    let told : at_site w r (events.Put t body groups) ≡ Some (Written x.0 c.replica, p.1) = is ∙ (λ i. Some ((ap (λ y. y.0) made.4 ∙ ap (λ y. y.0) done.2) i, p.1)) in
+    subst (λ o. Kept p.1 (learning k r (made_of (λ counter writer. written counter writer body groups) t o))) (sym told)
+    (subst (λ y. Kept y (learning k r ((t, wr) ∷ []))) (sym (ap (λ y. y.1) made.4)) (own_write w k r s (recorded s (events.Put t body groups) made.1) t wr made.2 stored kept))
 
 delete_kept : (w : World) (k : Knowledge) (r : ℕ) (t : TypeName) (name : List ℕ) (p : Reply × World) → at_site w r (events.Delete t name) ≡ Some p → Kept w k → Kept p.1 (learned w (Delete r t name) k)
 delete_kept w k r t name p is kept =
@@ -338,10 +336,7 @@ none_there None e = refl
 none_there (Some x) e = absurd cc
 
 nothing_entries : (t : TypeName) → (at (each nothing_held) t).entries ≡ catalogue_of []
-nothing_entries Cluster = refl
-nothing_entries Endpoint = refl
-nothing_entries Listener = refl
-nothing_entries Route = refl
+nothing_entries t = ap (λ (h : Holdings). h.entries) (at-each nothing_held t)
 
 added_kept : (w : World) (k : Knowledge) (r : ℕ) → finmap.get w.sites r ≡ None → Kept w k → Kept (record w { sites = finmap.insert w.sites r (record { core = fresh_core r; journal = [] }) }) k
 added_kept w k r none kept = record {
@@ -369,12 +364,12 @@ pub kept_step : (test : Test) (w left : World) (k : Knowledge) (h : Happening) �
 kept_step test w left k (AddReplica r) is kept =
     let made = if_some (is_free w r) (record w { sites = finmap.insert w.sites r (record { core = fresh_core r; journal = [] }) }) left is in
     subst (λ x. Kept x k) (sym made.1) (added_kept w k r (none_there (finmap.get w.sites r) (both_parts (nat_lt 0 r && not (nat_lt max_writer r)) (is_none (finmap.get w.sites r)) made.0).1) kept)
-kept_step test w left k (AddClient c kind) is kept =
-    let made = if_some (is_none (finmap.get w.peers c)) (with_peer w c (new_peer c kind)) left is in
-    moved w left k (finmap.insert w.peers c (new_peer c kind), made.1) kept
-kept_step test w left k (Put r t body) is kept =
-    let made = mapped_some (λ p. p.1) (at_site w r (events.Put t body)) left is in
-    subst (λ x. Kept x (learned w (Put r t body) k)) (sym made.2) (put_kept w k r t body made.0 made.1 kept)
+kept_step test w left k (AddClient c kind cluster) is kept =
+    let made = if_some (is_none (finmap.get w.peers c)) (with_peer w c (new_peer c kind cluster)) left is in
+    moved w left k (finmap.insert w.peers c (new_peer c kind cluster), made.1) kept
+kept_step test w left k (Put r t body groups) is kept =
+    let made = mapped_some (λ p. p.1) (at_site w r (events.Put t body groups)) left is in
+    subst (λ x. Kept x (learned w (Put r t body groups) k)) (sym made.2) (put_kept w k r t body groups made.0 made.1 kept)
 kept_step test w left k (Delete r t name) is kept =
     let made = mapped_some (λ p. p.1) (at_site w r (events.Delete t name)) left is in
     subst (λ x. Kept x (learned w (Delete r t name) k)) (sym made.2) (delete_kept w k r t name made.0 made.1 kept)

@@ -12,17 +12,19 @@ use Rattle.xds_resource.specs.Stamps.{IsStamp}
 use Rattle.xds_resource.specs.Writes.{StampedWrite, version_of}
 use Rattle.xds_resource.proofs.VersionTexts.{version_text_injective}
 use Rattle.xds_resource.proofs.TypesApart.{at-each}
-use Rattle.xds_interest.specs.Interests.{covers}
+use Rattle.xds_interest.specs.Interests.{Selection, reaches, covers}
+use Rattle.xds_interest.proofs.Reaching.{covered_is_reached}
 use Rattle.xds_interest.specs.Asked.{Asked}
 use Rattle.xds_catalogue.specs.Holdings.{Entries}
 use Rattle.xds_draft.specs.declared.draft.Draft.{Draft}
 use Rattle.xds_draft.specs.Drafts.{DraftedDelta}
 use Rattle.xds_draft.specs.DraftTexts.{kind_of}
+use Rattle.xds_owed.specs.declared.variant.VariantName.{VariantName}
 use Rattle.xds_owed.specs.declared.variant.VariantName.TheVariants.{Delta}
 use Rattle.xds_owed.specs.declared.entry.Due.{Due}
 use Rattle.xds_owed.specs.declared.entry.Due.TheVariants.{Stated, Removed}
 use Rattle.xds_owed.specs.Variants.{is_told, is_whole}
-use Rattle.xds_owed.specs.Owed.{live_version, present, owed_of, something_owed}
+use Rattle.xds_owed.specs.Owed.{live_version, version_shown, present, owed_of, something_owed}
 use Rattle.xds_ledger.specs.Ledgers as ledgers
 use Rattle.xds_ledger.specs.Ledgers.{is_due}
 use Rattle.xds_ledger.specs.Sessions as sessions
@@ -30,19 +32,19 @@ use Rattle.xds_ledger.specs.Sessions.{Session, unopened}
 use Rattle.xds_owed.proofs.ByName.{nothing_owed}
 use Rattle.xds_core.specs.Stores.{Store}
 use Rattle.xds_core.specs.Streams.{Stream, Message, owes_of}
-use Rattle.xds_shelf.specs.Shelves.{Holding, Shelf, is_wanted}
-use Rattle.xds_cache.proofs.Interests.{wants_what_is_covered}
+use Rattle.xds_shelf.specs.Shelves.{Holding, Shelf, interest}
+use Rattle.xds_cache.proofs.Interests.{wants_what_is_reached}
 use Rattle.xds_model.specs.Knows.{TypedWrite}
 use Rattle.xds_cache.specs.Clients.{Client, shelf}
 use Rattle.xds_model.specs.Worlds.{Link}
-use Rattle.xds_model.specs.Claims.{holding_of, asks_for, is_quiet}
+use Rattle.xds_model.specs.Claims.{holding_of, shown_of, asks_for, is_quiet}
 use Rattle.xds_model.proofs.Folding.{folded}
 use Rattle.xds_model.proofs.Replicas.{some_is}
 use Rattle.xds_model.proofs.ByOneName.{IsShown, shown_where_not_owed}
 use Rattle.xds_model.proofs.Lanes.{IsMade, Asks, Abreast}
 use Rattle.xds_model.proofs.LinkTakes.{nothing_wanted}
-use Rattle.xds_model.proofs.Delivering.{AllKnown, live}
-use Rattle.xds_model.proofs.Queues.{delta_in, lane_up, lane_down, listed_draft, IsDeltaStream, Linked}
+use Rattle.xds_model.proofs.Delivering.{AllKnown, shown_in}
+use Rattle.xds_model.proofs.Queues.{delta_in, lane_up, lane_down, listed_draft, Speaks, Linked}
 
 -- ---- stamps
 
@@ -78,18 +80,32 @@ shown_live all t name w held (Some x) body unique stamped made origin shown =
     let same : w ≡ from.0 = one_write all t w from.0 unique stamped made from.1 (sym shown.2 ∙ held_version_is from.0 shown.0 from.0.body from.3) in
     shown.1 ∙ sym from.3 ∙ ap holding_of (sym same) ∙ ap (λ o. option_map (λ y. record { version = version_of w; body = y }) o) body
 
-shown_name : (all : List TypedWrite) (t : TypeName) (m : Entries) (name : List ℕ) (held : Option Holding) (wanted : Bool) (o : Option StampedWrite) → finmap.get m name ≡ o → IsUnique all → AllStamped all → AllKnown all t m
-    → ((h : Holding) → held ≡ Some h → IsMade all t name h) → IsShown (if wanted then option_and_then live_version o else None) held → held ≡ (if wanted then option_and_then holding_of o else None)
-shown_name all t m name held false o has unique stamped known origin shown = shown
-shown_name all t m name held true None has unique stamped known origin shown = shown
-shown_name all t m name held true (Some w) has unique stamped known origin shown = shown_live all t name w held w.body refl unique stamped (known name w has).made origin shown
+shown_write : (all : List TypedWrite) (t : TypeName) (name : List ℕ) (w : StampedWrite) (held : Option Holding) (covered : Bool) → IsUnique all → AllStamped all → Contains all (t, w) → ((h : Holding) → held ≡ Some h → IsMade all t name h)
+    → IsShown (if covered then live_version w else None) held → held ≡ (if covered then holding_of w else None)
+shown_write all t name w held false unique stamped made origin shown = shown
+shown_write all t name w held true unique stamped made origin shown = shown_live all t name w held w.body refl unique stamped made origin shown
+
+shown_name : (all : List TypedWrite) (t : TypeName) (s : Selection) (m : Entries) (name : List ℕ) (held : Option Holding) (o : Option StampedWrite) → finmap.get m name ≡ o → IsUnique all → AllStamped all → AllKnown all t m
+    → ((h : Holding) → held ≡ Some h → IsMade all t name h) → IsShown (option_and_then (version_shown s name) o) held → held ≡ option_and_then (shown_of s name) o
+shown_name all t s m name held None has unique stamped known origin shown = shown
+shown_name all t s m name held (Some w) has unique stamped known origin shown = shown_write all t name w held (covers s name w.groups) unique stamped (known name w has).made origin shown
+
+-- what isn't reached isn't shown
+uncovered : (s : Selection) (name : List ℕ) (w : StampedWrite) (covered : Bool) → covers s name w.groups ≡ covered → reaches s name ≡ false → (if covered then holding_of w else None) ≡ None
+uncovered s name w true is unreached = let never : true ≡ false = sym (covered_is_reached s name w.groups is) ∙ unreached in absurd cc
+uncovered s name w false is unreached = refl
+
+pub none_shown : (s : Selection) (name : List ℕ) (o : Option StampedWrite) → reaches s name ≡ false → option_and_then (shown_of s name) o ≡ None
+none_shown s name None unreached = refl
+none_shown s name (Some w) unreached = uncovered s name w (covers s name w.groups) refl unreached
 
 -- what a client shows of a type, where nothing is under way and nothing is owed
-pub shows_exactly : (all : List TypedWrite) (t : TypeName) (s : Session) (f : Shelf) (m : Entries) (name : List ℕ) → Asks t s f → Abreast all t s None f → IsUnique all → AllStamped all → AllKnown all t m → (s.asked.begun ≡ true → sessions.owes Delta t s m ≡ false)
-    → finmap.get f.cache name ≡ (if is_wanted t f.wants name then live m name else None)
-shows_exactly all t s f m name (inr never) lane unique stamped known owes =
-    let unwanted = nothing_wanted t f.wants name never.2 in lane.within name unwanted ∙ ap (λ b. if b then live m name else None) (sym unwanted)
-shows_exactly all t s f m name (inl asked) lane unique stamped known owes =
+pub shows_exactly : (cluster : List ℕ) (all : List TypedWrite) (t : TypeName) (s : Session) (f : Shelf) (m : Entries) (name : List ℕ) → Asks cluster t s f → Abreast cluster all t s None f → IsUnique all → AllStamped all → AllKnown all t m → (s.asked.begun ≡ true → sessions.owes Delta t s m ≡ false)
+    → finmap.get f.cache name ≡ shown_in (interest t cluster f.wants) m name
+shows_exactly cluster all t s f m name (inr never) lane unique stamped known owes =
+    let unwanted = nothing_wanted t f.wants name never.2 in
+    lane.within name unwanted ∙ sym (none_shown (interest t cluster f.wants) name (finmap.get m name) (wants_what_is_reached t cluster f.wants name ∙ unwanted))
+shows_exactly cluster all t s f m name (inl asked) lane unique stamped known owes =
     let begun : s.asked.begun ≡ true = ap (λ (a : Asked). a.begun) asked.1 in
     let owed_nothing : ledgers.owes Delta t s.asked.interest m s.account ≡ false = sym (ap (λ b. b && ledgers.owes Delta t s.asked.interest m s.account) begun) ∙ owes begun in
     let due = or_parts (is_some s.account.sent) (is_due Delta t s.asked.interest m s.account) owed_nothing in
@@ -97,9 +113,7 @@ shows_exactly all t s f m name (inl asked) lane unique stamped known owes =
     let shown : IsShown (present s.asked.interest m name) (finmap.get f.cache name) =
     shown_where_not_owed (finmap.get s.account.beliefs name) (present s.asked.interest m name) (finmap.get f.cache name) (told_always t (owed_of s.asked.interest m s.account.beliefs name) (nothing_owed Delta t s.asked.interest m s.account.beliefs name nothing)) (lane.told name)
     (lane.none name) in
-    let covered : covers s.asked.interest name ≡ is_wanted t f.wants name = ap (λ (a : Asked). covers a.interest name) asked.1 ∙ wants_what_is_covered t f.wants name in
-    shown_name all t m name (finmap.get f.cache name) (is_wanted t f.wants name) (finmap.get m name) refl unique stamped known (lane.made name)
-    (subst (λ b. IsShown (if b then option_and_then live_version (finmap.get m name) else None) (finmap.get f.cache name)) covered shown)
+    shown_name all t s.asked.interest m name (finmap.get f.cache name) (finmap.get m name) refl unique stamped known (lane.made name) shown ∙ ap (λ (a : Asked). shown_in a.interest m name) asked.1
   where
     first_of : (a b : Bool) → (a || b) ≡ false → a ≡ false
     first_of true b is = absurd cc
@@ -126,17 +140,17 @@ both_false false true is = absurd cc
 both_false false false is = (refl, refl)
 
 -- a stream that owes nothing of a type
-owed_by : (x : Stream) (store : Store) (t : TypeName) (f : Shelf) → IsDeltaStream x → Asks t (at x.sessions t) f → owes_of store x t ≡ false → (at x.sessions t).asked.begun ≡ true → sessions.owes Delta t (at x.sessions t) (at store t).entries ≡ false
-owed_by x store t f (inl fresh) asks nothing begun = let never : false ≡ true = ap (λ (s : Session). s.asked.begun) (sym (ap (λ p. at p t) fresh.1 ∙ at-each unopened t)) ∙ begun in absurd cc
-owed_by x store t f (inr delta) asks nothing begun = ap (λ v. option_map_or (λ k. sessions.owes k t (at x.sessions t) (at store t).entries) v false) (sym delta) ∙ nothing
+pub owed_by : (v : VariantName) (cluster : List ℕ) (x : Stream) (store : Store) (t : TypeName) → Speaks v cluster x → owes_of store x t ≡ false → (at x.sessions t).asked.begun ≡ true → sessions.owes v t (at x.sessions t) (at store t).entries ≡ false
+owed_by v cluster x store t (inl fresh) nothing begun = let never : false ≡ true = ap (λ (s : Session). s.asked.begun) (sym (ap (λ p. at p t) fresh.1 ∙ at-each (unopened cluster) t)) ∙ begun in absurd cc
+owed_by v cluster x store t (inr is) nothing begun = ap (λ o. option_map_or (λ k. sessions.owes k t (at x.sessions t) (at store t).entries) o false) (sym is) ∙ nothing
 
 -- what a client shows of a type, where nothing of it is under way on its link and its replica owes it nothing
 pub link_shows : (all : List TypedWrite) (t : TypeName) (c : Client) (l : Link) (x : Stream) (store : Store) (name : List ℕ) → Linked all c l x → IsUnique all → AllStamped all → AllKnown all t (at store t).entries → is_quiet t l ≡ true
-    → owes_of store x t ≡ false → finmap.get (shelf c t).cache name ≡ (if is_wanted t (shelf c t).wants name then live (at store t).entries name else None)
+    → owes_of store x t ≡ false → finmap.get (shelf c t).cache name ≡ shown_in (interest t c.cluster (shelf c t).wants) (at store t).entries name
 link_shows all t c l x store name linked unique stamped known quiet nothing =
     let parts = both_false (list_any (asks_for t) l.up) (list_any (λ d. is_same_type (kind_of d) t) l.down) quiet in
     let lane = linked.lanes t in
     let ups : lane_up t l.up ≡ [] = none_up t l.up parts.0 in
     let down : lane.down ≡ None = none_listed lane.down (sym (none_down t l.down parts.1) ∙ lane.downs_are) in
-    let abreast : Abreast all t (at x.sessions t) None (shelf c t) = subst (λ d. Abreast all t (at x.sessions t) d (shelf c t)) down (subst (λ ms. Abreast all t (folded t (at x.sessions t) ms) lane.down (shelf c t)) ups lane.abreast) in
-    shows_exactly all t (at x.sessions t) (shelf c t) (at store t).entries name abreast.asks abreast unique stamped known (owed_by x store t (shelf c t) linked.variant abreast.asks nothing)
+    let abreast : Abreast c.cluster all t (at x.sessions t) None (shelf c t) = subst (λ d. Abreast c.cluster all t (at x.sessions t) d (shelf c t)) down (subst (λ ms. Abreast c.cluster all t (folded t (at x.sessions t) ms) lane.down (shelf c t)) ups lane.abreast) in
+    shows_exactly c.cluster all t (at x.sessions t) (shelf c t) (at store t).entries name abreast.asks abreast unique stamped known (owed_by Delta c.cluster x store t linked.variant nothing)

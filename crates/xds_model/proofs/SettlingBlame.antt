@@ -32,7 +32,7 @@ use Rattle.xds_cache.specs.Sends.{sotw_first, delta_first}
 use Rattle.xds_model.specs.declared.event.ClientKind.{ClientKind}
 use Rattle.xds_model.specs.declared.event.ClientKind.TheVariants.{Sotw, Delta}
 use Rattle.xds_model.specs.Happenings.{Wish, Names as AllNames, Edits}
-use Rattle.xds_model.specs.Worlds.{Link, Peer, opening_requests, under_way, received_in, sending, wish_of}
+use Rattle.xds_model.specs.Worlds.{Link, Peer, opening_requests, under_way, received_in, with_request, wish_of}
 use Rattle.xds_model.specs.Knows.{TypedWrite}
 use Rattle.xds_model.specs.Claims.{asks_for}
 use Rattle.xds_model.proofs.Replicas.{some_is, mapped_some, never}
@@ -41,13 +41,14 @@ use Rattle.xds_model.proofs.Firsts.{firsts, firsts_by}
 use Rattle.xds_model.proofs.Folding as deltas
 use Rattle.xds_model.proofs.SotwFolding as sotws
 use Rattle.xds_model.proofs.Queues as queues
-use Rattle.xds_model.proofs.Queues.{lane_down, lane_down-append, nonces_differ}
+use Rattle.xds_model.proofs.Queues.{lane_down, lane_down-append, nonces_differ, started}
+use Rattle.xds_model.proofs.Starting.{started_decided}
 use Rattle.xds_model.proofs.SotwLinks as links
-use Rattle.xds_model.proofs.LinkSteps.{IsSent, poll_sent, poll_quiet, sending_facts, room_is}
+use Rattle.xds_model.proofs.LinkSteps.{IsSent, poll_sent, poll_quiet, sending_facts, due_as, room_is}
 use Rattle.xds_model.proofs.LinkSteps as steps
-use Rattle.xds_model.proofs.ByKind.{LinkedAs, wished_is}
+use Rattle.xds_model.proofs.ByKind.{LinkedAs, LinkedTo, none_brought, wished_is}
 use Rattle.xds_model.proofs.SettlingSessions.{HasAnswer, answered_quiet}
-use Rattle.xds_model.proofs.SettlingSteps.{ahead, ahead_more, up_ahead, spoken, speaks, due_as, delta_folded, sotw_ahead, one_lane, last_one, first_down, answer_asks, down_answers}
+use Rattle.xds_model.proofs.SettlingSteps.{ahead, ahead_more, up_home, spoken, speaks, delta_folded, sotw_ahead, one_lane, last_one, first_down, answer_asks, down_answers}
 use Rattle.xds_model.proofs.SettlingFaults.{IsBlamed, fault_at, sent_blamed}
 
 -- of a session, and the responses of its type that are under way: what was refused is to be blamed, and so is what will be
@@ -119,28 +120,40 @@ fair_request all test t s ms m downs accepts fair =
 
 -- ---- on a link
 
-abbrev pub FairOn : List TypedWrite → Test → Link → Stream → Type 0
-FairOn all test l x = (t : TypeName) → IsFair all test t (ahead t (at x.sessions t) l.up) (lane_down t l.down)
+-- with these sessions
+abbrev pub FairAt : List TypedWrite → Test → Link → Stream → Type 0
+FairAt all test l x = (t : TypeName) → IsFair all test t (ahead t (at x.sessions t) l.up) (lane_down t l.down)
 
-pub fair_up : (k : ClientKind) (all : List TypedWrite) (test : Test) (c : Client) (l : Link) (x : Stream) (m : Message) (rest : List Message) (z : Outcome × Stream) → l.up ≡ m ∷ rest → requested x m ≡ Ok z → LinkedAs k all c l x → FairOn all test l x
+-- and with those of a client of whatever cluster
+abbrev pub FairOn : List TypedWrite → Test → Link → Stream → Type 0
+FairOn all test l x = (cluster : List ℕ) → FairAt all test l (started cluster x)
+
+-- once the variant is decided, that is the same
+fair_as : (all : List TypedWrite) (test : Test) (l : Link) (x : Stream) (v : VariantName) → x.variant ≡ Some v → FairOn all test l x → FairAt all test l x
+fair_as all test l x v decided fair = subst (FairAt all test l) (started_decided [] x v decided) (fair [])
+
+linked_as : (k : ClientKind) (all : List TypedWrite) (c : Client) (l : Link) (x : Stream) (v : VariantName) → x.variant ≡ Some v → LinkedTo k all c l x → LinkedAs k all c l x
+linked_as k all c l x v decided linked = subst (LinkedAs k all c l) (started_decided c.cluster x v decided) linked.1
+
+pub fair_up : (k : ClientKind) (all : List TypedWrite) (test : Test) (c : Client) (l : Link) (x : Stream) (m : Message) (rest : List Message) (z : Outcome × Stream) → l.up ≡ m ∷ rest → requested x m ≡ Ok z → LinkedTo k all c l x → FairOn all test l x
     → FairOn all test (record l { up = rest }) z.1
-fair_up k all test c l x m rest z up is linked fair t = subst (λ a. IsFair all test t a (lane_down t l.down)) (sym (up_ahead k all c l x t m rest z up is linked)) (fair t)
+fair_up k all test c l x m rest z up is linked fair cluster t = subst (λ a. IsFair all test t a (lane_down t l.down)) (sym (up_home k all c l x cluster t m rest z up is linked)) (fair c.cluster t)
 
 -- ---- a change
 
-fair_sending : (all : List TypedWrite) (test : Test) (l : Link) (x : Stream) (b : Bool) (m : Message) → rejects_in m ≡ false → FairOn all test l x → FairOn all test (sending (if b then Some m else None) l) x
-fair_sending all test l x false m accepts fair t = fair t
-fair_sending all test l x true m accepts fair t = fair_request all test t (at x.sessions t) l.up m (lane_down t l.down) accepts (fair t)
+fair_requested : (all : List TypedWrite) (test : Test) (l : Link) (x : Stream) (b : Bool) (m : Message) → rejects_in m ≡ false → FairOn all test l x → FairOn all test (with_request (if b then Some m else None) l) x
+fair_requested all test l x false m accepts fair cluster t = fair cluster t
+fair_requested all test l x true m accepts fair cluster t = fair_request all test t (at (started cluster x).sessions t) l.up m (lane_down t l.down) accepts (fair cluster t)
 
-pub fair_changed : (k : ClientKind) (all : List TypedWrite) (test : Test) (p : Peer) (l : Link) (x : Stream) (t : TypeName) (wish : Wish) (q : Client × Option Message) → wish_of k p true t wish ≡ Some q → FairOn all test l x → FairOn all test (sending q.1 l) x
+pub fair_changed : (k : ClientKind) (all : List TypedWrite) (test : Test) (p : Peer) (l : Link) (x : Stream) (t : TypeName) (wish : Wish) (q : Client × Option Message) → wish_of k p true t wish ≡ Some q → FairOn all test l x → FairOn all test (with_request q.1 l) x
 fair_changed Sotw all test p l x t (Edits subscribe unsubscribe) q is fair = absurd cc
 fair_changed Delta all test p l x t (AllNames names) q is fair = absurd cc
 fair_changed Sotw all test p l x t (AllNames names) q is fair =
     let made = wished_is Sotw p true t (AllNames names) q is in
-    subst (λ o. FairOn all test (sending o l) x) (sym made.sent) (fair_sending all test l x (is_sent true (shelf p.client t) made.wants) made.message refl fair)
+    subst (λ o. FairOn all test (with_request o l) x) (sym made.sent) (fair_requested all test l x (is_sent true (shelf p.client t) made.wants) made.message refl fair)
 fair_changed Delta all test p l x t (Edits subscribe unsubscribe) q is fair =
     let made = wished_is Delta p true t (Edits subscribe unsubscribe) q is in
-    subst (λ o. FairOn all test (sending o l) x) (sym made.sent) (fair_sending all test l x (is_sent true (shelf p.client t) made.wants) made.message refl fair)
+    subst (λ o. FairOn all test (with_request o l) x) (sym made.sent) (fair_requested all test l x (is_sent true (shelf p.client t) made.wants) made.message refl fair)
 
 -- ---- the start of a stream
 
@@ -174,9 +187,9 @@ fair_requests all test t s (m ∷ ms) downs accepts fair =
     fair_requests all test t (if asks_for t m then session_after t s m else s) ms downs accepts.1 (fair_soft all test t s (if asks_for t m then session_after t s m else s) downs (softer_if t s m (asks_for t m) accepts.0) fair)
 
 pub fair_opened : (k : ClientKind) (all : List TypedWrite) (test : Test) (c : Client) (r n : ℕ) → FairOn all test (record { replica = r; stream = n; up = opening_requests k c; down = [] }) opening
-fair_opened k all test c r n t =
-    fair_requests all test t (at opening.sessions t) (opening_requests k c) [] (opening_accepts k c)
-    (subst (λ a. IsFair all test t a []) (sym (at-each unopened t)) (record { refused = λ o is. absurd (never o is); awaits = λ sent d has. absurd (never sent has) }))
+fair_opened k all test c r n cluster t =
+    fair_requests all test t (at (started cluster opening).sessions t) (opening_requests k c) [] (opening_accepts k c)
+    (subst (λ a. IsFair all test t a []) (sym (at-each (unopened cluster) t)) (record { refused = λ o is. absurd (never o is); awaits = λ sent d has. absurd (never sent has) }))
 
 -- ---- a poll
 
@@ -236,12 +249,12 @@ fair_own v all test t replica store x l d o a touched n known due draft is fair 
     })
 
 fair_poll_at : (k : ClientKind) (all : List TypedWrite) (test : Test) (replica : ℕ) (store : Store) (c : Client) (l : Link) (x y : Stream) (d : Draft) (t : TypeName) → ((s : TypeName) → AllKnown all s (at store s).entries) → (is : IsSent replica store x y d)
-    → kind_of d ≡ is.kind → ((is.kind ≡ t) × (is_same_type is.kind t ≡ true)) ⊎ ((is.kind ≢ t) × (is_same_type is.kind t ≡ false)) → LinkedAs k all c l x → FairOn all test l x
+    → kind_of d ≡ is.kind → ((is.kind ≡ t) × (is_same_type is.kind t ≡ true)) ⊎ ((is.kind ≢ t) × (is_same_type is.kind t ≡ false)) → LinkedAs k all c l x → FairAt all test l x
     → IsFair all test t (ahead t (at y.sessions t) l.up) (lane_down t (l.down ++ d ∷ []))
 fair_poll_at k all test replica store c l x y d t known is kind (inl same) linked fair =
     let s : TypeName = is.kind in
     let v : VariantName = spoken k in
-    let due = due_as v store x s is.offer (speaks k all c l x linked) is.due in
+    let due = due_as v c.cluster store x s is.offer (speaks k all c l x linked) is.due in
     let none = (sending_facts v s (at x.sessions s) (at store s).entries is.offer due.1).1 in
     let sent = ahead_sent k all c l x s is.offer linked none (room_is x.count is.room (counted_as k all c l x linked)) in
     let draft : d ≡ response_of replica store x.sessions s is.offer (suc x.count) v =
@@ -266,13 +279,20 @@ kind_sent replica store x y d is None none =
 kind_sent replica store x y d is (Some variants.StateOfTheWorld) at_v = ap kind_of (some_is d _ (is.sends ∙ ap (option_map (response_of replica store x.sessions is.kind is.offer (x.count + 1))) at_v))
 kind_sent replica store x y d is (Some variants.Delta) at_v = ap kind_of (some_is d _ (is.sends ∙ ap (option_map (response_of replica store x.sessions is.kind is.offer (x.count + 1))) at_v))
 
+sent_decides : (replica : ℕ) (store : Store) (x y : Stream) (d : Draft) → IsSent replica store x y d → (o : Option VariantName) → x.variant ≡ o → (v : VariantName) × (x.variant ≡ Some v)
+sent_decides replica store x y d is None none = absurd (never d (sym (is.sends ∙ ap (option_map (response_of replica store x.sessions is.kind is.offer (x.count + 1))) none)))
+sent_decides replica store x y d is (Some v) decided = (v, decided)
+
 pub fair_poll : (k : ClientKind) (all : List TypedWrite) (test : Test) (replica : ℕ) (store : Store) (c : Client) (l : Link) (x y : Stream) (ts : List TypeName) (o : Option Draft) → ((s : TypeName) → AllKnown all s (at store s).entries)
-    → polled_first replica store x ts ≡ Ok (o, y) → LinkedAs k all c l x → FairOn all test l x → FairOn all test (record l { down = l.down ++ under_way o }) y
-fair_poll k all test replica store c l x y ts None known is linked fair t =
-    subst (λ (z : Stream). IsFair all test t (ahead t (at z.sessions t) l.up) (lane_down t (l.down ++ []))) (sym (poll_quiet replica store x y ts is))
-    (subst (λ ds. IsFair all test t (ahead t (at x.sessions t) l.up) (lane_down t ds)) (sym (append-nil l.down)) (fair t))
-fair_poll k all test replica store c l x y ts (Some d) known is linked fair t =
-    let sent = poll_sent replica store x y ts d is in fair_poll_at k all test replica store c l x y d t known sent (kind_sent replica store x y d sent x.variant refl) (same_type sent.kind t) linked fair
+    → polled_first replica store x ts ≡ Ok (o, y) → LinkedTo k all c l x → FairOn all test l x → FairOn all test (record l { down = l.down ++ under_way o }) y
+fair_poll k all test replica store c l x y ts None known is linked fair cluster t =
+    subst (λ (z : Stream). IsFair all test t (ahead t (at (started cluster z).sessions t) l.up) (lane_down t (l.down ++ []))) (sym (poll_quiet replica store x y ts is))
+    (subst (λ ds. IsFair all test t (ahead t (at (started cluster x).sessions t) l.up) (lane_down t ds)) (sym (append-nil l.down)) (fair cluster t))
+fair_poll k all test replica store c l x y ts (Some d) known is linked fair cluster t =
+    let sent = poll_sent replica store x y ts d is in
+    let v = sent_decides replica store x y d sent x.variant refl in
+    subst (λ (z : Stream). IsFair all test t (ahead t (at z.sessions t) l.up) (lane_down t (l.down ++ d ∷ []))) (sym (started_decided cluster y v.0 (ap (λ (z : Stream). z.variant) sent.left ∙ v.1)))
+    (fair_poll_at k all test replica store c l x y d t known sent (kind_sent replica store x y d sent x.variant refl) (same_type sent.kind t) (linked_as k all c l x v.0 v.1 linked) (fair_as all test l x v.0 v.1 fair))
 
 -- ---- a response that the client takes
 
@@ -288,7 +308,7 @@ fair_answer v all test t a b d downs fair h rejects = record {
     by_answer false is o refused = absurd (never o (sym (ap (λ r. (answered v t a.account h.sent r).refused) is) ∙ refused))
 
 fair_down_at : (k : ClientKind) (all : List TypedWrite) (test : Test) (c : Client) (l : Link) (x : Stream) (d : Draft) (rest : List Draft) (q : Client × Message) (t : TypeName) (own : Bool) → l.down ≡ d ∷ rest → received_in test k c d ≡ Some q → is_same_type (kind_of d) t ≡ own
-    → LinkedAs k all c l x → FairOn all test l x → IsFair all test t (if own then session_after t (ahead t (at x.sessions t) l.up) q.1 else ahead t (at x.sessions t) l.up) (lane_down t rest)
+    → LinkedAs k all c l x → FairAt all test l x → IsFair all test t (if own then session_after t (ahead t (at x.sessions t) l.up) q.1 else ahead t (at x.sessions t) l.up) (lane_down t rest)
 fair_down_at k all test c l x d rest q t true down is own linked fair =
     let answer = down_answers k all test c l x d rest q t down is own linked in
     let one = one_lane k all c l x t linked in
@@ -298,10 +318,22 @@ fair_down_at k all test c l x d rest q t true down is own linked fair =
 fair_down_at k all test c l x d rest q t false down is own linked fair =
     subst (IsFair all test t (ahead t (at x.sessions t) l.up)) (ap (lane_down t) down ∙ ap (λ b. if b then d ∷ lane_down t rest else lane_down t rest) own) (fair t)
 
-pub fair_down : (k : ClientKind) (all : List TypedWrite) (test : Test) (c : Client) (l : Link) (x : Stream) (d : Draft) (rest : List Draft) (q : Client × Message) → l.down ≡ d ∷ rest → received_in test k c d ≡ Some q → LinkedAs k all c l x → FairOn all test l x
-    → FairOn all test (record l { up = l.up ++ q.1 ∷ []; down = rest }) x
-fair_down k all test c l x d rest q down is linked fair t =
+fair_down_as : (k : ClientKind) (all : List TypedWrite) (test : Test) (c : Client) (l : Link) (x : Stream) (d : Draft) (rest : List Draft) (q : Client × Message) → l.down ≡ d ∷ rest → received_in test k c d ≡ Some q → LinkedAs k all c l x → FairAt all test l x
+    → FairAt all test (record l { up = l.up ++ q.1 ∷ []; down = rest }) x
+fair_down_as k all test c l x d rest q down is linked fair t =
     let own : Bool = is_same_type (kind_of d) t in
     let left : ahead t (at x.sessions t) (l.up ++ q.1 ∷ []) ≡ (if own then session_after t (ahead t (at x.sessions t) l.up) q.1 else ahead t (at x.sessions t) l.up) =
     ahead_more t (at x.sessions t) l.up q.1 ∙ ap (λ b. if b then session_after t (ahead t (at x.sessions t) l.up) q.1 else ahead t (at x.sessions t) l.up) (answer_asks k test c d q t is) in
     subst (λ a. IsFair all test t a (lane_down t rest)) (sym left) (fair_down_at k all test c l x d rest q t own down is refl linked fair)
+
+pub fair_down : (k : ClientKind) (all : List TypedWrite) (test : Test) (c : Client) (l : Link) (x : Stream) (d : Draft) (rest : List Draft) (q : Client × Message) → l.down ≡ d ∷ rest → received_in test k c d ≡ Some q → LinkedTo k all c l x → FairOn all test l x
+    → FairOn all test (record l { up = l.up ++ q.1 ∷ []; down = rest }) x
+fair_down k all test c l x d rest q down is linked fair cluster = by_variant x.variant refl
+  where
+    next : Link
+    next = record l { up = l.up ++ q.1 ∷ []; down = rest }
+
+    by_variant : (o : Option VariantName) → x.variant ≡ o → FairAt all test next (started cluster x)
+    by_variant None none = absurd (none_brought all k c l (started c.cluster x) d rest down none linked.1)
+    by_variant (Some v) decided =
+        subst (FairAt all test next) (sym (started_decided cluster x v decided)) (fair_down_as k all test c l x d rest q down is (linked_as k all c l x v decided linked) (fair_as all test l x v decided fair))

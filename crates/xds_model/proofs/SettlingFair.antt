@@ -17,7 +17,7 @@ use Rattle.xds_core.specs.Steps.{Core, fresh as fresh_core}
 use Rattle.xds_shelf.specs.Faults.{Test}
 use Rattle.xds_cache.specs.Clients.{Client, unlinked}
 use Rattle.xds_model.specs.Happenings.{Happening, Wish, AddReplica, AddClient, Put, Delete, Snapshot, Merge, Connect, Change, Up, Poll, Down, Lose}
-use Rattle.xds_model.specs.Worlds.{Site, Link, Peer, World, empty_world, at_site, happened_at, placed, pooled, with_peer, new_peer, connected_to, opened, sending, changed, wish_of, wish_taken, under_way, polled, up_taken, received, taken_down, down_taken, opening_requests, is_free, happens, after}
+use Rattle.xds_model.specs.Worlds.{Site, Link, Peer, World, empty_world, at_site, happened_at, placed, pooled, with_peer, new_peer, connected_to, opened, with_request, changed, wish_of, wish_taken, under_way, polled, up_taken, received, taken_down, down_taken, opening_requests, is_free, happens, after}
 use Rattle.xds_model.specs.Knows.{TypedWrite, made_now}
 use Rattle.xds_model.specs.Settling.{link_in}
 use Rattle.xds_model.proofs.Replicas.{some_is, bound_some, mapped_some, if_some, if_both, both_parts, none_there, never}
@@ -146,13 +146,13 @@ fair_lost test w left all c s is fine fair =
 fair_wished : (test : Test) (w left : World) (all : List TypedWrite) (c : ℕ) (p : Peer) (t : TypeName) (wish : Wish) (q : Client × Option Message) (o : Option Link) → finmap.get w.peers c ≡ Some p → p.link ≡ o → wish_taken p t wish ≡ Some q → left ≡ with_peer w c (changed p q) → Fine w all
     → IsFairWorld all test w → IsFairWorld all test left
 fair_wished test w left all c p t wish q None has linked wished is fine fair =
-    fair_peer w left all test c (changed p q) (ap (λ y. y.peers) is) (λ d m other at_d. ap (λ y. stream_at y m.replica m.stream) is) (λ l z link there. absurd (never l (sym (ap (option_map (sending q.1)) linked) ∙ link))) fair
+    fair_peer w left all test c (changed p q) (ap (λ y. y.peers) is) (λ d m other at_d. ap (λ y. stream_at y m.replica m.stream) is) (λ l z link there. absurd (never l (sym (ap (option_map (with_request q.1)) linked) ∙ link))) fair
 fair_wished test w left all c p t wish q (Some l) has linked wished is fine fair =
     let s = spot_by w all c p l has linked fine in
     let now : stream_at left l.replica l.stream ≡ stream_at w l.replica l.stream = ap (λ y. stream_at y l.replica l.stream) is in
     let wish_is : wish_of p.kind p true t wish ≡ Some q = ap (λ y. wish_of p.kind p (is_some y) t wish) (sym linked) ∙ wished in
     fair_peer w left all test c (changed p q) (ap (λ y. y.peers) is) (λ d m other at_d. ap (λ y. stream_at y m.replica m.stream) is)
-    (λ k z link there. let is_k : sending q.1 l ≡ k = some_is (sending q.1 l) k (sym (ap (option_map (sending q.1)) linked) ∙ link) in
+    (λ k z link there. let is_k : with_request q.1 l ≡ k = some_is (with_request q.1 l) k (sym (ap (option_map (with_request q.1)) linked) ∙ link) in
     let same : stream_at left k.replica k.stream ≡ stream_at left l.replica l.stream =
     λ i. stream_at left ((sym (ap (λ (y : Link). y.replica) is_k) ∙ same_replica_on q.1 l) i) ((sym (ap (λ (y : Link). y.stream) is_k) ∙ same_stream_on q.1 l) i) in
     subst (λ y. FairOn all test y z) is_k
@@ -215,8 +215,8 @@ fair_happens : (test : Test) (w left : World) (all : List TypedWrite) (h : Happe
 fair_happens test w left all (AddReplica r) is known fine fair =
     let made = if_some (is_free w r) (record w { sites = finmap.insert w.sites r (record { core = fresh_core r; journal = [] }) }) left is in
     fair_added test w left all r (none_there (finmap.get w.sites r) (both_parts _ (is_none (finmap.get w.sites r)) made.0).1) made.1 fair
-fair_happens test w left all (AddClient c kind) is known fine fair = fair_joined test w left all c (new_peer c kind) refl (if_some (is_none (finmap.get w.peers c)) (with_peer w c (new_peer c kind)) left is).1 fair
-fair_happens test w left all (Put r t body) is known fine fair = fair_written test w left all r (events.Put t body) (λ c. refl) is fair
+fair_happens test w left all (AddClient c kind cluster) is known fine fair = fair_joined test w left all c (new_peer c kind cluster) refl (if_some (is_none (finmap.get w.peers c)) (with_peer w c (new_peer c kind cluster)) left is).1 fair
+fair_happens test w left all (Put r t body groups) is known fine fair = fair_written test w left all r (events.Put t body groups) (λ c. refl) is fair
 fair_happens test w left all (Delete r t name) is known fine fair = fair_written test w left all r (events.Delete t name) (λ c. refl) is fair
 fair_happens test w left all (Snapshot r) is known fine fair =
     let made = bound_some (pooled r) (at_site w r events.Snapshot) left is in
@@ -246,7 +246,7 @@ fair_happens test w left all (Lose c) is known fine fair =
     fair_lost test w left all c s (at_spot w c (λ p l. option_map (λ q. with_peer q.1 c (record p { client = unlinked p.client; link = None })) (at_site w l.replica (events.Close l.stream))) left s is) fine fair
 
 pub fair_step : (test : Test) (w left : World) (all : List TypedWrite) (h : Happening) → happens test w h ≡ Some left → AllSitesKnown w all → Fine w all → IsFairWorld all test w → IsFairWorld (all ++ made_now w h) test left
-fair_step test w left all h is known fine fair c l x linked there t = fair_more all (made_now w h) test t _ _ (fair_happens test w left all h is known fine fair c l x linked there t)
+fair_step test w left all h is known fine fair c l x linked there cluster t = fair_more all (made_now w h) test t _ _ (fair_happens test w left all h is known fine fair c l x linked there cluster t)
 
 pub fair_start : (test : Test) → IsFairWorld [] test empty_world
 fair_start test c l x linked = absurd (never l (sym (ap (option_and_then (λ (p : Peer). p.link)) (finmap.get-empty nat_cmp c)) ∙ linked))

@@ -1,4 +1,4 @@
--- Why a client rejects a response: its test refuses a resource that the response states, or that resource is too long to be taken.
+-- Why a client rejects a response: its test refuses a resource that the response states.
 use Rattle.std.proofs.Common.{◌≡◌, ◌⊎◌, inl, inr, ℕ, ◌≤◌, ◌<◌, List, [], ◌∷◌, map, length, Bool, true, false, cond, ◌||◌, not, Option, Some, None, refl, sym, ap, subst, ◌∙◌, arith}
 use Rattle.std.specs.Prelude.{T, bytes_eq, if◌then◌else◌, is_some, option_map, Contains, ⊤}
 use Rattle.std.specs.Option.{option_or, option_and_then, option_map_or}
@@ -6,11 +6,10 @@ use Rattle.std.specs.Ordering.{is_lt}
 use Rattle.std.specs.List.{filter, filter_map, cons_option}
 use Rattle.std.specs.FinMap as finmap
 use Rattle.std.specs.FinMap.Entries.{below_all, is_sorted}
-use Rattle.std.proofs.lemmas.Bool.Decides.{leb_tells}
 use Rattle.std.proofs.lemmas.Map.Text.{is_eq-slice_cmp}
 use Rattle.xds_resource.specs.declared.types.TypeName.{TypeName}
 use Rattle.xds_resource.specs.Types.{row}
-use Rattle.xds_resource.specs.Resources.{NamedBody, IsCanonical, max_text, value_of, resource_of, from_value}
+use Rattle.xds_resource.specs.Resources.{NamedBody, IsCanonical, value_of, resource_of, from_value}
 use Rattle.xds_resource.specs.Writes.{StampedWrite, text_cmp, version_of}
 use Rattle.xds_resource.specs.PerType.{PerType, at}
 use Rattle.xds_resource.proofs.NameMaps.{has_text, get-insert, get-tabulate, bytes_eq_same, bytes_eq_tells}
@@ -26,7 +25,7 @@ use Rattle.xds_owed.specs.declared.variant.VariantName.TheVariants as variants
 use Rattle.xds_owed.specs.declared.entry.Due.{Due}
 use Rattle.xds_owed.specs.declared.entry.Due.TheVariants.{Stated, Removed}
 use Rattle.xds_owed.specs.Variants.{is_whole}
-use Rattle.xds_owed.specs.Owed.{Beliefs, live_version, present, is_owed, owed_of}
+use Rattle.xds_owed.specs.Owed.{Beliefs, live_version, version_shown, present, is_owed, owed_of}
 use Rattle.xds_owed.specs.Offers.{Offer, offer, stated_version}
 use Rattle.xds_ledger.specs.Sessions as sessions
 use Rattle.xds_ledger.specs.Sessions.{Session}
@@ -40,7 +39,7 @@ use Rattle.xds_shelf.specs.Shelves.{Cache, Wants, wants_of, marked}
 use Rattle.xds_shelf.specs.Faults.{Test, Stated as StatedResource, first_reason, is_misnamed, fault_by, fault_of, and_stated, first_fault, holding_of}
 use Rattle.xds_shelf.specs.Deliveries.{sotw_stated, sotw_delivery, delta_delivery, fault_in}
 use Rattle.xds_model.specs.Knows.{TypedWrite}
-use Rattle.xds_model.proofs.Replicas.{some_is}
+use Rattle.xds_model.proofs.Replicas.{some_is, if_some, if_both}
 use Rattle.xds_delta.proofs.Stating.{present_if_stated, kept_at}
 use Rattle.xds_model.proofs.Delivering as delivering
 use Rattle.xds_model.proofs.Delivering.{IsKnown, AllKnown, canonical_is}
@@ -53,10 +52,6 @@ use Rattle.xds_model.proofs.SotwSteps.{one_of_both}
 use Rattle.xds_model.proofs.SettlingSessions.{never_both}
 
 -- ---- one resource
-
--- if the resource isn't too long, the test refuses it
-abbrev pub IsRefused : Test → TypeName → List ℕ → List ℕ → Type 0
-IsRefused test t name body = length body ≤ max_text → test (row t).url name (value_of body) ≡ false
 
 no_reason : (a b c : Bool) (x y z : List ℕ) → a ≡ false → b ≡ false → c ≡ false → first_reason ((a, x) ∷ (b, y) ∷ (c, z) ∷ []) ≡ None
 no_reason true b c x y z first second third = absurd cc
@@ -80,27 +75,20 @@ canonical_of all t m r n of = subst (λ x. IsCanonical t (record { name = x; bod
 name_of : (all : List TypedWrite) (t : TypeName) (m : Entries) (r : StatedResource) (n : List ℕ) → IsOf all t m r n → (resource_of t r.resource).name ≡ n
 name_of all t m r n of = ap (λ d. (resource_of t d).name) of.resource ∙ ap (λ (x : NamedBody). x.name) (canonical_is t (record { name = n; body = of.body }) (canonical_of all t m r n of))
 
--- a resource that is neither too long nor refused by the test isn't at fault, where its name is new
+-- a resource that the test takes isn't at fault, where its name is new
 faultless : (all : List TypedWrite) (t : TypeName) (test : Test) (removed : Wants) (before : Cache) (m : Entries) (r : StatedResource) (n : List ℕ) → (of : IsOf all t m r n) → finmap.contains_key before n ≡ false → finmap.contains_key removed n ≡ false
-    → length of.body ≤ max_text → test (row t).url n (value_of of.body) ≡ true → fault_of t test removed before r ≡ None
-faultless all t test removed before m r n of fresh stays short takes =
-    ap (fault_by t test removed before r) (ap (from_value t) of.resource ∙ from_value-canonical t (record { name = n; body = of.body }) (canonical_of all t m r n of) short)
+    → test (row t).url n (value_of of.body) ≡ true → fault_of t test removed before r ≡ None
+faultless all t test removed before m r n of fresh stays takes =
+    ap (fault_by t test removed before r) (ap (from_value t) of.resource ∙ from_value-canonical t (record { name = n; body = of.body }) (canonical_of all t m r n of))
     ∙ no_reason (is_misnamed r.named n) (finmap.contains_key before n || finmap.contains_key removed n) (not (test (row t).url n r.resource)) _ _ _ of.named (λ i. fresh i || stays i) (ap not (ap (test (row t).url n) of.resource ∙ takes))
 
 decided : (all : List TypedWrite) (t : TypeName) (test : Test) (removed : Wants) (before : Cache) (m : Entries) (r : StatedResource) (n : List ℕ) → (of : IsOf all t m r n) → finmap.contains_key before n ≡ false → finmap.contains_key removed n ≡ false
-    → IsRefused test t n of.body ⊎ (fault_of t test removed before r ≡ None)
-decided all t test removed before m r n of fresh stays =
-    elim (leb_tells (length of.body) max_text) [
-      | inl short ↦ by_test (test (row t).url n (value_of of.body)) refl short.1
-      | inr long ↦ inl (λ short. absurd (too_long (length of.body) max_text short long.1))
-    ]
+    → (test (row t).url n (value_of of.body) ≡ false) ⊎ (fault_of t test removed before r ≡ None)
+decided all t test removed before m r n of fresh stays = by_test (test (row t).url n (value_of of.body)) refl
   where
-    too_long : (a b : ℕ) → a ≤ b → b < a → ⊥
-    too_long a b short long = absurd (omega (arith, short, long))
-
-    by_test : (b : Bool) → test (row t).url n (value_of of.body) ≡ b → length of.body ≤ max_text → IsRefused test t n of.body ⊎ (fault_of t test removed before r ≡ None)
-    by_test true takes short = inr (faultless all t test removed before m r n of fresh stays short takes)
-    by_test false refuses short = inl (λ _. refuses)
+    by_test : (b : Bool) → test (row t).url n (value_of of.body) ≡ b → (test (row t).url n (value_of of.body) ≡ false) ⊎ (fault_of t test removed before r ≡ None)
+    by_test true takes = inr (faultless all t test removed before m r n of fresh stays takes)
+    by_test false refuses = inl refuses
 
 -- ---- the resources of a response
 
@@ -120,7 +108,7 @@ pub record Blamed (all : List TypedWrite) (test : Test) (t : TypeName) (m : Entr
   pub found : finmap.get m name ≡ Some write
   pub known : IsKnown all t name write
   pub puts : write.body ≡ Some body
-  pub refused : IsRefused test t name body
+  pub refused : test (row t).url name (value_of body) ≡ false
 
 right_true : (a b : Bool) → b ≡ true → (a || b) ≡ true
 right_true true b is = refl
@@ -271,16 +259,10 @@ present_by v t s m b q version false is = present_if_stated (finmap.get b q) (pr
 pub stated_present : (v : VariantName) (t : TypeName) (s : Selection) (m : Entries) (b : Beliefs) (q version : List ℕ) → finmap.get (offer v t s m b) q ≡ Some (Stated version) → present s m q ≡ Some version
 stated_present v t s m b q version is = present_by v t s m b q version (is_whole v t) (sym (offer_says_it v t s m b q) ∙ is)
 
-pub present_version : (s : Selection) (m : Entries) (q version : List ℕ) (w : StampedWrite) (covered : Bool) → covers s q ≡ covered → finmap.get m q ≡ Some w → present s m q ≡ Some version → (covered ≡ true) × (is_some w.body ≡ true) × (version_of w ≡ version)
-present_version s m q version w covered covers_it found is = at_cover covered (sym (λ i. if covers_it i then option_and_then live_version (found i) else None) ∙ is)
-  where
-    at_body : (b : Bool) → (if b then Some (version_of w) else None) ≡ Some version → (b ≡ true) × (version_of w ≡ version)
-    at_body true e = (refl, some_is (version_of w) version e)
-    at_body false e = absurd cc
-
-    at_cover : (c : Bool) → (if c then live_version w else None) ≡ Some version → (c ≡ true) × (is_some w.body ≡ true) × (version_of w ≡ version)
-    at_cover true e = let body = at_body (is_some w.body) e in (refl, body.0, body.1)
-    at_cover false e = absurd cc
+pub present_version : (s : Selection) (m : Entries) (q version : List ℕ) (w : StampedWrite) → finmap.get m q ≡ Some w → present s m q ≡ Some version → (covers s q w.groups ≡ true) × (is_some w.body ≡ true) × (version_of w ≡ version)
+present_version s m q version w found is =
+    let shown = if_both (covers s q w.groups) (live_version w) version (sym (ap (option_and_then (version_shown s q)) found) ∙ is) in
+    let body = if_some (is_some w.body) (version_of w) version shown.1 in (shown.0, body.0, sym body.1)
 
 -- ---- what is to be blamed
 
@@ -294,12 +276,12 @@ pub record IsBlamed (all : List TypedWrite) (test : Test) (t : TypeName) (o : Of
   pub made : Contains all (t, write)
   pub is_at : version_of write ≡ version
   pub puts : write.body ≡ Some body
-  pub refused : IsRefused test t name body
+  pub refused : test (row t).url name (value_of body) ≡ false
 
 blamed_at : (v : VariantName) (all : List TypedWrite) (test : Test) (t : TypeName) (s : Selection) (m : Entries) (b : Beliefs) (ns : List (List ℕ)) → (blamed : Blamed all test t m ns) → (version : List ℕ) → finmap.get (offer v t s m b) blamed.name ≡ Some (Stated version)
     → IsBlamed all test t (offer v t s m b)
 blamed_at v all test t s m b ns blamed version states =
-    let here = present_version s m blamed.name version blamed.write (covers s blamed.name) refl blamed.found (stated_present v t s m b blamed.name version states) in
+    let here = present_version s m blamed.name version blamed.write blamed.found (stated_present v t s m b blamed.name version states) in
     record { name = blamed.name; version = version; write = blamed.write; body = blamed.body; states = states; made = blamed.known.made; is_at = here.2; puts = blamed.puts; refused = blamed.refused }
 
 statement_is : (x : Option Due) → option_map_or is_statement x false ≡ true → (version : List ℕ) × (x ≡ Some (Stated version))

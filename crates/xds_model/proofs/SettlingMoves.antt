@@ -25,10 +25,12 @@ use Rattle.xds_model.specs.Knows.{TypedWrite}
 use Rattle.xds_model.specs.Claims.{asks_for, is_quiet, is_settled, PutsAResource}
 use Rattle.xds_model.specs.Settling.{brings, polls_unless, next_on, link_in, next_to_settle, gave_nothing, takes_one, taken_now}
 use Rattle.xds_model.proofs.Replicas.{some_is, bound_some, mapped_some}
-use Rattle.xds_model.proofs.ByKind.{LinkedAs}
+use Rattle.xds_model.proofs.ByKind.{LinkedAs, received_stays}
+use Rattle.xds_model.proofs.Queues.{started}
+use Rattle.xds_model.proofs.Starting.{polled_started}
 use Rattle.xds_model.proofs.Everyone.{Fine}
 use Rattle.xds_model.proofs.SettlingSessions.{HasAnswer}
-use Rattle.xds_model.proofs.SettlingSteps.{Spot, link_at, linked_at, at_spot, moved, at_stream, ahead, ahead_more, up_ahead, spoken, speaks, poll_is, among, none_more, one_more, none_behind, answer_asks, down_answers, received_wants}
+use Rattle.xds_model.proofs.SettlingSteps.{Spot, link_at, linked_at, own_stream, at_spot, moved, at_stream, ahead, ahead_more, up_home, spoken, speaks, poll_is, among, none_more, one_more, none_behind, answer_asks, down_answers, received_wants}
 use Rattle.xds_model.proofs.EveryEvent.{polled_reply, get_put}
 
 -- ---- what is done next
@@ -74,7 +76,7 @@ is_poll h = false
 
 -- the session of the type once all requests under way are taken, and what the replica holds of it
 abbrev pub session_at : (w : World) (c : ℕ) → TypeName → Spot w c → Session
-session_at w c t s = ahead t (at s.stream.sessions t) s.link.up
+session_at w c t s = ahead t (at (own_stream w c s).sessions t) s.link.up
 
 abbrev pub held_at : (w : World) (c : ℕ) → TypeName → Spot w c → Entries
 held_at w c t s = (at s.site.core.store t).entries
@@ -108,6 +110,7 @@ pub record Moved (w y : World) (c : ℕ) (t : TypeName) (h : Happening) (s : Spo
   pub spot : Spot y c
   pub kind : spot.peer.kind ≡ s.peer.kind
   pub held : held_at y c t spot ≡ held_at w c t s
+  pub cluster : spot.peer.client.cluster ≡ s.peer.client.cluster
   pub wants : (shelf spot.peer.client t).wants ≡ (shelf s.peer.client t).wants
   pub how : Stays w y c t h s spot ⊎ (Takes w y c t h s spot ⊎ (Sends w y c t h s spot ⊎ Ends w y c t h s spot))
 
@@ -125,8 +128,9 @@ up_moved test w y all c t s m rest up is fine =
       spot = moved w c s.link.replica x.site x.stream after (record s.link { up = rest }) refl refl x.opened;
       kind = refl;
       held = ap (λ (p : Store). (at p t).entries) x.store;
+      cluster = refl;
       wants = refl;
-      how = inl (refl, refl, up_ahead s.peer.kind all s.peer.client s.link s.stream t m rest (x.answer, x.stream) up x.made (linked_at w all c s fine), refl, refl);
+      how = inl (refl, refl, up_home s.peer.kind all s.peer.client s.link s.stream s.peer.client.cluster t m rest (x.answer, x.stream) up x.made (linked_at w all c s fine), refl, refl);
     })
 
 -- ---- Poll
@@ -142,16 +146,21 @@ poll_moved test w y all c t s up none is fine =
     let spot = moved w c s.link.replica x.site x.stream after next refl refl x.opened in
     let told : gave_nothing t (Poll c (Some t)) (link_in (with_peer (record w { sites = finmap.insert w.sites s.link.replica x.site }) c after) c) ≡ not (brings t next) =
     ap (gave_nothing t (Poll c (Some t))) (link_at (with_peer (record w { sites = finmap.insert w.sites s.link.replica x.site }) c after) c spot) in
-    let here : session_at w c t s ≡ at s.stream.sessions t = ap (ahead t (at s.stream.sessions t)) up in
-    let behind : ahead t (at x.stream.sessions t) s.link.up ≡ at x.stream.sessions t = ap (ahead t (at x.stream.sessions t)) up in
+    let cluster : List ℕ = s.peer.client.cluster in
+    let own : Stream = own_stream w c s in
+    let left_own : Stream = started cluster x.stream in
+    let here : session_at w c t s ≡ at own.sessions t = ap (ahead t (at own.sessions t)) up in
+    let behind : ahead t (at left_own.sessions t) s.link.up ≡ at left_own.sessions t = ap (ahead t (at left_own.sessions t)) up in
+    let own_made = polled_started s.site.core.replica s.site.core.store cluster s.stream x.stream (looked_at (Some t)) x.answer x.made in
     subst (λ k. Moved w k c t (Poll c (Some t)) s) (sym left)
     (record {
       spot = spot;
       kind = refl;
       held = ap (λ (p : Store). (at p t).entries) x.store;
+      cluster = refl;
       wants = refl;
       how = inr (inr
-          (elim (poll_is (spoken s.peer.kind) s.site.core.replica s.site.core.store s.stream t (x.answer, x.stream) (speaks s.peer.kind all s.peer.client s.link s.stream (linked_at w all c s fine)) x.made) [
+          (elim (poll_is (spoken s.peer.kind) cluster s.site.core.replica s.site.core.store own t (x.answer, left_own) (speaks s.peer.kind all s.peer.client s.link own (linked_at w all c s fine).1) own_made) [
             | inl sent ↦
                 inl (record {
                   takes = refl;
@@ -190,8 +199,8 @@ down_spot w c s rest q = record {
 }
 
 down_how : (test : Test) (w : World) (all : List TypedWrite) (c : ℕ) (t : TypeName) (s : Spot w c) (d : Draft) (rest : List Draft) (q : Client × Message) (own : Bool) → s.link.down ≡ d ∷ rest → received test s.peer d ≡ Some q → is_same_type (kind_of d) t ≡ own
-    → taken_now c t w (Down c) ≡ (if own then 1 else 0) → ahead t (at s.stream.sessions t) (s.link.up ++ q.1 ∷ []) ≡ (if own then session_after t (session_at w c t s) q.1 else session_at w c t s) → brings t s.link ≡ (own || among t rest)
-    → LinkedAs s.peer.kind all s.peer.client s.link s.stream
+    → taken_now c t w (Down c) ≡ (if own then 1 else 0) → ahead t (at (started q.0.cluster s.stream).sessions t) (s.link.up ++ q.1 ∷ []) ≡ (if own then session_after t (session_at w c t s) q.1 else session_at w c t s) → brings t s.link ≡ (own || among t rest)
+    → LinkedAs s.peer.kind all s.peer.client s.link (own_stream w c s)
     → let y = with_peer w c (taken_down s.peer s.link rest q) in
     let z = down_spot w c s rest q in
     Stays w y c t (Down c) s z ⊎ (Takes w y c t (Down c) s z ⊎ (Sends w y c t (Down c) s z ⊎ Ends w y c t (Down c) s z))
@@ -199,9 +208,9 @@ down_how test w all c t s d rest q true down is kind takes after before linked =
     inr (inl (
       refl,
       takes,
-      subst (HasAnswer (spoken s.peer.kind) t (session_at w c t s)) (sym after) (down_answers s.peer.kind all test s.peer.client s.link s.stream d rest q t down is kind linked).0,
+      subst (HasAnswer (spoken s.peer.kind) t (session_at w c t s)) (sym after) (down_answers s.peer.kind all test s.peer.client s.link (own_stream w c s) d rest q t down is kind linked).0,
       before,
-      none_behind s.peer.kind all s.peer.client s.link s.stream t d rest down kind linked,
+      none_behind s.peer.kind all s.peer.client s.link (own_stream w c s) t d rest down kind linked,
       refl,
     ))
 down_how test w all c t s d rest q false down is kind takes after before linked = inl (refl, takes, after, sym before, refl)
@@ -210,11 +219,11 @@ down_by : (test : Test) (w : World) (all : List TypedWrite) (c : ℕ) (t : TypeN
     → Moved w (with_peer w c (taken_down s.peer s.link rest q)) c t (Down c) s
 down_by test w all c t s d rest q own down is kind fine =
     let asks : asks_for t q.1 ≡ own = answer_asks s.peer.kind test s.peer.client d q t is ∙ kind in
-    let after : ahead t (at s.stream.sessions t) (s.link.up ++ q.1 ∷ []) ≡ (if own then session_after t (session_at w c t s) q.1 else session_at w c t s) =
-    ahead_more t (at s.stream.sessions t) s.link.up q.1 ∙ ap (λ b. if b then session_after t (session_at w c t s) q.1 else session_at w c t s) asks in
+    let after : ahead t (at (started q.0.cluster s.stream).sessions t) (s.link.up ++ q.1 ∷ []) ≡ (if own then session_after t (session_at w c t s) q.1 else session_at w c t s) =
+    ap (λ k. ahead t (at (started k s.stream).sessions t) (s.link.up ++ q.1 ∷ [])) (received_stays s.peer.kind test s.peer.client d q is).0 ∙ ahead_more t (at (own_stream w c s).sessions t) s.link.up q.1 ∙ ap (λ b. if b then session_after t (session_at w c t s) q.1 else session_at w c t s) asks in
     let takes : taken_now c t w (Down c) ≡ (if own then 1 else 0) = ap (λ o. option_map_or (λ (l : Link). takes_one t l.down) o 0) (link_at w c s) ∙ ap (takes_one t) down ∙ ap (λ b. if b then 1 else 0) kind in
     let before : brings t s.link ≡ (own || among t rest) = ap (among t) down ∙ ap (λ b. b || among t rest) kind in
-    record { spot = down_spot w c s rest q; kind = refl; held = refl; wants = received_wants s.peer.kind test s.peer.client d q t is; how = down_how test w all c t s d rest q own down is kind takes after before (linked_at w all c s fine) }
+    record { spot = down_spot w c s rest q; kind = refl; held = refl; cluster = (received_stays s.peer.kind test s.peer.client d q is).0; wants = received_wants s.peer.kind test s.peer.client d q t is; how = down_how test w all c t s d rest q own down is kind takes after before (linked_at w all c s fine).1 }
 
 down_moved : (test : Test) (w y : World) (all : List TypedWrite) (c : ℕ) (t : TypeName) (s : Spot w c) (ds : List Draft) → s.link.down ≡ ds → down_taken test w c s.peer s.link ds ≡ Some y → Fine w all → Moved w y c t (Down c) s
 down_moved test w y all c t s [] down is fine = absurd cc

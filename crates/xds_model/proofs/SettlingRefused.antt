@@ -19,7 +19,9 @@ use Rattle.xds_model.specs.Settling.{link_in, gave_nothing, would_repeat, is_hel
 use Rattle.xds_model.proofs.Settled.{both_false, none_down}
 use Rattle.xds_model.proofs.SettlingWalks.{then_there}
 use Rattle.xds_model.proofs.SettlingSessions.{offer_now}
-use Rattle.xds_model.proofs.SettlingSteps.{Spot, spot_of, link_at, linked_at, spoken, Speaks, speaks}
+use Rattle.xds_model.proofs.Queues.{Speaks}
+use Rattle.xds_model.proofs.Starting.{started_decided}
+use Rattle.xds_model.proofs.SettlingSteps.{Spot, spot_of, link_at, linked_at, own_stream, spoken, speaks}
 use Rattle.xds_model.proofs.SettlingMoves.{session_at, held_at, next_moved}
 use Rattle.xds_model.proofs.SettlingPolls.{IsSure, world_sure, next_there, sure_next}
 use Rattle.xds_model.proofs.SettlingEnds.{done_if_settled}
@@ -39,12 +41,13 @@ abbrev refuses : TypeName → Stream → Entries → VariantName → Bool
 refuses t x m v = is_refused (at x.sessions t).account (offer_now v t (at x.sessions t) m)
 
 -- a stream that wasn't asked anything owes nothing
-either_by : (v : VariantName) (y : World) (c : ℕ) (t : TypeName) (z : Spot y c) → Speaks v z.stream → is_quiet t z.link ≡ true
-    → (sessions.owes v t (at z.stream.sessions t) (held_at y c t z) ≡ false) ⊎ (refuses t z.stream (held_at y c t z) v ≡ true) → IsEither y c t
+either_by : (v : VariantName) (y : World) (c : ℕ) (t : TypeName) (z : Spot y c) → Speaks v z.peer.client.cluster (own_stream y c z) → is_quiet t z.link ≡ true
+    → (sessions.owes v t (at (own_stream y c z).sessions t) (held_at y c t z) ≡ false) ⊎ (refuses t (own_stream y c z) (held_at y c t z) v ≡ true) → IsEither y c t
 either_by v y c t z speaking quiet (inl nothing) = inl (settled_at y c t z quiet (owes_by v t y c z speaking nothing))
 either_by v y c t z (inl fresh) quiet (inr refused) =
     inl (settled_at y c t z quiet (ap (λ o. option_map_or (λ k. sessions.owes k t (at z.stream.sessions t) (held_at y c t z)) o false) fresh.0))
-either_by v y c t z (inr is) quiet (inr refused) = inr (held_back_at y c t z (ap (λ o. option_map_or (refuses t z.stream (held_at y c t z)) o false) is ∙ refused))
+either_by v y c t z (inr is) quiet (inr refused) = inr (held_back_at y c t z (ap (λ o. option_map_or (refuses t z.stream (held_at y c t z)) o false) is
+    ∙ ap (λ x. refuses t x (held_at y c t z) v) (sym (started_decided z.peer.client.cluster z.stream v is)) ∙ refused))
 
 -- where a poll of a quiet client sends nothing
 end_either : (y : World) (c : ℕ) (t : TypeName) (z : Spot y c) → IsSure y → is_quiet t z.link ≡ true → sessions.sending (spoken z.peer.kind) t (session_at y c t z) (held_at y c t z) ≡ None → IsEither y c t
@@ -52,11 +55,12 @@ end_either y c t z all quiet sends =
     let v : VariantName = spoken z.peer.kind in
     let a : Session = session_at y c t z in
     let m : Entries = held_at y c t z in
-    let linked = linked_at y all.1 c z all.2.fine in
+    let own : Stream = own_stream y c z in
+    let linked = (linked_at y all.1 c z all.2.fine).1 in
     let parts = both_false (list_any (asks_for t) z.link.up) _ quiet in
-    let none = quiet_none z.peer.kind all.1 z.peer.client z.link z.stream t linked (none_down t z.link.down parts.1) in
-    let here : a ≡ at z.stream.sessions t = quiet_ahead t (at z.stream.sessions t) z.link.up parts.0 in
-    either_by v y c t z (speaks z.peer.kind all.1 z.peer.client z.link z.stream linked) quiet
+    let none = quiet_none z.peer.kind all.1 z.peer.client z.link own t linked (none_down t z.link.down parts.1) in
+    let here : a ≡ at own.sessions t = quiet_ahead t (at own.sessions t) z.link.up parts.0 in
+    either_by v y c t z (speaks z.peer.kind all.1 z.peer.client z.link own linked) quiet
     (subst (λ (s : Session). (sessions.owes v t s m ≡ false) ⊎ (is_refused s.account (offer_now v t s m) ≡ true)) here
     (owed_or_refused v t a m a.asked.begun (is_due v t a.asked.interest m a.account) (is_refused a.account (offer_now v t a m)) refl refl refl none sends))
 

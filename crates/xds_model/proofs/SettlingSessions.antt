@@ -131,22 +131,22 @@ no_versions : (b : Bool) → ◌≡◌ {A = finmap.FinMap text_cmp (List ℕ)} (
 no_versions true = refl
 no_versions false = refl
 
-delta_asks : (t : TypeName) (s : Session) (f : Shelf) (sent : Sent) → s.account.sent ≡ Some sent → deltas.Asks t s f → s.asked ≡ asking t f.wants
-delta_asks t s f sent has (inl asked) = asked.1
-delta_asks t s f sent has (inr never) = let nothing : None ≡ Some sent = ap (λ x. x.account.sent) (sym never.1) ∙ has in absurd cc
+delta_asks : (cluster : List ℕ) (t : TypeName) (s : Session) (f : Shelf) (sent : Sent) → s.account.sent ≡ Some sent → deltas.Asks cluster t s f → s.asked ≡ asking cluster t f.wants
+delta_asks cluster t s f sent has (inl asked) = asked.1
+delta_asks cluster t s f sent has (inr never) = let nothing : None ≡ Some sent = ap (λ x. x.account.sent) (sym never.1) ∙ has in absurd cc
 
-pub delta_answers : (all : List TypedWrite) (t : TypeName) (s : Session) (f : Shelf) (d : DraftedDelta) (fault : Option (List ℕ)) → deltas.Abreast all t s (Some d) f
+pub delta_answers : (cluster : List ℕ) (all : List TypedWrite) (t : TypeName) (s : Session) (f : Shelf) (d : DraftedDelta) (fault : Option (List ℕ)) → deltas.Abreast cluster all t s (Some d) f
     → (h : HasAnswer Delta t s (delta_take t s (delta_answer t d.nonce fault))) × (h.rejects ≡ is_some (option_map failure fault))
-delta_answers all t s f d fault lane =
+delta_answers cluster all t s f d fault lane =
     let m : DeltaRequest = delta_answer t d.nonce fault in
     let sent = deltas.awaited all t s.account.nonce s.account.sent f.wants d lane.awaits in
-    let asked : s.asked ≡ asking t f.wants = delta_asks t s f sent.0 sent.1 lane.asks in
+    let asked : s.asked ≡ asking cluster t f.wants = delta_asks cluster t s f sent.0 sent.1 lane.asks in
     let same : bytes_eq d.nonce (nonce_text s.account.nonce) ≡ true = ap (λ x. bytes_eq x (nonce_text s.account.nonce)) sent.2.nonce ∙ bytes_eq_same (nonce_text s.account.nonce) in (
       record {
         sent = sent.0;
         rejects = is_some (option_map failure fault);
         has = sent.1;
-        asked = (deltas.after_answer t f.wants s d.nonce fault sent.0 asked sent.1 same).asked ∙ sym asked;
+        asked = (deltas.after_answer cluster t f.wants s d.nonce fault sent.0 asked sent.1 same).asked ∙ sym asked;
         account = ap (λ x. x.account) (take_is t s m (taken_if_sent s d.nonce sent.0 sent.1))
             ∙ answers_alone Delta t s (answer_in m) (delta_names t s.asked (mention m) finmap.empty) sent.0 sent.1 same (unmentioned t) (no_versions s.asked.begun);
       },
@@ -155,21 +155,21 @@ delta_answers all t s f d fault lane =
 
 -- ---- and of one of the state of the world
 
-pub sotw_answers : (all : List TypedWrite) (t : TypeName) (s : Session) (f : Shelf) (d : Drafted) (m : Request) → m.resource_names ≡ texts f.wants → m.response_nonce ≡ d.nonce → sotws.Abreast all t s (Some d) f
+pub sotw_answers : (cluster : List ℕ) (all : List TypedWrite) (t : TypeName) (s : Session) (f : Shelf) (d : Drafted) (m : Request) → m.resource_names ≡ texts f.wants → m.response_nonce ≡ d.nonce → sotws.Abreast cluster all t s (Some d) f
     → (h : HasAnswer StateOfTheWorld t s (sotw_take t s m)) × (h.rejects ≡ is_some m.error_detail)
-sotw_answers all t s f d m lists nonce lane =
+sotw_answers cluster all t s f d m lists nonce lane =
     let names : Names = names_of t s.asked m in
     let sent = sotws.awaited all t s.account.nonce s.account.sent f.wants f.nonce d lane.awaits in
-    let asked : s.asked ≡ naming t f.wants = (sotws.asks_if_sent t s f sent.0 sent.1 lane.asks).1 in
+    let asked : s.asked ≡ naming cluster t f.wants = (sotws.asks_if_sent cluster t s f sent.0 sent.1 lane.asks).1 in
     let same : bytes_eq m.response_nonce (nonce_text s.account.nonce) ≡ true = ap (λ x. bytes_eq x (nonce_text s.account.nonce)) (nonce ∙ sent.2.nonce) ∙ bytes_eq_same (nonce_text s.account.nonce) in
-    let after : names.asked ≡ naming t f.wants = λ i. sotw_asked t (asked i) (lists i) in
+    let after : names.asked ≡ naming cluster t f.wants = λ i. sotw_asked t (asked i) (lists i) in
     let untouched : (q : List ℕ) → touches names.touched q ≡ false =
-    λ q. ap (λ (a : Asked). touches (sotw_touch a.interest names.asked.interest) q) asked ∙ ap (λ (a : Asked). touches (sotw_touch (interest t f.wants) a.interest) q) after ∙ untouched_again (interest t f.wants) q in (
+    λ q. ap (λ (a : Asked). touches (sotw_touch a.interest names.asked.interest) q) asked ∙ ap (λ (a : Asked). touches (sotw_touch (interest t cluster f.wants) a.interest) q) after ∙ untouched_again (interest t cluster f.wants) q in (
       record {
         sent = sent.0;
         rejects = is_some m.error_detail;
         has = sent.1;
-        asked = (sotws.after_answer t f.wants s m sent.0 lists asked sent.1 same).asked ∙ sym asked;
+        asked = (sotws.after_answer cluster t f.wants s m sent.0 lists asked sent.1 same).asked ∙ sym asked;
         account = ap (λ x. x.account) (sotw_take_is t s m (taken_if_sent s m.response_nonce sent.0 sent.1)) ∙ answers_alone StateOfTheWorld t s (answer_of m) names sent.0 sent.1 same untouched refl;
       },
       refl,

@@ -1,5 +1,5 @@
 -- A client whose test takes all that it is to show of what its replica knows is settled where settling ends.
-use Rattle.std.proofs.Common.{◌≡◌, ◌⊎◌, inl, inr, ℕ, ◌≤◌, List, [], ◌∷◌, ◌++◌, length, Bool, true, false, ◌&&◌, ◌||◌, not, Option, Some, None, refl, sym, ap, subst, ◌∙◌}
+use Rattle.std.proofs.Common.{◌≡◌, ◌⊎◌, inl, inr, ℕ, List, [], ◌∷◌, ◌++◌, Bool, true, false, ◌&&◌, ◌||◌, not, Option, Some, None, refl, sym, ap, subst, ◌∙◌}
 use Rattle.std.specs.Prelude.{if◌then◌else◌, is_none, is_some, option_map}
 use Rattle.std.specs.Option.{option_and_then, option_map_or}
 use Rattle.std.specs.List.{list_any}
@@ -8,16 +8,16 @@ use Rattle.std.proofs.lemmas.Bool.{or_parts}
 use Rattle.xds_resource.specs.declared.types.TypeName.{TypeName}
 use Rattle.xds_resource.specs.Types.{row}
 use Rattle.xds_resource.specs.PerType.{at}
-use Rattle.xds_resource.specs.Resources.{max_text, value_of}
+use Rattle.xds_resource.specs.Resources.{value_of}
 use Rattle.xds_resource.specs.Best.{best}
 use Rattle.xds_resource.specs.Writes.{StampedWrite, version_of}
-use Rattle.xds_interest.specs.Interests.{covers}
+use Rattle.xds_interest.specs.Interests.{Selection}
 use Rattle.xds_interest.specs.Asked.{Asked}
 use Rattle.xds_catalogue.specs.Holdings.{Entries}
 use Rattle.xds_catalogue.proofs.Catalogues.{get-catalogue_of}
 use Rattle.xds_draft.specs.Drafts.{Drafted, DraftedDelta}
 use Rattle.xds_owed.specs.declared.variant.VariantName.{VariantName}
-use Rattle.xds_owed.specs.Owed.{live_version, present}
+use Rattle.xds_owed.specs.Owed.{version_shown, present}
 use Rattle.xds_owed.specs.Offers.{Offer, same_offer}
 use Rattle.xds_ledger.specs.Ledgers as ledgers
 use Rattle.xds_beliefs.specs.Believing.{Sent}
@@ -25,17 +25,17 @@ use Rattle.xds_ledger.specs.Ledgers.{is_due, is_refused}
 use Rattle.xds_ledger.specs.Sessions as sessions
 use Rattle.xds_ledger.specs.Sessions.{Session}
 use Rattle.xds_owed.proofs.SameOffers.{offers_are_told_apart}
+use Rattle.xds_core.specs.Stores.{Store}
 use Rattle.xds_core.specs.Streams.{Stream, Message, session_after, owes_of}
-use Rattle.xds_shelf.specs.Shelves.{Wants, Holding, is_wanted}
+use Rattle.xds_shelf.specs.Shelves.{Wants, Holding, Shelf, interest}
 use Rattle.xds_shelf.specs.Faults.{Test}
 use Rattle.xds_cache.specs.Clients.{Client, shelf}
-use Rattle.xds_cache.proofs.Interests.{wants_what_is_covered}
 use Rattle.xds_model.specs.declared.event.ClientKind.{ClientKind}
 use Rattle.xds_model.specs.declared.event.ClientKind.TheVariants.{Sotw, Delta}
 use Rattle.xds_model.specs.Happenings.{Happening}
 use Rattle.xds_model.specs.Worlds.{Site, Link, Peer, World, empty_world, happens, after, world}
-use Rattle.xds_model.specs.Knows.{TypedWrite, Knowledge, nothing_known, learned, knows, made_now, wants}
-use Rattle.xds_model.specs.Claims.{holding_of, writes_of, PutResources, PutsAResource, asks_for, is_quiet, owes_nothing, is_settled}
+use Rattle.xds_model.specs.Knows.{TypedWrite, Knowledge, nothing_known, learned, knows, made_now, wants, cluster as cluster_of}
+use Rattle.xds_model.specs.Claims.{holding_of, shown_of, writes_of, PutResources, PutsAResource, asks_for, is_quiet, owes_nothing, is_settled}
 use Rattle.xds_model.specs.Settling.{link_in, gave_nothing, Done, IsAtEnd, SettlesWhereAllIsTaken}
 use Rattle.xds_model.proofs.Replicas.{some_is, bound_some, mapped_some, kept_start, never}
 use Rattle.xds_model.proofs.Origins.{stamped_start}
@@ -43,17 +43,18 @@ use Rattle.xds_model.proofs.Ranges.{ranged_start, sites_known}
 use Rattle.xds_model.proofs.Lanes as lanes
 use Rattle.xds_model.proofs.SotwLanes as sotw_lanes
 use Rattle.xds_model.proofs.Queues as queues
-use Rattle.xds_model.proofs.Queues.{lane_down}
+use Rattle.xds_model.proofs.Queues.{lane_down, Speaks}
+use Rattle.xds_model.proofs.Starting.{owes_started}
 use Rattle.xds_model.proofs.SotwLinks as links
 use Rattle.xds_model.proofs.Settled.{IsUnique, AllStamped, one_write, both_false, none_down}
-use Rattle.xds_model.proofs.Delivering.{AllKnown, live}
+use Rattle.xds_model.proofs.Delivering.{AllKnown, shown_in}
 use Rattle.xds_model.proofs.ByKind.{LinkedAs}
 use Rattle.xds_model.proofs.EveryEvent.{fine_start}
-use Rattle.xds_model.proofs.Followed.{link_is, wants_are, wanted_of}
+use Rattle.xds_model.proofs.Followed.{link_is, cluster_is, wants_are, placed_of, wanted_of}
 use Rattle.xds_model.proofs.Headline.{Sure, sure as world_sure, sure_after}
 use Rattle.xds_model.proofs.SettlingWalks.{then_there}
 use Rattle.xds_model.proofs.SettlingSessions.{offer_now, never_both}
-use Rattle.xds_model.proofs.SettlingSteps.{Spot, spot_of, link_at, linked_at, ahead, spoken, Speaks, speaks, delta_folded, sotw_ahead}
+use Rattle.xds_model.proofs.SettlingSteps.{Spot, spot_of, link_at, linked_at, own_stream, ahead, spoken, speaks, delta_folded, sotw_ahead}
 use Rattle.xds_model.proofs.SettlingMoves.{session_at, held_at, puts_nothing, next_moved}
 use Rattle.xds_model.proofs.SettlingPolls.{three_at}
 use Rattle.xds_model.proofs.SettlingEnds.{link_settled, done_if_settled}
@@ -127,46 +128,42 @@ quiet_none Sotw all c l x t linked none =
 quiet_none Delta all c l x t linked none =
     let lane = linked.lanes t in ap (λ (a : Session). a.account.sent) (sym (delta_folded t (at x.sessions t) l.up linked.deltas)) ∙ none_delta all t _ _ (shelf c t).wants lane.down (sym none ∙ lane.downs_are) lane.abreast.awaits
 
--- a session that refused something covers what the client wants
-covered_sotw : (t : TypeName) (s : Session) (c : Client) (o : Offer) (name : List ℕ) → s.account.refused ≡ Some o → sotw_lanes.Asks t s (shelf c t) → covers s.asked.interest name ≡ is_wanted t (shelf c t).wants name
-covered_sotw t s c o name refused (inl asked) = ap (λ (a : Asked). covers a.interest name) asked.1 ∙ wants_what_is_covered t (shelf c t).wants name
-covered_sotw t s c o name refused (inr not_asked) = absurd (never o (sym (ap (λ (a : Session). a.account.refused) not_asked.1) ∙ refused))
+-- a session that refused something has the client's interest
+asked_sotw : (cluster : List ℕ) (t : TypeName) (s : Session) (f : Shelf) (o : Offer) → s.account.refused ≡ Some o → sotw_lanes.Asks cluster t s f → s.asked.interest ≡ interest t cluster f.wants
+asked_sotw cluster t s f o refused (inl asked) = ap (λ (a : Asked). a.interest) asked.1
+asked_sotw cluster t s f o refused (inr not_asked) = absurd (never o (sym (ap (λ (a : Session). a.account.refused) not_asked.1) ∙ refused))
 
-covered_delta : (t : TypeName) (s : Session) (c : Client) (o : Offer) (name : List ℕ) → s.account.refused ≡ Some o → lanes.Asks t s (shelf c t) → covers s.asked.interest name ≡ is_wanted t (shelf c t).wants name
-covered_delta t s c o name refused (inl asked) = ap (λ (a : Asked). covers a.interest name) asked.1 ∙ wants_what_is_covered t (shelf c t).wants name
-covered_delta t s c o name refused (inr not_asked) = absurd (never o (sym (ap (λ (a : Session). a.account.refused) not_asked.1) ∙ refused))
+asked_delta : (cluster : List ℕ) (t : TypeName) (s : Session) (f : Shelf) (o : Offer) → s.account.refused ≡ Some o → lanes.Asks cluster t s f → s.asked.interest ≡ interest t cluster f.wants
+asked_delta cluster t s f o refused (inl asked) = ap (λ (a : Asked). a.interest) asked.1
+asked_delta cluster t s f o refused (inr not_asked) = absurd (never o (sym (ap (λ (a : Session). a.account.refused) not_asked.1) ∙ refused))
 
-covered_as : (k : ClientKind) (all : List TypedWrite) (c : Client) (l : Link) (x : Stream) (t : TypeName) (o : Offer) (name : List ℕ) → LinkedAs k all c l x → (ahead t (at x.sessions t) l.up).account.refused ≡ Some o
-    → covers (ahead t (at x.sessions t) l.up).asked.interest name ≡ is_wanted t (shelf c t).wants name
-covered_as Sotw all c l x t o name linked refused = covered_sotw t (ahead t (at x.sessions t) l.up) c o name refused (subst (λ a. sotw_lanes.Asks t a (shelf c t)) (sotw_ahead t (at x.sessions t) l.up linked.sotws) (linked.lanes t).abreast.asks)
-covered_as Delta all c l x t o name linked refused = covered_delta t (ahead t (at x.sessions t) l.up) c o name refused (subst (λ a. lanes.Asks t a (shelf c t)) (delta_folded t (at x.sessions t) l.up linked.deltas) (linked.lanes t).abreast.asks)
+asked_as : (k : ClientKind) (all : List TypedWrite) (c : Client) (l : Link) (x : Stream) (t : TypeName) (o : Offer) → LinkedAs k all c l x → (ahead t (at x.sessions t) l.up).account.refused ≡ Some o
+    → (ahead t (at x.sessions t) l.up).asked.interest ≡ interest t c.cluster (shelf c t).wants
+asked_as Sotw all c l x t o linked refused =
+    asked_sotw c.cluster t (ahead t (at x.sessions t) l.up) (shelf c t) o refused (subst (λ a. sotw_lanes.Asks c.cluster t a (shelf c t)) (sotw_ahead t (at x.sessions t) l.up linked.sotws) (linked.lanes t).abreast.asks)
+asked_as Delta all c l x t o linked refused =
+    asked_delta c.cluster t (ahead t (at x.sessions t) l.up) (shelf c t) o refused (subst (λ a. lanes.Asks c.cluster t a (shelf c t)) (delta_folded t (at x.sessions t) l.up linked.deltas) (linked.lanes t).abreast.asks)
 
 -- ---- what is refused isn't what the client is to show
 
--- that of these entries the test takes all that is wanted
-abbrev TakesHeld : Test → TypeName → Entries → Wants → Type 0
-TakesHeld test t m w = (name : List ℕ) (h : Holding) → (if is_wanted t w name then live m name else None) ≡ Some h → (length h.body ≤ max_text) × (test (row t).url name (value_of h.body) ≡ true)
+-- that of these entries the test takes all that an interest covers
+abbrev TakesHeld : Test → TypeName → Entries → Selection → Type 0
+TakesHeld test t m s = (name : List ℕ) (h : Holding) → shown_in s m name ≡ Some h → test (row t).url name (value_of h.body) ≡ true
 
-not_blamed : (v : VariantName) (all : List TypedWrite) (test : Test) (t : TypeName) (s : Session) (m : Entries) (w : Wants) → IsUnique all → AllStamped all → AllKnown all t m → TakesHeld test t m w → ((name : List ℕ) → covers s.asked.interest name ≡ is_wanted t w name)
-    → IsBlamed all test t (offer_now v t s m) → ⊥
-not_blamed v all test t s m w unique stamped known takes covered blamed =
-    let here : present s.asked.interest m blamed.name ≡ Some blamed.version = stated_present v t s.asked.interest m s.account.beliefs blamed.name blamed.version blamed.states in
-    by_found (finmap.get m blamed.name) refl here
+not_blamed : (v : VariantName) (all : List TypedWrite) (test : Test) (t : TypeName) (s : Session) (m : Entries) → IsUnique all → AllStamped all → AllKnown all t m → TakesHeld test t m s.asked.interest → IsBlamed all test t (offer_now v t s m) → ⊥
+not_blamed v all test t s m unique stamped known takes blamed =
+    by_found (finmap.get m blamed.name) refl (stated_present v t s.asked.interest m s.account.beliefs blamed.name blamed.version blamed.states)
   where
-    nothing : (b : Bool) → ◌≡◌ {A = Option (List ℕ)} (if b then None else None) (Some blamed.version) → ⊥
-    nothing true e = cc
-    nothing false e = cc
-
     by_found : (o : Option StampedWrite) → finmap.get m blamed.name ≡ o → present s.asked.interest m blamed.name ≡ Some blamed.version → ⊥
-    by_found None found here = nothing (covers s.asked.interest blamed.name) (sym (ap (λ o. if covers s.asked.interest blamed.name then option_and_then live_version o else None) found) ∙ here)
+    by_found None found here = never blamed.version (sym (ap (option_and_then (version_shown s.asked.interest blamed.name)) found) ∙ here)
     by_found (Some write) found here =
-        let parts = present_version s.asked.interest m blamed.name blamed.version write (covers s.asked.interest blamed.name) refl found here in
+        let parts = present_version s.asked.interest m blamed.name blamed.version write found here in
         let held : Holding = record { version = version_of blamed.write; body = blamed.body } in
         let same : write ≡ blamed.write = one_write all t write blamed.write unique stamped (known blamed.name write found).made blamed.made (parts.2 ∙ sym blamed.is_at) in
-        let wanted : is_wanted t w blamed.name ≡ true = sym (covered blamed.name) ∙ parts.0 in
-        let shown : (if is_wanted t w blamed.name then live m blamed.name else None) ≡ Some held =
-        ap (λ b. if b then live m blamed.name else None) wanted ∙ ap (option_and_then holding_of) (found ∙ ap Some same) ∙ ap (option_map (λ body. record { version = version_of blamed.write; body = body })) blamed.puts in
-        let taken = takes blamed.name held shown in never_both (test (row t).url blamed.name (value_of blamed.body)) taken.1 (blamed.refused taken.0)
+        let shown : shown_in s.asked.interest m blamed.name ≡ Some held =
+        ap (option_and_then (shown_of s.asked.interest blamed.name)) found ∙ ap (λ b. if b then holding_of write else None) parts.0 ∙ ap holding_of same
+        ∙ ap (option_map (λ body. record { version = version_of blamed.write; body = body })) blamed.puts in
+        never_both (test (row t).url blamed.name (value_of blamed.body)) (takes blamed.name held shown) blamed.refused
 
 -- ---- the end
 
@@ -177,12 +174,19 @@ settled_at y c t z quiet nothing =
     ∙ (λ i. quiet i && option_map_or (owes_nothing t z.link.stream) (z.there i) false)
     ∙ ap (λ o. option_map_or (λ x. not (owes_of z.site.core.store x t)) o false) z.opened ∙ ap not nothing
 
-pub owes_by : (v : VariantName) (t : TypeName) (y : World) (c : ℕ) (z : Spot y c) → Speaks v z.stream → sessions.owes v t (at z.stream.sessions t) (at z.site.core.store t).entries ≡ false → owes_of z.site.core.store z.stream t ≡ false
-owes_by v t y c z (inl fresh) nothing = ap (λ o. option_map_or (λ k. sessions.owes k t (at z.stream.sessions t) (at z.site.core.store t).entries) o false) fresh.0
-owes_by v t y c z (inr is) nothing = ap (λ o. option_map_or (λ k. sessions.owes k t (at z.stream.sessions t) (at z.site.core.store t).entries) o false) is ∙ nothing
+owes_as : (v : VariantName) (cluster : List ℕ) (t : TypeName) (store : Store) (x : Stream) → Speaks v cluster x → sessions.owes v t (at x.sessions t) (at store t).entries ≡ false → owes_of store x t ≡ false
+owes_as v cluster t store x (inl fresh) nothing = ap (λ o. option_map_or (λ k. sessions.owes k t (at x.sessions t) (at store t).entries) o false) fresh.0
+owes_as v cluster t store x (inr is) nothing = ap (λ o. option_map_or (λ k. sessions.owes k t (at x.sessions t) (at store t).entries) o false) is ∙ nothing
+
+pub owes_by : (v : VariantName) (t : TypeName) (y : World) (c : ℕ) (z : Spot y c) → Speaks v z.peer.client.cluster (own_stream y c z) → sessions.owes v t (at (own_stream y c z).sessions t) (at z.site.core.store t).entries ≡ false → owes_of z.site.core.store z.stream t ≡ false
+owes_by v t y c z speaking nothing = sym (owes_started z.peer.client.cluster z.site.core.store z.stream t) ∙ owes_as v z.peer.client.cluster t z.site.core.store (own_stream y c z) speaking nothing
+
+-- what the client at a spot wants
+abbrev interest_at : (y : World) (c : ℕ) → TypeName → Spot y c → Selection
+interest_at y c t z = interest t z.peer.client.cluster (shelf z.peer.client t).wants
 
 -- where a poll of a quiet client sends nothing, it is settled
-end_settled : (test : Test) (y : World) (c : ℕ) (t : TypeName) (z : Spot y c) → IsSound test y → TakesHeld test t (held_at y c t z) (shelf z.peer.client t).wants → is_quiet t z.link ≡ true → sessions.sending (spoken z.peer.kind) t (session_at y c t z) (held_at y c t z) ≡ None
+end_settled : (test : Test) (y : World) (c : ℕ) (t : TypeName) (z : Spot y c) → IsSound test y → TakesHeld test t (held_at y c t z) (interest_at y c t z) → is_quiet t z.link ≡ true → sessions.sending (spoken z.peer.kind) t (session_at y c t z) (held_at y c t z) ≡ None
     → is_settled y c t ≡ true
 end_settled test y c t z sound takes quiet sends =
     let all : List TypedWrite = sound.1 in
@@ -190,17 +194,18 @@ end_settled test y c t z sound takes quiet sends =
     let v : VariantName = spoken z.peer.kind in
     let a : Session = session_at y c t z in
     let m : Entries = held_at y c t z in
-    let linked = linked_at y all c z sure.fine in
+    let own : Stream = own_stream y c z in
+    let linked = (linked_at y all c z sure.fine).1 in
     let parts = both_false (list_any (asks_for t) z.link.up) _ quiet in
-    let none = quiet_none z.peer.kind all z.peer.client z.link z.stream t linked (none_down t z.link.down parts.1) in
-    let here : a ≡ at z.stream.sessions t = quiet_ahead t (at z.stream.sessions t) z.link.up parts.0 in
+    let none = quiet_none z.peer.kind all z.peer.client z.link own t linked (none_down t z.link.down parts.1) in
+    let here : a ≡ at own.sessions t = quiet_ahead t (at own.sessions t) z.link.up parts.0 in
     elim (owed_or_refused v t a m a.asked.begun (is_due v t a.asked.interest m a.account) (is_refused a.account (offer_now v t a m)) refl refl refl none sends) [
-      | inl nothing ↦ settled_at y c t z quiet (owes_by v t y c z (speaks z.peer.kind all z.peer.client z.link z.stream linked) (ap (λ s. sessions.owes v t s m) (sym here) ∙ nothing))
+      | inl nothing ↦ settled_at y c t z quiet (owes_by v t y c z (speaks z.peer.kind all z.peer.client z.link own linked) (ap (λ s. sessions.owes v t s m) (sym here) ∙ nothing))
       | inr refused ↦
           (let is = refused_is (offer_now v t a m) a.account.refused refused in
-          let fair = sound.3 c z.link z.stream (link_at y c z) (ap (option_and_then (λ (s : Site). finmap.get s.core.streams z.link.stream)) z.there ∙ z.opened) t in
-          absurd (not_blamed v all test t a m (shelf z.peer.client t).wants sure.stamped.unique sure.ranged.stamps (sites_known y sound.0 all sure.kept sure.stamped sure.ranged z.link.replica z.site t z.there) takes
-          (λ name. covered_as z.peer.kind all z.peer.client z.link z.stream t (offer_now v t a m) name linked is) (fair.refused (offer_now v t a m) is)))
+          let fair = sound.3 c z.link z.stream (link_at y c z) (ap (option_and_then (λ (s : Site). finmap.get s.core.streams z.link.stream)) z.there ∙ z.opened) z.peer.client.cluster t in
+          let wanted : a.asked.interest ≡ interest_at y c t z = asked_as z.peer.kind all z.peer.client z.link own t (offer_now v t a m) linked is in
+          absurd (not_blamed v all test t a m sure.stamped.unique sure.ranged.stamps (sites_known y sound.0 all sure.kept sure.stamped sure.ranged z.link.replica z.site t z.there) (subst (TakesHeld test t m) (sym wanted) takes) (fair.refused (offer_now v t a m) is)))
     ]
 
 -- nothing is done once a poll gave nothing
@@ -208,7 +213,7 @@ ended_settled : (test : Test) (c : ℕ) (t : TypeName) (y : World) (hs : List Ha
 ended_settled test c t y [] settled done = settled
 ended_settled test c t y (h ∷ hs) settled done = let not_more : true ≡ false = done.0 in absurd cc
 
-settled_after : (test : Test) (c : ℕ) (t : TypeName) (hs : List Happening) (w : World) (s : Spot w c) → IsSound test w → TakesHeld test t (held_at w c t s) (shelf s.peer.client t).wants → Done (IsAtEnd c t) test c t false w hs → is_settled (after test w hs) c t ≡ true
+settled_after : (test : Test) (c : ℕ) (t : TypeName) (hs : List Happening) (w : World) (s : Spot w c) → IsSound test w → TakesHeld test t (held_at w c t s) (interest_at w c t s) → Done (IsAtEnd c t) test c t false w hs → is_settled (after test w hs) c t ≡ true
 settled_after test c t [] w s sound takes (inl gave) = absurd cc
 settled_after test c t [] w s sound takes (inr none) = done_if_settled w c t s.link (is_settled w c t) refl (link_at w c s) none
 settled_after test c t (h ∷ hs) w s sound takes done =
@@ -218,8 +223,8 @@ settled_after test c t (h ∷ hs) w s sound takes done =
     let m = next_moved test w y sound.1 c t h s three there.1 sound.2.fine in
     let next_sound = sound_step test w y h there.1 (puts_nothing c t s.link h three) sound in
     let left : after test (option_map_or (λ x. x) (happens test w h) w) hs ≡ after test y hs = ap (λ o. after test (option_map_or (λ x. x) o w) hs) there.1 in
-    let still : TakesHeld test t (held_at y c t m.spot) (shelf m.spot.peer.client t).wants =
-    subst (λ e. TakesHeld test t e (shelf m.spot.peer.client t).wants) (sym m.held) (subst (TakesHeld test t (held_at w c t s)) (sym m.wants) takes) in
+    let still : TakesHeld test t (held_at y c t m.spot) (interest_at y c t m.spot) =
+    subst (λ e. TakesHeld test t e (interest_at y c t m.spot)) (sym m.held) (subst (TakesHeld test t (held_at w c t s)) (λ i. interest t (sym m.cluster i) (sym m.wants i)) takes) in
     let later = λ (gave : gave_nothing t h (link_in y c) ≡ false). settled_after test c t hs y m.spot next_sound still (subst (λ b. Done (IsAtEnd c t) test c t b y hs) gave there.2) in
     ap (λ x. is_settled x c t) left
     ∙ elim m.how [
@@ -243,7 +248,8 @@ settles_where_all_is_taken test hs put c r t more linked takes settling =
     let s = spot_of w sound.1 c at_link.0 sure.fine (ap (option_and_then (λ (p : Peer). p.link)) peer.1 ∙ at_link.1) in
     let link_same : s.link ≡ at_link.0 = some_is s.link at_link.0 (sym (link_at w c s) ∙ ap (option_and_then (λ (p : Peer). p.link)) peer.1 ∙ at_link.1) in
     let replica : s.link.replica ≡ r = ap (λ (l : Link). l.replica) link_same ∙ sym at_link.2 in
+    let placed : cluster_of test hs c ≡ s.peer.client.cluster = cluster_is test hs c ∙ ap placed_of s.has in
     let wanted : wants test hs c t ≡ (shelf s.peer.client t).wants = wants_are test hs c t ∙ ap (wanted_of t) s.has in
     let held : (name : List ℕ) → finmap.get (held_at w c t s) name ≡ best (writes_of t (knows test hs r)) name =
     λ name. ap (λ m. finmap.get m name) ((world_sure test hs put).kept.holds s.link.replica s.site t s.there) ∙ get-catalogue_of (writes_of t (knows test hs s.link.replica)) name ∙ ap (λ n. best (writes_of t (knows test hs n)) name) replica in
-    settled_after test c t more w s sound (λ name h is. takes name h ((λ i. if is_wanted t (wanted i) name then option_and_then holding_of (sym (held name) i) else None) ∙ is)) settling
+    settled_after test c t more w s sound (λ name h is. takes name h ((λ i. option_and_then (shown_of (interest t (placed i) (wanted i)) name) (sym (held name) i)) ∙ is)) settling

@@ -10,7 +10,7 @@ use Rattle.xds_resource.specs.declared.refusal.Refusal.{Refusal}
 use Rattle.xds_resource.specs.declared.refusal.Refusal.TheVariants.{BadMessage, NonceSpent}
 use Rattle.xds_resource.specs.Types.{row, type_of_url, is_same_type}
 use Rattle.xds_resource.specs.Stamps.{max_counter}
-use Rattle.xds_resource.specs.PerType.{PerType, at, with_at, each}
+use Rattle.xds_resource.specs.PerType.{PerType, at, with_at}
 use Rattle.xds_resource.proofs.TypesApart.{same_type, is_same_type-same, at-with_at, at-with_at_other, at-each}
 use Rattle.xds_message.specs.Messages.{Request}
 use Rattle.xds_message.specs.DeltaMessages.{DeltaRequest}
@@ -26,7 +26,7 @@ use Rattle.xds_ledger.specs.Sessions as sessions
 use Rattle.xds_ledger.specs.Sessions.{Session, unopened, send}
 use Rattle.xds_core.specs.Stores.{Store}
 use Rattle.xds_core.specs.Streams as streams
-use Rattle.xds_core.specs.Streams.{Stream, Message, url_of, variant_of, is_foreign, session_after, answered_by, answered, requested, to_send, response_of, sending, sent, polled_first, looked_at}
+use Rattle.xds_core.specs.Streams.{Stream, Message, url_of, variant_of, cluster_of, is_foreign, sessions_for, session_after, answered_by, answered, requested, to_send, response_of, responding, sent, polled_first, looked_at}
 use Rattle.xds_core.specs.Events.{Event, Reply}
 use Rattle.xds_core.specs.Steps.{Core, step, stream_step}
 use Rattle.xds_core.proofs.StepLaws.{unless_once}
@@ -43,8 +43,8 @@ use Rattle.xds_model.specs.Claims.{asks_for}
 use Rattle.xds_model.specs.Settling.{link_in}
 use Rattle.xds_model.proofs.Replicas.{some_is, bound_some, ok_is}
 use Rattle.xds_model.proofs.Queues as queues
-use Rattle.xds_model.proofs.Queues.{lane_down}
-use Rattle.xds_model.proofs.LinkSteps.{taken_by}
+use Rattle.xds_model.proofs.Queues.{lane_down, Speaks, started}
+use Rattle.xds_model.proofs.LinkSteps.{taken_by, own_sessions, due_as}
 use Rattle.xds_model.proofs.LinkTakes as takes
 use Rattle.xds_model.proofs.Folding.{folded}
 use Rattle.xds_model.proofs.Lanes as lanes
@@ -52,7 +52,8 @@ use Rattle.xds_model.proofs.SotwFolding.{folded as sotw_folded}
 use Rattle.xds_model.proofs.SotwLanes as sotw_lanes
 use Rattle.xds_model.proofs.SotwLinks as sotws
 use Rattle.xds_model.proofs.SotwSteps.{answer, delivered_parts}
-use Rattle.xds_model.proofs.ByKind.{LinkedAs}
+use Rattle.xds_model.proofs.ByKind.{LinkedAs, LinkedTo}
+use Rattle.xds_model.proofs.Starting.{started_decided, requested_started, requested_decides, oldest_greets}
 use Rattle.xds_model.proofs.CoreSteps.{stream_step_is}
 use Rattle.xds_model.proofs.Everyone.{at_site_is, Fine}
 use Rattle.xds_model.proofs.SettlingSessions.{HasAnswer, delta_answers, sotw_answers}
@@ -84,11 +85,15 @@ spot_of w all c l fine is =
 pub link_at : (w : World) (c : ℕ) (s : Spot w c) → link_in w c ≡ Some s.link
 link_at w c s = ap (option_and_then (λ (p : Peer). p.link)) s.has ∙ s.linked
 
-pub linked_at : (w : World) (all : List TypedWrite) (c : ℕ) (s : Spot w c) → Fine w all → LinkedAs s.peer.kind all s.peer.client s.link s.stream
+pub linked_at : (w : World) (all : List TypedWrite) (c : ℕ) (s : Spot w c) → Fine w all → LinkedTo s.peer.kind all s.peer.client s.link s.stream
 linked_at w all c s fine =
     let here = fine.ups c s.peer s.link s.has s.linked in
     let same : here.0 ≡ s.stream = some_is here.0 s.stream (sym here.1 ∙ ap (option_and_then (λ (y : Site). finmap.get y.core.streams s.link.stream)) s.there ∙ s.opened) in
-    subst (LinkedAs s.peer.kind all s.peer.client s.link) same here.2
+    subst (LinkedTo s.peer.kind all s.peer.client s.link) same here.2
+
+-- its stream as it is for it
+abbrev pub own_stream : (w : World) (c : ℕ) → Spot w c → Stream
+own_stream w c s = started s.peer.client.cluster s.stream
 
 pub at_spot : (w : World) (c : ℕ) (f : Peer → Link → Option World) (y : World) (s : Spot w c) → on_link w c f ≡ Some y → f s.peer s.link ≡ Some y
 at_spot w c f y s is = sym (ap (option_and_then (λ p. option_and_then (f p) p.link)) s.has ∙ ap (option_and_then (f s.peer)) s.linked) ∙ is
@@ -149,11 +154,12 @@ pub ahead_more : (t : TypeName) (s : Session) (ms : List Message) (m : Message) 
 ahead_more t s [] m = refl
 ahead_more t s (x ∷ ms) m = ahead_more t (if asks_for t x then session_after t s x else s) ms m
 
-pub requested_is : (x : Stream) (s : TypeName) (m : Message) (z : Outcome × Stream) → url_of m ≡ (row s).url → requested x m ≡ Ok z → z.1.sessions ≡ with_at x.sessions s (session_after s (at x.sessions s) m)
-requested_is x s m z url is =
-    let made = taken_by (is_foreign x m) x (variant_of m) (answered x.sessions m) z is in
-    let answer : made.0 ≡ answered_by x.sessions m (type_of_url (url_of m)) = unless_once (length (url_of m) == 0) BadMessage (answered_by x.sessions m (type_of_url (url_of m))) made.0 made.1 in
-    ap (λ (y : Stream). y.sessions) made.2 ∙ ap (λ (a : Outcome × PerType Session). a.1) (answer ∙ ap (answered_by x.sessions m) (ap type_of_url url ∙ type_of_url-url s))
+pub requested_is : (x : Stream) (s : TypeName) (m : Message) (z : Outcome × Stream) → url_of m ≡ (row s).url → sessions_for x m ≡ x.sessions → requested x m ≡ Ok z → z.1.sessions ≡ with_at x.sessions s (session_after s (at x.sessions s) m)
+requested_is x s m z url own is =
+    let ss : PerType Session = sessions_for x m in
+    let made = taken_by (is_foreign x m) x (variant_of m) (answered ss m) z is in
+    let answer : made.0 ≡ answered_by ss m (type_of_url (url_of m)) = unless_once (length (url_of m) == 0) BadMessage (answered_by ss m (type_of_url (url_of m))) made.0 made.1 in
+    ap (λ (y : Stream). y.sessions) made.2 ∙ ap (λ (a : Outcome × PerType Session). a.1) (answer ∙ (λ i. answered_by (own i) m ((ap type_of_url url ∙ type_of_url-url s) i)))
 
 asks_as : (s t : TypeName) (m : Message) → url_of m ≡ (row s).url → asks_for t m ≡ is_same_type s t
 asks_as s t m url = ap (λ u. bytes_eq u (row t).url) url
@@ -167,40 +173,40 @@ taken_ahead t s ss m rest url (inl same) =
 taken_ahead t s ss m rest url (inr other) =
     ap (λ x. ahead t x rest) (at-with_at_other ss s (session_after s (at ss s) m) t (λ e. other.0 (sym e)) ∙ ap (λ b. if b then session_after t (at ss t) m else at ss t) (sym (asks_as s t m url ∙ other.1)))
 
--- each request is of a type of the table
-pub named_as : (k : ClientKind) (all : List TypedWrite) (c : Client) (l : Link) (x : Stream) (m : Message) (rest : List Message) → l.up ≡ m ∷ rest → LinkedAs k all c l x → (s : TypeName) × (url_of m ≡ (row s).url)
-named_as Sotw all c l x m rest up linked = let first = (subst sotws.AllSotw up linked.sotws).0 in (first.0, ap url_of first.2 ∙ first.3)
-named_as Delta all c l x m rest up linked = let first = (subst queues.AllDelta up linked.deltas).0 in (first.0, ap url_of first.2 ∙ first.3)
-
-pub up_ahead : (k : ClientKind) (all : List TypedWrite) (c : Client) (l : Link) (x : Stream) (t : TypeName) (m : Message) (rest : List Message) (z : Outcome × Stream) → l.up ≡ m ∷ rest → requested x m ≡ Ok z → LinkedAs k all c l x
-    → ahead t (at z.1.sessions t) rest ≡ ahead t (at x.sessions t) l.up
-up_ahead k all c l x t m rest z up is linked =
-    let named = named_as k all c l x m rest up linked in
-    ap (λ ss. ahead t (at ss t) rest) (requested_is x named.0 m z named.1 is) ∙ taken_ahead t named.0 x.sessions m rest named.1 (same_type named.0 t) ∙ ap (ahead t (at x.sessions t)) (sym up)
-
--- ---- a poll
-
 -- the variant that a client speaks
 abbrev pub spoken : ClientKind → VariantName
 spoken Sotw = variants.StateOfTheWorld
 spoken Delta = variants.Delta
 
-abbrev pub Speaks : VariantName → Stream → Type 0
-Speaks v x = ((x.variant ≡ None) × (x.sessions ≡ each unopened)) ⊎ (x.variant ≡ Some v)
-
-pub speaks : (k : ClientKind) (all : List TypedWrite) (c : Client) (l : Link) (x : Stream) → LinkedAs k all c l x → Speaks (spoken k) x
+pub speaks : (k : ClientKind) (all : List TypedWrite) (c : Client) (l : Link) (x : Stream) → LinkedAs k all c l x → Speaks (spoken k) c.cluster x
 speaks Sotw all c l x linked = linked.variant
 speaks Delta all c l x linked = linked.variant
 
-pub due_as : (v : VariantName) (store : Store) (x : Stream) (t : TypeName) (o : Offer) → Speaks v x → to_send store x t ≡ Some o → (x.variant ≡ Some v) × (sessions.sending v t (at x.sessions t) (at store t).entries ≡ Some o)
-due_as v store x t o (inl fresh) due = let never : None ≡ Some o = sym (ap (option_and_then (λ k. sessions.sending k t (at x.sessions t) (at store t).entries)) fresh.0) ∙ due in absurd cc
-due_as v store x t o (inr is) due = (is, sym (ap (option_and_then (λ k. sessions.sending k t (at x.sessions t) (at store t).entries)) is) ∙ due)
+-- each request is of a type of the table
+pub named_as : (k : ClientKind) (all : List TypedWrite) (c : Client) (l : Link) (x : Stream) (m : Message) (rest : List Message) → l.up ≡ m ∷ rest → LinkedAs k all c l x → (s : TypeName) × (url_of m ≡ (row s).url)
+named_as Sotw all c l x m rest up linked = let first = (subst sotws.AllSotw up linked.sotws).0 in (first.0, ap url_of first.2 ∙ first.3)
+named_as Delta all c l x m rest up linked = let first = (subst queues.AllDelta up linked.deltas).0 in (first.0, ap url_of first.2 ∙ first.3)
 
-poll_one : (replica : ℕ) (store : Store) (x : Stream) (t : TypeName) (o : Option Offer) → to_send store x t ≡ o → polled_first replica store x (looked_at (Some t)) ≡ option_map_or (sending replica store x t) o (Ok (None, x))
-poll_one replica store x t None due = ap (λ o. option_map_or (λ u. option_map_or (sending replica store x u) (to_send store x u) (Ok (None, x))) (if is_some o then Some t else None) (Ok (None, x))) due
+pub up_ahead : (k : ClientKind) (all : List TypedWrite) (c : Client) (l : Link) (x : Stream) (t : TypeName) (m : Message) (rest : List Message) (z : Outcome × Stream) → l.up ≡ m ∷ rest → (x.variant ≡ None → cluster_of m ≡ c.cluster) → requested x m ≡ Ok z
+    → LinkedAs k all c l x → ahead t (at z.1.sessions t) rest ≡ ahead t (at x.sessions t) l.up
+up_ahead k all c l x t m rest z up says is linked =
+    let named = named_as k all c l x m rest up linked in
+    ap (λ ss. ahead t (at ss t) rest) (requested_is x named.0 m z named.1 (own_sessions (spoken k) c.cluster x m (speaks k all c l x linked) says) is) ∙ taken_ahead t named.0 x.sessions m rest named.1 (same_type named.0 t) ∙ ap (ahead t (at x.sessions t)) (sym up)
+
+-- on the replica's own stream
+pub up_home : (k : ClientKind) (all : List TypedWrite) (c : Client) (l : Link) (x : Stream) (cluster : List ℕ) (t : TypeName) (m : Message) (rest : List Message) (z : Outcome × Stream) → l.up ≡ m ∷ rest → requested x m ≡ Ok z → LinkedTo k all c l x
+    → ahead t (at (started cluster z.1).sessions t) rest ≡ ahead t (at (started c.cluster x).sessions t) l.up
+up_home k all c l x cluster t m rest z up is linked =
+    ap (λ (y : Stream). ahead t (at y.sessions t) rest) (started_decided cluster z.1 (variant_of m) (requested_decides x m z is))
+    ∙ up_ahead k all c l (started c.cluster x) t m rest z up (oldest_greets c x l.up m rest up linked.0) (requested_started c.cluster x m ∙ is) linked.1
+
+-- ---- a poll
+
+poll_one : (replica : ℕ) (store : Store) (x : Stream) (t : TypeName) (o : Option Offer) → to_send store x t ≡ o → polled_first replica store x (looked_at (Some t)) ≡ option_map_or (responding replica store x t) o (Ok (None, x))
+poll_one replica store x t None due = ap (λ o. option_map_or (λ u. option_map_or (responding replica store x u) (to_send store x u) (Ok (None, x))) (if is_some o then Some t else None) (Ok (None, x))) due
 poll_one replica store x t (Some o) due =
-    ap (λ o. option_map_or (λ u. option_map_or (sending replica store x u) (to_send store x u) (Ok (None, x))) (if is_some o then Some t else None) (Ok (None, x))) due
-    ∙ ap (λ o. option_map_or (sending replica store x t) o (Ok (None, x))) due
+    ap (λ o. option_map_or (λ u. option_map_or (responding replica store x u) (to_send store x u) (Ok (None, x))) (if is_some o then Some t else None) (Ok (None, x))) due
+    ∙ ap (λ o. option_map_or (responding replica store x t) o (Ok (None, x))) due
 
 -- what a poll of one type gave
 pub record Sent (v : VariantName) (t : TypeName) (store : Store) (x y : Stream) (o : Option Draft) : Type 0 where
@@ -216,15 +222,15 @@ kind_is : (replica : ℕ) (store : Store) (ss : PerType Session) (t : TypeName) 
 kind_is replica store ss t o n variants.StateOfTheWorld = refl
 kind_is replica store ss t o n variants.Delta = refl
 
-not_due : (v : VariantName) (store : Store) (x : Stream) (t : TypeName) → Speaks v x → to_send store x t ≡ None → sessions.sending v t (at x.sessions t) (at store t).entries ≡ None
-not_due v store x t (inl fresh) none = ap (λ s. sessions.sending v t s (at store t).entries) (ap (λ p. at p t) fresh.1 ∙ at-each unopened t)
-not_due v store x t (inr is) none = sym (ap (option_and_then (λ k. sessions.sending k t (at x.sessions t) (at store t).entries)) is) ∙ none
+not_due : (v : VariantName) (cluster : List ℕ) (store : Store) (x : Stream) (t : TypeName) → Speaks v cluster x → to_send store x t ≡ None → sessions.sending v t (at x.sessions t) (at store t).entries ≡ None
+not_due v cluster store x t (inl fresh) none = ap (λ s. sessions.sending v t s (at store t).entries) (ap (λ p. at p t) fresh.1 ∙ at-each (unopened cluster) t)
+not_due v cluster store x t (inr is) none = sym (ap (option_and_then (λ k. sessions.sending k t (at x.sessions t) (at store t).entries)) is) ∙ none
 
-poll_by : (v : VariantName) (replica : ℕ) (store : Store) (x : Stream) (t : TypeName) (q : Option Draft × Stream) (o : Option Offer) → Speaks v x → to_send store x t ≡ o → option_map_or (sending replica store x t) o (Ok (None, x)) ≡ Ok q
+poll_by : (v : VariantName) (cluster : List ℕ) (replica : ℕ) (store : Store) (x : Stream) (t : TypeName) (q : Option Draft × Stream) (o : Option Offer) → Speaks v cluster x → to_send store x t ≡ o → option_map_or (responding replica store x t) o (Ok (None, x)) ≡ Ok q
     → Sent v t store x q.1 q.0 ⊎ ((q.0 ≡ None) × (q.1 ≡ x) × (sessions.sending v t (at x.sessions t) (at store t).entries ≡ None))
-poll_by v replica store x t q None speaking due is = let same = sym (ok_is (None, x) q is) in inr (ap (λ p. p.0) same, ap (λ p. p.1) same, not_due v store x t speaking due)
-poll_by v replica store x t q (Some o) speaking due is =
-    let facts = due_as v store x t o speaking due in
+poll_by v cluster replica store x t q None speaking due is = let same = sym (ok_is (None, x) q is) in inr (ap (λ p. p.0) same, ap (λ p. p.1) same, not_due v cluster store x t speaking due)
+poll_by v cluster replica store x t q (Some o) speaking due is =
+    let facts = due_as v cluster store x t o speaking due in
     let same : q ≡ (option_map (response_of replica store x.sessions t o (x.count + 1)) x.variant, sent x t o) =
     unless_once (x.count == max_counter) NonceSpent (option_map (response_of replica store x.sessions t o (x.count + 1)) x.variant, sent x t o) q is in
     inl
@@ -238,9 +244,9 @@ poll_by v replica store x t q (Some o) speaking due is =
       kind = kind_is replica store x.sessions t o (x.count + 1) v;
     })
 
-pub poll_is : (v : VariantName) (replica : ℕ) (store : Store) (x : Stream) (t : TypeName) (q : Option Draft × Stream) → Speaks v x → polled_first replica store x (looked_at (Some t)) ≡ Ok q
+pub poll_is : (v : VariantName) (cluster : List ℕ) (replica : ℕ) (store : Store) (x : Stream) (t : TypeName) (q : Option Draft × Stream) → Speaks v cluster x → polled_first replica store x (looked_at (Some t)) ≡ Ok q
     → Sent v t store x q.1 q.0 ⊎ ((q.0 ≡ None) × (q.1 ≡ x) × (sessions.sending v t (at x.sessions t) (at store t).entries ≡ None))
-poll_is v replica store x t q speaking is = poll_by v replica store x t q (to_send store x t) speaking refl (sym (poll_one replica store x t (to_send store x t) refl) ∙ is)
+poll_is v cluster replica store x t q speaking is = poll_by v cluster replica store x t q (to_send store x t) speaking refl (sym (poll_one replica store x t (to_send store x t) refl) ∙ is)
 
 -- ---- responses under way
 
@@ -352,12 +358,12 @@ down_answers Sotw all test c l x d rest q t down is own linked =
     let a : Session = ahead t (at x.sessions t) l.up in
     let kind : e.kind ≡ t = kind_same e.kind t (ap (λ y. is_same_type (kind_of y) t) (sym made.is) ∙ own) (same_type e.kind t) in
     let here : lane.down ≡ Some e = sotw_down e (lane_down t rest) lane.down (ap (λ y. y ∷ lane_down t rest) (sym made.is) ∙ sym (first_down t d rest l.down down own) ∙ lane.downs_are) in
-    let abreast : sotw_lanes.Abreast all t a (Some e) (shelf c t) =
-    subst (λ y. sotw_lanes.Abreast all t a y (shelf c t)) here (subst (λ (y : Session). sotw_lanes.Abreast all t y lane.down (shelf c t)) (sotw_ahead t (at x.sessions t) l.up linked.sotws) lane.abreast) in
+    let abreast : sotw_lanes.Abreast c.cluster all t a (Some e) (shelf c t) =
+    subst (λ y. sotw_lanes.Abreast c.cluster all t a y (shelf c t)) here (subst (λ (y : Session). sotw_lanes.Abreast c.cluster all t y lane.down (shelf c t)) (sotw_ahead t (at x.sessions t) l.up linked.sotws) lane.abreast) in
     let fault : Option (List ℕ) = fault_in e.kind test (sotw_delivery e.kind (message_of e)) in
     let parts = delivered_parts e.kind (shelf c e.kind) e fault in
     let rejects : is_some (option_map failure fault) ≡ is_some (fault_at test t d) = some_mapped fault ∙ ap (λ k. is_some (fault_in k test (sotw_delivery k (message_of e)))) kind ∙ ap (λ y. is_some (fault_at test t y)) (sym made.is) in
-    let given = sotw_answers all t a (shelf c t) e (answer e.kind test (shelf c e.kind) e) (ap texts parts.0 ∙ ap (λ k. texts (shelf c k).wants) kind) parts.1 abreast in
+    let given = sotw_answers c.cluster all t a (shelf c t) e (answer e.kind test (shelf c e.kind) e) (ap texts parts.0 ∙ ap (λ k. texts (shelf c k).wants) kind) parts.1 abreast in
     subst (λ (p : Client × Message). (h : HasAnswer variants.StateOfTheWorld t a (session_after t a p.1)) × (h.rejects ≡ is_some (fault_at test t d))) (sym made.left) (given.0, given.1 ∙ rejects)
 down_answers Delta all test c l x d rest q t down is own linked =
     let made = takes.received_is test c d q is in
@@ -366,11 +372,11 @@ down_answers Delta all test c l x d rest q t down is own linked =
     let a : Session = ahead t (at x.sessions t) l.up in
     let kind : e.kind ≡ t = kind_same e.kind t (ap (λ y. is_same_type (kind_of y) t) (sym made.is) ∙ own) (same_type e.kind t) in
     let here : lane.down ≡ Some e = delta_down e (lane_down t rest) lane.down (ap (λ y. y ∷ lane_down t rest) (sym made.is) ∙ sym (first_down t d rest l.down down own) ∙ lane.downs_are) in
-    let abreast : lanes.Abreast all t a (Some e) (shelf c t) =
-    subst (λ y. lanes.Abreast all t a y (shelf c t)) here (subst (λ (y : Session). lanes.Abreast all t y lane.down (shelf c t)) (delta_folded t (at x.sessions t) l.up linked.deltas) lane.abreast) in
+    let abreast : lanes.Abreast c.cluster all t a (Some e) (shelf c t) =
+    subst (λ y. lanes.Abreast c.cluster all t a y (shelf c t)) here (subst (λ (y : Session). lanes.Abreast c.cluster all t y lane.down (shelf c t)) (delta_folded t (at x.sessions t) l.up linked.deltas) lane.abreast) in
     let fault : Option (List ℕ) = fault_in e.kind test (delta_delivery (delta_message_of e)) in
     let rejects : is_some (option_map failure fault) ≡ is_some (fault_at test t d) = some_mapped fault ∙ ap (λ k. is_some (fault_in k test (delta_delivery (delta_message_of e)))) kind ∙ ap (λ y. is_some (fault_at test t y)) (sym made.is) in
-    let given = delta_answers all t a (shelf c t) e fault abreast in
+    let given = delta_answers c.cluster all t a (shelf c t) e fault abreast in
     subst (λ (p : Client × Message). (h : HasAnswer variants.Delta t a (session_after t a p.1)) × (h.rejects ≡ is_some (fault_at test t d))) (sym made.left) (given.0, given.1 ∙ rejects)
 
 -- and the client wants what it wanted

@@ -10,7 +10,7 @@ use Rattle.xds_resource.specs.Resources.{NamedBody, value_of, resource_of}
 use Rattle.xds_resource.specs.Writes.{StampedWrite, text_cmp, version_of}
 use Rattle.xds_resource.proofs.NameMaps.{has_text, get-insert, has_text-keys, bytes_eq_tells, bytes_eq_swap}
 use Rattle.xds_resource.proofs.MadeMaps.{EachFound, each_found}
-use Rattle.xds_interest.specs.Interests.{Selection, covers}
+use Rattle.xds_interest.specs.Interests.{Selection, reaches, covers}
 use Rattle.xds_catalogue.specs.Holdings.{Holdings, Entries}
 use Rattle.xds_catalogue.specs.Content.{is_shown}
 use Rattle.xds_owed.specs.declared.variant.VariantName.TheVariants.{StateOfTheWorld}
@@ -18,7 +18,7 @@ use Rattle.xds_owed.specs.declared.entry.Entry.{Entry}
 use Rattle.xds_owed.specs.declared.entry.Due.{Due}
 use Rattle.xds_owed.specs.declared.entry.Due.TheVariants.{Stated, Removed}
 use Rattle.xds_owed.specs.Variants.{is_told}
-use Rattle.xds_owed.specs.Owed.{Beliefs, live_version, present, owed}
+use Rattle.xds_owed.specs.Owed.{Beliefs, live_version, version_shown, present, owed}
 use Rattle.xds_owed.specs.Offers.{Offer, offer, stated_version}
 use Rattle.xds_owed.proofs.ByName.{offer_says_it}
 use Rattle.xds_sotw.specs.Polls.{response, stated_writes}
@@ -26,9 +26,9 @@ use Rattle.xds_shelf.specs.Shelves.{Holding, Cache}
 use Rattle.xds_shelf.specs.Faults.{Stated as StatedResource, stated_by, and_stated}
 use Rattle.xds_shelf.specs.Deliveries.{sotw_stated}
 use Rattle.xds_model.specs.Knows.{TypedWrite}
-use Rattle.xds_model.proofs.Replicas.{some_is}
+use Rattle.xds_model.proofs.Replicas.{some_is, if_both}
 use Rattle.xds_delta.proofs.Stating.{present_if_stated}
-use Rattle.xds_model.proofs.Delivering.{IsKnown, AllKnown, canonical_is}
+use Rattle.xds_model.proofs.Delivering.{IsKnown, AllKnown, canonical_is, live_at}
 use Rattle.xds_model.proofs.SotwLanes.{IsHeld, Says, stated_in}
 
 -- ---- what is stated of a list of writes
@@ -121,30 +121,28 @@ module _ (all : List TypedWrite) (t : TypeName) (m : Entries) (s : Selection) (o
       ∙ (λ i. option_or (cond (has_text-keys m q i) (told_of q) None) (finmap.get-empty text_cmp q i))
 
   -- a write that is offered
-  says_stated : (q version : List ℕ) (stated : Option Holding) (x : Option StampedWrite) → finmap.get m q ≡ x → stated ≡ option_or (cond (is_some x) (option_and_then (λ w. held_of (picks w) w.body) x) None) None → (covered : Bool) → covers s q ≡ covered
-      → (if covered then option_and_then live_version x else None) ≡ Some version → is_some (finmap.get o q) ≡ true → IsHeld all t q version stated
-  says_stated q version stated None found states covered covers_it is offered = absurd (never covered is)
-    where
-      never : (c : Bool) → (if c then None else None) ≡ Some version → ⊥
-      never true e = cc
-      never false e = cc
-  says_stated q version stated (Some w) found states false covers_it is offered = absurd cc
-  says_stated q version stated (Some w) found states true covers_it is offered = by_body w.body refl
+  says_stated : (q version : List ℕ) (stated : Option Holding) (x : Option StampedWrite) → finmap.get m q ≡ x → stated ≡ option_or (cond (is_some x) (option_and_then (λ w. held_of (picks w) w.body) x) None) None 
+      → option_and_then (version_shown s q) x ≡ Some version → is_some (finmap.get o q) ≡ true → IsHeld all t q version stated
+  says_stated q version stated None found states is offered = absurd cc
+  says_stated q version stated (Some w) found states is offered = by_body w.body refl
     where
       of : IsKnown all t q w
       of = known q w found
 
+      shown : (covers s q w.groups ≡ true) × (live_version w ≡ Some version)
+      shown = if_both (covers s q w.groups) (live_version w) version is
+
       by_body : (b : Option (List ℕ)) → w.body ≡ b → IsHeld all t q version stated
-      by_body None body = let never : None ≡ Some version = sym (ap (λ b. if is_some b then Some (version_of w) else None) body) ∙ is in absurd cc
+      by_body None body = let never : None ≡ Some version = sym (ap (λ b. if is_some b then Some (version_of w) else None) body) ∙ shown.1 in absurd cc
       by_body (Some x) body = (
         w,
         record { version = []; body = x },
         of.made,
         of.named,
-        some_is (version_of w) version (sym (ap (λ b. if is_some b then Some (version_of w) else None) body) ∙ is),
+        some_is (version_of w) version (sym (ap (λ b. if is_some b then Some (version_of w) else None) body) ∙ shown.1),
         body,
         states
-            ∙ (λ i. option_or (held_of ((is_some (body i) && (ap (covers s) of.named ∙ covers_it) i) && (ap (λ n. is_some (finmap.get o n)) of.named ∙ offered) i) (body i)) None),
+            ∙ (λ i. option_or (held_of ((is_some (body i) && (ap (λ n. covers s n w.groups) of.named ∙ shown.0) i) && (ap (λ n. is_some (finmap.get o n)) of.named ∙ offered) i) (body i)) None),
       )
 
   -- and one that isn't
@@ -183,13 +181,9 @@ offered_by t false e p tells d partial is = by_owed (owed e p) refl is
 pub offered_is : (t : TypeName) (s : Selection) (m : Entries) (b : Beliefs) (q : List ℕ) (d : Due) → finmap.get (offer StateOfTheWorld t s m b) q ≡ Some d → (version : List ℕ) × (d ≡ Stated version) × (present s m q ≡ Some version)
 offered_is t s m b q d is = offered_by t (row t).is_complete (finmap.get b q) (present s m q) (is_told StateOfTheWorld t) d (λ partial. partial) (sym (offer_says_it StateOfTheWorld t s m b q) ∙ is)
 
-covered_if : (c : Bool) (o : Option (List ℕ)) (version : List ℕ) → (if c then o else None) ≡ Some version → c ≡ true
-covered_if true o version is = refl
-covered_if false o version is = absurd cc
-
--- what is stated is covered
-pub stated_is_covered : (t : TypeName) (s : Selection) (m : Entries) (b : Beliefs) (q version : List ℕ) → finmap.get (offer StateOfTheWorld t s m b) q ≡ Some (Stated version) → covers s q ≡ true
-stated_is_covered t s m b q version is = let made = offered_is t s m b q (Stated version) is in covered_if (covers s q) (option_and_then live_version (finmap.get m q)) made.0 made.2
+-- what is stated is reached
+pub stated_is_reached : (t : TypeName) (s : Selection) (m : Entries) (b : Beliefs) (q version : List ℕ) → finmap.get (offer StateOfTheWorld t s m b) q ≡ Some (Stated version) → reaches s q ≡ true
+stated_is_reached t s m b q version is = let made = offered_is t s m b q (Stated version) is in (live_at s q (finmap.get m q) made.0 made.2).0
 
 stated_same : (u v : List ℕ) → ◌≡◌ {A = Due} (Stated u) (Stated v) → v ≡ u
 stated_same u v e = cc
@@ -202,7 +196,7 @@ says_by : (all : List TypedWrite) (t : TypeName) (h : Holdings) (s : Selection) 
 says_by all t h s b known q stated None is states = says_nothing all t h.entries s (offer StateOfTheWorld t s h.entries b) known q stated (finmap.get h.entries q) refl states (ap is_some is)
 says_by all t h s b known q stated (Some (Stated version)) is states =
     let made = offered_is t s h.entries b q (Stated version) is in
-    says_stated all t h.entries s (offer StateOfTheWorld t s h.entries b) known q version stated (finmap.get h.entries q) refl states (covers s q) refl (made.2 ∙ ap Some (sym (stated_same made.0 version (sym made.1)))) (ap is_some is)
+    says_stated all t h.entries s (offer StateOfTheWorld t s h.entries b) known q version stated (finmap.get h.entries q) refl states (made.2 ∙ ap Some (sym (stated_same made.0 version (sym made.1)))) (ap is_some is)
 says_by all t h s b known q stated (Some Removed) is states = let made = offered_is t s h.entries b q Removed is in absurd (stated_only made.0 made.1)
 
 pub response_says : (all : List TypedWrite) (replica : ℕ) (t : TypeName) (h : Holdings) (s : Selection) (b : Beliefs) (number : ℕ) (q : List ℕ) → AllKnown all t h.entries

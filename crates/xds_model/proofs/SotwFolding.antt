@@ -7,10 +7,10 @@ use Rattle.std.specs.FinMap as finmap
 use Rattle.std.specs.FinSet as set
 use Rattle.std.proofs.lemmas.Bool.{or_parts}
 use Rattle.xds_resource.specs.declared.types.TypeName.{TypeName}
-use Rattle.xds_interest.specs.Interests.{covers}
+use Rattle.xds_interest.specs.Interests.{reaches}
 use Rattle.xds_interest.specs.Asked.{Asked}
 use Rattle.xds_interest.specs.Touches.{Touch, touches}
-use Rattle.xds_interest.proofs.AskedLaws.{untouched_keeps_cover_of_kept}
+use Rattle.xds_interest.proofs.AskedLaws.{untouched_keeps_reach_of_kept}
 use Rattle.xds_message.specs.Messages.{Request}
 use Rattle.xds_owed.specs.declared.variant.VariantName.TheVariants.{StateOfTheWorld}
 use Rattle.xds_owed.specs.declared.entry.Entry.{Entry}
@@ -106,41 +106,41 @@ taken_meanwhile_all t s o since n (m ∷ ms) none all apart = (
 -- what is believed of a name after a request that settles nothing
 pub believed_quiet : (t : TypeName) (s : Session) (m : Request) (q : List ℕ) → settled StateOfTheWorld t s.account m.response_nonce (is_some m.error_detail) ≡ s.account → is_taken s m.response_nonce ≡ true
     → let names = names_of t s.asked m in
-    finmap.get (take t s m).account.beliefs q ≡ believed_after (touches names.touched q) (covers names.asked.interest q) (set.contains names.mentioned q) (finmap.get s.account.beliefs q)
+    finmap.get (take t s m).account.beliefs q ≡ believed_after (touches names.touched q) (reaches names.asked.interest q) (set.contains names.mentioned q) (finmap.get s.account.beliefs q)
 believed_quiet t s m q quiet is =
     let names : Names = names_of t s.asked m in
     ap (λ x. finmap.get x.account.beliefs q) (take_is t s m is) ∙ believed_by_name StateOfTheWorld t s (answer_of m) names q
-    ∙ nothing_resumed (believed_after (touches names.touched q) (covers names.asked.interest q) (set.contains names.mentioned q) (finmap.get (settled StateOfTheWorld t s.account m.response_nonce (is_some m.error_detail)).beliefs q)) q
-    ∙ ap (λ (a : Account). believed_after (touches names.touched q) (covers names.asked.interest q) (set.contains names.mentioned q) (finmap.get a.beliefs q)) quiet
+    ∙ nothing_resumed (believed_after (touches names.touched q) (reaches names.asked.interest q) (set.contains names.mentioned q) (finmap.get (settled StateOfTheWorld t s.account m.response_nonce (is_some m.error_detail)).beliefs q)) q
+    ∙ ap (λ (a : Account). believed_after (touches names.touched q) (reaches names.asked.interest q) (set.contains names.mentioned q) (finmap.get a.beliefs q)) quiet
 
--- a name that requests don't touch is covered as before
-pub untouched_folded : (t : TypeName) (s : Session) (ms : List Request) (name : List ℕ) → AllTaken t s ms → list_any (λ x. touches x name) (touched_by t s ms) ≡ false → covers (folded t s ms).asked.interest name ≡ covers s.asked.interest name
+-- a name that requests don't touch is reached as before
+pub untouched_folded : (t : TypeName) (s : Session) (ms : List Request) (name : List ℕ) → AllTaken t s ms → list_any (λ x. touches x name) (touched_by t s ms) ≡ false → reaches (folded t s ms).asked.interest name ≡ reaches s.asked.interest name
 untouched_folded t s [] name all untouched = refl
 untouched_folded t s (m ∷ ms) name all untouched =
     let parts = or_parts (touches (names_of t s.asked m).touched name) (list_any (λ x. touches x name) (touched_by t (take t s m) ms)) untouched in
-    untouched_folded t (take t s m) ms name all.1 parts.1 ∙ ap (λ x. covers x.asked.interest name) (take_is t s m all.0) ∙ untouched_keeps_cover_of_kept t s.asked m.resource_names name parts.0
+    untouched_folded t (take t s m) ms name all.1 parts.1 ∙ ap (λ x. reaches x.asked.interest name) (take_is t s m all.0) ∙ untouched_keeps_reach_of_kept t s.asked m.resource_names name parts.0
 
 -- a name that counts as told no more doesn't count as told again
-not_told : (touched covered mentioned : Bool) (b : Option Entry) (v : List ℕ) → (b ≡ Some (Told v) → ⊥) → believed_after touched covered mentioned b ≡ Some (Told v) → ⊥
+not_told : (touched reached mentioned : Bool) (b : Option Entry) (v : List ℕ) → (b ≡ Some (Told v) → ⊥) → believed_after touched reached mentioned b ≡ Some (Told v) → ⊥
 not_told true true true b v never is = absurd cc
 not_told true true false None v never is = absurd cc
 not_told true true false (Some e) v never is = absurd cc
 not_told true false mentioned b v never is = absurd cc
-not_told false covered mentioned b v never is = never is
+not_told false reached mentioned b v never is = never is
 
 never_told_again : (t : TypeName) (s : Session) (ms : List Request) (name v : List ℕ) → AllTaken t s ms → s.account.sent ≡ None → (finmap.get s.account.beliefs name ≡ Some (Told v) → ⊥) → finmap.get (folded t s ms).account.beliefs name ≡ Some (Told v) → ⊥
 never_told_again t s [] name v all none never is = never is
 never_told_again t s (m ∷ ms) name v all none never is =
     never_told_again t (take t s m) ms name v all.1 (still_none t s m all.0 none)
-    (λ told. not_told (touches (names_of t s.asked m).touched name) (covers (names_of t s.asked m).asked.interest name) (set.contains (names_of t s.asked m).mentioned name) (finmap.get s.account.beliefs name) v never
+    (λ told. not_told (touches (names_of t s.asked m).touched name) (reaches (names_of t s.asked m).asked.interest name) (set.contains (names_of t s.asked m).mentioned name) (finmap.get s.account.beliefs name) v never
     (sym (believed_quiet t s m name (unsettled t s.account m.response_nonce (is_some m.error_detail) none) all.0) ∙ told)) is
 
-pub touched_not_told : (touched covered mentioned : Bool) (b : Option Entry) (v : List ℕ) → touched ≡ true → believed_after touched covered mentioned b ≡ Some (Told v) → ⊥
+pub touched_not_told : (touched reached mentioned : Bool) (b : Option Entry) (v : List ℕ) → touched ≡ true → believed_after touched reached mentioned b ≡ Some (Told v) → ⊥
 touched_not_told true true true b v touched is = absurd cc
 touched_not_told true true false None v touched is = absurd cc
 touched_not_told true true false (Some e) v touched is = absurd cc
 touched_not_told true false mentioned b v touched is = absurd cc
-touched_not_told false covered mentioned b v touched is = absurd cc
+touched_not_told false reached mentioned b v touched is = absurd cc
 
 either_of : (a b : Bool) → (a || b) ≡ true → b ≡ false → a ≡ true
 either_of true b is other = refl
@@ -156,6 +156,6 @@ touched_folded t s (m ∷ ms) name v all none touched is = later (list_any (λ x
     later true rest again = again rest is
     later false rest again =
         never_told_again t (take t s m) ms name v all.1 (still_none t s m all.0 none)
-        (λ told. touched_not_told (touches (names_of t s.asked m).touched name) (covers (names_of t s.asked m).asked.interest name) (set.contains (names_of t s.asked m).mentioned name) (finmap.get s.account.beliefs name) v
+        (λ told. touched_not_told (touches (names_of t s.asked m).touched name) (reaches (names_of t s.asked m).asked.interest name) (set.contains (names_of t s.asked m).mentioned name) (finmap.get s.account.beliefs name) v
         (either_of (touches (names_of t s.asked m).touched name) (list_any (λ x. touches x name) (touched_by t (take t s m) ms)) touched rest)
         (sym (believed_quiet t s m name (unsettled t s.account m.response_nonce (is_some m.error_detail) none) all.0) ∙ told)) is

@@ -8,7 +8,7 @@ use Rattle.std.specs.FinSet as set
 use Rattle.xds_resource.specs.declared.types.TypeName.{TypeName}
 use Rattle.xds_resource.specs.Types.{row}
 use Rattle.xds_resource.specs.Writes.{StampedWrite, version_of, text_cmp}
-use Rattle.xds_interest.specs.Interests.{Selection, covers}
+use Rattle.xds_interest.specs.Interests.{Selection, reaches}
 use Rattle.xds_interest.specs.Asked.{Asked, sotw_asked}
 use Rattle.xds_interest.specs.Touched.{exactly_one}
 use Rattle.xds_interest.specs.Touches.{touches, sotw_touch}
@@ -34,11 +34,11 @@ use Rattle.xds_model.proofs.SotwFolding.{names_of, answer_of, take_is}
 -- ---- what is kept
 
 -- what is kept of the requests where these texts are wanted
-abbrev pub naming : TypeName → Wants → Asked
-naming t w = record { begun = true; named = true; interest = interest t w }
+abbrev pub naming : List ℕ → TypeName → Wants → Asked
+naming cluster t w = record { begun = true; named = true; interest = interest t cluster w }
 
-abbrev pub Asks : TypeName → Session → Shelf → Type 0
-Asks t s f = ((f.asked ≡ true) × (s.asked ≡ naming t f.wants)) ⊎ ((f.asked ≡ false) × (s ≡ unopened) × (wants_some f.wants ≡ false) × (f.nonce ≡ []))
+abbrev pub Asks : List ℕ → TypeName → Session → Shelf → Type 0
+Asks cluster t s f = ((f.asked ≡ true) × (s.asked ≡ naming cluster t f.wants)) ⊎ ((f.asked ≡ false) × (s ≡ unopened cluster) × (wants_some f.wants ≡ false) × (f.nonce ≡ []))
 
 -- what is held is what a write of this version puts under the name
 abbrev pub IsHeld : List TypedWrite → TypeName → List ℕ → List ℕ → Option Holding → Type 0
@@ -69,8 +69,8 @@ Awaits all t n (Some sent) w last (Some d) = Delivers all t n sent w d × (bytes
 abbrev pub TouchedIsUnsure : TypeName → Session → Sent → Type 0
 TouchedIsUnsure t s sent = (name version : List ℕ) → (row t).is_complete ≡ true → was_touched sent name ≡ true → finmap.get s.account.beliefs name ≡ Some (Told version) → ⊥
 
-pub record Abreast (all : List TypedWrite) (t : TypeName) (s : Session) (down : Option Drafted) (f : Shelf) : Type 0 where
-  pub asks : Asks t s f
+pub record Abreast (cluster : List ℕ) (all : List TypedWrite) (t : TypeName) (s : Session) (down : Option Drafted) (f : Shelf) : Type 0 where
+  pub asks : Asks cluster t s f
   pub awaits : Awaits all t s.account.nonce s.account.sent f.wants f.nonce down
   pub touched : (sent : Sent) → s.account.sent ≡ Some sent → TouchedIsUnsure t s sent
   pub told : (name version : List ℕ) → finmap.get s.account.beliefs name ≡ Some (Told version) → IsHeld all t name version (finmap.get f.cache name)
@@ -96,9 +96,9 @@ awaits_none all t n (Some sent) w last none is = absurd cc
 pub none_sent : (o : Option Sent) (sent : Sent) → o ≡ None → o ≡ Some sent → ⊥
 none_sent o sent none some = let never : None ≡ Some sent = sym none ∙ some in absurd cc
 
-pub asks_if_sent : (t : TypeName) (s : Session) (f : Shelf) (sent : Sent) → s.account.sent ≡ Some sent → Asks t s f → (f.asked ≡ true) × (s.asked ≡ naming t f.wants)
-asks_if_sent t s f sent has (inl asked) = asked
-asks_if_sent t s f sent has (inr never) = absurd (none_sent s.account.sent sent (ap (λ x. x.account.sent) never.1) has)
+pub asks_if_sent : (cluster : List ℕ) (t : TypeName) (s : Session) (f : Shelf) (sent : Sent) → s.account.sent ≡ Some sent → Asks cluster t s f → (f.asked ≡ true) × (s.asked ≡ naming cluster t f.wants)
+asks_if_sent cluster t s f sent has (inl asked) = asked
+asks_if_sent cluster t s f sent has (inr never) = absurd (none_sent s.account.sent sent (ap (λ x. x.account.sent) never.1) has)
 
 -- ---- an answer: it lists what was wanted before, too
 
@@ -109,8 +109,8 @@ same_twice false = refl
 pub untouched_again : (s : Selection) (q : List ℕ) → touches (sotw_touch s s) q ≡ false
 untouched_again s q = sotw_touch_is_a_set s s q ∙ (λ i. same_twice s.star i || same_twice (set.contains s.names q) i)
 
-pub record Answered (t : TypeName) (w : Wants) (s after : Session) (sent : Sent) (rejects : Bool) : Type 0 where
-  pub asked : after.asked ≡ naming t w
+pub record Answered (cluster : List ℕ) (t : TypeName) (w : Wants) (s after : Session) (sent : Sent) (rejects : Bool) : Type 0 where
+  pub asked : after.asked ≡ naming cluster t w
   pub quiet : after.account.sent ≡ None
   pub nonce : after.account.nonce ≡ s.account.nonce
   pub accepted : after.account.accepted ≡ (answered StateOfTheWorld t s.account sent rejects).accepted
@@ -120,15 +120,15 @@ answered_quiet : (t : TypeName) (a : Account) (sent : Sent) (rejects : Bool) →
 answered_quiet t a sent true = (refl, refl)
 answered_quiet t a sent false = (refl, refl)
 
-pub after_answer : (t : TypeName) (w : Wants) (s : Session) (m : Request) (sent : Sent) → m.resource_names ≡ texts w → s.asked ≡ naming t w → s.account.sent ≡ Some sent → bytes_eq m.response_nonce (nonce_text s.account.nonce) ≡ true
-    → Answered t w s (take t s m) sent (is_some m.error_detail)
-after_answer t w s m sent lists asked has same =
+pub after_answer : (cluster : List ℕ) (t : TypeName) (w : Wants) (s : Session) (m : Request) (sent : Sent) → m.resource_names ≡ texts w → s.asked ≡ naming cluster t w → s.account.sent ≡ Some sent → bytes_eq m.response_nonce (nonce_text s.account.nonce) ≡ true
+    → Answered cluster t w s (take t s m) sent (is_some m.error_detail)
+after_answer cluster t w s m sent lists asked has same =
     let names : Names = names_of t s.asked m in
     let is : take t s m ≡ taken StateOfTheWorld t s (answer_of m) names = take_is t s m (taken_if_sent s m.response_nonce sent has) in
     let account : settled StateOfTheWorld t s.account m.response_nonce (is_some m.error_detail) ≡ answered StateOfTheWorld t s.account sent (is_some m.error_detail) =
     settles StateOfTheWorld t s.account m.response_nonce (is_some m.error_detail) sent has same in
-    let after : names.asked ≡ naming t w = λ i. sotw_asked t (asked i) (lists i) in
-    let untouched : (q : List ℕ) → touches names.touched q ≡ false = λ q. ap (λ (a : Asked). touches (sotw_touch a.interest names.asked.interest) q) asked ∙ ap (λ (a : Asked). touches (sotw_touch (interest t w) a.interest) q) after ∙ untouched_again (interest t w) q in
+    let after : names.asked ≡ naming cluster t w = λ i. sotw_asked t (asked i) (lists i) in
+    let untouched : (q : List ℕ) → touches names.touched q ≡ false = λ q. ap (λ (a : Asked). touches (sotw_touch a.interest names.asked.interest) q) asked ∙ ap (λ (a : Asked). touches (sotw_touch (interest t cluster w) a.interest) q) after ∙ untouched_again (interest t cluster w) q in
     let quiet = answered_quiet t s.account sent (is_some m.error_detail) in
     record {
       asked = ap (λ x. x.asked) is ∙ after;
@@ -136,8 +136,8 @@ after_answer t w s m sent lists asked has same =
       nonce = ap (λ x. x.account.nonce) is ∙ ap (λ (a : Account). a.nonce) account ∙ quiet.1;
       accepted = ap (λ x. x.account.accepted) is ∙ ap (λ (a : Account). a.accepted) account;
       beliefs = λ q. ap (λ x. finmap.get x.account.beliefs q) is ∙ believed_by_name StateOfTheWorld t s (answer_of m) names q
-          ∙ nothing_resumed (believed_after (touches names.touched q) (covers names.asked.interest q) (set.contains names.mentioned q) (finmap.get (settled StateOfTheWorld t s.account m.response_nonce (is_some m.error_detail)).beliefs q)) q
-          ∙ ap (λ b. believed_after b (covers names.asked.interest q) (set.contains names.mentioned q) (finmap.get (settled StateOfTheWorld t s.account m.response_nonce (is_some m.error_detail)).beliefs q)) (untouched q)
+          ∙ nothing_resumed (believed_after (touches names.touched q) (reaches names.asked.interest q) (set.contains names.mentioned q) (finmap.get (settled StateOfTheWorld t s.account m.response_nonce (is_some m.error_detail)).beliefs q)) q
+          ∙ ap (λ b. believed_after b (reaches names.asked.interest q) (set.contains names.mentioned q) (finmap.get (settled StateOfTheWorld t s.account m.response_nonce (is_some m.error_detail)).beliefs q)) (untouched q)
           ∙ ap (λ (a : Account). finmap.get a.beliefs q) account;
     }
 
@@ -154,16 +154,16 @@ none_some h e = cc
 
 pub told_accepted : (all : List TypedWrite) (t : TypeName) (name : List ℕ) (whole touched wanted : Bool) (o : Option Due) (b : Option Entry) (stated held : Option Holding) (v : List ℕ) → Says all t name o stated → ((u : List ℕ) → o ≡ Some (Stated u) → touched ≡ false → wanted ≡ true)
     → (whole ≡ true → touched ≡ true → b ≡ Some (Told v) → ⊥) → (wanted ≡ false → held ≡ None) → (b ≡ Some (Told v) → IsHeld all t name v held) → believed_accepted whole touched o b ≡ Some (Told v) → IsHeld all t name v (held_after whole wanted stated held)
-told_accepted all t name whole true wanted (Some d) b stated held v says covered unsure within told is = absurd cc
-told_accepted all t name whole false wanted (Some (Stated u)) b stated held v says covered unsure within told is =
+told_accepted all t name whole true wanted (Some d) b stated held v says reached unsure within told is = absurd cc
+told_accepted all t name whole false wanted (Some (Stated u)) b stated held v says reached unsure within told is =
     subst (λ x. IsHeld all t name x (held_after whole wanted stated held)) (told_is u v is)
-    (subst (λ x. IsHeld all t name u (if x then option_or stated (if whole then None else held) else None)) (sym (covered u refl refl))
+    (subst (λ x. IsHeld all t name u (if x then option_or stated (if whole then None else held) else None)) (sym (reached u refl refl))
     (says.0, says.1, says.2, says.3, says.4, says.5, ap (λ x. option_or x (if whole then None else held)) says.6))
-told_accepted all t name whole false wanted (Some Removed) b stated held v says covered unsure within told is = absurd says
-told_accepted all t name true true wanted None b stated held v says covered unsure within told is = absurd (unsure refl refl is)
-told_accepted all t name true false wanted None b stated held v says covered unsure within told is = absurd cc
-told_accepted all t name false touched true None b stated held v says covered unsure within told is = subst (IsHeld all t name v) (ap (λ x. option_or x held) (sym says)) (told is)
-told_accepted all t name false touched false None b stated held v says covered unsure within told is = let was = told is in absurd (none_some was.1 (sym (within refl) ∙ was.6))
+told_accepted all t name whole false wanted (Some Removed) b stated held v says reached unsure within told is = absurd says
+told_accepted all t name true true wanted None b stated held v says reached unsure within told is = absurd (unsure refl refl is)
+told_accepted all t name true false wanted None b stated held v says reached unsure within told is = absurd cc
+told_accepted all t name false touched true None b stated held v says reached unsure within told is = subst (IsHeld all t name v) (ap (λ x. option_or x held) (sym says)) (told is)
+told_accepted all t name false touched false None b stated held v says reached unsure within told is = let was = told is in absurd (none_some was.1 (sym (within refl) ∙ was.6))
 
 pub none_accepted : (all : List TypedWrite) (t : TypeName) (name : List ℕ) (whole touched wanted : Bool) (o : Option Due) (b : Option Entry) (stated held : Option Holding) → Says all t name o stated → (whole ≡ false → b ≡ None → held ≡ None)
     → believed_accepted whole touched o b ≡ None → held_after whole wanted stated held ≡ None

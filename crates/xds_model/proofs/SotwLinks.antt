@@ -15,6 +15,7 @@ use Rattle.xds_message.specs.Messages.{Identity, Request}
 use Rattle.xds_draft.specs.declared.draft.Draft.{Draft}
 use Rattle.xds_draft.specs.declared.draft.Draft.TheVariants as drafts
 use Rattle.xds_draft.specs.Drafts.{Drafted, message_of}
+use Rattle.xds_draft.specs.DraftTexts.{kind_of}
 use Rattle.xds_ledger.specs.declared.outcome.Outcome.{Outcome}
 use Rattle.xds_owed.specs.declared.entry.Entry.TheVariants.{Told}
 use Rattle.xds_owed.specs.declared.variant.VariantName.TheVariants.{StateOfTheWorld}
@@ -25,7 +26,7 @@ use Rattle.xds_ledger.specs.Sessions.{Session, unopened, send}
 use Rattle.xds_sotw.specs.Polls.{take, response}
 use Rattle.xds_core.specs.Stores.{Store}
 use Rattle.xds_core.specs.Streams as streams
-use Rattle.xds_core.specs.Streams.{Stream, Message, opening, is_foreign, answered_by, answered, requested, to_send, response_of}
+use Rattle.xds_core.specs.Streams.{Stream, Message, opening, cluster_of, is_foreign, sessions_for, answered_by, answered, requested, to_send, response_of}
 use Rattle.xds_core.proofs.StepLaws.{unless_once}
 use Rattle.xds_shelf.specs.Shelves.{Wants, Shelf, texts, is_wanted, wants_some, wanting, connected}
 use Rattle.xds_shelf.specs.Faults.{Test}
@@ -39,16 +40,16 @@ use Rattle.xds_model.specs.Worlds.{Link, under_way, received_in, opening_request
 use Rattle.xds_model.specs.Knows.{TypedWrite}
 use Rattle.xds_model.specs.Claims.{asks_for}
 use Rattle.xds_model.proofs.Replicas.{some_is}
-use Rattle.xds_model.proofs.Queues.{cons-append, lane_down, lane_down-append, nonces_differ}
-use Rattle.xds_model.proofs.LinkSteps.{sending_facts, taken_by, IsSent, one_more, room_is}
-use Rattle.xds_model.proofs.LinkTakes.{received_ok, answered_ok, nothing_wanted, connected_shelf, lost_shelf, addressed_to}
+use Rattle.xds_model.proofs.Queues.{cons-append, lane_down, lane_down-append, nonces_differ, Speaks, started}
+use Rattle.xds_model.proofs.LinkSteps.{sending_facts, taken_by, own_sessions, undecided_session, due_as, IsSent, one_more, room_is}
+use Rattle.xds_model.proofs.LinkTakes.{not_empty, own_first, received_ok, answered_ok, nothing_wanted, connected_shelf, lost_shelf, addressed_to}
 use Rattle.xds_model.proofs.Firsts.{firsts, firsts_by, one_first, once, first_lane}
 use Rattle.xds_model.proofs.Delivering.{AllKnown}
 use Rattle.xds_model.proofs.SotwFolding.{folded, AllTaken, NoneAnswers, folded_more, taken_more, quiet_folded, taken_meanwhile_all}
 use Rattle.xds_model.proofs.Lanes.{taken_if_sent}
 use Rattle.xds_model.proofs.SotwLanes.{Asks, Abreast, Says, stated_in, awaited, nothing_sent, none_sent}
 use Rattle.xds_model.proofs.SotwSteps.{answer, abreast_delivered, abreast_changed, abreast_first, abreast_sent, taken_last}
-use Rattle.xds_model.proofs.SotwDelivering.{response_says, stated_is_covered}
+use Rattle.xds_model.proofs.SotwDelivering.{response_says, stated_is_reached}
 use Rattle.xds_writes.proofs.StampedWriteLemmas.{type_of_url-url}
 
 -- ---- the requests of a type
@@ -118,78 +119,74 @@ none_answers count (m ∷ ms) within all = (nonces_differ count m.response_nonce
 abbrev pub listed_draft : Option Drafted → List Draft
 listed_draft down = under_way (option_map drafts.Sotw down)
 
-pub record Lane (all : List TypedWrite) (t : TypeName) (s : Session) (count : ℕ) (ups : List Request) (downs : List Draft) (f : Shelf) : Type 0 where
+pub record Lane (cluster : List ℕ) (all : List TypedWrite) (t : TypeName) (s : Session) (count : ℕ) (ups : List Request) (downs : List Draft) (f : Shelf) : Type 0 where
   pub down : Option Drafted
   pub downs_are : downs ≡ listed_draft down
   pub taken : AllTaken t s ups
   pub numbered : AllNumbered count ups
   pub answered : (d : Drafted) → down ≡ Some d → IsNumbered count d.nonce
   pub last : IsNumbered count f.nonce
-  pub abreast : Abreast all t (folded t s ups) down f
-
-abbrev pub IsSotwStream : Stream → Type 0
-IsSotwStream x = ((x.variant ≡ None) × (x.sessions ≡ each unopened)) ⊎ (x.variant ≡ Some StateOfTheWorld)
+  pub abreast : Abreast cluster all t (folded t s ups) down f
 
 -- a link of a client of the state of the world
 pub record Linked (all : List TypedWrite) (c : Client) (l : Link) (x : Stream) : Type 0 where
-  pub variant : IsSotwStream x
+  pub variant : Speaks StateOfTheWorld c.cluster x
   pub counted : x.count ≤ max_counter
   pub sotws : AllSotw l.up
-  pub lanes : (t : TypeName) → Lane all t (at x.sessions t) x.count (lane_up t l.up) (lane_down t l.down) (shelf c t)
+  pub lanes : (t : TypeName) → Lane c.cluster all t (at x.sessions t) x.count (lane_up t l.up) (lane_down t l.down) (shelf c t)
 
 -- ---- Up
 
-request_taken : (x : Stream) (t : TypeName) (q : Request) (z : Outcome × Stream) → q.type_url ≡ (row t).url → requested x (streams.Sotw q) ≡ Ok z
+request_taken : (x : Stream) (t : TypeName) (q : Request) (z : Outcome × Stream) → q.type_url ≡ (row t).url → sessions_for x (streams.Sotw q) ≡ x.sessions → requested x (streams.Sotw q) ≡ Ok z
     → z.1 ≡ record { variant = Some StateOfTheWorld; count = x.count; sessions = with_at x.sessions t (take t (at x.sessions t) q) }
-request_taken x t q z url is =
-    let made = taken_by (is_foreign x (streams.Sotw q)) x StateOfTheWorld (answered x.sessions (streams.Sotw q)) z is in
-    let answer : made.0 ≡ answered_by x.sessions (streams.Sotw q) (type_of_url q.type_url) = unless_once (length q.type_url == 0) BadMessage (answered_by x.sessions (streams.Sotw q) (type_of_url q.type_url)) made.0 made.1 in
-    let typed : made.0 ≡ answered_by x.sessions (streams.Sotw q) (Some t) = answer ∙ ap (answered_by x.sessions (streams.Sotw q)) (ap type_of_url url ∙ type_of_url-url t) in
+request_taken x t q z url own is =
+    let ss : PerType Session = sessions_for x (streams.Sotw q) in
+    let made = taken_by (is_foreign x (streams.Sotw q)) x StateOfTheWorld (answered ss (streams.Sotw q)) z is in
+    let answer : made.0 ≡ answered_by ss (streams.Sotw q) (type_of_url q.type_url) = unless_once (length q.type_url == 0) BadMessage (answered_by ss (streams.Sotw q) (type_of_url q.type_url)) made.0 made.1 in
+    let typed : made.0 ≡ answered_by x.sessions (streams.Sotw q) (Some t) = answer ∙ (λ i. answered_by (own i) (streams.Sotw q) ((ap type_of_url url ∙ type_of_url-url t) i)) in
     made.2 ∙ ap (λ (a : Outcome × PerType Session). record { variant = Some StateOfTheWorld; count = x.count; sessions = a.1 }) typed
 
-lane_taken : (all : List TypedWrite) (t : TypeName) (s : Session) (count : ℕ) (q : Request) (ups : List Request) (downs : List Draft) (f : Shelf) → Lane all t s count (q ∷ ups) downs f → Lane all t (take t s q) count ups downs f
-lane_taken all t s count q ups downs f lane =
+lane_taken : (cluster : List ℕ) (all : List TypedWrite) (t : TypeName) (s : Session) (count : ℕ) (q : Request) (ups : List Request) (downs : List Draft) (f : Shelf) → Lane cluster all t s count (q ∷ ups) downs f → Lane cluster all t (take t s q) count ups downs f
+lane_taken cluster all t s count q ups downs f lane =
     record { down = lane.down; downs_are = lane.downs_are; taken = lane.taken.1; numbered = lane.numbered.1; answered = lane.answered; last = lane.last; abreast = lane.abreast }
 
-up_lane : (all : List TypedWrite) (x : Stream) (s t : TypeName) (q : Request) (rest : List Message) (downs : List Draft) (f : Shelf) → q.type_url ≡ (row s).url → ((s ≡ t) × (is_same_type s t ≡ true)) ⊎ ((s ≢ t) × (is_same_type s t ≡ false))
-    → Lane all t (at x.sessions t) x.count (lane_up t (streams.Sotw q ∷ rest)) downs f → Lane all t (at (with_at x.sessions s (take s (at x.sessions s) q)) t) x.count (lane_up t rest) downs f
-up_lane all x s t q rest downs f url (inl same) lane =
-    let asked : Lane all t (at x.sessions t) x.count (q ∷ lane_up t rest) downs f = subst (λ o. Lane all t (at x.sessions t) x.count (cons_option o (lane_up t rest)) downs f) (of_own_type s t q url same.1) lane in
-    subst (λ (k : Session). Lane all t k x.count (lane_up t rest) downs f) (sym (ap (λ r. at (with_at x.sessions r (take r (at x.sessions r) q)) t) same.0 ∙ at-with_at x.sessions t (take t (at x.sessions t) q)))
-    (lane_taken all t (at x.sessions t) x.count q (lane_up t rest) downs f asked)
-up_lane all x s t q rest downs f url (inr other) lane =
-    let asked : Lane all t (at x.sessions t) x.count (lane_up t rest) downs f = subst (λ o. Lane all t (at x.sessions t) x.count (cons_option o (lane_up t rest)) downs f) (of_other_type s t q url other.1) lane in
-    subst (λ (k : Session). Lane all t k x.count (lane_up t rest) downs f) (sym (at-with_at_other x.sessions s (take s (at x.sessions s) q) t (λ e. other.0 (sym e)))) asked
+up_lane : (cluster : List ℕ) (all : List TypedWrite) (x : Stream) (s t : TypeName) (q : Request) (rest : List Message) (downs : List Draft) (f : Shelf) → q.type_url ≡ (row s).url → ((s ≡ t) × (is_same_type s t ≡ true)) ⊎ ((s ≢ t) × (is_same_type s t ≡ false))
+    → Lane cluster all t (at x.sessions t) x.count (lane_up t (streams.Sotw q ∷ rest)) downs f → Lane cluster all t (at (with_at x.sessions s (take s (at x.sessions s) q)) t) x.count (lane_up t rest) downs f
+up_lane cluster all x s t q rest downs f url (inl same) lane =
+    let asked : Lane cluster all t (at x.sessions t) x.count (q ∷ lane_up t rest) downs f = subst (λ o. Lane cluster all t (at x.sessions t) x.count (cons_option o (lane_up t rest)) downs f) (of_own_type s t q url same.1) lane in
+    subst (λ (k : Session). Lane cluster all t k x.count (lane_up t rest) downs f) (sym (ap (λ r. at (with_at x.sessions r (take r (at x.sessions r) q)) t) same.0 ∙ at-with_at x.sessions t (take t (at x.sessions t) q)))
+    (lane_taken cluster all t (at x.sessions t) x.count q (lane_up t rest) downs f asked)
+up_lane cluster all x s t q rest downs f url (inr other) lane =
+    let asked : Lane cluster all t (at x.sessions t) x.count (lane_up t rest) downs f = subst (λ o. Lane cluster all t (at x.sessions t) x.count (cons_option o (lane_up t rest)) downs f) (of_other_type s t q url other.1) lane in
+    subst (λ (k : Session). Lane cluster all t k x.count (lane_up t rest) downs f) (sym (at-with_at_other x.sessions s (take s (at x.sessions s) q) t (λ e. other.0 (sym e)))) asked
 
 -- the replica took the oldest request
-pub linked_up : (all : List TypedWrite) (c : Client) (l : Link) (x : Stream) (m : Message) (rest : List Message) (z : Outcome × Stream) → l.up ≡ m ∷ rest → requested x m ≡ Ok z → Linked all c l x → Linked all c (record l { up = rest }) z.1
-linked_up all c l x m rest z up is linked =
+pub linked_up : (all : List TypedWrite) (c : Client) (l : Link) (x : Stream) (m : Message) (rest : List Message) (z : Outcome × Stream) → l.up ≡ m ∷ rest → (x.variant ≡ None → cluster_of m ≡ c.cluster) → requested x m ≡ Ok z → Linked all c l x
+    → Linked all c (record l { up = rest }) z.1
+linked_up all c l x m rest z up says is linked =
     let sotws : AllSotw (m ∷ rest) = subst AllSotw up linked.sotws in
     let first = sotws.0 in
-    let left : z.1 ≡ record { variant = Some StateOfTheWorld; count = x.count; sessions = with_at x.sessions first.0 (take first.0 (at x.sessions first.0) first.1) } = request_taken x first.0 first.1 z first.3 (sym (ap (requested x) first.2) ∙ is) in
+    let left : z.1 ≡ record { variant = Some StateOfTheWorld; count = x.count; sessions = with_at x.sessions first.0 (take first.0 (at x.sessions first.0) first.1) } =
+    request_taken x first.0 first.1 z first.3 (subst (λ k. sessions_for x k ≡ x.sessions) first.2 (own_sessions StateOfTheWorld c.cluster x m linked.variant says)) (sym (ap (requested x) first.2) ∙ is) in
     subst (Linked all c (record l { up = rest })) (sym left)
     (record {
       variant = inr refl;
       counted = linked.counted;
       sotws = sotws.1;
       lanes = λ t.
-          up_lane all x first.0 t first.1 rest (lane_down t l.down) (shelf c t) first.3 (same_type first.0 t)
-          (subst (λ ms. Lane all t (at x.sessions t) x.count (lane_up t ms) (lane_down t l.down) (shelf c t)) (up ∙ ap (λ k. k ∷ rest) first.2) (linked.lanes t));
+          up_lane c.cluster all x first.0 t first.1 rest (lane_down t l.down) (shelf c t) first.3 (same_type first.0 t)
+          (subst (λ ms. Lane c.cluster all t (at x.sessions t) x.count (lane_up t ms) (lane_down t l.down) (shelf c t)) (up ∙ ap (λ k. k ∷ rest) first.2) (linked.lanes t));
     })
 
 -- ---- Poll
 
-sotw_due : (store : Store) (x : Stream) (t : TypeName) (o : Offer) → IsSotwStream x → to_send store x t ≡ Some o → (x.variant ≡ Some StateOfTheWorld) × (sessions.sending StateOfTheWorld t (at x.sessions t) (at store t).entries ≡ Some o)
-sotw_due store x t o (inl none) due = let never : None ≡ Some o = sym (ap (λ w. option_and_then (λ k. sessions.sending k t (at x.sessions t) (at store t).entries) w) none.0) ∙ due in absurd cc
-sotw_due store x t o (inr sotw) due = (sotw, sym (ap (λ w. option_and_then (λ k. sessions.sending k t (at x.sessions t) (at store t).entries) w) sotw) ∙ due)
-
 abbrev drafted : ℕ → Store → TypeName → Session → Offer → ℕ → Drafted
 drafted replica store t s o number = response replica t (at store t) s.asked.interest o number
 
-lane_sent : (all : List TypedWrite) (replica : ℕ) (store : Store) (t : TypeName) (s : Session) (count : ℕ) (ups : List Request) (downs : List Draft) (f : Shelf) (o : Offer) → AllKnown all t (at store t).entries → suc count ≤ max_counter
-    → sessions.sending StateOfTheWorld t s (at store t).entries ≡ Some o → Lane all t s count ups downs f
-    → Lane all t (send s o (suc count)) (suc count) ups (downs ++ drafts.Sotw (drafted replica store t s o (suc count)) ∷ []) f
-lane_sent all replica store t s count ups downs f o known room due lane =
+lane_sent : (cluster : List ℕ) (all : List TypedWrite) (replica : ℕ) (store : Store) (t : TypeName) (s : Session) (count : ℕ) (ups : List Request) (downs : List Draft) (f : Shelf) (o : Offer) → AllKnown all t (at store t).entries → suc count ≤ max_counter
+    → sessions.sending StateOfTheWorld t s (at store t).entries ≡ Some o → Lane cluster all t s count ups downs f
+    → Lane cluster all t (send s o (suc count)) (suc count) ups (downs ++ drafts.Sotw (drafted replica store t s o (suc count)) ∷ []) f
+lane_sent cluster all replica store t s count ups downs f o known room due lane =
     let d : Drafted = drafted replica store t s o (suc count) in
     let facts = sending_facts StateOfTheWorld t s (at store t).entries o due in
     let none : lane.down ≡ None = (nothing_sent all t (folded t s ups).account.nonce (folded t s ups).account.sent f.wants f.nonce lane.down (quiet_folded t s ups lane.taken facts.1) lane.abreast.awaits).0 in
@@ -201,13 +198,13 @@ lane_sent all replica store t s count ups downs f o known room due lane =
       numbered = all_later count ups lane.numbered;
       answered = λ e is. (suc count, omega arith, ap (λ x. x.nonce) (sym (some_is d e is)));
       last = later count f.nonce lane.last;
-      abreast = abreast_sent all t s ups f o d (suc count) facts.1 facts.0 lane.taken apart (nonces_differ count f.nonce room lane.last) refl
+      abreast = abreast_sent cluster all t s ups f o d (suc count) facts.1 facts.0 lane.taken apart (nonces_differ count f.nonce room lane.last) refl
           (λ name. subst (λ x. Says all t name (finmap.get x name) (finmap.get (stated_in t (drafted replica store t s x (suc count))) name)) (sym facts.2) (response_says all replica t (at store t) s.asked.interest s.account.beliefs (suc count) name known))
-          (λ name v is. stated_is_covered t s.asked.interest (at store t).entries s.account.beliefs name v (ap (λ x. finmap.get x name) (sym facts.2) ∙ is)) (subst (λ x. Abreast all t (folded t s ups) x f) none lane.abreast);
+          (λ name v is. stated_is_reached t s.asked.interest (at store t).entries s.account.beliefs name v (ap (λ x. finmap.get x name) (sym facts.2) ∙ is)) (subst (λ x. Abreast cluster all t (folded t s ups) x f) none lane.abreast);
     }
 
-lane_later : (all : List TypedWrite) (t : TypeName) (s : Session) (count : ℕ) (ups : List Request) (downs : List Draft) (f : Shelf) → Lane all t s count ups downs f → Lane all t s (suc count) ups downs f
-lane_later all t s count ups downs f lane = record {
+lane_later : (cluster : List ℕ) (all : List TypedWrite) (t : TypeName) (s : Session) (count : ℕ) (ups : List Request) (downs : List Draft) (f : Shelf) → Lane cluster all t s count ups downs f → Lane cluster all t s (suc count) ups downs f
+lane_later cluster all t s count ups downs f lane = record {
   down = lane.down;
   downs_are = lane.downs_are;
   taken = lane.taken;
@@ -217,28 +214,28 @@ lane_later all t s count ups downs f lane = record {
   abreast = lane.abreast;
 }
 
-poll_lane : (all : List TypedWrite) (replica : ℕ) (store : Store) (x : Stream) (s t : TypeName) (o : Offer) (l : Link) (f : Shelf) → AllKnown all s (at store s).entries → suc x.count ≤ max_counter
+poll_lane : (cluster : List ℕ) (all : List TypedWrite) (replica : ℕ) (store : Store) (x : Stream) (s t : TypeName) (o : Offer) (l : Link) (f : Shelf) → AllKnown all s (at store s).entries → suc x.count ≤ max_counter
     → sessions.sending StateOfTheWorld s (at x.sessions s) (at store s).entries ≡ Some o → ((s ≡ t) × (is_same_type s t ≡ true)) ⊎ ((s ≢ t) × (is_same_type s t ≡ false))
-    → Lane all t (at x.sessions t) x.count (lane_up t l.up) (lane_down t l.down) f
-    → Lane all t (at (with_at x.sessions s (send (at x.sessions s) o (suc x.count))) t) (suc x.count) (lane_up t l.up) (lane_down t (l.down ++ drafts.Sotw (drafted replica store s (at x.sessions s) o (suc x.count)) ∷ [])) f
-poll_lane all replica store x s t o l f known room due (inl same) lane =
+    → Lane cluster all t (at x.sessions t) x.count (lane_up t l.up) (lane_down t l.down) f
+    → Lane cluster all t (at (with_at x.sessions s (send (at x.sessions s) o (suc x.count))) t) (suc x.count) (lane_up t l.up) (lane_down t (l.down ++ drafts.Sotw (drafted replica store s (at x.sessions s) o (suc x.count)) ∷ [])) f
+poll_lane cluster all replica store x s t o l f known room due (inl same) lane =
     let d : Draft = drafts.Sotw (drafted replica store s (at x.sessions s) o (suc x.count)) in
-    subst (λ r. Lane all r (at (with_at x.sessions s (send (at x.sessions s) o (suc x.count))) r) (suc x.count) (lane_up r l.up) (lane_down r (l.down ++ d ∷ [])) f) same.0
-    (subst (λ k. Lane all s k (suc x.count) (lane_up s l.up) (lane_down s (l.down ++ d ∷ [])) f) (sym (at-with_at x.sessions s (send (at x.sessions s) o (suc x.count))))
-    (subst (λ ds. Lane all s (send (at x.sessions s) o (suc x.count)) (suc x.count) (lane_up s l.up) ds f)
+    subst (λ r. Lane cluster all r (at (with_at x.sessions s (send (at x.sessions s) o (suc x.count))) r) (suc x.count) (lane_up r l.up) (lane_down r (l.down ++ d ∷ [])) f) same.0
+    (subst (λ k. Lane cluster all s k (suc x.count) (lane_up s l.up) (lane_down s (l.down ++ d ∷ [])) f) (sym (at-with_at x.sessions s (send (at x.sessions s) o (suc x.count))))
+    (subst (λ ds. Lane cluster all s (send (at x.sessions s) o (suc x.count)) (suc x.count) (lane_up s l.up) ds f)
     (sym (lane_down-append s l.down (d ∷ []) ∙ ap (λ b. lane_down s l.down ++ (if b then d ∷ [] else [])) (is_same_type-same s)))
-    (lane_sent all replica store s (at x.sessions s) x.count (lane_up s l.up) (lane_down s l.down) f o known room due (subst (λ r. Lane all r (at x.sessions r) x.count (lane_up r l.up) (lane_down r l.down) f) (sym same.0) lane))))
-poll_lane all replica store x s t o l f known room due (inr other) lane =
+    (lane_sent cluster all replica store s (at x.sessions s) x.count (lane_up s l.up) (lane_down s l.down) f o known room due (subst (λ r. Lane cluster all r (at x.sessions r) x.count (lane_up r l.up) (lane_down r l.down) f) (sym same.0) lane))))
+poll_lane cluster all replica store x s t o l f known room due (inr other) lane =
     let d : Draft = drafts.Sotw (drafted replica store s (at x.sessions s) o (suc x.count)) in
-    subst (λ k. Lane all t k (suc x.count) (lane_up t l.up) (lane_down t (l.down ++ d ∷ [])) f) (sym (at-with_at_other x.sessions s (send (at x.sessions s) o (suc x.count)) t (λ e. other.0 (sym e))))
-    (subst (λ ds. Lane all t (at x.sessions t) (suc x.count) (lane_up t l.up) ds f)
-    (sym (lane_down-append t l.down (d ∷ []) ∙ ap (λ b. lane_down t l.down ++ (if b then d ∷ [] else [])) other.1 ∙ append-nil (lane_down t l.down))) (lane_later all t (at x.sessions t) x.count (lane_up t l.up) (lane_down t l.down) f lane))
+    subst (λ k. Lane cluster all t k (suc x.count) (lane_up t l.up) (lane_down t (l.down ++ d ∷ [])) f) (sym (at-with_at_other x.sessions s (send (at x.sessions s) o (suc x.count)) t (λ e. other.0 (sym e))))
+    (subst (λ ds. Lane cluster all t (at x.sessions t) (suc x.count) (lane_up t l.up) ds f)
+    (sym (lane_down-append t l.down (d ∷ []) ∙ ap (λ b. lane_down t l.down ++ (if b then d ∷ [] else [])) other.1 ∙ append-nil (lane_down t l.down))) (lane_later cluster all t (at x.sessions t) x.count (lane_up t l.up) (lane_down t l.down) f lane))
 
 -- the replica sent a response
 pub linked_polled : (all : List TypedWrite) (replica : ℕ) (store : Store) (c : Client) (l : Link) (x y : Stream) (d : Draft) → ((t : TypeName) → AllKnown all t (at store t).entries) → IsSent replica store x y d → Linked all c l x
     → Linked all c (record l { down = l.down ++ d ∷ [] }) y
 linked_polled all replica store c l x y d known is linked =
-    let due = sotw_due store x is.kind is.offer linked.variant is.due in
+    let due = due_as StateOfTheWorld c.cluster store x is.kind is.offer linked.variant is.due in
     let room = room_is x.count is.room linked.counted in
     let s : Session = at x.sessions is.kind in
     let same : d ≡ drafts.Sotw (drafted replica store is.kind s is.offer (suc x.count)) =
@@ -248,7 +245,7 @@ linked_polled all replica store c l x y d known is linked =
     is.left ∙ (λ i. record { variant = x.variant; count = one_more x.count i; sessions = with_at x.sessions is.kind (send s is.offer (one_more x.count i)) }) in
     subst (λ e. Linked all c (record l { down = l.down ++ e ∷ [] }) y) (sym same)
     (subst (Linked all c (record l { down = l.down ++ drafts.Sotw (drafted replica store is.kind s is.offer (suc x.count)) ∷ [] })) (sym left)
-    (record { variant = inr due.0; counted = room; sotws = linked.sotws; lanes = λ t. poll_lane all replica store x is.kind t is.offer l (shelf c t) (known is.kind) room due.1 (same_type is.kind t) (linked.lanes t) }))
+    (record { variant = inr due.0; counted = room; sotws = linked.sotws; lanes = λ t. poll_lane c.cluster all replica store x is.kind t is.offer l (shelf c t) (known is.kind) room due.1 (same_type is.kind t) (linked.lanes t) }))
 
 -- ---- Down
 
@@ -265,6 +262,16 @@ one_down d rest (Some e) is = (ap Some (sym (sotw_is (head_is (drafts.Sotw d) (d
     sotw_is : {x y : Drafted} → drafts.Sotw x ≡ drafts.Sotw y → x ≡ y
     sotw_is e = cc
 
+-- while the stream's variant isn't decided, no response is under way
+pub none_brought : (all : List TypedWrite) (c : Client) (l : Link) (x : Stream) (d : Draft) (rest : List Draft) → l.down ≡ d ∷ rest → x.variant ≡ None → Linked all c l x → ⊥
+none_brought all c l x d rest down none linked =
+    let t : TypeName = kind_of d in
+    let lane = linked.lanes t in
+    let quiet = ap (λ (s : Session). s.account.sent) (undecided_session StateOfTheWorld c.cluster x t linked.variant none) in
+    let nothing = nothing_sent all t (folded t (at x.sessions t) (lane_up t l.up)).account.nonce (folded t (at x.sessions t) (lane_up t l.up)).account.sent (shelf c t).wants (shelf c t).nonce lane.down
+        (quiet_folded t (at x.sessions t) (lane_up t l.up) lane.taken quiet) lane.abreast.awaits in
+    not_empty d (lane_down t rest) (lane_down t l.down) (own_first d rest l.down down) (lane.downs_are ∙ ap listed_draft nothing.0)
+
 never_draft : (d : Drafted) → ◌≡◌ {A = Option Drafted} None (Some d) → ⊥
 never_draft d e = cc
 
@@ -272,12 +279,12 @@ answer_nonce : (t : TypeName) (test : Test) (f : Shelf) (d : Drafted) (fault : O
 answer_nonce t test f d None = refl
 answer_nonce t test f d (Some x) = refl
 
-lane_delivered : (all : List TypedWrite) (t : TypeName) (test : Test) (s : Session) (count : ℕ) (ups : List Request) (rest : List Draft) (d : Drafted) (f : Shelf) → Lane all t s count ups (drafts.Sotw d ∷ rest) f
-    → Lane all t s count (ups ++ answer t test f d ∷ []) rest (delivered t test f (sotw_delivery t (message_of d)))
-lane_delivered all t test s count ups rest d f lane =
+lane_delivered : (cluster : List ℕ) (all : List TypedWrite) (t : TypeName) (test : Test) (s : Session) (count : ℕ) (ups : List Request) (rest : List Draft) (d : Drafted) (f : Shelf) → Lane cluster all t s count ups (drafts.Sotw d ∷ rest) f
+    → Lane cluster all t s count (ups ++ answer t test f d ∷ []) rest (delivered t test f (sotw_delivery t (message_of d)))
+lane_delivered cluster all t test s count ups rest d f lane =
     let a : Request = answer t test f d in
     let here = one_down d rest lane.down lane.downs_are in
-    let abreast : Abreast all t (folded t s ups) (Some d) f = subst (λ x. Abreast all t (folded t s ups) x f) here.0 lane.abreast in
+    let abreast : Abreast cluster all t (folded t s ups) (Some d) f = subst (λ x. Abreast cluster all t (folded t s ups) x f) here.0 lane.abreast in
     let number = lane.answered d here.0 in
     let nonce : a.response_nonce ≡ d.nonce = answer_nonce t test f d (fault_in t test (sotw_delivery t (message_of d))) in
     let own : IsNumbered count a.response_nonce = (number.0, number.1, nonce ∙ number.2) in
@@ -289,30 +296,30 @@ lane_delivered all t test s count ups rest d f lane =
       numbered = all_numbered-append count ups a lane.numbered own;
       answered = λ e is. absurd (never_draft e is);
       last = own;
-      abreast = subst (λ x. Abreast all t x None (delivered t test f (sotw_delivery t (message_of d)))) (sym (folded_more t s ups a)) (abreast_delivered all t test (folded t s ups) f d abreast);
+      abreast = subst (λ x. Abreast cluster all t x None (delivered t test f (sotw_delivery t (message_of d)))) (sym (folded_more t s ups a)) (abreast_delivered cluster all t test (folded t s ups) f d abreast);
     }
 
 down_lane : (all : List TypedWrite) (test : Test) (c : Client) (l : Link) (x : Stream) (d : Drafted) (rest : List Draft) (t : TypeName) → ((d.kind ≡ t) × (is_same_type d.kind t ≡ true)) ⊎ ((d.kind ≢ t) × (is_same_type d.kind t ≡ false))
-    → Lane all t (at x.sessions t) x.count (lane_up t l.up) (lane_down t (drafts.Sotw d ∷ rest)) (shelf c t)
+    → Lane c.cluster all t (at x.sessions t) x.count (lane_up t l.up) (lane_down t (drafts.Sotw d ∷ rest)) (shelf c t)
     → let s = d.kind in
-    Lane all t (at x.sessions t) x.count (lane_up t (l.up ++ streams.Sotw (answer s test (shelf c s) d) ∷ [])) (lane_down t rest) (at (with_at c.shelves s (delivered s test (shelf c s) (sotw_delivery s (message_of d)))) t)
+    Lane c.cluster all t (at x.sessions t) x.count (lane_up t (l.up ++ streams.Sotw (answer s test (shelf c s) d) ∷ [])) (lane_down t rest) (at (with_at c.shelves s (delivered s test (shelf c s) (sotw_delivery s (message_of d)))) t)
 down_lane all test c l x d rest t (inl same) lane =
     let s : TypeName = d.kind in
     let a : Request = answer s test (shelf c s) d in
     let f : Shelf = delivered s test (shelf c s) (sotw_delivery s (message_of d)) in
-    let here : Lane all s (at x.sessions s) x.count (lane_up s l.up) (drafts.Sotw d ∷ lane_down s rest) (shelf c s) =
-    subst (λ b. Lane all s (at x.sessions s) x.count (lane_up s l.up) (if b then drafts.Sotw d ∷ lane_down s rest else lane_down s rest) (shelf c s)) (is_same_type-same s)
-    (subst (λ r. Lane all r (at x.sessions r) x.count (lane_up r l.up) (lane_down r (drafts.Sotw d ∷ rest)) (shelf c r)) (sym same.0) lane) in
-    subst (λ r. Lane all r (at x.sessions r) x.count (lane_up r (l.up ++ streams.Sotw a ∷ [])) (lane_down r rest) (at (with_at c.shelves s f) r)) same.0
-    (subst (λ ups. Lane all s (at x.sessions s) x.count ups (lane_down s rest) (at (with_at c.shelves s f) s)) (sym (own_more s l.up a refl))
-    (subst (Lane all s (at x.sessions s) x.count (lane_up s l.up ++ a ∷ []) (lane_down s rest)) (sym (at-with_at c.shelves s f)) (lane_delivered all s test (at x.sessions s) x.count (lane_up s l.up) (lane_down s rest) d (shelf c s) here)))
+    let here : Lane c.cluster all s (at x.sessions s) x.count (lane_up s l.up) (drafts.Sotw d ∷ lane_down s rest) (shelf c s) =
+    subst (λ b. Lane c.cluster all s (at x.sessions s) x.count (lane_up s l.up) (if b then drafts.Sotw d ∷ lane_down s rest else lane_down s rest) (shelf c s)) (is_same_type-same s)
+    (subst (λ r. Lane c.cluster all r (at x.sessions r) x.count (lane_up r l.up) (lane_down r (drafts.Sotw d ∷ rest)) (shelf c r)) (sym same.0) lane) in
+    subst (λ r. Lane c.cluster all r (at x.sessions r) x.count (lane_up r (l.up ++ streams.Sotw a ∷ [])) (lane_down r rest) (at (with_at c.shelves s f) r)) same.0
+    (subst (λ ups. Lane c.cluster all s (at x.sessions s) x.count ups (lane_down s rest) (at (with_at c.shelves s f) s)) (sym (own_more s l.up a refl))
+    (subst (Lane c.cluster all s (at x.sessions s) x.count (lane_up s l.up ++ a ∷ []) (lane_down s rest)) (sym (at-with_at c.shelves s f)) (lane_delivered c.cluster all s test (at x.sessions s) x.count (lane_up s l.up) (lane_down s rest) d (shelf c s) here)))
 down_lane all test c l x d rest t (inr other) lane =
     let s : TypeName = d.kind in
     let a : Request = answer s test (shelf c s) d in
     let f : Shelf = delivered s test (shelf c s) (sotw_delivery s (message_of d)) in
-    subst (λ ups. Lane all t (at x.sessions t) x.count ups (lane_down t rest) (at (with_at c.shelves s f) t)) (sym (other_more s t l.up a refl other.1))
-    (subst (Lane all t (at x.sessions t) x.count (lane_up t l.up) (lane_down t rest)) (sym (at-with_at_other c.shelves s f t (λ e. other.0 (sym e))))
-    (subst (λ b. Lane all t (at x.sessions t) x.count (lane_up t l.up) (if b then drafts.Sotw d ∷ lane_down t rest else lane_down t rest) (shelf c t)) other.1 lane))
+    subst (λ ups. Lane c.cluster all t (at x.sessions t) x.count ups (lane_down t rest) (at (with_at c.shelves s f) t)) (sym (other_more s t l.up a refl other.1))
+    (subst (Lane c.cluster all t (at x.sessions t) x.count (lane_up t l.up) (lane_down t rest)) (sym (at-with_at_other c.shelves s f t (λ e. other.0 (sym e))))
+    (subst (λ b. Lane c.cluster all t (at x.sessions t) x.count (lane_up t l.up) (if b then drafts.Sotw d ∷ lane_down t rest else lane_down t rest) (shelf c t)) other.1 lane))
 
 -- what a client took
 pub record IsReceived (test : Test) (c : Client) (d : Draft) (q : Client × Message) : Type 0 where
@@ -339,31 +346,31 @@ linked_down all test c l x d rest q down is linked =
       variant = linked.variant;
       counted = linked.counted;
       sotws = all_sotw-append l.up (streams.Sotw a ∷ []) linked.sotws ((s, a, refl, refl), tt);
-      lanes = λ t. down_lane all test c l x is.draft rest t (same_type s t) (subst (λ ds. Lane all t (at x.sessions t) x.count (lane_up t l.up) (lane_down t ds) (shelf c t)) (down ∙ ap (λ k. k ∷ rest) is.is) (linked.lanes t));
+      lanes = λ t. down_lane all test c l x is.draft rest t (same_type s t) (subst (λ ds. Lane c.cluster all t (at x.sessions t) x.count (lane_up t l.up) (lane_down t ds) (shelf c t)) (down ∙ ap (λ k. k ∷ rest) is.is) (linked.lanes t));
     })
 
 -- ---- Change
 
-asks_none : (t : TypeName) (s : Session) (f : Shelf) → f.asked ≡ false → Asks t s f → (s ≡ unopened) × (wants_some f.wants ≡ false) × (f.nonce ≡ [])
-asks_none t s f not_asked (inl asked) = let never : false ≡ true = sym not_asked ∙ asked.0 in absurd cc
-asks_none t s f not_asked (inr never) = (never.1, never.2, never.3)
+asks_none : (cluster : List ℕ) (t : TypeName) (s : Session) (f : Shelf) → f.asked ≡ false → Asks cluster t s f → (s ≡ unopened cluster) × (wants_some f.wants ≡ false) × (f.nonce ≡ [])
+asks_none cluster t s f not_asked (inl asked) = let never : false ≡ true = sym not_asked ∙ asked.0 in absurd cc
+asks_none cluster t s f not_asked (inr never) = (never.1, never.2, never.3)
 
-none_told : (q v : List ℕ) → finmap.get unopened.account.beliefs q ≡ Some (Told v) → ⊥
-none_told q v is = let never : None ≡ Some (Told v) = sym (finmap.get-empty text_cmp q) ∙ is in absurd cc
+none_told : (cluster : List ℕ) (q v : List ℕ) → finmap.get (unopened cluster).account.beliefs q ≡ Some (Told v) → ⊥
+none_told cluster q v is = let never : None ≡ Some (Told v) = sym (finmap.get-empty text_cmp q) ∙ is in absurd cc
 
-abreast_unopened : (all : List TypedWrite) (t : TypeName) (f : Shelf) → f.asked ≡ false → wants_some f.wants ≡ false → f.nonce ≡ [] → ((q : List ℕ) → finmap.get f.cache q ≡ None) → Abreast all t unopened None f
-abreast_unopened all t f not_asked none nonce empty = record {
+abreast_unopened : (cluster : List ℕ) (all : List TypedWrite) (t : TypeName) (f : Shelf) → f.asked ≡ false → wants_some f.wants ≡ false → f.nonce ≡ [] → ((q : List ℕ) → finmap.get f.cache q ≡ None) → Abreast cluster all t (unopened cluster) None f
+abreast_unopened cluster all t f not_asked none nonce empty = record {
   asks = inr (not_asked, refl, none, nonce);
   awaits = nonce;
   touched = λ sent is. absurd (none_sent None sent refl is);
-  told = λ q v is. absurd (none_told q v is);
+  told = λ q v is. absurd (none_told cluster q v is);
   none = λ q counted is. empty q;
   within = λ q unwanted. empty q;
 }
 
-lane_changed : (all : List TypedWrite) (t : TypeName) (who : Option Identity) (w : Wants) (s : Session) (count : ℕ) (ups : List Request) (downs : List Draft) (f : Shelf) → f.asked ≡ true → Lane all t s count ups downs f
-    → Lane all t s count (ups ++ sotw_request t who (wanting t w true f) None ∷ []) downs (wanting t w true f)
-lane_changed all t who w s count ups downs f asked lane =
+lane_changed : (cluster : List ℕ) (all : List TypedWrite) (t : TypeName) (who : Option Identity) (w : Wants) (s : Session) (count : ℕ) (ups : List Request) (downs : List Draft) (f : Shelf) → f.asked ≡ true → Lane cluster all t s count ups downs f
+    → Lane cluster all t s count (ups ++ sotw_request t who (wanting t w true f) None ∷ []) downs (wanting t w true f)
+lane_changed cluster all t who w s count ups downs f asked lane =
     let q : Request = sotw_request t who (wanting t w true f) None in
     record {
       down = lane.down;
@@ -372,14 +379,14 @@ lane_changed all t who w s count ups downs f asked lane =
       numbered = all_numbered-append count ups q lane.numbered lane.last;
       answered = lane.answered;
       last = lane.last;
-      abreast = subst (λ x. Abreast all t x lane.down (wanting t w true f)) (sym (folded_more t s ups q)) (abreast_changed all t who w (folded t s ups) lane.down f asked lane.abreast);
+      abreast = subst (λ x. Abreast cluster all t x lane.down (wanting t w true f)) (sym (folded_more t s ups q)) (abreast_changed cluster all t who w (folded t s ups) lane.down f asked lane.abreast);
     }
 
-lane_asked : (all : List TypedWrite) (t : TypeName) (who : Option Identity) (w : Wants) (s : Session) (count : ℕ) (ups : List Request) (downs : List Draft) (f : Shelf) → f.asked ≡ false → wants_some w ≡ true → Lane all t s count ups downs f
-    → Lane all t s count (ups ++ sotw_request t who (wanting t w true f) None ∷ []) downs (wanting t w true f)
-lane_asked all t who w s count ups downs f not_asked some lane =
+lane_asked : (cluster : List ℕ) (all : List TypedWrite) (t : TypeName) (who : Option Identity) (w : Wants) (s : Session) (count : ℕ) (ups : List Request) (downs : List Draft) (f : Shelf) → f.asked ≡ false → wants_some w ≡ true → Lane cluster all t s count ups downs f
+    → Lane cluster all t s count (ups ++ sotw_request t who (wanting t w true f) None ∷ []) downs (wanting t w true f)
+lane_asked cluster all t who w s count ups downs f not_asked some lane =
     let q : Request = sotw_request t who (wanting t w true f) None in
-    let before = asks_none t (folded t s ups) f not_asked lane.abreast.asks in
+    let before = asks_none cluster t (folded t s ups) f not_asked lane.abreast.asks in
     let none = nothing_sent all t (folded t s ups).account.nonce (folded t s ups).account.sent f.wants f.nonce lane.down (ap (λ x. x.account.sent) before.0) lane.abreast.awaits in
     record {
       down = None;
@@ -388,13 +395,13 @@ lane_asked all t who w s count ups downs f not_asked some lane =
       numbered = all_numbered-append count ups q lane.numbered lane.last;
       answered = λ d is. absurd (never_draft d is);
       last = lane.last;
-      abreast = subst (λ x. Abreast all t x None (wanting t w true f)) (sym (folded_more t s ups q ∙ ap (λ x. take t x q) before.0))
-          (abreast_first all t q (wanting t w true f) refl refl some before.2 (λ name unwanted. (holds_what_is_wanted t w false finmap.empty finmap.empty f.cache name unwanted).1));
+      abreast = subst (λ x. Abreast cluster all t x None (wanting t w true f)) (sym (folded_more t s ups q ∙ ap (λ x. take t x q) before.0))
+          (abreast_first cluster all t q (wanting t w true f) refl refl some before.2 (λ name unwanted. (holds_what_is_wanted t w false finmap.empty finmap.empty f.cache name unwanted).1));
     }
 
-lane_unsent : (all : List TypedWrite) (t : TypeName) (w : Wants) (s : Session) (count : ℕ) (ups : List Request) (downs : List Draft) (f : Shelf) → f.asked ≡ false → wants_some w ≡ false → Lane all t s count ups downs f → Lane all t s count ups downs (wanting t w f.asked f)
-lane_unsent all t w s count ups downs f not_asked some lane =
-    let before = asks_none t (folded t s ups) f not_asked lane.abreast.asks in
+lane_unsent : (cluster : List ℕ) (all : List TypedWrite) (t : TypeName) (w : Wants) (s : Session) (count : ℕ) (ups : List Request) (downs : List Draft) (f : Shelf) → f.asked ≡ false → wants_some w ≡ false → Lane cluster all t s count ups downs f → Lane cluster all t s count ups downs (wanting t w f.asked f)
+lane_unsent cluster all t w s count ups downs f not_asked some lane =
+    let before = asks_none cluster t (folded t s ups) f not_asked lane.abreast.asks in
     let none = nothing_sent all t (folded t s ups).account.nonce (folded t s ups).account.sent f.wants f.nonce lane.down (ap (λ x. x.account.sent) before.0) lane.abreast.awaits in
     record {
       down = None;
@@ -403,40 +410,40 @@ lane_unsent all t w s count ups downs f not_asked some lane =
       numbered = lane.numbered;
       answered = λ d is. absurd (never_draft d is);
       last = lane.last;
-      abreast = subst (λ x. Abreast all t x None (wanting t w f.asked f)) (sym before.0)
-          (abreast_unopened all t (wanting t w f.asked f) not_asked some before.2 (λ name. kept_by_name t w f.cache name ∙ ap (λ b. if b then finmap.get f.cache name else None) (nothing_wanted t w name some)));
+      abreast = subst (λ x. Abreast cluster all t x None (wanting t w f.asked f)) (sym before.0)
+          (abreast_unopened cluster all t (wanting t w f.asked f) not_asked some before.2 (λ name. kept_by_name t w f.cache name ∙ ap (λ b. if b then finmap.get f.cache name else None) (nothing_wanted t w name some)));
     }
 
 abbrev pub wished_requests : Bool → Request → List Message
 wished_requests sent q = if sent then streams.Sotw q ∷ [] else []
 
-lane_wished : (all : List TypedWrite) (t : TypeName) (who : Option Identity) (w : Wants) (s : Session) (count : ℕ) (ms : List Message) (downs : List Draft) (f : Shelf) (asked some : Bool) → f.asked ≡ asked → wants_some w ≡ some → Lane all t s count (lane_up t ms) downs f
+lane_wished : (cluster : List ℕ) (all : List TypedWrite) (t : TypeName) (who : Option Identity) (w : Wants) (s : Session) (count : ℕ) (ms : List Message) (downs : List Draft) (f : Shelf) (asked some : Bool) → f.asked ≡ asked → wants_some w ≡ some → Lane cluster all t s count (lane_up t ms) downs f
     → let sent = (if asked then true else some) in
     let g = wanting t w (if sent then true else f.asked) f in
-    Lane all t s count (lane_up t (ms ++ wished_requests sent (sotw_request t who g None))) downs g
-lane_wished all t who w s count ms downs f true some asked is lane =
-    subst (λ ups. Lane all t s count ups downs (wanting t w true f)) (sym (own_more t ms (sotw_request t who (wanting t w true f) None) refl)) (lane_changed all t who w s count (lane_up t ms) downs f asked lane)
-lane_wished all t who w s count ms downs f false true asked is lane =
-    subst (λ ups. Lane all t s count ups downs (wanting t w true f)) (sym (own_more t ms (sotw_request t who (wanting t w true f) None) refl)) (lane_asked all t who w s count (lane_up t ms) downs f asked is lane)
-lane_wished all t who w s count ms downs f false false asked is lane = subst (λ l. Lane all t s count (lane_up t l) downs (wanting t w f.asked f)) (sym (append-nil ms)) (lane_unsent all t w s count (lane_up t ms) downs f asked is lane)
+    Lane cluster all t s count (lane_up t (ms ++ wished_requests sent (sotw_request t who g None))) downs g
+lane_wished cluster all t who w s count ms downs f true some asked is lane =
+    subst (λ ups. Lane cluster all t s count ups downs (wanting t w true f)) (sym (own_more t ms (sotw_request t who (wanting t w true f) None) refl)) (lane_changed cluster all t who w s count (lane_up t ms) downs f asked lane)
+lane_wished cluster all t who w s count ms downs f false true asked is lane =
+    subst (λ ups. Lane cluster all t s count ups downs (wanting t w true f)) (sym (own_more t ms (sotw_request t who (wanting t w true f) None) refl)) (lane_asked cluster all t who w s count (lane_up t ms) downs f asked is lane)
+lane_wished cluster all t who w s count ms downs f false false asked is lane = subst (λ l. Lane cluster all t s count (lane_up t l) downs (wanting t w f.asked f)) (sym (append-nil ms)) (lane_unsent cluster all t w s count (lane_up t ms) downs f asked is lane)
 
-lane_beside : (all : List TypedWrite) (s t : TypeName) (k : Session) (count : ℕ) (ms : List Message) (downs : List Draft) (f : Shelf) (q : Request) (sent : Bool) → q.type_url ≡ (row s).url → is_same_type s t ≡ false
-    → Lane all t k count (lane_up t ms) downs f → Lane all t k count (lane_up t (ms ++ wished_requests sent q)) downs f
-lane_beside all s t k count ms downs f q true url other lane = subst (λ ups. Lane all t k count ups downs f) (sym (other_more s t ms q url other)) lane
-lane_beside all s t k count ms downs f q false url other lane = subst (λ l. Lane all t k count (lane_up t l) downs f) (sym (append-nil ms)) lane
+lane_beside : (cluster : List ℕ) (all : List TypedWrite) (s t : TypeName) (k : Session) (count : ℕ) (ms : List Message) (downs : List Draft) (f : Shelf) (q : Request) (sent : Bool) → q.type_url ≡ (row s).url → is_same_type s t ≡ false
+    → Lane cluster all t k count (lane_up t ms) downs f → Lane cluster all t k count (lane_up t (ms ++ wished_requests sent q)) downs f
+lane_beside cluster all s t k count ms downs f q true url other lane = subst (λ ups. Lane cluster all t k count ups downs f) (sym (other_more s t ms q url other)) lane
+lane_beside cluster all s t k count ms downs f q false url other lane = subst (λ l. Lane cluster all t k count (lane_up t l) downs f) (sym (append-nil ms)) lane
 
 change_lane : (all : List TypedWrite) (c : Client) (l : Link) (x : Stream) (s t : TypeName) (who : Option Identity) (w : Wants) → ((s ≡ t) × (is_same_type s t ≡ true)) ⊎ ((s ≢ t) × (is_same_type s t ≡ false))
-    → Lane all t (at x.sessions t) x.count (lane_up t l.up) (lane_down t l.down) (shelf c t)
-    → Lane all t (at x.sessions t) x.count (lane_up t (l.up ++ wished_requests (is_sent true (shelf c s) w) (sotw_request s who (shelf_after true s w c) None))) (lane_down t l.down) (at (with_at c.shelves s (shelf_after true s w c)) t)
+    → Lane c.cluster all t (at x.sessions t) x.count (lane_up t l.up) (lane_down t l.down) (shelf c t)
+    → Lane c.cluster all t (at x.sessions t) x.count (lane_up t (l.up ++ wished_requests (is_sent true (shelf c s) w) (sotw_request s who (shelf_after true s w c) None))) (lane_down t l.down) (at (with_at c.shelves s (shelf_after true s w c)) t)
 change_lane all c l x s t who w (inl same) lane =
     let q : Request = sotw_request s who (shelf_after true s w c) None in
-    subst (λ r. Lane all r (at x.sessions r) x.count (lane_up r (l.up ++ wished_requests (is_sent true (shelf c s) w) q)) (lane_down r l.down) (at (with_at c.shelves s (shelf_after true s w c)) r)) same.0
-    (subst (Lane all s (at x.sessions s) x.count (lane_up s (l.up ++ wished_requests (is_sent true (shelf c s) w) q)) (lane_down s l.down)) (sym (at-with_at c.shelves s (shelf_after true s w c)))
-    (lane_wished all s who w (at x.sessions s) x.count l.up (lane_down s l.down) (shelf c s) (shelf c s).asked (wants_some w) refl refl (subst (λ r. Lane all r (at x.sessions r) x.count (lane_up r l.up) (lane_down r l.down) (shelf c r)) (sym same.0) lane)))
+    subst (λ r. Lane c.cluster all r (at x.sessions r) x.count (lane_up r (l.up ++ wished_requests (is_sent true (shelf c s) w) q)) (lane_down r l.down) (at (with_at c.shelves s (shelf_after true s w c)) r)) same.0
+    (subst (Lane c.cluster all s (at x.sessions s) x.count (lane_up s (l.up ++ wished_requests (is_sent true (shelf c s) w) q)) (lane_down s l.down)) (sym (at-with_at c.shelves s (shelf_after true s w c)))
+    (lane_wished c.cluster all s who w (at x.sessions s) x.count l.up (lane_down s l.down) (shelf c s) (shelf c s).asked (wants_some w) refl refl (subst (λ r. Lane c.cluster all r (at x.sessions r) x.count (lane_up r l.up) (lane_down r l.down) (shelf c r)) (sym same.0) lane)))
 change_lane all c l x s t who w (inr other) lane =
     let q : Request = sotw_request s who (shelf_after true s w c) None in
-    subst (Lane all t (at x.sessions t) x.count (lane_up t (l.up ++ wished_requests (is_sent true (shelf c s) w) q)) (lane_down t l.down)) (sym (at-with_at_other c.shelves s (shelf_after true s w c) t (λ e. other.0 (sym e))))
-    (lane_beside all s t (at x.sessions t) x.count l.up (lane_down t l.down) (shelf c t) q (is_sent true (shelf c s) w) refl other.1 lane)
+    subst (Lane c.cluster all t (at x.sessions t) x.count (lane_up t (l.up ++ wished_requests (is_sent true (shelf c s) w) q)) (lane_down t l.down)) (sym (at-with_at_other c.shelves s (shelf_after true s w c) t (λ e. other.0 (sym e))))
+    (lane_beside c.cluster all s t (at x.sessions t) x.count l.up (lane_down t l.down) (shelf c t) q (is_sent true (shelf c s) w) refl other.1 lane)
 
 wished_sotws : (s : TypeName) (q : Request) (sent : Bool) → q.type_url ≡ (row s).url → AllSotw (wished_requests sent q)
 wished_sotws s q true url = ((s, q, refl, url), tt)
@@ -474,37 +481,37 @@ first_sotws : (c : Client) (greeted : Bool) (ts : List TypeName) → AllSotw (fi
 first_sotws c greeted [] = tt
 first_sotws c greeted (s ∷ ss) = sotws_by c greeted s ss (wants_some (shelf c s).wants) (λ g. first_sotws c g ss)
 
-lane_opened : (all : List TypedWrite) (t : TypeName) (f : Shelf) (q : Request) (some : Bool) → wants_some f.wants ≡ some → q.response_nonce ≡ [] → q.resource_names ≡ texts f.wants → Rests t f → Lane all t unopened 0 (if some then q ∷ [] else []) [] (connected f)
-lane_opened all t f q true some nonce lists rests = record {
+lane_opened : (cluster : List ℕ) (all : List TypedWrite) (t : TypeName) (f : Shelf) (q : Request) (some : Bool) → wants_some f.wants ≡ some → q.response_nonce ≡ [] → q.resource_names ≡ texts f.wants → Rests t f → Lane cluster all t (unopened cluster) 0 (if some then q ∷ [] else []) [] (connected f)
+lane_opened cluster all t f q true some nonce lists rests = record {
   down = None;
   downs_are = refl;
   taken = (refl, tt);
   numbered = ((zero, omega arith, nonce), tt);
   answered = λ d is. absurd (never_draft d is);
   last = (zero, omega arith, refl);
-  abreast = abreast_first all t q (connected f) some lists some refl rests;
+  abreast = abreast_first cluster all t q (connected f) some lists some refl rests;
 }
-lane_opened all t f q false some nonce lists rests = record {
+lane_opened cluster all t f q false some nonce lists rests = record {
   down = None;
   downs_are = refl;
   taken = tt;
   numbered = tt;
   answered = λ d is. absurd (never_draft d is);
   last = (zero, omega arith, refl);
-  abreast = abreast_unopened all t (connected f) some some refl (λ name. rests name (nothing_wanted t f.wants name some));
+  abreast = abreast_unopened cluster all t (connected f) some some refl (λ name. rests name (nothing_wanted t f.wants name some));
 }
 
 -- the client connected
-pub linked_opened : (all : List TypedWrite) (c : Client) (r n : ℕ) (greeted : Bool) → ((t : TypeName) → Rests t (shelf c t)) → Linked all (linked greeted c) (record { replica = r; stream = n; up = opening_requests Sotw c; down = [] }) opening
+pub linked_opened : (all : List TypedWrite) (c : Client) (r n : ℕ) (greeted : Bool) → ((t : TypeName) → Rests t (shelf c t)) → Linked all (linked greeted c) (record { replica = r; stream = n; up = opening_requests Sotw c; down = [] }) (started c.cluster opening)
 linked_opened all c r n greeted rests = record {
   variant = inl (refl, refl);
   counted = omega arith;
   sotws = first_sotws c false types;
   lanes = λ t.
       let first = first_lane streams.Sotw (sotw_first c) c of_type (first_own c) (first_other c) t false types (once t) in
-      subst (λ k. Lane all t k 0 (lane_up t (firsts streams.Sotw (sotw_first c) c false types)) [] (shelf (linked greeted c) t)) (sym (at-each unopened t))
-      (subst (λ ups. Lane all t unopened 0 ups [] (shelf (linked greeted c) t)) (sym first.1)
-      (subst (Lane all t unopened 0 (one_first streams.Sotw (sotw_first c) c t first.0) []) (sym (connected_shelf c greeted t)) (lane_opened all t (shelf c t) (sotw_first c t first.0) (wants_some (shelf c t).wants) refl refl refl (rests t))));
+      subst (λ k. Lane c.cluster all t k 0 (lane_up t (firsts streams.Sotw (sotw_first c) c false types)) [] (shelf (linked greeted c) t)) (sym (at-each (unopened c.cluster) t))
+      (subst (λ ups. Lane c.cluster all t (unopened c.cluster) 0 ups [] (shelf (linked greeted c) t)) (sym first.1)
+      (subst (Lane c.cluster all t (unopened c.cluster) 0 (one_first streams.Sotw (sotw_first c) c t first.0) []) (sym (connected_shelf c greeted t)) (lane_opened c.cluster all t (shelf c t) (sotw_first c t first.0) (wants_some (shelf c t).wants) refl refl refl (rests t))));
 }
 
 -- its loss, and a change without a stream

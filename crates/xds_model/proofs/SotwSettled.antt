@@ -10,8 +10,7 @@ use Rattle.xds_resource.specs.Types.{row, is_same_type}
 use Rattle.xds_resource.specs.PerType.{at}
 use Rattle.xds_resource.specs.Writes.{StampedWrite, version_of}
 use Rattle.xds_resource.proofs.NameMaps.{bytes_eq_tells}
-use Rattle.xds_resource.proofs.TypesApart.{at-each}
-use Rattle.xds_interest.specs.Interests.{covers}
+use Rattle.xds_interest.specs.Interests.{Selection, covers}
 use Rattle.xds_interest.specs.Asked.{Asked}
 use Rattle.xds_catalogue.specs.Holdings.{Entries}
 use Rattle.xds_draft.specs.Drafts.{Drafted}
@@ -22,27 +21,27 @@ use Rattle.xds_owed.specs.declared.entry.Entry.TheVariants.{Told, Unsure}
 use Rattle.xds_owed.specs.declared.entry.Due.{Due}
 use Rattle.xds_owed.specs.declared.entry.Due.TheVariants.{Stated, Removed}
 use Rattle.xds_owed.specs.Variants.{is_told, is_whole}
-use Rattle.xds_owed.specs.Owed.{live_version, present, owed, something_owed}
+use Rattle.xds_owed.specs.Owed.{version_shown, present, owed, something_owed}
 use Rattle.xds_ledger.specs.Ledgers as ledgers
 use Rattle.xds_ledger.specs.Ledgers.{is_due}
 use Rattle.xds_ledger.specs.Sessions as sessions
-use Rattle.xds_ledger.specs.Sessions.{Session, unopened}
+use Rattle.xds_ledger.specs.Sessions.{Session}
 use Rattle.xds_owed.proofs.ByName.{nothing_owed}
 use Rattle.xds_core.specs.Stores.{Store}
 use Rattle.xds_core.specs.Streams.{Stream, Message, owes_of}
-use Rattle.xds_shelf.specs.Shelves.{Holding, Shelf, is_wanted}
+use Rattle.xds_shelf.specs.Shelves.{Holding, Shelf, interest, is_wanted}
 use Rattle.xds_cache.specs.Clients.{Client, shelf}
-use Rattle.xds_cache.proofs.Interests.{wants_what_is_covered}
+use Rattle.xds_cache.proofs.Interests.{wants_what_is_reached}
 use Rattle.xds_model.specs.Worlds.{Link}
 use Rattle.xds_model.specs.Knows.{TypedWrite}
-use Rattle.xds_model.specs.Claims.{holding_of, asks_for, is_quiet}
-use Rattle.xds_model.proofs.Replicas.{some_is}
-use Rattle.xds_model.proofs.Settled.{IsUnique, AllStamped, one_write, both_false, none_down}
+use Rattle.xds_model.specs.Claims.{holding_of, shown_of, asks_for, is_quiet}
+use Rattle.xds_model.proofs.Replicas.{some_is, if_both}
+use Rattle.xds_model.proofs.Settled.{IsUnique, AllStamped, one_write, none_shown, both_false, none_down, owed_by}
 use Rattle.xds_model.proofs.LinkTakes.{nothing_wanted}
-use Rattle.xds_model.proofs.Delivering.{AllKnown, live}
+use Rattle.xds_model.proofs.Delivering.{AllKnown, shown_in}
 use Rattle.xds_model.proofs.SotwFolding.{folded}
 use Rattle.xds_model.proofs.SotwLanes.{Asks, IsHeld, Abreast}
-use Rattle.xds_model.proofs.SotwLinks.{sotw_in, lane_up, listed_draft, IsSotwStream, Linked}
+use Rattle.xds_model.proofs.SotwLinks.{sotw_in, lane_up, listed_draft, Linked}
 
 -- ---- one name
 
@@ -69,71 +68,66 @@ held_is all t name w held unique stamped made is =
     ap (option_map (λ h. h.body)) is.6 ∙ sym is.5 ∙ ap (λ (x : StampedWrite). x.body) (sym same)
 
 -- what is known where nothing is owed
-pub record Nothing (all : List TypedWrite) (t : TypeName) (s : Session) (f : Shelf) (m : Entries) : Type 0 where
-  pub lane : Abreast all t s None f
+pub record Nothing (cluster : List ℕ) (all : List TypedWrite) (t : TypeName) (s : Session) (f : Shelf) (m : Entries) : Type 0 where
+  pub lane : Abreast cluster all t s None f
   pub unique : IsUnique all
   pub stamped : AllStamped all
   pub known : AllKnown all t m
   pub owes_none : (name : List ℕ) → option_map_or (is_told StateOfTheWorld t) (owed (finmap.get s.account.beliefs name) (present s.asked.interest m name)) false ≡ false
   pub accepted : (row t).is_complete ≡ true → s.account.accepted ≡ true
-  pub covered : (name : List ℕ) → covers s.asked.interest name ≡ is_wanted t f.wants name
 
 bodies_of : (w : StampedWrite) (b : Option (List ℕ)) → option_map (λ (h : Holding). h.body) (option_map (λ body. record { version = version_of w; body = body }) b) ≡ b
 bodies_of w None = refl
 bodies_of w (Some body) = refl
 
--- a name that is wanted and live
-live_shown : (all : List TypedWrite) (t : TypeName) (s : Session) (f : Shelf) (m : Entries) (name : List ℕ) (w : StampedWrite) (x : List ℕ) → Nothing all t s f m → is_wanted t f.wants name ≡ true → finmap.get m name ≡ Some w → w.body ≡ Some x
-    → option_map (λ h. h.body) (finmap.get f.cache name) ≡ Some x
-live_shown all t s f m name w x is wanted found body =
-    let here : present s.asked.interest m name ≡ Some (version_of w) =
-    (λ i. if (is.covered name ∙ wanted) i then option_and_then live_version (found i) else None) ∙ ap (λ b. if is_some b then Some (version_of w) else None) body in
-    let told = told_where_present (row t).is_complete (is_told StateOfTheWorld t) (finmap.get s.account.beliefs name) (version_of w) (λ u. refl) (ap (λ p. option_map_or (is_told StateOfTheWorld t) (owed (finmap.get s.account.beliefs name) p) false) (sym here) ∙ is.owes_none name) in
-    held_is all t name w (finmap.get f.cache name) is.unique is.stamped (is.known name w found).made (is.lane.told name (version_of w) told) ∙ body
+-- at which version a write that is covered, or isn't, is present
+present_of : (s : Selection) (m : Entries) (name : List ℕ) (w : StampedWrite) (covered : Bool) (b : Option (List ℕ)) → finmap.get m name ≡ Some w → covers s name w.groups ≡ covered → w.body ≡ b
+    → present s m name ≡ (if covered then (if is_some b then Some (version_of w) else None) else None)
+present_of s m name w covered b found covers_it body = ap (option_and_then (version_shown s name)) found ∙ (λ i. if covers_it i then (if is_some (body i) then Some (version_of w) else None) else None)
 
--- a name that isn't present, of a complete type
-absent_shown : (all : List TypedWrite) (t : TypeName) (s : Session) (f : Shelf) (m : Entries) (name : List ℕ) → Nothing all t s f m → (row t).is_complete ≡ true → present s.asked.interest m name ≡ None → finmap.get f.cache name ≡ None
-absent_shown all t s f m name is complete here =
-    is.lane.none name is.accepted
-    (none_where_absent (is_told StateOfTheWorld t) (finmap.get s.account.beliefs name) complete (ap (λ p. option_map_or (is_told StateOfTheWorld t) (owed (finmap.get s.account.beliefs name) p) false) (sym here) ∙ is.owes_none name))
+module _ (cluster : List ℕ) (all : List TypedWrite) (t : TypeName) (s : Session) (f : Shelf) (m : Entries) (is : Nothing cluster all t s f m) (name : List ℕ) where
+  -- a name that is covered and live
+  live_shown : (w : StampedWrite) (x : List ℕ) → finmap.get m name ≡ Some w → covers s.asked.interest name w.groups ≡ true → w.body ≡ Some x → option_map (λ h. h.body) (finmap.get f.cache name) ≡ Some x
+  live_shown w x found covered body =
+      let here : present s.asked.interest m name ≡ Some (version_of w) = present_of s.asked.interest m name w true (Some x) found covered body in
+      let told = told_where_present (row t).is_complete (is_told StateOfTheWorld t) (finmap.get s.account.beliefs name) (version_of w) (λ u. refl)
+          (ap (λ p. option_map_or (is_told StateOfTheWorld t) (owed (finmap.get s.account.beliefs name) p) false) (sym here) ∙ is.owes_none name) in
+      held_is all t name w (finmap.get f.cache name) is.unique is.stamped (is.known name w found).made (is.lane.told name (version_of w) told) ∙ body
 
-exact_by : (all : List TypedWrite) (t : TypeName) (s : Session) (f : Shelf) (m : Entries) (name : List ℕ) (wanted : Bool) (o : Option StampedWrite) → Nothing all t s f m → (row t).is_complete ≡ true → is_wanted t f.wants name ≡ wanted → finmap.get m name ≡ o
-    → option_map (λ h. h.body) (finmap.get f.cache name) ≡ option_map (λ h. h.body) (if wanted then option_and_then holding_of o else None)
-exact_by all t s f m name false o is complete wants found = ap (option_map (λ h. h.body)) (is.lane.within name wants)
-exact_by all t s f m name true None is complete wants found =
-    ap (option_map (λ h. h.body)) (absent_shown all t s f m name is complete (ap (λ x. if covers s.asked.interest name then option_and_then live_version x else None) found ∙ either (covers s.asked.interest name)))
-  where
-    either : (b : Bool) → ◌≡◌ {A = Option (List ℕ)} (if b then None else None) None
-    either true = refl
-    either false = refl
-exact_by all t s f m name true (Some w) is complete wants found = by_body w.body refl
-  where
-    by_body : (b : Option (List ℕ)) → w.body ≡ b → option_map (λ h. h.body) (finmap.get f.cache name) ≡ option_map (λ h. h.body) (holding_of w)
-    by_body None body =
-        ap (option_map (λ h. h.body))
-        (absent_shown all t s f m name is complete
-        ((λ i. if (is.covered name ∙ wants) i then option_and_then live_version (found i) else None) ∙ ap (λ b. if is_some b then Some (version_of w) else None) body))
-        ∙ sym (bodies_of w w.body ∙ body)
-    by_body (Some x) body = live_shown all t s f m name w x is wants found body ∙ sym (bodies_of w w.body ∙ body)
+  -- a name that isn't present, of a complete type
+  absent_shown : (row t).is_complete ≡ true → present s.asked.interest m name ≡ None → finmap.get f.cache name ≡ None
+  absent_shown complete here =
+      is.lane.none name is.accepted
+      (none_where_absent (is_told StateOfTheWorld t) (finmap.get s.account.beliefs name) complete (ap (λ p. option_map_or (is_told StateOfTheWorld t) (owed (finmap.get s.account.beliefs name) p) false) (sym here) ∙ is.owes_none name))
 
-agrees_by : (all : List TypedWrite) (t : TypeName) (s : Session) (f : Shelf) (m : Entries) (name : List ℕ) (h : Holding) (wanted : Bool) (o : Option StampedWrite) → Nothing all t s f m → is_wanted t f.wants name ≡ wanted → finmap.get m name ≡ o
-    → (if wanted then option_and_then holding_of o else None) ≡ Some h → option_map (λ x. x.body) (finmap.get f.cache name) ≡ Some h.body
-agrees_by all t s f m name h false o is wants found shown = absurd cc
-agrees_by all t s f m name h true None is wants found shown = absurd cc
-agrees_by all t s f m name h true (Some w) is wants found shown = by_body w.body refl
-  where
-    by_body : (b : Option (List ℕ)) → w.body ≡ b → option_map (λ x. x.body) (finmap.get f.cache name) ≡ Some h.body
-    by_body None body = let never : None ≡ Some h = sym (ap (option_map (λ y. record { version = version_of w; body = y })) body) ∙ shown in absurd cc
-    by_body (Some x) body =
-        live_shown all t s f m name w x is wants found body
-        ∙ ap (λ (y : Holding). Some y.body) (some_is (record { version = version_of w; body = x }) h (sym (ap (option_map (λ y. record { version = version_of w; body = y })) body) ∙ shown))
+  exact_write : (w : StampedWrite) (covered : Bool) (b : Option (List ℕ)) → (row t).is_complete ≡ true → finmap.get m name ≡ Some w → covers s.asked.interest name w.groups ≡ covered → w.body ≡ b
+      → option_map (λ h. h.body) (finmap.get f.cache name) ≡ option_map (λ h. h.body) (if covered then holding_of w else None)
+  exact_write w false b complete found covered body = ap (option_map (λ h. h.body)) (absent_shown complete (present_of s.asked.interest m name w false b found covered body))
+  exact_write w true None complete found covered body =
+      ap (option_map (λ h. h.body)) (absent_shown complete (present_of s.asked.interest m name w true None found covered body)) ∙ sym (bodies_of w w.body ∙ body)
+  exact_write w true (Some x) complete found covered body = live_shown w x found covered body ∙ sym (bodies_of w w.body ∙ body)
+
+  exact_by : (o : Option StampedWrite) → (row t).is_complete ≡ true → finmap.get m name ≡ o → option_map (λ h. h.body) (finmap.get f.cache name) ≡ option_map (λ h. h.body) (option_and_then (shown_of s.asked.interest name) o)
+  exact_by None complete found = ap (option_map (λ h. h.body)) (absent_shown complete (ap (option_and_then (version_shown s.asked.interest name)) found))
+  exact_by (Some w) complete found = exact_write w (covers s.asked.interest name w.groups) w.body complete found refl refl
+
+  agrees_write : (w : StampedWrite) (b : Option (List ℕ)) (h : Holding) → finmap.get m name ≡ Some w → covers s.asked.interest name w.groups ≡ true → w.body ≡ b → holding_of w ≡ Some h
+      → option_map (λ x. x.body) (finmap.get f.cache name) ≡ Some h.body
+  agrees_write w None h found covered body shown = let never : None ≡ Some h = sym (ap (option_map (λ y. record { version = version_of w; body = y })) body) ∙ shown in absurd cc
+  agrees_write w (Some x) h found covered body shown =
+      live_shown w x found covered body
+      ∙ ap (λ (y : Holding). Some y.body) (some_is (record { version = version_of w; body = x }) h (sym (ap (option_map (λ y. record { version = version_of w; body = y })) body) ∙ shown))
+
+  agrees_by : (h : Holding) (o : Option StampedWrite) → finmap.get m name ≡ o → option_and_then (shown_of s.asked.interest name) o ≡ Some h → option_map (λ x. x.body) (finmap.get f.cache name) ≡ Some h.body
+  agrees_by h None found shown = absurd cc
+  agrees_by h (Some w) found shown = let parts = if_both (covers s.asked.interest name w.groups) (holding_of w) h shown in agrees_write w w.body h found parts.0 refl parts.1
 
 -- ---- a lane
 
 -- what a client shows of a type: of a complete one exactly the bodies that are live, of each what is live
-pub record Shows (t : TypeName) (f : Shelf) (m : Entries) : Type 0 where
-  pub exact : (name : List ℕ) → (row t).is_complete ≡ true → option_map (λ h. h.body) (finmap.get f.cache name) ≡ option_map (λ h. h.body) (if is_wanted t f.wants name then live m name else None)
-  pub agrees : (name : List ℕ) (h : Holding) → (if is_wanted t f.wants name then live m name else None) ≡ Some h → option_map (λ x. x.body) (finmap.get f.cache name) ≡ Some h.body
+pub record Shows (cluster : List ℕ) (t : TypeName) (f : Shelf) (m : Entries) : Type 0 where
+  pub exact : (name : List ℕ) → (row t).is_complete ≡ true → option_map (λ h. h.body) (finmap.get f.cache name) ≡ option_map (λ h. h.body) (shown_in (interest t cluster f.wants) m name)
+  pub agrees : (name : List ℕ) (h : Holding) → shown_in (interest t cluster f.wants) m name ≡ Some h → option_map (λ x. x.body) (finmap.get f.cache name) ≡ Some h.body
   pub within : (name : List ℕ) → is_wanted t f.wants name ≡ false → finmap.get f.cache name ≡ None
 
 accepted_if : (complete accepted : Bool) → (complete && not accepted) ≡ false → complete ≡ true → accepted ≡ true
@@ -141,32 +135,36 @@ accepted_if true true is complete = refl
 accepted_if true false is complete = absurd cc
 accepted_if false accepted is complete = absurd cc
 
-shows_lane : (all : List TypedWrite) (t : TypeName) (s : Session) (f : Shelf) (m : Entries) → Asks t s f → Abreast all t s None f → IsUnique all → AllStamped all → AllKnown all t m → (s.asked.begun ≡ true → sessions.owes StateOfTheWorld t s m ≡ false) → Shows t f m
-shows_lane all t s f m (inr never) lane unique stamped known owes = record {
-  exact = λ name complete. ap (option_map (λ h. h.body)) (lane.within name (unwanted name)) ∙ ap (λ b. option_map (λ h. h.body) (if b then live m name else None)) (sym (unwanted name));
-  agrees = λ name h shown. let nothing : None ≡ Some h = ap (λ b. if b then live m name else None) (sym (unwanted name)) ∙ shown in absurd cc;
+shows_lane : (cluster : List ℕ) (all : List TypedWrite) (t : TypeName) (s : Session) (f : Shelf) (m : Entries) → Asks cluster t s f → Abreast cluster all t s None f → IsUnique all → AllStamped all → AllKnown all t m
+    → (s.asked.begun ≡ true → sessions.owes StateOfTheWorld t s m ≡ false) → Shows cluster t f m
+shows_lane cluster all t s f m (inr never) lane unique stamped known owes = record {
+  exact = λ name complete. ap (option_map (λ h. h.body)) (lane.within name (unwanted name) ∙ sym (nothing_shown name));
+  agrees = λ name h shown. let nothing : None ≡ Some h = sym (nothing_shown name) ∙ shown in absurd cc;
   within = lane.within;
 }
   where
     unwanted : (name : List ℕ) → is_wanted t f.wants name ≡ false
     unwanted name = nothing_wanted t f.wants name never.2
-shows_lane all t s f m (inl asked) lane unique stamped known owes =
+
+    nothing_shown : (name : List ℕ) → shown_in (interest t cluster f.wants) m name ≡ None
+    nothing_shown name = none_shown (interest t cluster f.wants) name (finmap.get m name) (wants_what_is_reached t cluster f.wants name ∙ unwanted name)
+shows_lane cluster all t s f m (inl asked) lane unique stamped known owes =
     let begun : s.asked.begun ≡ true = ap (λ (a : Asked). a.begun) asked.1 in
+    let same : s.asked.interest ≡ interest t cluster f.wants = ap (λ (a : Asked). a.interest) asked.1 in
     let owed_nothing : ledgers.owes StateOfTheWorld t s.asked.interest m s.account ≡ false = sym (ap (λ b. b && ledgers.owes StateOfTheWorld t s.asked.interest m s.account) begun) ∙ owes begun in
     let due = or_parts (is_some s.account.sent) (is_due StateOfTheWorld t s.asked.interest m s.account) owed_nothing in
     let parts = or_parts (something_owed StateOfTheWorld t s.asked.interest m s.account.beliefs) (is_whole StateOfTheWorld t && not s.account.accepted) due.1 in
-    let nothing : Nothing all t s f m = record {
+    let nothing : Nothing cluster all t s f m = record {
       lane = lane;
       unique = unique;
       stamped = stamped;
       known = known;
       owes_none = λ name. nothing_owed StateOfTheWorld t s.asked.interest m s.account.beliefs name parts.0;
       accepted = accepted_if (row t).is_complete s.account.accepted parts.1;
-      covered = λ name. ap (λ (a : Asked). covers a.interest name) asked.1 ∙ wants_what_is_covered t f.wants name;
     } in
     record {
-      exact = λ name complete. exact_by all t s f m name (is_wanted t f.wants name) (finmap.get m name) nothing complete refl refl;
-      agrees = λ name h shown. agrees_by all t s f m name h (is_wanted t f.wants name) (finmap.get m name) nothing refl refl shown;
+      exact = λ name complete. exact_by cluster all t s f m nothing name (finmap.get m name) complete refl ∙ ap (λ k. option_map (λ h. h.body) (shown_in k m name)) same;
+      agrees = λ name h shown. agrees_by cluster all t s f m nothing name h (finmap.get m name) refl (ap (λ k. shown_in k m name) same ∙ shown);
       within = lane.within;
     }
 
@@ -180,16 +178,12 @@ none_listed : (down : Option Drafted) → [] ≡ listed_draft down → down ≡ 
 none_listed None is = refl
 none_listed (Some d) is = absurd cc
 
-owed_by : (x : Stream) (store : Store) (t : TypeName) → IsSotwStream x → owes_of store x t ≡ false → (at x.sessions t).asked.begun ≡ true → sessions.owes StateOfTheWorld t (at x.sessions t) (at store t).entries ≡ false
-owed_by x store t (inl fresh) nothing begun = let never : false ≡ true = ap (λ (s : Session). s.asked.begun) (sym (ap (λ p. at p t) fresh.1 ∙ at-each unopened t)) ∙ begun in absurd cc
-owed_by x store t (inr sotw) nothing begun = ap (λ v. option_map_or (λ k. sessions.owes k t (at x.sessions t) (at store t).entries) v false) (sym sotw) ∙ nothing
-
 pub link_shows : (all : List TypedWrite) (t : TypeName) (c : Client) (l : Link) (x : Stream) (store : Store) → Linked all c l x → IsUnique all → AllStamped all → AllKnown all t (at store t).entries → is_quiet t l ≡ true → owes_of store x t ≡ false
-    → Shows t (shelf c t) (at store t).entries
+    → Shows c.cluster t (shelf c t) (at store t).entries
 link_shows all t c l x store linked unique stamped known quiet nothing =
     let parts = both_false (list_any (asks_for t) l.up) (list_any (λ d. is_same_type (kind_of d) t) l.down) quiet in
     let lane = linked.lanes t in
     let ups : lane_up t l.up ≡ [] = none_up t l.up parts.0 in
     let down : lane.down ≡ None = none_listed lane.down (sym (none_down t l.down parts.1) ∙ lane.downs_are) in
-    let abreast : Abreast all t (at x.sessions t) None (shelf c t) = subst (λ d. Abreast all t (at x.sessions t) d (shelf c t)) down (subst (λ ms. Abreast all t (folded t (at x.sessions t) ms) lane.down (shelf c t)) ups lane.abreast) in
-    shows_lane all t (at x.sessions t) (shelf c t) (at store t).entries abreast.asks abreast unique stamped known (owed_by x store t linked.variant nothing)
+    let abreast : Abreast c.cluster all t (at x.sessions t) None (shelf c t) = subst (λ d. Abreast c.cluster all t (at x.sessions t) d (shelf c t)) down (subst (λ ms. Abreast c.cluster all t (folded t (at x.sessions t) ms) lane.down (shelf c t)) ups lane.abreast) in
+    shows_lane c.cluster all t (at x.sessions t) (shelf c t) (at store t).entries abreast.asks abreast unique stamped known (owed_by StateOfTheWorld c.cluster x store t linked.variant nothing)

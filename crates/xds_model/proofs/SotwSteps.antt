@@ -12,11 +12,12 @@ use Rattle.xds_resource.specs.declared.types.TypeName.{TypeName}
 use Rattle.xds_resource.specs.Types.{row}
 use Rattle.xds_resource.specs.Writes.{text_cmp}
 use Rattle.xds_resource.proofs.NameMaps.{bytes_eq_same}
-use Rattle.xds_interest.specs.Interests.{covers, star_text, has_name}
+use Rattle.xds_interest.specs.Interests.{in_cluster, reaches, star_text, has_name}
+use Rattle.xds_interest.specs.SotW.{listed}
 use Rattle.xds_interest.specs.Asked.{Asked, unasked, everything, sotw_asked}
 use Rattle.xds_interest.specs.Touched.{exactly_one}
 use Rattle.xds_interest.specs.Touches.{Touch, touches, sotw_touch}
-use Rattle.xds_interest.proofs.AskedLaws.{sotw_touch_is_a_set, untouched_keeps_cover_of_kept}
+use Rattle.xds_interest.proofs.AskedLaws.{sotw_touch_is_a_set, untouched_keeps_reach_of_kept}
 use Rattle.xds_interest.proofs.SotwLaws.{list_any-is_star}
 use Rattle.xds_interest.proofs.Texts.{contains-from_texts}
 use Rattle.xds_message.specs.Messages.{Identity, Request}
@@ -36,7 +37,7 @@ use Rattle.xds_shelf.specs.Shelves.{Wants, Holding, Cache, Shelf, texts, interes
 use Rattle.xds_shelf.specs.Faults.{Test}
 use Rattle.xds_shelf.specs.Deliveries.{sotw_delivery, fault_in, cache_after, taking, rejecting, delivered}
 use Rattle.xds_cache.specs.Sends.{failure, sotw_request}
-use Rattle.xds_cache.proofs.Interests.{wants_what_is_covered, shown_by_name, kept_by_name, holds_what_is_wanted}
+use Rattle.xds_cache.proofs.Interests.{wants_what_is_reached, shown_by_name, kept_by_name, holds_what_is_wanted}
 use Rattle.xds_model.specs.Knows.{TypedWrite}
 use Rattle.xds_model.proofs.ByOneName.{believed_after}
 use Rattle.xds_model.proofs.LaneSteps.{never_told, begun_either}
@@ -45,9 +46,9 @@ use Rattle.xds_model.proofs.SotwLanes.{naming, Asks, IsHeld, stated_in, Says, De
 
 -- ---- Down
 
-rejected : (all : List TypedWrite) (t : TypeName) (s after : Session) (sent : Sent) (f : Shelf) (d : Drafted) → f.asked ≡ true → Answered t f.wants s after sent true → Delivers all t s.account.nonce sent f.wants d → Abreast all t s (Some d) f
-    → Abreast all t after None (rejecting f (sotw_delivery t (message_of d)))
-rejected all t s after sent f d asked answer delivers lane = record {
+rejected : (cluster : List ℕ) (all : List TypedWrite) (t : TypeName) (s after : Session) (sent : Sent) (f : Shelf) (d : Drafted) → f.asked ≡ true → Answered cluster t f.wants s after sent true → Delivers all t s.account.nonce sent f.wants d → Abreast cluster all t s (Some d) f
+    → Abreast cluster all t after None (rejecting f (sotw_delivery t (message_of d)))
+rejected cluster all t s after sent f d asked answer delivers lane = record {
   asks = inl (asked, answer.asked);
   awaits = awaits_none all t after.account.nonce after.account.sent f.wants d.nonce answer.quiet (delivers.nonce ∙ ap nonce_text (sym answer.nonce));
   touched = λ x is. absurd (none_sent after.account.sent x answer.quiet is);
@@ -59,9 +60,9 @@ rejected all t s after sent f d asked answer delivers lane = record {
 not_complete : (b : Bool) → b ≡ false → b ≡ true → ⊥
 not_complete b is not = let never : false ≡ true = sym is ∙ not in absurd cc
 
-accepted : (all : List TypedWrite) (t : TypeName) (s after : Session) (sent : Sent) (f : Shelf) (d : Drafted) → s.account.sent ≡ Some sent → f.asked ≡ true → Answered t f.wants s after sent false → Delivers all t s.account.nonce sent f.wants d → Abreast all t s (Some d) f
-    → Abreast all t after None (taking t f (sotw_delivery t (message_of d)))
-accepted all t s after sent f d has asked answer delivers lane =
+accepted : (cluster : List ℕ) (all : List TypedWrite) (t : TypeName) (s after : Session) (sent : Sent) (f : Shelf) (d : Drafted) → s.account.sent ≡ Some sent → f.asked ≡ true → Answered cluster t f.wants s after sent false → Delivers all t s.account.nonce sent f.wants d → Abreast cluster all t s (Some d) f
+    → Abreast cluster all t after None (taking t f (sotw_delivery t (message_of d)))
+accepted cluster all t s after sent f d has asked answer delivers lane =
     let whole : Bool = (row t).is_complete in
     let cache : Cache = cache_after t f.wants whole finmap.empty (stated_in t d) f.cache in
     let shown : (q : List ℕ) → finmap.get cache q ≡ held_after whole (is_wanted t f.wants q) (finmap.get (stated_in t d) q) (finmap.get f.cache q) =
@@ -83,11 +84,11 @@ accepted all t s after sent f d has asked answer delivers lane =
       within = λ q unwanted. (holds_what_is_wanted t f.wants whole finmap.empty (stated_in t d) f.cache q unwanted).0;
     }
 
-delivered_by : (all : List TypedWrite) (t : TypeName) (s : Session) (m : Request) (sent : Sent) (f : Shelf) (d : Drafted) (fault : Option (List ℕ)) → s.account.sent ≡ Some sent → f.asked ≡ true → Delivers all t s.account.nonce sent f.wants d
-    → Answered t f.wants s (take t s m) sent (is_some (option_map failure fault)) → Abreast all t s (Some d) f
-    → Abreast all t (take t s m) None (option_map_or (λ x. rejecting f (sotw_delivery t (message_of d))) fault (taking t f (sotw_delivery t (message_of d))))
-delivered_by all t s m sent f d None has asked delivers answer lane = accepted all t s (take t s m) sent f d has asked answer delivers lane
-delivered_by all t s m sent f d (Some x) has asked delivers answer lane = rejected all t s (take t s m) sent f d asked answer delivers lane
+delivered_by : (cluster : List ℕ) (all : List TypedWrite) (t : TypeName) (s : Session) (m : Request) (sent : Sent) (f : Shelf) (d : Drafted) (fault : Option (List ℕ)) → s.account.sent ≡ Some sent → f.asked ≡ true → Delivers all t s.account.nonce sent f.wants d
+    → Answered cluster t f.wants s (take t s m) sent (is_some (option_map failure fault)) → Abreast cluster all t s (Some d) f
+    → Abreast cluster all t (take t s m) None (option_map_or (λ x. rejecting f (sotw_delivery t (message_of d))) fault (taking t f (sotw_delivery t (message_of d))))
+delivered_by cluster all t s m sent f d None has asked delivers answer lane = accepted cluster all t s (take t s m) sent f d has asked answer delivers lane
+delivered_by cluster all t s m sent f d (Some x) has asked delivers answer lane = rejected cluster all t s (take t s m) sent f d asked answer delivers lane
 
 pub delivered_parts : (t : TypeName) (f : Shelf) (d : Drafted) (fault : Option (List ℕ)) → let g = option_map_or (λ x. rejecting f (sotw_delivery t (message_of d))) fault (taking t f (sotw_delivery t (message_of d))) in (g.wants ≡ f.wants) × (g.nonce ≡ d.nonce)
 delivered_parts t f d None = (refl, refl)
@@ -98,14 +99,14 @@ abbrev pub answer : TypeName → Test → Shelf → Drafted → Request
 answer t test f d = sotw_request t None (delivered t test f (sotw_delivery t (message_of d))) (fault_in t test (sotw_delivery t (message_of d)))
 
 -- the client took the response and answered it
-pub abreast_delivered : (all : List TypedWrite) (t : TypeName) (test : Test) (s : Session) (f : Shelf) (d : Drafted) → Abreast all t s (Some d) f → Abreast all t (take t s (answer t test f d)) None (delivered t test f (sotw_delivery t (message_of d)))
-abreast_delivered all t test s f d lane =
+pub abreast_delivered : (cluster : List ℕ) (all : List TypedWrite) (t : TypeName) (test : Test) (s : Session) (f : Shelf) (d : Drafted) → Abreast cluster all t s (Some d) f → Abreast cluster all t (take t s (answer t test f d)) None (delivered t test f (sotw_delivery t (message_of d)))
+abreast_delivered cluster all t test s f d lane =
     let fault : Option (List ℕ) = fault_in t test (sotw_delivery t (message_of d)) in
     let sent = awaited all t s.account.nonce s.account.sent f.wants f.nonce d lane.awaits in
-    let asked = asks_if_sent t s f sent.0 sent.1 lane.asks in
+    let asked = asks_if_sent cluster t s f sent.0 sent.1 lane.asks in
     let parts = delivered_parts t f d fault in
-    delivered_by all t s (answer t test f d) sent.0 f d fault sent.1 asked.0 sent.2
-    (after_answer t f.wants s (answer t test f d) sent.0 (ap texts parts.0) asked.1 sent.1 (ap (λ x. bytes_eq x (nonce_text s.account.nonce)) (parts.1 ∙ sent.2.nonce) ∙ bytes_eq_same (nonce_text s.account.nonce))) lane
+    delivered_by cluster all t s (answer t test f d) sent.0 f d fault sent.1 asked.0 sent.2
+    (after_answer cluster t f.wants s (answer t test f d) sent.0 (ap texts parts.0) asked.1 sent.1 (ap (λ x. bytes_eq x (nonce_text s.account.nonce)) (parts.1 ∙ sent.2.nonce) ∙ bytes_eq_same (nonce_text s.account.nonce))) lane
 
 -- ---- Change
 
@@ -188,13 +189,13 @@ still_unsure t s after sent touched now kept before name version complete was to
     last_of true is = refl
     last_of false is = is
 
-by_touch : (touched covered mentioned : Bool) (b : Option Entry) (v : List ℕ) → believed_after touched covered mentioned b ≡ Some (Told v) → (touched ≡ true) ⊎ (b ≡ Some (Told v))
-by_touch true covered mentioned b v is = inl refl
-by_touch false covered mentioned b v is = inr is
+by_touch : (touched reached mentioned : Bool) (b : Option Entry) (v : List ℕ) → believed_after touched reached mentioned b ≡ Some (Told v) → (touched ≡ true) ⊎ (b ≡ Some (Told v))
+by_touch true reached mentioned b v is = inl refl
+by_touch false reached mentioned b v is = inr is
 
-asked_of : (t : TypeName) (s : Session) (f : Shelf) → f.asked ≡ true → Asks t s f → s.asked ≡ naming t f.wants
-asked_of t s f asked (inl is) = is.1
-asked_of t s f asked (inr never) = let not_asked : true ≡ false = sym asked ∙ never.0 in absurd cc
+asked_of : (cluster : List ℕ) (t : TypeName) (s : Session) (f : Shelf) → f.asked ≡ true → Asks cluster t s f → s.asked ≡ naming cluster t f.wants
+asked_of cluster t s f asked (inl is) = is.1
+asked_of cluster t s f asked (inr never) = let not_asked : true ≡ false = sym asked ∙ never.0 in absurd cc
 
 mapped : (o : Option Sent) (touched : Touch) (x : Sent) → option_map (λ y. touched_since y touched) o ≡ Some x → (sent : Sent) × (o ≡ Some sent) × (x ≡ touched_since sent touched)
 mapped None touched x is = absurd cc
@@ -204,22 +205,22 @@ mapped (Some sent) touched x is = (sent, refl, some_sent (touched_since sent tou
     some_sent y z e = cc
 
 -- the client wants something else of a type that it asked for, and its request is taken
-pub abreast_changed : (all : List TypedWrite) (t : TypeName) (who : Option Identity) (w : Wants) (s : Session) (down : Option Drafted) (f : Shelf) → f.asked ≡ true → Abreast all t s down f
-    → Abreast all t (take t s (sotw_request t who (wanting t w true f) None)) down (wanting t w true f)
-abreast_changed all t who w s down f asked lane =
+pub abreast_changed : (cluster : List ℕ) (all : List TypedWrite) (t : TypeName) (who : Option Identity) (w : Wants) (s : Session) (down : Option Drafted) (f : Shelf) → f.asked ≡ true → Abreast cluster all t s down f
+    → Abreast cluster all t (take t s (sotw_request t who (wanting t w true f) None)) down (wanting t w true f)
+abreast_changed cluster all t who w s down f asked lane =
     let q : Request = sotw_request t who (wanting t w true f) None in
     let names : Names = names_of t s.asked q in
-    let before : s.asked ≡ naming t f.wants = asked_of t s f asked lane.asks in
-    let after : names.asked ≡ naming t w = ap (λ a. sotw_asked t a (texts w)) before in
+    let before : s.asked ≡ naming cluster t f.wants = asked_of cluster t s f asked lane.asks in
+    let after : names.asked ≡ naming cluster t w = ap (λ a. sotw_asked t a (texts w)) before in
     let in_time : is_taken s f.nonce ≡ true = taken_last all t s f down lane.awaits in
     let account : settled StateOfTheWorld t s.account f.nonce false ≡ s.account = unsettled_last all t s.account f.wants f.nonce down false s.account.sent refl lane.awaits in
     let is : take t s q ≡ taken StateOfTheWorld t s (answer_of q) names = take_is t s q in_time in
     let same : (name : List ℕ) → touches names.touched name ≡ false → is_wanted t w name ≡ is_wanted t f.wants name =
-    λ name untouched. sym (wants_what_is_covered t w name) ∙ ap (λ (a : Asked). covers a.interest name) (sym after) ∙ untouched_keeps_cover_of_kept t s.asked (texts w) name untouched ∙ ap (λ (a : Asked). covers a.interest name) before
-    ∙ wants_what_is_covered t f.wants name in
+    λ name untouched. sym (wants_what_is_reached t cluster w name) ∙ ap (λ (a : Asked). reaches a.interest name) (sym after) ∙ untouched_keeps_reach_of_kept t s.asked (texts w) name untouched ∙ ap (λ (a : Asked). reaches a.interest name) before
+    ∙ wants_what_is_reached t cluster f.wants name in
     let believed : (name : List ℕ) → finmap.get (take t s q).account.beliefs name ≡ believed_after (touches names.touched name) (is_wanted t w name) (set.contains names.mentioned name) (finmap.get s.account.beliefs name) =
     λ name. believed_quiet t s q name account in_time
-    ∙ ap (λ c. believed_after (touches names.touched name) c (set.contains names.mentioned name) (finmap.get s.account.beliefs name)) (ap (λ (a : Asked). covers a.interest name) after ∙ wants_what_is_covered t w name) in
+    ∙ ap (λ c. believed_after (touches names.touched name) c (set.contains names.mentioned name) (finmap.get s.account.beliefs name)) (ap (λ (a : Asked). reaches a.interest name) after ∙ wants_what_is_reached t cluster w name) in
     let sent_is : (take t s q).account.sent ≡ option_map (λ x. touched_since x names.touched) s.account.sent = ap (λ x. x.account.sent) is ∙ ap (λ (a : Account). option_map (λ x. touched_since x names.touched) a.sent) account in
     record {
       asks = inl (refl, ap (λ x. x.asked) is ∙ after);
@@ -247,11 +248,11 @@ abreast_changed all t who w s down f asked lane =
 nothing_contained : (q : List ℕ) → set.contains {R = text_cmp} set.empty q ≡ false
 nothing_contained q = contains-from_texts [] q
 
-no_told : (touched covered mentioned : Bool) (e : Option Entry) (v : List ℕ) → e ≡ None → believed_after touched covered mentioned e ≡ Some (Told v) → ⊥
-no_told touched covered mentioned e v none is = never_told touched covered mentioned v (ap (believed_after touched covered mentioned) (sym none) ∙ is)
+no_told : (touched reached mentioned : Bool) (e : Option Entry) (v : List ℕ) → e ≡ None → believed_after touched reached mentioned e ≡ Some (Told v) → ⊥
+no_told touched reached mentioned e v none is = never_told touched reached mentioned v (ap (believed_after touched reached mentioned) (sym none) ∙ is)
 
-all_true : (touched covered mentioned : Bool) (e : Option Entry) → touched ≡ true → covered ≡ true → mentioned ≡ true → believed_after touched covered mentioned e ≡ None → ⊥
-all_true touched covered mentioned e t c m is = let unsure : Some Unsure ≡ None = sym (λ i. believed_after (t i) (c i) (m i) e) ∙ is in absurd cc
+all_true : (touched reached mentioned : Bool) (e : Option Entry) → touched ≡ true → reached ≡ true → mentioned ≡ true → believed_after touched reached mentioned e ≡ None → ⊥
+all_true touched reached mentioned e t c m is = let unsure : Some Unsure ≡ None = sym (λ i. believed_after (t i) (c i) (m i) e) ∙ is in absurd cc
 
 explicit : (star named : Bool) → star ≡ false → (star || named) ≡ true → named ≡ true
 explicit true named none is = absurd cc
@@ -262,15 +263,15 @@ newly true named is = refl
 newly false named is = ap (λ b. exactly_one false b) is
 
 -- a name that is wanted of an incomplete type is named by the first request
-first_names : (t : TypeName) (w : Wants) (name : List ℕ) → (row t).is_complete ≡ false → is_wanted t w name ≡ true
-    → (touches (sotw_touch unasked.interest (interest t w)) name ≡ true) × (covers (interest t w) name ≡ true) × (set.contains (interest t w).names name ≡ true)
-first_names t w name partial wanted =
-    let star : (interest t w).star ≡ false = list_any-is_star t (texts w) ∙ ap (λ c. c && has_name (texts w) star_text) partial in
-    let covered : covers (interest t w) name ≡ true = wants_what_is_covered t w name ∙ wanted in
-    let named : set.contains (interest t w).names name ≡ true = explicit (interest t w).star (set.contains (interest t w).names name) star covered in (
-      sotw_touch_is_a_set unasked.interest (interest t w) name ∙ ap (λ b. exactly_one false (interest t w).star || exactly_one b (set.contains (interest t w).names name)) (nothing_contained name)
-          ∙ newly (interest t w).star (set.contains (interest t w).names name) named,
-      covered,
+first_names : (cluster : List ℕ) (t : TypeName) (w : Wants) (name : List ℕ) → (row t).is_complete ≡ false → is_wanted t w name ≡ true
+    → (touches (sotw_touch (unasked cluster).interest (interest t cluster w)) name ≡ true) × (reaches (interest t cluster w) name ≡ true) × (set.contains (interest t cluster w).names name ≡ true)
+first_names cluster t w name partial wanted =
+    let star : (interest t cluster w).star ≡ false = list_any-is_star t (texts w) ∙ ap (λ c. c && has_name (texts w) star_text) partial in
+    let reached : reaches (interest t cluster w) name ≡ true = wants_what_is_reached t cluster w name ∙ wanted in
+    let named : set.contains (interest t cluster w).names name ≡ true = explicit (interest t cluster w).star (set.contains (interest t cluster w).names name) star reached in (
+      sotw_touch_is_a_set (unasked cluster).interest (interest t cluster w) name ∙ ap (λ b. exactly_one false (interest t cluster w).star || exactly_one b (set.contains (interest t cluster w).names name)) (nothing_contained name)
+          ∙ newly (interest t cluster w).star (set.contains (interest t cluster w).names name) named,
+      reached,
       named,
     )
 
@@ -281,25 +282,25 @@ first_none t f name accepted false false b cached never complete is counted with
 first_none t f name accepted false true b cached never complete is counted within unsure none = absurd (unsure complete is none)
 
 -- the first request of a type on a stream is taken
-pub abreast_first : (all : List TypedWrite) (t : TypeName) (m : Request) (f : Shelf) → f.asked ≡ true → m.resource_names ≡ texts f.wants → wants_some f.wants ≡ true → f.nonce ≡ [] → ((name : List ℕ) → is_wanted t f.wants name ≡ false → finmap.get f.cache name ≡ None)
-    → Abreast all t (take t unopened m) None f
-abreast_first all t m f asked lists some nonce within =
-    let names : Names = names_of t unasked m in
-    let after : names.asked ≡ naming t f.wants =
-    ap (λ l. sotw_asked t unasked l) lists ∙ (λ i. record { begun = true; named = some i; interest = if some i then interest t f.wants else everything t }) in
-    let believed : (name : List ℕ) → finmap.get (take t unopened m).account.beliefs name ≡ believed_after (touches names.touched name) (covers names.asked.interest name) (set.contains names.mentioned name) None =
-    λ name. believed_quiet t unopened m name refl refl ∙ ap (believed_after (touches names.touched name) (covers names.asked.interest name) (set.contains names.mentioned name)) (finmap.get-empty text_cmp name) in
+pub abreast_first : (cluster : List ℕ) (all : List TypedWrite) (t : TypeName) (m : Request) (f : Shelf) → f.asked ≡ true → m.resource_names ≡ texts f.wants → wants_some f.wants ≡ true → f.nonce ≡ [] → ((name : List ℕ) → is_wanted t f.wants name ≡ false → finmap.get f.cache name ≡ None)
+    → Abreast cluster all t (take t (unopened cluster) m) None f
+abreast_first cluster all t m f asked lists some nonce within =
+    let names : Names = names_of t (unasked cluster) m in
+    let after : names.asked ≡ naming cluster t f.wants =
+    ap (λ l. sotw_asked t (unasked cluster) l) lists ∙ (λ i. record { begun = true; named = some i; interest = in_cluster cluster (if some i then listed t (texts f.wants) else everything t) }) in
+    let believed : (name : List ℕ) → finmap.get (take t (unopened cluster) m).account.beliefs name ≡ believed_after (touches names.touched name) (reaches names.asked.interest name) (set.contains names.mentioned name) None =
+    λ name. believed_quiet t (unopened cluster) m name refl refl ∙ ap (believed_after (touches names.touched name) (reaches names.asked.interest name) (set.contains names.mentioned name)) (finmap.get-empty text_cmp name) in
     record {
       asks = inl (asked, after);
       awaits = nonce;
       touched = λ sent is. absurd (none_sent None sent refl is);
-      told = λ name v is. absurd (never_told (touches names.touched name) (covers names.asked.interest name) (set.contains names.mentioned name) v (sym (believed name) ∙ is));
+      told = λ name v is. absurd (never_told (touches names.touched name) (reaches names.asked.interest name) (set.contains names.mentioned name) v (sym (believed name) ∙ is));
       none = λ name counted is.
-          first_none t f name false (row t).is_complete (is_wanted t f.wants name) (finmap.get (take t unopened m).account.beliefs name) (finmap.get f.cache name) refl refl refl counted (within name)
+          first_none t f name false (row t).is_complete (is_wanted t f.wants name) (finmap.get (take t (unopened cluster) m).account.beliefs name) (finmap.get f.cache name) refl refl refl counted (within name)
           (λ partial wanted none.
-          let first = first_names t f.wants name partial wanted in
-          all_true (touches names.touched name) (covers names.asked.interest name) (set.contains names.mentioned name) None (ap (λ (a : Asked). touches (sotw_touch unasked.interest a.interest) name) after ∙ first.0)
-          (ap (λ (a : Asked). covers a.interest name) after ∙ first.1) (ap (λ (a : Asked). set.contains a.interest.names name) after ∙ first.2) (sym (believed name) ∙ none)) is;
+          let first = first_names cluster t f.wants name partial wanted in
+          all_true (touches names.touched name) (reaches names.asked.interest name) (set.contains names.mentioned name) None (ap (λ (a : Asked). touches (sotw_touch (unasked cluster).interest a.interest) name) after ∙ first.0)
+          (ap (λ (a : Asked). reaches a.interest name) after ∙ first.1) (ap (λ (a : Asked). set.contains a.interest.names name) after ∙ first.2) (sym (believed name) ∙ none)) is;
       within = within;
     }
 
@@ -310,29 +311,29 @@ begun_folded t s [] begun = begun
 begun_folded t s (m ∷ ms) begun =
     begun_folded t (take t s m) ms (begun_either (is_taken s m.response_nonce) (taken StateOfTheWorld t s (answer_of m) (names_of t s.asked m)) s refl begun)
 
-asks_begun : (t : TypeName) (s : Session) (f : Shelf) → s.asked.begun ≡ true → Asks t s f → (f.asked ≡ true) × (s.asked ≡ naming t f.wants)
-asks_begun t s f begun (inl asked) = asked
-asks_begun t s f begun (inr never) = let not_begun : true ≡ false = sym begun ∙ ap (λ x. x.asked.begun) never.1 in absurd cc
+asks_begun : (cluster : List ℕ) (t : TypeName) (s : Session) (f : Shelf) → s.asked.begun ≡ true → Asks cluster t s f → (f.asked ≡ true) × (s.asked ≡ naming cluster t f.wants)
+asks_begun cluster t s f begun (inl asked) = asked
+asks_begun cluster t s f begun (inr never) = let not_begun : true ≡ false = sym begun ∙ ap (λ x. x.asked.begun) never.1 in absurd cc
 
 sent_is : (x y : Sent) → ◌≡◌ {A = Option Sent} (Some x) (Some y) → x ≡ y
 sent_is x y e = cc
 
 -- the replica sent a response, while these requests are under way to it
-pub abreast_sent : (all : List TypedWrite) (t : TypeName) (s : Session) (ups : List Request) (f : Shelf) (o : Offer) (d : Drafted) (n : ℕ) → s.account.sent ≡ None → s.asked.begun ≡ true → AllTaken t s ups → NoneAnswers n ups
+pub abreast_sent : (cluster : List ℕ) (all : List TypedWrite) (t : TypeName) (s : Session) (ups : List Request) (f : Shelf) (o : Offer) (d : Drafted) (n : ℕ) → s.account.sent ≡ None → s.asked.begun ≡ true → AllTaken t s ups → NoneAnswers n ups
     → bytes_eq f.nonce (nonce_text n) ≡ false → d.nonce ≡ nonce_text n → ((name : List ℕ) → Says all t name (finmap.get o name) (finmap.get (stated_in t d) name))
-    → ((name version : List ℕ) → finmap.get o name ≡ Some (Stated version) → covers s.asked.interest name ≡ true) → Abreast all t (folded t s ups) None f → Abreast all t (folded t (send s o n) ups) (Some d) f
-abreast_sent all t s ups f o d n none begun taken apart other nonce says covered lane =
+    → ((name version : List ℕ) → finmap.get o name ≡ Some (Stated version) → reaches s.asked.interest name ≡ true) → Abreast cluster all t (folded t s ups) None f → Abreast cluster all t (folded t (send s o n) ups) (Some d) f
+abreast_sent cluster all t s ups f o d n none begun taken apart other nonce says reached lane =
     let after : Session = folded t s ups in
-    let asked = asks_begun t after f (begun_folded t s ups begun) lane.asks in
+    let asked = asks_begun cluster t after f (begun_folded t s ups begun) lane.asks in
     let sent : Sent = record { offer = o; touched = touched_by t s ups } in
-    subst (λ x. Abreast all t x (Some d) f) (sym (sending_folded t s o [] n ups none taken apart))
+    subst (λ x. Abreast cluster all t x (Some d) f) (sym (sending_folded t s o [] n ups none taken apart))
     (record {
       asks = inl asked;
       awaits = (
         record {
           nonce = nonce;
           says = says;
-          wanted = λ name v states untouched. sym (wants_what_is_covered t f.wants name) ∙ ap (λ (a : Asked). covers a.interest name) (sym asked.1) ∙ untouched_folded t s ups name taken untouched ∙ covered name v states;
+          wanted = λ name v states untouched. sym (wants_what_is_reached t cluster f.wants name) ∙ ap (λ (a : Asked). reaches a.interest name) (sym asked.1) ∙ untouched_folded t s ups name taken untouched ∙ reached name v states;
         },
         other,
       );
