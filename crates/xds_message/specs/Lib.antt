@@ -3,6 +3,7 @@ pub mod Messages
 pub mod Written
 pub mod Responses
 pub use Rattle.xds_fields.specs.Versions
+pub use Rattle.xds_writes.specs.StampedWrites
 pub mod DeltaMessages
 pub mod DeltaWritten
 pub mod Laws

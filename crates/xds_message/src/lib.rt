@@ -1,4 +1,5 @@
-// The messages of Envoy's discovery service in the proto3 JSON mapping: what their JSON is read as, and what is written.
+// The messages of Envoy's discovery service in the proto3 JSON mapping: what their JSON is read as, and what is written. The
+// writes that replicas exchange, and batches of them, are passed on from where they are made.
 #![tactic(auto)]
 
 pub mod delta_request;
@@ -12,3 +13,4 @@ pub use delta_response::{DeltaDiscoveryResponse, DeltaResource};
 pub use request::DiscoveryRequest;
 pub use response::DiscoveryResponse;
 pub use xds_fields::{Node, Status, Versions, copy_texts};
+pub use xds_writes::{Batch, read_write, write_object};
