@@ -66,12 +66,9 @@ fn pieces_of(alloc: Global, word: &str) -> Result<Vec<String>, Refusal>
     ensures refused { IfErr result (λ e. e ≡ OutOfMemory) }
 {
     let mut texts = Vec::new(alloc);
-    let mut rest = word;
-    while let Some((text, following)) = rest.split_once(',') {
+    for text in word.split(',') {
         texts.push(String::from_str(alloc, text)?)?;
-        rest = following;
     }
-    texts.push(String::from_str(alloc, rest)?)?;
     Ok(texts)
 }
 
