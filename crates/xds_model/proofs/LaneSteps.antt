@@ -45,7 +45,7 @@ use Rattle.xds_model.proofs.Lanes.{believed_by_name, nothing_resumed, asked_of, 
 -- ---- an answer
 
 -- a session that has sent something was asked
-asks_if_sent : (cluster : List ℕ) (t : TypeName) (s : Session) (f : Shelf) (sent : Sent) → s.account.sent ≡ Some sent → Asks cluster t s f → (f.asked ≡ true) × (s.asked ≡ asking cluster t f.wants)
+pub asks_if_sent : (cluster : List ℕ) (t : TypeName) (s : Session) (f : Shelf) (sent : Sent) → s.account.sent ≡ Some sent → Asks cluster t s f → (f.asked ≡ true) × (s.asked ≡ asking cluster t f.wants)
 asks_if_sent cluster t s f sent has (inl asked) = asked
 asks_if_sent cluster t s f sent has (inr never_asked) = let never : None ≡ Some sent = ap (λ x. x.account.sent) (sym never_asked.1) ∙ has in absurd cc
 

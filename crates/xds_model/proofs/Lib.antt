@@ -37,3 +37,4 @@ pub mod SettlingBlame
 pub mod SettlingFair
 pub mod SettlingSettles
 pub mod SettlingRefused
+pub mod SettlingStops

@@ -52,7 +52,7 @@ use Rattle.xds_writes.proofs.StampedWriteLemmas.{type_of_url-url}
 
 -- ---- Down
 
-one_down : (d : DraftedDelta) (rest : List Draft) (down : Option DraftedDelta) → drafts.Delta d ∷ rest ≡ listed_draft down → (down ≡ Some d) × (rest ≡ [])
+pub one_down : (d : DraftedDelta) (rest : List Draft) (down : Option DraftedDelta) → drafts.Delta d ∷ rest ≡ listed_draft down → (down ≡ Some d) × (rest ≡ [])
 one_down d rest None is = absurd cc
 one_down d rest (Some e) is = (ap Some (sym (delta_is (head_is (drafts.Delta d) (drafts.Delta e) rest [] is))), tail_is (drafts.Delta d) (drafts.Delta e) rest [] is)
   where

@@ -202,7 +202,7 @@ up_home k all c l x cluster t m rest z up is linked =
 
 -- ---- a poll
 
-poll_one : (replica : ℕ) (store : Store) (x : Stream) (t : TypeName) (o : Option Offer) → to_send store x t ≡ o → polled_first replica store x (looked_at (Some t)) ≡ option_map_or (responding replica store x t) o (Ok (None, x))
+pub poll_one : (replica : ℕ) (store : Store) (x : Stream) (t : TypeName) (o : Option Offer) → to_send store x t ≡ o → polled_first replica store x (looked_at (Some t)) ≡ option_map_or (responding replica store x t) o (Ok (None, x))
 poll_one replica store x t None due = ap (λ o. option_map_or (λ u. option_map_or (responding replica store x u) (to_send store x u) (Ok (None, x))) (if is_some o then Some t else None) (Ok (None, x))) due
 poll_one replica store x t (Some o) due =
     ap (λ o. option_map_or (λ u. option_map_or (responding replica store x u) (to_send store x u) (Ok (None, x))) (if is_some o then Some t else None) (Ok (None, x))) due

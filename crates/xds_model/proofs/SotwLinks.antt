@@ -249,7 +249,7 @@ linked_polled all replica store c l x y d known is linked =
 
 -- ---- Down
 
-one_down : (d : Drafted) (rest : List Draft) (down : Option Drafted) → drafts.Sotw d ∷ rest ≡ listed_draft down → (down ≡ Some d) × (rest ≡ [])
+pub one_down : (d : Drafted) (rest : List Draft) (down : Option Drafted) → drafts.Sotw d ∷ rest ≡ listed_draft down → (down ≡ Some d) × (rest ≡ [])
 one_down d rest None is = absurd cc
 one_down d rest (Some e) is = (ap Some (sym (sotw_is (head_is (drafts.Sotw d) (drafts.Sotw e) rest [] is))), tail_is (drafts.Sotw d) (drafts.Sotw e) rest [] is)
   where

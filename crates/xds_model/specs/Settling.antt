@@ -163,6 +163,12 @@ UnsettledHasRefused test hs =
     (c : ℕ) (t : TypeName) (more : List Happening) (l : Link) → IsSettling test c t (world test hs) more → link_in (world test hs) c ≡ Some l
     → is_settled (after test (world test hs) more) c t ≡ false → is_held_back (after test (world test hs) more) c t ≡ true
 
+-- and what is to be done next to settle a client is possible, but for a poll where the responses on its stream are spent
+abbrev pub StopsWhereSpent : Test → List Happening → Type 0
+StopsWhereSpent test hs =
+    (c : ℕ) (t : TypeName) (h : Happening) → next_to_settle (world test hs) c t ≡ Some h → happens test (world test hs) h ≡ None
+    → (h ≡ Poll c (Some t)) × (is_spent_for (world test hs) c t ≡ true)
+
 -- that a client's test takes what the client is to show of these writes where it is of this cluster and wants these
 abbrev pub TakesAll : Test → TypeName → List StampedWrite → List ℕ → Wants → Type 0
 TakesAll test t ws cluster w = (name : List ℕ) (h : Holding) → content_at t ws cluster w name ≡ Some h → test (row t).url name (value_of h.body) ≡ true

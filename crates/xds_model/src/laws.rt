@@ -3,7 +3,7 @@ ghost use Rattle.std.specs.Prelude.{List};
 ghost use Rattle.xds_shelf.specs.Faults.{Test};
 ghost use Rattle.xds_model.specs.Happenings.{Happening};
 ghost use Rattle.xds_model.specs.Claims.{HoldsWhatItKnows, PutResources, SameKnowledgeSameHoldings, SettledIsExact, SettledAgrees, LinksAreFollowed, OneWriteAStamp, JournalsAreLegal, JournalsTellAll};
-ghost use Rattle.xds_model.specs.Settling.{TwoResponsesSuffice, QuietAtTheEnd, UnsettledHasRefused, SettlesWhereAllIsTaken};
+ghost use Rattle.xds_model.specs.Settling.{TwoResponsesSuffice, QuietAtTheEnd, UnsettledHasRefused, StopsWhereSpent, SettlesWhereAllIsTaken};
 
 /// What a replica holds are the best writes of what it knows, so replicas that know the same writes hold the same.
 pub fn replicas_hold_what_they_know()
@@ -43,6 +43,12 @@ pub fn two_responses_suffice()
     ensures two { (test : Test) (hs : List Happening) → PutResources hs → TwoResponsesSuffice test hs }
     ensures quiet { (test : Test) (hs : List Happening) → PutResources hs → QuietAtTheEnd test hs }
     ensures refused { (test : Test) (hs : List Happening) → PutResources hs → UnsettledHasRefused test hs }
+{}
+
+/// What is to be done next to settle a client of a type is possible, but for a poll where the responses on the client's stream are
+/// spent and one of the type is due.
+pub fn settling_stops_where_spent()
+    ensures { (test : Test) (hs : List Happening) → PutResources hs → StopsWhereSpent test hs }
 {}
 
 /// A client whose test takes all that it is to show of what its replica knows is settled where settling ends.
