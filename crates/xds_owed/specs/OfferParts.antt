@@ -1,6 +1,5 @@
 -- The parts from which an offer is made: the answers of the functions that make it. This project's own.
-use Rattle.std.specs.Prelude.{ℕ, List, [], ◌∷◌, Bool, false, if◌then◌else◌, Option, Some, None, is_some}
-use Rattle.std.specs.Option.{option_map_or}
+use Rattle.std.specs.Prelude.{ℕ, List, [], ◌∷◌, Bool, if◌then◌else◌, Option, Some, None, is_some}
 use Rattle.std.specs.FinMap as finmap
 use Rattle.xds_resource.specs.Writes.{StampedWrite, version_of}
 use Rattle.xds_resource.specs.Names.{put_some}
@@ -9,7 +8,7 @@ use Rattle.xds_catalogue.specs.Holdings.{Entries}
 use Rattle.xds_owed.specs.declared.entry.Due.{Due}
 use Rattle.xds_owed.specs.declared.entry.Due.TheVariants.{Stated, Removed}
 use Rattle.xds_owed.specs.Owed.{Beliefs, owed, present}
-use Rattle.xds_owed.specs.Offers.{Offer, same_due}
+use Rattle.xds_owed.specs.Offers.{Offer}
 
 -- of a live write that the interest covers
 abbrev pub stated : Bool → Beliefs → StampedWrite → Option Due
@@ -23,7 +22,3 @@ put_writes f o (w ∷ ws) = put_writes f (put_some o w.name (f w)) ws
 -- of a name that is believed held
 abbrev pub removed : Selection → Entries → List ℕ → Option Due
 removed s m name = if is_some (present s m name) then None else Some Removed
-
--- whether an offer says this of a name
-abbrev pub says : Offer → List ℕ → Due → Bool
-says o name d = option_map_or (same_due d) (finmap.get o name) false

@@ -11,7 +11,7 @@ pub mod version;
 
 pub use believed::Beliefs;
 pub use entry::{Due, Entry};
-pub use offers::{is_same_offer, offer};
+pub use offers::offer;
 pub use owed::something_owed;
 pub use variant::{Delta, StateOfTheWorld, Variant, VariantName};
 pub use version::Version;

@@ -4,8 +4,8 @@ ghost use Rattle.std.specs.FinMap as finmap;
 ghost use Rattle.xds_resource.specs.declared.refusal.Refusal.TheVariants.{OutOfMemory};
 ghost use Rattle.xds_resource.specs.Names.{put_all};
 ghost use Rattle.xds_catalogue.specs.Holdings.{IsCatalogue};
-ghost use Rattle.xds_owed.specs.Offers.{offer, is_within, same_offer};
-ghost use Rattle.xds_owed.specs.OfferParts.{put_writes, stated, removed, says};
+ghost use Rattle.xds_owed.specs.Offers.{offer};
+ghost use Rattle.xds_owed.specs.OfferParts.{put_writes, stated, removed};
 
 use crate::believed::Beliefs;
 use crate::entry::{Due, Entry};
@@ -102,33 +102,4 @@ pub fn offer<T: ResourceType>(
     }
     let said = with_removals(alloc, interest, catalogue, beliefs, stated)?;
     Ok(said)
-}
-
-// Whether an offer says this of a name.
-fn says(offer: &NameMap<Due>, name: &str, due: &Due) -> bool
-    ensures { result ≡ says offer.now name.now due.now }
-{
-    match offer.get(name) {
-        Some(said) => due.is_same(said),
-        None => false,
-    }
-}
-
-// Whether the first says nothing that the second doesn't say.
-fn is_within(offer: &NameMap<Due>, other: &NameMap<Due>) -> bool
-    ensures { result ≡ is_within offer.now other.now }
-{
-    for (name, due) in offer.iter() {
-        if !says(other, name, due) {
-            return false;
-        }
-    }
-    true
-}
-
-/// Whether two offers are equal.
-pub fn is_same_offer(offer: &NameMap<Due>, other: &NameMap<Due>) -> bool
-    ensures { result ≡ same_offer offer.now other.now }
-{
-    is_within(offer, other) && is_within(other, offer)
 }
