@@ -1,7 +1,7 @@
 -- What the headline says: when a client is settled, and that it shows then exactly what its replica knows. This project's own.
 use Rattle.std.specs.Prelude.{◌≡◌, ◌↔◌, ℕ, List, [], ◌∷◌, map, Bool, true, false, ◌&&◌, not, if◌then◌else◌, bytes_eq, Option, Some, None, option_map, ⊤}
 use Rattle.std.specs.Option.{option_map_or, option_and_then}
-use Rattle.std.specs.List.{Contains, filter, list_any}
+use Rattle.std.specs.List.{Contains, list_any}
 use Rattle.std.specs.FinMap as finmap
 use Rattle.xds_resource.specs.declared.types.TypeName.{TypeName}
 use Rattle.xds_resource.specs.Types.{row, is_same_type}
@@ -10,6 +10,7 @@ use Rattle.xds_resource.specs.Groups.{IsGroups}
 use Rattle.xds_resource.specs.Resources.{IsCanonical}
 use Rattle.xds_resource.specs.Best.{best}
 use Rattle.xds_resource.specs.Writes.{StampedWrite, version_of}
+pub use Rattle.xds_resource.specs.TypedWrites.{writes_of}
 use Rattle.xds_interest.specs.Interests.{Selection, covers}
 use Rattle.xds_catalogue.specs.Holdings.{catalogue_of}
 use Rattle.xds_draft.specs.DraftTexts.{kind_of}
@@ -46,10 +47,6 @@ abbrev pub is_settled : World → ℕ → TypeName → Bool
 is_settled w c t = option_map_or (λ p. option_map_or (is_settled_on w t) p.link false) (finmap.get w.peers c) false
 
 -- ---- exact
-
--- the writes of the type
-abbrev pub writes_of : TypeName → List TypedWrite → List StampedWrite
-writes_of t ws = map (λ x. x.1) (filter (λ x. is_same_type x.0 t) ws)
 
 -- what is held of a write that puts a resource
 abbrev pub holding_of : StampedWrite → Option Holding

@@ -7,15 +7,12 @@ use Rattle.xds_resource.specs.declared.types.TypeName.{TypeName}
 use Rattle.xds_resource.specs.Types.{is_same_type}
 use Rattle.xds_resource.specs.Resources.{written, deleted}
 use Rattle.xds_resource.specs.Writes.{StampedWrite}
+pub use Rattle.xds_resource.specs.TypedWrites.{TypedWrite}
 use Rattle.xds_core.specs.Events as events
 use Rattle.xds_shelf.specs.Faults.{Test}
 use Rattle.xds_shelf.specs.Shelves.{Wants, wants_of, wants_after}
 use Rattle.xds_model.specs.Happenings.{Wish, Names, Edits, Happening, AddClient, Put, Delete, Snapshot, Merge, Connect, Change, Lose}
 use Rattle.xds_model.specs.Worlds.{World, empty_world, at_site, happens, placed}
-
--- a write and its type
-abbrev pub TypedWrite : Type 0
-TypedWrite = TypeName × StampedWrite
 
 -- what is known at each replica, and what was known when each batch was taken
 pub record Knowledge : Type 0 where

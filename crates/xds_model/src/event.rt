@@ -6,7 +6,7 @@ ghost use Rattle.xds_model.specs.Seen.{happening_of, wish_of};
 
 use std::alloc::Global;
 use xds_message::copy_texts;
-use xds_resource::laws::resources_are_canonical;
+use xds_resource::laws::{groups_are_kept, resources_are_canonical};
 use xds_resource::{AnyResource, Groups, Refusal, TypeName};
 
 /// The variant that a client speaks.
@@ -112,7 +112,7 @@ impl WorldEvent {
     {
         if let WorldEvent::Put(_, resource, groups) = self {
             resources_are_canonical(resource);
-            groups.texts();
+            groups_are_kept(groups);
         }
     }
 }

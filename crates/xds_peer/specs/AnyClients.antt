@@ -60,5 +60,5 @@ abbrev pub unlinked_any : AnyClient → AnyClient
 unlinked_any c = record { kind = c.kind; up = false; client = unlinked c.client }
 
 -- a client that wants nothing and has no stream
-abbrev pub fresh_any : ClientKind → List ℕ → AnyClient
-fresh_any kind node_id = record { kind = kind; up = false; client = clients.fresh node_id }
+abbrev pub fresh_any : ClientKind → List ℕ → List ℕ → AnyClient
+fresh_any kind node_id cluster = record { kind = kind; up = false; client = clients.fresh node_id cluster }

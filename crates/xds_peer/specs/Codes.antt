@@ -3,7 +3,7 @@ use Rattle.std.specs.Prelude.{◌≡◌, ◌⊎◌, ℕ, ◌==◌, List, Bool, t
 use Rattle.std.proofs.Common.{inl, inr}
 use Rattle.std.specs.Coded.{Coded, code_by, coded×, coded⊎, coded_ℕ, coded_bool, coded_list, coded_option}
 use Rattle.xds_resource.specs.declared.types.TypeName.{TypeName}
-use Rattle.xds_resource.specs.declared.types.TypeName.TheVariants.{Cluster, Endpoint, Listener, Route}
+use Rattle.xds_resource.specs.declared.types.TypeName.TheVariants.{Cluster, Endpoint, Listener, Route, Secret}
 use Rattle.xds_message.specs.Messages.{Identity, Failure, Request}
 use Rattle.xds_message.specs.DeltaMessages.{DeltaRequest, identity_code, failure_code, delta_request_code}
 use Rattle.xds_draft.specs.declared.draft.Draft.{Draft}
@@ -26,15 +26,17 @@ type_number Cluster = 0
 type_number Endpoint = 1
 type_number Listener = 2
 type_number Route = 3
+type_number Secret = 4
 
 abbrev pub numbered_type : ℕ → TypeName
-numbered_type n = if n == 0 then Cluster else if n == 1 then Endpoint else if n == 2 then Listener else Route
+numbered_type n = if n == 0 then Cluster else if n == 1 then Endpoint else if n == 2 then Listener else if n == 3 then Route else Secret
 
 abbrev pub type_again : (t : TypeName) → numbered_type (type_number t) ≡ t
 type_again Cluster = refl
 type_again Endpoint = refl
 type_again Listener = refl
 type_again Route = refl
+type_again Secret = refl
 
 abbrev pub type_code : Coded TypeName
 type_code = code_by ℕ coded_ℕ type_number numbered_type type_again

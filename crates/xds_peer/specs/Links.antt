@@ -1,12 +1,7 @@
--- Streams: what is the oldest under way, and what is left once it isn't. This project's own.
+-- Streams: what is left under way once the oldest isn't. This project's own.
 use Rattle.std.specs.Prelude.{List, [], ◌∷◌, Option, Some, None}
 use Rattle.xds_core.specs.Streams.{Message}
 use Rattle.xds_model.specs.Worlds.{Link}
-
--- the first of a list
-abbrev pub first : {X : Type 0} → List X → Option X
-first [] = None
-first (x ∷ xs) = Some x
 
 -- a list without its first, if it has one
 abbrev pub behind : {X : Type 0} → List X → List X

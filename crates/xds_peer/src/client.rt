@@ -219,12 +219,17 @@ fn receive_delta<A: Accept>(
 
 impl<A: Accept> AnyClient<A> {
     /// A client that wants nothing and has no stream.
-    pub(crate) fn new(alloc: Global, kind: ClientKind, node_id: String) -> AnyClient<A>
-        ensures { result ≡ fresh_any kind (string_bytes node_id) }
+    pub(crate) fn new(
+        alloc: Global,
+        kind: ClientKind,
+        node_id: String,
+        cluster: String,
+    ) -> AnyClient<A>
+        ensures { result ≡ fresh_any kind (string_bytes node_id) (string_bytes cluster) }
     {
         let state = match kind {
-            ClientKind::Sotw => State::SotwDown(SotwClient::new(alloc, node_id)),
-            ClientKind::Delta => State::DeltaDown(DeltaClient::new(alloc, node_id)),
+            ClientKind::Sotw => State::SotwDown(SotwClient::new(alloc, node_id, cluster)),
+            ClientKind::Delta => State::DeltaDown(DeltaClient::new(alloc, node_id, cluster)),
         };
         AnyClient { state }
     }

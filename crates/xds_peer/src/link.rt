@@ -10,7 +10,8 @@ ghost use Rattle.xds_model.specs.Worlds.{under_way};
 ghost use Rattle.xds_model.specs.Seen.{happening_of};
 ghost use Rattle.xds_model.specs.Settling.{brings, takes_one, next_on};
 ghost use Rattle.xds_peer.specs.Calls.{Happened};
-ghost use Rattle.xds_peer.specs.Links.{first, behind, link_up};
+ghost use Rattle.xds_model.specs.Journal.{oldest};
+ghost use Rattle.xds_peer.specs.Links.{behind, link_up};
 ghost use Rattle.xds_peer.specs.Steps.{event_for, count};
 
 use crate::parts::is_there;
@@ -123,7 +124,7 @@ impl Link {
 
     /// A copy of the oldest request, if one is under way. Refused only by `OutOfMemory`.
     pub fn oldest_request(&self, alloc: Global) -> Result<Option<Request>, Refusal>
-        ensures ok { IfOk result (λ o. option_map message_of o ≡ first self.now.up) }
+        ensures ok { IfOk result (λ o. option_map message_of o ≡ oldest self.now.up) }
         ensures refused { IfErr result (λ e. e ≡ OutOfMemory) }
     {
         match self.up.front() {
@@ -152,7 +153,7 @@ impl Link {
 
     /// The oldest response, if one is under way.
     pub(crate) fn oldest_response(&self) -> Option<&Draft>
-        ensures { option_map (λ d. d.now) result ≡ first self.now.down }
+        ensures { option_map (λ d. d.now) result ≡ oldest self.now.down }
     {
         self.down.front()
     }

@@ -5,7 +5,7 @@ ghost use Rattle.xds_resource.specs.declared.refusal.Refusal.TheVariants.{OutOfM
 ghost use Rattle.xds_core.specs.Seen.{message_of};
 ghost use Rattle.xds_cache.specs.Clients.{view as view_of, fresh};
 ghost use Rattle.xds_model.specs.Seen.{wish_of};
-ghost use Rattle.xds_model.specs.Worlds.{sending};
+ghost use Rattle.xds_model.specs.Worlds.{with_request};
 ghost use Rattle.xds_peer.specs.Calls.{Happened};
 ghost use Rattle.xds_peer.specs.Peers.{peer_changed, peer_up, peer_polled, peer_down, peer_lost, peer_connected};
 ghost use Rattle.xds_peer.specs.Statuses.{status_of};
@@ -52,7 +52,7 @@ impl<A: Accept> Model for Peer<A> {
 
 // A request more is under way, if there is a request and a stream.
 fn send(link: &mut Option<Link>, request: Option<Request>) -> Result<(), Refusal>
-    ensures ok { OnOk result (link.new ≡ option_map (sending (option_map message_of request)) link.old) }
+    ensures ok { OnOk result (link.new ≡ option_map (with_request (option_map message_of request)) link.old) }
     ensures some { is_some link.new ≡ is_some link.old }
     ensures refused { IfErr result (λ e. e ≡ OutOfMemory) }
 {
@@ -63,12 +63,13 @@ fn send(link: &mut Option<Link>, request: Option<Request>) -> Result<(), Refusal
 }
 
 impl<A: Accept> Peer<A> {
-    /// A client that wants nothing and has no stream. `node_id` is what it says of itself.
-    pub fn new(alloc: Global, kind: ClientKind, node_id: String) -> Peer<A>
-        ensures { result ≡ record { kind = kind; client = fresh (string_bytes node_id); link = None } }
+    /// A client that wants nothing and has no stream. `node_id` and `cluster` are what it says of itself; the latter is empty where it
+    /// is of no cluster.
+    pub fn new(alloc: Global, kind: ClientKind, node_id: String, cluster: String) -> Peer<A>
+        ensures { result ≡ record { kind = kind; client = fresh (string_bytes node_id) (string_bytes cluster); link = None } }
     {
         Peer {
-            client: AnyClient::new(alloc, kind, node_id),
+            client: AnyClient::new(alloc, kind, node_id, cluster),
             link: None,
         }
     }
