@@ -1,20 +1,13 @@
 -- What a poll of either variant's session sends and leaves.
-use Rattle.std.proofs.Common.{◌≡◌, ℕ, List, [], true, Option, Some, None, refl, sym, ap, subst, ◌∙◌}
-use Rattle.std.specs.Prelude.{if◌then◌else◌, MatchOption, IsSome, ◌+◌}
-use Rattle.std.specs.FinMap as finmap
-use Rattle.std.proofs.lemmas.List.{nil_from_length}
+use Rattle.std.proofs.Common.{◌≡◌, ℕ, Bool, true, false, ◌&&◌, not, Option, Some, None, refl, sym, ap, subst, ◌∙◌}
+use Rattle.std.specs.Prelude.{if◌then◌else◌, is_some, is_none, MatchOption, ◌+◌}
 use Rattle.xds_resource.specs.declared.types.TypeName.{TypeName}
-use Rattle.xds_resource.specs.Writes.{text_cmp}
-use Rattle.xds_interest.specs.Interests.{Selection}
+use Rattle.xds_resource.proofs.NameMaps.{none_by_is_some}
 use Rattle.xds_catalogue.specs.Holdings.{Entries}
 use Rattle.xds_owed.specs.declared.variant.VariantName.{VariantName}
-use Rattle.xds_owed.specs.Offers.{Offer}
-use Rattle.xds_ledger.specs.Ledgers as ledgers
+use Rattle.xds_owed.specs.Offers.{Offer, offer}
+use Rattle.xds_ledger.specs.Ledgers.{is_due, is_refused}
 use Rattle.xds_ledger.specs.Sessions.{Session, sending, send, HasPolled}
-
--- a map with no name has no entries
-pub no_entries : [] ≡ finmap.entries (finmap.empty {X = List ℕ} {R = text_cmp})
-no_entries = sym (nil_from_length (finmap.entries finmap.empty) (sym (finmap.len-entries finmap.empty) ∙ finmap.len-empty text_cmp (List ℕ)))
 
 -- a poll that sends
 pub has_polled : {R : Type 0} (v : VariantName) (t : TypeName) (m : Entries) (respond : Offer → ℕ → R) (before : Session) (count : ℕ) (response : R) (after : Session) (count_after : ℕ) (o : Offer)
@@ -25,12 +18,22 @@ has_polled v t m respond before count response after count_after o sends made le
     (λ o. (Some response ≡ Some (respond o (count + 1))) × (after ≡ send before o (count + 1)) × (count_after ≡ count + 1)))
     (sym sends) (ap Some made, left, counted)
 
-pub is_some_sending : {X : Type 0} (o : Option X) (x : X) → o ≡ Some x → IsSome o
-is_some_sending o x is = subst IsSome (sym is) refl
+-- a poll that doesn't
+pub has_not_polled : {R : Type 0} (v : VariantName) (t : TypeName) (m : Entries) (respond : Offer → ℕ → R) (before : Session) (count : ℕ) → is_some (sending v t before m) ≡ false
+    → HasPolled v t m respond before count None before count
+has_not_polled {R} v t m respond before count none =
+    let answer : Option R = None in
+    subst (λ x. MatchOption x ((answer ≡ None) × (before ≡ before) × (count ≡ count))
+    (λ o. (answer ≡ Some (respond o (count + 1))) × (before ≡ send before o (count + 1)) × (count ≡ count + 1)))
+    (sym (none_by_is_some (sending v t before m) none)) (refl, refl, refl)
 
--- the offer that a session's ledger sends is the session's
-pub is_sending : (v : VariantName) (t : TypeName) (s before : Session) (m : Entries) (interest : Selection) (o : Option Offer) → before ≡ s → before.asked.begun ≡ true → interest ≡ before.asked.interest
-    → o ≡ ledgers.sending v t interest m before.account → o ≡ sending v t s m
-is_sending v t s before m interest o same begun covers is =
-    is ∙ ap (λ (i : Selection). ledgers.sending v t i m before.account) covers
-    ∙ sym (ap (λ b. if b then ledgers.sending v t before.asked.interest m before.account else None) begun) ∙ ap (λ (x : Session). sending v t x m) same
+sent_if : {X : Type 0} (o : X) (begun sends : Bool) → is_some (if begun then (if sends then Some o else None) else None) ≡ true → (if begun then (if sends then Some o else None) else None) ≡ Some o
+sent_if o true true some = refl
+sent_if o true false some = absurd cc
+sent_if o false sends some = absurd cc
+
+-- what a session sends, if it sends something, is the offer of its ledger
+pub sends_offer : (v : VariantName) (t : TypeName) (s : Session) (m : Entries) → is_some (sending v t s m) ≡ true → sending v t s m ≡ Some (offer v t s.asked.interest m s.account.beliefs)
+sends_offer v t s m some =
+    sent_if (offer v t s.asked.interest m s.account.beliefs) s.asked.begun
+    (is_none s.account.sent && is_due v t s.asked.interest m s.account && not (is_refused s.account (offer v t s.asked.interest m s.account.beliefs))) some

@@ -1,4 +1,4 @@
-use Rattle.std.proofs.Common.{map, string_bytes, sym, ap, ◌∙◌}
+use Rattle.std.proofs.Common.{ℕ, List, map, string_bytes, sym, ap, ◌∙◌}
 use Rattle.xds_resource.specs.Names.{put_all}
 use Rattle.std.specs.FinMap.{entries-from_sorted}
 use Rattle.xds_resource.specs.Writes.{text_cmp}
@@ -9,7 +9,7 @@ use Rattle.xds_beliefs.proofs.changes.changes_after.Goals as goal
 
 pub returns-clause-ok : goal.returns-clause-ok
 returns-clause-ok g c = λ before is name.
-    let pairs = map (λ p. (p.0.now, p.1.now)) c.args.versions.now in
+    let pairs : List (List ℕ × List ℕ) = map (λ p. (p.0.now, p.1.now)) c.args.versions.now in
     let s = c.args.interest.now in
     let t = c.args.touched.now in
     let b = c.args.beliefs.now in

@@ -1,6 +1,8 @@
-use Rattle.std.proofs.Common.{◌≡◌, map, string_bytes, sym, subst}
+use Rattle.std.proofs.Common.{◌≡◌, ℕ, List, map, string_bytes, sym, subst}
 use Rattle.std.specs.Prelude.{IfSome}
+use Rattle.std.specs.FinMap as finmap
 use Rattle.std.specs.FinSet as set
+use Rattle.xds_resource.specs.Writes.{text_cmp}
 use Rattle.xds_ledger.specs.Ledgers.{Account, versions_of, answered, touch, resume}
 use Rattle.xds_beliefs.specs.Changes.{changes_answered}
 use Rattle.xds_ledger.proofs.InPlace.{answer_in_place}
@@ -8,7 +10,7 @@ use Rattle.xds_ledger.proofs.ledger.Ledger.take_answer_in_place.Goals as goal
 
 pub returns-clause-ok : goal.returns-clause-ok
 returns-clause-ok g c =
-    let held = versions_of (map (λ p. (p.0.now, p.1.now)) c.args.versions.now) in
+    let held : finmap.FinMap text_cmp (List ℕ) = versions_of (map (λ p. (p.0.now, p.1.now)) c.args.versions.now) in
     let v = g.V.Variant.NAME in
     let t = g.T.ResourceType.TYPE in
     let s = c.args.interest.now in

@@ -1,12 +1,14 @@
-use Rattle.std.proofs.Common.{map, string_bytes, sym, ap, ◌∙◌}
+use Rattle.std.proofs.Common.{ℕ, List, map, string_bytes, sym, ap, ◌∙◌}
+use Rattle.std.specs.FinMap as finmap
 use Rattle.std.specs.FinSet as set
+use Rattle.xds_resource.specs.Writes.{text_cmp}
 use Rattle.xds_ledger.specs.Ledgers.{Account, versions_of, noted}
 use Rattle.xds_ledger.proofs.InPlace.{names_in_place}
 use Rattle.xds_ledger.proofs.ledger.Ledger.take_names_in_place.Goals as goal
 
 pub returns-clause-ok : goal.returns-clause-ok
 returns-clause-ok g c =
-    let held = versions_of (map (λ p. (p.0.now, p.1.now)) c.args.versions.now) in
+    let held : finmap.FinMap text_cmp (List ℕ) = versions_of (map (λ p. (p.0.now, p.1.now)) c.args.versions.now) in
     let a = c.self.inside in
     let b = c.self-2.inside in
     let before : Account = record { beliefs = a.beliefs; nonce = a.nonce; accepted = a.accepted; sent = a.sent; refused = a.refused } in
