@@ -121,7 +121,7 @@ module _ (all : List TypedWrite) (t : TypeName) (m : Entries) (s : Selection) (o
       ∙ (λ i. option_or (cond (has_text-keys m q i) (told_of q) None) (finmap.get-empty text_cmp q i))
 
   -- a write that is offered
-  says_stated : (q version : List ℕ) (stated : Option Holding) (x : Option StampedWrite) → finmap.get m q ≡ x → stated ≡ option_or (cond (is_some x) (option_and_then (λ w. held_of (picks w) w.body) x) None) None 
+  says_stated : (q version : List ℕ) (stated : Option Holding) (x : Option StampedWrite) → finmap.get m q ≡ x → stated ≡ option_or (cond (is_some x) (option_and_then (λ w. held_of (picks w) w.body) x) None) None
       → option_and_then (version_shown s q) x ≡ Some version → is_some (finmap.get o q) ≡ true → IsHeld all t q version stated
   says_stated q version stated None found states is offered = absurd cc
   says_stated q version stated (Some w) found states is offered = by_body w.body refl

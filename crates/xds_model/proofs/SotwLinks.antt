@@ -269,7 +269,7 @@ none_brought all c l x d rest down none linked =
     let lane = linked.lanes t in
     let quiet = ap (λ (s : Session). s.account.sent) (undecided_session StateOfTheWorld c.cluster x t linked.variant none) in
     let nothing = nothing_sent all t (folded t (at x.sessions t) (lane_up t l.up)).account.nonce (folded t (at x.sessions t) (lane_up t l.up)).account.sent (shelf c t).wants (shelf c t).nonce lane.down
-        (quiet_folded t (at x.sessions t) (lane_up t l.up) lane.taken quiet) lane.abreast.awaits in
+    (quiet_folded t (at x.sessions t) (lane_up t l.up) lane.taken quiet) lane.abreast.awaits in
     not_empty d (lane_down t rest) (lane_down t l.down) (own_first d rest l.down down) (lane.downs_are ∙ ap listed_draft nothing.0)
 
 never_draft : (d : Drafted) → ◌≡◌ {A = Option Drafted} None (Some d) → ⊥

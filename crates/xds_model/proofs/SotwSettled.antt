@@ -91,7 +91,7 @@ module _ (cluster : List ℕ) (all : List TypedWrite) (t : TypeName) (s : Sessio
   live_shown w x found covered body =
       let here : present s.asked.interest m name ≡ Some (version_of w) = present_of s.asked.interest m name w true (Some x) found covered body in
       let told = told_where_present (row t).is_complete (is_told StateOfTheWorld t) (finmap.get s.account.beliefs name) (version_of w) (λ u. refl)
-          (ap (λ p. option_map_or (is_told StateOfTheWorld t) (owed (finmap.get s.account.beliefs name) p) false) (sym here) ∙ is.owes_none name) in
+      (ap (λ p. option_map_or (is_told StateOfTheWorld t) (owed (finmap.get s.account.beliefs name) p) false) (sym here) ∙ is.owes_none name) in
       held_is all t name w (finmap.get f.cache name) is.unique is.stamped (is.known name w found).made (is.lane.told name (version_of w) told) ∙ body
 
   -- a name that isn't present, of a complete type
