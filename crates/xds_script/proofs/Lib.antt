@@ -4,3 +4,4 @@ pub mod Wording
 pub mod Named
 pub mod Wishing
 pub mod Scripting
+pub mod Behind

@@ -1,7 +1,7 @@
 -- How far a script was read: what its lines so far say, and that none of them is bad.
 use Rattle.std.proofs.Common.{◌≡◌, ◌≢◌, ◌<◌, ◌≤◌, ◌+◌, ◌-◌, ℕ, List, [], ◌∷◌, ◌++◌, length, take, Bool, true, false, cond, Option, Some, None, Ok, Err, inl, inr, refl, ap, sym, ◌∙◌, arith, append_assoc, append-nil, length-append, length-take}
 use Rattle.std.specs.Prelude.{slice_index, ◌==◌, is_none, unwrap_or}
-use Rattle.std.specs.Option.{ok_or, option_to_list}
+use Rattle.std.specs.Option.{ok_or, option_map, option_to_list}
 use Rattle.std.specs.List.{flat_map, position_from}
 use Rattle.std.specs.Str.{IsUtf8, is_utf8}
 use Rattle.std.proofs.lemmas.Str.{is_utf8-from_IsUtf8, IsUtf8-from_is_utf8}
@@ -10,8 +10,9 @@ use Rattle.xds_resource.specs.declared.refusal.Refusal.{Refusal}
 use Rattle.xds_resource.specs.declared.refusal.Refusal.TheVariants.{OutOfMemory, BadScript}
 use Rattle.xds_resource.proofs.Refusing.{memory_or_not}
 use Rattle.xds_script.specs.Lines.{feed, lines, pieces, without_last_feed}
-use Rattle.xds_script.specs.Commands.{Said}
-use Rattle.xds_script.specs.Scripts.{text_says, line_says, is_bad, said_in, first_bad, IsScript, IsRefusedAt}
+use Rattle.xds_script.specs.Words.{words}
+use Rattle.xds_script.specs.Commands.{Said, says_words}
+use Rattle.xds_script.specs.Scripts.{is_skipped, text_says, line_says, is_bad, said_in, first_bad, IsScript, IsRefusedAt}
 
 pub record IsReadTo (script rest : List ℕ) (line : ℕ) (said : List Said) : Type 0 where
   pub before : List (List ℕ)
@@ -91,15 +92,19 @@ read_bad script rest bytes after line said e r split why =
 
 -- ---- one line
 
-pub line_says-utf8 : (line text : List ℕ) → (text ≡ line) × IsUtf8 line → text_says text ≡ line_says line
-line_says-utf8 line text is = ap text_says is.0 ∙ ap (λ b. cond b (text_says line) None) (sym (is_utf8-from_IsUtf8 line is.1))
+-- a line that isn't skipped says what its text says
+pub line_says-kept : (line : List ℕ) → is_skipped line ≡ false → line_says line ≡ option_map Some (text_says line)
+line_says-kept line kept = ap (λ b. cond b (Some None) (option_map Some (text_says line))) kept
 
-no_text : (b : Bool) (o : Option (Option Said)) → (b ≡ true → ⊥) → cond b o None ≡ None
+pub text_says-utf8 : (line text : List ℕ) → (text ≡ line) × IsUtf8 line → says_words (words text) ≡ text_says line
+text_says-utf8 line text is = ap (λ t. says_words (words t)) is.0 ∙ ap (λ b. cond b (says_words (words line)) None) (sym (is_utf8-from_IsUtf8 line is.1))
+
+no_text : (b : Bool) (o : Option Said) → (b ≡ true → ⊥) → cond b o None ≡ None
 no_text true o refuted = absurd (refuted refl)
 no_text false o refuted = refl
 
-pub line_says-other : (line : List ℕ) → ¬ (IsUtf8 line) → line_says line ≡ None
-line_says-other line other = no_text (is_utf8 line) (text_says line) (λ is. other (IsUtf8-from_is_utf8 line is))
+pub text_says-other : (line : List ℕ) → ¬ (IsUtf8 line) → text_says line ≡ None
+text_says-other line other = no_text (is_utf8 line) (says_words (words line)) (λ is. other (IsUtf8-from_is_utf8 line is))
 
 bad_if : (o : Option (Option Said)) (e : Refusal) → ok_or o BadScript ≡ Err e → (e ≡ BadScript) × (is_none o ≡ true)
 bad_if None e h = (cc, refl)
