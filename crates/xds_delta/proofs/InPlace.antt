@@ -6,10 +6,10 @@ use Rattle.std.specs.FinSet as set
 use Rattle.xds_resource.specs.declared.types.TypeName.{TypeName}
 use Rattle.xds_resource.specs.Writes.{text_cmp}
 use Rattle.xds_resource.specs.Names.{tabulate}
-use Rattle.xds_interest.specs.Interests.{Selection, covers}
+use Rattle.xds_interest.specs.Interests.{Selection, reaches}
 use Rattle.xds_interest.specs.Asked.{delta_asked, wanted_by}
 use Rattle.xds_interest.specs.Touches.{Touch, touches, delta_touch}
-use Rattle.xds_interest.proofs.AskedLaws.{wanted_by-covers}
+use Rattle.xds_interest.proofs.AskedLaws.{wanted_by-reaches}
 use Rattle.xds_message.specs.DeltaMessages.{DeltaRequest}
 use Rattle.xds_owed.specs.declared.entry.Entry.{Entry}
 use Rattle.xds_owed.specs.declared.variant.VariantName.TheVariants.{Delta}
@@ -18,19 +18,19 @@ use Rattle.xds_ledger.specs.Sessions.{Session}
 use Rattle.xds_delta.specs.Parts.{account_after, session_taken}
 use Rattle.xds_delta.specs.Polls.{mention}
 
--- interests that cover the same of the names that a request touches
-abbrev CoverAlike : Touch → Selection → Selection → Type 0
-CoverAlike touched s n = (name : List ℕ) → touches touched name ≡ true → covers s name ≡ covers n name
+-- interests that reach the same of the names that a request touches
+abbrev ReachAlike : Touch → Selection → Selection → Type 0
+ReachAlike touched s n = (name : List ℕ) → touches touched name ≡ true → reaches s name ≡ reaches n name
 
-believed_alike : (touched covered too mentioned : Bool) (before : Option Entry) → (touched ≡ true → covered ≡ too)
-    → (if touched then believed_touched covered mentioned before else before) ≡ (if touched then believed_touched too mentioned before else before)
-believed_alike true covered too mentioned before same = ap (λ b. believed_touched b mentioned before) (same refl)
-believed_alike false covered too mentioned before same = refl
+believed_alike : (touched reached too mentioned : Bool) (before : Option Entry) → (touched ≡ true → reached ≡ too)
+    → (if touched then believed_touched reached mentioned before else before) ≡ (if touched then believed_touched too mentioned before else before)
+believed_alike true reached too mentioned before same = ap (λ b. believed_touched b mentioned before) (same refl)
+believed_alike false reached too mentioned before same = refl
 
-touch_alike : (a : Account) (s n : Selection) (touched : Touch) (mentioned : set.FinSet text_cmp) → CoverAlike touched s n → touch a s touched mentioned ≡ touch a n touched mentioned
+touch_alike : (a : Account) (s n : Selection) (touched : Touch) (mentioned : set.FinSet text_cmp) → ReachAlike touched s n → touch a s touched mentioned ≡ touch a n touched mentioned
 touch_alike a s n touched mentioned alike = (λ i. record (noted a touched) {
   beliefs = tabulate
-      (λ name. believed_alike (touches touched name) (covers s name) (covers n name) (set.contains mentioned name) (finmap.get a.beliefs name) (alike name) i)
+      (λ name. believed_alike (touches touched name) (reaches s name) (reaches n name) (set.contains mentioned name) (finmap.get a.beliefs name) (alike name) i)
       (set.items mentioned ++ finmap.keys a.beliefs);
 })
 
@@ -46,8 +46,8 @@ taken_in_place t s now m touched wanted later is some here asked account =
     let whole = (delta_asked t s.asked (mention m)).interest in
     let d = delta_touch t (mention m) in
     let a = settled Delta t s.account m.response_nonce (is_some m.error_detail) in
-    let alike : CoverAlike d (wanted_by t s.asked (mention m)) whole =
-    λ name hit. wanted_by-covers t s.asked (mention m) name (some_touched t m name (ap (λ x. x.all) (sym is) ∙ some) hit) in
+    let alike : ReachAlike d (wanted_by t s.asked (mention m)) whole =
+    λ name hit. wanted_by-reaches t s.asked (mention m) name (some_touched t m name (ap (λ x. x.all) (sym is) ∙ some) hit) in
     let told : now.account ≡ account_after t s.account m whole d d.names finmap.empty =
     account ∙ (λ i. account_after t s.account m (here i) (is i) (is i).names finmap.empty) ∙ ap (λ x. resume x finmap.empty) (touch_alike a (wanted_by t s.asked (mention m)) whole d d.names alike) in
     (λ i. record {

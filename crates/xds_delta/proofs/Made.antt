@@ -17,7 +17,7 @@ use Rattle.xds_owed.specs.declared.entry.Due.TheVariants.{Stated, Removed}
 use Rattle.xds_owed.specs.declared.variant.VariantName.TheVariants.{Delta}
 use Rattle.xds_owed.specs.Offers.{Offer}
 use Rattle.xds_ledger.specs.Ledgers.{Account, settled, touch, resume}
-use Rattle.xds_ledger.specs.Texts.{held_version}
+use Rattle.xds_ledger.specs.Texts.{replica_version}
 use Rattle.xds_delta.specs.Parts.{account_after, said_all}
 use Rattle.xds_delta.specs.Polls.{is_statement, is_removal, resource_of, resource_at, response}
 
@@ -59,7 +59,7 @@ said_together m (e ∷ es) d = entry_step m d e.0 e.1 es (said_together m es)
 
 pub response_made : (replica : ℕ) (t : TypeName) (h : Holdings) (o : Offer) (number : ℕ) (kind : TypeName) (version nonce : List ℕ) (start draft : DraftedDelta)
     → draft ≡ said_all h.entries start (finmap.entries o) → start ≡ record { kind = kind; system_version_info = version; nonce = nonce; resources = []; removed_resources = [] }
-    → kind ≡ t → version ≡ held_version replica h.changes → nonce ≡ decimal number → draft ≡ response replica t h o number
+    → kind ≡ t → version ≡ replica_version replica h.changes → nonce ≡ decimal number → draft ≡ response replica t h o number
 response_made replica t h o number kind version nonce start draft made begun typed versioned numbered =
     made ∙ said_together h.entries (finmap.entries o) start ∙ ap (λ d. with_more d (stated_in h.entries (finmap.entries o)) (removed_in (finmap.entries o))) begun
     ∙ (λ i. record { kind = typed i; system_version_info = versioned i; nonce = numbered i; resources = stated_in h.entries (finmap.entries o); removed_resources = removed_in (finmap.entries o) })
@@ -69,3 +69,9 @@ pub taken_later : (t : TypeName) (a : Account) (m : DeltaRequest) (s : Selection
     → nonce ≡ m.response_nonce → rejects ≡ is_some m.error_detail → mentioned ≡ touched.names
     → resume (touch (settled Delta t a nonce rejects) s touched mentioned) finmap.empty ≡ account_after t a m s touched touched.names finmap.empty
 taken_later t a m s touched mentioned nonce rejects named told says = λ i. resume (touch (settled Delta t a (named i) (told i)) s touched (says i)) finmap.empty
+
+-- a first request that is taken
+pub taken_first : (t : TypeName) (a : Account) (m : DeltaRequest) (s : Selection) (touched : Touch) (mentioned : set.FinSet text_cmp) (nonce : List ℕ) (rejects : Bool) (held : finmap.FinMap text_cmp (List ℕ))
+    → nonce ≡ m.response_nonce → rejects ≡ is_some m.error_detail → mentioned ≡ s.names → held ≡ m.initial_resource_versions
+    → resume (touch (settled Delta t a nonce rejects) s touched mentioned) held ≡ account_after t a m s touched s.names m.initial_resource_versions
+taken_first t a m s touched mentioned nonce rejects held named told says holds = λ i. resume (touch (settled Delta t a (named i) (told i)) s touched (says i)) (holds i)

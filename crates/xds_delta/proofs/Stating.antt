@@ -16,7 +16,7 @@ use Rattle.xds_owed.specs.declared.entry.Entry.TheVariants.{Told, Unsure}
 use Rattle.xds_owed.specs.declared.entry.Due.{Due}
 use Rattle.xds_owed.specs.declared.entry.Due.TheVariants.{Stated, Removed}
 use Rattle.xds_owed.specs.Variants.{is_told}
-use Rattle.xds_owed.specs.Owed.{Beliefs, live_version, present, owed, owed_of}
+use Rattle.xds_owed.specs.Owed.{Beliefs, live_version, version_shown, present, owed, owed_of}
 use Rattle.xds_owed.specs.Offers.{Offer, offer, stated_version}
 use Rattle.xds_owed.proofs.ByName.{offer_says_it}
 use Rattle.xds_delta.specs.Laws.{ResponseStatesTheOffer}
@@ -53,16 +53,18 @@ live_resource : (name q u version : List ℕ) (body : Option (List ℕ)) → nam
 live_resource name q u version None same is = absurd cc
 live_resource name q u version (Some b) same is = λ i. option_map (λ v. (same i, v)) (is i)
 
-present_resource : (q version : List ℕ) (covered : Bool) (o : Option StampedWrite) → IfSome o (λ w. w.name ≡ q) → (if covered then option_and_then live_version o else None) ≡ Some version
-    → option_map named (option_and_then resource_of o) ≡ Some (q, version)
-present_resource q version false o same is = absurd cc
-present_resource q version true None same is = absurd cc
-present_resource q version true (Some w) same is = live_resource w.name q (version_of w) version w.body same is
+shown_resource : (q version : List ℕ) (covered : Bool) (w : StampedWrite) → w.name ≡ q → (if covered then live_version w else None) ≡ Some version → option_map named (resource_of w) ≡ Some (q, version)
+shown_resource q version false w same is = absurd cc
+shown_resource q version true w same is = live_resource w.name q (version_of w) version w.body same is
+
+present_resource : (s : Selection) (q version : List ℕ) (o : Option StampedWrite) → IfSome o (λ w. w.name ≡ q) → option_and_then (version_shown s q) o ≡ Some version → option_map named (option_and_then resource_of o) ≡ Some (q, version)
+present_resource s q version None same is = absurd cc
+present_resource s q version (Some w) same is = shown_resource q version (covers s q w.groups) w same is
 
 stated_resource : (t : TypeName) (s : Selection) (m : Entries) (b : Beliefs) → IsCatalogue m → (q version : List ℕ) → finmap.get (offer Delta t s m b) q ≡ Some (Stated version)
     → option_map named (resource_at m q) ≡ Some (q, version)
 stated_resource t s m b catalogue q version is =
-    present_resource q version (covers s q) (finmap.get m q) (catalogue q)
+    present_resource s q version (finmap.get m q) (catalogue q)
     (present_if_stated (finmap.get b q) (present s m q) version
     (kept_at (option_map_or (is_told Delta t) (owed_of s m b q) false) (owed_of s m b q) version (sym (offer_says_it Delta t s m b q) ∙ is)))
 

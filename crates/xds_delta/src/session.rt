@@ -5,7 +5,7 @@ ghost use Rattle.xds_resource.specs.Stamps.{max_counter};
 ghost use Rattle.xds_resource.specs.declared.refusal.Refusal.TheVariants.{OutOfMemory, NonceSpent};
 ghost use Rattle.xds_interest.specs.Touches.{delta_touch};
 ghost use Rattle.xds_owed.specs.Offers.{offer};
-ghost use Rattle.xds_owed.specs.declared.variant.VariantName.TheVariants.{Delta};
+ghost use Rattle.xds_owed.specs.declared.variant.VariantName.TheVariants as variants;
 ghost use Rattle.xds_ledger.specs.Sessions.{unopened, is_taken, outcome};
 ghost use Rattle.xds_delta.specs.Parts.{account_after, account_taken, session_taken};
 ghost use Rattle.xds_delta.specs.Polls as polls;
@@ -226,7 +226,7 @@ impl<T: ResourceType> Session<T> {
         catalogue: &Catalogue<T>,
         number: u64,
     ) -> Result<(NameMap<Due>, DeltaDraft), Refusal>
-        ensures offer { IfOk result (λ p. p.0 ≡ offer Delta T.TYPE self.now.asked.interest catalogue.now.entries self.now.account.beliefs) }
+        ensures offer { IfOk result (λ p. p.0 ≡ offer variants.Delta T.TYPE self.now.asked.interest catalogue.now.entries self.now.account.beliefs) }
         ensures draft { IfOk result (λ p. p.1 ≡ response_of replica T.TYPE catalogue.now p.0 number) }
         ensures refused { IfErr result (λ e. e ≡ OutOfMemory) }
     {

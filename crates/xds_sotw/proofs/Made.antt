@@ -14,9 +14,10 @@ use Rattle.xds_owed.specs.Offers.{Offer}
 use Rattle.xds_ledger.specs.Ledgers.{Account, settled, touch, resume}
 use Rattle.xds_ledger.specs.Sessions.{Session, is_taken}
 use Rattle.xds_interest.specs.Interests.{Selection}
+use Rattle.xds_ledger.specs.Texts.{interest_version}
 use Rattle.xds_catalogue.specs.Holdings.{Holdings}
 use Rattle.xds_catalogue.specs.Content.{content}
-use Rattle.xds_sotw.specs.Polls.{take_list, version_info, response}
+use Rattle.xds_sotw.specs.Polls.{take_list, response}
 use Rattle.xds_sotw.specs.Parts.{pushed_all}
 
 -- the response with more bodies
@@ -71,7 +72,7 @@ list_ignored t s nonce rejects names no_longer =
 
 pub response_made : (replica : ℕ) (t : TypeName) (h : Holdings) (s : Selection) (o : Offer) (number : ℕ) (kind : TypeName) (version nonce : List ℕ) (start draft : Drafted) (ws : List StampedWrite)
     → draft ≡ pushed_all o start ws → start ≡ record { kind = kind; version_info = version; nonce = nonce; bodies = [] } → ws ≡ content h.entries s → kind ≡ t
-    → version ≡ version_info replica h.changes s.star → nonce ≡ decimal number → draft ≡ response replica t h s o number
+    → version ≡ interest_version replica h.changes s → nonce ≡ decimal number → draft ≡ response replica t h s o number
 response_made replica t h s o number kind version nonce start draft ws made begun shown typed versioned numbered =
     made ∙ (λ i. pushed_all o (begun i) (shown i)) ∙ pushed_together o (content h.entries s) (record { kind = kind; version_info = version; nonce = nonce; bodies = [] })
     ∙ (λ i. record { kind = typed i; version_info = versioned i; nonce = numbered i; bodies = filter_map body_of (filter (offered o) (content h.entries s)) })

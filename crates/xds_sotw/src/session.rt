@@ -3,7 +3,7 @@ ghost use Rattle.std.specs.Prelude.{◌≡◌, ◌<◌, ◌≤◌, ◌⊎◌, ma
 ghost use Rattle.xds_resource.specs.Stamps.{max_counter};
 ghost use Rattle.xds_resource.specs.declared.refusal.Refusal.TheVariants.{OutOfMemory, NonceSpent};
 ghost use Rattle.xds_owed.specs.Offers.{offer};
-ghost use Rattle.xds_owed.specs.declared.variant.VariantName.TheVariants.{StateOfTheWorld};
+ghost use Rattle.xds_owed.specs.declared.variant.VariantName.TheVariants as variants;
 ghost use Rattle.xds_ledger.specs.Sessions.{unopened, is_taken, outcome};
 ghost use Rattle.xds_sotw.specs.Polls as polls;
 ghost use Rattle.xds_sotw.specs.Polls.{HasPolled, sending, response as response_of};
@@ -119,7 +119,7 @@ impl<T: ResourceType> Session<T> {
         catalogue: &Catalogue<T>,
         number: u64,
     ) -> Result<(NameMap<Due>, SotwDraft), Refusal>
-        ensures offer { IfOk result (λ p. p.0 ≡ offer StateOfTheWorld T.TYPE self.now.asked.interest catalogue.now.entries self.now.account.beliefs) }
+        ensures offer { IfOk result (λ p. p.0 ≡ offer variants.StateOfTheWorld T.TYPE self.now.asked.interest catalogue.now.entries self.now.account.beliefs) }
         ensures draft { IfOk result (λ p. p.1 ≡ response_of replica T.TYPE catalogue.now self.now.asked.interest p.0 number) }
         ensures refused { IfErr result (λ e. e ≡ OutOfMemory) }
     {

@@ -1,6 +1,6 @@
 use Rattle.std.proofs.Common.{map, string_bytes, Bor, ap, ◌∙◌}
 use Rattle.xds_resource.specs.Writes.{StampedWrite}
-use Rattle.xds_sotw.specs.Polls.{version_info}
+use Rattle.xds_ledger.specs.Texts.{interest_version}
 use Rattle.xds_sotw.proofs.Made.{response_made}
 use Rattle.xds_sotw.proofs.response.response.Goals as goal
 
@@ -13,4 +13,4 @@ returns-clause-ok g c =
     let s = c.args.interest.now in
     response_made c.args.replica g.T.ResourceType.TYPE h s c.args.offer.now c.args.number c.TYPE.result (string_bytes c.in_ok-version.version) (string_bytes c.in_ok-nonce.nonce) c.new.result
     c.in_ok-draft.draft (map seen c.deref.result.now) c.in_ok-draft.ensures.ok c.new.ensures (ap (map seen) c.deref.ensures.value ∙ c.in_ok-shown.ensures.ok) c.TYPE.ensures
-    (c.in_ok-version.ensures.text ∙ (λ i. version_info c.args.replica (c.changes.ensures i) (c.has_star.ensures i))) c.in_ok-nonce.ensures.text
+    (c.in_ok-version.ensures.text ∙ ap (λ n. interest_version c.args.replica n s) c.changes.ensures) c.in_ok-nonce.ensures.text

@@ -1,7 +1,8 @@
 use Rattle.std.proofs.Common.{◌≡◌, map, sym, ap, ◌∙◌}
 use Rattle.std.specs.String.{string_bytes}
 use Rattle.std.specs.FinMap as finmap
-use Rattle.xds_interest.specs.Asked.{delta_asked, wanted_by, widened}
+use Rattle.xds_interest.specs.Asked.{delta_asked, wanted_by, widened, without_names, narrowed}
+use Rattle.xds_interest.proofs.Adding.{narrowing_is_the_rest, widening_is_undone}
 use Rattle.xds_delta.specs.Parts.{account_after}
 use Rattle.xds_delta.specs.Polls.{mention}
 use Rattle.xds_delta.proofs.InPlace.{taken_in_place}
@@ -17,8 +18,15 @@ returns-clause-ok g c =
     let here : c.in_ok-wanted.wanted ≡ wanted_by t c.args.self.now.asked m =
     c.in_ok-wanted.ensures.ok ∙ (λ i. wanted_by t (c.self.view_is i).asked (record { subscribe = subscribed i; unsubscribe = unsubscribed i })) in
     let wide : c.widen.new.self ≡ widened c.args.self.now.asked c.in_ok-wanted.wanted.names = c.in_ok-added.ensures.ok ∙ (λ i. widened (c.self.view_is i).asked c.in_ok-wanted.wanted.names) in
-    let asked : c.narrow.new.self ≡ delta_asked t c.args.self.now.asked m = c.narrow.ensures c.args.self.now.asked m here (sym out) wide in
+    let asked : c.narrow.new.self ≡ delta_asked t c.args.self.now.asked m = c.narrow.ensures ∙ (λ i. narrowed (wide i) c.in_ok-wanted.wanted (out i)) ∙ (λ i. narrowed (widened c.args.self.now.asked (here i).names) (here i) m.unsubscribe) ∙ narrowing_is_the_rest t c.args.self.now.asked m in
     let account : c.take_later.new.ledger ≡ account_after t c.args.self.now.account c.args.request.now c.in_ok-wanted.wanted c.args.touched c.args.touched.names finmap.empty =
     c.in_default.ensures.ok ∙ (λ i. account_after t (c.self.view_is i).account c.args.request.now c.in_ok-wanted.wanted c.args.touched c.args.touched.names finmap.empty) in
     taken_in_place t c.args.self.now (record { asked = c.narrow.new.self; account = c.take_later.new.ledger }) c.args.request.now c.args.touched c.in_ok-wanted.wanted c.requires.later c.requires.touches
     c.requires.some here asked account
+
+pub returns-in-Err-clause-err : goal.returns-in-Err-clause-err
+returns-in-Err-clause-err g c =
+    (λ i. record {
+      asked = (c.take_back.ensures ∙ (λ j. without_names (c.in_ok-added.ensures.ok j) (c.in_ok-added.ensures.added j)) ∙ widening_is_undone c.self.inside.names c.in_ok-wanted.wanted.names) i;
+      account = c.in-Err.ensures.err i;
+    }) ∙ c.self.view_is

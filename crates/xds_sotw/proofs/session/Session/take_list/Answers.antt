@@ -1,10 +1,9 @@
 use Rattle.std.proofs.Common.{◌≡◌, true, map, string_bytes, ap, ◌∙◌, rules}
-use Rattle.std.specs.FinMap as finmap
 use Rattle.std.specs.FinSet as set
 use Rattle.xds_interest.specs.Interests.{Selection}
 use Rattle.xds_interest.specs.Touches.{sotw_touch}
 use Rattle.xds_ledger.specs.Sessions.{Session, is_taken}
-use Rattle.xds_ledger.proofs.Polling.{no_entries}
+use Rattle.xds_ledger.proofs.Versions.{resumed_from_none}
 use Rattle.xds_sotw.proofs.Made.{list_taken_by}
 use Rattle.xds_sotw.proofs.session.Session.take_list.Goals as goal
 
@@ -17,4 +16,4 @@ returns-clause-ok g c =
     c.in_ok-touched.ensures.ok ∙ ap (λ (i : Selection). sotw_touch i c.interest-interest.result.now) c.interest.ensures in
     list_taken_by g.T.ResourceType.TYPE s before c.args.nonce.now c.args.rejects (map string_bytes c.args.list.now) c.in_ok-names.names c.take.new.self c.interest-interest.result.now
     c.in_ok-touched.touched (set.from_list (map string_bytes c.names-mentioned.result)) c.self.view_is held c.in_ok-names.ensures.ok c.interest-interest.ensures touches c.names-mentioned.ensures.names
-    (c.in_ok-take.ensures.ok finmap.empty no_entries)
+    (c.in_ok-take.ensures.ok ∙ resumed_from_none _)
