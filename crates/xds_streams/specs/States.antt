@@ -6,7 +6,7 @@ use Rattle.xds_streams.specs.declared.session.Side.{Side}
 use Rattle.xds_streams.specs.declared.session.Side.TheVariants as sides
 use Rattle.xds_streams.specs.Talks.{Spoken}
 
-abbrev pub spoken_of : Side → Spoken
+abbrev pub spoken_of : {T : Type 0} → Side T → Spoken
 spoken_of (sides.Sotw session) = record { variant = variants.StateOfTheWorld; session = session }
 spoken_of (sides.Delta session) = record { variant = variants.Delta; session = session }
 

@@ -95,12 +95,7 @@ impl Talk {
     }
 
     // Takes a request of a type.
-    fn take(
-        &mut self,
-        alloc: Global,
-        kind: TypeName,
-        request: &Request,
-    ) -> Result<Outcome, Refusal>
+    fn take(&mut self, alloc: Global, kind: TypeName, request: &Request) -> Result<Outcome, Refusal>
         requires { variant_of (message_of request.now) ≡ self.old.variant }
         ensures ok { OnOk result (self.new ≡ with_session self.old kind (session_after kind (at self.old.sessions kind) (message_of request.now))) }
         ensures taken { IfOk result (λ o. o ≡ outcome (at self.old.sessions kind) (nonce_of (message_of request.now))) }
