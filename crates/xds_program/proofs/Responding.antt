@@ -1,5 +1,5 @@
 -- The response to a request, from the type that it names and what is held of each type.
-use Rattle.std.proofs.Common.{◌≡◌, ℕ, Option, Some, None, refl, ap, sym, ◌∙◌}
+use Rattle.std.proofs.Common.{◌≡◌, ℕ, Option, Some, None, refl, ap, sym, subst, ◌∙◌}
 use Rattle.std.specs.Prelude.{IfOk, Result}
 use Rattle.std.specs.Option.{option_and_then, option_map}
 use Rattle.std.proofs.lemmas.Result.{IfOk-weaker}
@@ -31,3 +31,10 @@ pub given_to : (replica : ℕ) (p : PerType Holdings) (m : Request) (t : TypeNam
 given_to replica p m t r named =
     IfOk-weaker r (λ o. option_map message_of o ≡ response_to replica t (at p t) m) (λ o. option_map message_of o ≡ response_by replica (at p) m)
     (λ o given. given ∙ sym (response_by-typed replica (at p) m t named))
+
+-- the response of the catalogue of a type is that of the catalogues, one of each type
+pub given_at : (t kind : TypeName) (p q : PerType Holdings) (replica : ℕ) (m : Request) (r : Result (Option Drafted) Refusal) → q ≡ p → kind ≡ t
+    → IfOk r (λ o. option_map message_of o ≡ response_to replica t (at q t) m) → IfOk r (λ o. option_map message_of o ≡ response_to replica kind (at p kind) m)
+given_at t kind p q replica m r same is given =
+    subst (λ k. IfOk r (λ o. option_map message_of o ≡ response_to replica k (at p k) m)) (sym is)
+    (subst (λ (x : PerType Holdings). IfOk r (λ o. option_map message_of o ≡ response_to replica t (at x t) m)) same given)
