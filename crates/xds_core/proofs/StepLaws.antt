@@ -1,5 +1,5 @@
 -- Proofs of the laws of steps and of lists of records.
-use Rattle.std.proofs.Common.{◌≡◌, ◌≢◌, inl, inr, ℕ, ◌+◌, ◌≤◌, List, [], ◌∷◌, ◌++◌, Bool, true, false, Option, Some, None, Result, Ok, Err, refl, sym, ap, subst, ◌∙◌, arith}
+use Rattle.std.proofs.Common.{◌≡◌, ◌≢◌, ◌⊎◌, inl, inr, ℕ, ◌+◌, ◌≤◌, List, [], ◌∷◌, ◌++◌, Bool, true, false, Option, Some, None, Result, Ok, Err, refl, sym, ap, subst, ◌∙◌, arith}
 use Rattle.std.specs.Prelude.{◌==◌, if◌then◌else◌, not}
 use Rattle.std.proofs.lemmas.List.Elements.{Contains-append_left}
 use Rattle.std.specs.Option.{option_map_or}
@@ -8,12 +8,14 @@ use Rattle.std.specs.Cmp.{nat_cmp_total}
 use Rattle.std.specs.FinMap as finmap
 use Rattle.std.specs.FinMap.{FinMap, nat_cmp-IsAntisymmetric}
 use Rattle.xds_resource.specs.declared.types.TypeName.{TypeName}
-use Rattle.xds_resource.specs.declared.types.TypeName.TheVariants.{Cluster, Endpoint, Listener, Route}
+use Rattle.xds_resource.specs.declared.types.TypeName.TheVariants.{Cluster, Endpoint, Listener, Route, Secret}
 use Rattle.xds_resource.specs.declared.refusal.Refusal.{Refusal}
 use Rattle.xds_resource.specs.declared.refusal.Refusal.TheVariants.{NoStream, CounterSpent, NotFound}
 use Rattle.xds_resource.specs.PerType.{at, with_at}
 use Rattle.xds_resource.specs.Resources.{NamedBody, written, deleted}
 use Rattle.xds_resource.specs.Stamps.{max_counter}
+use Rattle.xds_resource.specs.Types.{is_same_type}
+use Rattle.xds_resource.proofs.TypesApart.{at-with_at, at-with_at_other, same_type}
 use Rattle.xds_resource.specs.Writes.{StampedWrite}
 use Rattle.xds_catalogue.specs.Holdings.{Holdings, Entries}
 use Rattle.xds_catalogue.specs.Joins.{joined}
@@ -97,7 +99,7 @@ number_stays c (Request n m) = stream_keeps c n Answered (λ s. requested s m) (
 number_stays c (Poll n which) = stream_keeps c n Polled (λ s. polled_first c.replica c.store s (looked_at which)) (λ k. k.replica) (λ s. refl)
 number_stays c (Owes n which) = looked_at_kept (λ k. k.replica) c (λ s. Owed (owes_some c.store s (looked_at which))) (finmap.get c.streams n)
 number_stays c (Close n) = closed_keeps (λ k. k.replica) c n Closed refl (finmap.get c.streams n)
-number_stays c (Put t r) = stored_keeps (λ k. k.replica) c (λ n. Written n c.replica) (λ s. refl) (putting_at c.store t r c.replica)
+number_stays c (Put t r groups) = stored_keeps (λ k. k.replica) c (λ n. Written n c.replica) (λ s. refl) (putting_at c.store t r groups c.replica)
 number_stays c (Delete t name) = stored_keeps (λ k. k.replica) c (λ n. Written n c.replica) (λ s. refl) (deleting_at c.store t name c.replica)
 number_stays c (Merge b) = stored_keeps (λ k. k.replica) c Merged (λ s. refl) (merging c.store b)
 number_stays c Snapshot = refl
@@ -108,7 +110,7 @@ only_writes_change_the_store c (Request n m) other = stream_keeps c n Answered (
 only_writes_change_the_store c (Poll n which) other = stream_keeps c n Polled (λ s. polled_first c.replica c.store s (looked_at which)) (λ k. k.store) (λ s. refl)
 only_writes_change_the_store c (Owes n which) other = looked_at_kept (λ k. k.store) c (λ s. Owed (owes_some c.store s (looked_at which))) (finmap.get c.streams n)
 only_writes_change_the_store c (Close n) other = closed_keeps (λ k. k.store) c n Closed refl (finmap.get c.streams n)
-only_writes_change_the_store c (Put t r) other = absurd cc
+only_writes_change_the_store c (Put t r groups) other = absurd cc
 only_writes_change_the_store c (Delete t name) other = absurd cc
 only_writes_change_the_store c (Merge b) other = absurd cc
 only_writes_change_the_store c Snapshot other = refl
@@ -135,7 +137,7 @@ streams_stand_apart c (Request k m) n other = stream_keeps c k Answered (λ s. r
 streams_stand_apart c (Poll k which) n other = stream_keeps c k Polled (λ s. polled_first c.replica c.store s (looked_at which)) (λ k. finmap.get k.streams n) (λ s. put_elsewhere c.streams k n s other)
 streams_stand_apart c (Owes k which) n other = looked_at_kept (λ k. finmap.get k.streams n) c (λ s. Owed (owes_some c.store s (looked_at which))) (finmap.get c.streams k)
 streams_stand_apart c (Close k) n other = closed_keeps (λ k. finmap.get k.streams n) c k Closed (taken_elsewhere c.streams k n other) (finmap.get c.streams k)
-streams_stand_apart c (Put t r) n other = stored_keeps (λ k. finmap.get k.streams n) c (λ n. Written n c.replica) (λ s. refl) (putting_at c.store t r c.replica)
+streams_stand_apart c (Put t r groups) n other = stored_keeps (λ k. finmap.get k.streams n) c (λ n. Written n c.replica) (λ s. refl) (putting_at c.store t r groups c.replica)
 streams_stand_apart c (Delete t name) n other = stored_keeps (λ k. finmap.get k.streams n) c (λ n. Written n c.replica) (λ s. refl) (deleting_at c.store t name c.replica)
 streams_stand_apart c (Merge b) n other = stored_keeps (λ k. finmap.get k.streams n) c Merged (λ s. refl) (merging c.store b)
 streams_stand_apart c Snapshot n other = refl
@@ -152,29 +154,22 @@ greatest_joined h ws = subst (λ n. greatest_counter h.entries ≤ n) (sym (grea
 same_counter : (m : Entries) → greatest_counter m ≤ greatest_counter m
 same_counter m = omega arith
 
+placed_by : (p : Store) (t s : TypeName) (h : Holdings) → greatest_counter (at p t).entries ≤ greatest_counter h.entries → ((s ≡ t) × (is_same_type s t ≡ true)) ⊎ ((s ≢ t) × (is_same_type s t ≡ false)) → greatest_counter (at p s).entries ≤ greatest_counter (at (with_at p t h) s).entries
+placed_by p t s h le (inl same) =
+    subst (λ u. greatest_counter (at p u).entries ≤ greatest_counter (at (with_at p t h) u).entries) (sym same.0)
+    (subst (λ (k : Holdings). greatest_counter (at p t).entries ≤ greatest_counter k.entries) (sym (at-with_at p t h)) le)
+placed_by p t s h le (inr other) =
+    subst (λ (k : Holdings). greatest_counter (at p s).entries ≤ greatest_counter k.entries) (sym (at-with_at_other p t h s other.0)) (same_counter (at p s).entries)
+
 placed_at : (p : Store) (t s : TypeName) (h : Holdings) → greatest_counter (at p t).entries ≤ greatest_counter h.entries → greatest_counter (at p s).entries ≤ greatest_counter (at (with_at p t h) s).entries
-placed_at p Cluster Cluster h le = le
-placed_at p Cluster Endpoint h le = same_counter p.endpoint.entries
-placed_at p Cluster Listener h le = same_counter p.listener.entries
-placed_at p Cluster Route h le = same_counter p.route.entries
-placed_at p Endpoint Cluster h le = same_counter p.cluster.entries
-placed_at p Endpoint Endpoint h le = le
-placed_at p Endpoint Listener h le = same_counter p.listener.entries
-placed_at p Endpoint Route h le = same_counter p.route.entries
-placed_at p Listener Cluster h le = same_counter p.cluster.entries
-placed_at p Listener Endpoint h le = same_counter p.endpoint.entries
-placed_at p Listener Listener h le = le
-placed_at p Listener Route h le = same_counter p.route.entries
-placed_at p Route Cluster h le = same_counter p.cluster.entries
-placed_at p Route Endpoint h le = same_counter p.endpoint.entries
-placed_at p Route Listener h le = same_counter p.listener.entries
-placed_at p Route Route h le = le
+placed_at p t s h le = placed_by p t s h le (same_type s t)
 
 merged_at : (p : Store) (b : Batch) (t : TypeName) → greatest_counter (at p t).entries ≤ greatest_counter (at (merged p b) t).entries
 merged_at p b Cluster = greatest_joined p.cluster b.cluster
 merged_at p b Endpoint = greatest_joined p.endpoint b.endpoint
 merged_at p b Listener = greatest_joined p.listener b.listener
 merged_at p b Route = greatest_joined p.route b.route
+merged_at p b Secret = greatest_joined p.secret b.secret
 
 abbrev Rises : Store → TypeName → Core → Type 0
 Rises p s c = greatest_counter (at p s).entries ≤ greatest_counter (at c.store s).entries
@@ -202,10 +197,10 @@ pub done_with : {X Y : Type 0} (f : X → Y) (r : Result X Refusal) (y : Y) → 
 done_with f (Ok x) y is = (x, refl, cc)
 done_with f (Err e) y is = absurd cc
 
-pub put_is : (p : Store) (t : TypeName) (r : NamedBody) (writer : ℕ) (q : ℕ × Store) → putting_at p t r writer ≡ Ok q → (q.0 ≡ next_counter (at p t)) × (q.1 ≡ with_at p t (joined (at p t) (written (next_counter (at p t)) writer r ∷ [])))
-put_is p t r writer q is =
-    let made = done_with (λ x. (x.0, with_at p t x.1)) (putting (at p t) r writer) q is in
-    let which = unless_at (greatest_counter (at p t).entries == max_counter) ((at p t).changes == max_counter) CounterSpent CounterSpent (next_counter (at p t), joined (at p t) (written (next_counter (at p t)) writer r ∷ [])) made.0 made.1 in
+pub put_is : (p : Store) (t : TypeName) (r : NamedBody) (groups : List (List ℕ)) (writer : ℕ) (q : ℕ × Store) → putting_at p t r groups writer ≡ Ok q → (q.0 ≡ next_counter (at p t)) × (q.1 ≡ with_at p t (joined (at p t) (written (next_counter (at p t)) writer r groups ∷ [])))
+put_is p t r groups writer q is =
+    let made = done_with (λ x. (x.0, with_at p t x.1)) (putting (at p t) r groups writer) q is in
+    let which = unless_at (greatest_counter (at p t).entries == max_counter) ((at p t).changes == max_counter) CounterSpent CounterSpent (next_counter (at p t), joined (at p t) (written (next_counter (at p t)) writer r groups ∷ [])) made.0 made.1 in
     (ap (λ x. x.0) made.2 ∙ ap (λ x. x.0) which, ap (λ x. x.1) made.2 ∙ ap (λ x. with_at p t x.1) which)
 
 pub delete_is : (p : Store) (t : TypeName) (name : List ℕ) (writer : ℕ) (q : ℕ × Store) → deleting_at p t name writer ≡ Ok q → (q.0 ≡ next_counter (at p t)) × (q.1 ≡ with_at p t (joined (at p t) (deleted (next_counter (at p t)) writer name ∷ [])))
@@ -224,10 +219,10 @@ counters_never_fall c (Poll n which) s = kept_counter c (Poll n which) s refl
 counters_never_fall c (Owes n which) s = kept_counter c (Owes n which) s refl
 counters_never_fall c (Close n) s = kept_counter c (Close n) s refl
 counters_never_fall c Snapshot s = kept_counter c Snapshot s refl
-counters_never_fall c (Put t r) s =
-    written_rises c (λ n. Written n c.replica) s (putting_at c.store t r c.replica)
-    (λ p is. subst (λ (q : Store). greatest_counter (at c.store s).entries ≤ greatest_counter (at q s).entries) (sym (put_is c.store t r c.replica p is).1)
-    (placed_at c.store t s (joined (at c.store t) (written (next_counter (at c.store t)) c.replica r ∷ [])) (greatest_joined (at c.store t) _)))
+counters_never_fall c (Put t r groups) s =
+    written_rises c (λ n. Written n c.replica) s (putting_at c.store t r groups c.replica)
+    (λ p is. subst (λ (q : Store). greatest_counter (at c.store s).entries ≤ greatest_counter (at q s).entries) (sym (put_is c.store t r groups c.replica p is).1)
+    (placed_at c.store t s (joined (at c.store t) (written (next_counter (at c.store t)) c.replica r groups ∷ [])) (greatest_joined (at c.store t) _)))
 counters_never_fall c (Delete t name) s =
     written_rises c (λ n. Written n c.replica) s (deleting_at c.store t name c.replica)
     (λ p is. subst (λ (q : Store). greatest_counter (at c.store s).entries ≤ greatest_counter (at q s).entries) (sym (delete_is c.store t name c.replica p is).1)
@@ -240,9 +235,9 @@ written_counter : (a b k l : ℕ) → Written a b ≡ Written k l → a ≡ k
 written_counter a b k l is = cc
 
 pub own_counters_rise : OwnCountersRise
-own_counters_rise c left t r counter writer is =
-    let made = done_with (λ p. (Written p.0 c.replica, record c { store = p.1 })) (putting_at c.store t r c.replica) (Written counter writer, left) is in
-    written_counter counter writer made.0.0 c.replica (ap (λ x. x.0) made.2) ∙ (put_is c.store t r c.replica made.0 made.1).0
+own_counters_rise c left t r groups counter writer is =
+    let made = done_with (λ p. (Written p.0 c.replica, record c { store = p.1 })) (putting_at c.store t r groups c.replica) (Written counter writer, left) is in
+    written_counter counter writer made.0.0 c.replica (ap (λ x. x.0) made.2) ∙ (put_is c.store t r groups c.replica made.0 made.1).0
 
 pub own_deletions_rise : OwnDeletionsRise
 own_deletions_rise c left t name counter writer is =

@@ -1,6 +1,6 @@
 -- A step of one stream, which is taken out and put back.
-use Rattle.std.proofs.Common.{◌≡◌, ℕ, cond, Some, Result, Ok, Err, refl, sym, ap, subst, ◌∙◌}
-use Rattle.std.specs.Prelude.{IsOk, IsSome, IfErr, OnErr}
+use Rattle.std.proofs.Common.{◌≡◌, ℕ, cond, Option, Some, Result, Ok, Err, refl, sym, ap, subst, ◌∙◌}
+use Rattle.std.specs.Prelude.{IsOk, IsSome, IsSomeAnd, IfErr, OnErr}
 use Rattle.std.specs.Option.{option_map_or}
 use Rattle.std.specs.Ordering.{nat_cmp, eq_by_cmp}
 use Rattle.std.specs.Cmp.{nat_cmp_total, eq_by_cmp_equiv}
@@ -11,10 +11,12 @@ use Rattle.xds_resource.specs.declared.refusal.Refusal.TheVariants.{OutOfMemory,
 use Rattle.xds_resource.specs.Refusals.{Gives}
 use Rattle.xds_catalogue.proofs.Lookups.{insert-insert, twice}
 use Rattle.xds_store.specs.Stores.{if_done}
-use Rattle.xds_streams.specs.Streams.{Stream}
-use Rattle.xds_core.specs.Events.{Reply}
+use Rattle.xds_resource.specs.declared.types.TypeName.{TypeName}
+use Rattle.xds_streams.specs.Streams.{Stream, IsToRespond, looked_at}
+use Rattle.xds_core.specs.Events.{Reply, Poll}
 use Rattle.xds_core.specs.declared.event.Reply as declared
 use Rattle.xds_core.specs.Seen.{reply_of}
+use Rattle.xds_core.specs.Legal.{IsShort}
 use Rattle.xds_core.specs.Steps.{Core, with_stream, stream_step}
 
 -- something is there after an insertion
@@ -84,3 +86,15 @@ module _ {X : Type 0} (c : Core) (n : ℕ) (reply : X → Reply) (make : X → d
 
   pub step_kept : (r : Result X Refusal) (result : Result declared.Reply Refusal) (core : Core) → core ≡ with_streams c back → result ≡ if_done make r → OnErr r (left ≡ s) → OnErr result (core ≡ c)
   step_kept r result core same is kept = subst (λ y. OnErr y (core ≡ c)) (sym is) (subst (λ k. OnErr (if_done make r) (k ≡ c)) (sym same) (kept_at r kept))
+
+refused_at : {X : Type 0} (P : Refusal → Type 0) (make : X → declared.Reply) (r : Result X Refusal) → IfErr r P → IfErr (if_done make r) P
+refused_at P make (Ok o) refused = refused
+refused_at P make (Err e) refused = refused
+
+-- where a poll of an open stream finds no memory
+pub poll_short : {X : Type 0} (c k : Core) (n : ℕ) (which : Option TypeName) (make : X → declared.Reply) (s : Stream) (r : Result X Refusal) (result : Result declared.Reply Refusal)
+    → finmap.get c.streams n ≡ Some s → k ≡ c → result ≡ if_done make r → IfErr r (λ e. e ≡ OutOfMemory → IsToRespond k.store s (looked_at which)) → IfErr result (λ e. e ≡ OutOfMemory → IsShort c (Poll n which))
+poll_short c k n which make s r result has same is short =
+    subst (λ y. IfErr y (λ e. e ≡ OutOfMemory → IsShort c (Poll n which))) (sym is)
+    (subst (λ o. IfErr (if_done make r) (λ e. e ≡ OutOfMemory → IsSomeAnd o (λ s. IsToRespond c.store s (looked_at which)))) (sym has)
+    (refused_at (λ e. e ≡ OutOfMemory → IsToRespond c.store s (looked_at which)) make r (subst (λ (x : Core). IfErr r (λ e. e ≡ OutOfMemory → IsToRespond x.store s (looked_at which))) same short)))

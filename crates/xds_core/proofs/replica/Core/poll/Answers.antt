@@ -5,7 +5,7 @@ use Rattle.xds_resource.specs.Refusals.{Gives}
 use Rattle.xds_core.specs.Events as events
 use Rattle.xds_core.specs.declared.event.Reply.TheVariants as replies
 use Rattle.xds_streams.specs.Streams.{looked_at, polled_first}
-use Rattle.xds_core.proofs.StreamSteps.{there, with_streams, step_gives, step_kept}
+use Rattle.xds_core.proofs.StreamSteps.{there, with_streams, step_gives, step_kept, poll_short}
 use Rattle.xds_core.proofs.replica.Core.poll.Goals as goal
 
 pub set-requires : goal.set-requires
@@ -30,3 +30,10 @@ returns-clause-err c =
     let has : finmap.get c.args.self.now.streams n ≡ Some s = ap (λ k. finmap.get k.streams n) (sym c.self.view_is) ∙ sym c.replace.ensures.old ∙ c.in-Some.is in
     let puts : c.set.new.self ≡ finmap.insert (finmap.insert c.args.self.now.streams n x) n left = c.set.ensures ∙ (λ i. finmap.insert (c.in-Some.ensures.found i) n left) ∙ (λ i. finmap.insert (finmap.insert (c.self.view_is i).streams n x) n left) in
     step_kept c.args.self.now n events.Polled replies.Polled (λ o. refl) (λ s. polled_first c.args.self.now.replica c.args.self.now.store s (looked_at c.args.which)) s left x has c.set.new.self puts c.poll-draft.result c.polled.result _ (λ i. with_streams (c.self.view_is i) c.set.new.self) c.polled.ensures c.poll-draft.ensures.err
+
+pub returns-clause-memory : goal.returns-clause-memory
+returns-clause-memory c =
+    let n = c.args.number in
+    let s = c.in-Some.stream in
+    let has : finmap.get c.args.self.now.streams n ≡ Some s = ap (λ k. finmap.get k.streams n) (sym c.self.view_is) ∙ sym c.replace.ensures.old ∙ c.in-Some.is in
+    poll_short c.args.self.now _ n c.args.which replies.Polled s c.poll-draft.result c.polled.result has c.self.view_is c.polled.ensures c.poll-draft.ensures.memory
