@@ -4,10 +4,10 @@ use crate::writes::batch_of;
 use std::alloc::Global;
 use xds_core::{Event, Request};
 use xds_message::{DeltaDiscoveryRequest, DiscoveryRequest};
-use xds_resource::{AnyResource, Refusal, TypeName};
+use xds_resource::{AnyResource, Groups, Refusal, TypeName};
 
 /// The event of `open`, `sotw STREAM MESSAGE`, `delta STREAM MESSAGE`, `poll STREAM [TYPE]`, `owes STREAM [TYPE]`,
-/// `close STREAM`, `put RESOURCE`, `delete TYPE NAME`, `merge [WRITE ..]` or `snapshot`.
+/// `close STREAM`, `put RESOURCE`, `putin GROUP,GROUP.. RESOURCE`, `delete TYPE NAME`, `merge [WRITE ..]` or `snapshot`.
 pub(crate) fn event_of(alloc: Global, verb: &str, rest: &str) -> Result<Event, Refusal> {
     match verb {
         "open" => Ok(Event::Open),
@@ -24,6 +24,7 @@ fn longer_event_of(alloc: Global, verb: &str, rest: &str) -> Result<Event, Refus
         "sotw" => sotw(alloc, rest),
         "delta" => delta(alloc, rest),
         "put" => put(alloc, rest),
+        "putin" => putin(alloc, rest),
         "delete" => delete(alloc, rest),
         "merge" => merge(alloc, rest),
         _ => Err(Refusal::BadScript),
@@ -61,7 +62,22 @@ fn delta(alloc: Global, text: &str) -> Result<Event, Refusal> {
 
 fn put(alloc: Global, text: &str) -> Result<Event, Refusal> {
     let resource = AnyResource::parse(alloc, text)?;
-    Ok(Event::Put(resource))
+    Ok(Event::Put(resource, Groups::none()))
+}
+
+fn putin(alloc: Global, text: &str) -> Result<Event, Refusal> {
+    let (groups, resource) = parted(text);
+    let groups = groups_of(alloc, groups)?;
+    let resource = AnyResource::parse(alloc, resource)?;
+    Ok(Event::Put(resource, groups))
+}
+
+fn groups_of(alloc: Global, text: &str) -> Result<Groups, Refusal> {
+    let mut texts = Vec::new(alloc);
+    for group in text.split(',') {
+        texts.push(String::from_str(alloc, group)?)?;
+    }
+    Groups::new(alloc, &texts)
 }
 
 fn delete(alloc: Global, text: &str) -> Result<Event, Refusal> {

@@ -7,6 +7,8 @@ mod actor;
 #[cfg(test)]
 mod events;
 #[cfg(test)]
+mod groups;
+#[cfg(test)]
 mod many;
 #[cfg(test)]
 mod memory;

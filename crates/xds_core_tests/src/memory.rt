@@ -10,13 +10,13 @@ const BEFORE: &str = r#"put {"@type":"CDS","name":"a"} => 1-1
 put {"@type":"EDS","clusterName":"e"} => 1-1
 delete endpoint e => 2-1"#;
 
-const UNCHANGED: &str = r#"marks => 1 2 0 0
+const UNCHANGED: &str = r#"marks => 1 2 0 0 0
 snapshot => {"body":{"@type":"CDS","name":"a"},"counter":1,"name":"a","typeUrl":"CDS","writer":1} {"counter":2,"name":"e","typeUrl":"EDS","writer":1}"#;
 
 const BATCH: &str =
     r#"{"body":{"@type":"CDS","name":"a","x":2},"counter":1,"name":"a","typeUrl":"CDS","writer":2} {"counter":3,"name":"f","typeUrl":"EDS","writer":2} {"body":{"@type":"LDS","name":"l"},"counter":1,"name":"l","typeUrl":"LDS","writer":2} {"body":{"@type":"RDS","name":"q"},"counter":1,"name":"q","typeUrl":"RDS","writer":2}"#;
 
-const AFTER: &str = r#"marks => 2 3 1 1
+const AFTER: &str = r#"marks => 2 3 1 1 0
 snapshot => {"body":{"@type":"CDS","name":"a","x":2},"counter":1,"name":"a","typeUrl":"CDS","writer":2} {"counter":2,"name":"e","typeUrl":"EDS","writer":1} {"counter":3,"name":"f","typeUrl":"EDS","writer":2} {"body":{"@type":"LDS","name":"l"},"counter":1,"name":"l","typeUrl":"LDS","writer":2} {"body":{"@type":"RDS","name":"q"},"counter":1,"name":"q","typeUrl":"RDS","writer":2}"#;
 
 // Whether the batch is refused for want of memory.

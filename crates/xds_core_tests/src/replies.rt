@@ -65,7 +65,8 @@ impl Told for Marks {
             endpoint,
             listener,
             route,
+            secret,
         } = self;
-        Ok(format!(in alloc; "{cluster} {endpoint} {listener} {route}")?)
+        Ok(format!(in alloc; "{cluster} {endpoint} {listener} {route} {secret}")?)
     }
 }

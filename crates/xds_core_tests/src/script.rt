@@ -33,7 +33,7 @@ pub(crate) fn play_on<A: Actor>(alloc: Global, actor: &mut A, story: &str) -> Re
     Ok(())
 }
 
-/// Does one step, and compares. In a story `CDS`, `EDS`, `LDS` and `RDS` stand for the URLs of the types.
+/// Does one step, and compares. In a story `CDS`, `EDS`, `LDS`, `RDS` and `SDS` stand for the URLs of the types.
 pub(crate) fn play_line<A: Actor>(alloc: Global, actor: &mut A, line: &str) -> Result<(), Fail> {
     let line = written_out(alloc, line)?;
     let (step, wanted) = line
@@ -62,5 +62,6 @@ pub(crate) fn written_out(alloc: Global, text: &str) -> Result<String, AllocErro
     let text = text.replace(alloc, "CDS", TypeName::Cluster.url())?;
     let text = text.replace(alloc, "EDS", TypeName::Endpoint.url())?;
     let text = text.replace(alloc, "LDS", TypeName::Listener.url())?;
-    text.replace(alloc, "RDS", TypeName::Route.url())
+    let text = text.replace(alloc, "RDS", TypeName::Route.url())?;
+    text.replace(alloc, "SDS", TypeName::Secret.url())
 }

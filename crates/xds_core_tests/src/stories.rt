@@ -84,7 +84,7 @@ poll 4 => {"nonce":"1","removedResources":["m"],"systemVersionInfo":"1.0","typeU
 fn each_event_is_answered(rt: HostRuntime) -> Result<(), Fail> {
     play::<Core, HostRuntime>(
         &rt,
-        r#"marks => 0 0 0 0
+        r#"marks => 0 0 0 0 0
 entries cluster => none
 snapshot => none
 put {"x":1,"@type":"CDS","name":"a"} => 1-1
@@ -92,9 +92,9 @@ put {"@type":"EDS","clusterName":"e"} => 1-1
 put {"@type":"LDS","name":"l"} => 1-1
 put {"@type":"RDS","name":"r"} => 1-1
 put {"@type":"RDS","name":"q"} => 2-1
-marks => 1 1 1 2
+marks => 1 1 1 2 0
 delete route r => 3-1
-marks => 1 1 1 3
+marks => 1 1 1 3 0
 entries route => {"body":{"@type":"RDS","name":"q"},"counter":2,"name":"q","typeUrl":"RDS","writer":1} {"counter":3,"name":"r","typeUrl":"RDS","writer":1}
 snapshot => {"body":{"@type":"CDS","name":"a","x":1},"counter":1,"name":"a","typeUrl":"CDS","writer":1} {"body":{"@type":"EDS","clusterName":"e"},"counter":1,"name":"e","typeUrl":"EDS","writer":1} {"body":{"@type":"LDS","name":"l"},"counter":1,"name":"l","typeUrl":"LDS","writer":1} {"body":{"@type":"RDS","name":"q"},"counter":2,"name":"q","typeUrl":"RDS","writer":1} {"counter":3,"name":"r","typeUrl":"RDS","writer":1}
 open => 1
@@ -121,7 +121,7 @@ owed 1 => no
 owes 1 => no
 sotw 1 {"resourceNames":["r"],"responseNonce":"9","typeUrl":"RDS"} => ignored
 merge {"body":{"@type":"RDS","name":"q","x":2},"counter":5,"name":"q","typeUrl":"RDS","writer":2} {"counter":1,"name":"e","typeUrl":"EDS","writer":2} => 2
-marks => 1 2 1 4
+marks => 1 2 1 4 0
 poll 1 route => {"nonce":"2","resources":[{"@type":"RDS","name":"q","x":2}],"typeUrl":"RDS","versionInfo":"1.4.named"}
 put {"@type":"RDS","name":"z"} => 6-1
 delete endpoint e => 9 NotFound
@@ -141,12 +141,12 @@ sotw 1 {"typeUrl":"CDS"} => taken
 merge {"body":{"@type":"CDS","name":"a","x":2},"counter":1,"name":"a","typeUrl":"CDS","writer":2} => 1
 merge {"body":{"@type":"CDS","name":"a","x":2},"counter":1,"name":"a","typeUrl":"CDS","writer":2} => 0
 merge {"body":{"@type":"CDS","name":"a","x":1},"counter":1,"name":"a","typeUrl":"CDS","writer":1} => 0
-marks => 2 0 0 0
+marks => 2 0 0 0 0
 merge => 0
 poll 1 => {"nonce":"1","resources":[{"@type":"CDS","name":"a","x":2}],"typeUrl":"CDS","versionInfo":"1.2"}
 sotw 1 {"responseNonce":"1","typeUrl":"CDS"} => taken
 merge {"body":{"@type":"LDS","name":"l"},"counter":7,"name":"l","typeUrl":"LDS","writer":3} {"counter":4,"name":"b","typeUrl":"CDS","writer":2} {"body":{"@type":"CDS","name":"b"},"counter":3,"name":"b","typeUrl":"CDS","writer":9} => 2
-marks => 3 0 1 0
+marks => 3 0 1 0 0
 entries cluster => {"body":{"@type":"CDS","name":"a","x":2},"counter":1,"name":"a","typeUrl":"CDS","writer":2} {"counter":4,"name":"b","typeUrl":"CDS","writer":2}
 delete cluster b => 9 NotFound
 delete cluster a => 5-1
@@ -168,11 +168,11 @@ merge {"body":{"@type":"LDS","name":"z"},"counter":9223372036854775807,"name":"z
 put {"@type":"LDS","name":"l"} => 10 CounterSpent
 delete listener k => 10 CounterSpent
 delete listener l => 9 NotFound
-marks => 0 0 2 0
+marks => 0 0 2 0 0
 entries listener => {"body":{"@type":"LDS","name":"k"},"counter":1,"name":"k","typeUrl":"LDS","writer":1} {"body":{"@type":"LDS","name":"z"},"counter":9223372036854775807,"name":"z","typeUrl":"LDS","writer":9}
 put {"@type":"CDS","name":"l"} => 1-1
 merge {"counter":2,"name":"k","typeUrl":"LDS","writer":1} => 1
-marks => 1 0 3 0"#,
+marks => 1 0 3 0 0"#,
     )
 }
 
@@ -180,11 +180,16 @@ marks => 1 0 3 0"#,
 fn types_are_polled_in_their_order(rt: HostRuntime) -> Result<(), Fail> {
     play::<Core, HostRuntime>(
         &rt,
-        r#"put {"@type":"RDS","name":"r"} => 1-1
+        r#"put {"@type":"SDS","name":"s"} => 1-1
+put {"@type":"RDS","name":"r"} => 1-1
 put {"@type":"LDS","name":"l"} => 1-1
 put {"@type":"EDS","clusterName":"e"} => 1-1
 put {"@type":"CDS","name":"c"} => 1-1
+marks => 1 1 1 1 1
 open => 1
+sotw 1 {"resourceNames":["s"],"typeUrl":"SDS"} => taken
+owes 1 => yes
+owes 1 route => no
 sotw 1 {"resourceNames":["r"],"typeUrl":"RDS"} => taken
 owes 1 => yes
 owes 1 cluster => no
@@ -195,6 +200,7 @@ poll 1 => {"nonce":"1","resources":[{"@type":"CDS","name":"c"}],"typeUrl":"CDS",
 poll 1 => {"nonce":"2","resources":[{"@type":"EDS","clusterName":"e"}],"typeUrl":"EDS","versionInfo":"1.1.named"}
 poll 1 => {"nonce":"3","resources":[{"@type":"LDS","name":"l"}],"typeUrl":"LDS","versionInfo":"1.1"}
 poll 1 => {"nonce":"4","resources":[{"@type":"RDS","name":"r"}],"typeUrl":"RDS","versionInfo":"1.1.named"}
+poll 1 => {"nonce":"5","resources":[{"@type":"SDS","name":"s"}],"typeUrl":"SDS","versionInfo":"1.1.named"}
 poll 1 => none
 sotw 1 {"resourceNames":["r"],"responseNonce":"4","typeUrl":"RDS"} => taken
 sotw 1 {"responseNonce":"1","typeUrl":"CDS"} => taken
@@ -203,8 +209,19 @@ owes 1 => yes
 sotw 1 {"responseNonce":"3","typeUrl":"LDS"} => taken
 owes 1 => yes
 sotw 1 {"resourceNames":["e"],"responseNonce":"2","typeUrl":"EDS"} => taken
+owes 1 => yes
+due 1 => no
+sotw 1 {"resourceNames":["s"],"responseNonce":"5","typeUrl":"SDS"} => taken
 owes 1 => no
-due 1 => no"#,
+snapshot => {"body":{"@type":"CDS","name":"c"},"counter":1,"name":"c","typeUrl":"CDS","writer":1} {"body":{"@type":"EDS","clusterName":"e"},"counter":1,"name":"e","typeUrl":"EDS","writer":1} {"body":{"@type":"LDS","name":"l"},"counter":1,"name":"l","typeUrl":"LDS","writer":1} {"body":{"@type":"RDS","name":"r"},"counter":1,"name":"r","typeUrl":"RDS","writer":1} {"body":{"@type":"SDS","name":"s"},"counter":1,"name":"s","typeUrl":"SDS","writer":1}
+open => 2
+sotw 2 {"typeUrl":"SDS"} => taken
+poll 2 => none
+owes 2 => no
+merge {"counter":2,"name":"s","typeUrl":"SDS","writer":2} => 1
+marks => 1 1 1 1 2
+owes 1 => no
+delete secret s => 9 NotFound"#,
     )
 }
 
@@ -261,7 +278,7 @@ poll 2 => {"nonce":"7","removedResources":["b"],"systemVersionInfo":"1.4","typeU
 delta 2 {"responseNonce":"7","typeUrl":"CDS"} => taken
 owes 2 cluster => no
 merge {"body":{"@type":"RDS","name":"q"},"counter":7,"name":"q","typeUrl":"RDS","writer":2} {"body":{"@type":"CDS","name":"c"},"counter":9,"name":"c","typeUrl":"CDS","writer":2} => 2
-marks => 5 1 1 1
+marks => 5 1 1 1 0
 owes 2 cluster => no
 poll 1 => {"nonce":"5","resources":[{"@type":"CDS","name":"b","x":1},{"@type":"CDS","name":"c"}],"typeUrl":"CDS","versionInfo":"1.5"}
 put {"@type":"CDS","name":"d"} => 10-1

@@ -2,7 +2,7 @@
 use crate::parts::{Told, text_of};
 use serde_json::Value;
 use std::alloc::Global;
-use xds_resource::{AnyWrite, Cluster, Endpoint, Listener, Refusal, Route, Write};
+use xds_resource::{AnyWrite, Cluster, Endpoint, Listener, Refusal, Route, Secret, Write};
 use xds_writes::{Batch, read_write, write_object};
 
 /// The batch of the writes in a text.
@@ -31,6 +31,7 @@ fn push(batch: &mut Batch, write: AnyWrite) -> Result<(), Refusal> {
         AnyWrite::Endpoint(write) => push_one(&mut batch.endpoint, write),
         AnyWrite::Listener(write) => push_one(&mut batch.listener, write),
         AnyWrite::Route(write) => push_one(&mut batch.route, write),
+        AnyWrite::Secret(write) => push_one(&mut batch.secret, write),
     }
 }
 
@@ -66,6 +67,13 @@ impl Told for Write<Route> {
     }
 }
 
+impl Told for Write<Secret> {
+    fn text(&self, alloc: Global) -> Result<String, Refusal> {
+        let write = self.try_copy(alloc)?;
+        text_of(alloc, AnyWrite::Secret(write))
+    }
+}
+
 /// The writes of a batch, or `none` where it has none.
 impl Told for Batch {
     fn text(&self, alloc: Global) -> Result<String, Refusal> {
@@ -74,6 +82,7 @@ impl Told for Batch {
         add_all(alloc, &mut all, &self.endpoint)?;
         add_all(alloc, &mut all, &self.listener)?;
         add_all(alloc, &mut all, &self.route)?;
+        add_all(alloc, &mut all, &self.secret)?;
         if all.is_empty() {
             all.push_str("none")?;
         }

@@ -4,6 +4,7 @@ use std::alloc::Global;
 use std::test::Fail;
 use xds_catalogue::Catalogue;
 use xds_delta::Session;
+use xds_interest::ClusterText;
 use xds_ledger::{Nonces, Outcome};
 use xds_message::DeltaDiscoveryRequest;
 use xds_resource::{Cluster, Refusal, ResourceType, Route};
@@ -21,7 +22,7 @@ impl<T: ResourceType> Actor for Server<T> {
         Server {
             replica,
             catalogue: Catalogue::new(alloc),
-            session: Session::new(alloc),
+            session: Session::new(alloc, ClusterText::none()),
             nonces: Nonces::new(),
         }
     }
@@ -29,6 +30,7 @@ impl<T: ResourceType> Actor for Server<T> {
     fn answer(&mut self, alloc: Global, verb: &str, rest: &str) -> Result<String, Refusal> {
         self.session = self.session.try_copy(alloc)?;
         match verb {
+            "cluster" => self.is_of(alloc, rest),
             "take" => self.take(alloc, rest),
             "poll" => self.poll(alloc),
             "owes" => text(
@@ -51,6 +53,12 @@ impl<T: ResourceType> Server<T> {
             Outcome::Taken => text(alloc, "taken"),
             Outcome::Ignored => text(alloc, "ignored"),
         }
+    }
+
+    // The client is of another cluster from the start.
+    fn is_of(&mut self, alloc: Global, cluster: &str) -> Result<String, Refusal> {
+        self.session = Session::new(alloc, ClusterText::new(alloc, cluster)?);
+        text(alloc, "of")
     }
 
     fn poll(&mut self, alloc: Global) -> Result<String, Refusal> {
@@ -178,6 +186,32 @@ poll => {"nonce":"1","removedResources":["*","s"],"systemVersionInfo":"1.2","typ
 take {"resourceNamesSubscribe":["r"],"resourceNamesUnsubscribe":["r"],"responseNonce":"1","typeUrl":"RDS"} => taken
 poll => {"nonce":"2","resources":[{"name":"r","resource":{"@type":"RDS","name":"r"},"version":"2-1"}],"systemVersionInfo":"1.2","typeUrl":"RDS"}
 take {"responseNonce":"2","typeUrl":"RDS"} => taken
+owes => no"#,
+    )
+}
+
+#[test]
+fn what_leaves_the_group_is_removed(rt: HostRuntime) -> Result<(), Fail> {
+    hold::<Server<Cluster>, HostRuntime>(
+        &rt,
+        1,
+        r#"cluster g1 => of
+putin g1 {"@type":"CDS","name":"a"} => 1-1
+put {"@type":"CDS","name":"b"} => 2-1
+putin g2 {"@type":"CDS","name":"c"} => 3-1
+take {"resourceNamesSubscribe":["*"],"typeUrl":"CDS"} => taken
+poll => {"nonce":"1","resources":[{"name":"a","resource":{"@type":"CDS","name":"a"},"version":"1-1"},{"name":"b","resource":{"@type":"CDS","name":"b"},"version":"2-1"}],"systemVersionInfo":"1.3","typeUrl":"CDS"}
+take {"responseNonce":"1","typeUrl":"CDS"} => taken
+take {"resourceNamesSubscribe":["c"],"typeUrl":"CDS"} => taken
+poll => {"nonce":"2","resources":[{"name":"c","resource":{"@type":"CDS","name":"c"},"version":"3-1"}],"systemVersionInfo":"1.3","typeUrl":"CDS"}
+take {"responseNonce":"2","typeUrl":"CDS"} => taken
+take {"resourceNamesUnsubscribe":["c"],"typeUrl":"CDS"} => taken
+poll => {"nonce":"3","removedResources":["c"],"systemVersionInfo":"1.3","typeUrl":"CDS"}
+take {"responseNonce":"3","typeUrl":"CDS"} => taken
+owes => no
+putin g2 {"@type":"CDS","name":"a"} => 4-1
+poll => {"nonce":"4","removedResources":["a"],"systemVersionInfo":"1.4","typeUrl":"CDS"}
+take {"responseNonce":"4","typeUrl":"CDS"} => taken
 owes => no"#,
     )
 }

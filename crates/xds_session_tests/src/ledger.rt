@@ -4,11 +4,11 @@ use std::test::Fail;
 use xds_cases::cases::words_of;
 use xds_cases::scripts::{Script, either, follow};
 use xds_catalogue::Catalogue;
-use xds_interest::Interest;
+use xds_interest::{ClusterText, Interest};
 use xds_ledger::{
     Delta, Due, Entry, Ledger, Nonces, StateOfTheWorld, Variant, VariantName, Version,
 };
-use xds_resource::{Cluster, NameMap, Refusal, Resource, Stamp, TypeName};
+use xds_resource::{Cluster, Groups, NameMap, Refusal, Resource, Stamp, TypeName};
 
 // What the replica holds, what a client wants, and what it was told.
 #[derive(Drop)]
@@ -50,7 +50,7 @@ impl<V: Variant> Client<V> {
         names: &str,
         versions: &[(&str, &str)],
     ) -> Result<String, Refusal> {
-        let next = Interest::of_list(alloc, &words_of(alloc, names)?)?;
+        let next = Interest::of_list(alloc, &words_of(alloc, names)?, ClusterText::none())?;
         let touched = self.interest.touched_until(alloc, &next)?;
         self.ledger.take(
             alloc,
@@ -87,9 +87,10 @@ impl<V: Variant> Client<V> {
     }
 
     fn sending(&self, alloc: Global) -> Result<String, Refusal> {
-        match self.ledger.sending(alloc, &self.interest, &self.catalogue)? {
-            Some(offer) => offer_text(alloc, &offer),
-            None => Ok(String::from_str(alloc, "none")?),
+        if self.ledger.sends(&self.interest, &self.catalogue) {
+            offer_text(alloc, &self.offered(alloc)?)
+        } else {
+            Ok(String::from_str(alloc, "none")?)
         }
     }
 
@@ -98,7 +99,6 @@ impl<V: Variant> Client<V> {
         Ok(match verb {
             "answers" => self.ledger.answers(rest),
             "stale" => self.ledger.is_stale(rest),
-            "refused" => self.ledger.is_refused(&self.offered(alloc)?),
             "due" => self.ledger.is_due(&self.interest, &self.catalogue),
             _ => self.ledger.owes(&self.interest, &self.catalogue),
         })
@@ -109,7 +109,7 @@ impl<V: Variant> Script for Client<V> {
     fn begin(alloc: Global) -> Client<V> {
         Client {
             catalogue: Catalogue::new(alloc),
-            interest: Interest::nothing(alloc),
+            interest: Interest::nothing(alloc, ClusterText::none()),
             ledger: Ledger::new(alloc),
         }
     }
@@ -118,7 +118,7 @@ impl<V: Variant> Script for Client<V> {
         match verb {
             "put" => self
                 .catalogue
-                .put(Resource::parse(alloc, rest)?, 1)?
+                .put(Resource::parse(alloc, rest)?, Groups::none(), 1)?
                 .version_text(alloc),
             "delete" => self.catalogue.delete(rest, 1)?.version_text(alloc),
             "take" => self.taken(alloc, "", false, rest, &[]),
@@ -139,7 +139,7 @@ fn a_whole_response_tells_all(rt: HostRuntime) -> Result<(), Fail> {
         &rt,
         r#"owes; due; answers 1; stale ; stale 1; sending => yes yes no no yes {}
 take; put {"@type":"CDS","name":"A"}; sending; send 1; owes; sending; answers 1; answers 2; stale 2; ack 1; owes; due; stale 2; stale 1 => taken 1-1 {A=1-1,} sent yes none yes no no taken no no yes no
-take; put {"@type":"CDS","name":"A"}; send 1; nack 1; owes; offer; refused; sending; put {"@type":"CDS","name":"B"}; refused; sending; send 2; ack 2; delete A; offer; due => taken 1-1 sent taken yes {A=1-1,} yes none 2-1 no {A=1-1,B=2-1,} sent taken 3-1 {B=2-1,} yes"#,
+take; put {"@type":"CDS","name":"A"}; send 1; nack 1; owes; offer; sending; put {"@type":"CDS","name":"B"}; sending; send 2; ack 2; delete A; offer; due => taken 1-1 sent taken yes {A=1-1,} none 2-1 {A=1-1,B=2-1,} sent taken 3-1 {B=2-1,} yes"#,
     )
 }
 
@@ -157,10 +157,8 @@ resume B 7-2; sending => taken {B-,}"#,
 #[test]
 fn nonces_are_numbers_from_one(rt: HostRuntime) -> Result<(), Fail> {
     let mut nonces = Nonces::new();
-    assert_eq!(rt; nonces.upcoming(), Ok(1));
     assert_eq!(rt; nonces.next(), Ok(1));
     assert_eq!(rt; nonces.next(), Ok(2));
-    assert_eq!(rt; nonces.upcoming(), Ok(3));
     assert!(rt; !nonces.are_spent());
     Ok(())
 }

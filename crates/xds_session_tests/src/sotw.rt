@@ -1,11 +1,13 @@
 // Sessions, by scripts of what replica 1 does, and what a client asks of it and is answered.
+use crate::stories::change;
 use std::alloc::Global;
 use std::test::Fail;
 use xds_cases::scripts::{Script, either, follow};
 use xds_catalogue::Catalogue;
+use xds_interest::ClusterText;
 use xds_ledger::{Nonces, Outcome};
 use xds_message::DiscoveryRequest;
-use xds_resource::{Cluster, Refusal, Resource, ResourceType, Route};
+use xds_resource::{Cluster, Refusal, ResourceType, Route, Secret};
 use xds_sotw::Session;
 
 // What the replica holds of a type, and one stream's session of that type.
@@ -23,6 +25,12 @@ impl<T: ResourceType> Stream<T> {
         either(alloc, outcome == Outcome::Taken, "taken", "ignored")
     }
 
+    // The client is of another cluster from the start.
+    fn is_of(&mut self, alloc: Global, cluster: &str) -> Result<String, Refusal> {
+        self.session = Session::new(alloc, ClusterText::new(alloc, cluster)?);
+        Ok(String::from_str(alloc, "of")?)
+    }
+
     fn polled(&mut self, alloc: Global) -> Result<String, Refusal> {
         match self
             .session
@@ -38,18 +46,15 @@ impl<T: ResourceType> Script for Stream<T> {
     fn begin(alloc: Global) -> Stream<T> {
         Stream {
             catalogue: Catalogue::new(alloc),
-            session: Session::new(alloc),
+            session: Session::new(alloc, ClusterText::none()),
             nonces: Nonces::new(),
         }
     }
 
     fn step(&mut self, alloc: Global, verb: &str, rest: &str) -> Result<String, Refusal> {
         match verb {
-            "put" => self
-                .catalogue
-                .put(Resource::parse(alloc, rest)?, 1)?
-                .version_text(alloc),
-            "delete" => self.catalogue.delete(rest, 1)?.version_text(alloc),
+            "cluster" => self.is_of(alloc, rest),
+            "put" | "putin" | "delete" => change(alloc, &mut self.catalogue, verb, rest),
             "take" => self.taken(alloc, rest),
             "poll" => self.polled(alloc),
             _ => either(alloc, self.session.owes(&self.catalogue), "owes", "quiet"),
@@ -76,5 +81,25 @@ fn routes_are_told(rt: HostRuntime) -> Result<(), Fail> {
         r#"take {"resourceNames":["q"],"typeUrl":"RDS"}; poll; put {"@type":"RDS","name":"q"}; poll => taken none 1-1 {"nonce":"1","resources":[{"@type":"RDS","name":"q"}],"typeUrl":"RDS","versionInfo":"1.1.named"}
 put {"@type":"RDS","name":"a"}; put {"@type":"RDS","name":"b"}; take {"resourceNames":["a"],"typeUrl":"RDS"}; poll; take {"resourceNames":["a"],"responseNonce":"1","typeUrl":"RDS"}; put {"@type":"RDS","name":"a"}; poll; take {"resourceNames":["a","b"],"responseNonce":"1","typeUrl":"RDS"}; poll; take {"resourceNames":["a","b"],"responseNonce":"2","typeUrl":"RDS"}; poll => 1-1 2-1 taken {"nonce":"1","resources":[{"@type":"RDS","name":"a"}],"typeUrl":"RDS","versionInfo":"1.2.named"} taken 3-1 {"nonce":"2","resources":[{"@type":"RDS","name":"a"}],"typeUrl":"RDS","versionInfo":"1.3.named"} taken none taken {"nonce":"3","resources":[{"@type":"RDS","name":"b"}],"typeUrl":"RDS","versionInfo":"1.3.named"}
 put {"@type":"RDS","name":"a"}; take {"resourceNames":["a"],"typeUrl":"RDS"}; poll; take {"resourceNames":["a"],"responseNonce":"1","typeUrl":"RDS"}; delete a; owes; poll; take {"typeUrl":"RDS"}; take {"responseNonce":"7","typeUrl":"RDS"}; poll => 1-1 taken {"nonce":"1","resources":[{"@type":"RDS","name":"a"}],"typeUrl":"RDS","versionInfo":"1.1.named"} taken 2-1 quiet none taken ignored none"#,
+    )
+}
+
+#[test]
+fn a_star_covers_the_groups_of_its_cluster(rt: HostRuntime) -> Result<(), Fail> {
+    follow::<Stream<Cluster>, HostRuntime>(
+        &rt,
+        r#"putin g1 {"@type":"CDS","name":"a"}; put {"@type":"CDS","name":"b"}; putin g2 {"@type":"CDS","name":"c"}; cluster g1; take {"typeUrl":"CDS"}; poll => 1-1 2-1 3-1 of taken {"nonce":"1","resources":[{"@type":"CDS","name":"a"},{"@type":"CDS","name":"b"}],"typeUrl":"CDS","versionInfo":"1.3@g1"}
+putin g1 {"@type":"CDS","name":"a"}; put {"@type":"CDS","name":"b"}; putin g2 {"@type":"CDS","name":"c"}; take {"typeUrl":"CDS"}; poll => 1-1 2-1 3-1 taken {"nonce":"1","resources":[{"@type":"CDS","name":"b"}],"typeUrl":"CDS","versionInfo":"1.3"}
+putin g1 {"@type":"CDS","name":"a"}; put {"@type":"CDS","name":"b"}; putin g2 {"@type":"CDS","name":"c"}; cluster g1; take {"resourceNames":["c"],"typeUrl":"CDS"}; poll => 1-1 2-1 3-1 of taken {"nonce":"1","resources":[{"@type":"CDS","name":"c"}],"typeUrl":"CDS","versionInfo":"1.3.named"}
+putin g1,g2 {"@type":"CDS","name":"a"}; cluster g2; take {"typeUrl":"CDS"}; poll; take {"responseNonce":"1","typeUrl":"CDS"}; owes; putin g1 {"@type":"CDS","name":"a"}; poll; take {"responseNonce":"2","typeUrl":"CDS"}; owes => 1-1 of taken {"nonce":"1","resources":[{"@type":"CDS","name":"a"}],"typeUrl":"CDS","versionInfo":"1.1@g2"} taken quiet 2-1 {"nonce":"2","typeUrl":"CDS","versionInfo":"1.2@g2"} taken quiet"#,
+    )
+}
+
+#[test]
+fn secrets_are_told_by_name(rt: HostRuntime) -> Result<(), Fail> {
+    follow::<Stream<Secret>, HostRuntime>(
+        &rt,
+        r#"put {"@type":"SDS","name":"s"}; take {"resourceNames":["s"],"typeUrl":"SDS"}; poll => 1-1 taken {"nonce":"1","resources":[{"@type":"SDS","name":"s"}],"typeUrl":"SDS","versionInfo":"1.1.named"}
+put {"@type":"SDS","name":"s"}; take {"typeUrl":"SDS"}; poll; owes => 1-1 taken none quiet"#,
     )
 }

@@ -2,8 +2,9 @@
 use std::alloc::Global;
 use std::process::Abort;
 use std::test::Fail;
+use xds_cases::cases::{replaced, words_of};
 use xds_catalogue::Catalogue;
-use xds_resource::{Refusal, Resource, ResourceType, Stamp, TypeName, Write};
+use xds_resource::{Groups, Refusal, Resource, ResourceType, Stamp, TypeName, Write};
 
 /// What answers the steps of a story.
 pub trait Actor {
@@ -13,7 +14,7 @@ pub trait Actor {
 }
 
 /// Compares the answer to each step with the one that is wanted, where the steps are done in their order. In a story
-/// `CDS` and `RDS` stand for the URLs of the types.
+/// `CDS`, `RDS` and `SDS` stand for the URLs of the types.
 pub(crate) fn hold<A: Actor + Drop, R: Abort + AllocGlobal>(
     rt: &R,
     replica: u16,
@@ -47,9 +48,11 @@ pub(crate) fn change<T: ResourceType>(
     rest: &str,
 ) -> Result<String, Refusal> {
     match verb {
-        "put" => catalogue
-            .put(Resource::parse(alloc, rest)?, 1)?
-            .version_text(alloc),
+        "put" => put(alloc, catalogue, Groups::none(), rest),
+        "putin" => {
+            let (groups, resource) = rest.split_once(' ').ok_or(Refusal::BadScript)?;
+            put(alloc, catalogue, groups_of(alloc, groups)?, resource)
+        }
         "delete" => catalogue.delete(rest, 1)?.version_text(alloc),
         _ => {
             let grown = catalogue.join_write(write_of(alloc, rest)?)?;
@@ -58,11 +61,32 @@ pub(crate) fn change<T: ResourceType>(
     }
 }
 
+// Puts a resource, for the clients of some groups.
+fn put<T: ResourceType>(
+    alloc: Global,
+    catalogue: &mut Catalogue<T>,
+    groups: Groups,
+    resource: &str,
+) -> Result<String, Refusal> {
+    let stamp = catalogue.put(Resource::parse(alloc, resource)?, groups, 1)?;
+    stamp.version_text(alloc)
+}
+
+// The groups of a text, apart by commas.
+fn groups_of(alloc: Global, text: &str) -> Result<Groups, Refusal> {
+    let texts = replaced(alloc, text, ",", " ")?;
+    Groups::new(alloc, &words_of(alloc, texts.as_str())?)
+}
+
 // The write of a version and a resource.
 fn write_of<T: ResourceType>(alloc: Global, text: &str) -> Result<Write<T>, Refusal> {
     let (version, resource) = text.split_once(' ').ok_or(Refusal::BadMessage)?;
     let stamp = Stamp::parse_version(version)?;
-    Ok(Write::put(stamp, Resource::parse(alloc, resource)?))
+    Ok(Write::put(
+        stamp,
+        Resource::parse(alloc, resource)?,
+        Groups::none(),
+    ))
 }
 
 // The text that a call answers, or its refusal.
@@ -74,19 +98,8 @@ fn told(alloc: Global, answer: Result<String, Refusal>) -> Result<String, Fail> 
 }
 
 // The text, with the types' URLs in place of their abbreviations.
-fn written_out(alloc: Global, text: &str) -> Result<String, Fail> {
+fn written_out(alloc: Global, text: &str) -> Result<String, Refusal> {
     let text = replaced(alloc, text, "CDS", TypeName::Cluster.url())?;
-    replaced(alloc, text.as_str(), "RDS", TypeName::Route.url())
-}
-
-// The text, with `by` in place of `word`.
-fn replaced(alloc: Global, text: &str, word: &str, by: &str) -> Result<String, Fail> {
-    let mut all = String::new(alloc);
-    for (i, part) in text.split(word).enumerate() {
-        if i > 0 {
-            all.push_str(by)?;
-        }
-        all.push_str(part)?;
-    }
-    Ok(all)
+    let text = replaced(alloc, text.as_str(), "RDS", TypeName::Route.url())?;
+    replaced(alloc, text.as_str(), "SDS", TypeName::Secret.url())
 }
