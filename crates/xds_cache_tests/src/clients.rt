@@ -1,6 +1,6 @@
 // What clients make of changes, responses and lost streams, as the texts that they send and hold.
 use crate::delta::Delta;
-use crate::script::play;
+use crate::script::{play, play_in};
 use crate::sotw::Sotw;
 use std::test::Fail;
 
@@ -109,5 +109,35 @@ change route => {"typeUrl":"RDS"}
 receive {"nonce":"1","removedResources":["a"],"typeUrl":"RDS"} => {"responseNonce":"1","typeUrl":"RDS"}
 lose => none
 connect => {"initialResourceVersions":{"w":"5-2","x":"4-2"},"node":{"id":"7"},"resourceNamesSubscribe":["w","x","y","z"],"typeUrl":"CDS"}"#,
+    )
+}
+
+#[test]
+fn the_first_request_says_the_cluster(rt: HostRuntime) -> Result<(), Fail> {
+    play_in::<Sotw, HostRuntime>(
+        &rt,
+        "edge",
+        r#"change cluster * => none
+change secret s => none
+connect => {"node":{"cluster":"edge","id":"7"},"resourceNames":["*"],"typeUrl":"CDS"} {"resourceNames":["s"],"typeUrl":"SDS"}
+receive {"nonce":"1","resources":[{"@type":"CDS","name":"a"},{"@type":"CDS","name":"b"}],"typeUrl":"CDS","versionInfo":"1.2@other"} => {"resourceNames":["*"],"responseNonce":"1","typeUrl":"CDS","versionInfo":"1.2@other"}
+receive {"nonce":"2","resources":[{"@type":"SDS","name":"s"},{"@type":"SDS","name":"t"}],"typeUrl":"SDS","versionInfo":"1.1.named"} => {"resourceNames":["s"],"responseNonce":"2","typeUrl":"SDS","versionInfo":"1.1.named"}
+view secret => {"@type":"SDS","name":"s"}
+change cluster * b => {"resourceNames":["*","b"],"responseNonce":"1","typeUrl":"CDS","versionInfo":"1.2@other"}
+view cluster => {"@type":"CDS","name":"a"} {"@type":"CDS","name":"b"}
+lose => none
+view cluster => {"@type":"CDS","name":"a"} {"@type":"CDS","name":"b"}
+connect => {"node":{"cluster":"edge","id":"7"},"resourceNames":["*","b"],"typeUrl":"CDS","versionInfo":"1.2@other"} {"resourceNames":["s"],"typeUrl":"SDS","versionInfo":"1.1.named"}"#,
+    )?;
+    play_in::<Delta, HostRuntime>(
+        &rt,
+        "edge",
+        r#"connect => none
+change secret s => {"node":{"cluster":"edge","id":"7"},"resourceNamesSubscribe":["s"],"typeUrl":"SDS"}
+change cluster * => {"resourceNamesSubscribe":["*"],"typeUrl":"CDS"}
+receive {"nonce":"1","resources":[{"name":"a","resource":{"@type":"CDS","name":"a"},"version":"1-1"}],"typeUrl":"CDS"} => {"responseNonce":"1","typeUrl":"CDS"}
+receive {"nonce":"2","resources":[{"name":"s","resource":{"@type":"SDS","name":"s"},"version":"2-1"}],"typeUrl":"SDS"} => {"responseNonce":"2","typeUrl":"SDS"}
+lose => none
+connect => {"initialResourceVersions":{"a":"1-1"},"node":{"cluster":"edge","id":"7"},"resourceNamesSubscribe":["*"],"typeUrl":"CDS"} {"initialResourceVersions":{"s":"2-1"},"resourceNamesSubscribe":["s"],"typeUrl":"SDS"}"#,
     )
 }

@@ -13,8 +13,10 @@ pub struct Delta {
 }
 
 impl Player for Delta {
-    fn new(alloc: Global) -> Result<Delta, Refusal> {
-        let client = DeltaClient::new(alloc, String::from_str(alloc, "7")?);
+    fn new(alloc: Global, cluster: &str) -> Result<Delta, Refusal> {
+        let node_id = String::from_str(alloc, "7")?;
+        let cluster = String::from_str(alloc, cluster)?;
+        let client = DeltaClient::new(alloc, node_id, cluster);
         Ok(Delta {
             down: Some(client),
             up: None,

@@ -15,7 +15,7 @@ fn goes_on<P: Player, R: Abort + AllocGlobal>(
     refused: &str,
     at_last: &str,
 ) -> Result<bool, Fail> {
-    let mut player = P::new(rt.alloc())?;
+    let mut player = P::new(rt.alloc(), "")?;
     play_on(rt, &mut player, before)?;
     let answer = ask(rt.alloc(), &mut player, response)?;
     let is_refused = answer.as_str() == NO_MEMORY;

@@ -9,8 +9,8 @@ use xds_resource::{NameMap, Refusal, TypeName};
 /// A client of either variant, on a stream or not. An `Err` is of the script or of this test; what the client answers is a
 /// text, its refusals among them.
 pub trait Player: Drop + Sized {
-    /// A client that wants nothing.
-    fn new(alloc: Global) -> Result<Self, Refusal>;
+    /// A client that wants nothing, whose node is of this cluster.
+    fn new(alloc: Global, cluster: &str) -> Result<Self, Refusal>;
 
     fn connect(&mut self, alloc: Global) -> Result<String, Refusal>;
 
@@ -154,10 +154,11 @@ fn written_out(alloc: Global, text: &str) -> Result<String, AllocError> {
     let text = replaced(alloc, text, "CDS", TypeName::Cluster.url())?;
     let text = replaced(alloc, text.as_str(), "EDS", TypeName::Endpoint.url())?;
     let text = replaced(alloc, text.as_str(), "LDS", TypeName::Listener.url())?;
-    replaced(alloc, text.as_str(), "RDS", TypeName::Route.url())
+    let text = replaced(alloc, text.as_str(), "RDS", TypeName::Route.url())?;
+    replaced(alloc, text.as_str(), "SDS", TypeName::Secret.url())
 }
 
-/// What a client answers to one step. `CDS`, `EDS`, `LDS` and `RDS` stand for the URLs of the types.
+/// What a client answers to one step. `CDS`, `EDS`, `LDS`, `RDS` and `SDS` stand for the URLs of the types.
 pub(crate) fn ask<P: Player>(alloc: Global, player: &mut P, step: &str) -> Result<String, Fail> {
     let step = written_out(alloc, step)?;
     Ok(told(alloc, player, step.as_str())?)
@@ -194,8 +195,17 @@ pub(crate) fn play_on<P: Player, R: Abort + AllocGlobal>(
     Ok(())
 }
 
-/// Plays a script with a new client.
-pub(crate) fn play<P: Player, R: Abort + AllocGlobal>(rt: &R, script: &str) -> Result<(), Fail> {
-    let mut player = P::new(rt.alloc())?;
+/// Plays a script with a new client whose node is of this cluster.
+pub(crate) fn play_in<P: Player, R: Abort + AllocGlobal>(
+    rt: &R,
+    cluster: &str,
+    script: &str,
+) -> Result<(), Fail> {
+    let mut player = P::new(rt.alloc(), cluster)?;
     play_on(rt, &mut player, script)
+}
+
+/// Plays a script with a new client whose node is of no cluster.
+pub(crate) fn play<P: Player, R: Abort + AllocGlobal>(rt: &R, script: &str) -> Result<(), Fail> {
+    play_in::<P, R>(rt, "", script)
 }

@@ -13,8 +13,10 @@ pub struct Sotw {
 }
 
 impl Player for Sotw {
-    fn new(alloc: Global) -> Result<Sotw, Refusal> {
-        let client = SotwClient::new(alloc, String::from_str(alloc, "7")?);
+    fn new(alloc: Global, cluster: &str) -> Result<Sotw, Refusal> {
+        let node_id = String::from_str(alloc, "7")?;
+        let cluster = String::from_str(alloc, cluster)?;
+        let client = SotwClient::new(alloc, node_id, cluster);
         Ok(Sotw {
             down: Some(client),
             up: None,

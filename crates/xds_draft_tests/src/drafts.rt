@@ -3,14 +3,15 @@ use std::alloc::Global;
 use std::sync::ArcStr;
 use std::test::Fail;
 use xds_draft::{DeltaDraft, Draft, Response, SotwDraft};
-use xds_resource::{Cluster, Refusal, Resource, Stamp, TypeName, Write};
+use xds_resource::{Cluster, Groups, Refusal, Resource, Stamp, TypeName, Write};
 
 // A cluster whose name and whose other field need escapes.
 const BODY: &str =
     "{\"@type\":\"type.googleapis.com/envoy.config.cluster.v3.Cluster\",\"name\":\"q\\\"\\\\\\u0001é\",\"x\":[-7,\"\\n\"]}";
 
 fn put(alloc: Global, stamp: Stamp, text: &str) -> Result<Write<Cluster>, Refusal> {
-    Ok(Write::put(stamp, Resource::parse(alloc, text)?))
+    let resource = Resource::parse(alloc, text)?;
+    Ok(Write::put(stamp, resource, Groups::none()))
 }
 
 fn text(alloc: Global, text: &str) -> Result<String, Refusal> {

@@ -2,8 +2,8 @@
 use std::alloc::Global;
 use std::test::Fail;
 use xds_cases::cases::{Outcome, hold, told};
+use xds_message::{read_write, write_object};
 use xds_resource::{AnyWrite, Refusal};
-use xds_writes::{read_write, write_object};
 
 // What is written for the write that the text spells.
 struct WriteAgain;
@@ -35,6 +35,7 @@ fn writes_are_read(rt: HostRuntime) -> Result<(), Fail> {
 {"body":{"@type":"EDS","clusterName":"a"},"counter":2,"name":"a","typeUrl":"EDS","writer":3} => {"body":{"@type":"EDS","clusterName":"a"},"counter":2,"name":"a","typeUrl":"EDS","writer":3}
 {"body":{"@type":"LDS","address":{},"name":"b"},"counter":10,"name":"b","typeUrl":"LDS","writer":12} => {"body":{"@type":"LDS","address":{},"name":"b"},"counter":10,"name":"b","typeUrl":"LDS","writer":12}
 {"body":{"@type":"RDS","name":"**"},"counter":1,"name":"**","typeUrl":"RDS","writer":1} => {"body":{"@type":"RDS","name":"**"},"counter":1,"name":"**","typeUrl":"RDS","writer":1}
+{"body":{"@type":"SDS","name":"s"},"counter":1,"name":"s","typeUrl":"SDS","writer":1} => {"body":{"@type":"SDS","name":"s"},"counter":1,"name":"s","typeUrl":"SDS","writer":1}
 {"counter":9223372036854775807,"name":"a","typeUrl":"EDS","writer":65535} => {"counter":9223372036854775807,"name":"a","typeUrl":"EDS","writer":65535}
  { "writer": 1, "weight": 0.5, "typeUrl": "CDS", "name": "\u0061", "counter": 1, "body": {"x": 1, "name": "a", "@type": "CDS"} }  => {"body":{"@type":"CDS","name":"a","x":1},"counter":1,"name":"a","typeUrl":"CDS","writer":1}
 {"body":null,"counter":9223372036854775807,"name":"a","typeUrl":"EDS","writer":65535} => {"counter":9223372036854775807,"name":"a","typeUrl":"EDS","writer":65535}
@@ -75,6 +76,32 @@ fn other_values_are_no_writes(rt: HostRuntime) -> Result<(), Fail> {
 null => 7 BadMessage
 "a" => 7 BadMessage
 {} => 7 BadMessage"#,
+    )
+}
+
+#[test]
+fn groups_are_read(rt: HostRuntime) -> Result<(), Fail> {
+    hold::<WriteAgain, HostRuntime>(
+        &rt,
+        r#"{"body":{"@type":"CDS","name":"a"},"counter":1,"groups":["b","a","a"],"name":"a","typeUrl":"CDS","writer":1} => {"body":{"@type":"CDS","name":"a"},"counter":1,"groups":["a","b"],"name":"a","typeUrl":"CDS","writer":1}
+{"body":{"@type":"CDS","name":"a"},"counter":1,"groups":["é","e","E"],"name":"a","typeUrl":"CDS","writer":1} => {"body":{"@type":"CDS","name":"a"},"counter":1,"groups":["E","e","é"],"name":"a","typeUrl":"CDS","writer":1}
+{"body":{"@type":"CDS","name":"a"},"counter":1,"groups":null,"name":"a","typeUrl":"CDS","writer":1} => {"body":{"@type":"CDS","name":"a"},"counter":1,"name":"a","typeUrl":"CDS","writer":1}
+{"body":{"@type":"CDS","name":"a"},"counter":1,"groups":[],"name":"a","typeUrl":"CDS","writer":1} => {"body":{"@type":"CDS","name":"a"},"counter":1,"name":"a","typeUrl":"CDS","writer":1}
+{"counter":1,"groups":null,"name":"a","typeUrl":"CDS","writer":1} => {"counter":1,"name":"a","typeUrl":"CDS","writer":1}
+{"counter":1,"groups":[],"name":"a","typeUrl":"CDS","writer":1} => {"counter":1,"name":"a","typeUrl":"CDS","writer":1}
+{"body":{"@type":"CDS","name":"a"},"counter":1,"groups":["00","01","02","03","04","05","06","07","08","09","10","11","12","13","14","15","16","17","18","19","20","21","22","23","24","25","26","27","28","29","30","31","32","33","34","35","36","37","38","39","40","41","42","43","44","45","46","47","48","49","50","51","52","53","54","55","56","57","58","59","60","61","62","63","07"],"name":"a","typeUrl":"CDS","writer":1} => {"body":{"@type":"CDS","name":"a"},"counter":1,"groups":["00","01","02","03","04","05","06","07","08","09","10","11","12","13","14","15","16","17","18","19","20","21","22","23","24","25","26","27","28","29","30","31","32","33","34","35","36","37","38","39","40","41","42","43","44","45","46","47","48","49","50","51","52","53","54","55","56","57","58","59","60","61","62","63"],"name":"a","typeUrl":"CDS","writer":1}
+{"body":{"@type":"CDS","name":"a"},"counter":1,"groups":["<a*1024>"],"name":"a","typeUrl":"CDS","writer":1} => {"body":{"@type":"CDS","name":"a"},"counter":1,"groups":["<a*1024>"],"name":"a","typeUrl":"CDS","writer":1}
+{"counter":1,"groups":["a"],"name":"a","typeUrl":"CDS","writer":1} => 7 BadMessage
+{"body":null,"counter":1,"groups":["a"],"name":"a","typeUrl":"CDS","writer":1} => 7 BadMessage
+{"body":{"@type":"CDS","name":"a"},"counter":1,"groups":"a","name":"a","typeUrl":"CDS","writer":1} => 7 BadMessage
+{"body":{"@type":"CDS","name":"a"},"counter":1,"groups":{},"name":"a","typeUrl":"CDS","writer":1} => 7 BadMessage
+{"body":{"@type":"CDS","name":"a"},"counter":1,"groups":["a",null],"name":"a","typeUrl":"CDS","writer":1} => 7 BadMessage
+{"body":{"@type":"CDS","name":"a"},"counter":1,"groups":["a",1],"name":"a","typeUrl":"CDS","writer":1} => 7 BadMessage
+{"body":{"@type":"CDS","name":"a"},"counter":1,"groups":["a",""],"name":"a","typeUrl":"CDS","writer":1} => 7 BadMessage
+{"body":{"@type":"CDS","name":"a"},"counter":1,"groups":["<a*1025>"],"name":"a","typeUrl":"CDS","writer":1} => 7 BadMessage
+{"body":{"@type":"CDS","name":"a"},"counter":1,"groups":[["a"]],"name":"a","typeUrl":"CDS","writer":1} => 7 BadMessage
+{"body":{"@type":"CDS","name":"a"},"counter":1,"groups":["00","01","02","03","04","05","06","07","08","09","10","11","12","13","14","15","16","17","18","19","20","21","22","23","24","25","26","27","28","29","30","31","32","33","34","35","36","37","38","39","40","41","42","43","44","45","46","47","48","49","50","51","52","53","54","55","56","57","58","59","60","61","62","63","64"],"name":"a","typeUrl":"CDS","writer":1} => 7 BadMessage
+{"counter":1,"groups":[null],"name":"a","typeUrl":"CDS","writer":1} => 7 BadMessage"#,
     )
 }
 

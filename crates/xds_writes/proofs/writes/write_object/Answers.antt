@@ -1,0 +1,22 @@
+use Rattle.std.proofs.Common.{◌≡◌, ◌≤◌, suc, false, sym, subst}
+use Rattle.std.proofs.lemmas.Result.{IfOk-weaker}
+use Rattle.serde_json.specs.Data.{depth}
+use Rattle.serde_json.specs.Written.{has_float}
+use Rattle.xds_resource.specs.Any.{write_type, stamped_write}
+use Rattle.xds_resource.specs.Resources.{max_nesting}
+use Rattle.xds_writes.proofs.StampedWriteLemmas.{has_float-write_object, depth-write_object}
+use Rattle.xds_writes.proofs.writes.write_object.Goals as goal
+
+pub returns-clause-whole : goal.returns-clause-whole
+returns-clause-whole c =
+    let w = c.args.write.now in
+    let given = c.in_ok-body.ensures in
+    let whole = has_float-write_object (write_type w) (stamped_write w) c.in_ok-body.body given.value given.whole in
+    IfOk-weaker c.object_with.result _ _ (λ v is. subst (λ d. has_float d ≡ false) (sym is) whole) c.object_with.ensures.ok
+
+pub returns-clause-shallow : goal.returns-clause-shallow
+returns-clause-shallow c =
+    let w = c.args.write.now in
+    let given = c.in_ok-body.ensures in
+    let shallow = depth-write_object (write_type w) (stamped_write w) c.in_ok-body.body given.value given.shallow in
+    IfOk-weaker c.object_with.result _ _ (λ v is. subst (λ d. depth d ≤ suc max_nesting) (sym is) shallow) c.object_with.ensures.ok
