@@ -1,0 +1,85 @@
+-- What tokens stand for, and the rule over all tokens of a node. This project's own.
+use Rattle.std.specs.Prelude.{◌≡◌, ℕ, ◌+◌, ◌<◌, ◌≤◌, List, [], ◌∷◌, ◌++◌, length}
+use mathlib.Core.Option.{Option, none, some}
+use lib.ListN.{get_elem?}
+use Rattle.atomic_table.specs.Table.{State, Me, Step}
+use Rattle.xds_tokens.specs.declared.holding.Holding.{Holding}
+use Rattle.xds_tokens.specs.Entries.{weigh}
+
+module _ {E : Type 0} where
+  -- the one token that knows all records
+  abbrev pub keeper : ℕ → List (ℕ × E) → List (ℕ × E) → Holding E
+  keeper made cut journal = record { keepers = 1; made = made; cut = cut; journal = journal; seats = 0; told = []; share = [] }
+
+  -- one seat, and what it was told
+  abbrev pub seat_holding : List (ℕ × E) → Holding E
+  seat_holding told = record { keepers = 0; made = 0; cut = []; journal = []; seats = 1; told = told; share = [] }
+
+  -- a share of what was cut
+  abbrev pub share_holding : List (ℕ × E) → Holding E
+  share_holding share = record { keepers = 0; made = 0; cut = []; journal = []; seats = 0; told = []; share = share }
+
+  abbrev pub nothing : Holding E
+  nothing = record { keepers = 0; made = 0; cut = []; journal = []; seats = 0; told = []; share = [] }
+
+  -- what a keeper knows, and what is lent without it
+  abbrev pub kept_part : Holding E → Holding E
+  kept_part v = record { keepers = v.keepers; made = v.made; cut = v.cut; journal = v.journal; seats = 0; told = []; share = [] }
+
+  abbrev pub lent_part : Holding E → Holding E
+  lent_part v = record { keepers = 0; made = 0; cut = []; journal = []; seats = v.seats; told = v.told; share = v.share }
+
+  -- the first, with what the second was lent
+  abbrev pub both : Holding E → Holding E → Holding E
+  both v w = record { keepers = v.keepers; made = v.made; cut = v.cut; journal = v.journal; seats = v.seats + w.seats; told = v.told ++ w.told; share = v.share ++ w.share }
+
+  -- an entry more, in the journal and of what the seats were told
+  abbrev pub with_entry : ℕ → E → Holding E → Holding E
+  with_entry n e v = record { keepers = v.keepers; made = v.made; cut = v.cut; journal = v.journal ++ (n, e) ∷ []; seats = v.seats; told = v.told ++ (n, e) ∷ []; share = v.share }
+
+  -- a seat more
+  abbrev pub with_seat : Holding E → Holding E
+  with_seat v = record { keepers = v.keepers; made = v.made + 1; cut = v.cut; journal = v.journal; seats = v.seats + 1; told = v.told; share = v.share }
+
+  -- the journal is cut, and shared
+  abbrev pub after_cut : Holding E → Holding E
+  after_cut v = record { keepers = v.keepers; made = v.made; cut = v.cut ++ v.journal; journal = []; seats = v.seats; told = v.told; share = v.share ++ v.journal }
+
+  -- only a keeper knows records, and only a seat is told any
+  pub record IsIdle (v : Holding E) : Type 0 where
+    pub apart : v.keepers ≡ 0 → (v.made ≡ 0) × (v.cut ≡ []) × (v.journal ≡ [])
+    pub silent : v.seats ≡ 0 → v.told ≡ []
+
+  -- there is one keeper, each seat made is a seat of some token, what all were told weighs what the keeper recorded, and what all share weighs what it cut
+  pub record Balanced (views : List (Holding E)) : Type 0 where
+    pub one : weigh (λ v. v.keepers) views ≡ 1
+    pub seats : weigh (λ v. v.seats) views ≡ weigh (λ v. v.made) views
+    pub told : (h : ℕ × E → ℕ) → weigh (λ v. weigh h v.told) views ≡ weigh (λ v. weigh h v.cut + weigh h v.journal) views
+    pub share : (h : ℕ × E → ℕ) → weigh (λ v. weigh h v.share) views ≡ weigh (λ v. weigh h v.cut) views
+    pub idle : (i : ℕ) (v : Holding E) → get_elem? views i ≡ some v → IsIdle v
+
+  -- what the keeper knows of all tokens: nothing was told that isn't recorded; where it has every seat, all that is recorded was told;
+  -- and where it has shares of as many entries as were cut, they are what was cut
+  pub record Known (v : Holding E) : Type 0 where
+    pub most : (h : ℕ × E → ℕ) → weigh h v.told ≤ weigh h v.cut + weigh h v.journal
+    pub whole : v.seats ≡ v.made → (h : ℕ × E → ℕ) → weigh h v.told ≡ weigh h v.cut + weigh h v.journal
+    pub shares : length v.share ≡ length v.cut → (h : ℕ × E → ℕ) → weigh h v.share ≡ weigh h v.cut
+
+  abbrev pub Rule : State E (Holding E) → Type 0
+  Rule s = Balanced s.views
+
+  abbrev pub AppendsSaid : Option E → ℕ → Me E (Holding E) → Me E (Holding E) → Type 0
+  AppendsSaid none n m w = Unit {0}
+  AppendsSaid (some e) n m w = w ≡ (with_entry n e m.0, m.1)
+
+  abbrev pub Appends : Step E → Me E (Holding E) → ℕ → Me E (Holding E) → Type 0
+  Appends s m n w = AppendsSaid s.said s.first m w
+
+  abbrev pub Sits : Step E → Me E (Holding E) → ℕ → Me E (Holding E) → Type 0
+  Sits s m n w = w ≡ (with_seat m.0, m.1)
+
+  abbrev pub Cuts : Step E → Me E (Holding E) → ℕ → Me E (Holding E) → Type 0
+  Cuts s m n w = w ≡ (after_cut m.0, m.1)
+
+  abbrev pub Looks : Step E → Me E (Holding E) → ℕ → Me E (Holding E) → Type 0
+  Looks s m n w = (w ≡ m) × Known m.0
