@@ -1,2 +1,3 @@
 pub mod Weights
+pub mod Covering
 pub mod Balance

@@ -1,10 +1,10 @@
 -- What tokens stand for, and the rule over all tokens of a node. This project's own.
-use Rattle.std.specs.Prelude.{◌≡◌, ℕ, ◌+◌, ◌<◌, ◌≤◌, List, [], ◌∷◌, ◌++◌, length}
+use Rattle.std.specs.Prelude.{◌≡◌, ℕ, ◌+◌, ◌<◌, ◌≤◌, List, [], ◌∷◌, ◌++◌, length, All, Contains}
 use mathlib.Core.Option.{Option, none, some}
 use lib.ListN.{get_elem?}
 use Rattle.atomic_table.specs.Table.{State, Me, Step}
 use Rattle.xds_tokens.specs.declared.holding.Holding.{Holding}
-use Rattle.xds_tokens.specs.Entries.{weigh}
+use Rattle.xds_tokens.specs.Entries.{weigh, SameEach}
 
 module _ {E : Type 0} where
   -- the one token that knows all records
@@ -50,20 +50,38 @@ module _ {E : Type 0} where
     pub apart : v.keepers ≡ 0 → (v.made ≡ 0) × (v.cut ≡ []) × (v.journal ≡ [])
     pub silent : v.seats ≡ 0 → v.told ≡ []
 
-  -- there is one keeper, each seat made is a seat of some token, what all were told weighs what the keeper recorded, and what all share weighs what it cut
+  -- all that was recorded, as far as a token knows: what was cut, and the journal
+  abbrev pub recorded : Holding E → List (ℕ × E)
+  recorded v = v.cut ++ v.journal
+
+  -- some token has the entry in this list of its own
+  abbrev pub StandsIn : (Holding E → List (ℕ × E)) → List (Holding E) → ℕ × E → Type 0
+  StandsIn list views e = (i : ℕ) × (v : Holding E) × (get_elem? views i ≡ some v) × Contains (list v) e
+
+  -- over all tokens one list weighs what another weighs, and each entry of the one stands in the other
+  pub record Covers (known given : Holding E → List (ℕ × E)) (views : List (Holding E)) : Type 0 where
+    pub same : (h : ℕ × E → ℕ) → weigh (λ v. weigh h (given v)) views ≡ weigh (λ v. weigh h (known v)) views
+    pub stands : (i : ℕ) (v : Holding E) → get_elem? views i ≡ some v → All (StandsIn known views) (given v)
+
+  -- there is one keeper, each seat made is a seat of some token, what all were told is what the keeper recorded, and what all share is what it cut
   pub record Balanced (views : List (Holding E)) : Type 0 where
     pub one : weigh (λ v. v.keepers) views ≡ 1
     pub seats : weigh (λ v. v.seats) views ≡ weigh (λ v. v.made) views
-    pub told : (h : ℕ × E → ℕ) → weigh (λ v. weigh h v.told) views ≡ weigh (λ v. weigh h v.cut + weigh h v.journal) views
-    pub share : (h : ℕ × E → ℕ) → weigh (λ v. weigh h v.share) views ≡ weigh (λ v. weigh h v.cut) views
+    pub told : Covers recorded (λ v. v.told) views
+    pub share : Covers (λ v. v.cut) (λ v. v.share) views
     pub idle : (i : ℕ) (v : Holding E) → get_elem? views i ≡ some v → IsIdle v
 
-  -- what the keeper knows of all tokens: nothing was told that isn't recorded; where it has every seat, all that is recorded was told;
-  -- and where it has shares of as many entries as were cut, they are what was cut
+  -- what the keeper knows of one of its lists, and of what was given of it: no more was given, each entry that was given stands there, and where all was given, it is the same
+  pub record IsPartOf (given known : List (ℕ × E)) (all : Type 0) : Type 0 where
+    pub most : (h : ℕ × E → ℕ) → weigh h given ≤ weigh h known
+    pub stands : All (Contains known) given
+    pub whole : all → SameEach given known
+
+  -- what the keeper knows of all tokens: what it was told is part of what is recorded, and all of it where it has every seat;
+  -- what it shares is part of what was cut, and all of it where it shares as many entries
   pub record Known (v : Holding E) : Type 0 where
-    pub most : (h : ℕ × E → ℕ) → weigh h v.told ≤ weigh h v.cut + weigh h v.journal
-    pub whole : v.seats ≡ v.made → (h : ℕ × E → ℕ) → weigh h v.told ≡ weigh h v.cut + weigh h v.journal
-    pub shares : length v.share ≡ length v.cut → (h : ℕ × E → ℕ) → weigh h v.share ≡ weigh h v.cut
+    pub told : IsPartOf v.told (recorded v) (v.seats ≡ v.made)
+    pub share : IsPartOf v.share v.cut (length v.share ≡ length v.cut)
 
   abbrev pub Rule : State E (Holding E) → Type 0
   Rule s = Balanced s.views
