@@ -1,10 +1,11 @@
 -- What tokens stand for, and the rule over all tokens of a node. This project's own.
 use Rattle.std.specs.Prelude.{◌≡◌, ℕ, ◌+◌, ◌<◌, ◌≤◌, List, [], ◌∷◌, ◌++◌, length, All, Contains}
+use Rattle.std.specs.List.{flat_map}
 use mathlib.Core.Option.{Option, none, some}
 use lib.ListN.{get_elem?}
 use Rattle.atomic_table.specs.Table.{State, Me, Step}
 use Rattle.xds_tokens.specs.declared.holding.Holding.{Holding}
-use Rattle.xds_tokens.specs.Entries.{weigh, SameEach}
+use Rattle.xds_tokens.specs.Entries.{numbered, Counted, weigh, SameEach}
 
 module _ {E : Type 0} where
   -- the one token that knows all records
@@ -44,6 +45,21 @@ module _ {E : Type 0} where
   -- the journal is cut, and shared
   abbrev pub after_cut : Holding E → Holding E
   after_cut v = record { keepers = v.keepers; made = v.made; cut = v.cut ++ v.journal; journal = []; seats = v.seats; told = v.told; share = v.share ++ v.journal }
+
+  -- with these seats put into it, each of which was told these entries
+  abbrev pub with_seats : {X : Type 0} → (X → List (ℕ × E)) → Holding E → List X → Holding E
+  with_seats told_of v xs = record { keepers = v.keepers; made = v.made; cut = v.cut; journal = v.journal; seats = v.seats + length xs; told = v.told ++ flat_map told_of xs; share = v.share }
+
+  -- with these shares put into it
+  abbrev pub with_shares : {X : Type 0} → (X → List (ℕ × E)) → Holding E → List X → Holding E
+  with_shares share_of v xs = record { keepers = v.keepers; made = v.made; cut = v.cut; journal = v.journal; seats = v.seats; told = v.told; share = v.share ++ flat_map share_of xs }
+
+  -- it is the keeper of a journal with these records, behind so many that were cut, and of so many seats, none of which it has itself:
+  -- the records are numbered on from those that were cut, and those from 1
+  pub record IsKeeperOf (journal : List E) (cut seats : ℕ) (v : Holding E) : Type 0 where
+    pub is : v ≡ keeper seats v.cut (numbered (cut + 1) journal)
+    pub cut_is : cut ≡ length v.cut
+    pub counted : Counted 1 v.cut
 
   -- only a keeper knows records, and only a seat is told any
   pub record IsIdle (v : Holding E) : Type 0 where
