@@ -54,9 +54,9 @@ module _ {E : Type 0} where
   counted_rest n [] fs c = subst (λ k. Counted k fs) (omega arith) c
   counted_rest n (e ∷ es) fs c = subst (λ k. Counted k fs) (omega arith) (counted_rest (n + 1) es fs c.1)
 
-  -- entries behind those that were cut
-  pub counted_on : (es : List (ℕ × E)) (rs : List E) (cut : ℕ) → cut ≡ length es → Counted 1 es → Counted 1 (es ++ numbered (cut + 1) rs)
-  counted_on es rs cut same c = counted_append 1 es (numbered (cut + 1) rs) c (subst (λ k. Counted k (numbered (cut + 1) rs)) (omega arith) (counted_numbered (cut + 1) rs))
+  -- records behind entries
+  pub counted_on : (es : List (ℕ × E)) (rs : List E) → Counted 1 es → Counted 1 (es ++ numbered (length es + 1) rs)
+  counted_on es rs c = counted_append 1 es (numbered (length es + 1) rs) c (subst (λ k. Counted k (numbered (length es + 1) rs)) (omega arith) (counted_numbered (length es + 1) rs))
 
   pub counted_below : (n m : ℕ) (es : List (ℕ × E)) → Counted n es → n + length es ≤ m → AllBelow m es
   counted_below n m [] c few = All-nil (λ e. e.0 < m)

@@ -1,90 +1,70 @@
 -- The steps of tokens that one call of a node is made of, composed.
 use Rattle.std.proofs.Common.{◌≡◌, ◌≢◌, ℕ, ◌+◌, ◌<◌, ◌≤◌, List, [], ◌∷◌, ◌++◌, length, refl, sym, ap, subst, ◌∙◌, arith, append_assoc, append-nil, length-append}
-use Rattle.std.specs.Prelude.{All, Contains}
+use Rattle.std.specs.Prelude.{All, Contains, IsPermutation}
 use Rattle.std.specs.List.{flat_map}
 use Rattle.std.proofs.lemmas.List.{flat_map_more}
 use Rattle.xds_tokens.specs.declared.holding.Holding.{Holding}
 use Rattle.xds_tokens.specs.Entries.{numbered, Counted, AllBelow, weigh, SameEach}
-use Rattle.xds_tokens.specs.Holdings.{keeper, seat_holding, share_holding, kept_part, lent_part, both, with_entry, with_seat, after_cut, with_seats, with_shares, recorded, IsKeeperOf, IsPartOf, Known}
+use Rattle.xds_tokens.specs.Holdings.{keeper, seat_holding, share_holding, kept_part, lent_part, both, with_entry, with_seat, after_cut, with_seats, with_shares, recorded, IsAlone, IsKeeperOf, IsPartOf, Known}
 use Rattle.xds_tokens.proofs.Numbers.{numbered_one, length_numbered, counted_on, counted_below, rising}
-use Rattle.xds_tokens.proofs.Parts.{part_weaker}
+use Rattle.xds_tokens.proofs.Parts.{part_weaker, all_given, whole_given}
 
 module _ {E : Type 0} where
-  pub keeper_begins : IsKeeperOf [] 0 0 (keeper {E = E} 0 [] [])
-  keeper_begins = record { is = refl; cut_is = refl; counted = tt }
-
-  -- a seat more: the keeper counts it, sits, and lends it out
-  pub record IsSeated (journal : List E) (cut seats : ℕ) (desk kept lent : Holding E) : Type 0 where
-    pub keeps : IsKeeperOf journal cut (seats + 1) kept
-    pub same : kept.cut ≡ desk.cut
-    pub seat : lent ≡ seat_holding []
-
-  pub seat_steps : (journal : List E) (cut seats : ℕ) (desk sat kept lent : Holding E) → IsKeeperOf journal cut seats desk → sat ≡ with_seat desk → kept ≡ kept_part sat → lent ≡ lent_part sat → IsSeated journal cut seats desk kept lent
-  seat_steps journal cut seats desk sat kept lent k sits keeps lends =
-      let all : sat ≡ with_seat (keeper seats desk.cut (numbered (cut + 1) journal)) = sits ∙ ap with_seat k.is in
-      let is : kept ≡ keeper (seats + 1) desk.cut (numbered (cut + 1) journal) = keeps ∙ ap kept_part all in
-      let same : kept.cut ≡ desk.cut = ap (λ (v : Holding E). v.cut) is in
+  -- a holding that is a keeper's, with its own list of what was cut
+  keeps_so : (journal : List E) (seats : ℕ) (cut : List (ℕ × E)) (v : Holding E) → v ≡ keeper seats cut (numbered (length cut + 1) journal) → Counted 1 cut → IsKeeperOf journal seats v
+  keeps_so journal seats cut v is counted =
+      let same : cut ≡ v.cut = sym (ap (λ (u : Holding E). u.cut) is) in
       record {
-        keeps = record {
-          is = is ∙ ap (λ c. keeper (seats + 1) c (numbered (cut + 1) journal)) (sym same);
-          cut_is = k.cut_is ∙ ap length (sym same);
-          counted = subst (Counted 1) (sym same) k.counted;
-        };
-        same = same;
-        seat = lends ∙ ap lent_part all;
+        is = is ∙ ap (λ c. keeper seats c (numbered (length c + 1) journal)) same;
+        counted = subst (Counted 1) same counted;
       }
 
-  -- a call: the seat is put into the keeper, the entry is added, and the seat is lent out again
-  pub record IsCalled (journal : List E) (cut seats n : ℕ) (e : E) (desk seat kept again : Holding E) : Type 0 where
-    pub keeps : IsKeeperOf (journal ++ e ∷ []) cut seats kept
-    pub same : kept.cut ≡ desk.cut
-    pub told : again ≡ seat_holding (seat.told ++ (n, e) ∷ [])
-    -- all that the seat was told before stands below, in what was cut or in the journal
-    pub below : AllBelow n seat.told
-    pub stands : All (Contains (desk.cut ++ numbered (cut + 1) journal)) seat.told
+  -- what a seat was told stands in what the keeper recorded, once the keeper has it
+  pub told_stands : (token seat lent joined : Holding E) → IsAlone token → seat ≡ seat_holding seat.told → lent ≡ lent_part seat → joined ≡ both token lent → Known joined → All (Contains (recorded token)) seat.told
+  told_stands token seat lent joined alone seated lends joins known =
+      let one : joined ≡ both (keeper token.made token.cut token.journal) (seat_holding seat.told) = joins ∙ ap (λ (v : Holding E). both v lent) alone ∙ ap (both (keeper token.made token.cut token.journal)) (lends ∙ ap lent_part seated) in
+      let part : IsPartOf seat.told (recorded token) ((0 + 1) ≡ token.made) = subst (λ (v : Holding E). IsPartOf v.told (recorded v) (v.seats ≡ v.made)) one known.told in
+      part.stands
 
-  pub call_steps : (journal : List E) (cut seats n : ℕ) (e : E) (desk seat left lent joined looked more kept back again : Holding E) → IsKeeperOf journal cut seats desk → n ≡ cut + length journal + 1 → seat ≡ seat_holding seat.told → left ≡ kept_part seat → lent ≡ lent_part seat → joined ≡ both desk lent → looked ≡ joined → Known joined → more ≡ with_entry n e looked → kept ≡ kept_part more → back ≡ lent_part more → again ≡ both left back → IsCalled journal cut seats n e desk seat kept again
-  call_steps journal cut seats n e desk seat left lent joined looked more kept back again k number seated leaves lends joins looks known adds keeps gives ends =
-      let j = numbered (cut + 1) journal in
-      let one : joined ≡ both (keeper seats desk.cut j) (seat_holding seat.told) = joins ∙ ap (λ (v : Holding E). both v lent) k.is ∙ ap (λ (v : Holding E). both (keeper seats desk.cut j) v) (lends ∙ ap lent_part seated) in
-      let two : more ≡ with_entry n e (both (keeper seats desk.cut j) (seat_holding seat.told)) = adds ∙ ap (with_entry n e) (looks ∙ one) in
-      let is : kept ≡ keeper seats desk.cut (j ++ (n, e) ∷ []) = keeps ∙ ap kept_part two in
-      let same : kept.cut ≡ desk.cut = ap (λ (v : Holding E). v.cut) is in
-      let longer : j ++ (n, e) ∷ [] ≡ numbered (cut + 1) (journal ++ e ∷ []) = ap (λ m. j ++ (m, e) ∷ []) (number ∙ omega arith) ∙ sym (numbered_one (cut + 1) journal e) in
-      let part : IsPartOf seat.told (desk.cut ++ j) ((0 + 1) ≡ seats) = subst (λ (v : Holding E). IsPartOf v.told (recorded v) (v.seats ≡ v.made)) one known.told in
-      record {
-        keeps = record {
-          is = is ∙ ap (keeper seats desk.cut) longer ∙ ap (λ c. keeper seats c (numbered (cut + 1) (journal ++ e ∷ []))) (sym same);
-          cut_is = k.cut_is ∙ ap length (sym same);
-          counted = subst (Counted 1) (sym same) k.counted;
-        };
-        same = same;
-        told = ends ∙ ap (λ (v : Holding E). both v back) (leaves ∙ ap kept_part seated) ∙ ap (both (kept_part (seat_holding seat.told))) (gives ∙ ap lent_part two);
-        below = rising n seat.told (desk.cut ++ j) (counted_below 1 n (desk.cut ++ j) (counted_on desk.cut journal cut k.cut_is k.counted) (let c = k.cut_is in omega (arith, length-append desk.cut j, length_numbered (cut + 1) journal))) part.stands;
-        stands = part.stands;
-      }
+  -- the keeper of a journal, through the calls of a node
 
-  -- a cut: the keeper cuts, and lends the share out
-  pub record IsCut (journal : List E) (cut seats : ℕ) (desk kept lent : Holding E) : Type 0 where
-    pub keeps : IsKeeperOf [] (cut + length journal) seats kept
-    pub longer : kept.cut ≡ desk.cut ++ numbered (cut + 1) journal
-    pub share : lent ≡ share_holding (numbered (cut + 1) journal)
+  pub keeper_begins : (v : Holding E) → v ≡ keeper 0 [] [] → IsKeeperOf [] 0 v
+  keeper_begins v is = keeps_so [] 0 [] v is tt
 
-  pub cut_steps : (journal : List E) (cut seats : ℕ) (desk parted kept lent : Holding E) → IsKeeperOf journal cut seats desk → parted ≡ after_cut desk → kept ≡ kept_part parted → lent ≡ lent_part parted → IsCut journal cut seats desk kept lent
-  cut_steps journal cut seats desk parted kept lent k cuts keeps lends =
-      let j = numbered (cut + 1) journal in
-      let all : parted ≡ after_cut (keeper seats desk.cut j) = cuts ∙ ap after_cut k.is in
-      let is : kept ≡ keeper seats (desk.cut ++ j) [] = keeps ∙ ap kept_part all in
-      let longer : kept.cut ≡ desk.cut ++ j = ap (λ (v : Holding E). v.cut) is in
-      record {
-        keeps = record {
-          is = is ∙ ap (λ c. keeper seats c []) (sym longer);
-          cut_is = (let c = k.cut_is in omega (arith, length-append desk.cut j, length_numbered (cut + 1) journal)) ∙ ap length (sym longer);
-          counted = subst (Counted 1) (sym longer) (counted_on desk.cut journal cut k.cut_is k.counted);
-        };
-        longer = longer;
-        share = lends ∙ ap lent_part all;
-      }
+  pub keeper_alone : (journal : List E) (seats : ℕ) (v : Holding E) → IsKeeperOf journal seats v → IsAlone v
+  keeper_alone journal seats v k = k.is ∙ sym (λ i. keeper (k.is i).made v.cut (k.is i).journal)
+
+  -- what it recorded is what was cut, and the records of the journal, numbered on
+  pub recorded_is : (journal : List E) (seats : ℕ) (v : Holding E) → IsKeeperOf journal seats v → recorded v ≡ v.cut ++ numbered (length v.cut + 1) journal
+  recorded_is journal seats v k = ap (λ j. v.cut ++ j) (ap (λ (u : Holding E). u.journal) k.is)
+
+  pub recorded_counted : (journal : List E) (seats : ℕ) (v : Holding E) → IsKeeperOf journal seats v → Counted 1 (recorded v)
+  recorded_counted journal seats v k = subst (Counted 1) (sym (recorded_is journal seats v k)) (counted_on v.cut journal k.counted)
+
+  pub keeper_seat : (journal : List E) (seats : ℕ) (v w : Holding E) → IsKeeperOf journal seats v → w ≡ keeper (v.made + 1) v.cut v.journal → IsKeeperOf journal (seats + 1) w
+  keeper_seat journal seats v w k is = keeps_so journal (seats + 1) v.cut w (is ∙ λ i. keeper ((k.is i).made + 1) v.cut (k.is i).journal) k.counted
+
+  pub keeper_tell : (journal : List E) (seats n : ℕ) (e : E) (v w : Holding E) → IsKeeperOf journal seats v → n ≡ length v.cut + length journal + 1 → w ≡ keeper v.made v.cut (v.journal ++ (n, e) ∷ []) → IsKeeperOf (journal ++ e ∷ []) seats w
+  keeper_tell journal seats n e v w k number is =
+      let j = numbered (length v.cut + 1) journal in
+      let longer : j ++ (n, e) ∷ [] ≡ numbered (length v.cut + 1) (journal ++ e ∷ []) = ap (λ m. j ++ (m, e) ∷ []) (number ∙ omega arith) ∙ sym (numbered_one (length v.cut + 1) journal e) in
+      keeps_so (journal ++ e ∷ []) seats v.cut w (is ∙ (λ i. keeper (k.is i).made v.cut ((k.is i).journal ++ (n, e) ∷ [])) ∙ ap (keeper seats v.cut) longer) k.counted
+
+  pub keeper_share : (journal : List E) (seats : ℕ) (v w : Holding E) → IsKeeperOf journal seats v → w ≡ keeper v.made (recorded v) [] → IsKeeperOf [] seats w
+  keeper_share journal seats v w k is = keeps_so [] seats (recorded v) w (is ∙ λ i. keeper (k.is i).made (recorded v) []) (recorded_counted journal seats v k)
+
+  -- how many were cut then
+  pub cut_many : (journal : List E) (seats : ℕ) (v : Holding E) → IsKeeperOf journal seats v → length (recorded v) ≡ length v.cut + length journal
+  cut_many journal seats v k =
+      ap length (recorded_is journal seats v k) ∙ length-append v.cut (numbered (length v.cut + 1) journal) ∙ ap (λ n. length v.cut + n) (length_numbered (length v.cut + 1) journal)
+
+  -- the share of the journal is its records, numbered
+  pub share_is : (journal : List E) (seats : ℕ) (v l : Holding E) → IsKeeperOf journal seats v → l ≡ share_holding v.journal → l ≡ share_holding (numbered (length v.cut + 1) journal)
+  share_is journal seats v l k is = is ∙ ap (λ (u : Holding E). share_holding u.journal) k.is
+
+  -- what stands among the entries recorded has a number below the next
+  pub below_next : (journal : List E) (seats n : ℕ) (v : Holding E) (told : List (ℕ × E)) → IsKeeperOf journal seats v → n ≡ length v.cut + length journal + 1 → All (Contains (recorded v)) told → AllBelow n told
+  below_next journal seats n v told k number stands = rising n told (recorded v) (counted_below 1 n (recorded v) (recorded_counted journal seats v k) (omega (arith, cut_many journal seats v k))) stands
 
   -- seats are put into a token, one after another
 
@@ -115,16 +95,30 @@ module _ {E : Type 0} where
       let one : both (with_shares share_of v xs) (share_holding (share_of x)) ≡ with_shares share_of v (xs ++ x ∷ []) = (λ i. record { keepers = v.keepers; made = v.made; cut = v.cut; journal = v.journal; seats = many i; told = told i; share = share i }) in
       gives ∙ ap (λ (u : Holding E). both u lent) was ∙ ap (both (with_shares share_of v xs)) is ∙ one
 
-  -- what the keeper then knows of what all these seats were told
-  pub all_seats : {X : Type 0} (told_of : X → List (ℕ × E)) (journal : List E) (cut seats : ℕ) (v w : Holding E) (xs : List X) → IsKeeperOf journal cut seats v → w ≡ with_seats told_of v xs → Known w → IsPartOf (flat_map told_of xs) (v.cut ++ numbered (cut + 1) journal) (length xs ≡ seats)
-  all_seats told_of journal cut seats v w xs k is known =
-      let all : w ≡ with_seats told_of (keeper seats v.cut (numbered (cut + 1) journal)) xs = is ∙ ap (λ (u : Holding E). with_seats told_of u xs) k.is in
-      part_weaker (flat_map told_of xs) (v.cut ++ numbered (cut + 1) journal) (0 + length xs ≡ seats) (length xs ≡ seats) (λ same. omega arith)
+  -- what the keeper then knows of what all these seats were told: it is part of what was recorded
+  pub all_seats : {X : Type 0} (told_of : X → List (ℕ × E)) (journal : List E) (seats : ℕ) (v w : Holding E) (xs : List X) → IsKeeperOf journal seats v → w ≡ with_seats told_of v xs → Known w → IsPartOf (flat_map told_of xs) (recorded v) (length xs ≡ seats)
+  all_seats told_of journal seats v w xs k is known =
+      let all : w ≡ with_seats told_of (keeper seats v.cut v.journal) xs = is ∙ (λ i. with_seats told_of (keeper_alone journal seats v k i) xs) ∙ (λ i. with_seats told_of (keeper (k.is i).made v.cut v.journal) xs) in
+      part_weaker (flat_map told_of xs) (recorded v) (0 + length xs ≡ seats) (length xs ≡ seats) (λ same. omega arith)
       (subst (λ (u : Holding E). IsPartOf u.told (recorded u) (u.seats ≡ u.made)) all known.told)
 
-  -- what the keeper then knows of all these shares
+  -- and where it has every seat, it is what was recorded, in some order
+  pub ends : {X : Type 0} (told_of : X → List (ℕ × E)) (journal : List E) (seats : ℕ) (v w : Holding E) (xs : List X) → IsKeeperOf journal seats v → w ≡ with_seats told_of v xs → Known w → length xs ≡ seats → IsPermutation (flat_map told_of xs) (recorded v)
+  ends told_of journal seats v w xs k is known every =
+      all_given (flat_map told_of xs) (recorded v) 1 (length xs ≡ seats) (recorded_counted journal seats v k) (all_seats told_of journal seats v w xs k is known) every
+
+  -- what a keeper with no share of its own knows of all these shares: they are part of what was cut
   pub all_shares : {X : Type 0} (share_of : X → List (ℕ × E)) (v w : Holding E) (xs : List X) → v.share ≡ [] → w ≡ with_shares share_of v xs → Known w → IsPartOf (flat_map share_of xs) v.cut (length (flat_map share_of xs) ≡ length v.cut)
   all_shares share_of v w xs own is known =
       let given : w.share ≡ flat_map share_of xs = ap (λ (u : Holding E). u.share) is ∙ ap (λ l. l ++ flat_map share_of xs) own in
       let cut : w.cut ≡ v.cut = ap (λ (u : Holding E). u.cut) is in
       subst (λ (l : List (ℕ × E)). IsPartOf l v.cut (length l ≡ length v.cut)) given (subst (λ (c : List (ℕ × E)). IsPartOf w.share c (length w.share ≡ length c)) cut known.share)
+
+  -- where they have as many entries as were cut, they are what was cut, in some order; and in the order of their numbers they are what was cut
+  pub cut_in_some_order : {X : Type 0} (share_of : X → List (ℕ × E)) (v w : Holding E) (xs : List X) → Counted 1 v.cut → v.share ≡ [] → w ≡ with_shares share_of v xs → Known w → length (flat_map share_of xs) ≡ length v.cut → IsPermutation (flat_map share_of xs) v.cut
+  cut_in_some_order share_of v w xs counted own is known many =
+      all_given (flat_map share_of xs) v.cut 1 (length (flat_map share_of xs) ≡ length v.cut) counted (all_shares share_of v w xs own is known) many
+
+  pub cut_in_order : {X : Type 0} (share_of : X → List (ℕ × E)) (v w : Holding E) (xs : List X) → Counted 1 v.cut → v.share ≡ [] → w ≡ with_shares share_of v xs → Known w → Counted 1 (flat_map share_of xs) → length (flat_map share_of xs) ≡ length v.cut → flat_map share_of xs ≡ v.cut
+  cut_in_order share_of v w xs counted own is known order many =
+      whole_given (flat_map share_of xs) v.cut 1 (length (flat_map share_of xs) ≡ length v.cut) counted order many (all_shares share_of v w xs own is known)

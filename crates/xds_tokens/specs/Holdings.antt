@@ -54,11 +54,14 @@ module _ {E : Type 0} where
   abbrev pub with_shares : {X : Type 0} → (X → List (ℕ × E)) → Holding E → List X → Holding E
   with_shares share_of v xs = record { keepers = v.keepers; made = v.made; cut = v.cut; journal = v.journal; seats = v.seats; told = v.told; share = v.share ++ flat_map share_of xs }
 
-  -- it is the keeper of a journal with these records, behind so many that were cut, and of so many seats, none of which it has itself:
-  -- the records are numbered on from those that were cut, and those from 1
-  pub record IsKeeperOf (journal : List E) (cut seats : ℕ) (v : Holding E) : Type 0 where
-    pub is : v ≡ keeper seats v.cut (numbered (cut + 1) journal)
-    pub cut_is : cut ≡ length v.cut
+  -- it is the keeper, and has no seat and no share
+  abbrev pub IsAlone : Holding E → Type 0
+  IsAlone v = v ≡ keeper v.made v.cut v.journal
+
+  -- it is the keeper of a journal with these records and of so many seats, none of which it has itself:
+  -- the entries that were cut are numbered from 1, and the records on from there
+  pub record IsKeeperOf (journal : List E) (seats : ℕ) (v : Holding E) : Type 0 where
+    pub is : v ≡ keeper seats v.cut (numbered (length v.cut + 1) journal)
     pub counted : Counted 1 v.cut
 
   -- only a keeper knows records, and only a seat is told any

@@ -1,6 +1,6 @@
 // The tokens of one node.
-ghost use Rattle.std.specs.Prelude.{◌≡◌, ◌<◌, [], IfOk};
-ghost use Rattle.xds_tokens.specs.Holdings.{keeper, kept_part, lent_part, both, with_entry, with_seat, after_cut, Known};
+ghost use Rattle.std.specs.Prelude.{◌≡◌, ◌+◌, ◌<◌, [], ◌∷◌, ◌++◌, All, Contains};
+ghost use Rattle.xds_tokens.specs.Holdings.{keeper, seat_holding, share_holding, kept_part, lent_part, both, with_entry, with_seat, after_cut, recorded, IsAlone, Known};
 
 use crate::holding::Holding;
 use crate::rule::{Append, Cut, Give, Lend, Look, NodeName, Sit, Tally};
@@ -137,5 +137,40 @@ impl<E, N: NodeName> Tokens<E, N> {
         ensures known { Known token.old }
     {
         let _found = self.table.shared.load::<Look>(&mut token.seat, 0);
+    }
+    /// Makes one more seat, which was told nothing, and hands it out.
+    pub fn seat(&self, token: &mut Token<E, N>) -> Token<E, N>
+        requires { IsAlone token.old }
+        ensures kept { token.new ≡ keeper (token.old.made + 1) token.old.cut token.old.journal }
+        ensures seat { result ≡ seat_holding [] }
+    {
+        self.sit(token);
+        self.lend(token)
+    }
+
+    /// Adds an entry to the keeper's journal, and tells it to a seat, in one step. All that the seat was told before is recorded.
+    pub fn tell(&self, token: &mut Token<E, N>, seat: &mut Token<E, N>, number: u64, entry: &E)
+        requires kept { IsAlone token.old }
+        requires seat { seat.old ≡ seat_holding seat.old.told }
+        ensures kept { token.new ≡ keeper token.old.made token.old.cut (token.old.journal ++ (number, entry.now) ∷ []) }
+        ensures told { seat.new ≡ seat_holding (seat.old.told ++ (number, entry.now) ∷ []) }
+        ensures stands { All (Contains (recorded token.old)) seat.old.told }
+    {
+        let lent = self.lend(seat);
+        self.give(token, lent);
+        self.look(token);
+        self.append(token, number, entry);
+        let back = self.lend(token);
+        self.give(seat, back);
+    }
+
+    /// Cuts the keeper's journal, and hands out the share of it.
+    pub fn share(&self, token: &mut Token<E, N>) -> Token<E, N>
+        requires { IsAlone token.old }
+        ensures kept { token.new ≡ keeper token.old.made (recorded token.old) [] }
+        ensures share { result ≡ share_holding token.old.journal }
+    {
+        self.cut(token);
+        self.lend(token)
     }
 }
