@@ -1,16 +1,16 @@
 -- What is given of a list that one token knows, as tokens change: no more, and nothing else.
-use Rattle.std.proofs.Common.{◌≡◌, ◌≢◌, ◌⊎◌, inl, inr, ℕ, zero, suc, ◌+◌, ◌<◌, ◌≤◌, List, [], ◌∷◌, ◌++◌, length, set, refl, sym, ap, subst, ◌∙◌, ⊎_elim, arith}
+use Rattle.std.proofs.Common.{◌≡◌, ◌≢◌, ◌⊎◌, ℕ, zero, suc, ◌+◌, ◌<◌, List, [], ◌∷◌, ◌++◌, length, set, refl, sym, ap, subst, ◌∙◌, ⊎_elim, arith}
 use Rattle.std.specs.Prelude.{All, Contains}
-use Rattle.std.proofs.lemmas.List.Elements.{All-weaker, All-contains, All-contains_itself, All-nil, All-append, Contains-append_left, Contains-append_right}
-use mathlib.Core.Option.{none, some, some-ne-none, some-injective}
+use Rattle.std.proofs.lemmas.List.Elements.{All-weaker, All-contains, All-contains_itself, All-nil, All-append}
+use mathlib.Core.Option.{some, some-ne-none, some-injective}
 use mathlib.Core.Logic.{dite}
 use native.Mathlib.Decide.{ℕ_discrete}
 use lib.ListN.{get_elem?}
 use Rattle.atomic_table.proofs.Lists.{at_set, at_snoc, at_longer, set_else}
 use Rattle.xds_tokens.specs.declared.holding.Holding.{Holding}
-use Rattle.xds_tokens.specs.Entries.{weigh, SameEach}
+use Rattle.xds_tokens.specs.Entries.{weigh}
 use Rattle.xds_tokens.specs.Holdings.{StandsIn, Covers, IsPartOf}
-use Rattle.xds_tokens.proofs.Weights.{weigh_append, weigh_more, weigh_set, weigh_at, weigh_length, only}
+use Rattle.xds_tokens.proofs.Weights.{weigh_append, weigh_more, weigh_set, weigh_at, only}
 
 pub all_by : {X : Type 0} (P : X → Type 0) (xs : List X) → ((x : X) → Contains xs x → P x) → All P xs
 all_by P xs each = All-weaker (Contains xs) P each xs (All-contains_itself xs)

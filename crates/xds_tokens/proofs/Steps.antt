@@ -1,11 +1,11 @@
 -- The steps of tokens that one call of a node is made of, composed.
-use Rattle.std.proofs.Common.{◌≡◌, ◌≢◌, ℕ, ◌+◌, ◌<◌, ◌≤◌, List, [], ◌∷◌, ◌++◌, length, refl, sym, ap, subst, ◌∙◌, arith, append_assoc, append-nil, length-append}
+use Rattle.std.proofs.Common.{◌≡◌, ℕ, ◌+◌, List, [], ◌∷◌, ◌++◌, length, sym, ap, subst, ◌∙◌, arith, append-nil, length-append}
 use Rattle.std.specs.Prelude.{All, Contains, IsPermutation}
 use Rattle.std.specs.List.{flat_map}
 use Rattle.std.proofs.lemmas.List.{flat_map_more}
 use Rattle.xds_tokens.specs.declared.holding.Holding.{Holding}
-use Rattle.xds_tokens.specs.Entries.{numbered, Counted, AllBelow, weigh, SameEach}
-use Rattle.xds_tokens.specs.Holdings.{keeper, seat_holding, share_holding, kept_part, lent_part, both, with_entry, with_seat, after_cut, with_seats, with_shares, recorded, IsAlone, IsKeeperOf, IsPartOf, Known}
+use Rattle.xds_tokens.specs.Entries.{numbered, Counted, AllBelow}
+use Rattle.xds_tokens.specs.Holdings.{keeper, seat_holding, share_holding, lent_part, both, with_seats, with_shares, recorded, IsAlone, IsKeeperOf, IsPartOf, Known}
 use Rattle.xds_tokens.proofs.Numbers.{numbered_one, length_numbered, counted_on, counted_below, rising}
 use Rattle.xds_tokens.proofs.Parts.{part_weaker, all_given, whole_given}
 

@@ -1,5 +1,5 @@
 -- What tokens stand for, and the rule over all tokens of a node. This project's own.
-use Rattle.std.specs.Prelude.{◌≡◌, ℕ, ◌+◌, ◌<◌, ◌≤◌, List, [], ◌∷◌, ◌++◌, length, All, Contains}
+use Rattle.std.specs.Prelude.{◌≡◌, ℕ, ◌+◌, ◌≤◌, List, [], ◌∷◌, ◌++◌, length, All, Contains}
 use Rattle.std.specs.List.{flat_map}
 use mathlib.Core.Option.{Option, none, some}
 use lib.ListN.{get_elem?}
