@@ -8,7 +8,8 @@ use Rattle.atomic_table.specs.Table.{Me, step, keeps, Allows, Splits, Joins}
 use Rattle.atomic_table.proofs.Lists.{at_set, at_snoc, set_else}
 use Rattle.xds_tokens.specs.declared.holding.Holding.{Holding}
 use Rattle.xds_tokens.specs.Entries.{weigh}
-use Rattle.xds_tokens.specs.Holdings.{recorded, nothing, kept_part, lent_part, both, with_entry, with_seat, after_cut, IsIdle, Balanced, Known, Rule, Appends, Sits, Cuts, Looks}
+use Rattle.xds_tokens.specs.Holdings.{recorded, nothing, kept_part, lent_part, both, with_entry, with_seat, after_cut}
+use Rattle.xds_tokens.specs.Tally.{IsIdle, Balanced, Known, Rule, Appends, Sits, Cuts, Looks}
 use Rattle.xds_tokens.proofs.Weights.{weigh_append, weigh_more, weigh_set, weigh_length, only}
 use Rattle.xds_tokens.proofs.Covering.{Turns, covers_set, covers_fork, covers_merge, part_of}
 

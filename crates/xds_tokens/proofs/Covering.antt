@@ -9,7 +9,7 @@ use lib.ListN.{get_elem?}
 use Rattle.atomic_table.proofs.Lists.{at_set, at_snoc, at_longer, set_else}
 use Rattle.xds_tokens.specs.declared.holding.Holding.{Holding}
 use Rattle.xds_tokens.specs.Entries.{weigh}
-use Rattle.xds_tokens.specs.Holdings.{StandsIn, Covers, IsPartOf}
+use Rattle.xds_tokens.specs.Tally.{StandsIn, Covers, IsPartOf}
 use Rattle.xds_tokens.proofs.Weights.{weigh_append, weigh_more, weigh_set, weigh_at, only}
 
 pub all_by : {X : Type 0} (P : X → Type 0) (xs : List X) → ((x : X) → Contains xs x → P x) → All P xs

@@ -6,7 +6,7 @@ use Rattle.std.proofs.lemmas.List.Sorted.{IsPermutation-refl, IsPermutation-tran
 use mathlib.Core.Logic.{dite}
 use native.Mathlib.Decide.{ℕ_discrete}
 use Rattle.xds_tokens.specs.Entries.{Counted, weigh, SameEach}
-use Rattle.xds_tokens.specs.Holdings.{IsPartOf}
+use Rattle.xds_tokens.specs.Tally.{IsPartOf}
 use Rattle.xds_tokens.proofs.Weights.{weigh_append}
 use Rattle.xds_tokens.proofs.Numbers.{Contains-cases, counted_from, first_of_counted, later_of_counted, part_at}
 use Rattle.xds_tokens.proofs.Covering.{all_by}

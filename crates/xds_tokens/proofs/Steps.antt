@@ -1,11 +1,13 @@
 -- The steps of tokens that one call of a node is made of, composed.
-use Rattle.std.proofs.Common.{◌≡◌, ℕ, ◌+◌, List, [], ◌∷◌, ◌++◌, length, sym, ap, subst, ◌∙◌, arith, append-nil, length-append}
+use Rattle.std.proofs.Common.{◌≡◌, ℕ, ◌+◌, List, [], ◌∷◌, ◌++◌, length, sym, ap, subst, ◌∙◌, arith, append-nil, length-append, Bool, true}
 use Rattle.std.specs.Prelude.{All, Contains, IsPermutation}
 use Rattle.std.specs.List.{flat_map}
 use Rattle.std.proofs.lemmas.List.{flat_map_more}
 use Rattle.xds_tokens.specs.declared.holding.Holding.{Holding}
 use Rattle.xds_tokens.specs.Entries.{numbered, Counted, AllBelow}
-use Rattle.xds_tokens.specs.Holdings.{keeper, seat_holding, share_holding, lent_part, both, with_seats, with_shares, recorded, IsAlone, IsKeeperOf, IsPartOf, Known}
+use Rattle.xds_tokens.specs.Holdings.{keeper, seat_holding, share_holding, lent_part, both, with_seats, with_shares, recorded, IsAlone, IsKeeperOf, IsClosed}
+use Rattle.xds_tokens.specs.Tally.{IsPartOf, Known}
+use Rattle.std.proofs.lemmas.List.Sorted.{IsPermutation-sym, IsPermutation-trans, IsPermutation-append_left}
 use Rattle.xds_tokens.proofs.Numbers.{numbered_one, length_numbered, counted_on, counted_below, rising}
 use Rattle.xds_tokens.proofs.Parts.{part_weaker, all_given, whole_given}
 
@@ -122,3 +124,27 @@ module _ {E : Type 0} where
   pub cut_in_order : {X : Type 0} (share_of : X → List (ℕ × E)) (v w : Holding E) (xs : List X) → Counted 1 v.cut → v.share ≡ [] → w ≡ with_shares share_of v xs → Known w → Counted 1 (flat_map share_of xs) → length (flat_map share_of xs) ≡ length v.cut → flat_map share_of xs ≡ v.cut
   cut_in_order share_of v w xs counted own is known order many =
       whole_given (flat_map share_of xs) v.cut 1 (length (flat_map share_of xs) ≡ length v.cut) counted order many (all_shares share_of v w xs own is known)
+
+  -- a node is closed: the seats that are at hand were put into the keeper
+  pub keeper_closes : {X : Type 0} (told_of : X → List (ℕ × E)) (journal : List E) (seats : ℕ) (complete : Bool) (v w : Holding E) (xs : List X) → IsKeeperOf journal seats v → w ≡ with_seats told_of v xs → Known w → (complete ≡ true → length xs ≡ seats) → IsClosed journal complete w
+  keeper_closes told_of journal seats complete v w xs k is known every =
+      let cut : w.cut ≡ v.cut = ap (λ (u : Holding E). u.cut) is in
+      let same : recorded w ≡ recorded v = ap recorded is in
+      let told : w.told ≡ flat_map told_of xs = ap (λ (u : Holding E). u.told) is ∙ (λ i. (keeper_alone journal seats v k i).told ++ flat_map told_of xs) in
+      record {
+        one = ap (λ (u : Holding E). u.keepers) is ∙ ap (λ (u : Holding E). u.keepers) k.is;
+        no_share = ap (λ (u : Holding E). u.share) is ∙ ap (λ (u : Holding E). u.share) k.is;
+        journal_is = ap (λ (u : Holding E). u.journal) is ∙ ap (λ (u : Holding E). u.journal) k.is ∙ ap (λ c. numbered (length c + 1) journal) (sym cut);
+        counted = subst (Counted 1) (sym cut) k.counted;
+        whole = λ c.
+            subst (λ (l : List (ℕ × E)). IsPermutation l (recorded w)) (sym told)
+            (subst (λ (l : List (ℕ × E)). IsPermutation (flat_map told_of xs) l) (sym same) (ends told_of journal seats v w xs k is known (every c)));
+      }
+
+  -- and then shares of as many entries as were cut are put into it: what the seats were told is what the shares and the journal hold, in some order
+  pub audited : {X : Type 0} (share_of : X → List (ℕ × E)) (journal : List E) (complete : Bool) (v w : Holding E) (xs : List X) → IsClosed journal complete v → w ≡ with_shares share_of v xs → Known w → complete ≡ true → length (flat_map share_of xs) ≡ length v.cut → IsPermutation v.told (flat_map share_of xs ++ numbered (length v.cut + 1) journal)
+  audited share_of journal complete v w xs closed is known c many =
+      let all = flat_map share_of xs in
+      let shares = cut_in_some_order share_of v w xs closed.counted closed.no_share is known many in
+      let parts : IsPermutation (recorded v) (all ++ v.journal) = IsPermutation-append_left v.journal v.cut all (IsPermutation-sym all v.cut shares) in
+      subst (λ (j : List (ℕ × E)). IsPermutation v.told (all ++ j)) closed.journal_is (IsPermutation-trans v.told (recorded v) (all ++ v.journal) (closed.whole c) parts)

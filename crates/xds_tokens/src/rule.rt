@@ -20,7 +20,8 @@ impl NodeName for Brand {
 pub struct Tally;
 
 impl<E> TableRule<E, Holding<E>, ()> for Tally {
-    ghost use Rattle.xds_tokens.specs.Holdings.{keeper, Rule};
+    ghost use Rattle.xds_tokens.specs.Holdings.{keeper};
+    ghost use Rattle.xds_tokens.specs.Tally.{Rule};
     ghost use Rattle.std.specs.Prelude.{[]};
 
     ghost holds = { λ _. Rule };
@@ -32,7 +33,7 @@ impl<E> TableRule<E, Holding<E>, ()> for Tally {
 pub struct Append;
 
 impl<E> Play<E, Holding<E>> for Append {
-    ghost use Rattle.xds_tokens.specs.Holdings.{Appends};
+    ghost use Rattle.xds_tokens.specs.Tally.{Appends};
 
     ghost then = { Appends };
 }
@@ -41,7 +42,7 @@ impl<E> Play<E, Holding<E>> for Append {
 pub struct Sit;
 
 impl<E> Play<E, Holding<E>> for Sit {
-    ghost use Rattle.xds_tokens.specs.Holdings.{Sits};
+    ghost use Rattle.xds_tokens.specs.Tally.{Sits};
 
     ghost then = { Sits };
 }
@@ -50,7 +51,7 @@ impl<E> Play<E, Holding<E>> for Sit {
 pub struct Cut;
 
 impl<E> Play<E, Holding<E>> for Cut {
-    ghost use Rattle.xds_tokens.specs.Holdings.{Cuts};
+    ghost use Rattle.xds_tokens.specs.Tally.{Cuts};
 
     ghost then = { Cuts };
 }
@@ -59,7 +60,7 @@ impl<E> Play<E, Holding<E>> for Cut {
 pub struct Look;
 
 impl<E> Play<E, Holding<E>> for Look {
-    ghost use Rattle.xds_tokens.specs.Holdings.{Looks};
+    ghost use Rattle.xds_tokens.specs.Tally.{Looks};
 
     ghost then = { Looks };
 }

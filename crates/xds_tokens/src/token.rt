@@ -1,6 +1,7 @@
 // The tokens of one node.
 ghost use Rattle.std.specs.Prelude.{◌≡◌, ◌+◌, ◌<◌, [], ◌∷◌, ◌++◌, All, Contains};
-ghost use Rattle.xds_tokens.specs.Holdings.{keeper, seat_holding, share_holding, kept_part, lent_part, both, with_entry, with_seat, after_cut, recorded, IsAlone, Known};
+ghost use Rattle.xds_tokens.specs.Holdings.{keeper, seat_holding, share_holding, kept_part, lent_part, both, with_entry, with_seat, after_cut, recorded, IsAlone};
+ghost use Rattle.xds_tokens.specs.Tally.{Known};
 
 use crate::holding::Holding;
 use crate::rule::{Append, Cut, Give, Lend, Look, NodeName, Sit, Tally};
