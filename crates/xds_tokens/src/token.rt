@@ -30,7 +30,7 @@ impl<E> Model for Opened<E> {
     ghost invariant = { λ o. (o.table.shared.table_id.words ≡ 1) × (o.seat.table_id ≡ o.table.shared.table_id) × (o.seat.me ≡ (keeper 0 [] [], [])) };
 }
 
-/// The place that all tokens of a node belong to. It is shared by all threads; a step of a token takes a `&` of it.
+/// The place that all tokens of a node belong to. All threads share it; no call of it allocates or waits.
 #[derive(Drop)]
 pub struct Tokens<E, N: NodeName> {
     table: Table<E, Holding<E>, (), Tally, Global>,
