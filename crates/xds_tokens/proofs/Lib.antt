@@ -1,0 +1,6 @@
+pub mod Weights
+pub mod Numbers
+pub mod Covering
+pub mod Balance
+pub mod Parts
+pub mod Steps
