@@ -1,7 +1,7 @@
 -- Conditions in a row: what holds of all of them from what holds of the first ones.
 use Rattle.std.proofs.Common.{◌≡◌, List, [], ◌∷◌, ◌++◌, Bool, true, false, cond, Result, Ok, Err, refl, ◌≢◌, ◌⊎◌, inl, inr}
 use Rattle.xds_resource.specs.declared.refusal.Refusal.{Refusal}
-use Rattle.xds_resource.specs.declared.refusal.Refusal.TheVariants.{NotJson, TooDeep, NotWhole, BadResource, BadName, TooLong, BadMessage, OutOfMemory, NotFound, CounterSpent, BadStamp, NoStream, WrongVariant, NonceSpent, Device, BadScript}
+use Rattle.xds_resource.specs.declared.refusal.Refusal.TheVariants.{NotJson, TooDeep, NotWhole, BadResource, BadName, TooLong, BadMessage, OutOfMemory, NotFound, CounterSpent, BadStamp, NoStream, WrongVariant, NonceSpent, EmptyFrame, FrameTooLong, UnknownKind, Truncated, Device, JournalFull, BadScript, BadTrace, Gap, BadGroup}
 use Rattle.xds_resource.specs.Refusals.{unless_refused}
 
 abbrev Conditions : Type 0
@@ -41,5 +41,13 @@ memory_or_not BadStamp = inr (λ same. cc)
 memory_or_not NoStream = inr (λ same. cc)
 memory_or_not WrongVariant = inr (λ same. cc)
 memory_or_not NonceSpent = inr (λ same. cc)
+memory_or_not EmptyFrame = inr (λ same. cc)
+memory_or_not FrameTooLong = inr (λ same. cc)
+memory_or_not UnknownKind = inr (λ same. cc)
+memory_or_not Truncated = inr (λ same. cc)
 memory_or_not Device = inr (λ same. cc)
+memory_or_not JournalFull = inr (λ same. cc)
 memory_or_not BadScript = inr (λ same. cc)
+memory_or_not BadTrace = inr (λ same. cc)
+memory_or_not Gap = inr (λ same. cc)
+memory_or_not BadGroup = inr (λ same. cc)
