@@ -1,0 +1,4 @@
+pub mod Frames
+pub mod Decoding
+pub mod Lending
+pub mod Writing
