@@ -2,3 +2,4 @@ pub mod Frames
 pub mod Decoding
 pub mod Lending
 pub mod Writing
+pub mod Devices

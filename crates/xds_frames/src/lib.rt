@@ -2,10 +2,16 @@
 // bytes that come in pieces.
 #![tactic(auto)]
 
+pub mod counted;
 pub mod decoder;
+pub mod faulty;
 pub mod frame;
+pub mod whole;
 pub mod writing;
 
+pub use counted::Counted;
 pub use decoder::Decoder;
+pub use faulty::Faulty;
 pub use frame::{Frame, FrameKind};
+pub use whole::{read_whole, write_bytes, write_whole};
 pub use writing::{frame_head, push_frame, write_frame};
