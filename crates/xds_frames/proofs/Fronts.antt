@@ -4,13 +4,10 @@ use Rattle.std.specs.Int.{w32, from_be_bytes, to_be_bytes}
 use Rattle.std.proofs.lemmas.Nat.{be_bytes_4}
 use Rattle.std.proofs.lemmas.List.{take-append-drop, length-take-le, length-take, get_or-take, get_or_past}
 use Rattle.std.proofs.lemmas.Bool.{cases_lt}
-use Rattle.xds_frames.specs.Frames.{Framed, frame_bytes, IsFrame, IsLength, IsKind, number_of, after_length, IsPartial}
+use Rattle.xds_frames.specs.Frames.{AreBytes, Framed, frame_bytes, IsFrame, IsLength, IsKind, number_of, after_length, IsPartial}
 use Rattle.xds_frames.specs.declared.frame.FrameKind.{FrameKind}
 
-abbrev pub AreBytes : List ℕ → Type 0
-AreBytes bytes = (i : ℕ) → get_or bytes i 0 < 256
-
-first_bytes : (bytes : List ℕ) → AreBytes bytes → AreBytes (take 4 bytes)
+pub first_bytes : (bytes : List ℕ) → AreBytes bytes → AreBytes (take 4 bytes)
 first_bytes bytes fits i = ⊎_elim (λ near. rw (get_or-take 4 bytes i 0 near) (fits i)) (λ far. rw (get_or_past (take 4 bytes) i 0 (omega (arith, far, length-take 4 bytes))) (lit< tt)) (cases_lt i 4)
 
 -- the first four bytes spell the length, and the others follow it

@@ -1,2 +1,5 @@
 pub mod Fronts
 pub mod DeviceWriting
+pub mod Apart
+pub mod Readings
+pub mod Covering

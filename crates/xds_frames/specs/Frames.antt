@@ -1,5 +1,5 @@
 -- Frames, by which messages follow one another on a stream, and bytes that are none. This project's own.
-use Rattle.std.specs.Prelude.{◌≡◌, ◌+◌, ◌<◌, ◌≤◌, ◌^◌, ◌⊎◌, ℕ, List, [], ◌∷◌, ◌++◌, length, ⊤}
+use Rattle.std.specs.Prelude.{◌≡◌, ◌+◌, ◌<◌, ◌≤◌, ◌^◌, ◌⊎◌, ℕ, List, [], ◌∷◌, ◌++◌, length, slice_index, ⊤}
 use Rattle.std.specs.Int.{w32, to_be_bytes}
 use Rattle.xds_resource.specs.declared.refusal.Refusal.{Refusal}
 use Rattle.xds_resource.specs.declared.refusal.Refusal.TheVariants.{EmptyFrame, FrameTooLong, UnknownKind}
@@ -33,6 +33,10 @@ IsLength n = (0 < n) × (n ≤ longest)
 abbrev pub after_length : ℕ → List ℕ → List ℕ
 after_length n body = to_be_bytes w32 n ++ body
 
+-- what a list of numbers has to be for a stream to have it
+abbrev pub AreBytes : List ℕ → Type 0
+AreBytes bytes = (i : ℕ) → slice_index bytes i < 256
+
 -- the length counts the kind and the text
 abbrev pub frame_bytes : Framed → List ℕ
 frame_bytes f = after_length (length f.text + 1) (number_of f.kind ∷ f.text)
@@ -40,12 +44,18 @@ frame_bytes f = after_length (length f.text + 1) (number_of f.kind ∷ f.text)
 abbrev pub IsFrame : Framed → Type 0
 IsFrame f = IsLength (length f.text + 1)
 
--- what begins so is no frame, whatever follows
+-- what begins so is no frame, whatever follows: it counts nothing, or too much, or is of no kind
+abbrev pub IsEmpty : List ℕ → Type 0
+IsEmpty bytes = (body : List ℕ) × (bytes ≡ after_length 0 body)
+
+abbrev pub IsTooLong : List ℕ → Type 0
+IsTooLong bytes = (n : ℕ) × (body : List ℕ) × (longest < n) × (n < 2 ^ 32) × (bytes ≡ after_length n body)
+
+abbrev pub IsOfNoKind : List ℕ → Type 0
+IsOfNoKind bytes = (n k : ℕ) × (body : List ℕ) × IsLength n × ¬ IsKind k × (bytes ≡ after_length n (k ∷ body))
+
 abbrev pub IsFault : List ℕ → Refusal → Type 0
-IsFault bytes EmptyFrame = (body : List ℕ) × (bytes ≡ after_length 0 body)
-IsFault bytes FrameTooLong = (n : ℕ) × (body : List ℕ) × (longest < n) × (n < 2 ^ 32) × (bytes ≡ after_length n body)
-IsFault bytes UnknownKind = (n k : ℕ) × (body : List ℕ) × IsLength n × ¬ IsKind k × (bytes ≡ after_length n (k ∷ body))
-IsFault bytes _ = ⊥
+IsFault bytes e = ((e ≡ EmptyFrame) × IsEmpty bytes) ⊎ (((e ≡ FrameTooLong) × IsTooLong bytes) ⊎ ((e ≡ UnknownKind) × IsOfNoKind bytes))
 
 -- what a frame may have behind its length
 abbrev pub MayFollow : List ℕ → Type 0

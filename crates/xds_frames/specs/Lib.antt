@@ -3,3 +3,4 @@ pub mod Decoding
 pub mod Lending
 pub mod Writing
 pub mod Devices
+pub mod Reading

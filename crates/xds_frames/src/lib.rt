@@ -6,6 +6,7 @@ pub mod counted;
 pub mod decoder;
 pub mod faulty;
 pub mod frame;
+pub mod laws;
 pub mod whole;
 pub mod writing;
 
