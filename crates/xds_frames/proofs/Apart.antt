@@ -1,19 +1,20 @@
 -- No frame begins another one, and none begins as a fault does.
-use Rattle.std.proofs.Common.{subst, ◌≡◌, ℕ, ◌+◌, ◌-◌, ◌<◌, ◌≤◌, ◌^◌, List, [], ◌∷◌, ◌++◌, length, take, drop, refl, sym, ap, ◌∙◌, ◌⊎◌, inl, inr, arith, lit≤, zero, suc}
-use Rattle.std.specs.Int.{w32, from_be_bytes, to_be_bytes}
+use Rattle.std.proofs.Common.{subst, ◌≡◌, ℕ, ◌+◌, ◌<◌, ◌^◌, List, ◌∷◌, ◌++◌, length, take, drop, refl, sym, ap, ◌∙◌, inl, inr, arith, lit≤, zero, suc}
+use Rattle.std.specs.Int.{w32, from_be_bytes}
 use Rattle.std.proofs.lemmas.Nat.{from_be_bytes-to_be_bytes_4}
 use Rattle.std.proofs.lemmas.List.{length-append}
 use Rattle.std.proofs.Math.Seq.{take-append_seam, drop-append_seam}
 use Rattle.xds_resource.specs.declared.refusal.Refusal.{Refusal}
 use Rattle.xds_frames.specs.declared.frame.FrameKind.{FrameKind}
 use Rattle.xds_frames.specs.declared.frame.FrameKind.TheVariants.{DiscoveryRequest, DiscoveryResponse, DeltaDiscoveryRequest, DeltaDiscoveryResponse, Batch}
-use Rattle.xds_frames.specs.Frames.{Framed, frame_bytes, IsFrame, IsFault, IsEmpty, IsTooLong, IsOfNoKind, IsKind, IsLength, IsPartial, MayFollow, number_of, after_length, longest}
+use Rattle.xds_frames.specs.Frames.{Framed, frame_bytes, IsFrame, IsFault, IsEmpty, IsTooLong, IsOfNoKind, IsKind, IsPartial, MayFollow, number_of, after_length}
 
 -- bytes have one length, and one body behind it
 pub lengths_apart : (n m : ℕ) (x y : List ℕ) → n < 2 ^ 32 → m < 2 ^ 32 → after_length n x ≡ after_length m y → (n ≡ m) × (x ≡ y)
-lengths_apart n m x y n_fits m_fits same =
-    (sym (from_be_bytes-to_be_bytes_4 n n_fits) ∙ ap (λ (l : List ℕ). from_be_bytes w32 (take 4 l)) same ∙ from_be_bytes-to_be_bytes_4 m m_fits,
-     ap (λ (l : List ℕ). drop 4 l) same)
+lengths_apart n m x y n_fits m_fits same = (
+  sym (from_be_bytes-to_be_bytes_4 n n_fits) ∙ ap (λ (l : List ℕ). from_be_bytes w32 (take 4 l)) same ∙ from_be_bytes-to_be_bytes_4 m m_fits,
+  ap (λ (l : List ℕ). drop 4 l) same,
+)
 
 abbrev kind_at : ℕ → FrameKind
 kind_at zero = Batch
@@ -42,9 +43,10 @@ is_kind Batch = (lit≤ tt, lit≤ tt)
 
 -- fronts of one length
 fronts_apart : (s t x y : List ℕ) → length s ≡ length t → s ++ x ≡ t ++ y → (s ≡ t) × (x ≡ y)
-fronts_apart s t x y len same =
-    (sym (take-append_seam s x) ∙ ap (take (length s)) same ∙ ap (λ n. take n (t ++ y)) len ∙ take-append_seam t y,
-     sym (drop-append_seam s x) ∙ ap (drop (length s)) same ∙ ap (λ n. drop n (t ++ y)) len ∙ drop-append_seam t y)
+fronts_apart s t x y len same = (
+  sym (take-append_seam s x) ∙ ap (take (length s)) same ∙ ap (λ n. take n (t ++ y)) len ∙ take-append_seam t y,
+  sym (drop-append_seam s x) ∙ ap (drop (length s)) same ∙ ap (λ n. drop n (t ++ y)) len ∙ drop-append_seam t y,
+)
 
 behind_kinds : (k l : FrameKind) (s t : List ℕ) → number_of k ∷ s ≡ number_of l ∷ t → (k ≡ l) × (s ≡ t)
 behind_kinds k l s t same = (kinds_apart k l cc, cc)

@@ -1,6 +1,6 @@
 -- All bytes are read as frames, up to their end or a fault.
 use Rattle.std.proofs.Common.{◌≡◌, ℕ, ◌+◌, ◌-◌, ◌<◌, ◌≤◌, ◌^◌, List, [], ◌∷◌, ◌++◌, length, get_or, take, drop, refl, sym, ap, ◌∙◌, subst, ◌⊎◌, inl, inr, ⊎_elim, arith, Option, Some, None, append_assoc, zero, suc}
-use Rattle.std.specs.List.{All, flat_map}
+use Rattle.std.specs.List.{flat_map}
 use Rattle.std.specs.Int.{w32, from_be_bytes}
 use Rattle.std.proofs.lemmas.Bool.{cases_lt}
 use Rattle.std.proofs.lemmas.List.{length-append, length-drop, get_or-drop}
@@ -11,7 +11,7 @@ use Rattle.xds_resource.specs.declared.refusal.Refusal.TheVariants.{EmptyFrame, 
 use Rattle.xds_frames.specs.declared.frame.FrameKind.{FrameKind}
 use Rattle.xds_frames.specs.declared.frame.FrameKind.TheVariants.{DiscoveryRequest, DiscoveryResponse, DeltaDiscoveryRequest, DeltaDiscoveryResponse, Batch}
 use Rattle.xds_frames.specs.Frames.{Framed, AreBytes, frame_bytes, IsFrame, IsFault, IsKind, IsPartial, after_length, longest, number_of}
-use Rattle.xds_frames.specs.Reading.{Splits, Ends, IsRead}
+use Rattle.xds_frames.specs.Reading.{Ends, IsRead}
 use Rattle.xds_frames.proofs.Apart.{is_kind}
 use Rattle.xds_frames.proofs.Fronts.{first_bytes, spelled, whole}
 
@@ -54,8 +54,8 @@ front : (bytes : List ℕ) → AreBytes bytes → Front bytes
 front bytes fits = ⊎_elim
     (λ short. inl (inl short))
     (λ long.
-        let n = from_be_bytes w32 (take 4 bytes) in
-        behind_length bytes (drop 4 bytes) n (spelled bytes (take 4 bytes) (drop 4 bytes) n fits (refl, refl, omega (arith, length-drop 4 bytes)) refl) (spells_below (take 4 bytes) (first_bytes bytes fits)))
+    let n = from_be_bytes w32 (take 4 bytes) in
+    behind_length bytes (drop 4 bytes) n (spelled bytes (take 4 bytes) (drop 4 bytes) n fits (refl, refl, omega (arith, length-drop 4 bytes)) refl) (spells_below (take 4 bytes) (first_bytes bytes fits)))
     (cases_lt (length bytes) 4)
 
 bytes_behind : (front bytes x : List ℕ) → AreBytes bytes → bytes ≡ front ++ x → AreBytes x
@@ -65,14 +65,18 @@ bytes_behind front bytes x fits at i =
 
 one_more : (f : Framed) (bytes x : List ℕ) → IsFrame f → bytes ≡ frame_bytes f ++ x → (frames : List Framed) × (end : Option Refusal) × IsRead x frames end
     → (frames : List Framed) × (end : Option Refusal) × IsRead bytes frames end
-one_more f bytes x is_f at (frames, end, read) = (f ∷ frames, end, record {
-  rest = read.rest;
-  splits = record {
-    are_frames = All-cons IsFrame f frames is_f read.splits.are_frames;
-    joined = at ∙ ap (λ l. frame_bytes f ++ l) read.splits.joined ∙ sym (append_assoc (frame_bytes f) (flat_map frame_bytes frames) read.rest);
-  };
-  ends = read.ends;
-})
+one_more f bytes x is_f at (frames, end, read) = (
+  f ∷ frames,
+  end,
+  record {
+    rest = read.rest;
+    splits = record {
+      are_frames = All-cons IsFrame f frames is_f read.splits.are_frames;
+      joined = at ∙ ap (λ l. frame_bytes f ++ l) read.splits.joined ∙ sym (append_assoc (frame_bytes f) (flat_map frame_bytes frames) read.rest);
+    };
+    ends = read.ends;
+  },
+)
 
 none_more : (bytes : List ℕ) (end : Option Refusal) → Ends bytes end → (frames : List Framed) × (end : Option Refusal) × IsRead bytes frames end
 none_more bytes end ends = ([], end, record { rest = bytes; splits = record { are_frames = All-nil IsFrame; joined = refl }; ends = ends })
@@ -85,10 +89,10 @@ at_part (b ∷ bs) part = none_more (b ∷ bs) (Some Truncated) (inr (refl, part
 read_upto : (n : ℕ) (bytes : List ℕ) → length bytes < n → AreBytes bytes → (frames : List Framed) × (end : Option Refusal) × IsRead bytes frames end
 read_upto zero bytes fits are = absurd (omega arith)
 read_upto (suc n) bytes fits are = elim (front bytes are) [
-    inl part ↦ at_part bytes part
+  | inl part ↦ at_part bytes part
   | inr (inl (e, fault)) ↦ none_more bytes (Some e) (inl fault)
   | inr (inr (f, x, is_f, at)) ↦ one_more f bytes x is_f at (read_upto n x (omega (arith, fits, ap (λ (l : List ℕ). length l) at, length-append f.text x)) (bytes_behind (frame_bytes f) bytes x are at))
-  ]
+]
 
 pub all_read : (bytes : List ℕ) → AreBytes bytes → (frames : List Framed) × (end : Option Refusal) × IsRead bytes frames end
 all_read bytes are = read_upto (length bytes + 1) bytes (omega arith) are

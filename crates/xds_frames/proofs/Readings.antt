@@ -1,15 +1,11 @@
 -- All bytes as frames: what a decoder keeps, and that they are read in one way.
-use Rattle.std.proofs.Common.{◌≡◌, ℕ, ◌+◌, ◌-◌, ◌<◌, ◌≤◌, List, [], ◌∷◌, ◌++◌, length, get_or, take, drop, refl, sym, ap, ◌∙◌, subst, ◌⊎◌, inl, inr, arith, Option, Some, None, append_assoc, append-nil, zero, suc}
+use Rattle.std.proofs.Common.{◌≡◌, ℕ, List, [], ◌∷◌, ◌++◌, length, refl, sym, ap, ◌∙◌, subst, inl, inr, arith, Option, Some, None, append_assoc, append-nil}
 use Rattle.std.specs.List.{All, flat_map}
-use Rattle.std.specs.Int.{w32, from_be_bytes}
-use Rattle.std.proofs.lemmas.Bool.{cases_lt}
-use Rattle.std.proofs.lemmas.List.{length-append}
-use Rattle.std.proofs.lemmas.List.Elements.{All-nil, All-cons, All-head, All-tail}
+use Rattle.std.proofs.lemmas.List.Elements.{All-head, All-tail}
 use Rattle.xds_resource.specs.declared.refusal.Refusal.{Refusal}
-use Rattle.xds_resource.specs.declared.refusal.Refusal.TheVariants.{EmptyFrame, FrameTooLong, UnknownKind, Truncated}
-use Rattle.xds_frames.specs.Frames.{Framed, AreBytes, frame_bytes, IsFrame, IsFault, IsPartial, after_length, longest, number_of}
+use Rattle.xds_frames.specs.Frames.{Framed, frame_bytes, IsFrame, IsFault}
 use Rattle.xds_frames.specs.Decoding.{IsFed}
-use Rattle.xds_frames.specs.Reading.{Splits, Ends, IsRead, HasDecoded}
+use Rattle.xds_frames.specs.Reading.{Ends, IsRead, HasDecoded}
 use Rattle.xds_frames.proofs.Apart.{fault_or_frame, fault_or_partial, partial_or_frame, faults_apart, frames_apart}
 
 -- a piece more
@@ -53,7 +49,7 @@ reads_on (g ∷ gs) [] x rest end these those same ends =
     absurd (no_frame g rest (flat_map frame_bytes gs ++ x) end (All-head IsFrame g gs these) (sym same ∙ append_assoc (frame_bytes g) (flat_map frame_bytes gs) x) ends)
 reads_on (g ∷ gs) (f ∷ fs) x rest end these those same ends =
     let here = frames_apart g f (flat_map frame_bytes gs ++ x) (flat_map frame_bytes fs ++ rest) (All-head IsFrame g gs these) (All-head IsFrame f fs those)
-        (sym (append_assoc (frame_bytes g) (flat_map frame_bytes gs) x) ∙ same ∙ append_assoc (frame_bytes f) (flat_map frame_bytes fs) rest) in
+    (sym (append_assoc (frame_bytes g) (flat_map frame_bytes gs) x) ∙ same ∙ append_assoc (frame_bytes f) (flat_map frame_bytes fs) rest) in
     let on = reads_on gs fs x rest end (All-tail IsFrame g gs these) (All-tail IsFrame f fs those) here.1 ends in
     (on.0, ap (λ h. h ∷ fs) (sym here.0) ∙ ap (λ l. g ∷ l) on.1, on.2, on.3)
 
@@ -88,9 +84,10 @@ none_later (f ∷ fs) rest rest' end those ends same =
 
 -- bytes are read in one way
 pub read_once : (bytes : List ℕ) (frames others : List Framed) (end another : Option Refusal) → IsRead bytes frames end → IsRead bytes others another → (frames ≡ others) × (end ≡ another)
-read_once bytes frames others end another h k =
-    (sym (append-nil frames) ∙ ap (λ l. frames ++ l) (sym none) ∙ sym on.1,
-     ends_apart h.rest end another h.ends (subst (λ l. Ends l another) (sym (on.2 ∙ ap (λ l. flat_map frame_bytes l ++ k.rest) none)) k.ends))
+read_once bytes frames others end another h k = (
+  sym (append-nil frames) ∙ ap (λ l. frames ++ l) (sym none) ∙ sym on.1,
+  ends_apart h.rest end another h.ends (subst (λ l. Ends l another) (sym (on.2 ∙ ap (λ l. flat_map frame_bytes l ++ k.rest) none)) k.ends),
+)
   where
     on : (later : List Framed) × (others ≡ frames ++ later) × (h.rest ≡ flat_map frame_bytes later ++ k.rest) × All IsFrame later
     on = reads_on frames others h.rest k.rest another h.splits.are_frames k.splits.are_frames (sym h.splits.joined ∙ k.splits.joined) k.ends

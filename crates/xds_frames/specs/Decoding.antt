@@ -10,7 +10,7 @@ abbrev pub framed : Frame → Framed
 framed f = record { kind = f.kind; text = f.text.now }
 
 abbrev pub IsSound : List ℕ → Type 0
-IsSound left = (e : Refusal) → ¬ (IsFault left e) 
+IsSound left = (e : Refusal) → ¬ (IsFault left e)
 
 -- a piece is added behind what is left, or nothing is, behind a fault
 abbrev pub IsFed : List ℕ → List ℕ → List ℕ → Type 0

@@ -4,7 +4,7 @@ use Rattle.xds_resource.specs.declared.refusal.Refusal.{Refusal}
 use Rattle.xds_resource.specs.declared.refusal.Refusal.TheVariants.{FrameTooLong}
 use Rattle.xds_resource.specs.Refusals.{unless_refused}
 use Rattle.xds_frames.specs.declared.frame.FrameKind.{FrameKind}
-use Rattle.xds_frames.specs.Frames.{Framed, frame_bytes, after_length, number_of, longest}
+use Rattle.xds_frames.specs.Frames.{frame_bytes, after_length, number_of, longest}
 
 -- a text is too long where its length and the kind's byte are more than a length may count
 abbrev pub length_conditions : ℕ → List (Bool × Refusal)

@@ -30,7 +30,11 @@ impl<D> Counted<D> {
         ensures calls { result.calls ≡ 0 }
         ensures failed { result.failed ≡ 0 }
     {
-        Counted { inner, calls: 0, failed: 0 }
+        Counted {
+            inner,
+            calls: 0,
+            failed: 0,
+        }
     }
 
     // Fails a call that isn't passed on.

@@ -63,14 +63,20 @@ fn first_frame(bytes: &[u8]) -> Result<Option<Frame<'_>>, Refusal>
     if text.len() < length - 1 {
         return Ok(None);
     }
-    Ok(Some(Frame { kind, text: &text[..length - 1] }))
+    Ok(Some(Frame {
+        kind,
+        text: &text[..length - 1],
+    }))
 }
 
 impl Decoder {
     pub fn new(alloc: Global) -> Decoder
         ensures { result ≡ [] }
     {
-        Decoder { bytes: Vec::new(alloc), given: 0 }
+        Decoder {
+            bytes: Vec::new(alloc),
+            given: 0,
+        }
     }
 
     /// Takes the next piece, or passes over it behind a fault. It takes memory for what has come, whatever length a

@@ -14,8 +14,7 @@ pub fn decoders_keep_to_the_bytes()
         → IsFed left piece after → HasDecoded (bytes ++ piece) given after }
     ensures given { (bytes left after : List ℕ) (given : List Framed) (f : Frame) → HasDecoded bytes given left
         → GivesNext left (Ok (Some f)) after → HasDecoded bytes (given ++ framed f ∷ []) after }
-{
-}
+{}
 
 /// A decoder that gives none has given all whole frames of the bytes, and tells how they end.
 pub fn decoders_leave_nothing_out()
@@ -27,8 +26,7 @@ pub fn decoders_leave_nothing_out()
         → IsPartial left → Finishes left end → IsRead bytes given (refused_by end) }
     ensures refused { (bytes left : List ℕ) (given : List Framed) (e : Refused) → HasDecoded bytes given left
         → IsFault left e → IsRead bytes given (Some e) }
-{
-}
+{}
 
 /// All bytes are read as frames, up to their end or a fault, and in one way.
 pub fn bytes_are_read_in_one_way()
@@ -36,5 +34,4 @@ pub fn bytes_are_read_in_one_way()
         → IsRead bytes others another → (frames ≡ others) × (end ≡ another) }
     ensures some { (bytes : List ℕ) → AreBytes bytes
         → (frames : List Framed) × (end : Option Refused) × IsRead bytes frames end }
-{
-}
+{}

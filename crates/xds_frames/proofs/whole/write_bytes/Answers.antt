@@ -1,5 +1,5 @@
 use Rattle.std.proofs.Common.{refl}
-use Rattle.xds_frames.proofs.DeviceWriting.{written-more, written-part, written-whole}
+use Rattle.xds_frames.proofs.DeviceWriting.{written-more, written-part}
 use Rattle.xds_frames.proofs.whole.write_bytes.Goals as goal
 
 pub loop-rest-preserved : goal.loop-rest-preserved
