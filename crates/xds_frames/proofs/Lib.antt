@@ -3,3 +3,4 @@ pub mod DeviceWriting
 pub mod Apart
 pub mod Readings
 pub mod Covering
+pub mod Standing

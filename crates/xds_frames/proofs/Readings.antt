@@ -3,9 +3,10 @@ use Rattle.std.proofs.Common.{◌≡◌, ℕ, List, [], ◌∷◌, ◌++◌, len
 use Rattle.std.specs.List.{All, flat_map}
 use Rattle.std.proofs.lemmas.List.Elements.{All-head, All-tail}
 use Rattle.xds_resource.specs.declared.refusal.Refusal.{Refusal}
-use Rattle.xds_frames.specs.Frames.{Framed, frame_bytes, IsFrame, IsFault}
+use Rattle.xds_resource.specs.declared.refusal.Refusal.TheVariants.{Truncated}
+use Rattle.xds_frames.specs.Frames.{Framed, frame_bytes, IsFrame, IsFault, IsPartial}
 use Rattle.xds_frames.specs.Decoding.{IsFed}
-use Rattle.xds_frames.specs.Reading.{Ends, IsRead, HasDecoded}
+use Rattle.xds_frames.specs.Reading.{Ends, IsRead, HasDecoded, HasGivenAll}
 use Rattle.xds_frames.proofs.Apart.{fault_or_frame, fault_or_partial, partial_or_frame, faults_apart, frames_apart}
 
 -- a piece more
@@ -54,7 +55,7 @@ reads_on (g ∷ gs) (f ∷ fs) x rest end these those same ends =
     (on.0, ap (λ h. h ∷ fs) (sym here.0) ∙ ap (λ l. g ∷ l) on.1, on.2, on.3)
 
 -- bytes that have ended with a frame are at no fault, and not within one
-not_both : (rest : List ℕ) (e : Refusal) → rest ≡ [] → Ends rest (Some e) → ⊥
+pub not_both : (rest : List ℕ) (e : Refusal) → rest ≡ [] → Ends rest (Some e) → ⊥
 not_both rest e h (inl (inl (is, (body, at)))) = absurd (cc (h, at))
 not_both rest e h (inl (inr (inl (is, (n, body, above, fits, at))))) = absurd (cc (h, at))
 not_both rest e h (inl (inr (inr (is, (n, k, body, counts, none, at))))) = absurd (cc (h, at))
@@ -94,3 +95,38 @@ read_once bytes frames others end another h k = (
 
     none : on.0 ≡ []
     none = none_later on.0 h.rest k.rest end on.3 h.ends on.2
+
+fault_on : (left x : List ℕ) (e : Refusal) → IsFault left e → IsFault (left ++ x) e
+fault_on left x e (inl (is, (body, at))) = inl (is, (body ++ x, ap (λ l. l ++ x) at))
+fault_on left x e (inr (inl (is, (n, body, above, fits, at)))) = inr (inl (is, (n, body ++ x, above, fits, ap (λ l. l ++ x) at)))
+fault_on left x e (inr (inr (is, (n, k, body, counts, none, at)))) = inr (inr (is, (n, k, body ++ x, counts, none, ap (λ l. l ++ x) at)))
+
+-- a decoder that gives none has read its bytes
+has_read : (bytes left : List ℕ) (given : List Framed) → HasDecoded bytes given left → HasGivenAll left → (end : Option Refusal) × IsRead bytes given end
+has_read bytes left given h (inl part) = at_part left part refl
+  where
+    none_passed : h.passed ≡ []
+    none_passed = elim h.behind [ inl none ↦ none | inr (e, fault) ↦ absurd (fault_or_partial left e part fault) ]
+
+    joined : bytes ≡ flat_map frame_bytes given ++ left
+    joined = h.splits.joined ∙ ap (λ l. flat_map frame_bytes given ++ (left ++ l)) none_passed ∙ ap (λ l. flat_map frame_bytes given ++ l) (append-nil left)
+
+    at_part : (rest : List ℕ) → IsPartial rest → left ≡ rest → (end : Option Refusal) × IsRead bytes given end
+    at_part [] is same = (None, record { rest = left; splits = record { are_frames = h.splits.are_frames; joined = joined }; ends = same })
+    at_part (b ∷ bs) is same = (
+      Some Truncated,
+      record {
+        rest = left;
+        splits = record { are_frames = h.splits.are_frames; joined = joined };
+        ends = inr (refl, part, (let size = ap (λ (l : List ℕ). length l) same in omega arith));
+      },
+    )
+has_read bytes left given h (inr (e, fault)) =
+    (Some e, record { rest = left ++ h.passed; splits = h.splits; ends = inl (fault_on left h.passed e fault) })
+
+-- any cutting gives the same frames
+pub same_frames : (bytes left rest : List ℕ) (given others : List Framed) → HasDecoded bytes given left → HasDecoded bytes others rest → HasGivenAll left → HasGivenAll rest → given ≡ others
+same_frames bytes left rest given others h k all all' =
+    let one = has_read bytes left given h all in
+    let other = has_read bytes rest others k all' in
+    (read_once bytes given others one.0 other.0 one.1 other.1).0

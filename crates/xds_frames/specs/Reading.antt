@@ -27,6 +27,10 @@ pub record HasDecoded (fed : List ℕ) (given : List Framed) (left : List ℕ) :
   pub splits : Splits fed given (left ++ passed)
   pub behind : (passed ≡ []) ⊎ ((e : Refusal) × IsFault left e)
 
+-- no more frames come of what is left
+abbrev pub HasGivenAll : List ℕ → Type 0
+HasGivenAll left = IsPartial left ⊎ ((e : Refusal) × IsFault left e)
+
 -- what a call is refused by
 abbrev pub refused_by : {T : Type 0} → Result T Refusal → Option Refusal
 refused_by (Ok x) = None

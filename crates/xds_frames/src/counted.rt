@@ -1,13 +1,11 @@
 // Readers and writers whose calls are counted, so that a device is blamed only where it failed.
-ghost use Rattle.std.specs.Prelude.{◌≡◌, ◌<◌, ◌≤◌, ◌⊎◌, IsErr, IfOk, IfSome, IfErr, OnOk, length};
+ghost use Rattle.std.specs.Prelude.{◌≡◌, ◌<◌, IsErr, IfOk, length};
 ghost use Rattle.std.specs.Io.{ReadsAtMost, WritesAtMost};
 ghost use Rattle.std.specs.Io.KnownBytes.{Keeps, ReadConsumes, WriteAppends};
-ghost use Rattle.xds_frames.specs.Devices.{CountsCall, CountsFailure, MoreFailed, Wrote, WrotePart, calls_after, most_calls, seen};
+ghost use Rattle.xds_frames.specs.Devices.{CountsCall, CountsFailure, MoreFailed};
 
-use std::alloc::Global;
 use std::io;
 use std::io::{ErrorKind, Read, Write};
-use xds_resource::Refusal;
 
 /// As many calls as a [`Counted`] passes on. Each one after them fails, so that who reads until a call fails comes to an
 /// end.

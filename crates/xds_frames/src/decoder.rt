@@ -41,8 +41,9 @@ fn split_length(bytes: &[u8]) -> Option<(usize, &[u8])>
     Some((u32::from_be_bytes(*length) as usize, body))
 }
 
-// The frame at the front of the bytes, if all of it is there.
-fn first_frame(bytes: &[u8]) -> Result<Option<Frame<'_>>, Refusal>
+/// The frame at the front of the bytes, if all of it is there. `EmptyFrame` and `FrameTooLong` are told as soon as the four
+/// bytes of a length are there, and `UnknownKind` as soon as the kind is.
+pub fn first_frame(bytes: &[u8]) -> Result<Option<Frame<'_>>, Refusal>
     ensures { (after : List ℕ) × GivesNext bytes.now result after }
 {
     let Some((length, body)) = split_length(bytes) else {
@@ -93,7 +94,7 @@ impl Decoder {
         Ok(())
     }
 
-    // Moves what is left to the front once no less than that was given. So for each byte that is given one is moved.
+    // Moves what is left to the front once no less than that was given. So for a byte that was given one is moved at most.
     fn make_room(&mut self)
         ensures { self.new ≡ self.old }
     {
@@ -105,10 +106,8 @@ impl Decoder {
         }
     }
 
-    /// The next whole frame, or none while less than one is there. Its text stands where it was put when it came.
-    ///
-    /// `EmptyFrame` and `FrameTooLong` are told as soon as the four bytes of a length are there, and `UnknownKind` as
-    /// soon as the kind is. From then on the answer stays the same.
+    /// The next whole frame, as [`first_frame`] finds it, or none while less than one is there. It takes no memory: the
+    /// text is lent from where it was put when it came. A fault is told again at each call.
     pub fn next(&mut self) -> Result<Option<Frame<'_>>, Refusal>
         ensures first { (after : List ℕ) × GivesNext self.old result after }
         ensures* after_borrow { sem 𝓛 (Leaves self.entry (GivesNext self.old result)) }

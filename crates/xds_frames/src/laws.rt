@@ -2,9 +2,9 @@
 ghost use Rattle.std.specs.Prelude.{◌≡◌, ◌<◌, ℕ, List, [], ◌∷◌, ◌++◌, Option, Result};
 ghost use Rattle.xds_resource.specs.declared.refusal.Refusal.{Refusal as Refused};
 ghost use Rattle.xds_frames.specs.declared.frame.Frame.{Frame};
-ghost use Rattle.xds_frames.specs.Frames.{Framed, AreBytes, IsFault, IsPartial};
+ghost use Rattle.xds_frames.specs.Frames.{Framed, AreBytes, IsFrame, IsFault, IsPartial, frame_bytes};
 ghost use Rattle.xds_frames.specs.Decoding.{IsFed, GivesNext, Finishes, framed};
-ghost use Rattle.xds_frames.specs.Reading.{Splits, IsRead, HasDecoded, refused_by};
+ghost use Rattle.xds_frames.specs.Reading.{Splits, IsRead, HasDecoded, HasGivenAll, refused_by};
 
 /// However bytes are cut into pieces, and whenever a decoder is asked, what it gave are the first frames of all bytes that
 /// it was fed: so it is at the start, and each call keeps it.
@@ -26,6 +26,27 @@ pub fn decoders_leave_nothing_out()
         → IsPartial left → Finishes left end → IsRead bytes given (refused_by end) }
     ensures refused { (bytes left : List ℕ) (given : List Framed) (e : Refused) → HasDecoded bytes given left
         → IsFault left e → IsRead bytes given (Some e) }
+{}
+
+/// Any cutting gives the same frames: decoders that were fed the same bytes in all, in whatever pieces, and have no more to
+/// give, gave the same.
+pub fn any_cutting_gives_the_same_frames()
+    ensures { (bytes left rest : List ℕ) (given others : List Framed) → HasDecoded bytes given left
+        → HasDecoded bytes others rest → HasGivenAll left → HasGivenAll rest → given ≡ others }
+{}
+
+/// A fault stands for good: no piece changes what is left, and each call tells it again.
+pub fn faults_stand()
+    ensures fed { (left piece after : List ℕ) (e : Refused) → IsFault left e → IsFed left piece after → after ≡ left }
+    ensures next { (left after : List ℕ) (e : Refused) (r : Result (Option Frame) Refused) → IsFault left e
+        → GivesNext left r after → (r ≡ Err e) × (after ≡ left) }
+    ensures finished { (left : List ℕ) (e : Refused) (r : Result Unit Refused) → IsFault left e → Finishes left r → r ≡ Err e }
+{}
+
+/// A frame that was written is found again, whatever follows it.
+pub fn written_frames_are_found()
+    ensures { (f : Framed) (rest after : List ℕ) (r : Result (Option Frame) Refused) → IsFrame f
+        → GivesNext (frame_bytes f ++ rest) r after → (g : Frame) × (r ≡ Ok (Some g)) × (framed g ≡ f) × (after ≡ rest) }
 {}
 
 /// All bytes are read as frames, up to their end or a fault, and in one way.

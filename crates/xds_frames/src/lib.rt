@@ -11,7 +11,7 @@ pub mod whole;
 pub mod writing;
 
 pub use counted::Counted;
-pub use decoder::Decoder;
+pub use decoder::{Decoder, first_frame};
 pub use faulty::Faulty;
 pub use frame::{Frame, FrameKind};
 pub use whole::{read_whole, write_bytes, write_whole};
