@@ -1,5 +1,5 @@
 -- A fault stands for good, and a frame that was written is found again.
-use Rattle.std.proofs.Common.{◌≡◌, ℕ, List, [], ◌++◌, ap, sym, refl, inl, inr, Option, Some, None, Result, Ok, Err}
+use Rattle.std.proofs.Common.{◌≡◌, ℕ, List, ◌++◌, ap, sym, refl, inl, inr, Option, Some, None, Result, Ok, Err}
 use Rattle.xds_resource.specs.declared.refusal.Refusal.{Refusal}
 use Rattle.xds_frames.specs.declared.frame.Frame.{Frame}
 use Rattle.xds_frames.specs.Frames.{Framed, frame_bytes, IsFrame, IsFault}

@@ -1,4 +1,6 @@
 // Frames that are written, and found again in bytes that come in pieces.
+ghost use Rattle.std.specs.Prelude.{◌<◌};
+
 use std::alloc::Global;
 use std::test::Fail;
 use xds_cases::cases::{Outcome, first_word, hold, told};
@@ -21,24 +23,39 @@ impl Script for Decoding {
     }
 
     fn step(&mut self, alloc: Global, verb: &str, rest: &str) -> Result<String, Refusal> {
-        let mut all = String::new(alloc);
-        if verb == "finish" {
-            self.decoder.finish()?;
-            all.push_str("ok")?;
-            return Ok(all);
+        match verb {
+            "feed" => feed(&mut self.decoder, alloc, rest, usize::MAX),
+            "drip" => feed(&mut self.decoder, alloc, rest, 1),
+            _ => finish(&self.decoder, alloc),
         }
-        let bytes = hex::decode(alloc, rest).ok().ok_or(Refusal::BadScript)?;
-        let size = if verb == "drip" {
-            1
-        } else {
-            bytes.len().max(1)
-        };
-        for piece in bytes.chunks(size) {
-            self.decoder.feed(piece)?;
-            give_all(&mut self.decoder, alloc, &mut all)?;
-        }
-        Ok(all)
     }
+}
+
+fn finish(decoder: &Decoder, alloc: Global) -> Result<String, Refusal> {
+    decoder.finish()?;
+    Ok(String::from_str(alloc, "ok")?)
+}
+
+// Feeds a decoder bytes in hex digits, in pieces of this size, and tells what it gives.
+fn feed(decoder: &mut Decoder, alloc: Global, digits: &str, size: usize) -> Result<String, Refusal>
+    requires { 0 < size }
+{
+    let bytes = hex::decode(alloc, digits).ok().ok_or(Refusal::BadScript)?;
+    let mut all = String::new(alloc);
+    for piece in bytes.chunks(size) {
+        feed_piece(decoder, alloc, piece, &mut all)?;
+    }
+    Ok(all)
+}
+
+fn feed_piece(
+    decoder: &mut Decoder,
+    alloc: Global,
+    piece: &[u8],
+    all: &mut String,
+) -> Result<(), Refusal> {
+    decoder.feed(piece)?;
+    give_all(decoder, alloc, all)
 }
 
 // Adds what a decoder gives until it gives none.
@@ -106,12 +123,12 @@ impl Outcome for Head {
     fn of(alloc: Global, given: &str) -> Result<String, Fail> {
         let (number, length) = first_word(given)?;
         let kind = kind_of(number)?;
-        let length = length.parse::<usize>().ok().ok_or("a length is none")?;
         Ok(told(alloc, head_of(alloc, kind, length))?)
     }
 }
 
-fn head_of(alloc: Global, kind: FrameKind, length: usize) -> Result<String, Refusal> {
+fn head_of(alloc: Global, kind: FrameKind, length: &str) -> Result<String, Refusal> {
+    let length = length.parse::<usize>().ok().ok_or(Refusal::BadScript)?;
     let head = frame_head(kind, length)?;
     Ok(hex::encode(alloc, head.as_slice())?)
 }
