@@ -1,0 +1,6 @@
+pub mod Fronts
+pub mod DeviceWriting
+pub mod Apart
+pub mod Readings
+pub mod Covering
+pub mod Standing
