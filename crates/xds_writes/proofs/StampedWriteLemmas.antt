@@ -1,5 +1,5 @@
 -- A value spells one stamped write at most, and the object that is written for one spells it, is shallow and holds no float.
-use Rattle.std.proofs.Common.{◌≡◌, ◌≤◌, ℕ, suc, List, [], map, length, false, Option, IsSomeAnd, Some, None, Result, Ok, Err, option_map, codes, refl, sym, ap, ◌∙◌, subst, arith}
+use Rattle.std.proofs.Common.{◌≡◌, ◌≤◌, ℕ, suc, List, [], map, length, false, Option, Some, None, Result, Ok, Err, option_map, codes, refl, sym, ap, ◌∙◌, subst, arith}
 use Rattle.std.proofs.lemmas.Bool.{le-leb}
 use Rattle.std.specs.Prelude.{IfSome}
 use Rattle.std.specs.Option.{ForSome}
