@@ -1,7 +1,6 @@
 -- What was done so far to settle a client of a type, in a world that runs.
 use Rattle.std.proofs.Common.{◌≡◌, inl, inr, ℕ, suc, ◌+◌, ◌<◌, ◌≤◌, List, [], ◌∷◌, ◌++◌, Bool, true, false, Some, None, refl, sym, ap, subst, ◌∙◌, length, drop, arith}
 use Rattle.std.specs.Prelude.{is_some}
-use Rattle.std.specs.Option.{option_and_then}
 use Rattle.std.proofs.lemmas.List.{append-nil, append_assoc}
 use Rattle.std.proofs.lemmas.List.Folds.{list_any-append}
 use Rattle.std.proofs.Math.Seq.{drop-append_seam}
@@ -14,6 +13,7 @@ use Rattle.xds_model.specs.Settling.{next_to_settle, gave_nothing, link_in, is_h
 use Rattle.xds_model.proofs.SettlingWalks.{Walked, walked_then, walked_more}
 use Rattle.xds_model.proofs.SettlingEnds.{two_responses_suffice, quiet_at_the_end}
 use Rattle.xds_model.proofs.SettlingMoves.{is_poll}
+use Rattle.xds_model.proofs.SettlingStops.{stops_where_spent}
 use Rattle.xds_model.proofs.SettlingSettles.{settles_where_all_is_taken}
 use Rattle.xds_model.proofs.SettlingRefused.{unsettled_has_refused}
 use Rattle.xds_model.proofs.SettlingPolls.{walked_takes_two, taken_more, polls, second_poll_is_the_last}
@@ -103,7 +103,7 @@ settles_stopped test c t before now later x y responses step is next stepped = r
   more = is.more;
   longer = stepped.2 ∙ is.longer;
   steps = subst (IsStopped test c t (world test before)) (append-nil is.more)
-      (walked_then (IsAtStop test c t) test c t (world test before) is.more x [] is.walked (refl, (ap is_some next, ap (option_and_then (happens test x)) next ∙ stepped.0)));
+      (walked_then (IsAtStop test c t) test c t (world test before) is.more x [] is.walked (stops_where_spent test now x c t (event_for c t step) is.played.put is.played.world next stepped.0));
 }
 
 -- ---- what it comes to
