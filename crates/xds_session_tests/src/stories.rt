@@ -82,11 +82,7 @@ fn groups_of(alloc: Global, text: &str) -> Result<Groups, Refusal> {
 fn write_of<T: ResourceType>(alloc: Global, text: &str) -> Result<Write<T>, Refusal> {
     let (version, resource) = text.split_once(' ').ok_or(Refusal::BadMessage)?;
     let stamp = Stamp::parse_version(version)?;
-    Ok(Write::put(
-        stamp,
-        Resource::parse(alloc, resource)?,
-        Groups::none(),
-    ))
+    Ok(Write::put(stamp, Resource::parse(alloc, resource)?, Groups::none()))
 }
 
 // The text that a call answers, or its refusal.
