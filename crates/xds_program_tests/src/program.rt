@@ -91,7 +91,8 @@ answer|{"body":{"@type":"CDS","name":"a","x":9},"counter":1,"name":"a","typeUrl"
 }
 
 // Clusters `a` in the group g1, `b` in none, and `c` in the group g2.
-const GROUPED: &str = r#"{"body":{"@type":"CDS","name":"a"},"counter":1,"groups":["g1"],"name":"a","typeUrl":"CDS","writer":1}~{"body":{"@type":"CDS","name":"b"},"counter":2,"name":"b","typeUrl":"CDS","writer":1}~{"body":{"@type":"CDS","name":"c"},"counter":3,"groups":["g2"],"name":"c","typeUrl":"CDS","writer":1}~"#;
+const GROUPED: &str =
+    r#"{"body":{"@type":"CDS","name":"a"},"counter":1,"groups":["g1"],"name":"a","typeUrl":"CDS","writer":1}~{"body":{"@type":"CDS","name":"b"},"counter":2,"name":"b","typeUrl":"CDS","writer":1}~{"body":{"@type":"CDS","name":"c"},"counter":3,"groups":["g2"],"name":"c","typeUrl":"CDS","writer":1}~"#;
 
 #[test]
 fn the_star_covers_what_is_open_to_the_cluster(rt: HostRuntime) -> Result<(), Fail> {

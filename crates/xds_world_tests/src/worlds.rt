@@ -23,11 +23,7 @@ fn begun(alloc: Global) -> Result<World<AcceptAll>, Refusal> {
     let mut events = Vec::new(alloc);
     events.push(WorldEvent::AddReplica(1))?;
     events.push(WorldEvent::Put(1, resource, Groups::none()))?;
-    events.push(WorldEvent::AddClient(
-        7,
-        ClientKind::Delta,
-        String::new(alloc),
-    ))?;
+    events.push(WorldEvent::AddClient(7, ClientKind::Delta, String::new(alloc)))?;
     events.push(WorldEvent::Change(7, TypeName::Cluster, wish))?;
     events.push(WorldEvent::Connect(7, 2))?;
     play(alloc, events.as_slice())
