@@ -1,5 +1,5 @@
 -- Why a client rejects a response: its test refuses a resource that the response states.
-use Rattle.std.proofs.Common.{◌≡◌, ◌⊎◌, inl, inr, ℕ, ◌≤◌, ◌<◌, List, [], ◌∷◌, map, length, Bool, true, false, cond, ◌||◌, not, Option, Some, None, refl, sym, ap, subst, ◌∙◌, arith}
+use Rattle.std.proofs.Common.{◌≡◌, ◌⊎◌, inl, inr, ℕ, List, [], ◌∷◌, map, Bool, true, false, cond, ◌||◌, not, Option, Some, None, refl, sym, ap, subst, ◌∙◌}
 use Rattle.std.specs.Prelude.{T, bytes_eq, if◌then◌else◌, is_some, option_map, Contains, ⊤}
 use Rattle.std.specs.Option.{option_or, option_and_then, option_map_or}
 use Rattle.std.specs.Ordering.{is_lt}
@@ -39,7 +39,7 @@ use Rattle.xds_shelf.specs.Shelves.{Cache, Wants, wants_of, marked}
 use Rattle.xds_shelf.specs.Faults.{Test, Stated as StatedResource, first_reason, is_misnamed, fault_by, fault_of, and_stated, first_fault, holding_of}
 use Rattle.xds_shelf.specs.Deliveries.{sotw_stated, sotw_delivery, delta_delivery, fault_in}
 use Rattle.xds_model.specs.Knows.{TypedWrite}
-use Rattle.xds_model.proofs.Replicas.{some_is, if_some, if_both}
+use Rattle.xds_model.proofs.Replicas.{if_some, if_both}
 use Rattle.xds_delta.proofs.Stating.{present_if_stated, kept_at}
 use Rattle.xds_model.proofs.Delivering as delivering
 use Rattle.xds_model.proofs.Delivering.{IsKnown, AllKnown, canonical_is}

@@ -1,5 +1,5 @@
 -- Where settling a client of a type gets no further: the responses on its stream are spent, and one of the type is due.
-use Rattle.std.proofs.Common.{◌≡◌, ◌⊎◌, inl, inr, ℕ, List, [], ◌∷◌, ◌++◌, ◌+◌, Bool, true, false, ◌&&◌, not, Option, Some, None, Result, Ok, Err, refl, sym, ap, subst, ◌∙◌, length}
+use Rattle.std.proofs.Common.{◌≡◌, inl, inr, ℕ, List, [], ◌∷◌, ◌++◌, ◌+◌, Bool, true, false, ◌&&◌, not, Option, Some, None, Result, Ok, Err, refl, sym, ap, subst, ◌∙◌, length}
 use Rattle.std.specs.Prelude.{◌==◌, if◌then◌else◌, is_some, option_map}
 use Rattle.std.specs.Option.{option_map_or, option_and_then}
 use Rattle.std.specs.FinMap as finmap
@@ -18,9 +18,9 @@ use Rattle.xds_ledger.specs.declared.outcome.Outcome.{Outcome}
 use Rattle.xds_owed.specs.declared.variant.VariantName.{VariantName}
 use Rattle.xds_owed.specs.Offers.{Offer}
 use Rattle.xds_ledger.specs.Sessions.{Session}
-use Rattle.xds_core.specs.Stores.{Store, if_done}
+use Rattle.xds_core.specs.Stores.{if_done}
 use Rattle.xds_core.specs.Streams as streams
-use Rattle.xds_core.specs.Streams.{Stream, Message, url_of, variant_of, is_same_variant, is_foreign, sessions_for, answered_by, requested, to_send, response_of, responding, sent, polled_first, looked_at}
+use Rattle.xds_core.specs.Streams.{Stream, Message, url_of, variant_of, is_same_variant, is_foreign, sessions_for, answered_by, requested, to_send, response_of, sent, polled_first, looked_at}
 use Rattle.xds_core.specs.Events as events
 use Rattle.xds_core.specs.Events.{Event, Reply, Answered, Polled}
 use Rattle.xds_core.specs.Steps.{Core, step, with_stream, stream_step}
@@ -30,7 +30,7 @@ use Rattle.xds_cache.specs.Receives.{if_addressed, sotw_answered, delta_answered
 use Rattle.xds_model.specs.declared.event.ClientKind.{ClientKind}
 use Rattle.xds_model.specs.declared.event.ClientKind.TheVariants.{Sotw, Delta}
 use Rattle.xds_model.specs.Happenings.{Happening, Up, Poll, Down}
-use Rattle.xds_model.specs.Worlds.{Site, Link, Peer, World, recorded, answered_at, at_site, with_peer, under_way, polled, up_taken, received, received_in, received_by, taken_down, down_taken, on_link, happens, world}
+use Rattle.xds_model.specs.Worlds.{Site, Link, Peer, World, recorded, answered_at, at_site, with_peer, under_way, polled, up_taken, received_in, received_by, taken_down, down_taken, on_link, happens, world}
 use Rattle.xds_model.specs.Knows.{TypedWrite}
 use Rattle.xds_model.specs.Claims.{PutResources}
 use Rattle.xds_model.specs.Settling.{brings, next_on, polls_unless, next_to_settle, lacks_number, is_spent_for, IsAtStop, StopsWhereSpent}

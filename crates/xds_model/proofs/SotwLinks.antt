@@ -9,7 +9,7 @@ use Rattle.xds_resource.specs.declared.refusal.Refusal.TheVariants.{BadMessage, 
 use Rattle.xds_resource.specs.Types.{row, types, type_of_url, is_same_type}
 use Rattle.xds_resource.specs.Stamps.{max_counter}
 use Rattle.xds_resource.specs.Writes.{text_cmp}
-use Rattle.xds_resource.specs.PerType.{PerType, at, with_at, each}
+use Rattle.xds_resource.specs.PerType.{PerType, at, with_at}
 use Rattle.xds_resource.proofs.TypesApart.{same_type, is_same_type-same, at-with_at, at-with_at_other, at-each}
 use Rattle.xds_message.specs.Messages.{Identity, Request}
 use Rattle.xds_draft.specs.declared.draft.Draft.{Draft}
@@ -26,7 +26,7 @@ use Rattle.xds_ledger.specs.Sessions.{Session, unopened, send}
 use Rattle.xds_sotw.specs.Polls.{take, response}
 use Rattle.xds_core.specs.Stores.{Store}
 use Rattle.xds_core.specs.Streams as streams
-use Rattle.xds_core.specs.Streams.{Stream, Message, opening, cluster_of, is_foreign, sessions_for, answered_by, answered, requested, to_send, response_of}
+use Rattle.xds_core.specs.Streams.{Stream, Message, opening, cluster_of, is_foreign, sessions_for, answered_by, answered, requested, response_of}
 use Rattle.xds_core.proofs.StepLaws.{unless_once}
 use Rattle.xds_shelf.specs.Shelves.{Wants, Shelf, texts, is_wanted, wants_some, wanting, connected}
 use Rattle.xds_shelf.specs.Faults.{Test}

@@ -1,22 +1,21 @@
 -- A stream before and after its first request, which says of which cluster the client is.
-use Rattle.std.proofs.Common.{◌≡◌, ◌⊎◌, inl, inr, ℕ, List, [], ◌∷◌, ◌++◌, map, Bool, true, false, Option, Some, None, Ok, Err, refl, sym, ap, ◌∙◌, append-nil}
-use Rattle.std.specs.Prelude.{if◌then◌else◌, is_some, option_map, find}
+use Rattle.std.proofs.Common.{◌≡◌, ℕ, List, [], ◌∷◌, ◌++◌, Bool, true, false, Option, Some, None, Ok, Err, refl, sym, ap, ◌∙◌}
+use Rattle.std.specs.Prelude.{if◌then◌else◌, is_some}
 use Rattle.std.specs.Option.{option_map_or, option_and_then}
 use Rattle.xds_resource.specs.declared.types.TypeName.{TypeName}
 use Rattle.xds_resource.specs.declared.refusal.Refusal.TheVariants.{WrongVariant}
-use Rattle.xds_resource.specs.PerType.{PerType, at, each}
+use Rattle.xds_resource.specs.PerType.{at, each}
 use Rattle.xds_draft.specs.declared.draft.Draft.{Draft}
 use Rattle.xds_ledger.specs.declared.outcome.Outcome.{Outcome}
 use Rattle.xds_owed.specs.declared.variant.VariantName.{VariantName}
-use Rattle.xds_owed.specs.Offers.{Offer}
 use Rattle.xds_ledger.specs.Sessions as sessions
 use Rattle.xds_ledger.specs.Sessions.{Session, unopened}
 use Rattle.xds_core.specs.Stores.{Store, if_done}
-use Rattle.xds_core.specs.Streams.{Stream, Message, variant_of, cluster_of, is_foreign, sessions_for, answered, requested, to_send, owes_of, polled, first_due, polled_first}
+use Rattle.xds_core.specs.Streams.{Stream, Message, variant_of, cluster_of, is_foreign, sessions_for, answered, requested, owes_of, polled, first_due, polled_first}
 use Rattle.xds_shelf.specs.Shelves.{wants_some}
 use Rattle.xds_cache.specs.Clients.{Client, shelf, linked}
-use Rattle.xds_cache.specs.Sends.{first_requests, is_greeted}
-use Rattle.xds_model.proofs.Replicas.{never, ok_is}
+use Rattle.xds_cache.specs.Sends.{is_greeted}
+use Rattle.xds_model.proofs.Replicas.{ok_is}
 use Rattle.xds_model.proofs.Firsts.{firsts, firsts_by}
 use Rattle.xds_model.proofs.Queues.{started}
 use Rattle.xds_model.proofs.LinkSteps.{taken_by, poll_sent, poll_quiet}
