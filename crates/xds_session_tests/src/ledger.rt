@@ -1,4 +1,7 @@
 // What a client of clusters was told and is owed, by scripts over a ledger of either variant.
+ghost use Rattle.std.specs.Prelude.{map};
+ghost use Rattle.xds_ledger.specs.Ledgers.{AreInOrder};
+
 use std::alloc::Global;
 use std::test::Fail;
 use xds_cases::cases::words_of;
@@ -49,7 +52,9 @@ impl<V: Variant> Client<V> {
         rejects: bool,
         names: &str,
         versions: &[(&str, &str)],
-    ) -> Result<String, Refusal> {
+    ) -> Result<String, Refusal>
+        requires { AreInOrder (map (λ p. (p.0.now, p.1.now)) versions.now) }
+    {
         let next = Interest::of_list(alloc, &words_of(alloc, names)?, ClusterText::none())?;
         let touched = self.interest.touched_until(alloc, &next)?;
         self.ledger.take(
