@@ -88,7 +88,7 @@ def some_write(pick):
         write["body"] = None
     if pick.random() < 0.5:
         write["groups"] = some_groups(pick)
-        groups = groups_of(write["groups"] or [])
+        groups = groups_of([] if write["groups"] is None else write["groups"])
         good = good and groups is not None and (write.get("body") is not None or not groups)
     fault = pick.random()
     for key, value in [("counter", 0), ("writer", 65536), ("name", "*"), ("typeUrl", PREFIX + "q"), ("counter", "1")]:
