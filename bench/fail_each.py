@@ -17,7 +17,12 @@ from fail_alloc import SHIM
 
 TOP = os.path.dirname(os.path.dirname(os.path.abspath(__file__)))
 PROGRAM = os.path.join(TOP, "crates", "xds_cache_tests", "out", "xds_cache_tests_tests")
-TESTS = ["memory::state_of_the_world_without_memory", "memory::delta_without_memory"]
+TESTS = [
+    "memory::state_of_the_world_without_memory",
+    "memory::delta_without_memory",
+    "memory::polling_without_memory",
+    "memory::changing_what_is_polled_without_memory",
+]
 WENT_ON = b"refused, and went on\n"
 GAVE_UP = [b"error: OutOfMemory", b"error: AllocError"]
 

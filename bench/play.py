@@ -124,7 +124,7 @@ class Session:
             subscribe, unsubscribe = set(request["subscribe"]), set(request["unsubscribe"])
             star, names = self.star, set(self.names)
             if first and not subscribe:
-                return complete, set(), set(), set()
+                return complete and "*" not in unsubscribe, set(), set(), set()
             mentioned = subscribe | unsubscribe
             if complete and "*" in mentioned:
                 star = "*" in subscribe

@@ -5,7 +5,7 @@ use std::io::ErrorKind;
 use std::process::ExitCode;
 use std::rt::Env;
 use std::{env, io};
-use xds_program::counted::{Counted, write_whole};
+use xds_frames::{Counted, write_whole};
 use xds_program::run::{WRONG_WORDS, run, tell};
 use xds_resource::Refusal;
 

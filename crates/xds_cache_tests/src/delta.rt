@@ -38,6 +38,10 @@ impl Player for Delta {
         Ok(())
     }
 
+    fn poll(&self, _alloc: Global, _kind: TypeName) -> Result<String, Refusal> {
+        Err(Refusal::NotFound)
+    }
+
     fn change(&mut self, alloc: Global, kind: TypeName, words: &str) -> Result<String, Refusal> {
         let (subscribe, unsubscribe) = words.split_once('-').unwrap_or((words, ""));
         let subscribe = words_of(alloc, subscribe)?;

@@ -9,6 +9,10 @@ mod delta;
 #[cfg(test)]
 mod memory;
 #[cfg(test)]
+mod polling;
+#[cfg(test)]
+mod rest;
+#[cfg(test)]
 mod script;
 #[cfg(test)]
 mod sotw;

@@ -1,6 +1,8 @@
 // Clients that find no memory for a response. `bench/fail_each.py` runs these tests with each allocation failing in turn:
-// where one fails in `receive`, what is held stays, the client is of no use until its stream is lost, and then it goes on.
+// where one fails in `receive`, what is held stays, the client is of no use until its stream is lost, and then it goes on. One
+// that polls goes on at once.
 use crate::delta::Delta;
+use crate::rest::Rest;
 use crate::script::{NO_MEMORY, Player, ask, play_on};
 use crate::sotw::Sotw;
 use std::process::Abort;
@@ -69,6 +71,48 @@ connect => {"initialResourceVersions":{"a":"1-1"},"node":{"id":"7"},"resourceNam
 view cluster => 1-1 {"@type":"CDS","name":"a"}
 receive {"nonce":"1","removedResources":["a"],"resources":[{"name":"b","resource":{"@type":"CDS","name":"b"},"version":"2-1"}],"typeUrl":"CDS"} => {"responseNonce":"1","typeUrl":"CDS"}"#,
         r#"view cluster => 2-1 {"@type":"CDS","name":"b"}"#,
+    )?;
+    if refused {
+        println!(rt; "refused, and went on")?;
+    }
+    Ok(())
+}
+
+// What a client holds that polled once, and the steps that may find no memory.
+const POLLED: &str = r#"change cluster * => none
+receive cluster {"resources":[{"@type":"CDS","name":"a"},{"@type":"CDS","name":"b"}],"typeUrl":"CDS","versionInfo":"v1"} => taken"#;
+
+#[test]
+fn polling_without_memory(rt: HostRuntime) -> Result<(), Fail> {
+    let refused = goes_on::<Rest, HostRuntime>(
+        &rt,
+        POLLED,
+        r#"receive cluster {"resources":[{"@type":"CDS","name":"b","x":1}],"typeUrl":"CDS","versionInfo":"v2"}"#,
+        r#"view cluster => {"@type":"CDS","name":"a"} {"@type":"CDS","name":"b"}
+poll cluster => {"node":{"id":"7"},"resourceNames":["*"],"typeUrl":"CDS","versionInfo":"v1"}
+receive cluster => taken
+receive cluster {"typeUrl":"RDS","versionInfo":"v2"} => 7 BadMessage
+receive cluster {"resources":[{"@type":"CDS","name":"b","x":1}],"typeUrl":"CDS","versionInfo":"v2"} => taken"#,
+        r#"view cluster => {"@type":"CDS","name":"b","x":1}
+poll cluster => {"node":{"id":"7"},"resourceNames":["*"],"typeUrl":"CDS","versionInfo":"v2"}"#,
+    )?;
+    if refused {
+        println!(rt; "refused, and went on")?;
+    }
+    Ok(())
+}
+
+#[test]
+fn changing_what_is_polled_without_memory(rt: HostRuntime) -> Result<(), Fail> {
+    let refused = goes_on::<Rest, HostRuntime>(
+        &rt,
+        POLLED,
+        "change cluster b",
+        r#"view cluster => {"@type":"CDS","name":"a"} {"@type":"CDS","name":"b"}
+poll cluster => {"node":{"id":"7"},"resourceNames":["*"],"typeUrl":"CDS","versionInfo":"v1"}
+change cluster b => none"#,
+        r#"view cluster => {"@type":"CDS","name":"b"}
+poll cluster => {"node":{"id":"7"},"resourceNames":["b"],"typeUrl":"CDS"}"#,
     )?;
     if refused {
         println!(rt; "refused, and went on")?;

@@ -6,8 +6,8 @@ use xds_cache::Holding;
 use xds_message::{DeltaDiscoveryRequest, DiscoveryRequest};
 use xds_resource::{NameMap, Refusal, TypeName};
 
-/// A client of either variant, on a stream or not. An `Err` is of the script or of this test; what the client answers is a
-/// text, its refusals among them.
+/// A client of any variant, on a stream or not. An `Err` is of the script or of this test, as `NotFound` where a client has no
+/// such call; what the client answers is a text, its refusals among them.
 pub trait Player: Drop + Sized {
     /// A client that wants nothing, whose node is of this cluster.
     fn new(alloc: Global, cluster: &str) -> Result<Self, Refusal>;
@@ -15,6 +15,8 @@ pub trait Player: Drop + Sized {
     fn connect(&mut self, alloc: Global) -> Result<String, Refusal>;
 
     fn lose(&mut self) -> Result<(), Refusal>;
+
+    fn poll(&self, alloc: Global, kind: TypeName) -> Result<String, Refusal>;
 
     fn change(&mut self, alloc: Global, kind: TypeName, words: &str) -> Result<String, Refusal>;
 
@@ -111,19 +113,21 @@ fn held(alloc: Global, view: &NameMap<Holding>) -> Result<String, Refusal> {
     or_none(alloc, all)
 }
 
-fn first_word(text: &str) -> (&str, &str) {
+/// The text before and after the first space; all of it, and nothing, where there is none.
+pub(crate) fn first_word(text: &str) -> (&str, &str) {
     text.split_once(' ').unwrap_or((text, ""))
 }
 
-fn type_of(word: &str) -> Result<TypeName, Refusal> {
+pub(crate) fn type_of(word: &str) -> Result<TypeName, Refusal> {
     TypeName::from_word(word).ok_or(Refusal::NotFound)
 }
 
-// What a client answers to `change TYPE WORD..`, `connect`, `lose`, `receive MESSAGE` and `view TYPE`.
+// What a client answers to `change TYPE WORD..`, `connect`, `lose`, `poll TYPE`, `receive MESSAGE` and `view TYPE`.
 fn told<P: Player>(alloc: Global, player: &mut P, step: &str) -> Result<String, Refusal> {
     let (word, rest) = first_word(step);
     match word {
         "connect" => player.connect(alloc),
+        "poll" => player.poll(alloc, type_of(rest)?),
         "receive" => player.receive(alloc, rest),
         "view" => held(alloc, player.view(type_of(rest)?)?),
         "change" => {

@@ -38,6 +38,10 @@ impl Player for Sotw {
         Ok(())
     }
 
+    fn poll(&self, _alloc: Global, _kind: TypeName) -> Result<String, Refusal> {
+        Err(Refusal::NotFound)
+    }
+
     fn change(&mut self, alloc: Global, kind: TypeName, words: &str) -> Result<String, Refusal> {
         let names = words_of(alloc, words)?;
         if let Some(client) = self.down.as_mut() {

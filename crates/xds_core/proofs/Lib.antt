@@ -1,3 +1,4 @@
 pub mod Numbers
 pub mod StreamSteps
 pub mod StepLaws
+pub mod Twins

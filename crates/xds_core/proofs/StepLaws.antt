@@ -24,7 +24,7 @@ use Rattle.xds_catalogue.proofs.Counters.{counter-le, greatest_counter_of-le, gr
 use Rattle.xds_catalogue.proofs.Lookups.{get-inserted, get-removed}
 use Rattle.xds_store.specs.Stores.{Store, Batch, merging, putting_at, deleting_at, if_done, is_spent, grown, merged}
 use Rattle.xds_streams.specs.Streams.{Stream, opening, requested, looked_at, polled_first, owes_some}
-use Rattle.xds_core.specs.Events.{Event, Open, Request, Poll, Owes, Close, Put, Delete, Merge, Snapshot, Reply, Opened, Answered, Polled, Owed, Closed, Written, Merged}
+use Rattle.xds_core.specs.Events.{Event, Open, Request, Poll, Owes, Close, Put, Delete, Merge, Snapshot, Rest, Since, Reply, Opened, Answered, Polled, Owed, Closed, Written, Merged}
 use Rattle.xds_core.specs.Steps.{Core, step, stream_step, with_stream}
 use Rattle.xds_core.specs.Legal.{after, left_by, answer_of, IsLegal}
 use Rattle.xds_core.specs.Laws.{RefusalsChangeNothing, BeginningsAreLegal, EndsAreLegal, EventsDecide, StreamsStandApart, is_write, OnlyWritesChangeTheStore, NumberStays, CountersNeverFall, OwnCountersRise, OwnDeletionsRise}
@@ -103,6 +103,8 @@ number_stays c (Put t r groups) = stored_keeps (λ k. k.replica) c (λ n. Writte
 number_stays c (Delete t name) = stored_keeps (λ k. k.replica) c (λ n. Written n c.replica) (λ s. refl) (deleting_at c.store t name c.replica)
 number_stays c (Merge b) = stored_keeps (λ k. k.replica) c Merged (λ s. refl) (merging c.store b)
 number_stays c Snapshot = refl
+number_stays c (Rest t names version cluster) = refl
+number_stays c (Since marks) = refl
 
 pub only_writes_change_the_store : OnlyWritesChangeTheStore
 only_writes_change_the_store c Open other = opened_keeps (λ k. k.store) c (opened_to c) (Opened (c.opened + 1)) (c.opened == max_counter) refl
@@ -114,6 +116,8 @@ only_writes_change_the_store c (Put t r groups) other = absurd cc
 only_writes_change_the_store c (Delete t name) other = absurd cc
 only_writes_change_the_store c (Merge b) other = absurd cc
 only_writes_change_the_store c Snapshot other = refl
+only_writes_change_the_store c (Rest t names version cluster) other = refl
+only_writes_change_the_store c (Since marks) other = refl
 
 -- another number keeps its stream
 put_elsewhere : (m : FinMap nat_cmp Stream) (k n : ℕ) (s : Stream) → Some k ≢ Some n → finmap.get (finmap.insert m k s) n ≡ finmap.get m n
@@ -141,6 +145,8 @@ streams_stand_apart c (Put t r groups) n other = stored_keeps (λ k. finmap.get 
 streams_stand_apart c (Delete t name) n other = stored_keeps (λ k. finmap.get k.streams n) c (λ n. Written n c.replica) (λ s. refl) (deleting_at c.store t name c.replica)
 streams_stand_apart c (Merge b) n other = stored_keeps (λ k. finmap.get k.streams n) c Merged (λ s. refl) (merging c.store b)
 streams_stand_apart c Snapshot n other = refl
+streams_stand_apart c (Rest t names version cluster) n other = refl
+streams_stand_apart c (Since marks) n other = refl
 
 -- ---- counters
 
@@ -219,6 +225,8 @@ counters_never_fall c (Poll n which) s = kept_counter c (Poll n which) s refl
 counters_never_fall c (Owes n which) s = kept_counter c (Owes n which) s refl
 counters_never_fall c (Close n) s = kept_counter c (Close n) s refl
 counters_never_fall c Snapshot s = kept_counter c Snapshot s refl
+counters_never_fall c (Rest t names version cluster) s = kept_counter c (Rest t names version cluster) s refl
+counters_never_fall c (Since marks) s = kept_counter c (Since marks) s refl
 counters_never_fall c (Put t r groups) s =
     written_rises c (λ n. Written n c.replica) s (putting_at c.store t r groups c.replica)
     (λ p is. subst (λ (q : Store). greatest_counter (at c.store s).entries ≤ greatest_counter (at q s).entries) (sym (put_is c.store t r groups c.replica p is).1)

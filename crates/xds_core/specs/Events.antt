@@ -1,8 +1,10 @@
 -- What happens at a replica, and what it answers. This project's own.
 use Rattle.std.specs.Prelude.{ℕ, List, Bool, Option}
 use Rattle.xds_resource.specs.declared.types.TypeName.{TypeName}
+use Rattle.xds_resource.specs.PerType.{PerType}
 use Rattle.xds_resource.specs.Resources.{NamedBody}
 use Rattle.xds_draft.specs.declared.draft.Draft.{Draft}
+use Rattle.xds_draft.specs.Drafts.{Drafted}
 use Rattle.xds_ledger.specs.declared.outcome.Outcome.{Outcome}
 use Rattle.xds_store.specs.Stores.{Batch}
 use Rattle.xds_streams.specs.Streams.{Message}
@@ -19,6 +21,10 @@ pub data Event : Type 0 where
   Delete : TypeName → List ℕ → Event
   Merge : Batch → Event
   Snapshot : Event
+  -- one poll of a client without a stream: its list of names, the version that it kept, and the text of its cluster
+  Rest : TypeName → List (List ℕ) → List ℕ → List ℕ → Event
+  -- marks, of each type a count of changes
+  Since : PerType ℕ → Event
 
 pub data Reply : Type 0 where
   -- the number of the stream
@@ -32,3 +38,7 @@ pub data Reply : Type 0 where
   -- how many entries were added or replaced
   Merged : ℕ → Reply
   Entries : Batch → Reply
+  -- none where nothing changed since the version that the client kept
+  Rested : Option Drafted → Reply
+  -- the entries that changed after the marks, and the counts of changes now
+  Changed : Batch → PerType ℕ → Reply

@@ -6,7 +6,7 @@ use Rattle.xds_resource.specs.declared.refusal.Refusal.{Refusal}
 use Rattle.xds_resource.specs.PerType.{at}
 use Rattle.xds_resource.specs.Resources.{NamedBody}
 use Rattle.xds_catalogue.specs.Local.{greatest_counter}
-use Rattle.xds_core.specs.Events.{Event, Open, Request, Poll, Owes, Close, Put, Delete, Merge, Snapshot, Written}
+use Rattle.xds_core.specs.Events.{Event, Open, Request, Poll, Owes, Close, Put, Delete, Merge, Snapshot, Rest, Since, Written}
 use Rattle.xds_core.specs.Steps.{Core, step}
 use Rattle.xds_core.specs.Legal.{Record, after, replayed, IsLegal}
 
@@ -37,6 +37,8 @@ stream_changed c (Put t r groups) = None
 stream_changed c (Delete t name) = None
 stream_changed c (Merge b) = None
 stream_changed c Snapshot = None
+stream_changed c (Rest t names version cluster) = None
+stream_changed c (Since marks) = None
 
 -- Streams don't touch each other, and Put, Delete and Merge touch none.
 abbrev pub StreamsStandApart : Type 0

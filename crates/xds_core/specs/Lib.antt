@@ -5,3 +5,4 @@ pub mod Steps
 pub mod Seen
 pub mod Legal
 pub mod Laws
+pub mod Twice

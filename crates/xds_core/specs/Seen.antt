@@ -1,7 +1,8 @@
 -- How the values of the program are seen as events, replies and records. This project's own.
-use Rattle.std.specs.Prelude.{string_bytes, Result, Ok, Err}
+use Rattle.std.specs.Prelude.{map, string_bytes, Result, Ok, Err}
 use Rattle.xds_resource.specs.Any.{resource_type, named_body}
 pub use Rattle.xds_streams.specs.Seen.{message_of}
+use Rattle.xds_store.specs.Counts.{counts_of}
 use Rattle.xds_core.specs.Events as events
 use Rattle.xds_core.specs.declared.event.Event.{Event}
 use Rattle.xds_core.specs.declared.event.Event.TheVariants as happenings
@@ -18,6 +19,8 @@ event_of (happenings.Put resource groups) = events.Put (resource_type resource) 
 event_of (happenings.Delete kind name) = events.Delete kind (string_bytes name)
 event_of (happenings.Merge batch) = events.Merge batch
 event_of happenings.Snapshot = events.Snapshot
+event_of (happenings.Rest kind names version cluster) = events.Rest kind (map string_bytes names.items) (string_bytes version) (string_bytes cluster)
+event_of (happenings.Since marks) = events.Since (counts_of marks)
 
 abbrev pub reply_of : Reply → events.Reply
 reply_of (replies.Opened stream) = events.Opened stream
@@ -28,6 +31,8 @@ reply_of replies.Closed = events.Closed
 reply_of (replies.Written stamp) = events.Written stamp.counter stamp.writer
 reply_of (replies.Merged changes) = events.Merged changes
 reply_of (replies.Entries batch) = events.Entries batch
+reply_of (replies.Rested response) = events.Rested response
+reply_of (replies.Changed batch marks) = events.Changed batch (counts_of marks)
 
 abbrev pub answer_of : {E : Type 0} → Result Reply E → Result events.Reply E
 answer_of (Ok reply) = Ok (reply_of reply)

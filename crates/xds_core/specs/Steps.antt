@@ -1,19 +1,23 @@
 -- What a replica answers to an event, and what it is then: one function of its state and the event. A refused event changes
 -- nothing. The protocol is that of Envoy's "xDS REST and gRPC protocol"; replicas and their merge are this project's own.
-use Rattle.std.specs.Prelude.{ℕ, ◌+◌, ◌==◌, [], ◌∷◌, Result, Ok, Err, refl}
+use Rattle.std.specs.Prelude.{ℕ, ◌+◌, ◌==◌, List, [], ◌∷◌, Option, Result, Ok, Err, refl}
 use Rattle.std.specs.Coded.{Coded, code_by, coded×, coded_ℕ}
 use Rattle.std.specs.Ordering.{nat_cmp}
 use Rattle.std.specs.Option.{option_map_or}
 use Rattle.std.specs.FinMap as finmap
+use Rattle.xds_resource.specs.declared.types.TypeName.{TypeName}
 use Rattle.xds_resource.specs.declared.refusal.Refusal.{Refusal}
 use Rattle.xds_resource.specs.declared.refusal.Refusal.TheVariants.{CounterSpent, NoStream}
-use Rattle.xds_resource.specs.PerType.{PerType, per_type_code, each}
+use Rattle.xds_resource.specs.PerType.{PerType, per_type_code, at, each}
 use Rattle.xds_resource.specs.Refusals.{unless_refused}
 use Rattle.xds_resource.specs.Stamps.{max_counter}
 use Rattle.xds_catalogue.specs.Holdings.{Holdings, holdings_code, nothing_held}
+use Rattle.xds_draft.specs.Drafts.{Drafted}
+use Rattle.xds_sotw.specs.Rest.{asked_once, unless_present}
 use Rattle.xds_store.specs.Stores.{Store, Batch, merging, putting_at, deleting_at, all_entries, if_done}
+use Rattle.xds_store.specs.Since.{changed_since, marks_of}
 use Rattle.xds_streams.specs.Streams.{Stream, stream_code, opening, requested, looked_at, polled_first, owes_some}
-use Rattle.xds_core.specs.Events.{Event, Open, Request, Poll, Owes, Close, Put, Delete, Merge, Snapshot, Reply, Opened, Answered, Polled, Owed, Closed, Written, Merged, Entries}
+use Rattle.xds_core.specs.Events.{Event, Open, Request, Poll, Owes, Close, Put, Delete, Merge, Snapshot, Rest, Since, Reply, Opened, Answered, Polled, Owed, Closed, Written, Merged, Entries, Rested, Changed}
 
 pub record Core : Type 0 where
   -- the number of the replica
@@ -64,6 +68,11 @@ write_step c r = if_done (λ p. (Written p.0 c.replica, record c { store = p.1 }
 abbrev pub merge_step : Core → Batch → Step
 merge_step c b = if_done (λ p. (Merged p.0, record c { store = p.1 })) (merging c.store b)
 
+-- What a client is answered that polls without a stream: all that the interest of its one list covers, or none where it asks for
+-- all of the type and the version that it kept is the present one.
+abbrev pub rested : Core → TypeName → List (List ℕ) → List ℕ → List ℕ → Option Drafted
+rested c t names version cluster = unless_present c.replica t (at c.store t) (asked_once t names cluster) version
+
 abbrev pub step : Core → Event → Step
 step c Open = opening_step c
 step c (Request n m) = stream_step c n Answered (λ s. requested s m)
@@ -74,3 +83,5 @@ step c (Put t r groups) = write_step c (putting_at c.store t r groups c.replica)
 step c (Delete t name) = write_step c (deleting_at c.store t name c.replica)
 step c (Merge b) = merge_step c b
 step c Snapshot = Ok (Entries (all_entries c.store), c)
+step c (Rest t names version cluster) = Ok (Rested (rested c t names version cluster), c)
+step c (Since marks) = Ok (Changed (changed_since c.store marks) (marks_of c.store), c)

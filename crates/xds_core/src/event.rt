@@ -1,12 +1,15 @@
 // What happens at a replica, and what it answers.
-ghost use Rattle.std.specs.Prelude.{◌≡◌, IfOk, IfErr};
+ghost use Rattle.std.specs.Prelude.{◌≡◌, false, IfOk, IfErr};
 ghost use Rattle.xds_resource.specs.declared.refusal.Refusal.TheVariants.{OutOfMemory};
 ghost use Rattle.xds_core.specs.Seen.{event_of, reply_of, answer_of};
+ghost use Rattle.xds_core.specs.Twice.{is_light, poll_in};
 
 use std::alloc::Global;
-use xds_draft::Draft;
+use xds_draft::{Draft, SotwDraft};
+use xds_fields::copy_texts;
 use xds_ledger::Outcome;
 use xds_resource::{AnyResource, Groups, Refusal, Stamp, TypeName};
+use xds_store::Marks;
 use xds_streams::Request;
 use xds_writes::Batch;
 
@@ -31,6 +34,11 @@ pub enum Event {
     Merge(Batch),
     /// All that is held is asked for.
     Snapshot,
+    /// A client without a stream asks, as one of REST does: for a type, with its list of names, the version that it kept
+    /// (or an empty text), and the text of its cluster (empty where it has none).
+    Rest(TypeName, Vec<String>, String, String),
+    /// The entries are asked for that changed after these counts of changes.
+    Since(Marks),
 }
 
 /// What an event is answered.
@@ -52,9 +60,25 @@ pub enum Reply {
     Merged(u128),
     /// All that is held, deletions included, of each type in ascending order of names.
     Entries(Batch),
+    /// All that the client's list of names covers, with an empty nonce; none where it asked for all of the type and the version
+    /// that it kept is the present one.
+    Rested(Option<SotwDraft>),
+    /// The entries that changed after the marks, deletions included, of each type in ascending order of names; and the
+    /// counts of changes now.
+    Changed(Batch, Marks),
 }
 
 impl Event {
+    /// The stream and the type of a poll, or none where the event isn't one.
+    pub(crate) fn poll(&self) -> Option<(u64, Option<TypeName>)>
+        ensures { result ≡ poll_in (event_of self.now) }
+    {
+        match self {
+            Event::Poll(stream, kind) => Some((*stream, *kind)),
+            _ => None,
+        }
+    }
+
     /// An equal event, or `OutOfMemory`. No body is copied.
     pub fn try_copy(&self, alloc: Global) -> Result<Event, Refusal>
         ensures ok { IfOk result (λ e. event_of e ≡ event_of self.now) }
@@ -77,15 +101,23 @@ impl Event {
             )),
             Event::Merge(batch) => Ok(Event::Merge(batch.try_copy(alloc)?)),
             Event::Snapshot => Ok(Event::Snapshot),
+            Event::Rest(kind, names, version, cluster) => Ok(Event::Rest(
+                *kind,
+                copy_texts(alloc, names)?,
+                String::from_str(alloc, version.as_str())?,
+                String::from_str(alloc, cluster.as_str())?,
+            )),
+            Event::Since(marks) => Ok(Event::Since(*marks)),
         }
     }
 }
 
 impl Reply {
-    /// An equal reply, or `OutOfMemory`. No body is copied.
+    /// An equal reply, or `OutOfMemory`, which only a response and a batch may need. No body is copied.
     pub fn try_copy(&self, alloc: Global) -> Result<Reply, Refusal>
         ensures ok { IfOk result (λ r. reply_of r ≡ reply_of self.now) }
         ensures refused { IfErr result (λ e. e ≡ OutOfMemory) }
+        ensures light { IfErr result (λ e. is_light (reply_of self.now) ≡ false) }
     {
         match self {
             Reply::Opened(stream) => Ok(Reply::Opened(*stream)),
@@ -97,6 +129,9 @@ impl Reply {
             Reply::Written(stamp) => Ok(Reply::Written(*stamp)),
             Reply::Merged(changes) => Ok(Reply::Merged(*changes)),
             Reply::Entries(batch) => Ok(Reply::Entries(batch.try_copy(alloc)?)),
+            Reply::Rested(None) => Ok(Reply::Rested(None)),
+            Reply::Rested(Some(draft)) => Ok(Reply::Rested(Some(draft.try_copy(alloc)?))),
+            Reply::Changed(batch, marks) => Ok(Reply::Changed(batch.try_copy(alloc)?, *marks)),
         }
     }
 }

@@ -1,5 +1,5 @@
 // A replica's state, and its one step.
-ghost use Rattle.std.specs.Prelude.{◌≡◌, ◌≤◌, ℕ, [], map, Some, None, is_some, option_map, Ok, Err, All, IsOk, IfOk, IfErr, OnErr};
+ghost use Rattle.std.specs.Prelude.{◌≡◌, ◌≤◌, ℕ, [], map, string_bytes, Some, None, is_some, option_map, Ok, Err, All, IsOk, IfSome, IfOk, IfErr, OnErr};
 ghost use Rattle.std.specs.FinMap as finmap;
 ghost use Rattle.xds_resource.specs.Any.{resource_type, named_body, write_type, stamped_write};
 ghost use Rattle.xds_resource.specs.PerType.{at, each, with_at};
@@ -9,19 +9,24 @@ ghost use Rattle.xds_resource.specs.declared.refusal.Refusal.TheVariants.{OutOfM
 ghost use Rattle.xds_core.specs.Events as events;
 ghost use Rattle.xds_core.specs.Legal.{IsShort};
 ghost use Rattle.xds_core.specs.Seen.{message_of, event_of, reply_of};
-ghost use Rattle.xds_core.specs.Steps.{fresh, step};
+ghost use Rattle.xds_core.specs.Steps.{fresh, step, rested};
+ghost use Rattle.xds_store.specs.Counts.{counts_of};
+ghost use Rattle.xds_core.specs.Twice.{IsShortBeside, poll_in};
 ghost use Rattle.xds_store.specs.Stores.{if_done};
 ghost use Rattle.xds_core.specs.declared.event.Reply.TheVariants as replies;
+ghost use Rattle.xds_streams.specs.States.{firsts};
 ghost use Rattle.xds_streams.specs.Streams.{looked_at, owes_some, first_due};
 
 use crate::event::{Event, Reply};
 use crate::numbered::Numbered;
 use std::alloc::Global;
 use std::marker::Model;
-use xds_draft::Draft;
+use xds_draft::{Draft, SotwDraft};
+use xds_interest::ClusterText;
 use xds_ledger::Outcome;
 use xds_resource::stamp::MAX_COUNTER;
 use xds_resource::{AnyResource, Groups, Refusal, TypeName};
+use xds_sotw::rested;
 use xds_store::{Catalogues, Marks};
 use xds_streams::{Request, Stream};
 use xds_writes::Batch;
@@ -87,7 +92,97 @@ impl Core {
             Event::Delete(kind, name) => self.delete(kind, name.as_str()),
             Event::Merge(batch) => self.merge(batch),
             Event::Snapshot => self.snapshot(),
+            Event::Rest(kind, names, version, cluster) => {
+                self.rest(kind, &names, version.as_str(), cluster.as_str())
+            }
+            Event::Since(marks) => self.since(marks),
         }
+    }
+
+    /// What an event is answered, and an equal answer beside it, for one who tells the answer and keeps a record of it. It
+    /// is `step`, but that the event stays with the caller, and that there must be memory for the second answer, too, where
+    /// that has a response or a batch; else nothing changes. No body is copied. Where there is no memory for a copy of a put
+    /// or a merge, that is told before any other refusal.
+    pub fn step_twice(&mut self, event: &Event) -> Result<(Reply, Reply), Refusal>
+        ensures steps { Gives (λ p. (reply_of p.0, self.new)) result (step self.old (event_of event.now)) }
+        ensures twin { IfOk result (λ p. reply_of p.1 ≡ reply_of p.0) }
+        ensures memory { IfErr result (λ e. e ≡ OutOfMemory → IsShortBeside self.old (event_of event.now)) }
+        ensures err { OnErr result (self.new ≡ self.old) }
+    {
+        match event.poll() {
+            Some((number, which)) => self.poll_twice(number, which),
+            None => self.answer_twice(event),
+        }
+    }
+
+    // The same of an event that isn't a poll: what has a long answer changes nothing, and so is copied afterwards.
+    fn answer_twice(&mut self, event: &Event) -> Result<(Reply, Reply), Refusal>
+        requires { poll_in (event_of event.now) ≡ None }
+        ensures steps { Gives (λ p. (reply_of p.0, self.new)) result (step self.old (event_of event.now)) }
+        ensures twin { IfOk result (λ p. reply_of p.1 ≡ reply_of p.0) }
+        ensures memory { IfErr result (λ e. e ≡ OutOfMemory → IsShortBeside self.old (event_of event.now)) }
+        ensures err { OnErr result (self.new ≡ self.old) }
+    {
+        let answer = self.step_beside(event)?;
+        let twin = answer.try_copy(self.alloc);
+        with_twin(answer, twin)
+    }
+
+    // What an event is answered that stays with the caller.
+    fn step_beside(&mut self, event: &Event) -> Result<Reply, Refusal>
+        ensures steps { Gives (λ r. (reply_of r, self.new)) result (step self.old (event_of event.now)) }
+        ensures memory { IfErr result (λ e. e ≡ OutOfMemory → IsShortBeside self.old (event_of event.now)) }
+        ensures err { OnErr result (self.new ≡ self.old) }
+    {
+        match event {
+            Event::Open => self.open(),
+            Event::Request(stream, request) => self.request(*stream, request),
+            Event::Poll(stream, which) => self.poll(*stream, *which),
+            Event::Owes(stream, which) => self.look(*stream, *which),
+            Event::Close(stream) => self.close(*stream),
+            Event::Put(resource, groups) => self.put_beside(resource, groups),
+            Event::Delete(kind, name) => self.delete(*kind, name.as_str()),
+            Event::Merge(batch) => self.merge_beside(batch),
+            Event::Snapshot => self.snapshot(),
+            Event::Rest(kind, names, version, cluster) => {
+                self.rest(*kind, names, version.as_str(), cluster.as_str())
+            }
+            Event::Since(marks) => self.since(*marks),
+        }
+    }
+
+    fn put_beside(&mut self, resource: &AnyResource, groups: &Groups) -> Result<Reply, Refusal>
+        ensures steps { Gives (λ r. (reply_of r, self.new)) result (step self.old (events.Put (resource_type resource.now) (named_body resource.now) groups.now)) }
+        ensures err { OnErr result (self.new ≡ self.old) }
+    {
+        let (resource, groups) = two(resource.try_copy(self.alloc), groups.try_copy(self.alloc))?;
+        self.put(resource, groups)
+    }
+
+    fn merge_beside(&mut self, batch: &Batch) -> Result<Reply, Refusal>
+        ensures steps { Gives (λ r. (reply_of r, self.new)) result (step self.old (events.Merge batch.now)) }
+        ensures err { OnErr result (self.new ≡ self.old) }
+    {
+        let batch = batch.try_copy(self.alloc)?;
+        self.merge(batch)
+    }
+
+    fn poll_twice(
+        &mut self,
+        number: u64,
+        which: Option<TypeName>,
+    ) -> Result<(Reply, Reply), Refusal>
+        ensures steps { Gives (λ p. (reply_of p.0, self.new)) result (step self.old (events.Poll number which)) }
+        ensures twin { IfOk result (λ p. reply_of p.1 ≡ reply_of p.0) }
+        ensures memory { IfErr result (λ e. e ≡ OutOfMemory → IsShort self.old (events.Poll number which)) }
+        ensures err { OnErr result (self.new ≡ self.old) }
+    {
+        let Some(mut stream) = self.streams.replace(number, Stream::opening()) else {
+            return Err(Refusal::NoStream);
+        };
+        let drafts = stream.poll_twice(self.alloc, self.replica, &self.held, which);
+        self.streams.set(number, stream);
+        polled_twice(drafts)
     }
 
     fn open(&mut self) -> Result<Reply, Refusal>
@@ -185,6 +280,85 @@ impl Core {
     {
         let batch = self.held.entries(self.alloc)?;
         Ok(Reply::Entries(batch))
+    }
+
+    fn rest(
+        &self,
+        kind: TypeName,
+        names: &Vec<String>,
+        version: &str,
+        cluster: &str,
+    ) -> Result<Reply, Refusal>
+        ensures steps { Gives (λ r. (reply_of r, self.now)) result (step self.now (events.Rest kind (map string_bytes names.now.items) version.now cluster.now)) }
+        ensures memory { IfErr result (λ e. e ≡ OutOfMemory → IsShort self.now (events.Rest kind (map string_bytes names.now.items) version.now cluster.now)) }
+    {
+        let cluster = ClusterText::new(self.alloc, cluster)?;
+        let draft = self.rested(kind, names, version, cluster)?;
+        Ok(Reply::Rested(draft))
+    }
+
+    // What a client of this cluster is answered without a stream.
+    fn rested(
+        &self,
+        kind: TypeName,
+        names: &[String],
+        version: &str,
+        cluster: ClusterText,
+    ) -> Result<Option<SotwDraft>, Refusal>
+        ensures ok { IfOk result (λ d. d ≡ rested self.now kind (map string_bytes names.now) version.now cluster) }
+        ensures refused { IfErr result (λ e. e ≡ OutOfMemory) }
+    {
+        let held = &self.held;
+        match kind {
+            TypeName::Cluster => rested(
+                self.alloc,
+                self.replica,
+                &held.cluster,
+                names,
+                version,
+                cluster,
+            ),
+            TypeName::Endpoint => rested(
+                self.alloc,
+                self.replica,
+                &held.endpoint,
+                names,
+                version,
+                cluster,
+            ),
+            TypeName::Listener => rested(
+                self.alloc,
+                self.replica,
+                &held.listener,
+                names,
+                version,
+                cluster,
+            ),
+            TypeName::Route => rested(
+                self.alloc,
+                self.replica,
+                &held.route,
+                names,
+                version,
+                cluster,
+            ),
+            TypeName::Secret => rested(
+                self.alloc,
+                self.replica,
+                &held.secret,
+                names,
+                version,
+                cluster,
+            ),
+        }
+    }
+
+    fn since(&self, marks: Marks) -> Result<Reply, Refusal>
+        ensures steps { Gives (λ r. (reply_of r, self.now)) result (step self.now (events.Since (counts_of marks))) }
+        ensures memory { IfErr result (λ e. e ≡ OutOfMemory → IsShort self.now (events.Since (counts_of marks))) }
+    {
+        let batch = self.held.since(self.alloc, marks)?;
+        Ok(Reply::Changed(batch, self.held.marks()))
     }
 
     /// All that the replica holds of a type, deletions included, in ascending order of names. Refused only by
@@ -285,6 +459,28 @@ fn polled(draft: Result<Option<Draft>, Refusal>) -> Result<Reply, Refusal>
         Ok(draft) => Ok(Reply::Polled(draft)),
         Err(refusal) => Err(refusal),
     }
+}
+
+fn polled_twice(drafts: Result<Option<(Draft, Draft)>, Refusal>) -> Result<(Reply, Reply), Refusal>
+    requires { IfOk drafts (λ o. IfSome o (λ p. p.1 ≡ p.0)) }
+    ensures first { if_done (λ p. p.0) result ≡ if_done replies.Polled (firsts drafts) }
+    ensures twin { IfOk result (λ p. reply_of p.1 ≡ reply_of p.0) }
+{
+    match drafts {
+        Ok(Some((draft, twin))) => Ok((Reply::Polled(Some(draft)), Reply::Polled(Some(twin)))),
+        Ok(None) => Ok((Reply::Polled(None), Reply::Polled(None))),
+        Err(refusal) => Err(refusal),
+    }
+}
+
+// A value and its copy, where there is one.
+fn with_twin<V: Drop>(value: V, copy: Result<V, Refusal>) -> Result<(V, V), Refusal>
+    ensures value { IfOk result (λ p. p.0 ≡ value) }
+    ensures copy { IfOk result (λ p. copy ≡ Ok p.1) }
+    ensures refused { IfErr result (λ e. copy ≡ Err e) }
+{
+    let copy = copy?;
+    Ok((value, copy))
 }
 
 // The values of two calls that only `OutOfMemory` refuses, where none of them is. Of type parameters, a drop is one step

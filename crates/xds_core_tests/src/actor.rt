@@ -1,12 +1,12 @@
 // A replica to which a story happens, and what it is asked.
 use crate::events::{event_of, number_of, stream_of, type_of};
-use crate::parts::{copy_of, doubled, is_short, renew, text_of};
-use crate::script::Actor;
+use crate::parts::{copy_of, doubled, is_short, renew, text_of, texts_of};
+use crate::script::{Actor, parted};
 use std::alloc::Global;
 use xds_core::{Core, Event, Record, Reply};
 use xds_resource::Refusal;
 
-/// The first replica. Its steps are events, and looks at what is `due` or `owed` to a stream, at the `marks` of all types or
+/// The first replica. Its steps are events, events behind `twice` that are answered twice, and looks at what is `due` or `owed` to a stream, at the `marks` of all types or
 /// at the `entries` of one.
 impl Actor for Core {
     fn begin(alloc: Global) -> Core {
@@ -22,6 +22,7 @@ impl Actor for Core {
             "marks" => text_of(alloc, self.marks()),
             "entries" => entries(self, alloc, rest),
             "due" => due(self, alloc, rest),
+            "twice" => happens_twice(self, alloc, rest),
             "owed" => owed(self, alloc, rest),
             _ => happens(self, alloc, verb, rest),
         }
@@ -56,6 +57,12 @@ fn happens(core: &mut Core, alloc: Global, verb: &str, rest: &str) -> Result<Str
     let record = recorded(event, stepped(core, copy));
     let record = copy_of(alloc, record)?;
     text_of(alloc, record)
+}
+
+fn happens_twice(core: &mut Core, alloc: Global, text: &str) -> Result<String, Refusal> {
+    let (verb, rest) = parted(text);
+    let event = event_of(alloc, verb, rest)?;
+    texts_of(alloc, core.step_twice(&event))
 }
 
 fn recorded(event: Event, answer: Result<Reply, Refusal>) -> Record {

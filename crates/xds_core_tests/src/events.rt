@@ -2,12 +2,13 @@
 use crate::script::parted;
 use crate::writes::batch_of;
 use std::alloc::Global;
-use xds_core::{Event, Request};
+use xds_core::{Event, Marks, Request};
 use xds_message::{DeltaDiscoveryRequest, DiscoveryRequest};
 use xds_resource::{AnyResource, Groups, Refusal, TypeName};
 
 /// The event of `open`, `sotw STREAM MESSAGE`, `delta STREAM MESSAGE`, `poll STREAM [TYPE]`, `owes STREAM [TYPE]`,
-/// `close STREAM`, `put RESOURCE`, `putin GROUP,GROUP.. RESOURCE`, `delete TYPE NAME`, `merge [WRITE ..]` or `snapshot`.
+/// `close STREAM`, `put RESOURCE`, `putin GROUP,GROUP.. RESOURCE`, `delete TYPE NAME`, `merge [WRITE ..]`, `snapshot`,
+/// `rest TYPE VERSION CLUSTER [NAME ..]`, where `-` is an empty text, or `since` with five counts.
 pub(crate) fn event_of(alloc: Global, verb: &str, rest: &str) -> Result<Event, Refusal> {
     match verb {
         "open" => Ok(Event::Open),
@@ -27,6 +28,8 @@ fn longer_event_of(alloc: Global, verb: &str, rest: &str) -> Result<Event, Refus
         "putin" => putin(alloc, rest),
         "delete" => delete(alloc, rest),
         "merge" => merge(alloc, rest),
+        "rest" => rest_of(alloc, rest),
+        "since" => since(rest),
         _ => Err(Refusal::BadScript),
     }
 }
@@ -90,6 +93,44 @@ fn delete(alloc: Global, text: &str) -> Result<Event, Refusal> {
 fn merge(alloc: Global, text: &str) -> Result<Event, Refusal> {
     let batch = batch_of(alloc, text)?;
     Ok(Event::Merge(batch))
+}
+
+fn rest_of(alloc: Global, text: &str) -> Result<Event, Refusal> {
+    let (kind, text) = parted(text);
+    let (version, text) = parted(text);
+    let (cluster, names) = parted(text);
+    let kind = type_of(kind)?;
+    let version = text_or_empty(alloc, version)?;
+    let cluster = text_or_empty(alloc, cluster)?;
+    let names = words_of(alloc, names)?;
+    Ok(Event::Rest(kind, names, version, cluster))
+}
+
+fn text_or_empty(alloc: Global, word: &str) -> Result<String, Refusal> {
+    let text = if word == "-" { "" } else { word };
+    Ok(String::from_str(alloc, text)?)
+}
+
+fn words_of(alloc: Global, text: &str) -> Result<Vec<String>, Refusal> {
+    let mut words = Vec::new(alloc);
+    for word in text.split_whitespace() {
+        words.push(String::from_str(alloc, word)?)?;
+    }
+    Ok(words)
+}
+
+fn since(text: &str) -> Result<Event, Refusal> {
+    let (cluster, text) = parted(text);
+    let (endpoint, text) = parted(text);
+    let (listener, text) = parted(text);
+    let (route, secret) = parted(text);
+    Ok(Event::Since(Marks {
+        cluster: number_of(cluster)?,
+        endpoint: number_of(endpoint)?,
+        listener: number_of(listener)?,
+        route: number_of(route)?,
+        secret: number_of(secret)?,
+    }))
 }
 
 /// The stream, and perhaps the type, of `STREAM [TYPE]`.

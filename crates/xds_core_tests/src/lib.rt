@@ -5,6 +5,8 @@
 #[cfg(test)]
 mod actor;
 #[cfg(test)]
+mod changes;
+#[cfg(test)]
 mod events;
 #[cfg(test)]
 mod groups;
@@ -15,10 +17,14 @@ mod memory;
 #[cfg(test)]
 mod parts;
 #[cfg(test)]
+mod polled;
+#[cfg(test)]
 mod replies;
 #[cfg(test)]
 mod script;
 #[cfg(test)]
 mod stories;
+#[cfg(test)]
+mod twins;
 #[cfg(test)]
 mod writes;

@@ -56,6 +56,22 @@ pub(crate) fn text_of<V: Told>(alloc: Global, value: V) -> Result<String, Refusa
     value.text(alloc)
 }
 
+/// The texts of two values, with `and` between them, or that of the refusal. That no memory was found is no answer.
+pub(crate) fn texts_of<V: Told>(
+    alloc: Global,
+    both: Result<(V, V), Refusal>,
+) -> Result<String, Refusal> {
+    match both {
+        Ok((first, second)) => joined(alloc, first.text(alloc)?, second.text(alloc)?),
+        Err(Refusal::OutOfMemory) => Err(Refusal::OutOfMemory),
+        Err(refusal) => Ok(refusal.to_string(alloc)?),
+    }
+}
+
+fn joined(alloc: Global, first: String, second: String) -> Result<String, Refusal> {
+    Ok(format!(in alloc; "{first} and {second}")?)
+}
+
 /// Whether no memory was found. Another refusal is passed on.
 pub(crate) fn is_short<V: Drop>(answer: Result<V, Refusal>) -> Result<bool, Refusal> {
     match answer {

@@ -1,9 +1,10 @@
 // Replies and looks as texts.
-use crate::parts::Told;
+use crate::parts::{Told, text_of};
 use std::alloc::Global;
 use xds_core::{Marks, Record, Reply};
 use xds_ledger::Outcome;
 use xds_resource::Refusal;
+use xds_writes::Batch;
 
 // A text of its own.
 fn text(alloc: Global, text: &str) -> Result<String, Refusal> {
@@ -19,6 +20,14 @@ pub(crate) fn number_text(alloc: Global, number: u128) -> Result<String, Refusal
     Ok(format!(in alloc; "{number}")?)
 }
 
+// The batch, and the counts of changes.
+fn changed(alloc: Global, batch: &Batch, marks: Marks) -> Result<String, Refusal> {
+    let mut text = batch.text(alloc)?;
+    text.push_str(" at ")?;
+    text.push_str(text_of(alloc, marks)?.as_str())?;
+    Ok(text)
+}
+
 impl Told for Reply {
     fn text(&self, alloc: Global) -> Result<String, Refusal> {
         match self {
@@ -32,6 +41,9 @@ impl Told for Reply {
             Reply::Written(stamp) => stamp.version_text(alloc),
             Reply::Merged(changes) => number_text(alloc, *changes),
             Reply::Entries(batch) => batch.text(alloc),
+            Reply::Rested(Some(draft)) => draft.write(alloc),
+            Reply::Rested(None) => text(alloc, "unchanged"),
+            Reply::Changed(batch, marks) => changed(alloc, batch, *marks),
         }
     }
 }

@@ -1,12 +1,12 @@
 -- Responses of either variant, before they are written. This project's own.
-use Rattle.std.specs.Prelude.{◌≡◌, ℕ, List}
+use Rattle.std.specs.Prelude.{◌≡◌, ℕ, List, All}
 use Rattle.serde_json.specs.Written.{compact_text}
 use Rattle.xds_resource.specs.declared.types.TypeName.{TypeName}
 use Rattle.xds_draft.specs.declared.draft.Draft.{Draft}
 use Rattle.xds_draft.specs.declared.draft.Draft.TheVariants as drafts
 use Rattle.xds_draft.specs.declared.draft.Response.{Response}
 use Rattle.xds_draft.specs.declared.draft.Response.TheVariants as responses
-use Rattle.xds_draft.specs.Drafts.{message_of, delta_message_of}
+use Rattle.xds_draft.specs.Drafts.{IsBodyText, message_of, delta_message_of}
 use Rattle.xds_message.specs.Responses.{response_of, delta_response_of}
 use Rattle.xds_message.specs.Written.{response_object}
 use Rattle.xds_message.specs.DeltaWritten.{delta_response_object}
@@ -30,3 +30,8 @@ IsMessageOf (drafts.Sotw d) (responses.Sotw r) = response_of r ≡ message_of d
 IsMessageOf (drafts.Sotw d) (responses.Delta r) = ⊥
 IsMessageOf (drafts.Delta d) (responses.Sotw r) = ⊥
 IsMessageOf (drafts.Delta d) (responses.Delta r) = delta_response_of r ≡ delta_message_of d
+
+-- what a draft holds of a resource is the compact text of the resource's object
+abbrev pub HoldsBodyTexts : Draft → Type 0
+HoldsBodyTexts (drafts.Sotw d) = All IsBodyText d.bodies
+HoldsBodyTexts (drafts.Delta d) = All (λ r. IsBodyText r.body) d.resources

@@ -166,6 +166,7 @@ impl DeltaDraft {
     pub fn message(&self, alloc: Global) -> Result<DeltaDiscoveryResponse, Refusal>
         ensures ok { IfOk result (λ r. delta_response_of r ≡ delta_message_of self.now) }
         ensures sound { OnOk result (IsSoundDelta (delta_message_of self.now)) }
+        ensures texts { OnOk result (All (λ r. IsBodyText r.body) self.now.resources) }
         ensures refused { IfErr result (λ e. e ≡ OutOfMemory) }
     {
         Ok(DeltaDiscoveryResponse {

@@ -1,7 +1,7 @@
 // Responses of either variant, before they are written and as messages.
-ghost use Rattle.std.specs.Prelude.{◌≡◌, string_bytes, IfOk, IfErr};
+ghost use Rattle.std.specs.Prelude.{◌≡◌, string_bytes, IfOk, IfErr, OnOk};
 ghost use Rattle.xds_resource.specs.declared.refusal.Refusal.TheVariants.{OutOfMemory};
-ghost use Rattle.xds_draft.specs.DraftTexts.{text_of, nonce_of, kind_of, IsMessageOf};
+ghost use Rattle.xds_draft.specs.DraftTexts.{text_of, nonce_of, kind_of, HoldsBodyTexts, IsMessageOf};
 
 use crate::delta_draft::DeltaDraft;
 use crate::sotw_draft::SotwDraft;
@@ -47,6 +47,7 @@ impl Draft {
     /// The response, whose resources are read again from their texts.
     pub fn message(&self, alloc: Global) -> Result<Response, Refusal>
         ensures ok { IfOk result (IsMessageOf self.now) }
+        ensures texts { OnOk result (HoldsBodyTexts self.now) }
         ensures refused { IfErr result (λ e. e ≡ OutOfMemory) }
     {
         match self {

@@ -85,6 +85,7 @@ impl SotwDraft {
     pub fn message(&self, alloc: Global) -> Result<DiscoveryResponse, Refusal>
         ensures ok { IfOk result (λ r. response_of r ≡ message_of self.now) }
         ensures sound { OnOk result (IsSoundResponse (message_of self.now)) }
+        ensures texts { OnOk result (All IsBodyText self.now.bodies) }
         ensures refused { IfErr result (λ e. e ≡ OutOfMemory) }
     {
         Ok(DiscoveryResponse {

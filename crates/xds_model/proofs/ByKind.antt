@@ -19,11 +19,12 @@ use Rattle.xds_shelf.specs.Faults.{Test}
 use Rattle.xds_cache.specs.Clients as clients
 use Rattle.xds_cache.specs.Clients.{Client, shelf, shelf_after, identity, node, is_sent, unlinked}
 use Rattle.xds_cache.specs.Sends.{delta_request, sotw_request, sotw_first, delta_first, is_greeted}
+use Rattle.xds_cache.specs.Rest.{rest_changed}
 use Rattle.xds_cache.specs.Receives.{Outcome as ClientOutcome, sotw_change, sotw_changed, delta_change, delta_changed}
 use Rattle.xds_model.specs.declared.event.ClientKind.{ClientKind}
-use Rattle.xds_model.specs.declared.event.ClientKind.TheVariants.{Sotw, Delta}
+use Rattle.xds_model.specs.declared.event.ClientKind.TheVariants.{Sotw, Delta, Rest}
 use Rattle.xds_model.specs.Happenings.{Wish, Names, Edits}
-use Rattle.xds_model.specs.Worlds.{Link, Peer, opening_requests, with_request, changed_by, wish_of, under_way, received_in}
+use Rattle.xds_model.specs.Worlds.{Link, Peer, opening_requests, has_streams, with_request, changed_by, wish_of, under_way, received_in}
 use Rattle.xds_model.specs.Knows.{TypedWrite}
 use Rattle.xds_model.proofs.Replicas.{some_is, never}
 use Rattle.xds_model.proofs.Queues as queues
@@ -34,15 +35,19 @@ use Rattle.xds_model.proofs.LinkSteps.{poll_sent, poll_quiet}
 use Rattle.xds_model.proofs.LinkTakes as takes
 use Rattle.xds_model.proofs.Delivering.{AllKnown}
 use Rattle.xds_model.proofs.SotwLinks as sotws
+use Rattle.xds_model.proofs.RestShelves.{rests_forgotten}
 
 -- The link of a client of each variant, by the stream as it is for its client; and what the client keeps without a link.
 abbrev pub LinkedAs : ClientKind → List TypedWrite → Client → Link → Stream → Type 0
 LinkedAs Sotw all c l x = sotws.Linked all c l x
 LinkedAs Delta all c l x = queues.Linked all c l x
+-- one that polls has none
+LinkedAs Rest all c l x = ⊥
 
 abbrev pub RestsAs : ClientKind → List TypedWrite → TypeName → Shelf → Type 0
 RestsAs Sotw all t f = sotws.Rests t f
 RestsAs Delta all t f = takes.Rests all t f
+RestsAs Rest all t f = sotws.Rests t f
 
 -- and by the stream as its replica has it: while the variant isn't decided, the next request that comes says the client's cluster
 abbrev pub LinkedTo : ClientKind → List TypedWrite → Client → Link → Stream → Type 0
@@ -52,12 +57,14 @@ LinkedTo k all c l x = Greets c x l.up × LinkedAs k all c l (started c.cluster 
 pub received_stays : (k : ClientKind) (test : Test) (c : Client) (d : Draft) (q : Client × Message) → received_in test k c d ≡ Some q → (q.0.cluster ≡ c.cluster) × (q.0.broken ≡ c.broken)
 received_stays Sotw test c d q is = let left = (sotws.received_is test c d q is).left in (ap (λ p. p.0.cluster) left, ap (λ p. p.0.broken) left)
 received_stays Delta test c d q is = let left = (takes.received_is test c d q is).left in (ap (λ p. p.0.cluster) left, ap (λ p. p.0.broken) left)
+received_stays Rest test c d q is = absurd (never q is)
 
 module _ (all : List TypedWrite) where
   up_as : (k : ClientKind) (c : Client) (l : Link) (x : Stream) (m : Message) (rest : List Message) (z : Outcome × Stream) → l.up ≡ m ∷ rest → (x.variant ≡ None → cluster_of m ≡ c.cluster) → requested x m ≡ Ok z → LinkedAs k all c l x
       → LinkedAs k all c (record l { up = rest }) z.1
   up_as Sotw c l x m rest z up says is linked = sotws.linked_up all c l x m rest z up says is linked
   up_as Delta c l x m rest z up says is linked = deltas.linked_up all c l x m rest z up says is linked
+  up_as Rest c l x m rest z up says is linked = absurd linked
 
   -- the replica took the oldest request
   pub up_to : (k : ClientKind) (c : Client) (l : Link) (x : Stream) (m : Message) (rest : List Message) (z : Outcome × Stream) → l.up ≡ m ∷ rest → requested x m ≡ Ok z → LinkedTo k all c l x → LinkedTo k all c (record l { up = rest }) z.1
@@ -72,6 +79,7 @@ module _ (all : List TypedWrite) where
       → LinkedAs k all c (record l { down = l.down ++ d ∷ [] }) y
   sent_as Sotw replica store c l x y d known is linked = sotws.linked_polled all replica store c l x y d known is linked
   sent_as Delta replica store c l x y d known is linked = deltas.linked_polled all replica store c l x y d known is linked
+  sent_as Rest replica store c l x y d known is linked = absurd linked
 
   poll_as : (k : ClientKind) (replica : ℕ) (store : Store) (c : Client) (l : Link) (x y : Stream) (ts : List TypeName) (o : Option Draft) → ((t : TypeName) → AllKnown all t (at store t).entries) → polled_first replica store x ts ≡ Ok (o, y) → LinkedAs k all c l x
       → LinkedAs k all c (record l { down = l.down ++ under_way o }) y
@@ -91,11 +99,13 @@ module _ (all : List TypedWrite) where
       → LinkedAs k all q.0 (record l { up = l.up ++ q.1 ∷ []; down = rest }) x
   down_as Sotw test c l x d rest q down is linked = sotws.linked_down all test c l x d rest q down (sotws.received_is test c d q is) linked
   down_as Delta test c l x d rest q down is linked = takes.linked_down all test c l x d rest q down (takes.received_is test c d q is) linked
+  down_as Rest test c l x d rest q down is linked = absurd linked
 
   -- while the stream's variant isn't decided, no response is under way
   pub none_brought : (k : ClientKind) (c : Client) (l : Link) (x : Stream) (d : Draft) (rest : List Draft) → l.down ≡ d ∷ rest → x.variant ≡ None → LinkedAs k all c l x → ⊥
   none_brought Sotw c l x d rest down none linked = sotws.none_brought all c l x d rest down none linked
   none_brought Delta c l x d rest down none linked = takes.none_brought all c l x d rest down none linked
+  none_brought Rest c l x d rest down none linked = linked
 
   -- the client took the oldest response
   pub down_to : (k : ClientKind) (test : Test) (c : Client) (l : Link) (x : Stream) (d : Draft) (rest : List Draft) (q : Client × Message) → l.down ≡ d ∷ rest → received_in test k c d ≡ Some q → LinkedTo k all c l x
@@ -105,23 +115,26 @@ module _ (all : List TypedWrite) where
     subst (λ cluster. LinkedAs k all q.0 (record l { up = l.up ++ q.1 ∷ []; down = rest }) (started cluster x)) (sym (received_stays k test c d q is).0) (down_as k test c l (started c.cluster x) d rest q down is linked.1),
   )
 
-  opened_as : (k : ClientKind) (c : Client) (r n : ℕ) (greeted : Bool) → ((t : TypeName) → RestsAs k all t (shelf c t))
+  opened_as : (k : ClientKind) (c : Client) (r n : ℕ) (greeted : Bool) → has_streams k ≡ true → ((t : TypeName) → RestsAs k all t (shelf c t))
       → LinkedAs k all (clients.linked greeted c) (record { replica = r; stream = n; up = opening_requests k c; down = [] }) (started c.cluster opening)
-  opened_as Sotw c r n greeted rests = sotws.linked_opened all c r n greeted rests
-  opened_as Delta c r n greeted rests = takes.linked_opened all c r n greeted rests
+  opened_as Sotw c r n greeted has rests = sotws.linked_opened all c r n greeted rests
+  opened_as Delta c r n greeted has rests = takes.linked_opened all c r n greeted rests
+  opened_as Rest c r n greeted has rests = absurd cc
 
-  opening_greets : (k : ClientKind) (c : Client) → IsGreeting (clients.linked (is_greeted c false types) c) (opening_requests k c)
-  opening_greets Sotw c = first_greets streams.Sotw (sotw_first c) c (λ t. refl) types
-  opening_greets Delta c = first_greets streams.Delta (delta_first c) c (λ t. refl) types
+  opening_greets : (k : ClientKind) (c : Client) → has_streams k ≡ true → IsGreeting (clients.linked (is_greeted c false types) c) (opening_requests k c)
+  opening_greets Sotw c has = first_greets streams.Sotw (sotw_first c) c (λ t. refl) types
+  opening_greets Delta c has = first_greets streams.Delta (delta_first c) c (λ t. refl) types
+  opening_greets Rest c has = absurd cc
 
   -- the client connected
-  pub opened_to : (k : ClientKind) (c : Client) (r n : ℕ) → ((t : TypeName) → RestsAs k all t (shelf c t))
+  pub opened_to : (k : ClientKind) (c : Client) (r n : ℕ) → has_streams k ≡ true → ((t : TypeName) → RestsAs k all t (shelf c t))
       → LinkedTo k all (clients.linked (is_greeted c false types) c) (record { replica = r; stream = n; up = opening_requests k c; down = [] }) opening
-  opened_to k c r n rests = (λ none. opening_greets k c, opened_as k c r n (is_greeted c false types) rests)
+  opened_to k c r n has rests = (λ none. opening_greets k c has, opened_as k c r n (is_greeted c false types) has rests)
 
   lost_as : (k : ClientKind) (c : Client) (l : Link) (x : Stream) → LinkedAs k all c l x → (t : TypeName) → RestsAs k all t (shelf (unlinked c) t)
   lost_as Sotw c l x linked t = sotws.rests_lost all c l x linked t
   lost_as Delta c l x linked t = takes.rests_lost all c l x linked t
+  lost_as Rest c l x linked t = absurd linked
 
   pub lost_to : (k : ClientKind) (c : Client) (l : Link) (x : Stream) → LinkedTo k all c l x → (t : TypeName) → RestsAs k all t (shelf (unlinked c) t)
   lost_to k c l x linked = lost_as k c l (started c.cluster x) linked.1
@@ -129,6 +142,7 @@ module _ (all : List TypedWrite) where
   pub fresh_as : (k : ClientKind) (t : TypeName) → RestsAs k all t bare
   fresh_as Sotw t = λ name unwanted. finmap.get-empty text_cmp name
   fresh_as Delta t = takes.rests_fresh all t
+  fresh_as Rest t = λ name unwanted. finmap.get-empty text_cmp name
 
 -- ---- Change
 
@@ -148,7 +162,7 @@ sent_on : (l : Link) (b : Bool) (m : Message) → with_request (if b then Some m
 sent_on l true m = refl
 sent_on l false m = λ i. record l { up = sym (append-nil l.up) i }
 
--- what a client of either variant is after a change, and what it sends
+-- what a client on streams is after a change, and what it sends
 pub record IsWished (k : ClientKind) (p : Peer) (up : Bool) (t : TypeName) (wish : Wish) (q : Client × Option Message) : Type 0 where
   pub wants : Wants
   pub message : Message
@@ -156,8 +170,8 @@ pub record IsWished (k : ClientKind) (p : Peer) (up : Bool) (t : TypeName) (wish
   pub sent : q.1 ≡ (if is_sent up (shelf p.client t) wants then Some message else None)
   pub greets : p.client.greeted ≡ false → cluster_of message ≡ p.client.cluster
 
-abbrev pub wished_is : (k : ClientKind) (p : Peer) (up : Bool) (t : TypeName) (wish : Wish) (q : Client × Option Message) → wish_of k p up t wish ≡ Some q → IsWished k p up t wish q
-wished_is Sotw p up t (Names names) q is =
+abbrev pub wished_is : (k : ClientKind) → has_streams k ≡ true → (p : Peer) (up : Bool) (t : TypeName) (wish : Wish) (q : Client × Option Message) → wish_of k p up t wish ≡ Some q → IsWished k p up t wish q
+wished_is Sotw has p up t (Names names) q is =
     let w : Wants = wants_of names in
     let m : messages.Request = sotw_request t (node p.client.greeted p.client) (shelf_after up t w p.client) None in
     let made = changed_ok streams.Sotw (sotw_change up t w p.client) q is in
@@ -169,9 +183,9 @@ wished_is Sotw p up t (Names names) q is =
       sent = ap (λ y. y.1) made.2 ∙ ap (λ y. option_map streams.Sotw y.1) once ∙ tagged_if streams.Sotw (is_sent up (shelf p.client t) w) m;
       greets = λ new. ap (λ b. cluster_in (if b then None else Some (identity p.client.node_id p.client.cluster))) new;
     }
-wished_is Sotw p up t (Edits subscribe unsubscribe) q is = absurd cc
-wished_is Delta p up t (Names names) q is = absurd cc
-wished_is Delta p up t (Edits subscribe unsubscribe) q is =
+wished_is Sotw has p up t (Edits subscribe unsubscribe) q is = absurd cc
+wished_is Delta has p up t (Names names) q is = absurd cc
+wished_is Delta has p up t (Edits subscribe unsubscribe) q is =
     let s : Wants = wants_of subscribe in
     let u : Wants = wants_of unsubscribe in
     let w : Wants = wants_after s u (shelf p.client t).wants in
@@ -185,25 +199,37 @@ wished_is Delta p up t (Edits subscribe unsubscribe) q is =
       sent = ap (λ y. y.1) made.2 ∙ ap (λ y. option_map streams.Delta y.1) once ∙ tagged_if streams.Delta (is_sent up (shelf p.client t) w) m;
       greets = λ new. ap (λ b. cluster_in (if b then None else Some (identity p.client.node_id p.client.cluster))) new;
     }
+wished_is Rest has p up t wish q is = absurd cc
+
+-- a client that polls sends nothing
+pub rest_wished : (p : Peer) (up : Bool) (t : TypeName) (wish : Wish) (q : Client × Option Message) → wish_of Rest p up t wish ≡ Some q → (w : Wants) × (q ≡ (rest_changed t w p.client, None))
+rest_wished p up t (Names names) q is = (wants_of names, sym (some_is (rest_changed t (wants_of names) p.client, None) q is))
+rest_wished p up t (Edits subscribe unsubscribe) q is = absurd (never q is)
+
+-- whatever a client is told to want, it stays of its cluster, and of use
+pub wished_stays : (k : ClientKind) (p : Peer) (up : Bool) (t : TypeName) (wish : Wish) (q : Client × Option Message) → wish_of k p up t wish ≡ Some q → (q.0.cluster ≡ p.client.cluster) × (q.0.broken ≡ p.client.broken)
+wished_stays Sotw p up t wish q is = let left = (wished_is Sotw refl p up t wish q is).left in (ap (λ (c : Client). c.cluster) left, ap (λ (c : Client). c.broken) left)
+wished_stays Delta p up t wish q is = let left = (wished_is Delta refl p up t wish q is).left in (ap (λ (c : Client). c.cluster) left, ap (λ (c : Client). c.broken) left)
+wished_stays Rest p up t wish q is = let made = rest_wished p up t wish q is in (ap (λ (y : Client × Option Message). y.0.cluster) made.1, ap (λ (y : Client × Option Message). y.0.broken) made.1)
 
 module _ (all : List TypedWrite) where
   changed_as : (k : ClientKind) (p : Peer) (l : Link) (x : Stream) (t : TypeName) (wish : Wish) (q : Client × Option Message) → wish_of k p true t wish ≡ Some q → LinkedAs k all p.client l x → LinkedAs k all q.0 (with_request q.1 l) x
+  changed_as Rest p l x t wish q is linked = absurd linked
   changed_as Sotw p l x t (Edits subscribe unsubscribe) q is linked = absurd cc
   changed_as Delta p l x t (Names names) q is linked = absurd cc
   changed_as Sotw p l x t (Names names) q is linked =
-      let made = wished_is Sotw p true t (Names names) q is in
+      let made = wished_is Sotw refl p true t (Names names) q is in
       subst (λ y. sotws.Linked all q.0 y x) (sym (sent_on l (is_sent true (shelf p.client t) made.wants) made.message) ∙ ap (λ o. with_request o l) (sym made.sent))
       (subst (λ y. sotws.Linked all y (record l { up = l.up ++ (if is_sent true (shelf p.client t) made.wants then made.message ∷ [] else []) }) x) (sym made.left) (sotws.linked_changed all p.client l x t made.wants linked))
   changed_as Delta p l x t (Edits subscribe unsubscribe) q is linked =
-      let made = wished_is Delta p true t (Edits subscribe unsubscribe) q is in
+      let made = wished_is Delta refl p true t (Edits subscribe unsubscribe) q is in
       subst (λ y. queues.Linked all q.0 y x) (sym (sent_on l (is_sent true (shelf p.client t) made.wants) made.message) ∙ ap (λ o. with_request o l) (sym made.sent))
       (subst (λ y. queues.Linked all y (record l { up = l.up ++ (if is_sent true (shelf p.client t) made.wants then made.message ∷ [] else []) }) x) (sym made.left)
       (takes.linked_changed all p.client l x t (wants_of subscribe) (wants_of unsubscribe) linked))
 
-  -- the client wants something else of a type
-  pub changed_to : (k : ClientKind) (p : Peer) (l : Link) (x : Stream) (t : TypeName) (wish : Wish) (q : Client × Option Message) → wish_of k p true t wish ≡ Some q → LinkedTo k all p.client l x → LinkedTo k all q.0 (with_request q.1 l) x
-  changed_to k p l x t wish q is linked =
-      let made = wished_is k p true t wish q is in
+  changed_on : (k : ClientKind) → has_streams k ≡ true → (p : Peer) (l : Link) (x : Stream) (t : TypeName) (wish : Wish) (q : Client × Option Message) → wish_of k p true t wish ≡ Some q → LinkedTo k all p.client l x → LinkedTo k all q.0 (with_request q.1 l) x
+  changed_on k has p l x t wish q is linked =
+      let made = wished_is k has p true t wish q is in
       let sent : Bool = is_sent true (shelf p.client t) made.wants in
       let same : q.0.cluster ≡ p.client.cluster = ap (λ (c : Client). c.cluster) made.left in (
         λ none. subst (λ (m : Link). IsGreeting q.0 m.up) (sym (sent_on l sent made.message) ∙ ap (λ o. with_request o l) (sym made.sent))
@@ -211,6 +237,13 @@ module _ (all : List TypedWrite) where
         subst (λ cluster. LinkedAs k all q.0 (with_request q.1 l) (started cluster x)) (sym same) (changed_as k p l (started p.client.cluster x) t wish q is linked.1),
       )
 
+  -- the client wants something else of a type
+  pub changed_to : (k : ClientKind) (p : Peer) (l : Link) (x : Stream) (t : TypeName) (wish : Wish) (q : Client × Option Message) → wish_of k p true t wish ≡ Some q → LinkedTo k all p.client l x → LinkedTo k all q.0 (with_request q.1 l) x
+  changed_to Sotw p l x t wish q is linked = changed_on Sotw refl p l x t wish q is linked
+  changed_to Delta p l x t wish q is linked = changed_on Delta refl p l x t wish q is linked
+  changed_to Rest p l x t wish q is linked = absurd linked.1
+
   pub rests_as : (k : ClientKind) (p : Peer) (t : TypeName) (wish : Wish) (q : Client × Option Message) → wish_of k p false t wish ≡ Some q → ((u : TypeName) → RestsAs k all u (shelf p.client u)) → (u : TypeName) → RestsAs k all u (shelf q.0 u)
-  rests_as Sotw p t wish q is rests u = let made = wished_is Sotw p false t wish q is in subst (λ y. sotws.Rests u (shelf y u)) (sym made.left) (sotws.rests_changed p.client t made.wants rests u)
-  rests_as Delta p t wish q is rests u = let made = wished_is Delta p false t wish q is in subst (λ y. takes.Rests all u (shelf y u)) (sym made.left) (takes.rests_changed all p.client t made.wants rests u)
+  rests_as Sotw p t wish q is rests u = let made = wished_is Sotw refl p false t wish q is in subst (λ y. sotws.Rests u (shelf y u)) (sym made.left) (sotws.rests_changed p.client t made.wants rests u)
+  rests_as Delta p t wish q is rests u = let made = wished_is Delta refl p false t wish q is in subst (λ y. takes.Rests all u (shelf y u)) (sym made.left) (takes.rests_changed all p.client t made.wants rests u)
+  rests_as Rest p t wish q is rests u = let made = rest_wished p false t wish q is in subst (λ (y : Client × Option Message). sotws.Rests u (shelf y.0 u)) (sym made.1) (rests_forgotten p.client t made.0 rests u)

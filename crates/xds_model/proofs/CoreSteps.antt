@@ -11,7 +11,7 @@ use Rattle.xds_resource.specs.Stamps.{max_counter}
 use Rattle.xds_catalogue.proofs.Lookups.{get-inserted, get-removed}
 use Rattle.xds_core.specs.Stores.{Store, putting_at, deleting_at, merging, if_done}
 use Rattle.xds_core.specs.Streams.{Stream, opening, requested, polled_first, looked_at, owes_some}
-use Rattle.xds_core.specs.Events.{Event, Open, Request, Poll, Owes, Close, Put, Delete, Merge, Snapshot, Reply, Opened, Answered, Polled, Owed, Closed, Written, Merged}
+use Rattle.xds_core.specs.Events.{Event, Open, Request, Poll, Owes, Close, Put, Delete, Merge, Snapshot, Rest, Since, Reply, Opened, Answered, Polled, Owed, Closed, Written, Merged}
 use Rattle.xds_core.specs.Steps.{Core, Step, step, with_stream, stream_step}
 use Rattle.xds_core.proofs.StepLaws.{done_with, unless_once}
 use Rattle.xds_model.proofs.Replicas.{never}
@@ -88,3 +88,5 @@ step_counted c (Put t r groups) q is counted = stored_counted c (λ n. Written n
 step_counted c (Delete t name) q is counted = stored_counted c (λ n. Written n c.replica) (deleting_at c.store t name c.replica) q is counted
 step_counted c (Merge b) q is counted = stored_counted c Merged (merging c.store b) q is counted
 step_counted c Snapshot q is counted = subst IsCounted (sym (ap (λ y. y.1) (stepped_is _ q is))) counted
+step_counted c (Rest t names version cluster) q is counted = subst IsCounted (sym (ap (λ y. y.1) (stepped_is _ q is))) counted
+step_counted c (Since marks) q is counted = subst IsCounted (sym (ap (λ y. y.1) (stepped_is _ q is))) counted

@@ -12,10 +12,12 @@ use Rattle.xds_resource.specs.PerType.{at}
 use Rattle.xds_resource.proofs.TypesApart.{at-each}
 use Rattle.xds_catalogue.proofs.Lookups.{get-inserted}
 use Rattle.xds_draft.specs.declared.draft.Draft.{Draft}
+use Rattle.xds_draft.specs.Drafts.{Drafted}
+use Rattle.xds_message.specs.Messages.{Request}
 use Rattle.xds_core.specs.Laws.{stream_changed}
 use Rattle.xds_core.specs.Streams.{Stream, Message, opening, requested, polled_first, looked_at}
 use Rattle.xds_core.specs.Events as events
-use Rattle.xds_core.specs.Events.{Event, Reply, Opened, Answered, Polled, Owed, Closed, Written, Merged, Entries}
+use Rattle.xds_core.specs.Events.{Event, Reply, Opened, Answered, Polled, Owed, Closed, Written, Merged, Entries, Rested, Changed}
 use Rattle.xds_core.specs.Steps.{Core, fresh as fresh_core}
 use Rattle.xds_shelf.specs.Shelves.{bare}
 use Rattle.xds_shelf.specs.Faults.{Test}
@@ -24,13 +26,16 @@ use Rattle.xds_cache.specs.Clients.{Client, shelf, unlinked}
 use Rattle.xds_cache.specs.Sends.{is_greeted}
 use Rattle.xds_resource.specs.Types.{types}
 use Rattle.xds_model.specs.declared.event.ClientKind.{ClientKind}
-use Rattle.xds_model.specs.Happenings.{Happening, Wish, AddReplica, AddClient, Put, Delete, Snapshot, Merge, Connect, Change, Up, Poll, Down, Lose}
-use Rattle.xds_model.specs.Worlds.{Site, Link, Peer, World, empty_world, at_site, happened_at, placed, pooled, with_peer, new_peer, connected_to, opened, with_request, changed, wish_of, wish_taken, under_way, polled, up_taken, received, taken_down, down_taken, opening_requests, on_link, is_free, happens}
+use Rattle.xds_model.specs.declared.event.ClientKind.TheVariants.{Sotw, Delta, Rest}
+use Rattle.xds_model.specs.declared.event.Answer.{Answer}
+use Rattle.xds_model.specs.Happenings.{Happening, Wish, AddReplica, AddClient, Put, Delete, Snapshot, Merge, Connect, Change, Up, Poll, Down, Lose, RestPoll}
+use Rattle.xds_model.specs.Worlds.{Site, Link, Peer, World, empty_world, at_site, happened_at, placed, pooled, with_peer, new_peer, connected_to, opened, with_request, changed, wish_of, wish_taken, under_way, polled, up_taken, received, taken_down, down_taken, opening_requests, has_streams, on_link, is_free, is_to_connect, asked_by, poll_event, answer_taken, happens}
 use Rattle.xds_model.specs.Knows.{TypedWrite}
-use Rattle.xds_model.proofs.Replicas.{some_is, bound_some, mapped_some, if_some, if_both, both_parts, none_there, on_link_some, never}
+use Rattle.xds_model.proofs.Replicas.{some_is, bound_some, mapped_some, if_some, if_both, both_parts, none_there, on_link_some, never, IsRestPoll, rest_poll_is}
 use Rattle.xds_model.proofs.Delivering.{AllKnown}
-use Rattle.xds_model.proofs.ByKind.{LinkedTo, RestsAs, received_stays, wished_is, up_to, poll_to, down_to, opened_to, lost_to, fresh_as, changed_to, rests_as}
+use Rattle.xds_model.proofs.ByKind.{LinkedTo, RestsAs, received_stays, wished_stays, up_to, poll_to, down_to, opened_to, lost_to, fresh_as, changed_to, rests_as}
 use Rattle.xds_model.proofs.CoreSteps.{stream_step_is, open_is}
+use Rattle.xds_model.proofs.RestShelves.{rests_answered, answers_stay}
 use Rattle.xds_model.proofs.Everyone.{stream_at, AllCounted, AtSite, at_site_is, here_at, frame_at, counted_at, Fine, fine_sites, fine_peer}
 
 -- ---- where a client is
@@ -175,8 +180,8 @@ fine_lose w left all c p l has link is fine =
 pub opened_reply : (c r : ℕ) (p : Peer) (reply : Reply) (w left : World) (n : ℕ) → reply ≡ Opened n → opened c r p (reply, w) ≡ Some left → left ≡ with_peer w c (connected_to p r n)
 opened_reply c r p reply w left n told is = sym (some_is (with_peer w c (connected_to p r n)) left (ap (λ y. opened c r p (y, w)) (sym told) ∙ is))
 
-fine_connect : (w left : World) (all : List TypedWrite) (c r : ℕ) (p : Peer) → finmap.get w.peers c ≡ Some p → p.link ≡ None → option_and_then (opened c r p) (at_site w r events.Open) ≡ Some left → Fine w all → Fine left all
-fine_connect w left all c r p has none is fine =
+fine_connect : (w left : World) (all : List TypedWrite) (c r : ℕ) (p : Peer) → finmap.get w.peers c ≡ Some p → has_streams p.kind ≡ true → p.link ≡ None → option_and_then (opened c r p) (at_site w r events.Open) ≡ Some left → Fine w all → Fine left all
+fine_connect w left all c r p has streams none is fine =
     let e : Event = events.Open in
     let made = bound_some (opened c r p) (at_site w r e) left is in
     let q = made.0 in
@@ -197,7 +202,7 @@ fine_connect w left all c r p has none is fine =
       opening,
       (λ i. stream_at left (ap (λ y. y.replica) (sym is_k) i) (ap (λ y. y.stream) (sym is_k) i)) ∙ now,
       subst (λ y. LinkedTo p.kind all (clients.linked (is_greeted p.client false types) p.client) y opening) is_k
-          (opened_to all p.kind p.client r n (fine.downs c p has none)),
+          (opened_to all p.kind p.client r n streams (fine.downs c p has none)),
     ))
     (λ none. absurd (never_link (record { replica = r; stream = n; up = opening_requests p.kind p.client; down = [] }) none))
     (λ d s k m other has_d at_k link_d same_replica same_number. let is_k = some_is (record { replica = r; stream = n; up = opening_requests p.kind p.client; down = [] }) k at_k in
@@ -215,7 +220,7 @@ same_stream_on (Some m) l = refl
 
 -- a client that is told to want something else stays of use
 wished_usable : (p : Peer) (up : Bool) (t : TypeName) (wish : Wish) (q : Client × Option Message) → wish_of p.kind p up t wish ≡ Some q → p.client.broken ≡ false → q.0.broken ≡ false
-wished_usable p up t wish q is usable = ap (λ (c : Client). c.broken) (wished_is p.kind p up t wish q is).left ∙ usable
+wished_usable p up t wish q is usable = (wished_stays p.kind p up t wish q is).1 ∙ usable
 
 fine_change_up : (w left : World) (all : List TypedWrite) (c : ℕ) (p : Peer) (l : Link) (t : TypeName) (wish : Wish) (q : Client × Option Message) → finmap.get w.peers c ≡ Some p → p.link ≡ Some l → wish_of p.kind p true t wish ≡ Some q
     → left ≡ with_peer w c (changed p q) → Fine w all → Fine left all
@@ -285,12 +290,51 @@ pooled_is r (Owed o) w left is = absurd cc
 pooled_is r Closed w left is = absurd cc
 pooled_is r (Written n m) w left is = absurd cc
 pooled_is r (Merged n) w left is = absurd cc
+pooled_is r (Rested o) w left is = absurd cc
+pooled_is r (Changed b marks) w left is = absurd cc
 
 fine_written : (w left : World) (all : List TypedWrite) (r : ℕ) (e : Event) → ((c : Core) → stream_changed c e ≡ None) → happened_at w r e ≡ Some left → Fine w all → Fine left all
 fine_written w left all r e quiet is fine =
     let made = mapped_some (λ p. p.1) (at_site w r e) left is in
     let x = at_site_is w r e made.0 made.1 in
     fine_quiet w left all r e made.0 quiet made.1 (ap (λ y. y.sites) made.2) (ap (λ y. y.peers) made.2 ∙ same_peers w r e made.0 x) fine
+
+-- ---- polls without a stream
+
+-- who polls is of the kind that does
+pub polls_as : (k : ClientKind) (c : Client) (t : TypeName) (q : Request) → asked_by k c t ≡ Some q → k ≡ Rest
+polls_as Rest c t q is = refl
+polls_as Sotw c t q is = absurd (never q is)
+polls_as Delta c t q is = absurd (never q is)
+
+never_linked : (k : ClientKind) (all : List TypedWrite) (c : Client) (l : Link) (x : Stream) → k ≡ Rest → LinkedTo k all c l x → ⊥
+never_linked k all c l x is linked = (subst (λ v. LinkedTo v all c l x) is linked).1
+
+-- so it has no link
+pub linked_never : (w : World) (all : List TypedWrite) (c : ℕ) (p : Peer) (l : Link) → Fine w all → finmap.get w.peers c ≡ Some p → p.link ≡ Some l → p.kind ≡ Rest → ⊥
+linked_never w all c p l fine has linked is = let there = fine.ups c p l has linked in never_linked p.kind all p.client l there.0 is there.2
+
+pub polls_unlinked : (test : Test) (w left : World) (all : List TypedWrite) (c r : ℕ) (t : TypeName) (answer : Answer) (x : IsRestPoll test w left c r t answer) → Fine w all → (l : Link) → x.peer.link ≡ Some l → ⊥
+polls_unlinked test w left all c r t answer x fine l linked = linked_never w all c x.peer l fine x.has linked (polls_as x.peer.kind x.peer.client t x.request x.asks)
+
+polled_rests : (test : Test) (all : List TypedWrite) (k : ClientKind) (answer : Answer) (c : Client) (t : TypeName) (o : Option Drafted) (x : Client) → k ≡ Rest → answer_taken test answer c t o ≡ Some x → ((u : TypeName) → RestsAs k all u (shelf c u))
+    → (u : TypeName) → RestsAs k all u (shelf x u)
+polled_rests test all k answer c t o x is takes rests u =
+    subst (λ v. RestsAs v all u (shelf x u)) (sym is) (rests_answered test answer c t o x takes (λ s. subst (λ v. RestsAs v all s (shelf c s)) is (rests s)) u)
+
+fine_rest : (test : Test) (w left : World) (all : List TypedWrite) (c r : ℕ) (t : TypeName) (answer : Answer) (x : IsRestPoll test w left c r t answer) → Fine w all → Fine left all
+fine_rest test w left all c r t answer x fine =
+    let e : Event = poll_event t x.request in
+    let after : Peer = record x.peer { client = x.client } in
+    let site = at_site_is w r e x.reply x.answers in
+    let kind = polls_as x.peer.kind x.peer.client t x.request x.asks in
+    fine_peer w left all c after (ap (λ y. y.peers) x.after ∙ ap (λ y. finmap.insert y c after) (same_peers w r e x.reply site))
+    (λ d q m other has_d link_d. ap (λ y. stream_at y m.replica m.stream) x.after ∙ frame_at w r e x.reply site m.replica m.stream (λ same changes. never m.stream changes))
+    (λ l linked. absurd (polls_unlinked test w left all c r t answer x fine l linked))
+    (λ none. polled_rests test all x.peer.kind answer x.peer.client t x.draft x.client kind x.takes (fine.downs c x.peer x.has none))
+    (λ d q l m other has_d linked link_d same_replica same_number. polls_unlinked test w left all c r t answer x fine l linked)
+    ((answers_stay test answer x.peer.client t x.draft x.client x.takes).broken ∙ fine.usable c x.peer x.has)
+    (λ k s at_k. counted_at w r e x.reply site fine.counted k s (ap (λ y. finmap.get y.sites k) (sym x.after) ∙ at_k)) fine
 
 -- ---- whatever happens
 
@@ -309,9 +353,10 @@ fine_step test w left all (Merge r b) is known fine =
     let place = bound_some (λ x. happened_at w r (events.Merge x.1)) (placed w.pool b) left is in
     fine_written w left all r (events.Merge place.0.1) (λ c. refl) place.2 fine
 fine_step test w left all (Connect c r) is known fine =
-    let peer = bound_some (λ p. if is_none p.link then option_and_then (opened c r p) (at_site w r events.Open) else None) (finmap.get w.peers c) left is in
-    let down = if_both (is_none peer.0.link) (option_and_then (opened c r peer.0) (at_site w r events.Open)) left peer.2 in
-    fine_connect w left all c r peer.0 peer.1 (none_there peer.0.link down.0) down.1 fine
+    let peer = bound_some (λ p. if is_to_connect p then option_and_then (opened c r p) (at_site w r events.Open) else None) (finmap.get w.peers c) left is in
+    let down = if_both (is_to_connect peer.0) (option_and_then (opened c r peer.0) (at_site w r events.Open)) left peer.2 in
+    let parts = both_parts (has_streams peer.0.kind) (is_none peer.0.link) down.0 in
+    fine_connect w left all c r peer.0 peer.1 parts.0 (none_there peer.0.link parts.1) down.1 fine
 fine_step test w left all (Change c t wish) is known fine =
     let peer = bound_some (λ p. option_map (λ q. with_peer w c (changed p q)) (wish_taken p t wish)) (finmap.get w.peers c) left is in
     let made = mapped_some (λ q. with_peer w c (changed peer.0 q)) (wish_taken peer.0 t wish) left peer.2 in
@@ -324,6 +369,7 @@ fine_step test w left all (Down c) is known fine =
 fine_step test w left all (Lose c) is known fine =
     let at_link = link_there w c (λ p l. option_map (λ q. with_peer q.1 c (record p { client = unlinked p.client; link = None })) (at_site w l.replica (events.Close l.stream))) left is in
     fine_lose w left all c at_link.0 at_link.1 at_link.2 at_link.3 at_link.4 fine
+fine_step test w left all (RestPoll c r t answer) is known fine = fine_rest test w left all c r t answer (rest_poll_is test w left c r t answer is) fine
 
 pub fine_start : Fine empty_world []
 fine_start = record {

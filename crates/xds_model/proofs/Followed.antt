@@ -27,16 +27,19 @@ use Rattle.xds_cache.specs.Clients as clients
 use Rattle.xds_cache.specs.Clients.{Client, shelf, with_shelf, unlinked, shelf_after, addressing}
 use Rattle.xds_shelf.specs.Deliveries.{Delivery, delivered, fault_in, taking, rejecting, sotw_delivery, delta_delivery}
 use Rattle.xds_cache.specs.Sends.{is_greeted}
+use Rattle.xds_cache.specs.Rest.{forgetting, rest_changed}
 use Rattle.xds_cache.specs.Receives.{sotw_change, sotw_changed, delta_change, delta_changed, sotw_answered, delta_answered, sotw_receive, delta_receive}
 use Rattle.xds_model.specs.declared.event.ClientKind.{ClientKind}
-use Rattle.xds_model.specs.declared.event.ClientKind.TheVariants.{Sotw, Delta}
-use Rattle.xds_model.specs.Happenings.{Happening, Wish, Names, Edits, AddReplica, AddClient, Put, Delete, Snapshot, Merge, Connect, Change, Up, Poll, Down, Lose}
-use Rattle.xds_model.specs.Worlds.{Site, Link, Peer, World, empty_world, at_site, happened_at, placed, pooled, with_peer, new_peer, connected_to, opened, with_request, changed, wish_of, wish_taken, under_way, polled, up_taken, received, received_in, taken_down, down_taken, is_free, happens, after}
+use Rattle.xds_model.specs.declared.event.ClientKind.TheVariants.{Sotw, Delta, Rest}
+use Rattle.xds_model.specs.declared.event.Answer.{Answer}
+use Rattle.xds_model.specs.Happenings.{Happening, Wish, Names, Edits, AddReplica, AddClient, Put, Delete, Snapshot, Merge, Connect, Change, Up, Poll, Down, Lose, RestPoll}
+use Rattle.xds_model.specs.Worlds.{Site, Link, Peer, World, empty_world, at_site, happened_at, placed, pooled, with_peer, new_peer, connected_to, opened, with_request, changed, wish_of, wish_taken, under_way, polled, up_taken, received, received_in, taken_down, down_taken, is_free, is_to_connect, poll_event, happens, after}
 use Rattle.xds_model.specs.Knows.{wished, wishing, wanted_after, wants, placing, cluster_after, cluster as cluster_of, linking, linked_after, link}
 use Rattle.xds_model.specs.Claims.{LinksAreFollowed}
-use Rattle.xds_model.proofs.Replicas.{if_then, some_is, bound_some, mapped_some, if_some, none_there}
+use Rattle.xds_model.proofs.Replicas.{if_then, some_is, bound_some, mapped_some, if_some, none_there, never, IsRestPoll, rest_poll_is}
 use Rattle.xds_model.proofs.LinkTakes.{received_ok, answered_ok, connected_shelf, lost_shelf}
-use Rattle.xds_model.proofs.ByKind.{received_stays, changed_ok, changed_once, wished_is}
+use Rattle.xds_model.proofs.ByKind.{received_stays, changed_ok, changed_once, wished_stays}
+use Rattle.xds_model.proofs.RestShelves.{answers_stay}
 use Rattle.xds_model.proofs.Everyone.{at_site_is}
 use Rattle.xds_model.proofs.EveryEvent.{link_there, same_peers, pooled_is, same_replica_on}
 
@@ -92,6 +95,7 @@ pub record Stays (w left : World) (d : ℕ) : Type 0 where
   pub after : Peer
   pub has : finmap.get w.peers d ≡ Some before
   pub peers : left.peers ≡ finmap.insert w.peers d after
+  pub kind : after.kind ≡ before.kind
   pub replica : replica_of after ≡ replica_of before
   pub cluster : after.client.cluster ≡ before.client.cluster
   pub wants : (t : TypeName) → (shelf after.client t).wants ≡ (shelf before.client t).wants
@@ -115,6 +119,7 @@ received_wants test Sotw c (drafts.Sotw d) q t is =
     ∙ with_wants c answer.0 (delivered answer.0 test (shelf c answer.0) (sotw_delivery answer.0 (message_of d))) t
     (delivered_wants answer.0 test (shelf c answer.0) (sotw_delivery answer.0 (message_of d)) (fault_in answer.0 test (sotw_delivery answer.0 (message_of d))))
 received_wants test Sotw c (drafts.Delta d) q t is = absurd cc
+received_wants test Rest c d q t is = absurd (never q is)
 received_wants test Delta c (drafts.Sotw d) q t is = absurd cc
 received_wants test Delta c (drafts.Delta d) q t is =
     let made = received_ok streams.Delta (delta_receive test c (delta_message_of d)) q is in
@@ -134,6 +139,7 @@ up_stays w left d p l (m ∷ rest) has at_link is =
       after = after;
       has = has;
       peers = ap (λ y. y.peers) made.2 ∙ ap (λ y. finmap.insert y d after) (same_peers w l.replica e made.0 (at_site_is w l.replica e made.0 made.1));
+      kind = refl;
       replica = ap (option_map (λ k. k.replica)) (sym at_link);
       cluster = refl;
       wants = λ t. refl;
@@ -149,6 +155,7 @@ poll_stays w left d p l which has at_link is =
       after = record p { link = Some (record l { down = polls.0 }) };
       has = has;
       peers = ap (λ y. y.peers) polls.1 ∙ ap (λ y. finmap.insert y d (record p { link = Some (record l { down = polls.0 }) })) (same_peers w l.replica e made.0 (at_site_is w l.replica e made.0 made.1));
+      kind = refl;
       replica = ap (option_map (λ k. k.replica)) (sym at_link);
       cluster = refl;
       wants = λ t. refl;
@@ -163,6 +170,8 @@ poll_stays w left d p l which has at_link is =
     poll_peer d p l (events.Written n m) x left is = absurd cc
     poll_peer d p l (events.Merged n) x left is = absurd cc
     poll_peer d p l (events.Entries b) x left is = absurd cc
+    poll_peer d p l (events.Rested o) x left is = absurd cc
+    poll_peer d p l (events.Changed b marks) x left is = absurd cc
 
 down_stays : (test : Test) (w left : World) (d : ℕ) (p : Peer) (l : Link) (ds : List Draft) → finmap.get w.peers d ≡ Some p → p.link ≡ Some l → down_taken test w d p l ds ≡ Some left → Stays w left d
 down_stays test w left d p l [] has at_link is = absurd cc
@@ -173,9 +182,26 @@ down_stays test w left d p l (x ∷ rest) has at_link is =
       after = taken_down p l rest made.0;
       has = has;
       peers = ap (λ y. y.peers) made.2;
+      kind = refl;
       replica = ap (option_map (λ k. k.replica)) (sym at_link);
       cluster = (received_stays p.kind test p.client x made.0 made.1).0;
       wants = λ t. received_wants test p.kind p.client x made.0 t made.1;
+    }
+
+rest_stays : (test : Test) (w left : World) (d r : ℕ) (t : TypeName) (answer : Answer) → IsRestPoll test w left d r t answer → Stays w left d
+rest_stays test w left d r t answer x =
+    let e : Event = poll_event t x.request in
+    let after : Peer = record x.peer { client = x.client } in
+    let same = answers_stay test answer x.peer.client t x.draft x.client x.takes in
+    record {
+      before = x.peer;
+      after = after;
+      has = x.has;
+      peers = ap (λ y. y.peers) x.after ∙ ap (λ y. finmap.insert y d after) (same_peers w r e x.reply (at_site_is w r e x.reply x.answers));
+      kind = refl;
+      replica = refl;
+      cluster = same.cluster;
+      wants = same.wants;
     }
 
 -- ---- what comes
@@ -186,14 +212,15 @@ pub record Comes (w left : World) (d : ℕ) : Type 0 where
   pub after : Peer
   pub has : finmap.get w.peers d ≡ Some before
   pub peers : left.peers ≡ finmap.insert w.peers d after
+  pub kind : after.kind ≡ before.kind
 
-connected_comes : (test : Test) (w left : World) (d r : ℕ) → happens test w (Connect d r) ≡ Some left → (x : Comes w left d) × (replica_of x.after ≡ Some r) × (x.after.client.cluster ≡ x.before.client.cluster) × ((t : TypeName) → (shelf x.after.client t).wants ≡ (shelf x.before.client t).wants)
+pub connected_comes : (test : Test) (w left : World) (d r : ℕ) → happens test w (Connect d r) ≡ Some left → (x : Comes w left d) × (replica_of x.after ≡ Some r) × (x.after.client.cluster ≡ x.before.client.cluster) × ((t : TypeName) → (shelf x.after.client t).wants ≡ (shelf x.before.client t).wants)
 connected_comes test w left d r is =
-    let peer = bound_some (λ p. if is_none p.link then option_and_then (opened d r p) (at_site w r events.Open) else None) (finmap.get w.peers d) left is in
+    let peer = bound_some (λ p. if is_to_connect p then option_and_then (opened d r p) (at_site w r events.Open) else None) (finmap.get w.peers d) left is in
     let p = peer.0 in
-    let made = bound_some (opened d r p) (at_site w r events.Open) left (if_then (is_none p.link) (option_and_then (opened d r p) (at_site w r events.Open)) left peer.2) in
+    let made = bound_some (opened d r p) (at_site w r events.Open) left (if_then (is_to_connect p) (option_and_then (opened d r p) (at_site w r events.Open)) left peer.2) in
     let opens = opened_peer p made.0.0 made.0.1 left made.2 in (
-      record { before = p; after = connected_to p r opens.0; has = peer.1; peers = ap (λ y. y.peers) opens.1 ∙ ap (λ y. finmap.insert y d (connected_to p r opens.0)) (same_peers w r events.Open made.0 (at_site_is w r events.Open made.0 made.1)) },
+      record { before = p; after = connected_to p r opens.0; has = peer.1; peers = ap (λ y. y.peers) opens.1 ∙ ap (λ y. finmap.insert y d (connected_to p r opens.0)) (same_peers w r events.Open made.0 (at_site_is w r events.Open made.0 made.1)); kind = refl },
       refl,
       refl,
       λ t. ap (λ (f : Shelf). f.wants) (connected_shelf p.client (is_greeted p.client false types) t),
@@ -208,28 +235,33 @@ connected_comes test w left d r is =
     opened_peer p (events.Written n m) x y e = absurd cc
     opened_peer p (events.Merged n) x y e = absurd cc
     opened_peer p (events.Entries b) x y e = absurd cc
+    opened_peer p (events.Rested o) x y e = absurd cc
+    opened_peer p (events.Changed b marks) x y e = absurd cc
 
-lost_comes : (test : Test) (w left : World) (d : ℕ) → happens test w (Lose d) ≡ Some left → (x : Comes w left d) × (replica_of x.after ≡ None) × (x.after.client.cluster ≡ x.before.client.cluster) × ((t : TypeName) → (shelf x.after.client t).wants ≡ (shelf x.before.client t).wants)
+pub lost_comes : (test : Test) (w left : World) (d : ℕ) → happens test w (Lose d) ≡ Some left → (x : Comes w left d) × (replica_of x.after ≡ None) × (x.after.client.cluster ≡ x.before.client.cluster) × ((t : TypeName) → (shelf x.after.client t).wants ≡ (shelf x.before.client t).wants)
 lost_comes test w left d is =
     let at_link = link_there w d (λ p l. option_map (λ q. with_peer q.1 d (record p { client = unlinked p.client; link = None })) (at_site w l.replica (events.Close l.stream))) left is in
     let p = at_link.0 in
     let e : Event = events.Close at_link.1.stream in
     let after : Peer = record p { client = unlinked p.client; link = None } in
     let made = mapped_some (λ q. with_peer q.1 d after) (at_site w at_link.1.replica e) left at_link.4 in (
-      record { before = p; after = after; has = at_link.2; peers = ap (λ y. y.peers) made.2 ∙ ap (λ y. finmap.insert y d after) (same_peers w at_link.1.replica e made.0 (at_site_is w at_link.1.replica e made.0 made.1)) },
+      record { before = p; after = after; has = at_link.2; peers = ap (λ y. y.peers) made.2 ∙ ap (λ y. finmap.insert y d after) (same_peers w at_link.1.replica e made.0 (at_site_is w at_link.1.replica e made.0 made.1)); kind = refl },
       refl,
       refl,
       λ t. ap (λ (f : Shelf). f.wants) (lost_shelf p.client t),
     )
 
--- what a client wants of each type after a change
-wanted_changed : (up : Bool) (s : TypeName) (w : Wants) (c : Client) (t : TypeName) → (shelf (clients.changed up s w c) t).wants ≡ (if is_same_type s t then w else (shelf c t).wants)
-wanted_changed up s w c t =
+-- what a client wants of each type once a shelf was put
+put_wanted : (s : TypeName) (f : Shelf) (c : Client) (t : TypeName) → (shelf (with_shelf c s f) t).wants ≡ (if is_same_type s t then f.wants else (shelf c t).wants)
+put_wanted s f c t =
     elim (same_type s t) [
-      | inl equal ↦
-          ap (λ r. (at (with_at c.shelves s (shelf_after up s w c)) r).wants) (sym equal.0) ∙ ap (λ (x : Shelf). x.wants) (at-with_at c.shelves s (shelf_after up s w c)) ∙ ap (λ b. if b then w else (shelf c t).wants) (sym equal.1)
-      | inr other ↦ ap (λ (x : Shelf). x.wants) (at-with_at_other c.shelves s (shelf_after up s w c) t (λ e. other.0 (sym e))) ∙ ap (λ b. if b then w else (shelf c t).wants) (sym other.1)
+      | inl equal ↦ ap (λ r. (at (with_at c.shelves s f) r).wants) (sym equal.0) ∙ ap (λ (x : Shelf). x.wants) (at-with_at c.shelves s f) ∙ ap (λ b. if b then f.wants else (shelf c t).wants) (sym equal.1)
+      | inr other ↦ ap (λ (x : Shelf). x.wants) (at-with_at_other c.shelves s f t (λ e. other.0 (sym e))) ∙ ap (λ b. if b then f.wants else (shelf c t).wants) (sym other.1)
     ]
+
+-- and after a change
+wanted_changed : (up : Bool) (s : TypeName) (w : Wants) (c : Client) (t : TypeName) → (shelf (clients.changed up s w c) t).wants ≡ (if is_same_type s t then w else (shelf c t).wants)
+wanted_changed up s w c t = put_wanted s (shelf_after up s w c) c t
 
 -- a change of one list, and of two
 same_wanted : (s t : TypeName) (c : Client) (wish : Wish) → (if is_same_type s t then wished wish (shelf c s).wants else (shelf c t).wants) ≡ (if is_same_type s t then wished wish (shelf c t).wants else (shelf c t).wants)
@@ -247,6 +279,9 @@ wished_wants Sotw p up s (Names names) q t is =
     ∙ wanted_changed up s (wants_of names) p.client t
 wished_wants Sotw p up s (Edits subscribe unsubscribe) q t is = absurd cc
 wished_wants Delta p up s (Names names) q t is = absurd cc
+wished_wants Rest p up s (Edits subscribe unsubscribe) q t is = absurd (never q is)
+wished_wants Rest p up s (Names names) q t is =
+    ap (λ (x : Client × Option Message). (shelf x.0 t).wants) (sym (some_is (rest_changed s (wants_of names) p.client, None) q is)) ∙ put_wanted s (forgetting s (wants_of names) (shelf p.client s)) p.client t
 wished_wants Delta p up s (Edits subscribe unsubscribe) q t is =
     let made = changed_ok streams.Delta (delta_change up s (wants_of subscribe) (wants_of unsubscribe) p.client) q is in
     ap (λ (x : Client × Option Message). (shelf x.0 t).wants) made.2
@@ -259,24 +294,24 @@ changed_comes test w left d s wish is =
     let peer = bound_some (λ p. option_map (λ q. with_peer w d (changed p q)) (wish_taken p s wish)) (finmap.get w.peers d) left is in
     let p = peer.0 in
     let made = mapped_some (λ q. with_peer w d (changed p q)) (wish_taken p s wish) left peer.2 in
-    (record { before = p; after = changed p made.0; has = peer.1; peers = ap (λ y. y.peers) made.2 }, same_place made.0.1 p.link, ap (λ (c : Client). c.cluster) (wished_is p.kind p (is_some p.link) s wish made.0 made.1).left, λ t. wished_wants p.kind p (is_some p.link) s wish made.0 t made.1)
+    (record { before = p; after = changed p made.0; has = peer.1; peers = ap (λ y. y.peers) made.2; kind = refl }, same_place made.0.1 p.link, (wished_stays p.kind p (is_some p.link) s wish made.0 made.1).0, λ t. wished_wants p.kind p (is_some p.link) s wish made.0 t made.1)
   where
     same_place : (o : Option Message) (l : Option Link) → option_map (λ k. k.replica) (option_map (with_request o) l) ≡ option_map (λ k. k.replica) l
     same_place o None = refl
     same_place o (Some l) = ap Some (same_replica_on o l)
 
-written_peers : (w left : World) (r : ℕ) (e : Event) → happened_at w r e ≡ Some left → left.peers ≡ w.peers
+pub written_peers : (w left : World) (r : ℕ) (e : Event) → happened_at w r e ≡ Some left → left.peers ≡ w.peers
 written_peers w left r e is = let made = mapped_some (λ p. p.1) (at_site w r e) left is in ap (λ y. y.peers) made.2 ∙ same_peers w r e made.0 (at_site_is w r e made.0 made.1)
 
-pooled_peers : (w left : World) (r : ℕ) → option_and_then (pooled r) (at_site w r events.Snapshot) ≡ Some left → left.peers ≡ w.peers
+pub pooled_peers : (w left : World) (r : ℕ) → option_and_then (pooled r) (at_site w r events.Snapshot) ≡ Some left → left.peers ≡ w.peers
 pooled_peers w left r is =
     let made = bound_some (pooled r) (at_site w r events.Snapshot) left is in
     (pooled_is r made.0.0 made.0.1 left made.2).1 ∙ same_peers w r events.Snapshot made.0 (at_site_is w r events.Snapshot made.0 made.1)
 
-merged_peers : (w left : World) (r b : ℕ) → option_and_then (λ x. happened_at w r (events.Merge x.1)) (placed w.pool b) ≡ Some left → left.peers ≡ w.peers
+pub merged_peers : (w left : World) (r b : ℕ) → option_and_then (λ x. happened_at w r (events.Merge x.1)) (placed w.pool b) ≡ Some left → left.peers ≡ w.peers
 merged_peers w left r b is = let place = bound_some (λ x. happened_at w r (events.Merge x.1)) (placed w.pool b) left is in written_peers w left r (events.Merge place.0.1) place.2
 
-added_peers : (w left : World) (r : ℕ) (s : Site) → (if is_free w r then Some (record w { sites = finmap.insert w.sites r s }) else None) ≡ Some left → left.peers ≡ w.peers
+pub added_peers : (w left : World) (r : ℕ) (s : Site) → (if is_free w r then Some (record w { sites = finmap.insert w.sites r s }) else None) ≡ Some left → left.peers ≡ w.peers
 added_peers w left r s is = ap (λ y. y.peers) (if_some (is_free w r) (record w { sites = finmap.insert w.sites r s }) left is).1
 
 -- ---- step by step
@@ -290,16 +325,16 @@ stays_wants w left d c t x = kept_look (wanted_of t) w left d x.after x.peers c 
 stays_cluster : (w left : World) (d c : ℕ) → Stays w left d → placed_of (finmap.get left.peers c) ≡ placed_of (finmap.get w.peers c)
 stays_cluster w left d c x = kept_look placed_of w left d x.after x.peers c (Some x.before) x.has x.cluster
 
-joined_is : (w left : World) (d : ℕ) (kind : ClientKind) (cluster : List ℕ) → (if is_none (finmap.get w.peers d) then Some (with_peer w d (new_peer d kind cluster)) else None) ≡ Some left → (finmap.get w.peers d ≡ None) × (left.peers ≡ finmap.insert w.peers d (new_peer d kind cluster))
+pub joined_is : (w left : World) (d : ℕ) (kind : ClientKind) (cluster : List ℕ) → (if is_none (finmap.get w.peers d) then Some (with_peer w d (new_peer d kind cluster)) else None) ≡ Some left → (finmap.get w.peers d ≡ None) × (left.peers ≡ finmap.insert w.peers d (new_peer d kind cluster))
 joined_is w left d kind cluster is = let made = if_some (is_none (finmap.get w.peers d)) (with_peer w d (new_peer d kind cluster)) left is in (none_there (finmap.get w.peers d) made.0, ap (λ y. y.peers) made.1)
 
-up_of : (test : Test) (w left : World) (d : ℕ) → happens test w (Up d) ≡ Some left → Stays w left d
+pub up_of : (test : Test) (w left : World) (d : ℕ) → happens test w (Up d) ≡ Some left → Stays w left d
 up_of test w left d is = let at_link = link_there w d (λ p l. up_taken w d p l l.up) left is in up_stays w left d at_link.0 at_link.1 at_link.1.up at_link.2 at_link.3 at_link.4
 
-poll_of : (test : Test) (w left : World) (d : ℕ) (which : Option TypeName) → happens test w (Poll d which) ≡ Some left → Stays w left d
+pub poll_of : (test : Test) (w left : World) (d : ℕ) (which : Option TypeName) → happens test w (Poll d which) ≡ Some left → Stays w left d
 poll_of test w left d which is = let at_link = link_there w d (λ p l. option_and_then (polled d p l) (at_site w l.replica (events.Poll l.stream which))) left is in poll_stays w left d at_link.0 at_link.1 which at_link.2 at_link.3 at_link.4
 
-down_of : (test : Test) (w left : World) (d : ℕ) → happens test w (Down d) ≡ Some left → Stays w left d
+pub down_of : (test : Test) (w left : World) (d : ℕ) → happens test w (Down d) ≡ Some left → Stays w left d
 down_of test w left d is = let at_link = link_there w d (λ p l. down_taken test w d p l l.down) left is in down_stays test w left d at_link.0 at_link.1 at_link.1.down at_link.2 at_link.3 at_link.4
 
 link_step : (test : Test) (w left : World) (c : ℕ) (h : Happening) → happens test w h ≡ Some left → linked_to (finmap.get left.peers c) ≡ linking c h (linked_to (finmap.get w.peers c))
@@ -314,6 +349,7 @@ link_step test w left c (Change d s wish) is = let x = changed_comes test w left
 link_step test w left c (Up d) is = stays_link w left d c (up_of test w left d is)
 link_step test w left c (Poll d which) is = stays_link w left d c (poll_of test w left d which is)
 link_step test w left c (Down d) is = stays_link w left d c (down_of test w left d is)
+link_step test w left c (RestPoll d r t answer) is = stays_link w left d c (rest_stays test w left d r t answer (rest_poll_is test w left d r t answer is))
 link_step test w left c (Lose d) is = let x = lost_comes test w left d is in changed_look linked_to w left d x.0.after x.0.peers c (λ o. None) (Some x.0.before) x.0.has x.1
 
 wants_step : (test : Test) (w left : World) (c : ℕ) (t : TypeName) (h : Happening) → happens test w h ≡ Some left → wanted_of t (finmap.get left.peers c) ≡ wishing c t h (wanted_of t (finmap.get w.peers c))
@@ -328,6 +364,7 @@ wants_step test w left c t (Change d s wish) is = let x = changed_comes test w l
 wants_step test w left c t (Up d) is = stays_wants w left d c t (up_of test w left d is)
 wants_step test w left c t (Poll d which) is = stays_wants w left d c t (poll_of test w left d which is)
 wants_step test w left c t (Down d) is = stays_wants w left d c t (down_of test w left d is)
+wants_step test w left c t (RestPoll d r s answer) is = stays_wants w left d c t (rest_stays test w left d r s answer (rest_poll_is test w left d r s answer is))
 wants_step test w left c t (Lose d) is = let x = lost_comes test w left d is in kept_look (wanted_of t) w left d x.0.after x.0.peers c (Some x.0.before) x.0.has (x.3 t)
 
 cluster_step : (test : Test) (w left : World) (c : ℕ) (h : Happening) → happens test w h ≡ Some left → placed_of (finmap.get left.peers c) ≡ placing c h (placed_of (finmap.get w.peers c))
@@ -342,6 +379,7 @@ cluster_step test w left c (Change d s wish) is = let x = changed_comes test w l
 cluster_step test w left c (Up d) is = stays_cluster w left d c (up_of test w left d is)
 cluster_step test w left c (Poll d which) is = stays_cluster w left d c (poll_of test w left d which is)
 cluster_step test w left c (Down d) is = stays_cluster w left d c (down_of test w left d is)
+cluster_step test w left c (RestPoll d r t answer) is = stays_cluster w left d c (rest_stays test w left d r t answer (rest_poll_is test w left d r t answer is))
 cluster_step test w left c (Lose d) is = let x = lost_comes test w left d is in kept_look placed_of w left d x.0.after x.0.peers c (Some x.0.before) x.0.has x.2
 
 -- ---- whatever list of happenings

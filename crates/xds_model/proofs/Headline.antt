@@ -15,48 +15,20 @@ use Rattle.xds_model.specs.Happenings.{Happening}
 use Rattle.xds_model.specs.Worlds.{Site, Link, Peer, World, empty_world, happens, after, world}
 use Rattle.xds_model.specs.Knows.{TypedWrite, Knowledge, nothing_known, learned, known_after, knows, made_now, made_after, wants, cluster as cluster_of, link}
 use Rattle.xds_model.specs.Claims.{writes_of, shown_of, content_at, PutResources, PutsAResource, SettledIsExact, SettledAgrees, Headline, is_quiet, owes_nothing, is_settled_on, is_settled}
-use Rattle.xds_model.proofs.Replicas.{both_parts, holds_what_it_knows, same_knowledge, Kept, kept_start, kept_step, some_is}
-use Rattle.xds_model.proofs.Origins.{one_write_a_stamp, Stamped, stamped_start, stamped_step}
-use Rattle.xds_model.proofs.Ranges.{opposite, Ranged, ranged_start, ranged_step, sites_known}
+use Rattle.xds_model.proofs.Replicas.{both_parts, holds_what_it_knows, same_knowledge, some_is}
+use Rattle.xds_model.proofs.Origins.{one_write_a_stamp}
+use Rattle.xds_model.proofs.Ranges.{opposite, sites_known}
 use Rattle.xds_model.proofs.ByKind.{LinkedTo}
-use Rattle.xds_model.proofs.Everyone.{stream_at, Fine}
-use Rattle.xds_model.proofs.EveryEvent.{fine_start, fine_step}
-use Rattle.xds_model.proofs.More.{fine_more}
+use Rattle.xds_model.proofs.Everyone.{stream_at}
+use Rattle.xds_model.proofs.Sure.{sure}
 use Rattle.xds_model.proofs.Delivering.{AllKnown, shown_in}
 use Rattle.xds_model.proofs.Queues.{started}
 use Rattle.xds_model.proofs.Starting.{owes_started}
 use Rattle.xds_model.proofs.Settled.{link_shows}
 use Rattle.xds_model.proofs.SotwSettled.{link_shows as sotw_link_shows}
 use Rattle.xds_model.proofs.Journals.{journals_are_legal, journals_tell_all}
+use Rattle.xds_model.proofs.Polled.{polled_is_exact, polled_is_taken, lost_leaves_the_view, polls_are_possible, pollers_have_no_stream}
 use Rattle.xds_model.proofs.Followed.{links_are_followed, linked_to, wanted_of, placed_of, link_is, cluster_is, wants_are}
-
--- all that is kept of a world
-pub record Sure (w : World) (k : Knowledge) (all : List TypedWrite) : Type 0 where
-  pub kept : Kept w k
-  pub stamped : Stamped w k all
-  pub ranged : Ranged w all
-  pub fine : Fine w all
-
-sure_step : (test : Test) (w left : World) (k : Knowledge) (all : List TypedWrite) (h : Happening) → happens test w h ≡ Some left → PutsAResource h → Sure w k all → Sure left (learned w h k) (all ++ made_now w h)
-sure_step test w left k all h is puts sure = record {
-  kept = kept_step test w left k h is sure.kept;
-  stamped = stamped_step test w left k all h is sure.kept sure.stamped;
-  ranged = ranged_step test w left k all h is puts sure.kept sure.stamped sure.ranged;
-  fine = fine_more all (made_now w h) left (fine_step test w left all h is (sites_known w k all sure.kept sure.stamped sure.ranged) sure.fine);
-}
-
-sure_or : (test : Test) (w : World) (k : Knowledge) (all : List TypedWrite) (h : Happening) (hs : List Happening) (o : Option World) → happens test w h ≡ o → PutsAResource h → Sure w k all
-    → ((x : World) (j : Knowledge) (made : List TypedWrite) → Sure x j made → Sure (after test x hs) (known_after test x j hs) (made_after test x made hs))
-    → Sure (after test (option_map_or (λ x. x) o w) hs) (option_map_or (λ x. known_after test x (learned w h k) hs) o (known_after test w k hs)) (option_map_or (λ x. made_after test x (all ++ made_now w h) hs) o (made_after test w all hs))
-sure_or test w k all h hs None is puts sure later = later w k all sure
-sure_or test w k all h hs (Some x) is puts sure later = later x (learned w h k) (all ++ made_now w h) (sure_step test w x k all h is puts sure)
-
-pub sure_after : (test : Test) (hs : List Happening) (w : World) (k : Knowledge) (all : List TypedWrite) → PutResources hs → Sure w k all → Sure (after test w hs) (known_after test w k hs) (made_after test w all hs)
-sure_after test [] w k all put sure = sure
-sure_after test (h ∷ hs) w k all put sure = sure_or test w k all h hs (happens test w h) refl put.0 sure (λ x j made. sure_after test hs x j made put.1)
-
-pub sure : (test : Test) (hs : List Happening) → PutResources hs → Sure (world test hs) (known_after test empty_world nothing_known hs) (made_after test empty_world [] hs)
-sure test hs put = sure_after test hs empty_world nothing_known [] put (record { kept = kept_start; stamped = stamped_start; ranged = ranged_start; fine = fine_start })
 
 -- ---- settled
 
@@ -156,6 +128,11 @@ headline test hs put = record {
   stamped = one_write_a_stamp test hs;
   journals = journals_are_legal test hs;
   told = journals_tell_all test hs;
+  polled = polled_is_exact test hs put;
+  taken = polled_is_taken test hs put;
+  lost = lost_leaves_the_view test hs;
+  possible = polls_are_possible test hs;
+  streamless = pollers_have_no_stream test hs put;
 }
 
 -- one more

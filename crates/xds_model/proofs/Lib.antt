@@ -16,6 +16,7 @@ pub mod SotwLanes
 pub mod SotwSteps
 pub mod SotwDelivering
 pub mod SotwLinks
+pub mod RestShelves
 pub mod ByKind
 pub mod CoreSteps
 pub mod Everyone
@@ -25,6 +26,11 @@ pub mod More
 pub mod Settled
 pub mod SotwSettled
 pub mod Followed
+pub mod Growing
+pub mod RestAnswers
+pub mod RestPolls
+pub mod Sure
+pub mod Polled
 pub mod Headline
 pub mod SettlingWalks
 pub mod SettlingSessions

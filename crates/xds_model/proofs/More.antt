@@ -15,7 +15,7 @@ use Rattle.xds_core.specs.Streams.{Stream}
 use Rattle.xds_shelf.specs.Shelves.{Wants, Holding, Shelf}
 use Rattle.xds_cache.specs.Clients.{Client, shelf}
 use Rattle.xds_model.specs.declared.event.ClientKind.{ClientKind}
-use Rattle.xds_model.specs.declared.event.ClientKind.TheVariants.{Sotw, Delta}
+use Rattle.xds_model.specs.declared.event.ClientKind.TheVariants.{Sotw, Delta, Rest}
 use Rattle.xds_model.specs.Worlds.{Link, World}
 use Rattle.xds_model.specs.Knows.{TypedWrite}
 use Rattle.xds_model.proofs.Folding.{folded}
@@ -110,10 +110,12 @@ module _ (all more : List TypedWrite) where
   more_as : (k : ClientKind) (c : Client) (l : Link) (x : Stream) → LinkedAs k all c l x → LinkedAs k (all ++ more) c l x
   more_as Sotw c l x linked = record { variant = linked.variant; counted = linked.counted; sotws = linked.sotws; lanes = λ t. sotw_lane_more c.cluster t _ _ _ _ (shelf c t) (linked.lanes t) }
   more_as Delta c l x linked = linked_more c l x linked
+  more_as Rest c l x linked = absurd linked
 
   rest_as : (k : ClientKind) (t : TypeName) (f : Shelf) → RestsAs k all t f → RestsAs k (all ++ more) t f
   rest_as Sotw t f rests = rests
   rest_as Delta t f rests = rests_more t f rests
+  rest_as Rest t f rests = rests
 
   pub fine_more : (w : World) → Fine w all → Fine w (all ++ more)
   fine_more w fine = record {

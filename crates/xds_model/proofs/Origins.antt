@@ -21,7 +21,7 @@ use Rattle.xds_catalogue.specs.Local.{greatest_counter}
 use Rattle.xds_catalogue.proofs.Counters.{counter-le, greatest_counter-held}
 use Rattle.xds_catalogue.proofs.Lookups.{get-inserted}
 use Rattle.xds_core.specs.Events as events
-use Rattle.xds_core.specs.Events.{Event, Request, Reply, Opened, Answered, Polled, Owed, Closed, Written, Merged, Entries}
+use Rattle.xds_core.specs.Events.{Event, Request, Reply, Opened, Answered, Polled, Owed, Closed, Written, Merged, Entries, Rested, Changed}
 use Rattle.xds_core.specs.Streams.{Message}
 use Rattle.xds_draft.specs.declared.draft.Draft.{Draft}
 use Rattle.xds_cache.specs.Clients.{unlinked}
@@ -30,12 +30,12 @@ use Rattle.xds_core.specs.Stores.{putting_at, deleting_at}
 use Rattle.xds_core.specs.Legal.{left_by}
 use Rattle.xds_core.proofs.StepLaws.{done_with, put_is, delete_is, number_stays}
 use Rattle.xds_shelf.specs.Faults.{Test}
-use Rattle.xds_model.specs.Happenings.{Happening, AddReplica, AddClient, Put, Delete, Snapshot, Merge, Connect, Change, Up, Poll, Down, Lose}
-use Rattle.xds_model.specs.Worlds.{Site, Link, Peer, World, empty_world, recorded, at_site, happened_at, placed, pooled, with_peer, new_peer, opened, changed, wish_taken, polled, up_taken, received, taken_down, down_taken, is_free, happens, after}
+use Rattle.xds_model.specs.Happenings.{Happening, AddReplica, AddClient, Put, Delete, Snapshot, Merge, Connect, Change, Up, Poll, Down, Lose, RestPoll}
+use Rattle.xds_model.specs.Worlds.{Site, Link, Peer, World, empty_world, recorded, at_site, happened_at, placed, pooled, with_peer, new_peer, opened, changed, wish_taken, polled, up_taken, received, taken_down, down_taken, is_free, is_to_connect, poll_of, poll_event, happens, after}
 use Rattle.xds_model.specs.Knows.{TypedWrite, Knowledge, nothing_known, learning, learned, known_after, made_now, made_after, made as made_of}
 use Rattle.xds_model.specs.Journal.{oldest, on_stream, event_at}
 use Rattle.xds_model.specs.Claims.{writes_of, OneWriteAStamp}
-use Rattle.xds_model.proofs.Replicas.{Kept, kept_start, kept_step, answered, some_is, never, mapped_some, bound_some, if_some, if_then, on_link_some, IsOf, opened_is, polled_is}
+use Rattle.xds_model.proofs.Replicas.{Kept, kept_start, kept_step, answered, some_is, never, mapped_some, bound_some, if_some, if_then, on_link_some, IsOf, opened_is, polled_is, rest_poll_is}
 
 -- ---- lists
 
@@ -255,6 +255,8 @@ pooled_sites r (Owed o) w left is = absurd cc
 pooled_sites r Closed w left is = absurd cc
 pooled_sites r (Written n m) w left is = absurd cc
 pooled_sites r (Merged n) w left is = absurd cc
+pooled_sites r (Rested o) w left is = absurd cc
+pooled_sites r (Changed b marks) w left is = absurd cc
 
 -- the event of a stream
 stream_event : (w : World) (c : ℕ) (p : Peer) (l : Link) (f : Link → Option Event) → finmap.get w.peers c ≡ Some p → p.link ≡ Some l → on_stream w c f ≡ option_map (λ e. (l.replica, e)) (f l)
@@ -282,8 +284,8 @@ sites_come test w left (Merge r b) is =
     let made = mapped_some (λ p. p.1) (at_site w r (events.Merge place.0.1)) left place.2 in
     inr (inl (r, events.Merge place.0.1, made.0, made.1, ap (λ x. x.sites) made.2, ap (option_map (λ x. (r, events.Merge x.1))) place.1))
 sites_come test w left (Connect c r) is =
-    let peer = bound_some (λ p. if is_none p.link then option_and_then (opened c r p) (at_site w r events.Open) else None) (finmap.get w.peers c) left is in
-    let down = if_then (is_none peer.0.link) (option_and_then (opened c r peer.0) (at_site w r events.Open)) left peer.2 in
+    let peer = bound_some (λ p. if is_to_connect p then option_and_then (opened c r p) (at_site w r events.Open) else None) (finmap.get w.peers c) left is in
+    let down = if_then (is_to_connect peer.0) (option_and_then (opened c r peer.0) (at_site w r events.Open)) left peer.2 in
     let made = bound_some (opened c r peer.0) (at_site w r events.Open) left down in
     inr (inl (r, events.Open, made.0, made.1, same_sites made.0.1 left (opened_is c r peer.0 made.0.0 made.0.1 left made.2), refl))
 sites_come test w left (Change c t wish) is =
@@ -302,6 +304,9 @@ sites_come test w left (Lose c) is =
     let at_link = on_link_some w c (λ p l. option_map (λ q. with_peer q.1 c (record p { client = unlinked p.client; link = None })) (at_site w l.replica (events.Close l.stream))) left is in
     let made = mapped_some (λ q. with_peer q.1 c (record at_link.0 { client = unlinked at_link.0.client; link = None })) (at_site w at_link.1.replica (events.Close at_link.1.stream)) left at_link.2 in
     inr (inl (at_link.1.replica, events.Close at_link.1.stream, made.0, made.1, ap (λ x. x.sites) made.2, stream_event w c at_link.0 at_link.1 (λ l. Some (events.Close l.stream)) at_link.3 at_link.4))
+sites_come test w left (RestPoll c r t answer) is =
+    let x = rest_poll_is test w left c r t answer is in
+    inr (inl (r, poll_event t x.request, x.reply, x.answers, ap (λ y. y.sites) x.after, ap (option_and_then (λ p. option_map (λ q. (r, poll_event t q)) (poll_of p t))) x.has ∙ ap (option_map (λ q. (r, poll_event t q))) x.asks))
 
 numbered_come : (w left : World) (o : Option (ℕ × Event)) → SitesCome w left o → Numbered w → Numbered left
 numbered_come w left o (inl added) numbered r s has = put_numbered w.sites added.0 (record { core = fresh_core added.0; journal = [] }) refl numbered r s (ap (λ m. finmap.get m r) (sym added.2) ∙ has)
@@ -330,6 +335,7 @@ stamped_step test w left k all (Up c) is kept stamped = stamped_quiet w left k a
 stamped_step test w left k all (Poll c which) is kept stamped = stamped_quiet w left k all (numbered_step test w left (Poll c which) is stamped.numbers) stamped
 stamped_step test w left k all (Down c) is kept stamped = stamped_quiet w left k all (numbered_step test w left (Down c) is stamped.numbers) stamped
 stamped_step test w left k all (Lose c) is kept stamped = stamped_quiet w left k all (numbered_step test w left (Lose c) is stamped.numbers) stamped
+stamped_step test w left k all (RestPoll c r t answer) is kept stamped = stamped_quiet w left k all (numbered_step test w left (RestPoll c r t answer) is stamped.numbers) stamped
 
 pub stamped_start : Stamped empty_world nothing_known []
 stamped_start = record {

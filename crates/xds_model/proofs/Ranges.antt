@@ -33,7 +33,7 @@ use Rattle.xds_core.specs.Events.{Event, Written}
 use Rattle.xds_core.specs.Steps.{fresh as fresh_core}
 use Rattle.xds_core.proofs.StepLaws.{done_with, put_is, delete_is}
 use Rattle.xds_shelf.specs.Faults.{Test}
-use Rattle.xds_model.specs.Happenings.{Happening, AddReplica, AddClient, Put, Delete, Snapshot, Merge, Connect, Change, Up, Poll, Down, Lose}
+use Rattle.xds_model.specs.Happenings.{Happening, AddReplica, AddClient, Put, Delete, Snapshot, Merge, Connect, Change, Up, Poll, Down, Lose, RestPoll}
 use Rattle.xds_model.specs.Worlds.{Site, World, empty_world, recorded, at_site, is_free, happens}
 use Rattle.xds_model.specs.Knows.{TypedWrite, Knowledge, made_now, made as made_of}
 use Rattle.xds_model.specs.Journal.{event_at}
@@ -220,6 +220,7 @@ ranged_step test w left k all (Up c) is sound kept stamped ranged = ranged_same 
 ranged_step test w left k all (Poll c which) is sound kept stamped ranged = ranged_same w left all (in_range_step test w left (Poll c which) is ranged.sites) ranged
 ranged_step test w left k all (Down c) is sound kept stamped ranged = ranged_same w left all (in_range_step test w left (Down c) is ranged.sites) ranged
 ranged_step test w left k all (Lose c) is sound kept stamped ranged = ranged_same w left all (in_range_step test w left (Lose c) is ranged.sites) ranged
+ranged_step test w left k all (RestPoll c r t answer) is sound kept stamped ranged = ranged_same w left all (in_range_step test w left (RestPoll c r t answer) is ranged.sites) ranged
 
 pub ranged_start : Ranged empty_world []
 ranged_start = record { sites = λ r s has. absurd (never s (sym (finmap.get-empty nat_cmp r) ∙ has)); stamps = λ x made. absurd (none_in x made); bodies = λ x made. absurd (none_in x made) }

@@ -27,18 +27,21 @@ use Rattle.xds_catalogue.proofs.JoinLaws.{joins_the_writes, order_does_not_matte
 use Rattle.xds_catalogue.proofs.Lookups.{get-inserted}
 use Rattle.xds_core.specs.Stores.{Store, Batch, putting_at, deleting_at, merging, merged, is_spent, grown, all_entries}
 use Rattle.xds_core.specs.Events as events
-use Rattle.xds_core.specs.Events.{Event, Request, Reply, Opened, Answered, Polled, Owed, Closed, Written, Merged, Entries}
+use Rattle.xds_core.specs.Events.{Event, Request, Reply, Opened, Answered, Polled, Owed, Closed, Written, Merged, Entries, Rested, Changed}
 use Rattle.xds_core.specs.Streams.{Message}
 use Rattle.xds_draft.specs.declared.draft.Draft.{Draft}
+use Rattle.xds_draft.specs.Drafts.{Drafted}
+use Rattle.xds_message.specs.Messages as messages
 use Rattle.xds_shelf.specs.Faults.{Test}
-use Rattle.xds_cache.specs.Clients.{unlinked}
+use Rattle.xds_cache.specs.Clients.{Client, unlinked}
 use Rattle.xds_core.specs.Steps.{Core, Step, step, fresh as fresh_core}
 use Rattle.xds_core.specs.Legal.{left_by}
 use Rattle.xds_core.specs.Laws.{is_write}
 use Rattle.xds_core.proofs.StepLaws.{only_writes_change_the_store, done_with, put_is, delete_is, unless_once}
-use Rattle.xds_model.specs.Worlds.{Site, Link, Peer, World, empty_world, recorded, answered_at, at_site, happened_at, placed, pooled, with_peer, new_peer, connected_to, opened, changed, wish_taken, under_way, polled, up_taken, received, taken_down, down_taken, on_link, is_free, happens, after}
+use Rattle.xds_model.specs.Worlds.{Site, Link, Peer, World, empty_world, recorded, answered_at, at_site, happened_at, placed, pooled, with_peer, new_peer, connected_to, opened, changed, wish_taken, under_way, polled, up_taken, received, taken_down, down_taken, on_link, is_free, is_to_connect, poll_of, poll_event, answer_taken, rested, rest_polled, happens, after}
 use Rattle.xds_model.specs.Knows.{TypedWrite, Knowledge, nothing_known, learning, learned, known_after, knows, made as made_of}
-use Rattle.xds_model.specs.Happenings.{Happening, AddReplica, AddClient, Put, Delete, Snapshot, Merge, Connect, Change, Up, Poll, Down, Lose}
+use Rattle.xds_model.specs.declared.event.Answer.{Answer}
+use Rattle.xds_model.specs.Happenings.{Happening, AddReplica, AddClient, Put, Delete, Snapshot, Merge, Connect, Change, Up, Poll, Down, Lose, RestPoll}
 use Rattle.xds_model.specs.Claims.{writes_of, HoldsWhatItKnows, SameKnowledgeSameHoldings}
 
 -- ---- writes of a type
@@ -171,7 +174,7 @@ site_kept w k r s site has same kept = record {
 }
 
 -- the store after an event that is no write
-unwritten : (c : Core) (e : Event) (q : Reply × Core) → is_write e ≡ false → step c e ≡ Ok q → q.1.store ≡ c.store
+pub unwritten : (c : Core) (e : Event) (q : Reply × Core) → is_write e ≡ false → step c e ≡ Ok q → q.1.store ≡ c.store
 unwritten c e q other is = sym (ap (λ r. (left_by c r).store) is) ∙ only_writes_change_the_store c e other
 
 pub quiet_kept : (w : World) (k : Knowledge) (r : ℕ) (e : Event) (p : Reply × World) → is_write e ≡ false → at_site w r e ≡ Some p → Kept w k → Kept p.1 k
@@ -308,6 +311,8 @@ opened_is c r p Closed w left is = absurd cc
 opened_is c r p (Written n m) w left is = absurd cc
 opened_is c r p (Merged n) w left is = absurd cc
 opened_is c r p (Entries b) w left is = absurd cc
+opened_is c r p (Rested o) w left is = absurd cc
+opened_is c r p (Changed b marks) w left is = absurd cc
 
 pub polled_is : (c : ℕ) (p : Peer) (l : Link) (reply : Reply) (w left : World) → polled c p l (reply, w) ≡ Some left → IsOf left w
 polled_is c p l (Polled o) w left is = (finmap.insert w.peers c (record p { link = Some (record l { down = l.down ++ under_way o }) }), sym (some_is _ _ is))
@@ -318,6 +323,8 @@ polled_is c p l Closed w left is = absurd cc
 polled_is c p l (Written n m) w left is = absurd cc
 polled_is c p l (Merged n) w left is = absurd cc
 polled_is c p l (Entries b) w left is = absurd cc
+polled_is c p l (Rested o) w left is = absurd cc
+polled_is c p l (Changed b marks) w left is = absurd cc
 
 up_kept : (w left : World) (k : Knowledge) (c : ℕ) (p : Peer) (l : Link) (ms : List Message) → up_taken w c p l ms ≡ Some left → Kept w k → Kept left k
 up_kept w left k c p l [] is kept = absurd cc
@@ -359,6 +366,56 @@ on_link_some w c f left is =
     let linked = bound_some (f peer.0) peer.0.link left peer.2 in
     (peer.0, linked.0, linked.2, peer.1, linked.1)
 
+-- ---- polls without a stream
+
+-- what a poll that was possible did: the client, what it asked, what the replica answered, and the client then
+pub record IsRestPoll (test : Test) (w left : World) (c r : ℕ) (t : TypeName) (answer : Answer) : Type 0 where
+  pub peer : Peer
+  pub has : finmap.get w.peers c ≡ Some peer
+  pub request : messages.Request
+  pub asks : poll_of peer t ≡ Some request
+  pub reply : Reply × World
+  pub answers : at_site w r (poll_event t request) ≡ Some reply
+  pub draft : Option Drafted
+  pub says : reply.0 ≡ Rested draft
+  pub client : Client
+  pub takes : answer_taken test answer peer.client t draft ≡ Some client
+  pub after : left ≡ with_peer reply.1 c (record peer { client = client })
+
+rested_is : (test : Test) (answer : Answer) (c : ℕ) (t : TypeName) (p : Peer) (reply : Reply) (w left : World) → rested test answer c t p (reply, w) ≡ Some left
+    → (o : Option Drafted) × (x : Client) × (reply ≡ Rested o) × (answer_taken test answer p.client t o ≡ Some x) × (left ≡ with_peer w c (record p { client = x }))
+rested_is test answer c t p (Rested o) w left is = let made = mapped_some (λ x. with_peer w c (record p { client = x })) (answer_taken test answer p.client t o) left is in (o, made.0, refl, made.1, made.2)
+rested_is test answer c t p (Opened n) w left is = absurd cc
+rested_is test answer c t p (Answered o) w left is = absurd cc
+rested_is test answer c t p (Polled o) w left is = absurd cc
+rested_is test answer c t p (Owed o) w left is = absurd cc
+rested_is test answer c t p Closed w left is = absurd cc
+rested_is test answer c t p (Written n m) w left is = absurd cc
+rested_is test answer c t p (Merged n) w left is = absurd cc
+rested_is test answer c t p (Entries b) w left is = absurd cc
+rested_is test answer c t p (Changed b marks) w left is = absurd cc
+
+pub rest_poll_is : (test : Test) (w left : World) (c r : ℕ) (t : TypeName) (answer : Answer) → happens test w (RestPoll c r t answer) ≡ Some left → IsRestPoll test w left c r t answer
+rest_poll_is test w left c r t answer is =
+    let peer = bound_some (λ p. rest_polled test w c r t answer p) (finmap.get w.peers c) left is in
+    let p : Peer = peer.0 in
+    let asked = bound_some (λ q. option_and_then (rested test answer c t p) (at_site w r (poll_event t q))) (poll_of p t) left peer.2 in
+    let answered = bound_some (rested test answer c t p) (at_site w r (poll_event t asked.0)) left asked.2 in
+    let made = rested_is test answer c t p answered.0.0 answered.0.1 left answered.2 in
+    record {
+      peer = p;
+      has = peer.1;
+      request = asked.0;
+      asks = asked.1;
+      reply = answered.0;
+      answers = answered.1;
+      draft = made.0;
+      says = made.2;
+      client = made.1;
+      takes = made.3;
+      after = made.4;
+    }
+
 -- whatever happens
 pub kept_step : (test : Test) (w left : World) (k : Knowledge) (h : Happening) → happens test w h ≡ Some left → Kept w k → Kept left (learned w h k)
 kept_step test w left k (AddReplica r) is kept =
@@ -381,8 +438,8 @@ kept_step test w left k (Merge r b) is kept =
     let made = mapped_some (λ p. p.1) (at_site w r (events.Merge place.0.1)) left place.2 in
     subst (λ x. Kept x (learned w (Merge r b) k)) (sym made.2) (merge_kept w k r b place.0 made.0 place.1 made.1 kept)
 kept_step test w left k (Connect c r) is kept =
-    let peer = bound_some (λ p. if is_none p.link then option_and_then (opened c r p) (at_site w r events.Open) else None) (finmap.get w.peers c) left is in
-    let down = if_then (is_none peer.0.link) (option_and_then (opened c r peer.0) (at_site w r events.Open)) left peer.2 in
+    let peer = bound_some (λ p. if is_to_connect p then option_and_then (opened c r p) (at_site w r events.Open) else None) (finmap.get w.peers c) left is in
+    let down = if_then (is_to_connect peer.0) (option_and_then (opened c r peer.0) (at_site w r events.Open)) left peer.2 in
     let made = bound_some (opened c r peer.0) (at_site w r events.Open) left down in
     moved made.0.1 left k (opened_is c r peer.0 made.0.0 made.0.1 left made.2) (quiet_kept w k r events.Open made.0 refl made.1 kept)
 kept_step test w left k (Change c t wish) is kept =
@@ -403,6 +460,9 @@ kept_step test w left k (Lose c) is kept =
     let at_link = on_link_some w c (λ p l. option_map (λ q. with_peer q.1 c (record p { client = unlinked p.client; link = None })) (at_site w l.replica (events.Close l.stream))) left is in
     let made = mapped_some (λ q. with_peer q.1 c (record at_link.0 { client = unlinked at_link.0.client; link = None })) (at_site w at_link.1.replica (events.Close at_link.1.stream)) left at_link.2 in
     moved made.0.1 left k (finmap.insert made.0.1.peers c (record at_link.0 { client = unlinked at_link.0.client; link = None }), made.2) (quiet_kept w k at_link.1.replica (events.Close at_link.1.stream) made.0 refl made.1 kept)
+kept_step test w left k (RestPoll c r t answer) is kept =
+    let x = rest_poll_is test w left c r t answer is in
+    moved x.reply.1 left k (finmap.insert x.reply.1.peers c (record x.peer { client = x.client }), x.after) (quiet_kept w k r (poll_event t x.request) x.reply refl x.answers kept)
 
 kept_or : (test : Test) (w : World) (k : Knowledge) (h : Happening) (hs : List Happening) (o : Option World) → happens test w h ≡ o → Kept w k
     → ((x : World) (j : Knowledge) → Kept x j → Kept (after test x hs) (known_after test x j hs))

@@ -30,7 +30,7 @@ use Rattle.xds_shelf.specs.Faults.{Test}
 use Rattle.xds_cache.specs.Clients.{Client, shelf, is_sent}
 use Rattle.xds_cache.specs.Sends.{sotw_first, delta_first}
 use Rattle.xds_model.specs.declared.event.ClientKind.{ClientKind}
-use Rattle.xds_model.specs.declared.event.ClientKind.TheVariants.{Sotw, Delta}
+use Rattle.xds_model.specs.declared.event.ClientKind.TheVariants.{Sotw, Delta, Rest}
 use Rattle.xds_model.specs.Happenings.{Wish, Names as AllNames, Edits}
 use Rattle.xds_model.specs.Worlds.{Link, Peer, opening_requests, under_way, received_in, with_request, wish_of}
 use Rattle.xds_model.specs.Knows.{TypedWrite}
@@ -46,7 +46,7 @@ use Rattle.xds_model.proofs.Starting.{started_decided}
 use Rattle.xds_model.proofs.SotwLinks as links
 use Rattle.xds_model.proofs.LinkSteps.{IsSent, poll_sent, poll_quiet, sending_facts, due_as, room_is}
 use Rattle.xds_model.proofs.LinkSteps as steps
-use Rattle.xds_model.proofs.ByKind.{LinkedAs, LinkedTo, none_brought, wished_is}
+use Rattle.xds_model.proofs.ByKind.{LinkedAs, LinkedTo, none_brought, wished_is, rest_wished}
 use Rattle.xds_model.proofs.SettlingSessions.{HasAnswer, answered_quiet}
 use Rattle.xds_model.proofs.SettlingSteps.{ahead, ahead_more, up_home, spoken, speaks, delta_folded, sotw_ahead, one_lane, last_one, first_down, answer_asks, down_answers}
 use Rattle.xds_model.proofs.SettlingFaults.{IsBlamed, fault_at, sent_blamed}
@@ -146,13 +146,14 @@ fair_requested all test l x false m accepts fair cluster t = fair cluster t
 fair_requested all test l x true m accepts fair cluster t = fair_request all test t (at (started cluster x).sessions t) l.up m (lane_down t l.down) accepts (fair cluster t)
 
 pub fair_changed : (k : ClientKind) (all : List TypedWrite) (test : Test) (p : Peer) (l : Link) (x : Stream) (t : TypeName) (wish : Wish) (q : Client × Option Message) → wish_of k p true t wish ≡ Some q → FairOn all test l x → FairOn all test (with_request q.1 l) x
+fair_changed Rest all test p l x t wish q is fair = let made = rest_wished p true t wish q is in subst (λ (y : Client × Option Message). FairOn all test (with_request y.1 l) x) (sym made.1) fair
 fair_changed Sotw all test p l x t (Edits subscribe unsubscribe) q is fair = absurd cc
 fair_changed Delta all test p l x t (AllNames names) q is fair = absurd cc
 fair_changed Sotw all test p l x t (AllNames names) q is fair =
-    let made = wished_is Sotw p true t (AllNames names) q is in
+    let made = wished_is Sotw refl p true t (AllNames names) q is in
     subst (λ o. FairOn all test (with_request o l) x) (sym made.sent) (fair_requested all test l x (is_sent true (shelf p.client t) made.wants) made.message refl fair)
 fair_changed Delta all test p l x t (Edits subscribe unsubscribe) q is fair =
-    let made = wished_is Delta p true t (Edits subscribe unsubscribe) q is in
+    let made = wished_is Delta refl p true t (Edits subscribe unsubscribe) q is in
     subst (λ o. FairOn all test (with_request o l) x) (sym made.sent) (fair_requested all test l x (is_sent true (shelf p.client t) made.wants) made.message refl fair)
 
 -- ---- the start of a stream
@@ -180,6 +181,7 @@ delta_accept c greeted (s ∷ ss) = delta_by c greeted s ss (wants_some (shelf c
 opening_accepts : (k : ClientKind) (c : Client) → AllAccept (opening_requests k c)
 opening_accepts Sotw c = sotw_accept c false types
 opening_accepts Delta c = delta_accept c false types
+opening_accepts Rest c = tt
 
 fair_requests : (all : List TypedWrite) (test : Test) (t : TypeName) (s : Session) (ms : List Message) (downs : List Draft) → AllAccept ms → IsFair all test t s downs → IsFair all test t (ahead t s ms) downs
 fair_requests all test t s [] downs accepts fair = fair
@@ -216,10 +218,12 @@ ahead_sent Delta all c l x t o linked none room =
       sym (delta_folded t (send s o (suc x.count)) l.up linked.deltas) ∙ deltas.sending_folded t s o [] (suc x.count) ups none lane.taken (queues.none_answers x.count ups room lane.numbered)
           ∙ ap (λ a. with_sent a o (deltas.touched_by t ups) (suc x.count)) (delta_folded t s l.up linked.deltas),
     )
+ahead_sent Rest all c l x t o linked none room = absurd linked
 
 counted_as : (k : ClientKind) (all : List TypedWrite) (c : Client) (l : Link) (x : Stream) → LinkedAs k all c l x → x.count ≤ max_counter
 counted_as Sotw all c l x linked = linked.counted
 counted_as Delta all c l x linked = linked.counted
+counted_as Rest all c l x linked = absurd linked
 
 only_one : (xs : List Draft) (d e : Draft) → xs ++ d ∷ [] ≡ e ∷ [] → d ≡ e
 only_one [] d e is = head_is d e [] [] is

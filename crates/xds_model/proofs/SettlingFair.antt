@@ -16,14 +16,15 @@ use Rattle.xds_core.specs.Events.{Event, Reply, Answered, Polled}
 use Rattle.xds_core.specs.Steps.{Core, fresh as fresh_core}
 use Rattle.xds_shelf.specs.Faults.{Test}
 use Rattle.xds_cache.specs.Clients.{Client, unlinked}
-use Rattle.xds_model.specs.Happenings.{Happening, Wish, AddReplica, AddClient, Put, Delete, Snapshot, Merge, Connect, Change, Up, Poll, Down, Lose}
-use Rattle.xds_model.specs.Worlds.{Site, Link, Peer, World, empty_world, at_site, happened_at, placed, pooled, with_peer, new_peer, connected_to, opened, with_request, changed, wish_of, wish_taken, under_way, polled, up_taken, received, taken_down, down_taken, opening_requests, is_free, happens, after}
+use Rattle.xds_model.specs.declared.event.Answer.{Answer}
+use Rattle.xds_model.specs.Happenings.{Happening, Wish, AddReplica, AddClient, Put, Delete, Snapshot, Merge, Connect, Change, Up, Poll, Down, Lose, RestPoll}
+use Rattle.xds_model.specs.Worlds.{Site, Link, Peer, World, empty_world, at_site, happened_at, placed, pooled, with_peer, new_peer, connected_to, opened, with_request, changed, wish_of, wish_taken, under_way, polled, up_taken, received, taken_down, down_taken, opening_requests, is_free, is_to_connect, poll_event, happens, after}
 use Rattle.xds_model.specs.Knows.{TypedWrite, made_now}
 use Rattle.xds_model.specs.Settling.{link_in}
-use Rattle.xds_model.proofs.Replicas.{some_is, bound_some, mapped_some, if_some, if_both, both_parts, none_there, never}
+use Rattle.xds_model.proofs.Replicas.{some_is, bound_some, mapped_some, if_some, if_both, both_parts, none_there, never, IsRestPoll, rest_poll_is}
 use Rattle.xds_model.proofs.CoreSteps.{open_is}
 use Rattle.xds_model.proofs.Everyone.{stream_at, AtSite, at_site_is, here_at, frame_at, Fine}
-use Rattle.xds_model.proofs.EveryEvent.{link_there, same_peers, pooled_is, same_replica_on, AllSitesKnown, opened_reply, same_stream_on, polled_reply, get_put}
+use Rattle.xds_model.proofs.EveryEvent.{link_there, same_peers, pooled_is, same_replica_on, AllSitesKnown, opened_reply, same_stream_on, polled_reply, polls_unlinked, get_put}
 use Rattle.xds_model.proofs.SettlingSteps.{Spot, spot_of, link_at, linked_at, at_spot, at_stream}
 use Rattle.xds_model.proofs.SettlingBlame.{FairOn, fair_more, fair_up, fair_poll, fair_down, fair_changed, fair_opened}
 
@@ -209,6 +210,17 @@ fair_added test w left all r none is fair =
 fair_joined : (test : Test) (w left : World) (all : List TypedWrite) (c : ℕ) (after : Peer) → after.link ≡ None → left ≡ with_peer w c after → IsFairWorld all test w → IsFairWorld all test left
 fair_joined test w left all c after down is fair = fair_peer w left all test c after (ap (λ y. y.peers) is) (λ d m other linked. ap (λ y. stream_at y m.replica m.stream) is) (λ l z linked there. absurd (never l (sym down ∙ linked))) fair
 
+-- ---- polls without a stream
+
+fair_rest : (test : Test) (w left : World) (all : List TypedWrite) (c r : ℕ) (t : TypeName) (answer : Answer) (x : IsRestPoll test w left c r t answer) → Fine w all → IsFairWorld all test w → IsFairWorld all test left
+fair_rest test w left all c r t answer x fine fair =
+    let e : Event = poll_event t x.request in
+    let after : Peer = record x.peer { client = x.client } in
+    let site = at_site_is w r e x.reply x.answers in
+    fair_peer w left all test c after (ap (λ y. y.peers) x.after ∙ ap (λ y. finmap.insert y c after) (same_peers w r e x.reply site))
+    (λ d m other linked. ap (λ y. stream_at y m.replica m.stream) x.after ∙ frame_at w r e x.reply site m.replica m.stream (λ same changes. never m.stream changes))
+    (λ l z linked there. absurd (polls_unlinked test w left all c r t answer x fine l linked)) fair
+
 -- ---- whatever happens
 
 fair_happens : (test : Test) (w left : World) (all : List TypedWrite) (h : Happening) → happens test w h ≡ Some left → AllSitesKnown w all → Fine w all → IsFairWorld all test w → IsFairWorld all test left
@@ -225,8 +237,8 @@ fair_happens test w left all (Snapshot r) is known fine fair =
 fair_happens test w left all (Merge r b) is known fine fair =
     let place = bound_some (λ x. happened_at w r (events.Merge x.1)) (placed w.pool b) left is in fair_written test w left all r (events.Merge place.0.1) (λ c. refl) place.2 fair
 fair_happens test w left all (Connect c r) is known fine fair =
-    let peer = bound_some (λ p. if is_none p.link then option_and_then (opened c r p) (at_site w r events.Open) else None) (finmap.get w.peers c) left is in
-    let down = if_both (is_none peer.0.link) (option_and_then (opened c r peer.0) (at_site w r events.Open)) left peer.2 in fair_connect test w left all c r peer.0 down.1 fine fair
+    let peer = bound_some (λ p. if is_to_connect p then option_and_then (opened c r p) (at_site w r events.Open) else None) (finmap.get w.peers c) left is in
+    let down = if_both (is_to_connect peer.0) (option_and_then (opened c r peer.0) (at_site w r events.Open)) left peer.2 in fair_connect test w left all c r peer.0 down.1 fine fair
 fair_happens test w left all (Change c t wish) is known fine fair =
     let peer = bound_some (λ p. option_map (λ q. with_peer w c (changed p q)) (wish_taken p t wish)) (finmap.get w.peers c) left is in
     let made = mapped_some (λ q. with_peer w c (changed peer.0 q)) (wish_taken peer.0 t wish) left peer.2 in fair_wished test w left all c peer.0 t wish made.0 peer.0.link peer.1 refl made.1 made.2 fine fair
@@ -244,6 +256,7 @@ fair_happens test w left all (Lose c) is known fine fair =
     let there = link_there w c (λ p l. option_map (λ q. with_peer q.1 c (record p { client = unlinked p.client; link = None })) (at_site w l.replica (events.Close l.stream))) left is in
     let s = spot_by w all c there.0 there.1 there.2 there.3 fine in
     fair_lost test w left all c s (at_spot w c (λ p l. option_map (λ q. with_peer q.1 c (record p { client = unlinked p.client; link = None })) (at_site w l.replica (events.Close l.stream))) left s is) fine fair
+fair_happens test w left all (RestPoll c r t answer) is known fine fair = fair_rest test w left all c r t answer (rest_poll_is test w left c r t answer is) fine fair
 
 pub fair_step : (test : Test) (w left : World) (all : List TypedWrite) (h : Happening) → happens test w h ≡ Some left → AllSitesKnown w all → Fine w all → IsFairWorld all test w → IsFairWorld (all ++ made_now w h) test left
 fair_step test w left all h is known fine fair c l x linked there cluster t = fair_more all (made_now w h) test t _ _ (fair_happens test w left all h is known fine fair c l x linked there cluster t)

@@ -228,22 +228,22 @@ sotw_body all t m P n keys w ws (Some body) puts found known absent here rest =
     listed_add all t m P n keys (record { named = None; version = []; resource = value_of body }) (sotw_delivering.listed ws)
     (record { write = w; body = body; found = found; known = known; puts = puts; resource = refl; named = refl }) absent here rest
 
-sotw_entry : (all : List TypedWrite) (t : TypeName) (m : Entries) (o : Offer) (n : List ℕ) (keys : List (List ℕ)) (w : StampedWrite) (ws : List StampedWrite) (p : StampedWrite → Bool) (shown offered : Bool) → p w ≡ offered → (offered ≡ true → Offers o n) → finmap.get m n ≡ Some w
-    → AllKnown all t m → has_text keys n ≡ false → Listed all t m (Offers o) keys (sotw_delivering.listed (filter p ws)) → Listed all t m (Offers o) (n ∷ keys) (sotw_delivering.listed (filter p (if shown then w ∷ ws else ws)))
-sotw_entry all t m o n keys w ws p false offered is says found known absent rest = listed_skip all t m (Offers o) n keys (sotw_delivering.listed (filter p ws)) rest
-sotw_entry all t m o n keys w ws p true true is says found known absent rest =
-    subst (λ b. Listed all t m (Offers o) (n ∷ keys) (sotw_delivering.listed (if b then w ∷ filter p ws else filter p ws))) (sym is)
-    (sotw_body all t m (Offers o) n keys w (filter p ws) w.body refl found (known n w found) absent (says refl) rest)
-sotw_entry all t m o n keys w ws p true false is says found known absent rest =
-    subst (λ b. Listed all t m (Offers o) (n ∷ keys) (sotw_delivering.listed (if b then w ∷ filter p ws else filter p ws))) (sym is) (listed_skip all t m (Offers o) n keys (sotw_delivering.listed (filter p ws)) rest)
+sotw_entry : (all : List TypedWrite) (t : TypeName) (m : Entries) (P : List ℕ → Type 0) (n : List ℕ) (keys : List (List ℕ)) (w : StampedWrite) (ws : List StampedWrite) (p : StampedWrite → Bool) (shown picked : Bool) → p w ≡ picked → (shown ≡ true → picked ≡ true → P n) → finmap.get m n ≡ Some w
+    → AllKnown all t m → has_text keys n ≡ false → Listed all t m P keys (sotw_delivering.listed (filter p ws)) → Listed all t m P (n ∷ keys) (sotw_delivering.listed (filter p (if shown then w ∷ ws else ws)))
+sotw_entry all t m P n keys w ws p false picked is says found known absent rest = listed_skip all t m P n keys (sotw_delivering.listed (filter p ws)) rest
+sotw_entry all t m P n keys w ws p true true is says found known absent rest =
+    subst (λ b. Listed all t m P (n ∷ keys) (sotw_delivering.listed (if b then w ∷ filter p ws else filter p ws))) (sym is)
+    (sotw_body all t m P n keys w (filter p ws) w.body refl found (known n w found) absent (says refl refl) rest)
+sotw_entry all t m P n keys w ws p true false is says found known absent rest =
+    subst (λ b. Listed all t m P (n ∷ keys) (sotw_delivering.listed (if b then w ∷ filter p ws else filter p ws))) (sym is) (listed_skip all t m P n keys (sotw_delivering.listed (filter p ws)) rest)
 
-sotw_listed : (all : List TypedWrite) (t : TypeName) (m : Entries) (s : Selection) (o : Offer) (es : List (List ℕ × StampedWrite)) → AllKnown all t m → T (is_sorted text_cmp es) → EachFound m es
-    → Listed all t m (Offers o) (map (λ x. x.0) es) (sotw_delivering.listed (filter (λ w. is_some (finmap.get o w.name)) (filter (is_shown s) (map (λ x. x.1) es))))
-sotw_listed all t m s o [] known sorted found = listed_none all t m (Offers o)
-sotw_listed all t m s o (e ∷ es) known sorted found =
-    sotw_entry all t m o e.0 (map (λ x. x.0) es) e.1 (filter (is_shown s) (map (λ x. x.1) es)) (λ w. is_some (finmap.get o w.name)) (is_shown s e.1) (is_some (finmap.get o e.1.name)) refl
-    (λ offered. ap (λ x. is_some (finmap.get o x)) (sym (known e.0 e.1 found.0).named) ∙ offered) found.0 known (below_none e.0 es (holds_first (below_all text_cmp e.0 es) (is_sorted text_cmp es) sorted))
-    (sotw_listed all t m s o es known (holds_second (below_all text_cmp e.0 es) (is_sorted text_cmp es) sorted) found.1)
+-- of the writes that are shown, those that p picks are those of names of which P holds
+pub sotw_listed : (all : List TypedWrite) (t : TypeName) (m : Entries) (s : Selection) (p : StampedWrite → Bool) (P : List ℕ → Type 0) (es : List (List ℕ × StampedWrite)) → ((n : List ℕ) (w : StampedWrite) → finmap.get m n ≡ Some w → is_shown s w ≡ true → p w ≡ true → P n) → AllKnown all t m
+    → T (is_sorted text_cmp es) → EachFound m es → Listed all t m P (map (λ x. x.0) es) (sotw_delivering.listed (filter p (filter (is_shown s) (map (λ x. x.1) es))))
+sotw_listed all t m s p P [] says known sorted found = listed_none all t m P
+sotw_listed all t m s p P (e ∷ es) says known sorted found =
+    sotw_entry all t m P e.0 (map (λ x. x.0) es) e.1 (filter (is_shown s) (map (λ x. x.1) es)) p (is_shown s e.1) (p e.1) refl (says e.0 e.1 found.0) found.0 known (below_none e.0 es (holds_first (below_all text_cmp e.0 es) (is_sorted text_cmp es) sorted))
+    (sotw_listed all t m s p P es says known (holds_second (below_all text_cmp e.0 es) (is_sorted text_cmp es) sorted) found.1)
 
 -- ---- what an offer states is present
 
@@ -327,7 +327,7 @@ sotw_blamed : (all : List TypedWrite) (test : Test) (t : TypeName) (replica : �
     is_some (fault_in t test (sotw_delivery t (message_of (sotw.response replica t h s o number)))) ≡ true → IsBlamed all test t o
 sotw_blamed all test t replica h s b number known at_fault =
     let o : Offer = offer variants.StateOfTheWorld t s h.entries b in
-    let listed = sotw_listed all t h.entries s o (finmap.entries h.entries) known (finmap.entries_sorted h.entries) (each_found h.entries) in
+    let listed = sotw_listed all t h.entries s (λ w. is_some (finmap.get o w.name)) (Offers o) (finmap.entries h.entries) (λ n w found shown picked. ap (λ x. is_some (finmap.get o x)) (sym (known n w found).named) ∙ picked) known (finmap.entries_sorted h.entries) (each_found h.entries) in
     let blamed =
     first_blamed all test t h.entries finmap.empty (sotw_delivering.listed (sotw.stated_writes h.entries s o)) listed.names finmap.empty listed.lists (λ q has. ap is_some (finmap.get-empty text_cmp q))
     (λ q has. ap is_some (finmap.get-empty text_cmp q)) at_fault in

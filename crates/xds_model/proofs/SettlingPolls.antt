@@ -10,7 +10,7 @@ use Rattle.xds_model.specs.Worlds.{World, empty_world, happens, world}
 use Rattle.xds_model.specs.Knows.{TypedWrite, Knowledge, nothing_known, known_after, made_after}
 use Rattle.xds_model.specs.Claims.{PutResources}
 use Rattle.xds_model.specs.Settling.{brings, link_in, next_to_settle, gave_nothing, Done, taken_now, responses_taken}
-use Rattle.xds_model.proofs.Headline.{Sure, sure, sure_after}
+use Rattle.xds_model.proofs.Sure.{Sure, sure, sure_after}
 use Rattle.xds_model.proofs.SettlingWalks.{Walked, then_there, walked_then}
 use Rattle.xds_model.proofs.SettlingSessions.{IsReady, never_both, ready_sends_none, waits_once_sent, done_once_answered}
 use Rattle.xds_model.proofs.SettlingSteps.{Spot, spot_of, spoken}

@@ -31,7 +31,7 @@ use Rattle.xds_shelf.specs.Shelves.{Wants, Holding, Shelf, interest}
 use Rattle.xds_shelf.specs.Faults.{Test}
 use Rattle.xds_cache.specs.Clients.{Client, shelf}
 use Rattle.xds_model.specs.declared.event.ClientKind.{ClientKind}
-use Rattle.xds_model.specs.declared.event.ClientKind.TheVariants.{Sotw, Delta}
+use Rattle.xds_model.specs.declared.event.ClientKind.TheVariants.{Sotw, Delta, Rest}
 use Rattle.xds_model.specs.Happenings.{Happening}
 use Rattle.xds_model.specs.Worlds.{Site, Link, Peer, World, empty_world, happens, after, world}
 use Rattle.xds_model.specs.Knows.{TypedWrite, Knowledge, nothing_known, learned, knows, made_now, wants, cluster as cluster_of}
@@ -51,7 +51,7 @@ use Rattle.xds_model.proofs.Delivering.{AllKnown, shown_in}
 use Rattle.xds_model.proofs.ByKind.{LinkedAs}
 use Rattle.xds_model.proofs.EveryEvent.{fine_start}
 use Rattle.xds_model.proofs.Followed.{link_is, cluster_is, wants_are, placed_of, wanted_of}
-use Rattle.xds_model.proofs.Headline.{Sure, sure as world_sure, sure_after}
+use Rattle.xds_model.proofs.Sure.{Sure, sure as world_sure, sure_after}
 use Rattle.xds_model.proofs.SettlingWalks.{then_there}
 use Rattle.xds_model.proofs.SettlingSessions.{offer_now, never_both}
 use Rattle.xds_model.proofs.SettlingSteps.{Spot, spot_of, link_at, linked_at, own_stream, ahead, spoken, speaks, delta_folded, sotw_ahead}
@@ -59,6 +59,7 @@ use Rattle.xds_model.proofs.SettlingMoves.{session_at, held_at, puts_nothing, ne
 use Rattle.xds_model.proofs.SettlingPolls.{three_at}
 use Rattle.xds_model.proofs.SettlingEnds.{link_settled, done_if_settled}
 use Rattle.xds_model.proofs.SettlingFaults.{IsBlamed, stated_present, present_version}
+use Rattle.xds_model.proofs.RestPolls.{polls_start}
 use Rattle.xds_model.proofs.SettlingFair.{IsFairWorld, fair_step, fair_start}
 
 -- ---- worlds as they come
@@ -86,7 +87,7 @@ sound_after test [] w put sound = sound
 sound_after test (h ∷ hs) w put sound = sound_or test w h hs (happens test w h) refl put.0 sound (λ x. sound_after test hs x put.1)
 
 world_sound : (test : Test) (hs : List Happening) → PutResources hs → IsSound test (world test hs)
-world_sound test hs put = sound_after test hs empty_world put (nothing_known, [], record { kept = kept_start; stamped = stamped_start; ranged = ranged_start; fine = fine_start }, fair_start test)
+world_sound test hs put = sound_after test hs empty_world put (nothing_known, [], record { kept = kept_start; stamped = stamped_start; ranged = ranged_start; fine = fine_start; polls = polls_start }, fair_start test)
 
 -- ---- a session that owes something and sends nothing
 
@@ -127,6 +128,7 @@ quiet_none Sotw all c l x t linked none =
     ap (λ (a : Session). a.account.sent) (sym (sotw_ahead t (at x.sessions t) l.up linked.sotws)) ∙ none_sotw all t _ _ (shelf c t).wants (shelf c t).nonce lane.down (sym none ∙ lane.downs_are) lane.abreast.awaits
 quiet_none Delta all c l x t linked none =
     let lane = linked.lanes t in ap (λ (a : Session). a.account.sent) (sym (delta_folded t (at x.sessions t) l.up linked.deltas)) ∙ none_delta all t _ _ (shelf c t).wants lane.down (sym none ∙ lane.downs_are) lane.abreast.awaits
+quiet_none Rest all c l x t linked none = absurd linked
 
 -- a session that refused something has the client's interest
 asked_sotw : (cluster : List ℕ) (t : TypeName) (s : Session) (f : Shelf) (o : Offer) → s.account.refused ≡ Some o → sotw_lanes.Asks cluster t s f → s.asked.interest ≡ interest t cluster f.wants
@@ -143,6 +145,7 @@ asked_as Sotw all c l x t o linked refused =
     asked_sotw c.cluster t (ahead t (at x.sessions t) l.up) (shelf c t) o refused (subst (λ a. sotw_lanes.Asks c.cluster t a (shelf c t)) (sotw_ahead t (at x.sessions t) l.up linked.sotws) (linked.lanes t).abreast.asks)
 asked_as Delta all c l x t o linked refused =
     asked_delta c.cluster t (ahead t (at x.sessions t) l.up) (shelf c t) o refused (subst (λ a. lanes.Asks c.cluster t a (shelf c t)) (delta_folded t (at x.sessions t) l.up linked.deltas) (linked.lanes t).abreast.asks)
+asked_as Rest all c l x t o linked refused = absurd linked
 
 -- ---- what is refused isn't what the client is to show
 

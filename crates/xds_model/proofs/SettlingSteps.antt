@@ -36,12 +36,12 @@ use Rattle.xds_cache.specs.Clients.{Client, shelf, with_shelf}
 use Rattle.xds_shelf.specs.Deliveries.{Delivery, sotw_delivery, delta_delivery, fault_in, taking, rejecting, delivered}
 use Rattle.xds_cache.specs.Sends.{failure}
 use Rattle.xds_model.specs.declared.event.ClientKind.{ClientKind}
-use Rattle.xds_model.specs.declared.event.ClientKind.TheVariants.{Sotw, Delta}
+use Rattle.xds_model.specs.declared.event.ClientKind.TheVariants.{Sotw, Delta, Rest}
 use Rattle.xds_model.specs.Worlds.{Site, Link, Peer, World, recorded, at_site, with_peer, under_way, received_in, on_link}
 use Rattle.xds_model.specs.Knows.{TypedWrite}
 use Rattle.xds_model.specs.Claims.{asks_for}
 use Rattle.xds_model.specs.Settling.{link_in}
-use Rattle.xds_model.proofs.Replicas.{some_is, bound_some, ok_is}
+use Rattle.xds_model.proofs.Replicas.{some_is, bound_some, ok_is, never}
 use Rattle.xds_model.proofs.Queues as queues
 use Rattle.xds_model.proofs.Queues.{lane_down, Speaks, started}
 use Rattle.xds_model.proofs.LinkSteps.{taken_by, own_sessions, due_as}
@@ -173,19 +173,22 @@ taken_ahead t s ss m rest url (inl same) =
 taken_ahead t s ss m rest url (inr other) =
     ap (λ x. ahead t x rest) (at-with_at_other ss s (session_after s (at ss s) m) t (λ e. other.0 (sym e)) ∙ ap (λ b. if b then session_after t (at ss t) m else at ss t) (sym (asks_as s t m url ∙ other.1)))
 
--- the variant that a client speaks
+-- the variant that a client speaks; one that polls has no stream
 abbrev pub spoken : ClientKind → VariantName
 spoken Sotw = variants.StateOfTheWorld
 spoken Delta = variants.Delta
+spoken Rest = variants.StateOfTheWorld
 
 pub speaks : (k : ClientKind) (all : List TypedWrite) (c : Client) (l : Link) (x : Stream) → LinkedAs k all c l x → Speaks (spoken k) c.cluster x
 speaks Sotw all c l x linked = linked.variant
 speaks Delta all c l x linked = linked.variant
+speaks Rest all c l x linked = absurd linked
 
 -- each request is of a type of the table
 pub named_as : (k : ClientKind) (all : List TypedWrite) (c : Client) (l : Link) (x : Stream) (m : Message) (rest : List Message) → l.up ≡ m ∷ rest → LinkedAs k all c l x → (s : TypeName) × (url_of m ≡ (row s).url)
 named_as Sotw all c l x m rest up linked = let first = (subst sotws.AllSotw up linked.sotws).0 in (first.0, ap url_of first.2 ∙ first.3)
 named_as Delta all c l x m rest up linked = let first = (subst queues.AllDelta up linked.deltas).0 in (first.0, ap url_of first.2 ∙ first.3)
+named_as Rest all c l x m rest up linked = absurd linked
 
 pub up_ahead : (k : ClientKind) (all : List TypedWrite) (c : Client) (l : Link) (x : Stream) (t : TypeName) (m : Message) (rest : List Message) (z : Outcome × Stream) → l.up ≡ m ∷ rest → (x.variant ≡ None → cluster_of m ≡ c.cluster) → requested x m ≡ Ok z
     → LinkedAs k all c l x → ahead t (at z.1.sessions t) rest ≡ ahead t (at x.sessions t) l.up
@@ -265,6 +268,7 @@ one_more t ds o d gave kind =
 pub one_lane : (k : ClientKind) (all : List TypedWrite) (c : Client) (l : Link) (x : Stream) (t : TypeName) → LinkedAs k all c l x → (o : Option Draft) × (lane_down t l.down ≡ under_way o)
 one_lane Sotw all c l x t linked = let lane = linked.lanes t in (option_map drafts.Sotw lane.down, lane.downs_are)
 one_lane Delta all c l x t linked = let lane = linked.lanes t in (option_map drafts.Delta lane.down, lane.downs_are)
+one_lane Rest all c l x t linked = absurd linked
 
 none_first : (t : TypeName) (d : Draft) (ds : List Draft) (b : Bool) → is_same_type (kind_of d) t ≡ b → (if b then d ∷ lane_down t ds else lane_down t ds) ≡ [] → (lane_down t ds ≡ [] → among t ds ≡ false) → among t (d ∷ ds) ≡ false
 none_first t d ds true is rest later = absurd cc
@@ -292,6 +296,7 @@ none_behind k all c l x t d rest down own linked =
 pub answer_asks : (k : ClientKind) (test : Test) (c : Client) (d : Draft) (q : Client × Message) (t : TypeName) → received_in test k c d ≡ Some q → asks_for t q.1 ≡ is_same_type (kind_of d) t
 answer_asks Sotw test c d q t is = let made = sotws.received_is test c d q is in ap (λ p. asks_for t p.1) made.left ∙ ap (λ e. is_same_type (kind_of e) t) (sym made.is)
 answer_asks Delta test c d q t is = let made = takes.received_is test c d q is in ap (λ p. asks_for t p.1) made.left ∙ ap (λ e. is_same_type (kind_of e) t) (sym made.is)
+answer_asks Rest test c d q t is = absurd (never q is)
 
 sotw_down : (d : Drafted) (rest : List Draft) (down : Option Drafted) → drafts.Sotw d ∷ rest ≡ sotws.listed_draft down → down ≡ Some d
 sotw_down d rest None is = absurd cc
@@ -378,6 +383,7 @@ down_answers Delta all test c l x d rest q t down is own linked =
     let rejects : is_some (option_map failure fault) ≡ is_some (fault_at test t d) = some_mapped fault ∙ ap (λ k. is_some (fault_in k test (delta_delivery (delta_message_of e)))) kind ∙ ap (λ y. is_some (fault_at test t y)) (sym made.is) in
     let given = delta_answers c.cluster all t a (shelf c t) e fault abreast in
     subst (λ (p : Client × Message). (h : HasAnswer variants.Delta t a (session_after t a p.1)) × (h.rejects ≡ is_some (fault_at test t d))) (sym made.left) (given.0, given.1 ∙ rejects)
+down_answers Rest all test c l x d rest q t down is own linked = absurd linked
 
 -- and the client wants what it wanted
 taken_wants : (t : TypeName) (f : Shelf) (d : Delivery) (fault : Option (List ℕ)) → (option_map_or (λ x. rejecting f d) fault (taking t f d)).wants ≡ f.wants
@@ -395,3 +401,4 @@ received_wants Sotw test c d q t is =
     let made = sotws.received_is test c d q is in ap (λ p. (shelf p.0 t).wants) made.left ∙ shelf_wants test c made.draft.kind t (sotw_delivery made.draft.kind (message_of made.draft)) (same_type made.draft.kind t)
 received_wants Delta test c d q t is =
     let made = takes.received_is test c d q is in ap (λ p. (shelf p.0 t).wants) made.left ∙ shelf_wants test c made.draft.kind t (delta_delivery (delta_message_of made.draft)) (same_type made.draft.kind t)
+received_wants Rest test c d q t is = absurd (never q is)

@@ -28,7 +28,7 @@ use Rattle.xds_shelf.specs.Faults.{Test}
 use Rattle.xds_cache.specs.Clients.{Client, shelf, addressing, addressed_or, if_asked}
 use Rattle.xds_cache.specs.Receives.{if_addressed, sotw_answered, delta_answered}
 use Rattle.xds_model.specs.declared.event.ClientKind.{ClientKind}
-use Rattle.xds_model.specs.declared.event.ClientKind.TheVariants.{Sotw, Delta}
+use Rattle.xds_model.specs.declared.event.ClientKind.TheVariants.{Sotw, Delta, Rest}
 use Rattle.xds_model.specs.Happenings.{Happening, Up, Poll, Down}
 use Rattle.xds_model.specs.Worlds.{Site, Link, Peer, World, recorded, answered_at, at_site, with_peer, under_way, polled, up_taken, received_in, received_by, taken_down, down_taken, on_link, happens, world}
 use Rattle.xds_model.specs.Knows.{TypedWrite}
@@ -62,6 +62,7 @@ long_url Secret = refl
 spoken_in : (k : ClientKind) (all : List TypedWrite) (c : Client) (l : Link) (x : Stream) (m : Message) (rest : List Message) → l.up ≡ m ∷ rest → LinkedAs k all c l x → is_same_variant (spoken k) (variant_of m) ≡ true
 spoken_in Sotw all c l x m rest up linked = let first = (subst sotws.AllSotw up linked.sotws).0 in ap (λ y. is_same_variant (spoken Sotw) (variant_of y)) first.2
 spoken_in Delta all c l x m rest up linked = let first = (subst queues.AllDelta up linked.deltas).0 in ap (λ y. is_same_variant (spoken Delta) (variant_of y)) first.2
+spoken_in Rest all c l x m rest up linked = absurd linked
 
 own_variant : (v : VariantName) (cluster : List ℕ) (x : Stream) (m : Message) → Speaks v cluster x → is_same_variant v (variant_of m) ≡ true → is_foreign x m ≡ false
 own_variant v cluster x m (inl fresh) same = ap (λ o. option_map_or (λ k. not (is_same_variant k (variant_of m))) o false) fresh.0
@@ -121,6 +122,7 @@ sotw_takes all test c l x (drafts.Sotw e) rest down usable linked =
 takes_response : (k : ClientKind) (all : List TypedWrite) (test : Test) (c : Client) (l : Link) (x : Stream) (d : Draft) (rest : List Draft) → l.down ≡ d ∷ rest → c.broken ≡ false → LinkedAs k all c l x → (q : Client × Message) × (received_in test k c d ≡ Some q)
 takes_response Sotw all test c l x d rest down usable linked = sotw_takes all test c l x d rest down usable linked
 takes_response Delta all test c l x d rest down usable linked = delta_takes all test c l x d rest down usable linked
+takes_response Rest all test c l x d rest down usable linked = absurd linked
 
 -- ---- what is possible at a spot
 

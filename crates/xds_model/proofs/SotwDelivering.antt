@@ -12,7 +12,7 @@ use Rattle.xds_resource.proofs.NameMaps.{has_text, get-insert, has_text-keys, by
 use Rattle.xds_resource.proofs.MadeMaps.{EachFound, each_found}
 use Rattle.xds_interest.specs.Interests.{Selection, reaches, covers}
 use Rattle.xds_catalogue.specs.Holdings.{Holdings, Entries}
-use Rattle.xds_catalogue.specs.Content.{is_shown}
+use Rattle.xds_catalogue.specs.Content.{is_shown, content}
 use Rattle.xds_owed.specs.declared.variant.VariantName.TheVariants.{StateOfTheWorld}
 use Rattle.xds_owed.specs.declared.entry.Entry.{Entry}
 use Rattle.xds_owed.specs.declared.entry.Due.{Due}
@@ -57,19 +57,20 @@ picked_next p w ws true false is = ap (λ b. listed (if b then w ∷ filter p ws
 -- ---- name by name
 
 -- what is held of a write that is picked
-abbrev held_of : Bool → Option (List ℕ) → Option Holding
+abbrev pub held_of : Bool → Option (List ℕ) → Option Holding
 held_of picked b = if picked then option_map (λ body. record { version = []; body = body }) b else None
 
-module _ (all : List TypedWrite) (t : TypeName) (m : Entries) (s : Selection) (o : Offer) (known : AllKnown all t m) where
+-- of the writes that are shown, those that p picks
+module _ (all : List TypedWrite) (t : TypeName) (m : Entries) (s : Selection) (p : StampedWrite → Bool) (known : AllKnown all t m) where
   abbrev picks : StampedWrite → Bool
-  picks w = is_shown s w && is_some (finmap.get o w.name)
+  picks w = is_shown s w && p w
 
   -- what is stated of a name
   abbrev told_of : List ℕ → Option Holding
   told_of q = option_and_then (λ w. held_of (picks w) w.body) (finmap.get m q)
 
   abbrev behind : List (List ℕ × StampedWrite) → List StatedResource
-  behind es = listed (filter (λ w. is_some (finmap.get o w.name)) (filter (is_shown s) (map (λ e. e.1) es)))
+  behind es = listed (filter p (filter (is_shown s) (map (λ e. e.1) es)))
 
   skipped : (same has : Bool) (l old : Option Holding) → (same ≡ true → l ≡ None) → option_or (cond has l None) old ≡ option_or (cond (same || has) l None) old
   skipped true true l old is = refl
@@ -111,17 +112,23 @@ module _ (all : List TypedWrite) (t : TypeName) (m : Entries) (s : Selection) (o
   states_all : (es : List (List ℕ × StampedWrite)) (q : List ℕ) → EachFound m es → StatesBehind es q
   states_all [] q found before = refl
   states_all (e ∷ es) q found before =
-      ap (λ l. finmap.get (stated_by t before l) q) (picked_next (λ w. is_some (finmap.get o w.name)) e.1 (filter (is_shown s) (map (λ x. x.1) es)) (is_shown s e.1) (is_some (finmap.get o e.1.name)) refl)
+      ap (λ l. finmap.get (stated_by t before l) q) (picked_next p e.1 (filter (is_shown s) (map (λ x. x.1) es)) (is_shown s e.1) (p e.1) refl)
       ∙ states_next e.0 q e.1 es (picks e.1) e.1.body refl refl found.0 (states_all es q found.1) before
 
+  -- what is stated of a name where these are stated
+  pub picked_is : (q : List ℕ) → finmap.get (stated_by t finmap.empty (listed (filter p (content m s)))) q ≡ option_or (cond (is_some (finmap.get m q)) (told_of q) None) None
+  picked_is q = states_all (finmap.entries m) q (each_found m) finmap.empty ∙ (λ i. option_or (cond (has_text-keys m q i) (told_of q) None) (finmap.get-empty text_cmp q i))
+
+module _ (all : List TypedWrite) (t : TypeName) (m : Entries) (s : Selection) (o : Offer) (known : AllKnown all t m) where
+  abbrev offers : StampedWrite → Bool
+  offers w = is_shown s w && is_some (finmap.get o w.name)
+
   -- what the response states of a name
-  pub stated_is : (replica number : ℕ) (h : Holdings) (q : List ℕ) → h.entries ≡ m → finmap.get (stated_in t (response replica t h s o number)) q ≡ option_or (cond (is_some (finmap.get m q)) (told_of q) None) None
-  stated_is replica number h q same =
-      ap (λ e. finmap.get (stated_by t finmap.empty (listed (stated_writes e s o))) q) same ∙ states_all (finmap.entries m) q (each_found m) finmap.empty
-      ∙ (λ i. option_or (cond (has_text-keys m q i) (told_of q) None) (finmap.get-empty text_cmp q i))
+  pub stated_is : (replica number : ℕ) (h : Holdings) (q : List ℕ) → h.entries ≡ m → finmap.get (stated_in t (response replica t h s o number)) q ≡ option_or (cond (is_some (finmap.get m q)) (option_and_then (λ w. held_of (offers w) w.body) (finmap.get m q)) None) None
+  stated_is replica number h q same = ap (λ e. finmap.get (stated_by t finmap.empty (listed (stated_writes e s o))) q) same ∙ picked_is all t m s (λ w. is_some (finmap.get o w.name)) known q
 
   -- a write that is offered
-  says_stated : (q version : List ℕ) (stated : Option Holding) (x : Option StampedWrite) → finmap.get m q ≡ x → stated ≡ option_or (cond (is_some x) (option_and_then (λ w. held_of (picks w) w.body) x) None) None
+  says_stated : (q version : List ℕ) (stated : Option Holding) (x : Option StampedWrite) → finmap.get m q ≡ x → stated ≡ option_or (cond (is_some x) (option_and_then (λ w. held_of (offers w) w.body) x) None) None
       → option_and_then (version_shown s q) x ≡ Some version → is_some (finmap.get o q) ≡ true → IsHeld all t q version stated
   says_stated q version stated None found states is offered = absurd cc
   says_stated q version stated (Some w) found states is offered = by_body w.body refl
@@ -146,7 +153,7 @@ module _ (all : List TypedWrite) (t : TypeName) (m : Entries) (s : Selection) (o
       )
 
   -- and one that isn't
-  says_nothing : (q : List ℕ) (stated : Option Holding) (x : Option StampedWrite) → finmap.get m q ≡ x → stated ≡ option_or (cond (is_some x) (option_and_then (λ w. held_of (picks w) w.body) x) None) None → is_some (finmap.get o q) ≡ false → stated ≡ None
+  says_nothing : (q : List ℕ) (stated : Option Holding) (x : Option StampedWrite) → finmap.get m q ≡ x → stated ≡ option_or (cond (is_some x) (option_and_then (λ w. held_of (offers w) w.body) x) None) None → is_some (finmap.get o q) ≡ false → stated ≡ None
   says_nothing q stated None found states offered = states
   says_nothing q stated (Some w) found states offered =
       states ∙ ap (λ c. option_or (held_of (is_shown s w && c) w.body) None) (ap (λ n. is_some (finmap.get o n)) (known q w found).named ∙ offered) ∙ not_shown (is_shown s w)

@@ -1,5 +1,5 @@
 -- What the headline says: when a client is settled, and that it shows then exactly what its replica knows. This project's own.
-use Rattle.std.specs.Prelude.{◌≡◌, ◌↔◌, ℕ, List, [], ◌∷◌, map, Bool, true, false, ◌&&◌, not, if◌then◌else◌, bytes_eq, Option, Some, None, option_map, ⊤}
+use Rattle.std.specs.Prelude.{◌≡◌, ◌⊎◌, ◌↔◌, ℕ, List, [], ◌∷◌, ◌++◌, map, Bool, true, false, ◌&&◌, not, if◌then◌else◌, bytes_eq, Option, Some, None, is_some, IsSome, option_map, Ok, Err, ⊤}
 use Rattle.std.specs.Option.{option_map_or, option_and_then}
 use Rattle.std.specs.List.{Contains, list_any}
 use Rattle.std.specs.FinMap as finmap
@@ -7,22 +7,29 @@ use Rattle.xds_resource.specs.declared.types.TypeName.{TypeName}
 use Rattle.xds_resource.specs.Types.{row, is_same_type}
 use Rattle.xds_resource.specs.PerType.{at}
 use Rattle.xds_resource.specs.Groups.{IsGroups}
-use Rattle.xds_resource.specs.Resources.{IsCanonical}
+use Rattle.xds_resource.specs.Resources.{IsCanonical, value_of}
 use Rattle.xds_resource.specs.Best.{best}
 use Rattle.xds_resource.specs.Writes.{StampedWrite, version_of}
 pub use Rattle.xds_resource.specs.TypedWrites.{writes_of}
 use Rattle.xds_interest.specs.Interests.{Selection, covers}
 use Rattle.xds_catalogue.specs.Holdings.{catalogue_of}
 use Rattle.xds_draft.specs.DraftTexts.{kind_of}
+use Rattle.xds_draft.specs.Drafts.{message_of}
+use Rattle.xds_core.specs.Events as events
+use Rattle.xds_core.specs.Events.{Reply}
 use Rattle.xds_core.specs.Streams.{Message, url_of, owes_of}
 use Rattle.xds_core.specs.Steps.{fresh as fresh_core}
 use Rattle.xds_core.specs.Legal.{IsLegal, replayed}
-use Rattle.xds_shelf.specs.Shelves.{Cache, Holding, Wants, interest, is_wanted}
+use Rattle.xds_shelf.specs.Shelves.{Cache, Holding, Wants, interest, is_wanted, wants_some}
 use Rattle.xds_cache.specs.Clients as clients
 use Rattle.xds_shelf.specs.Faults.{Test}
-use Rattle.xds_model.specs.declared.event.ClientKind.TheVariants.{Sotw, Delta}
-use Rattle.xds_model.specs.Happenings.{Happening, Put}
-use Rattle.xds_model.specs.Worlds.{World, Site, Peer, Link, empty_world, world}
+use Rattle.xds_cache.specs.Receives.{Outcome}
+use Rattle.xds_cache.specs.Rest.{rest_receive}
+use Rattle.xds_model.specs.declared.event.ClientKind.TheVariants.{Sotw, Delta, Rest}
+use Rattle.xds_model.specs.declared.event.Answer.{Answer}
+use Rattle.xds_model.specs.declared.event.Answer.TheVariants.{Arrives, Lost}
+use Rattle.xds_model.specs.Happenings.{Happening, Put, RestPoll}
+use Rattle.xds_model.specs.Worlds.{World, Site, Peer, Link, empty_world, world, at_site, poll_of, poll_event, happens}
 use Rattle.xds_model.specs.Knows.{TypedWrite, knows, wants, cluster, link, made_after}
 use Rattle.xds_model.specs.Journal.{events_at}
 
@@ -77,6 +84,15 @@ abbrev pub Agrees : TypeName → List StampedWrite → List ℕ → Wants → Ca
 Agrees t ws cluster w view =
     ((name : List ℕ) (h : Holding) → content_at t ws cluster w name ≡ Some h → body_at view name ≡ Some h.body) × ((name : List ℕ) → is_wanted t w name ≡ false → finmap.get view name ≡ None)
 
+-- what a client shows that learns of what is gone by a whole answer alone: of a complete type exactly what is covered by body, of
+-- another what may remain, too
+abbrev pub Shows : TypeName → List StampedWrite → List ℕ → Wants → Cache → Type 0
+Shows t ws cluster w view = ((row t).is_complete ≡ true → IsExactByBody t ws cluster w view) × Agrees t ws cluster w view
+
+-- that a client's test takes what the client is to show of these writes where it is of this cluster and wants these
+abbrev pub TakesAll : Test → TypeName → List StampedWrite → List ℕ → Wants → Type 0
+TakesAll test t ws cluster w = (name : List ℕ) (h : Holding) → content_at t ws cluster w name ≡ Some h → test (row t).url name (value_of h.body) ≡ true
+
 -- ---- what is put
 
 -- what is put is a resource of its type, for groups that a write may list
@@ -104,7 +120,64 @@ SettledIsExact test hs =
 abbrev pub SettledAgrees : Test → List Happening → Type 0
 SettledAgrees test hs =
     (c r : ℕ) (p : Peer) (t : TypeName) → finmap.get (world test hs).peers c ≡ Some p → p.kind ≡ Sotw → link test hs c ≡ Some r → is_settled (world test hs) c t ≡ true
-    → ((row t).is_complete ≡ true → IsExactByBody t (writes_of t (knows test hs r)) (cluster test hs c) (wants test hs c t) (clients.view p.client t)) × Agrees t (writes_of t (knows test hs r)) (cluster test hs c) (wants test hs c t) (clients.view p.client t)
+    → Shows t (writes_of t (knows test hs r)) (cluster test hs c) (wants test hs c t) (clients.view p.client t)
+
+-- ---- polls
+
+-- A poll among what happened: what came before it, the client then, and the client after it.
+pub record IsPoll (test : Test) (hs : List Happening) (c r : ℕ) (t : TypeName) (answer : Answer) : Type 0 where
+  pub before : List Happening
+  pub rest : List Happening
+  pub among : hs ≡ before ++ RestPoll c r t answer ∷ rest
+  pub left : World
+  pub possible : happens test (world test before) (RestPoll c r t answer) ≡ Some left
+  pub polling : Peer
+  pub asks : finmap.get (world test before).peers c ≡ Some polling
+  pub polled : Peer
+  pub has : finmap.get left.peers c ≡ Some polled
+
+-- whether an outcome says why an answer is rejected
+abbrev pub is_rejected : Outcome (Option (List ℕ)) → Bool
+is_rejected (Ok p) = is_some p.1
+is_rejected (Err refusal) = false
+
+abbrev pub is_rejected_by : Test → Peer → TypeName → Reply × World → Bool
+is_rejected_by test p t (events.Rested d, w) = is_rejected (rest_receive test p.client t (option_map message_of d))
+is_rejected_by test p t (reply, w) = false
+
+-- Whether a client rejects what a replica answers to its poll of a type. It doesn't reject that nothing changed.
+abbrev pub rejects : Test → World → ℕ → ℕ → TypeName → Bool
+rejects test w c r t = option_map_or (λ p. option_map_or (λ q. option_map_or (is_rejected_by test p t) (at_site w r (poll_event t q)) false) (poll_of p t) false) (finmap.get w.peers c) false
+
+-- after a poll whose answer came and wasn't rejected, or was that nothing changed, the client shows what the replica knew then
+abbrev pub PolledIsExact : Test → List Happening → Type 0
+PolledIsExact test hs =
+    (c r : ℕ) (t : TypeName) (x : IsPoll test hs c r t Arrives) → rejects test (world test x.before) c r t ≡ false
+    → Shows t (writes_of t (knows test x.before r)) (cluster test x.before c) (wants test x.before c t) (clients.view x.polled.client t)
+
+-- what comes is rejected only where the client's test refuses something that the client is to show
+abbrev pub PolledIsTaken : Test → List Happening → Type 0
+PolledIsTaken test hs =
+    (c r : ℕ) (t : TypeName) (x : IsPoll test hs c r t Arrives) → TakesAll test t (writes_of t (knows test x.before r)) (cluster test x.before c) (wants test x.before c t)
+    → rejects test (world test x.before) c r t ≡ false
+
+-- an answer that is lost or rejected changes nothing of what the client shows
+abbrev pub LostLeavesTheView : Test → List Happening → Type 0
+LostLeavesTheView test hs =
+    (c r : ℕ) (t : TypeName) (answer : Answer) (x : IsPoll test hs c r t answer) → (answer ≡ Lost) ⊎ (rejects test (world test x.before) c r t ≡ true)
+    → (u : TypeName) → clients.view x.polled.client u ≡ clients.view x.polling.client u
+
+-- a client that polls has no stream
+abbrev pub PollersHaveNoStream : Test → List Happening → Type 0
+PollersHaveNoStream test hs = (c : ℕ) (p : Peer) → finmap.get (world test hs).peers c ≡ Some p → p.kind ≡ Rest → p.link ≡ None
+
+-- a client that polls and wants something of a type may poll any replica for it, whatever it knows
+abbrev pub PollsArePossible : Test → List Happening → Type 0
+PollsArePossible test hs =
+    (c r : ℕ) (p : Peer) (s : Site) (t : TypeName) (answer : Answer) → finmap.get (world test hs).peers c ≡ Some p → p.kind ≡ Rest → wants_some (wants test hs c t) ≡ true → finmap.get (world test hs).sites r ≡ Some s
+    → IsSome (happens test (world test hs) (RestPoll c r t answer))
+
+-- ---- replicas, stamps, journals
 
 -- replicas that know the same writes hold the same, whatever came in which order and how often
 abbrev pub SameKnowledgeSameHoldings : Test → List Happening → Type 0
@@ -135,8 +208,8 @@ abbrev pub LinksAreFollowed : Test → List Happening → Type 0
 LinksAreFollowed test hs =
     (c : ℕ) (p : Peer) → finmap.get (world test hs).peers c ≡ Some p → (link test hs c ≡ option_map (λ l. l.replica) p.link) × (cluster test hs c ≡ p.client.cluster) × ((t : TypeName) → wants test hs c t ≡ (clients.shelf p.client t).wants)
 
--- The headline, of one list of happenings: what replicas hold, what settled clients of both variants show, and that what is told
--- of links, clusters, wants, stamps and journals is so.
+-- The headline, of one list of happenings: what replicas hold, what settled clients of both variants show, what clients show that
+-- polled, and that what is told of links, clusters, wants, stamps and journals is so.
 pub record Headline (test : Test) (hs : List Happening) : Type 0 where
   pub holds : HoldsWhatItKnows test hs
   pub same : SameKnowledgeSameHoldings test hs
@@ -146,3 +219,8 @@ pub record Headline (test : Test) (hs : List Happening) : Type 0 where
   pub stamped : OneWriteAStamp test hs
   pub journals : JournalsAreLegal test hs
   pub told : JournalsTellAll test hs
+  pub polled : PolledIsExact test hs
+  pub taken : PolledIsTaken test hs
+  pub lost : LostLeavesTheView test hs
+  pub possible : PollsArePossible test hs
+  pub streamless : PollersHaveNoStream test hs

@@ -3,8 +3,9 @@ use Rattle.std.specs.Prelude.{ℕ, List, Option}
 use Rattle.xds_resource.specs.declared.types.TypeName.{TypeName}
 use Rattle.xds_resource.specs.Resources.{NamedBody}
 use Rattle.xds_model.specs.declared.event.ClientKind.{ClientKind}
+use Rattle.xds_model.specs.declared.event.Answer.{Answer}
 
--- What a client is told to want of a type: state of the world, a list of all texts; delta, texts to subscribe and to unsubscribe.
+-- What a client is told to want of a type: state of the world and REST, a list of all texts; delta, texts to subscribe and to unsubscribe.
 pub data Wish : Type 0 where
   Names : List (List ℕ) → Wish
   Edits : List (List ℕ) → List (List ℕ) → Wish
@@ -29,3 +30,5 @@ pub data Happening : Type 0 where
   -- the client takes the oldest response
   Down : ℕ → Happening
   Lose : ℕ → Happening
+  -- a client that polls asks a replica for a type, and the answer arrives or is lost
+  RestPoll : ℕ → ℕ → TypeName → Answer → Happening

@@ -6,8 +6,8 @@ use Rattle.std.specs.FinMap as finmap
 use Rattle.xds_core.specs.Events as events
 use Rattle.xds_core.specs.Events.{Event}
 use Rattle.xds_shelf.specs.Faults.{Test}
-use Rattle.xds_model.specs.Happenings.{Happening, AddReplica, AddClient, Put, Delete, Snapshot, Merge, Connect, Change, Up, Poll, Down, Lose}
-use Rattle.xds_model.specs.Worlds.{World, Link, empty_world, placed, happens}
+use Rattle.xds_model.specs.Happenings.{Happening, AddReplica, AddClient, Put, Delete, Snapshot, Merge, Connect, Change, Up, Poll, Down, Lose, RestPoll}
+use Rattle.xds_model.specs.Worlds.{World, Link, empty_world, placed, poll_of, poll_event, happens}
 
 -- ---- one happening
 
@@ -31,6 +31,7 @@ event_at w (Connect c r) = Some (r, events.Open)
 event_at w (Up c) = on_stream w c (λ l. option_map (events.Request l.stream) (oldest l.up))
 event_at w (Poll c which) = on_stream w c (λ l. Some (events.Poll l.stream which))
 event_at w (Lose c) = on_stream w c (λ l. Some (events.Close l.stream))
+event_at w (RestPoll c r t answer) = option_and_then (λ p. option_map (λ q. (r, poll_event t q)) (poll_of p t)) (finmap.get w.peers c)
 event_at w (AddReplica r) = None
 event_at w (AddClient c kind cluster) = None
 event_at w (Change c t wish) = None

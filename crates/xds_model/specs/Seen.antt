@@ -25,3 +25,4 @@ happening_of (events.Up client) = happenings.Up client
 happening_of (events.Poll client which) = happenings.Poll client which
 happening_of (events.Down client) = happenings.Down client
 happening_of (events.Lose client) = happenings.Lose client
+happening_of (events.RestPoll client replica kind answer) = happenings.RestPoll client replica kind answer

@@ -21,7 +21,7 @@ use Rattle.xds_shelf.specs.Faults.{Test}
 use Rattle.xds_model.specs.Happenings.{Happening, Up, Poll, Down}
 use Rattle.xds_model.specs.Worlds.{World, Site, Link, world, after, happens}
 use Rattle.xds_model.specs.Knows.{knows, wants, cluster, link}
-use Rattle.xds_model.specs.Claims.{writes_of, content_at, is_quiet, is_settled}
+use Rattle.xds_model.specs.Claims.{writes_of, TakesAll, is_quiet, is_settled}
 
 -- whether a response of the type is under way
 abbrev pub brings : TypeName → Link → Bool
@@ -168,10 +168,6 @@ abbrev pub StopsWhereSpent : Test → List Happening → Type 0
 StopsWhereSpent test hs =
     (c : ℕ) (t : TypeName) (h : Happening) → next_to_settle (world test hs) c t ≡ Some h → happens test (world test hs) h ≡ None
     → (h ≡ Poll c (Some t)) × (is_spent_for (world test hs) c t ≡ true)
-
--- that a client's test takes what the client is to show of these writes where it is of this cluster and wants these
-abbrev pub TakesAll : Test → TypeName → List StampedWrite → List ℕ → Wants → Type 0
-TakesAll test t ws cluster w = (name : List ℕ) (h : Holding) → content_at t ws cluster w name ≡ Some h → test (row t).url name (value_of h.body) ≡ true
 
 -- A client whose test takes all that it is to show of what its replica knows is settled where settling ends.
 abbrev pub SettlesWhereAllIsTaken : Test → List Happening → Type 0

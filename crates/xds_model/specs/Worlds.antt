@@ -1,6 +1,6 @@
 -- A world: replicas with their journals, clients with their streams and all that is under way on them, and the batches that were
 -- taken. What happens in it is one function; what isn't possible, or is refused, changes nothing. This project's own.
-use Rattle.std.specs.Prelude.{ℕ, zero, suc, List, [], ◌∷◌, ◌++◌, map, Bool, false, ◌&&◌, if◌then◌else◌, Option, Some, None, is_none, is_some, option_map, Ok, Err, decimal, nat_lt, not}
+use Rattle.std.specs.Prelude.{ℕ, zero, suc, List, [], ◌∷◌, ◌++◌, map, Bool, true, false, ◌&&◌, if◌then◌else◌, Option, Some, None, is_none, is_some, option_map, Ok, Err, decimal, nat_lt, not}
 use Rattle.std.specs.Ordering.{nat_cmp}
 use Rattle.std.specs.Option.{option_and_then, option_map_or}
 use Rattle.std.specs.FinMap as finmap
@@ -9,23 +9,27 @@ use Rattle.xds_resource.specs.Types.{types}
 use Rattle.xds_resource.specs.Stamps.{max_writer}
 use Rattle.xds_draft.specs.declared.draft.Draft.{Draft}
 use Rattle.xds_draft.specs.declared.draft.Draft.TheVariants as drafts
-use Rattle.xds_draft.specs.Drafts.{message_of, delta_message_of}
+use Rattle.xds_draft.specs.Drafts.{Drafted, message_of, delta_message_of}
 use Rattle.xds_core.specs.Stores.{Batch}
 use Rattle.xds_core.specs.Streams as streams
-use Rattle.xds_core.specs.Streams.{Message}
+use Rattle.xds_core.specs.Streams.{Message, cluster_in}
 use Rattle.xds_core.specs.Events as events
 use Rattle.xds_core.specs.Events.{Event, Reply}
 use Rattle.xds_core.specs.Steps.{Core, Step, step, fresh as fresh_core}
 use Rattle.xds_core.specs.Legal.{Record}
+use Rattle.xds_message.specs.Messages.{Request}
 use Rattle.xds_shelf.specs.Shelves.{wants_of}
 use Rattle.xds_shelf.specs.Faults.{Test}
 use Rattle.xds_cache.specs.Clients as clients
 use Rattle.xds_cache.specs.Clients.{Client, linked, unlinked}
 use Rattle.xds_cache.specs.Sends.{sotw_first, delta_first, first_requests, is_greeted}
 use Rattle.xds_cache.specs.Receives.{Outcome, sotw_change, delta_change, sotw_receive, delta_receive}
+use Rattle.xds_cache.specs.Rest.{rest_request, rest_changed, rest_receive}
 use Rattle.xds_model.specs.declared.event.ClientKind.{ClientKind}
-use Rattle.xds_model.specs.declared.event.ClientKind.TheVariants.{Sotw, Delta}
-use Rattle.xds_model.specs.Happenings.{Wish, Names, Edits, Happening, AddReplica, AddClient, Put, Delete, Snapshot, Merge, Connect, Change, Up, Poll, Down, Lose}
+use Rattle.xds_model.specs.declared.event.ClientKind.TheVariants.{Sotw, Delta, Rest}
+use Rattle.xds_model.specs.declared.event.Answer.{Answer}
+use Rattle.xds_model.specs.declared.event.Answer.TheVariants.{Arrives, Lost}
+use Rattle.xds_model.specs.Happenings.{Wish, Names, Edits, Happening, AddReplica, AddClient, Put, Delete, Snapshot, Merge, Connect, Change, Up, Poll, Down, Lose, RestPoll}
 
 -- a replica, and what happened at it, with the answers
 pub record Site : Type 0 where
@@ -97,6 +101,17 @@ new_peer c kind cluster = record { kind = kind; client = clients.fresh (decimal 
 abbrev pub opening_requests : ClientKind → Client → List Message
 opening_requests Sotw c = map streams.Sotw (first_requests (sotw_first c) c false types)
 opening_requests Delta c = map streams.Delta (first_requests (delta_first c) c false types)
+opening_requests Rest c = []
+
+-- whether a client of this kind has a stream: one that polls never has
+abbrev pub has_streams : ClientKind → Bool
+has_streams Sotw = true
+has_streams Delta = true
+has_streams Rest = false
+
+-- whether a client may open a stream: it is of such a kind, and has none
+abbrev pub is_to_connect : Peer → Bool
+is_to_connect p = has_streams p.kind && is_none p.link
 
 -- the client on a new stream
 abbrev pub connected_to : Peer → ℕ → ℕ → Peer
@@ -123,6 +138,8 @@ changed_by tag (Err refusal) = None
 abbrev pub wish_of : ClientKind → Peer → Bool → TypeName → Wish → Option (Client × Option Message)
 wish_of Sotw p up t (Names names) = changed_by streams.Sotw (sotw_change up t (wants_of names) p.client)
 wish_of Sotw p up t (Edits subscribe unsubscribe) = None
+wish_of Rest p up t (Names names) = Some (rest_changed t (wants_of names) p.client, None)
+wish_of Rest p up t (Edits subscribe unsubscribe) = None
 wish_of Delta p up t (Names names) = None
 wish_of Delta p up t (Edits subscribe unsubscribe) = changed_by streams.Delta (delta_change up t (wants_of subscribe) (wants_of unsubscribe) p.client)
 
@@ -143,6 +160,7 @@ received_in test Sotw c (drafts.Sotw d) = received_by streams.Sotw (sotw_receive
 received_in test Sotw c (drafts.Delta d) = None
 received_in test Delta c (drafts.Sotw d) = None
 received_in test Delta c (drafts.Delta d) = received_by streams.Delta (delta_receive test c (delta_message_of d))
+received_in test Rest c d = None
 
 abbrev pub received : Test → Peer → Draft → Option (Client × Message)
 received test p d = received_in test p.kind p.client d
@@ -150,6 +168,38 @@ received test p d = received_in test p.kind p.client d
 -- once the oldest response was taken, with these under way behind it
 abbrev pub taken_down : Peer → Link → List Draft → Client × Message → Peer
 taken_down p l rest q = record { kind = p.kind; client = q.0; link = Some (record l { up = l.up ++ q.1 ∷ []; down = rest }) }
+
+-- ---- polls without a stream
+
+-- what a client that polls asks for in a poll of a type; none where it wants nothing of the type
+abbrev pub asked_by : ClientKind → Client → TypeName → Option Request
+asked_by Rest c t = rest_request c t
+asked_by Sotw c t = None
+asked_by Delta c t = None
+
+abbrev pub poll_of : Peer → TypeName → Option Request
+poll_of p t = asked_by p.kind p.client t
+
+-- the event that such a poll is at a replica
+abbrev pub poll_event : TypeName → Request → Event
+poll_event t q = events.Rest t q.resource_names q.version_info (cluster_in q.node)
+
+-- the client that a call leaves, if it isn't refused
+abbrev pub client_in : {X : Type 0} → Outcome X → Option Client
+client_in (Ok p) = Some p.0
+client_in (Err refusal) = None
+
+-- the client after an answer, which has no body where nothing changed; one that is lost changes nothing
+abbrev pub answer_taken : Test → Answer → Client → TypeName → Option Drafted → Option Client
+answer_taken test Arrives c t d = client_in (rest_receive test c t (option_map message_of d))
+answer_taken test Lost c t d = Some c
+
+abbrev pub rested : Test → Answer → ℕ → TypeName → Peer → Reply × World → Option World
+rested test answer c t p (events.Rested d, w) = option_map (λ x. with_peer w c (record p { client = x })) (answer_taken test answer p.client t d)
+rested test answer c t p (reply, w) = None
+
+abbrev pub rest_polled : Test → World → ℕ → ℕ → TypeName → Answer → Peer → Option World
+rest_polled test w c r t answer p = option_and_then (λ q. option_and_then (rested test answer c t p) (at_site w r (poll_event t q))) (poll_of p t)
 
 -- ---- what happens
 
@@ -191,12 +241,13 @@ happens test w (Put r t body groups) = happened_at w r (events.Put t body groups
 happens test w (Delete r t name) = happened_at w r (events.Delete t name)
 happens test w (Snapshot r) = option_and_then (pooled r) (at_site w r events.Snapshot)
 happens test w (Merge r b) = option_and_then (λ x. happened_at w r (events.Merge x.1)) (placed w.pool b)
-happens test w (Connect c r) = on_peer w c (λ p. if is_none p.link then option_and_then (opened c r p) (at_site w r events.Open) else None)
+happens test w (Connect c r) = on_peer w c (λ p. if is_to_connect p then option_and_then (opened c r p) (at_site w r events.Open) else None)
 happens test w (Change c t wish) = on_peer w c (λ p. option_map (λ q. with_peer w c (changed p q)) (wish_taken p t wish))
 happens test w (Up c) = on_link w c (λ p l. up_taken w c p l l.up)
 happens test w (Poll c which) = on_link w c (λ p l. option_and_then (polled c p l) (at_site w l.replica (events.Poll l.stream which)))
 happens test w (Down c) = on_link w c (λ p l. down_taken test w c p l l.down)
 happens test w (Lose c) = on_link w c (λ p l. option_map (λ q. with_peer q.1 c (record p { client = unlinked p.client; link = None })) (at_site w l.replica (events.Close l.stream)))
+happens test w (RestPoll c r t answer) = on_peer w c (λ p. rest_polled test w c r t answer p)
 
 -- the world after a list of happenings
 abbrev pub after : Test → World → List Happening → World

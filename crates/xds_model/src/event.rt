@@ -9,17 +9,27 @@ use xds_message::copy_texts;
 use xds_resource::laws::{groups_are_kept, resources_are_canonical};
 use xds_resource::{AnyResource, Groups, Refusal, TypeName};
 
-/// The variant that a client speaks.
+/// How a client asks: on a stream, in one of the protocol's two variants, or by polls, as one of REST does.
 #[derive(Clone, Copy, Debug, PartialEq, Eq)]
 pub enum ClientKind {
     Sotw,
     Delta,
+    Rest,
+}
+
+/// What becomes of the answer to a poll on its way to the client.
+#[derive(Clone, Copy, Debug, PartialEq, Eq)]
+pub enum Answer {
+    /// The client gets it.
+    Arrives,
+    /// The client never learns of it.
+    Lost,
 }
 
 /// What a client is told to want of a type.
 #[derive(Drop)]
 pub enum Wish {
-    /// State of the world: all texts that are wanted from now on.
+    /// State of the world and REST: all texts that are wanted from now on.
     Names(Vec<String>),
     /// Delta: texts to subscribe, and texts to unsubscribe.
     Edits(Vec<String>, Vec<String>),
@@ -41,7 +51,7 @@ pub enum WorldEvent {
     Snapshot(u16),
     /// A batch of the pool is merged into a replica.
     Merge(u16, u32),
-    /// A client that has no stream opens one to a replica.
+    /// A client that has no stream, and isn't one of REST, opens one to a replica.
     Connect(u32, u16),
     /// A client wants something else of a type.
     Change(u32, TypeName, Wish),
@@ -53,6 +63,8 @@ pub enum WorldEvent {
     Down(u32),
     /// A client loses its stream, with all that is under way.
     Lose(u32),
+    /// A client of REST that wants something of a type polls a replica for it, which answers at once.
+    RestPoll(u32, u16, TypeName, Answer),
 }
 
 impl Wish {
@@ -103,6 +115,9 @@ impl WorldEvent {
             WorldEvent::Poll(client, which) => Ok(WorldEvent::Poll(*client, *which)),
             WorldEvent::Down(client) => Ok(WorldEvent::Down(*client)),
             WorldEvent::Lose(client) => Ok(WorldEvent::Lose(*client)),
+            WorldEvent::RestPoll(client, replica, kind, answer) => {
+                Ok(WorldEvent::RestPoll(*client, *replica, *kind, *answer))
+            }
         }
     }
 

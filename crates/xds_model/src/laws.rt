@@ -2,7 +2,7 @@
 ghost use Rattle.std.specs.Prelude.{List};
 ghost use Rattle.xds_shelf.specs.Faults.{Test};
 ghost use Rattle.xds_model.specs.Happenings.{Happening};
-ghost use Rattle.xds_model.specs.Claims.{HoldsWhatItKnows, PutResources, SameKnowledgeSameHoldings, SettledIsExact, SettledAgrees, LinksAreFollowed, OneWriteAStamp, JournalsAreLegal, JournalsTellAll};
+ghost use Rattle.xds_model.specs.Claims.{HoldsWhatItKnows, PutResources, SameKnowledgeSameHoldings, SettledIsExact, SettledAgrees, LinksAreFollowed, OneWriteAStamp, JournalsAreLegal, JournalsTellAll, PolledIsExact, PolledIsTaken, LostLeavesTheView, PollsArePossible, PollersHaveNoStream};
 ghost use Rattle.xds_model.specs.Settling.{TwoResponsesSuffice, QuietAtTheEnd, UnsettledHasRefused, StopsWhereSpent, SettlesWhereAllIsTaken};
 
 /// What a replica holds are the best writes of what it knows, so replicas that know the same writes hold the same.
@@ -28,6 +28,18 @@ pub fn journals_are_legal()
 pub fn settled_clients_are_exact()
     ensures delta { (test : Test) (hs : List Happening) → PutResources hs → SettledIsExact test hs }
     ensures sotw { (test : Test) (hs : List Happening) → PutResources hs → SettledAgrees test hs }
+{}
+
+/// A client of REST shows, after a poll whose answer came and wasn't rejected or said that nothing changed, what its replica knew then;
+/// but of an incomplete type what is live there no longer may remain. An answer is rejected only where the client's test refuses
+/// something of it, and one that is lost or rejected leaves the view. A poll is possible wherever something is wanted. Such a client
+/// never has a stream.
+pub fn polled_clients_are_exact()
+    ensures exact { (test : Test) (hs : List Happening) → PutResources hs → PolledIsExact test hs }
+    ensures taken { (test : Test) (hs : List Happening) → PutResources hs → PolledIsTaken test hs }
+    ensures lost { (test : Test) (hs : List Happening) → LostLeavesTheView test hs }
+    ensures possible { (test : Test) (hs : List Happening) → PollsArePossible test hs }
+    ensures streamless { (test : Test) (hs : List Happening) → PutResources hs → PollersHaveNoStream test hs }
 {}
 
 /// A client is up exactly where it was linked last and didn't lose that link, is of the cluster that it came with, and wants what it

@@ -4,4 +4,4 @@
 pub mod event;
 pub mod laws;
 
-pub use event::{ClientKind, Wish, WorldEvent};
+pub use event::{Answer, ClientKind, Wish, WorldEvent};

@@ -1,20 +1,23 @@
--- A client of either variant, and what becomes of it. This project's own.
+-- A client of any kind, and what becomes of it. This project's own.
 use Rattle.std.specs.Prelude.{ℕ, List, Bool, true, false, Option, None, option_map, refl}
 use Rattle.std.specs.Coded.{Coded, code_by, coded×, coded_bool}
 use Rattle.xds_resource.specs.declared.types.TypeName.{TypeName}
 use Rattle.xds_resource.specs.Types.{types}
 use Rattle.xds_draft.specs.declared.draft.Draft.{Draft}
+use Rattle.xds_draft.specs.Drafts.{Drafted}
 use Rattle.xds_core.specs.Streams.{Message}
 use Rattle.xds_shelf.specs.Faults.{Test}
 use Rattle.xds_cache.specs.Clients as clients
 use Rattle.xds_cache.specs.Clients.{Client, client_code, linked, unlinked}
 use Rattle.xds_cache.specs.Sends.{is_greeted}
 use Rattle.xds_model.specs.declared.event.ClientKind.{ClientKind}
+use Rattle.xds_model.specs.declared.event.ClientKind.TheVariants.{Sotw, Delta, Rest}
+use Rattle.xds_model.specs.declared.event.Answer.TheVariants.{Arrives}
 use Rattle.xds_model.specs.Happenings.{Wish}
-use Rattle.xds_model.specs.Worlds.{Peer, wish_of, received_in}
+use Rattle.xds_model.specs.Worlds.{Peer, wish_of, received_in, answer_taken}
 use Rattle.xds_peer.specs.Codes.{kind_code}
 
--- a client of either variant, and whether it has a stream
+-- a client of any kind, and whether it has a stream
 pub record AnyClient : Type 0 where
   pub kind : ClientKind
   pub up : Bool
@@ -39,17 +42,26 @@ wishing kind up t wish c = option_map turned (wish_of kind (alone kind c) up t w
 abbrev pub receiving : Test → ClientKind → Draft → Client → Option (Message × Client)
 receiving test kind d c = option_map turned (received_in test kind c d)
 
--- what is given, and a client of either variant with what is made of it
+-- what is given, and a client of any kind with what is made of it
 abbrev pub of_any : {X : Type 0} → AnyClient → Option (X × Client) → Option (X × AnyClient)
 of_any c o = option_map (λ q. (q.0, record { kind = c.kind; up = c.up; client = q.1 })) o
 
--- what a client of either variant gives to send, and that client then, once it is told to want something else
+-- what a client of any kind gives to send, and that client then, once it is told to want something else
 abbrev pub changing : TypeName → Wish → AnyClient → Option (Option Message × AnyClient)
 changing t wish c = of_any c (wishing c.kind c.up t wish c.client)
 
 -- the same after a response
 abbrev pub receiving_any : Test → Draft → AnyClient → Option (Message × AnyClient)
 receiving_any test d c = of_any c (receiving test c.kind d c.client)
+
+-- a client of this kind after an answer to its poll of a type, if it is one that polls; no body stands for that nothing changed
+abbrev pub answering : Test → ClientKind → TypeName → Option Drafted → Client → Option Client
+answering test Rest t d c = answer_taken test Arrives c t d
+answering test Sotw t d c = None
+answering test Delta t d c = None
+
+abbrev pub answering_any : Test → TypeName → Option Drafted → AnyClient → Option AnyClient
+answering_any test t d c = option_map (λ x. record { kind = c.kind; up = c.up; client = x }) (answering test c.kind t d c.client)
 
 -- a client on a new stream
 abbrev pub linked_any : AnyClient → AnyClient

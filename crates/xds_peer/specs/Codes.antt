@@ -1,7 +1,7 @@
 -- Codes of messages, of streams and of clients on them: each as the tuple of its fields, a choice as a sum. This project's own.
-use Rattle.std.specs.Prelude.{◌≡◌, ◌⊎◌, ℕ, ◌==◌, List, Bool, true, false, if◌then◌else◌, Option, refl}
+use Rattle.std.specs.Prelude.{◌≡◌, ◌⊎◌, ℕ, ◌==◌, List, if◌then◌else◌, Option, refl}
 use Rattle.std.proofs.Common.{inl, inr}
-use Rattle.std.specs.Coded.{Coded, code_by, coded×, coded⊎, coded_ℕ, coded_bool, coded_list, coded_option}
+use Rattle.std.specs.Coded.{Coded, code_by, coded×, coded⊎, coded_ℕ, coded_list, coded_option}
 use Rattle.xds_resource.specs.declared.types.TypeName.{TypeName}
 use Rattle.xds_resource.specs.declared.types.TypeName.TheVariants.{Cluster, Endpoint, Listener, Route, Secret}
 use Rattle.xds_message.specs.Messages.{Identity, Failure, Request}
@@ -41,20 +41,21 @@ type_again Secret = refl
 abbrev pub type_code : Coded TypeName
 type_code = code_by ℕ coded_ℕ type_number numbered_type type_again
 
-abbrev pub kind_flag : ClientKind → Bool
-kind_flag kinds.Sotw = true
-kind_flag kinds.Delta = false
+abbrev pub kind_number : ClientKind → ℕ
+kind_number kinds.Sotw = 0
+kind_number kinds.Delta = 1
+kind_number kinds.Rest = 2
 
-abbrev pub flagged_kind : Bool → ClientKind
-flagged_kind true = kinds.Sotw
-flagged_kind false = kinds.Delta
+abbrev pub numbered_kind : ℕ → ClientKind
+numbered_kind n = if n == 0 then kinds.Sotw else if n == 1 then kinds.Delta else kinds.Rest
 
-abbrev pub kind_again : (k : ClientKind) → flagged_kind (kind_flag k) ≡ k
+abbrev pub kind_again : (k : ClientKind) → numbered_kind (kind_number k) ≡ k
 kind_again kinds.Sotw = refl
 kind_again kinds.Delta = refl
+kind_again kinds.Rest = refl
 
 abbrev pub kind_code : Coded ClientKind
-kind_code = code_by Bool coded_bool kind_flag flagged_kind kind_again
+kind_code = code_by ℕ coded_ℕ kind_number numbered_kind kind_again
 
 -- ---- messages
 

@@ -1,12 +1,14 @@
 -- A client on its stream, if it has one, and what becomes of it. This project's own.
-use Rattle.std.specs.Prelude.{ℕ, List, [], ◌∷◌, ◌++◌, if◌then◌else◌, Option, Some, None, is_none, option_map}
+use Rattle.std.specs.Prelude.{ℕ, List, [], ◌∷◌, ◌++◌, if◌then◌else◌, Option, Some, None, option_map}
 use Rattle.std.specs.Option.{option_and_then}
 use Rattle.xds_resource.specs.declared.types.TypeName.{TypeName}
 use Rattle.xds_draft.specs.declared.draft.Draft.{Draft}
+use Rattle.xds_draft.specs.Drafts.{Drafted}
 use Rattle.xds_shelf.specs.Faults.{Test}
 use Rattle.xds_cache.specs.Clients.{unlinked}
 use Rattle.xds_model.specs.Happenings.{Wish}
-use Rattle.xds_model.specs.Worlds.{Link, Peer, wish_taken, changed, received, taken_down, under_way, connected_to}
+use Rattle.xds_model.specs.Worlds.{Link, Peer, wish_taken, changed, received, taken_down, under_way, is_to_connect, connected_to}
+use Rattle.xds_peer.specs.AnyClients.{answering}
 use Rattle.xds_peer.specs.Links.{link_up}
 
 -- what f makes of the link of a client that has one
@@ -38,6 +40,10 @@ peer_down test p = option_and_then (λ l. link_down test p l l.down) p.link
 abbrev pub peer_lost : Peer → Option Peer
 peer_lost p = option_map (λ l. record p { client = unlinked p.client; link = None }) p.link
 
--- on a new stream
+-- on a new stream, if the client may open one
 abbrev pub peer_connected : ℕ → ℕ → Peer → Option Peer
-peer_connected r n p = if is_none p.link then Some (connected_to p r n) else None
+peer_connected r n p = if is_to_connect p then Some (connected_to p r n) else None
+
+-- once the answer to a poll of a type came, if the client is one that polls
+abbrev pub peer_answered : Test → TypeName → Option Drafted → Peer → Option Peer
+peer_answered test t d p = option_map (λ x. record p { client = x }) (answering test p.kind t d p.client)

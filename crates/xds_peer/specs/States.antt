@@ -10,3 +10,4 @@ client_in (states.SotwDown c) = record { kind = kinds.Sotw; up = false; client =
 client_in (states.SotwUp c) = record { kind = kinds.Sotw; up = true; client = c }
 client_in (states.DeltaDown c) = record { kind = kinds.Delta; up = false; client = c }
 client_in (states.DeltaUp c) = record { kind = kinds.Delta; up = true; client = c }
+client_in (states.Rest c) = record { kind = kinds.Rest; up = false; client = c }

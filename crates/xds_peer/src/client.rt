@@ -1,26 +1,28 @@
-// A client of either variant, with a stream or without.
+// A client of any kind, with a stream or without.
 ghost use Rattle.std.specs.Prelude.{◌≡◌, map, true, false, string_bytes, option_map, IfOk, IfErr};
 ghost use Rattle.xds_resource.specs.Types.{types};
 ghost use Rattle.xds_resource.specs.declared.refusal.Refusal.TheVariants.{OutOfMemory};
 ghost use Rattle.xds_draft.specs.declared.draft.Draft.TheVariants as drafts;
+ghost use Rattle.xds_message.specs.Responses.{response_of};
+ghost use Rattle.xds_draft.specs.Drafts.{message_of as drafted_message};
 ghost use Rattle.xds_core.specs.Streams as streams;
 ghost use Rattle.xds_core.specs.Seen.{message_of};
 ghost use Rattle.xds_cache.specs.Clients.{view as view_of, linked};
 ghost use Rattle.xds_cache.specs.Sends.{is_greeted};
 ghost use Rattle.xds_model.specs.Seen.{wish_of};
-ghost use Rattle.xds_model.specs.Worlds.{opening_requests};
+ghost use Rattle.xds_model.specs.Worlds.{opening_requests, has_streams, asked_by};
 ghost use Rattle.xds_model.specs.declared.event.ClientKind.TheVariants as kinds;
-ghost use Rattle.xds_peer.specs.AnyClients.{fresh_any, wishing, changing, receiving, receiving_any, linked_any, unlinked_any};
-ghost use Rattle.xds_peer.specs.Calls.{Gave};
+ghost use Rattle.xds_peer.specs.AnyClients.{fresh_any, wishing, changing, receiving, receiving_any, answering, answering_any, linked_any, unlinked_any};
+ghost use Rattle.xds_peer.specs.Calls.{Gave, Happened};
 ghost use Rattle.xds_peer.specs.States.{client_in};
 
 use std::alloc::Global;
 use std::collections::VecDeque;
 use std::marker::Model;
-use xds_cache::{Accept, DeltaClient, Down, Holding, Link, SotwClient, Up};
+use xds_cache::{Accept, DeltaClient, Down, Holding, Link, RestClient, SotwClient, Up};
 use xds_core::Request;
 use xds_draft::{DeltaDraft, Draft, SotwDraft};
-use xds_message::{DeltaDiscoveryRequest, DiscoveryRequest};
+use xds_message::{DeltaDiscoveryRequest, DiscoveryRequest, DiscoveryResponse};
 use xds_model::{ClientKind, Wish};
 use xds_resource::{NameMap, Refusal, TypeName};
 
@@ -30,9 +32,10 @@ enum State<A: Accept> {
     SotwUp(SotwClient<A, Up>),
     DeltaDown(DeltaClient<A, Down>),
     DeltaUp(DeltaClient<A, Up>),
+    Rest(RestClient<A>),
 }
 
-/// A client of either variant, with a stream or without.
+/// A client of any kind, with a stream or without.
 #[derive(Drop)]
 pub(crate) struct AnyClient<A: Accept> {
     state: State<A>,
@@ -121,6 +124,23 @@ fn change_delta<A: Accept, L: Link>(
         Err(Refusal::OutOfMemory) => Err(Refusal::OutOfMemory),
         Err(_) => Ok(None),
     }
+}
+
+// What becomes of a wish at a client that polls. It gives nothing to send.
+fn change_rest<A: Accept>(
+    client: &mut RestClient<A>,
+    alloc: Global,
+    kind: TypeName,
+    wish: &Wish,
+) -> Result<Option<Option<Request>>, Refusal>
+    ensures ok { IfOk result (λ o. Gave (option_map message_of) client.old o client.new (wishing kinds.Rest false kind (wish_of wish.now) client.old)) }
+    ensures refused { IfErr result (λ e. e ≡ OutOfMemory) }
+{
+    let Wish::Names(names) = wish else {
+        return Ok(None);
+    };
+    client.change(alloc, kind, names)?;
+    Ok(Some(None))
 }
 
 // A client with the requests to send.
@@ -217,6 +237,35 @@ fn receive_delta<A: Accept>(
     }
 }
 
+// The message that an answer has as its body, if it has one.
+fn body_of(alloc: Global, answer: Option<&SotwDraft>) -> Result<Option<DiscoveryResponse>, Refusal>
+    ensures ok { IfOk result (λ m. option_map response_of m ≡ option_map (λ d. drafted_message d.now) answer.entry) }
+    ensures refused { IfErr result (λ e. e ≡ OutOfMemory) }
+{
+    match answer {
+        Some(draft) => Ok(Some(draft.message(alloc)?)),
+        None => Ok(None),
+    }
+}
+
+// What a client that polls makes of an answer. Answers whether it is one to a poll of the type, be it rejected or not.
+fn answer_rest<A: Accept>(
+    client: &mut RestClient<A>,
+    alloc: Global,
+    kind: TypeName,
+    answer: Option<&SotwDraft>,
+) -> Result<bool, Refusal>
+    ensures ok { IfOk result (λ b. Happened client.old b client.new (answering A.accepts kinds.Rest kind (option_map (λ d. d.now) answer.entry) client.old)) }
+    ensures refused { IfErr result (λ e. e ≡ OutOfMemory) }
+{
+    let body = body_of(alloc, answer)?;
+    match client.receive(alloc, kind, body.as_ref()) {
+        Ok(_) => Ok(true),
+        Err(Refusal::OutOfMemory) => Err(Refusal::OutOfMemory),
+        Err(_) => Ok(false),
+    }
+}
+
 impl<A: Accept> AnyClient<A> {
     /// A client that wants nothing and has no stream.
     pub(crate) fn new(
@@ -230,6 +279,7 @@ impl<A: Accept> AnyClient<A> {
         let state = match kind {
             ClientKind::Sotw => State::SotwDown(SotwClient::new(alloc, node_id, cluster)),
             ClientKind::Delta => State::DeltaDown(DeltaClient::new(alloc, node_id, cluster)),
+            ClientKind::Rest => State::Rest(RestClient::new(alloc, node_id, cluster)),
         };
         AnyClient { state }
     }
@@ -242,6 +292,7 @@ impl<A: Accept> AnyClient<A> {
             State::SotwUp(_) => ClientKind::Sotw,
             State::DeltaDown(_) => ClientKind::Delta,
             State::DeltaUp(_) => ClientKind::Delta,
+            State::Rest(_) => ClientKind::Rest,
         }
     }
 
@@ -254,12 +305,14 @@ impl<A: Accept> AnyClient<A> {
             State::SotwUp(client) => client.view(kind),
             State::DeltaDown(client) => client.view(kind),
             State::DeltaUp(client) => client.view(kind),
+            State::Rest(client) => client.view(kind),
         }
     }
 
     /// On a new stream, with the requests to send there.
     pub(crate) fn connect(self, alloc: Global) -> Result<(AnyClient<A>, VecDeque<Request>), Refusal>
-        requires { self.up ≡ false }
+        requires down { self.up ≡ false }
+        requires streams { has_streams self.kind ≡ true }
         ensures up { IfOk result (λ r. r.0 ≡ linked_any self) }
         ensures requests { IfOk result (λ r. map message_of r.1.items ≡ opening_requests self.kind self.client) }
         ensures refused { IfErr result (λ e. e ≡ OutOfMemory) }
@@ -288,6 +341,7 @@ impl<A: Accept> AnyClient<A> {
             State::SotwUp(client) => change_sotw(client, alloc, kind, wish),
             State::DeltaDown(client) => change_delta(client, alloc, kind, wish),
             State::DeltaUp(client) => change_delta(client, alloc, kind, wish),
+            State::Rest(client) => change_rest(client, alloc, kind, wish),
         }
     }
 
@@ -306,6 +360,39 @@ impl<A: Accept> AnyClient<A> {
             (State::SotwUp(client), Draft::Sotw(draft)) => receive_sotw(client, alloc, draft),
             (State::DeltaUp(client), Draft::Delta(draft)) => receive_delta(client, alloc, draft),
             _ => Ok(None),
+        }
+    }
+
+    /// What a client that polls asks for in a poll of a type; none where it wants nothing of the type, or the client is another.
+    pub(crate) fn request(
+        &self,
+        alloc: Global,
+        kind: TypeName,
+    ) -> Result<Option<DiscoveryRequest>, Refusal>
+        ensures ok { IfOk result (λ q. q ≡ asked_by self.now.kind self.now.client kind) }
+        ensures refused { IfErr result (λ e. e ≡ OutOfMemory) }
+    {
+        match &self.state {
+            State::Rest(client) => client.request(alloc, kind),
+            _ => Ok(None),
+        }
+    }
+
+    /// The answer to a client's poll of a type, with its body, or none where nothing changed. Answers whether the client polls and asked
+    /// for the type; else it is as it was.
+    pub(crate) fn answer(
+        &mut self,
+        alloc: Global,
+        kind: TypeName,
+        answer: Option<&SotwDraft>,
+    ) -> Result<bool, Refusal>
+        ensures ok { IfOk result (λ b. Happened self.old b self.new (answering_any A.accepts kind (option_map (λ d. d.now) answer.entry) self.old)) }
+        ensures up { self.new.up ≡ self.old.up }
+        ensures refused { IfErr result (λ e. e ≡ OutOfMemory) }
+    {
+        match &mut self.state {
+            State::Rest(client) => answer_rest(client, alloc, kind, answer),
+            _ => Ok(false),
         }
     }
 

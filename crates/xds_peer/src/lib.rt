@@ -1,4 +1,5 @@
-// Clients of either variant, each on its stream to a replica: what is under way there, and what becomes of both.
+// Clients of either variant, each on its stream to a replica: what is under way there, and what becomes of both; and clients that
+// poll.
 #![tactic(auto)]
 
 mod client;

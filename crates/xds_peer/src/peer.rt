@@ -5,9 +5,9 @@ ghost use Rattle.xds_resource.specs.declared.refusal.Refusal.TheVariants.{OutOfM
 ghost use Rattle.xds_core.specs.Seen.{message_of};
 ghost use Rattle.xds_cache.specs.Clients.{view as view_of, fresh};
 ghost use Rattle.xds_model.specs.Seen.{wish_of};
-ghost use Rattle.xds_model.specs.Worlds.{with_request};
+ghost use Rattle.xds_model.specs.Worlds.{with_request, is_to_connect, poll_of};
 ghost use Rattle.xds_peer.specs.Calls.{Happened};
-ghost use Rattle.xds_peer.specs.Peers.{peer_changed, peer_up, peer_polled, peer_down, peer_lost, peer_connected};
+ghost use Rattle.xds_peer.specs.Peers.{peer_changed, peer_up, peer_polled, peer_down, peer_lost, peer_connected, peer_answered};
 ghost use Rattle.xds_peer.specs.Statuses.{status_of};
 
 use crate::client::AnyClient;
@@ -16,17 +16,20 @@ use std::alloc::Global;
 use std::marker::Model;
 use xds_cache::{Accept, Holding};
 use xds_core::Request;
-use xds_draft::Draft;
+use xds_draft::{Draft, SotwDraft};
+use xds_message::DiscoveryRequest;
 use xds_model::{ClientKind, Wish};
 use xds_resource::{NameMap, Refusal, TypeName};
 
-/// Whether a client has a stream.
+/// Whether a client has a stream, or polls.
 #[derive(Clone, Copy, Debug, PartialEq, Eq)]
 pub enum Status {
     /// It has a stream to a replica.
     Up,
     /// It has none.
     Down,
+    /// It polls, and never has one.
+    Rest,
 }
 
 /// A client, and its stream if it has one. `A` is the client's test of what it is sent.
@@ -74,7 +77,7 @@ impl<A: Accept> Peer<A> {
         }
     }
 
-    /// The variant of the client.
+    /// How the client asks.
     pub fn kind(&self) -> ClientKind
         ensures { result ≡ self.now.kind }
     {
@@ -88,14 +91,14 @@ impl<A: Accept> Peer<A> {
         self.client.view(kind)
     }
 
-    /// Whether the client has a stream.
+    /// Whether the client has a stream, or polls.
     pub fn status(&self) -> Status
         ensures { result ≡ status_of self.now }
     {
-        if self.link.is_some() {
-            Status::Up
-        } else {
-            Status::Down
+        match (self.client.kind(), &self.link) {
+            (ClientKind::Rest, _) => Status::Rest,
+            (_, Some(_)) => Status::Up,
+            (_, None) => Status::Down,
         }
     }
 
@@ -106,7 +109,17 @@ impl<A: Accept> Peer<A> {
         self.link.as_ref()
     }
 
-    /// On a new stream to a replica, unless the client has one, and whether it is there now. `replica` is the number of the replica, and
+    /// Whether the client may open a stream: it has none, and doesn't poll.
+    pub fn may_connect(&self) -> bool
+        ensures { result ≡ is_to_connect self.now }
+    {
+        match self.client.kind() {
+            ClientKind::Rest => false,
+            _ => self.link.is_none(),
+        }
+    }
+
+    /// On a new stream to a replica, where the client may open one, and whether it is there now. `replica` is the number of the replica, and
     /// `stream` that of the stream there. Refused only by `OutOfMemory`.
     pub fn connect(
         self,
@@ -117,7 +130,7 @@ impl<A: Accept> Peer<A> {
         ensures ok { IfOk result (λ q. Happened self q.1 q.0 (peer_connected replica stream self)) }
         ensures refused { IfErr result (λ e. e ≡ OutOfMemory) }
     {
-        if self.link.is_some() {
+        if !self.may_connect() {
             return Ok((self, false));
         }
         let (client, requests) = self.client.connect(alloc)?;
@@ -181,6 +194,33 @@ impl<A: Accept> Peer<A> {
         link.drop_response();
         link.send(answer)?;
         Ok(true)
+    }
+
+    /// What the client asks for in a poll of a type; none where it wants nothing of the type, or doesn't poll. Refused only by
+    /// `OutOfMemory`.
+    pub fn request(
+        &self,
+        alloc: Global,
+        kind: TypeName,
+    ) -> Result<Option<DiscoveryRequest>, Refusal>
+        ensures ok { IfOk result (λ q. q ≡ poll_of self.now kind) }
+        ensures refused { IfErr result (λ e. e ≡ OutOfMemory) }
+    {
+        self.client.request(alloc, kind)
+    }
+
+    /// The answer to a poll of a type came: its body, or none where nothing changed. The client takes it whole or rejects it whole.
+    /// Answers whether the client polls and asked for the type; else it is as it was. Refused only by `OutOfMemory`.
+    pub fn answer(
+        &mut self,
+        alloc: Global,
+        kind: TypeName,
+        answer: Option<&SotwDraft>,
+    ) -> Result<bool, Refusal>
+        ensures ok { IfOk result (λ b. Happened self.old b self.new (peer_answered A.accepts kind (option_map (λ d. d.now) answer.entry) self.old)) }
+        ensures refused { IfErr result (λ e. e ≡ OutOfMemory) }
+    {
+        self.client.answer(alloc, kind, answer)
     }
 
     /// Once the stream is lost with all that is under way on it, if there is one.

@@ -12,11 +12,11 @@ use Rattle.xds_catalogue.specs.Content.{is_live}
 use Rattle.xds_shelf.specs.Shelves.{Cache, Holding}
 use Rattle.xds_cache.specs.Clients as clients
 use Rattle.xds_model.specs.declared.event.ClientKind.{ClientKind}
-use Rattle.xds_model.specs.declared.event.ClientKind.TheVariants.{Sotw, Delta}
+use Rattle.xds_model.specs.declared.event.ClientKind.TheVariants as kinds
 use Rattle.xds_model.specs.Worlds.{World, Peer}
 use Rattle.xds_model.specs.Claims.{is_settled}
 use Rattle.xds_world.specs.declared.peer.Status.{Status}
-use Rattle.xds_world.specs.declared.peer.Status.TheVariants.{Up, Down}
+use Rattle.xds_world.specs.declared.peer.Status.TheVariants.{Up, Down, Rest}
 use Rattle.xds_world.specs.Statuses.{status_of}
 
 -- what is printed of a client or a replica that isn't there
@@ -27,8 +27,9 @@ none_text = codes "none\n"
 
 -- a resource that a client holds, with its version where the client was told one
 abbrev pub holding_line : ClientKind → Holding → List ℕ
-holding_line Sotw h = h.body ++ codes "\n"
-holding_line Delta h = h.version ++ codes " " ++ h.body ++ codes "\n"
+holding_line kinds.Sotw h = h.body ++ codes "\n"
+holding_line kinds.Rest h = h.body ++ codes "\n"
+holding_line kinds.Delta h = h.version ++ codes " " ++ h.body ++ codes "\n"
 
 -- what a client holds, in the order of names
 abbrev pub holding_lines : ClientKind → List Holding → List ℕ
@@ -40,9 +41,10 @@ view_head client t state count = codes "view " ++ decimal client ++ codes " " ++
 abbrev pub view_text : ℕ → TypeName → List ℕ → ClientKind → Cache → List ℕ
 view_text client t state kind view = view_head client t state (length (finmap.values view)) ++ holding_lines kind (finmap.values view)
 
--- the word for whether a client is up, and settled of a type
+-- the word for whether a client polls, or is up, and settled of a type
 abbrev pub state_of : Status → Bool → List ℕ
 state_of Down settled = codes "down"
+state_of Rest settled = codes "rest"
 state_of Up settled = if settled then codes "settled" else codes "open"
 
 -- how a client stands to a type

@@ -134,6 +134,7 @@ fn state_word(status: Status, is_settled: bool) -> &'static str
 {
     match status {
         Status::Down => "down",
+        Status::Rest => "rest",
         Status::Up if is_settled => "settled",
         Status::Up => "open",
     }

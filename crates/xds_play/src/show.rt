@@ -78,7 +78,7 @@ fn push_holding(text: &mut String, variant: ClientKind, holding: &Holding) -> Re
     ensures refused { IfErr result (λ e. e ≡ OutOfMemory) }
 {
     match variant {
-        ClientKind::Sotw => {}
+        ClientKind::Sotw | ClientKind::Rest => {}
         ClientKind::Delta => {
             text.push_str(holding.version())?;
             text.push_str(" ")?;

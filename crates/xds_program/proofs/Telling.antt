@@ -11,7 +11,7 @@ use Rattle.clap.specs.declared.error.Error.{Error}
 use Rattle.clap.specs.declared.error.kind.ErrorKind.TheVariants as kind
 use Rattle.clap.specs.Words.{HasKind, kind_of}
 use Rattle.std.specs.Prelude.{◌≢◌}
-use Rattle.xds_program.specs.Devices.{Device, HasFailed, Stays, Tells, Wrote, WrotePart}
+use Rattle.xds_frames.specs.Devices.{Device, HasFailed, Stays, Tells, Wrote, WrotePart}
 
 -- what was written whole, or up to a call that failed, is told
 pub tells : {T : Type 0} (d : Device) (bytes : List ℕ) (r : Result T Refusal) → OnOk r (Wrote d bytes) → IfErr r (λ e. (e ≡ DeviceRefusal) × WrotePart d bytes) → Tells d bytes

@@ -5,7 +5,7 @@ use Rattle.std.proofs.Math.Seq.{take-add}
 use Rattle.std.proofs.lemmas.List.{drop-drop, nil_from_length, take_all}
 use Rattle.std.proofs.lemmas.Bool.{eqb-true}
 use Rattle.std.proofs.KnownBytes.{Appends-nil, Appends-trans, Appends-kept}
-use Rattle.xds_program.specs.Devices.{MoreFailed}
+use Rattle.xds_frames.specs.Devices.{MoreFailed}
 
 -- the writer took the bytes but for the rest, and no call of it failed
 pub record IsWrittenTo (before now : Option (List ℕ)) (failed_before failed_now : ℕ) (bytes rest : List ℕ) : Type 0 where

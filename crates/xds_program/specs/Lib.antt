@@ -1,6 +1,5 @@
 pub mod Answers
 pub mod Faults
-pub mod Devices
 pub mod Words
 pub mod CommandLine
 pub mod Laws

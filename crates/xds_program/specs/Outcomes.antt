@@ -7,7 +7,7 @@ use Rattle.xds_resource.specs.declared.refusal.Refusal.{Refusal}
 use Rattle.xds_resource.specs.declared.refusal.Refusal.TheVariants.{Device as DeviceRefusal, OutOfMemory, BadScript}
 use Rattle.xds_resource.specs.Refusals.{number_of, name_of}
 use Rattle.xds_program.specs.Faults.{IsAnswer, IsFault}
-use Rattle.xds_program.specs.Devices.{Device, HasFailed, Stays, Tells, WrotePart, Wrote}
+use Rattle.xds_frames.specs.Devices.{Device, HasFailed, Stays, Tells, WrotePart, Wrote}
 use Rattle.xds_play.specs.declared.play.Unplayed.TheVariants as unplayed
 use Rattle.xds_play.specs.Played.{IsPlayed, IsUnplayed}
 use Rattle.xds_program.specs.declared.words.Task.{Task}

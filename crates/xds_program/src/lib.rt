@@ -2,11 +2,9 @@
 #![tactic(auto)]
 
 pub mod answer;
-pub mod counted;
 pub mod laws;
 pub mod run;
 pub mod words;
 
 pub use answer::{LineFault, answer_lines};
-pub use counted::Counted;
 pub use words::{Task, task_of};

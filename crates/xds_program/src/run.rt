@@ -1,15 +1,15 @@
 // A run of the program, over the reader and the writers that it is given.
 ghost use Rattle.std.specs.Prelude.{◌≡◌, ◌≢◌, ◌⊎◌, map, string_bytes};
 ghost use Rattle.clap.specs.Words.{kind_of};
-ghost use Rattle.xds_program.specs.Devices.{Device, Tells, seen};
+ghost use Rattle.xds_frames.specs.Devices.{Device, Tells, seen};
 ghost use Rattle.xds_program.specs.Outcomes.{HasRun, IsShown, IsUnable, RunsAnswer, RunsPlay, fault_line, refusal_line};
 
 use crate::answer::{LineFault, answer_lines};
-use crate::counted::{Counted, read_whole, write_whole};
 use crate::words::{Task, task_of};
 use clap::error::ErrorKind;
 use std::alloc::Global;
 use std::io::{Read, Write};
+use xds_frames::{Counted, read_whole, write_whole};
 use xds_play::{Unplayed, play_script};
 use xds_resource::Refusal;
 

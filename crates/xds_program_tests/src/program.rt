@@ -4,8 +4,9 @@ use std::io;
 use std::io::{ErrorKind, Read, Write};
 use std::test::Fail;
 use xds_cases::cases::{Outcome, hold, replaced, words_of, written_out};
+use xds_frames::Counted;
 use xds_program::run::run;
-use xds_program::{Counted, LineFault, answer_lines};
+use xds_program::{LineFault, answer_lines};
 use xds_resource::Refusal;
 
 // The words of a command line, the program's name first.

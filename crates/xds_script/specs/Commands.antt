@@ -8,14 +8,15 @@ use Rattle.xds_resource.specs.Types.{type_of_word}
 use Rattle.xds_resource.specs.Groups.{groups_of}
 use Rattle.xds_resource.specs.Resources.{NamedBody, named_type, parsed, value_of}
 use Rattle.xds_model.specs.declared.event.ClientKind.{ClientKind}
-use Rattle.xds_model.specs.declared.event.ClientKind.TheVariants.{Sotw, Delta}
+use Rattle.xds_model.specs.declared.event.ClientKind.TheVariants as kinds
+use Rattle.xds_model.specs.declared.event.Answer.TheVariants.{Arrives, Lost}
 use Rattle.xds_model.specs.Happenings as happenings
 use Rattle.xds_model.specs.Happenings.{Happening, Wish}
 use Rattle.xds_model.specs.Seen.{happening_of}
 use Rattle.xds_script.specs.declared.command.Command.{Command}
 use Rattle.xds_script.specs.declared.command.Command.TheVariants as commands
 use Rattle.xds_script.specs.declared.command.Verb.{Verb}
-use Rattle.xds_script.specs.declared.command.Verb.TheVariants.{Replica, Client, Put, PutIn, Delete, Snapshot, Merge, Connect, Names, Change, Up, Down, Lose, Poll, Settle, View, Content}
+use Rattle.xds_script.specs.declared.command.Verb.TheVariants.{Replica, Client, Put, PutIn, Delete, Snapshot, Merge, Connect, Names, Change, Up, Down, Lose, Poll, Rest, RestLost, Settle, View, Content}
 use Rattle.xds_script.specs.Lines.{pieces}
 use Rattle.xds_script.specs.Words.{Text, is_empty, text_of, split_first, only, two, replica_number, whole_number}
 
@@ -37,13 +38,15 @@ word_of Up = codes "up"
 word_of Down = codes "down"
 word_of Lose = codes "lose"
 word_of Poll = codes "poll"
+word_of Rest = codes "rest"
+word_of RestLost = codes "restlost"
 word_of Settle = codes "settle"
 word_of View = codes "view"
 word_of Content = codes "content"
 
 abbrev pub verbs : List Verb
 verbs =
-    Replica ∷ Client ∷ Put ∷ PutIn ∷ Delete ∷ Snapshot ∷ Merge ∷ Connect ∷ Names ∷ Change ∷ Up ∷ Down ∷ Lose ∷ Poll ∷ Settle ∷ View ∷ Content ∷ []
+    Replica ∷ Client ∷ Put ∷ PutIn ∷ Delete ∷ Snapshot ∷ Merge ∷ Connect ∷ Names ∷ Change ∷ Up ∷ Down ∷ Lose ∷ Poll ∷ Rest ∷ RestLost ∷ Settle ∷ View ∷ Content ∷ []
 
 -- the verb that is this word
 abbrev pub verb_of : Text → Option Verb
@@ -67,10 +70,14 @@ abbrev pub read_first : {A B : Type 0} → (Text → Option A) → (List Text �
 read_first first rest ws = option_and_then (λ p. option_and_then (λ a. option_map (λ b. (a, b)) (rest p.1)) (first p.0)) (split_first ws)
 
 abbrev pub kind_of_word : Text → Option ClientKind
-kind_of_word w = if bytes_eq w (codes "sotw") then Some Sotw else if bytes_eq w (codes "delta") then Some Delta else None
+kind_of_word w = if bytes_eq w (codes "sotw") then Some kinds.Sotw else if bytes_eq w (codes "delta") then Some kinds.Delta else if bytes_eq w (codes "rest") then Some kinds.Rest else None
 
 abbrev pub client_and_type : List Text → Option (ℕ × TypeName)
 client_and_type ws = read_two whole_number type_of_word ws
+
+-- a client, and what it polls: a replica, and a type
+abbrev pub client_and_poll : List Text → Option (ℕ × (ℕ × TypeName))
+client_and_poll ws = read_first whole_number (read_two replica_number type_of_word) ws
 
 -- a name is any word that isn't empty, and so is a cluster
 abbrev pub name_in : Text → Option Text
@@ -169,6 +176,8 @@ says Up ws = option_map (λ c. Happens (happenings.Up c)) (only_client ws)
 says Down ws = option_map (λ c. Happens (happenings.Down c)) (only_client ws)
 says Lose ws = option_map (λ c. Happens (happenings.Lose c)) (only_client ws)
 says Poll ws = option_map (λ p. Happens (happenings.Poll p.0 p.1)) (read_first whole_number type_if_any ws)
+says Rest ws = option_map (λ p. Happens (happenings.RestPoll p.0 p.1.0 p.1.1 Arrives)) (client_and_poll ws)
+says RestLost ws = option_map (λ p. Happens (happenings.RestPoll p.0 p.1.0 p.1.1 Lost)) (client_and_poll ws)
 says Settle ws = option_map (λ p. Settles p.0 p.1) (client_and_type ws)
 says View ws = option_map (λ p. Shows p.0 p.1) (client_and_type ws)
 says Content ws = option_map (λ p. Lists p.0 p.1) (read_two replica_number type_of_word ws)

@@ -10,4 +10,4 @@ mod texts;
 mod words;
 
 pub use command::Command;
-pub use script::{ScriptFault, read_script};
+pub use script::{ScriptFault, read_line, read_script};

@@ -4,12 +4,12 @@ ghost use Rattle.std.specs.Option.{option_map};
 ghost use Rattle.xds_resource.specs.Types.{type_of_word};
 ghost use Rattle.xds_script.specs.declared.command.Verb.TheVariants as verbs;
 ghost use Rattle.xds_script.specs.Words.{replica_number, whole_number};
-ghost use Rattle.xds_script.specs.Commands.{read_two, read_first, only_replica, only_client, client_and_type, type_if_any, said_of, says};
+ghost use Rattle.xds_script.specs.Commands.{read_two, read_first, only_replica, only_client, client_and_type, client_and_poll, type_if_any, said_of, says};
 
 use crate::command::Command;
 use crate::numbers::{replica_number, whole_number};
 use crate::words::Words;
-use xds_model::WorldEvent;
+use xds_model::{Answer, WorldEvent};
 use xds_resource::TypeName;
 
 // A replica alone.
@@ -32,6 +32,18 @@ fn client_and_type(words: Words) -> Option<(u32, TypeName)>
     let (client, kind) = words.two()?;
     let client = whole_number(client)?;
     Some((client, TypeName::from_word(kind)?))
+}
+
+// A client, and what it polls: a replica, and a type.
+fn client_and_poll(words: Words) -> Option<(u32, (u16, TypeName))>
+    ensures { result ≡ client_and_poll words.entry }
+{
+    let (client, rest) = words.split_first()?;
+    let client = whole_number(client)?;
+    let (replica, kind) = rest.two()?;
+    let replica = replica_number(replica)?;
+    let kind = TypeName::from_word(kind)?;
+    Some((client, (replica, kind)))
 }
 
 // A type, if a word stands there.
@@ -107,6 +119,22 @@ pub(crate) fn poll(words: Words) -> Option<Command>
     let client = whole_number(client)?;
     let which = type_if_any(rest)?;
     Some(Command::Event(WorldEvent::Poll(client, which)))
+}
+
+pub(crate) fn rest(words: Words) -> Option<Command>
+    ensures { option_map said_of result ≡ says verbs.Rest words.entry }
+{
+    let (client, (replica, kind)) = client_and_poll(words)?;
+    let event = WorldEvent::RestPoll(client, replica, kind, Answer::Arrives);
+    Some(Command::Event(event))
+}
+
+pub(crate) fn rest_lost(words: Words) -> Option<Command>
+    ensures { option_map said_of result ≡ says verbs.RestLost words.entry }
+{
+    let (client, (replica, kind)) = client_and_poll(words)?;
+    let event = WorldEvent::RestPoll(client, replica, kind, Answer::Lost);
+    Some(Command::Event(event))
 }
 
 pub(crate) fn settle(words: Words) -> Option<Command>

@@ -57,8 +57,8 @@ fn take_line(alloc: Global, commands: &mut Vec<Command>, line: &[u8]) -> Result<
     Ok(())
 }
 
-// What the line says, if anything.
-fn read_line(alloc: Global, line: &[u8]) -> Result<Option<Command>, Refusal>
+/// What one line says, if anything: none where it is skipped. A bad line is `BadScript`.
+pub fn read_line(alloc: Global, line: &[u8]) -> Result<Option<Command>, Refusal>
     ensures { Gives (option_map said_of) result (ok_or (line_says line.now) BadScript) }
 {
     if is_skipped(line) {
@@ -114,6 +114,8 @@ fn read_command(alloc: Global, verb: Verb, words: Words) -> Result<Command, Refu
         Verb::Down => plain::down(words).ok_or(Refusal::BadScript),
         Verb::Lose => plain::lose(words).ok_or(Refusal::BadScript),
         Verb::Poll => plain::poll(words).ok_or(Refusal::BadScript),
+        Verb::Rest => plain::rest(words).ok_or(Refusal::BadScript),
+        Verb::RestLost => plain::rest_lost(words).ok_or(Refusal::BadScript),
         Verb::Settle => plain::settle(words).ok_or(Refusal::BadScript),
         Verb::View => plain::view(words).ok_or(Refusal::BadScript),
         Verb::Content => plain::content(words).ok_or(Refusal::BadScript),

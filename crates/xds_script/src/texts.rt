@@ -89,6 +89,7 @@ fn kind_of_word(word: &str) -> Option<ClientKind>
     match word {
         "sotw" => Some(ClientKind::Sotw),
         "delta" => Some(ClientKind::Delta),
+        "rest" => Some(ClientKind::Rest),
         _ => None,
     }
 }

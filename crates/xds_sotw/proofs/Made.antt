@@ -21,16 +21,16 @@ use Rattle.xds_sotw.specs.Polls.{take_list, response}
 use Rattle.xds_sotw.specs.Parts.{pushed_all}
 
 -- the response with more bodies
-abbrev with_bodies : Drafted → List (List ℕ) → Drafted
+abbrev pub with_bodies : Drafted → List (List ℕ) → Drafted
 with_bodies d bodies = record d { bodies = d.bodies ++ bodies }
 
 abbrev offered : Offer → StampedWrite → Bool
 offered o w = is_some (finmap.get o w.name)
 
-abbrev body_of : StampedWrite → Option (List ℕ)
+abbrev pub body_of : StampedWrite → Option (List ℕ)
 body_of w = w.body
 
-bodies_step : (d : Drafted) (body : Option (List ℕ)) (rest : List (List ℕ)) → with_bodies (with_body d body) rest ≡ with_bodies d (cons_option body rest)
+pub bodies_step : (d : Drafted) (body : Option (List ℕ)) (rest : List (List ℕ)) → with_bodies (with_body d body) rest ≡ with_bodies d (cons_option body rest)
 bodies_step d None rest = refl
 bodies_step d (Some b) rest = λ i. record d { bodies = append_assoc d.bodies (b ∷ []) rest i }
 

@@ -1,2 +1,3 @@
 pub mod Polls
 pub mod Parts
+pub mod Rest

@@ -5,6 +5,11 @@ use Rattle.xds_resource.specs.Writes.{StampedWrite}
 use Rattle.xds_draft.specs.Drafts.{Drafted, with_body}
 use Rattle.xds_owed.specs.Offers.{Offer}
 
+-- the response with the bodies of some writes behind its own
+abbrev pub with_all : Drafted → List StampedWrite → Drafted
+with_all d [] = d
+with_all d (w ∷ ws) = with_all (with_body d w.body) ws
+
 -- the response with the body of a write, if the offer speaks of its name
 abbrev pub pushed : Offer → Drafted → StampedWrite → Drafted
 pushed o d w = if is_some (finmap.get o w.name) then with_body d w.body else d

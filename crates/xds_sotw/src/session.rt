@@ -4,7 +4,7 @@ ghost use Rattle.xds_resource.specs.Stamps.{max_counter};
 ghost use Rattle.xds_resource.specs.declared.refusal.Refusal.TheVariants.{OutOfMemory, NonceSpent};
 ghost use Rattle.xds_owed.specs.Offers.{offer};
 ghost use Rattle.xds_owed.specs.declared.variant.VariantName.TheVariants as variants;
-ghost use Rattle.xds_ledger.specs.Sessions.{unopened, is_taken, outcome};
+ghost use Rattle.xds_ledger.specs.Sessions.{unopened, is_taken, outcome, send};
 ghost use Rattle.xds_sotw.specs.Polls as polls;
 ghost use Rattle.xds_sotw.specs.Polls.{HasPolled, sending, response as response_of};
 
@@ -111,8 +111,9 @@ impl<T: ResourceType> Session<T> {
         self.names.has_begun() && self.ledger.sends(self.names.interest(), catalogue)
     }
 
-    // What a response says now, and that response as the one of this number.
-    fn respond(
+    /// What a response says now, and that response as the one of this number, be one to be sent or not. Refused only by
+    /// `OutOfMemory`.
+    pub fn respond(
         &self,
         alloc: Global,
         replica: u16,
@@ -154,6 +155,13 @@ impl<T: ResourceType> Session<T> {
         *nonces = drawn;
         self.ledger.send(alloc, offer, number);
         Ok(Some(draft))
+    }
+
+    /// Notes that a response with this offer was sent, as the one of this number. It takes no memory.
+    pub fn send(&mut self, alloc: Global, offer: NameMap<Due>, number: u64)
+        ensures { self.new ≡ send self.old offer number }
+    {
+        self.ledger.send(alloc, offer, number);
     }
 
     /// An equal session, with memory of its own. Refused only by `OutOfMemory`.

@@ -1,2 +1,4 @@
 pub mod Stores
 pub mod Pendings
+pub mod Since
+pub mod Counts

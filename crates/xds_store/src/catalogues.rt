@@ -9,8 +9,11 @@ ghost use Rattle.xds_resource.specs.declared.refusal.Refusal.TheVariants.{Counte
 ghost use Rattle.xds_catalogue.specs.Holdings.{nothing_held};
 ghost use Rattle.xds_catalogue.specs.Joins.{joined};
 ghost use Rattle.xds_catalogue.specs.Local.{putting, deleting};
+ghost use Rattle.xds_store.specs.Counts.{counts_of};
+ghost use Rattle.xds_store.specs.Since.{changed_since};
 ghost use Rattle.xds_store.specs.Stores.{merging, is_spent, joining_at, putting_at, deleting_at, all_entries};
 
+use crate::changed::changed_after;
 use crate::parts::{five, put};
 use crate::pending::Pending;
 use std::alloc::Global;
@@ -193,6 +196,29 @@ impl Catalogues {
             TypeName::Secret => batch.secret = writes_of(alloc, &self.secret)?,
         }
         Ok(batch)
+    }
+
+    /// The entries that changed after these counts of changes, deletions included, of each type in ascending order of names.
+    /// For m such entries it takes some m log n steps, however many are held. No body is copied. Refused only by
+    /// `OutOfMemory`.
+    pub fn since(&self, alloc: Global, marks: Marks) -> Result<Batch, Refusal>
+        ensures ok { IfOk result (λ b. b ≡ changed_since self.now (counts_of marks)) }
+        ensures refused { IfErr result (λ e. e ≡ OutOfMemory) }
+    {
+        let (cluster, endpoint, listener, route, secret) = five(
+            changed_after(alloc, &self.cluster, marks.cluster),
+            changed_after(alloc, &self.endpoint, marks.endpoint),
+            changed_after(alloc, &self.listener, marks.listener),
+            changed_after(alloc, &self.route, marks.route),
+            changed_after(alloc, &self.secret, marks.secret),
+        )?;
+        Ok(Batch {
+            cluster,
+            endpoint,
+            listener,
+            route,
+            secret,
+        })
     }
 
     /// The counts of changes of all types.

@@ -2,6 +2,7 @@
 #![tactic(auto)]
 
 pub mod catalogues;
+mod changed;
 pub mod parts;
 mod pending;
 

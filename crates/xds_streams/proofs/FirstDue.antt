@@ -41,7 +41,7 @@ pub polled_opening : (replica : ℕ) (held : Store) (kind : TypeName) (result : 
 polled_opening replica held kind result left self is leaves begins = polled_by replica held kind (Ok None) result left opening opening self is leaves begins refl
 
 -- where memory ends
-pub short_by : (held : Store) (kind : TypeName) (r result : Result (Option Draft) Refusal) (before self : Stream) → result ≡ r → before ≡ self → IfErr r (λ e. e ≡ OutOfMemory → IsToRespond held before (kind ∷ []))
+pub short_by : {X : Type 0} (held : Store) (kind : TypeName) (r result : Result X Refusal) (before self : Stream) → result ≡ r → before ≡ self → IfErr r (λ e. e ≡ OutOfMemory → IsToRespond held before (kind ∷ []))
     → IfErr result (λ e. e ≡ OutOfMemory → IsToRespond held self (kind ∷ []))
 short_by held kind r result before self is begins short =
     subst (λ x. IfErr x (λ e. e ≡ OutOfMemory → IsToRespond held self (kind ∷ []))) (sym is) (subst (λ b. IfErr r (λ e. e ≡ OutOfMemory → IsToRespond held b (kind ∷ []))) begins short)

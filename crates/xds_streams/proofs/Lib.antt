@@ -1,3 +1,4 @@
 pub mod Polling
 pub mod FirstDue
 mod Sides
+pub mod Twice

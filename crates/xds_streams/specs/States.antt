@@ -10,6 +10,11 @@ abbrev pub spoken_of : {T : Type 0} → Side T → Spoken
 spoken_of (sides.Sotw session) = record { variant = variants.StateOfTheWorld; session = session }
 spoken_of (sides.Delta session) = record { variant = variants.Delta; session = session }
 
+-- the first of two, where there are two
+abbrev pub firsts : {D E : Type 0} → Result (Option (D × D)) E → Result (Option D) E
+firsts (Ok o) = Ok (option_map (λ p. p.0) o)
+firsts (Err e) = Err e
+
 -- a response of one variant as one of either
 abbrev pub tagged : {D E : Type 0} → (D → Draft) → Result (Option D) E → Result (Option Draft) E
 tagged tag (Ok d) = Ok (option_map tag d)

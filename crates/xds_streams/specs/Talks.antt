@@ -2,17 +2,18 @@
 use Rattle.std.specs.Prelude.{◌≡◌, ℕ, List, Option, Some, None, refl}
 use Rattle.std.specs.Coded.{Coded, code_by, coded×, coded_ℕ}
 use Rattle.xds_resource.specs.declared.types.TypeName.{TypeName}
-use Rattle.xds_resource.specs.PerType.{PerType, per_type_code, each, with_at}
+use Rattle.xds_resource.specs.PerType.{PerType, per_type_code, at, each, with_at}
 use Rattle.xds_interest.specs.Interests.{Selection}
 use Rattle.xds_catalogue.specs.Holdings.{Holdings}
 use Rattle.xds_draft.specs.declared.draft.Draft.{Draft}
 use Rattle.xds_draft.specs.declared.draft.Draft.TheVariants as drafts
-use Rattle.xds_owed.specs.Offers.{Offer}
+use Rattle.xds_owed.specs.Offers.{Offer, offer}
 use Rattle.xds_owed.specs.declared.variant.VariantName.{VariantName}
 use Rattle.xds_owed.specs.declared.variant.VariantName.TheVariants as variants
 use Rattle.xds_sotw.specs.Polls as sotw
 use Rattle.xds_delta.specs.Polls as delta
-use Rattle.xds_ledger.specs.Sessions.{Session, session_code, unopened}
+use Rattle.xds_ledger.specs.Sessions.{Session, session_code, unopened, send}
+use Rattle.xds_store.specs.Stores.{Store}
 use Rattle.xds_streams.specs.Streams.{Stream, variant_code, opening}
 
 -- a session, and the variant that it speaks
@@ -42,6 +43,14 @@ talk_code =
 -- before the first request of a type is taken, in a variant, of a client with this cluster text
 abbrev pub begun : VariantName → List ℕ → Talk
 begun v cluster = record { variant = v; count = 0; sessions = each (unopened cluster) }
+
+-- what a response of a type would offer now, be one to be sent or not
+abbrev pub offer_at : Store → Talk → TypeName → Offer
+offer_at store t kind = offer t.variant kind (at t.sessions kind).asked.interest (at store kind).entries (at t.sessions kind).account.beliefs
+
+-- once a response of a type with this offer was sent, as the one of this number
+abbrev pub sent_at : Talk → TypeName → Offer → ℕ → Talk
+sent_at t kind o number = record t { count = number; sessions = with_at t.sessions kind (send (at t.sessions kind) o number) }
 
 -- with this session of a type
 abbrev pub with_session : Talk → TypeName → Session → Talk

@@ -2,6 +2,7 @@
 ghost use Rattle.std.specs.Prelude.{◌≡◌, ◌<◌, ◌≤◌, ◌⊎◌, is_some, IsSome, IfSome, IfOk, IfErr, OnOk, OnErr};
 ghost use Rattle.xds_resource.specs.Stamps.{max_counter};
 ghost use Rattle.xds_resource.specs.declared.refusal.Refusal.TheVariants.{OutOfMemory, NonceSpent};
+ghost use Rattle.xds_owed.specs.Offers.{offer};
 ghost use Rattle.xds_draft.specs.declared.draft.Draft.TheVariants as drafts;
 ghost use Rattle.xds_ledger.specs.Sessions as sessions;
 ghost use Rattle.xds_ledger.specs.Sessions.{unopened, outcome, HasPolled};
@@ -16,8 +17,8 @@ use std::marker::Model;
 use xds_catalogue::Catalogue;
 use xds_draft::{DeltaDraft, Draft, SotwDraft};
 use xds_interest::ClusterText;
-use xds_ledger::{Nonces, Outcome, VariantName};
-use xds_resource::{Refusal, ResourceType};
+use xds_ledger::{Due, Nonces, Outcome, VariantName};
+use xds_resource::{NameMap, Refusal, ResourceType};
 
 #[derive(Drop)]
 enum Side<T: ResourceType> {
@@ -108,6 +109,41 @@ impl<T: ResourceType> Session<T> {
         match &mut self.side {
             Side::Sotw(session) => sotw_draft(session.poll(alloc, replica, catalogue, nonces)),
             Side::Delta(session) => delta_draft(session.poll(alloc, replica, catalogue, nonces)),
+        }
+    }
+
+    /// What a response says now, and that response as the one of this number, be one to be sent or not. Refused only by
+    /// `OutOfMemory`.
+    pub(crate) fn respond(
+        &self,
+        alloc: Global,
+        replica: u16,
+        catalogue: &Catalogue<T>,
+        number: u64,
+    ) -> Result<(NameMap<Due>, Draft), Refusal>
+        ensures offer { IfOk result (λ p. p.0 ≡ offer self.now.variant T.TYPE self.now.session.asked.interest catalogue.now.entries self.now.session.account.beliefs) }
+        ensures draft { IfOk result (λ p. p.1 ≡ drafted replica T.TYPE catalogue.now self.now.session.asked.interest self.now.variant p.0 number) }
+        ensures refused { IfErr result (λ e. e ≡ OutOfMemory) }
+    {
+        match &self.side {
+            Side::Sotw(session) => {
+                let (offer, draft) = session.respond(alloc, replica, catalogue, number)?;
+                Ok((offer, Draft::Sotw(draft)))
+            }
+            Side::Delta(session) => {
+                let (offer, draft) = session.respond(alloc, replica, catalogue, number)?;
+                Ok((offer, Draft::Delta(draft)))
+            }
+        }
+    }
+
+    /// Notes that a response with this offer was sent, as the one of this number. It takes no memory.
+    pub(crate) fn send(&mut self, alloc: Global, offer: NameMap<Due>, number: u64)
+        ensures { self.new ≡ record self.old { session = sessions.send self.old.session offer number } }
+    {
+        match &mut self.side {
+            Side::Sotw(session) => session.send(alloc, offer, number),
+            Side::Delta(session) => session.send(alloc, offer, number),
         }
     }
 

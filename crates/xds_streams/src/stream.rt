@@ -1,10 +1,11 @@
 // A stream, before its first request and after it.
-ghost use Rattle.std.specs.Prelude.{◌≡◌, false, ◌==◌, [], ◌∷◌, length, is_some, IsOk, IfOk, IfErr, OnErr};
+ghost use Rattle.std.specs.Prelude.{◌≡◌, false, ◌==◌, [], ◌∷◌, length, is_some, IfSome, IsOk, IfOk, IfErr, OnErr};
 ghost use Rattle.xds_resource.specs.Refusals.{Gives};
 ghost use Rattle.xds_resource.specs.Types.{types};
 ghost use Rattle.xds_resource.specs.declared.refusal.Refusal.TheVariants.{OutOfMemory};
 ghost use Rattle.xds_streams.specs.Streams.{IsToRespond, opening, looked_at, is_foreign, owes_of, owes_some, to_send, first_due, polled, polled_first, requested, url_of};
 ghost use Rattle.xds_streams.specs.Seen.{message_of};
+ghost use Rattle.xds_streams.specs.States.{firsts};
 
 use crate::request::Request;
 use crate::talk::Talk;
@@ -147,6 +148,62 @@ impl Stream {
         match which {
             Some(kind) => self.poll_type(alloc, replica, held, kind),
             None => self.poll_any(alloc, replica, held),
+        }
+    }
+
+    /// The next response, as `poll` gives it, and an equal one beside it. It is refused as `poll` is, also where there is no
+    /// memory for the second; then nothing is sent.
+    pub fn poll_twice(
+        &mut self,
+        alloc: Global,
+        replica: u16,
+        held: &Catalogues,
+        which: Option<TypeName>,
+    ) -> Result<Option<(Draft, Draft)>, Refusal>
+        ensures polls { Gives (λ o. (o, self.new)) (firsts result) (polled_first replica held.now self.old (looked_at which)) }
+        ensures twin { IfOk result (λ o. IfSome o (λ p. p.1 ≡ p.0)) }
+        ensures memory { IfErr result (λ e. e ≡ OutOfMemory → IsToRespond held.now self.old (looked_at which)) }
+        ensures err { OnErr result (self.new ≡ self.old) }
+    {
+        match which {
+            Some(kind) => self.poll_type_twice(alloc, replica, held, kind),
+            None => self.poll_any_twice(alloc, replica, held),
+        }
+    }
+
+    // The next response of the first type that has one, twice.
+    fn poll_any_twice(
+        &mut self,
+        alloc: Global,
+        replica: u16,
+        held: &Catalogues,
+    ) -> Result<Option<(Draft, Draft)>, Refusal>
+        ensures polls { Gives (λ o. (o, self.new)) (firsts result) (polled_first replica held.now self.old types) }
+        ensures twin { IfOk result (λ o. IfSome o (λ p. p.1 ≡ p.0)) }
+        ensures memory { IfErr result (λ e. e ≡ OutOfMemory → IsToRespond held.now self.old types) }
+        ensures err { OnErr result (self.new ≡ self.old) }
+    {
+        match self.first_due(held) {
+            Some(kind) => self.poll_type_twice(alloc, replica, held, kind),
+            None => Ok(None),
+        }
+    }
+
+    fn poll_type_twice(
+        &mut self,
+        alloc: Global,
+        replica: u16,
+        held: &Catalogues,
+        kind: TypeName,
+    ) -> Result<Option<(Draft, Draft)>, Refusal>
+        ensures polls { Gives (λ o. (o, self.new)) (firsts result) (polled replica held.now self.old kind) }
+        ensures twin { IfOk result (λ o. IfSome o (λ p. p.1 ≡ p.0)) }
+        ensures memory { IfErr result (λ e. e ≡ OutOfMemory → IsToRespond held.now self.old (kind ∷ [])) }
+        ensures err { OnErr result (self.new ≡ self.old) }
+    {
+        match &mut self.talk {
+            Some(talk) => talk.poll_twice(alloc, replica, held, kind),
+            None => Ok(None),
         }
     }
 

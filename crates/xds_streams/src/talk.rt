@@ -1,5 +1,5 @@
 // A stream whose variant is decided.
-ghost use Rattle.std.specs.Prelude.{◌≡◌, [], ◌∷◌, is_some, IfOk, IfErr, OnOk, OnErr};
+ghost use Rattle.std.specs.Prelude.{◌≡◌, [], ◌∷◌, is_some, IfSome, IfOk, IfErr, OnOk, OnErr};
 ghost use Rattle.xds_resource.specs.PerType.{at};
 ghost use Rattle.xds_resource.specs.Refusals.{Gives};
 ghost use Rattle.xds_resource.specs.declared.refusal.Refusal.TheVariants.{OutOfMemory};
@@ -7,7 +7,8 @@ ghost use Rattle.xds_resource.specs.Types.{type_of_url};
 ghost use Rattle.xds_ledger.specs.Sessions.{outcome};
 ghost use Rattle.xds_streams.specs.Seen.{message_of};
 ghost use Rattle.xds_streams.specs.Streams.{IsToRespond, variant_of, nonce_of, url_of, session_after, answered_by, owes_of, to_send, polled};
-ghost use Rattle.xds_streams.specs.Talks.{begun, stream_in, with_session};
+ghost use Rattle.xds_streams.specs.States.{firsts};
+ghost use Rattle.xds_streams.specs.Talks.{begun, drafted, stream_in, offer_at, sent_at, with_session};
 
 use crate::request::Request;
 use crate::session::Session;
@@ -15,8 +16,8 @@ use std::alloc::Global;
 use std::marker::Model;
 use xds_draft::Draft;
 use xds_interest::ClusterText;
-use xds_ledger::{Nonces, Outcome, VariantName};
-use xds_resource::{Cluster, Endpoint, Listener, Refusal, Route, Secret, TypeName};
+use xds_ledger::{Due, Nonces, Outcome, VariantName};
+use xds_resource::{Cluster, Endpoint, Listener, NameMap, Refusal, Route, Secret, TypeName};
 use xds_store::Catalogues;
 use xds_store::parts::five;
 
@@ -158,6 +159,85 @@ impl Talk {
             TypeName::Route => self.route.poll(alloc, replica, &held.route, nonces),
             TypeName::Secret => self.secret.poll(alloc, replica, &held.secret, nonces),
         }
+    }
+
+    fn nonces(&self) -> Nonces
+        ensures { result ≡ self.now.count }
+    {
+        self.nonces
+    }
+
+    // What a response of a type says now, and that response as the one of this number.
+    fn respond(
+        &self,
+        alloc: Global,
+        replica: u16,
+        held: &Catalogues,
+        kind: TypeName,
+        number: u64,
+    ) -> Result<(NameMap<Due>, Draft), Refusal>
+        ensures offer { IfOk result (λ p. p.0 ≡ offer_at held.now self.now kind) }
+        ensures draft { IfOk result (λ p. p.1 ≡ drafted replica kind (at held.now kind) (at self.now.sessions kind).asked.interest self.now.variant p.0 number) }
+        ensures refused { IfErr result (λ e. e ≡ OutOfMemory) }
+    {
+        match kind {
+            TypeName::Cluster => self.cluster.respond(alloc, replica, &held.cluster, number),
+            TypeName::Endpoint => self
+                .endpoint
+                .respond(alloc, replica, &held.endpoint, number),
+            TypeName::Listener => self
+                .listener
+                .respond(alloc, replica, &held.listener, number),
+            TypeName::Route => self.route.respond(alloc, replica, &held.route, number),
+            TypeName::Secret => self.secret.respond(alloc, replica, &held.secret, number),
+        }
+    }
+
+    // Notes that a response of a type with this offer was sent, as the one of the last of these numbers.
+    fn send(
+        &mut self,
+        alloc: Global,
+        kind: TypeName,
+        offer: NameMap<Due>,
+        drawn: Nonces,
+        number: u64,
+    )
+        requires { number ≡ drawn }
+        ensures { self.new ≡ sent_at self.old kind offer number }
+    {
+        self.nonces = drawn;
+        match kind {
+            TypeName::Cluster => self.cluster.send(alloc, offer, number),
+            TypeName::Endpoint => self.endpoint.send(alloc, offer, number),
+            TypeName::Listener => self.listener.send(alloc, offer, number),
+            TypeName::Route => self.route.send(alloc, offer, number),
+            TypeName::Secret => self.secret.send(alloc, offer, number),
+        }
+    }
+
+    /// The next response of the type, if one is to be sent, and an equal one beside it. It is refused as `poll` is, also
+    /// where there is no memory for the second; then nothing is sent.
+    pub(crate) fn poll_twice(
+        &mut self,
+        alloc: Global,
+        replica: u16,
+        held: &Catalogues,
+        kind: TypeName,
+    ) -> Result<Option<(Draft, Draft)>, Refusal>
+        ensures polls { Gives (λ o. (o, stream_in self.new)) (firsts result) (polled replica held.now (stream_in self.old) kind) }
+        ensures twin { IfOk result (λ o. IfSome o (λ p. p.1 ≡ p.0)) }
+        ensures memory { IfErr result (λ e. e ≡ OutOfMemory → IsToRespond held.now (stream_in self.old) (kind ∷ [])) }
+        ensures err { OnErr result (self.new ≡ self.old) }
+    {
+        if !self.sends(held, kind) {
+            return Ok(None);
+        }
+        let mut drawn = self.nonces();
+        let number = drawn.next()?;
+        let (offer, draft) = self.respond(alloc, replica, held, kind, number)?;
+        let twin = draft.try_copy(alloc)?;
+        self.send(alloc, kind, offer, drawn, number);
+        Ok(Some((draft, twin)))
     }
 
     /// An equal talk, with memory of its own. Refused only by `OutOfMemory`.

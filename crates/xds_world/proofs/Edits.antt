@@ -88,13 +88,6 @@ lost_at p left (Some l) up is =
 pub lost : (p left : Peer) (b : Bool) → b ≡ is_some p.link → left ≡ option_map_or (λ p. p) (peer_lost p) p → Happened p b left (peer_lost p)
 lost p left b up is = subst (λ b. Happened p b left (peer_lost p)) (sym up) (lost_at p left p.link refl is)
 
--- a client that is connected, or was up before
-pub connected_new : (r n : ℕ) (p left : Peer) → p.link ≡ None → left ≡ connected_to p r n → Happened p true left (peer_connected r n p)
-connected_new r n p left down is = ap (λ o. if is_none o then Some (connected_to p r n) else None) down ∙ ap Some (sym is)
-
-pub connected_not : (r n : ℕ) (p left : Peer) → is_some p.link ≡ true → left ≡ p → Happened p false left (peer_connected r n p)
-connected_not r n p left up is = (ap (λ b. if not b then Some (connected_to p r n) else None) up, is)
-
 -- whether there is something, however it is seen
 pub some_seen : {X Y : Type 0} (f : X → Y) (o : Option X) (p : Option Y) → option_map f o ≡ p → is_some o ≡ is_some p
 some_seen f None p is = ap is_some is

@@ -16,7 +16,7 @@ use Rattle.xds_core.specs.Steps.{Core, with_stream}
 use Rattle.xds_shelf.specs.Faults.{Test}
 use Rattle.xds_cache.specs.Clients.{unlinked}
 use Rattle.xds_model.specs.Happenings as happenings
-use Rattle.xds_model.specs.Worlds.{Peer, Link, World, at_site, happened_at, happens, with_peer, on_link, connected_to, opened, polled, under_way, up_taken, down_taken, taken_down, received, changed, wish_taken}
+use Rattle.xds_model.specs.Worlds.{Peer, Link, World, at_site, happened_at, happens, with_peer, on_link, connected_to, opened, polled, under_way, up_taken, down_taken, taken_down, received, changed, wish_taken, is_to_connect}
 use Rattle.xds_model.specs.Settling.{link_in}
 use Rattle.xds_model.proofs.Replicas.{answered, some_is, ok_is}
 use Rattle.xds_peer.specs.Calls.{Gave, Happened}
@@ -242,15 +242,15 @@ lose_refused test w w1 c r n led done =
 -- ---- connect
 
 abbrev pub is_idle : Option Peer → Bool
-is_idle o = option_map_or (λ p. is_none p.link) o false
+is_idle o = option_map_or is_to_connect o false
 
-idle_peer : (o : Option Peer) → true ≡ is_idle o → (p : Peer) × (o ≡ Some p) × (true ≡ is_none p.link)
+idle_peer : (o : Option Peer) → true ≡ is_idle o → (p : Peer) × (o ≡ Some p) × (true ≡ is_to_connect p)
 idle_peer None is = absurd cc
 idle_peer (Some p) is = (p, refl, is)
 
-connect_is : (test : Test) (w : World) (c r : ℕ) (p : Peer) → finmap.get w.peers c ≡ Some p → true ≡ is_none p.link → happens test w (happenings.Connect c r) ≡ option_and_then (opened c r p) (at_site w r events.Open)
+connect_is : (test : Test) (w : World) (c r : ℕ) (p : Peer) → finmap.get w.peers c ≡ Some p → true ≡ is_to_connect p → happens test w (happenings.Connect c r) ≡ option_and_then (opened c r p) (at_site w r events.Open)
 connect_is test w c r p has idle =
-    ap (option_and_then (λ p. if is_none p.link then option_and_then (opened c r p) (at_site w r events.Open) else None)) has ∙ ap (λ b. if b then option_and_then (opened c r p) (at_site w r events.Open) else None) (sym idle)
+    ap (option_and_then (λ p. if is_to_connect p then option_and_then (opened c r p) (at_site w r events.Open) else None)) has ∙ ap (λ b. if b then option_and_then (opened c r p) (at_site w r events.Open) else None) (sym idle)
 
 pub connect_done : (test : Test) (w w1 w2 : World) (c r n : ℕ) (b : Bool) → true ≡ is_idle (finmap.get w.peers c) → Gave events.Opened w (Some n) w1 (at_site w r events.Open) → Happened w1 b w2 (peer_event w1 c (peer_connected r n))
     → Happened w b w2 (happens test w (happenings.Connect c r))
@@ -264,7 +264,7 @@ connect_refused test w w1 c r idle gave =
     let at = idle_peer (finmap.get w.peers c) idle in
     (connect_is test w c r at.0 at.1 at.2 ∙ ap (option_and_then (opened c r at.0)) gave.0, gave.1)
 
-not_idle : (w : World) (c r : ℕ) (o : Option Peer) → false ≡ is_idle o → option_and_then (λ p. if is_none p.link then option_and_then (opened c r p) (at_site w r events.Open) else None) o ≡ None
+not_idle : (w : World) (c r : ℕ) (o : Option Peer) → false ≡ is_idle o → option_and_then (λ p. if is_to_connect p then option_and_then (opened c r p) (at_site w r events.Open) else None) o ≡ None
 not_idle w c r None is = refl
 not_idle w c r (Some p) is = ap (λ b. if b then option_and_then (opened c r p) (at_site w r events.Open) else None) (sym is)
 

@@ -8,11 +8,12 @@ use Rattle.std.specs.FinMap as finmap
 use Rattle.xds_resource.specs.declared.types.TypeName.{TypeName}
 use Rattle.xds_resource.specs.declared.refusal.Refusal.{Refusal}
 use Rattle.xds_resource.specs.declared.refusal.Refusal.TheVariants as refusals
-use Rattle.xds_resource.specs.PerType.{per_type_code}
+use Rattle.xds_resource.specs.PerType.{PerType, per_type_code}
 use Rattle.xds_resource.specs.Refusals.{number_of}
 use Rattle.xds_resource.specs.Resources.{NamedBody, named_body_code}
 use Rattle.xds_resource.specs.Writes.{write_code}
 use Rattle.xds_draft.specs.declared.draft.Draft.{Draft}
+use Rattle.xds_draft.specs.Drafts.{Drafted}
 use Rattle.xds_ledger.specs.declared.outcome.Outcome.{Outcome}
 use Rattle.xds_ledger.specs.declared.outcome.Outcome.TheVariants.{Taken, Ignored}
 use Rattle.xds_core.specs.Stores.{Batch}
@@ -22,7 +23,7 @@ use Rattle.xds_core.specs.Events.{Event, Reply}
 use Rattle.xds_core.specs.Legal.{Record}
 use Rattle.xds_core.specs.Steps.{Core, core_code}
 use Rattle.xds_model.specs.Worlds.{Site, Peer, World}
-use Rattle.xds_peer.specs.Codes.{text_code, type_code, message_code, draft_code, peer_code}
+use Rattle.xds_peer.specs.Codes.{text_code, type_code, message_code, drafted_code, draft_code, peer_code}
 
 -- ---- choices without fields, by number
 
@@ -112,12 +113,16 @@ AtStream = (ℕ × Message) ⊎ ((ℕ × Option TypeName) ⊎ ((ℕ × Option Ty
 abbrev pub OfStore : Type 0
 OfStore = (TypeName × (NamedBody × List (List ℕ))) ⊎ ((TypeName × List ℕ) ⊎ Batch)
 
--- an event of a stream or of the store; with a flag those that say no more
+-- a look at what is held: a poll without a stream, or marks
+abbrev pub Looks : Type 0
+Looks = (TypeName × (List (List ℕ) × (List ℕ × List ℕ))) ⊎ PerType ℕ
+
+-- an event of a stream or of the store, or a look at it; with a flag those that say no more
 abbrev pub EventParts : Type 0
-EventParts = AtStream ⊎ (OfStore ⊎ Bool)
+EventParts = AtStream ⊎ (OfStore ⊎ (Bool ⊎ Looks))
 
 abbrev pub event_parts : Event → EventParts
-event_parts events.Open = inr (inr true)
+event_parts events.Open = inr (inr (inl true))
 event_parts (events.Request n m) = inl (inl (n, m))
 event_parts (events.Poll n which) = inl (inr (inl (n, which)))
 event_parts (events.Owes n which) = inl (inr (inr (inl (n, which))))
@@ -125,7 +130,9 @@ event_parts (events.Close n) = inl (inr (inr (inr n)))
 event_parts (events.Put t r groups) = inr (inl (inl (t, (r, groups))))
 event_parts (events.Delete t name) = inr (inl (inr (inl (t, name))))
 event_parts (events.Merge b) = inr (inl (inr (inr b)))
-event_parts events.Snapshot = inr (inr false)
+event_parts events.Snapshot = inr (inr (inl false))
+event_parts (events.Rest t names version cluster) = inr (inr (inr (inl (t, (names, (version, cluster))))))
+event_parts (events.Since marks) = inr (inr (inr (inr marks)))
 
 abbrev pub event_of_parts : EventParts → Event
 event_of_parts (inl (inl p)) = events.Request p.0 p.1
@@ -135,8 +142,10 @@ event_of_parts (inl (inr (inr (inr n)))) = events.Close n
 event_of_parts (inr (inl (inl p))) = events.Put p.0 p.1.0 p.1.1
 event_of_parts (inr (inl (inr (inl p)))) = events.Delete p.0 p.1
 event_of_parts (inr (inl (inr (inr b)))) = events.Merge b
-event_of_parts (inr (inr true)) = events.Open
-event_of_parts (inr (inr false)) = events.Snapshot
+event_of_parts (inr (inr (inl true))) = events.Open
+event_of_parts (inr (inr (inl false))) = events.Snapshot
+event_of_parts (inr (inr (inr (inl p)))) = events.Rest p.0 p.1.0 p.1.1.0 p.1.1.1
+event_of_parts (inr (inr (inr (inr marks)))) = events.Since marks
 
 abbrev pub event_again : (e : Event) → event_of_parts (event_parts e) ≡ e
 event_again events.Open = refl
@@ -148,23 +157,32 @@ event_again (events.Put t r groups) = refl
 event_again (events.Delete t name) = refl
 event_again (events.Merge b) = refl
 event_again events.Snapshot = refl
+event_again (events.Rest t names version cluster) = refl
+event_again (events.Since marks) = refl
 
 abbrev pub which_code : Coded (ℕ × Option TypeName)
 which_code = coded× coded_ℕ (coded_option type_code)
 
+abbrev pub looks_code : Coded Looks
+looks_code = coded⊎ (coded× type_code (coded× (coded_list text_code) (coded× text_code text_code))) (per_type_code coded_ℕ)
+
 abbrev pub event_code : Coded Event
 event_code =
     code_by EventParts
-    (coded⊎ (coded⊎ (coded× coded_ℕ message_code) (coded⊎ which_code (coded⊎ which_code coded_ℕ))) (coded⊎ (coded⊎ (coded× type_code (coded× named_body_code (coded_list text_code))) (coded⊎ (coded× type_code text_code) batch_code)) coded_bool))
+    (coded⊎ (coded⊎ (coded× coded_ℕ message_code) (coded⊎ which_code (coded⊎ which_code coded_ℕ))) (coded⊎ (coded⊎ (coded× type_code (coded× named_body_code (coded_list text_code))) (coded⊎ (coded× type_code text_code) batch_code)) (coded⊎ coded_bool looks_code)))
     event_parts event_of_parts event_again
 
 -- a number, by whether it is a stream's, a count of changes, or a stamp with its writer
 abbrev pub Numbers : Type 0
 Numbers = ℕ ⊎ (ℕ ⊎ (ℕ × ℕ))
 
+-- what was looked at: the answer to a poll without a stream, or what changed
+abbrev pub Looked : Type 0
+Looked = Option Drafted ⊎ (Batch × PerType ℕ)
+
 -- and what became of a request, whether something is owed, or that a stream is closed, which is none
 abbrev pub ReplyParts : Type 0
-ReplyParts = Numbers ⊎ ((Outcome ⊎ Option Bool) ⊎ (Option Draft ⊎ Batch))
+ReplyParts = Numbers ⊎ ((Outcome ⊎ Option Bool) ⊎ (Option Draft ⊎ (Batch ⊎ Looked)))
 
 abbrev pub reply_parts : Reply → ReplyParts
 reply_parts (events.Opened n) = inl (inl n)
@@ -174,7 +192,9 @@ reply_parts (events.Owed b) = inr (inl (inr (Some b)))
 reply_parts events.Closed = inr (inl (inr None))
 reply_parts (events.Written counter writer) = inl (inr (inr (counter, writer)))
 reply_parts (events.Merged n) = inl (inr (inl n))
-reply_parts (events.Entries b) = inr (inr (inr b))
+reply_parts (events.Entries b) = inr (inr (inr (inl b)))
+reply_parts (events.Rested d) = inr (inr (inr (inr (inl d))))
+reply_parts (events.Changed b marks) = inr (inr (inr (inr (inr (b, marks)))))
 
 abbrev pub reply_of_parts : ReplyParts → Reply
 reply_of_parts (inl (inl n)) = events.Opened n
@@ -184,7 +204,9 @@ reply_of_parts (inr (inl (inl o))) = events.Answered o
 reply_of_parts (inr (inl (inr (Some b)))) = events.Owed b
 reply_of_parts (inr (inl (inr None))) = events.Closed
 reply_of_parts (inr (inr (inl d))) = events.Polled d
-reply_of_parts (inr (inr (inr b))) = events.Entries b
+reply_of_parts (inr (inr (inr (inl b)))) = events.Entries b
+reply_of_parts (inr (inr (inr (inr (inl d))))) = events.Rested d
+reply_of_parts (inr (inr (inr (inr (inr p))))) = events.Changed p.0 p.1
 
 abbrev pub reply_again : (r : Reply) → reply_of_parts (reply_parts r) ≡ r
 reply_again (events.Opened n) = refl
@@ -195,11 +217,13 @@ reply_again events.Closed = refl
 reply_again (events.Written counter writer) = refl
 reply_again (events.Merged n) = refl
 reply_again (events.Entries b) = refl
+reply_again (events.Rested d) = refl
+reply_again (events.Changed b marks) = refl
 
 abbrev pub reply_code : Coded Reply
 reply_code =
     code_by ReplyParts
-    (coded⊎ (coded⊎ coded_ℕ (coded⊎ coded_ℕ (coded× coded_ℕ coded_ℕ))) (coded⊎ (coded⊎ outcome_code (coded_option coded_bool)) (coded⊎ (coded_option draft_code) batch_code)))
+    (coded⊎ (coded⊎ coded_ℕ (coded⊎ coded_ℕ (coded× coded_ℕ coded_ℕ))) (coded⊎ (coded⊎ outcome_code (coded_option coded_bool)) (coded⊎ (coded_option draft_code) (coded⊎ batch_code (coded⊎ (coded_option drafted_code) (coded× batch_code (per_type_code coded_ℕ)))))))
     reply_parts reply_of_parts reply_again
 
 abbrev pub record_code : Coded Record

@@ -1,6 +1,7 @@
 -- What the parts of a world do, one by one: the answers of the functions that do it. This project's own.
 use Rattle.std.specs.Prelude.{ℕ, [], Option, Some, None, option_map, Ok, Err}
 use Rattle.xds_draft.specs.declared.draft.Draft.{Draft}
+use Rattle.xds_draft.specs.Drafts.{Drafted}
 use Rattle.xds_core.specs.Stores.{Batch}
 use Rattle.xds_core.specs.Events as events
 use Rattle.xds_core.specs.Events.{Event, Reply}
@@ -50,3 +51,7 @@ stream_in reply = None
 abbrev pub batch_in : Reply → Option Batch
 batch_in (events.Entries b) = Some b
 batch_in reply = None
+
+abbrev pub rested_in : Reply → Option (Option Drafted)
+rested_in (events.Rested o) = Some o
+rested_in reply = None

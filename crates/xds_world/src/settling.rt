@@ -12,7 +12,6 @@ use crate::run::Run;
 use crate::world::World;
 use std::alloc::Global;
 use xds_cache::Accept;
-use xds_peer::Status;
 use xds_resource::{Refusal, TypeName};
 
 /// What settling a client of a type came to.
@@ -56,9 +55,10 @@ pub fn settle<A: Accept>(
     ensures headline { IfOk result (λ s. Headline A.accepts s.world) }
     ensures unsettled { IfErr result (λ e. HasFailed A.accepts client kind world e) }
 {
-    match world.status(client) {
-        Some(Status::Up) => settle_linked(alloc, world, client, kind),
-        _ => Err(Unsettled::NoStream(world)),
+    if world.run.state.is_linked(client) {
+        settle_linked(alloc, world, client, kind)
+    } else {
+        Err(Unsettled::NoStream(world))
     }
 }
 

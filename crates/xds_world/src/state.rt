@@ -6,24 +6,26 @@ ghost use Rattle.xds_resource.specs.Any.{resource_type, named_body};
 ghost use Rattle.xds_resource.specs.declared.refusal.Refusal.TheVariants.{OutOfMemory};
 ghost use Rattle.xds_core.specs.Events as events;
 ghost use Rattle.xds_core.specs.Seen.{message_of, event_of, reply_of};
+ghost use Rattle.xds_core.specs.Streams.{cluster_in};
 ghost use Rattle.xds_model.specs.Claims.{is_settled_on, is_settled};
 ghost use Rattle.xds_model.specs.Happenings as happenings;
 ghost use Rattle.xds_model.specs.Seen.{happening_of, wish_of};
 ghost use Rattle.xds_model.specs.Settling.{link_in, next_to_settle, taken_now, gave_nothing};
-ghost use Rattle.xds_model.specs.Worlds.{empty_world, at_site, happened_at, happens, placed};
+ghost use Rattle.xds_model.specs.Worlds.{empty_world, at_site, happened_at, happens, placed, is_to_connect, poll_of, poll_event};
 ghost use Rattle.xds_peer.specs.Calls.{Gave, Happened};
 ghost use Rattle.xds_model.specs.Journal.{oldest};
-ghost use Rattle.xds_peer.specs.Peers.{peer_up, peer_polled, peer_lost, peer_connected};
+ghost use Rattle.xds_peer.specs.Peers.{peer_up, peer_polled, peer_lost, peer_connected, peer_answered};
 ghost use Rattle.xds_peer.specs.Steps.{event_for};
-ghost use Rattle.xds_world.specs.Parts.{blank, leads, draft_in, stream_in, batch_in, peer_event};
+ghost use Rattle.xds_world.specs.Parts.{blank, leads, draft_in, stream_in, batch_in, rested_in, peer_event};
 
 use crate::site::Site;
 use std::alloc::Global;
 use std::marker::Model;
 use xds_cache::Accept;
 use xds_core::{Event, Numbered, Reply, Request};
-use xds_draft::Draft;
-use xds_model::{ClientKind, Wish, WorldEvent};
+use xds_draft::{Draft, SotwDraft};
+use xds_message::{DiscoveryRequest, Node};
+use xds_model::{Answer, ClientKind, Wish, WorldEvent};
 use xds_peer::parts::is_there;
 use xds_peer::{Link, Peer, Step};
 use xds_resource::{AnyResource, Groups, Refusal, TypeName};
@@ -227,14 +229,74 @@ impl<A: Accept> State<A> {
         link.oldest_request(alloc)
     }
 
-    // Whether there is a client that has no stream.
-    fn is_down(&self, client: u32) -> bool
-        ensures { result ≡ option_map_or (λ p. is_none p.link) (finmap.get self.now.peers client) false }
+    // Whether there is a client that may open a stream.
+    fn may_connect(&self, client: u32) -> bool
+        ensures { result ≡ option_map_or is_to_connect (finmap.get self.now.peers client) false }
     {
         match self.peers.get(client as u64) {
-            Some(peer) => peer.link().is_none(),
+            Some(peer) => peer.may_connect(),
             None => false,
         }
+    }
+
+    /// Whether there is a client that has a stream.
+    pub(crate) fn is_linked(&self, client: u32) -> bool
+        ensures { result ≡ is_some (link_in self.now client) }
+    {
+        self.link(client).is_some()
+    }
+
+    // What a client that polls asks for in a poll of a type.
+    fn request(
+        &self,
+        alloc: Global,
+        client: u32,
+        kind: TypeName,
+    ) -> Result<Option<DiscoveryRequest>, Refusal>
+        ensures ok { IfOk result (λ o. o ≡ option_and_then (λ p. poll_of p kind) (finmap.get self.now.peers client)) }
+        ensures refused { IfErr result (λ e. e ≡ OutOfMemory) }
+    {
+        match self.peers.get(client as u64) {
+            Some(peer) => peer.request(alloc, kind),
+            None => Ok(None),
+        }
+    }
+
+    // What a replica answers to such a poll: a body, or that nothing changed.
+    fn rest_at(
+        &mut self,
+        alloc: Global,
+        replica: u16,
+        kind: TypeName,
+        request: DiscoveryRequest,
+    ) -> Result<Option<Option<SotwDraft>>, Refusal>
+        ensures ok { IfOk result (λ o. Gave events.Rested self.old o self.new (at_site self.old replica (poll_event kind request))) }
+        ensures refused { IfErr result (λ e. e ≡ OutOfMemory) }
+    {
+        let cluster = cluster_of(alloc, request.node);
+        let event = Event::Rest(kind, request.resource_names, request.version_info, cluster);
+        let reply = self.at_site(alloc, replica, event)?;
+        Ok(rested_in(reply))
+    }
+
+    // The answer to a client's poll of a type came.
+    fn answer(
+        &mut self,
+        alloc: Global,
+        client: u32,
+        kind: TypeName,
+        answer: Option<SotwDraft>,
+    ) -> Result<bool, Refusal>
+        ensures ok { IfOk result (λ b. Happened self.old b self.new (peer_event self.old client (peer_answered A.accepts kind answer))) }
+        ensures refused { IfErr result (λ e. e ≡ OutOfMemory) }
+    {
+        let number = client as u64;
+        let Some(mut peer) = self.peers.replace(number, blank_peer(alloc)) else {
+            return Ok(false);
+        };
+        let answered = peer.answer(alloc, kind, answer.as_ref());
+        self.peers.set(number, peer);
+        answered
     }
 
     // The oldest request of a client is under way no longer.
@@ -390,7 +452,7 @@ impl<A: Accept> State<A> {
         ensures ok { IfOk result (λ b. Happened self.old b self.new (happens A.accepts self.old (happenings.Connect client replica))) }
         ensures refused { IfErr result (λ e. e ≡ OutOfMemory) }
     {
-        if !self.is_down(client) {
+        if !self.may_connect(client) {
             return Ok(false);
         }
         match self.open_at(alloc, replica)? {
@@ -425,6 +487,32 @@ impl<A: Accept> State<A> {
         match self.poll_at(alloc, replica, stream, which)? {
             Some(response) => self.respond(alloc, client, response),
             None => Ok(false),
+        }
+    }
+
+    fn rest_poll(
+        &mut self,
+        alloc: Global,
+        client: u32,
+        replica: u16,
+        kind: TypeName,
+        fate: Answer,
+    ) -> Result<bool, Refusal>
+        ensures ok { IfOk result (λ b. Happened self.old b self.new (happens A.accepts self.old (happenings.RestPoll client replica kind fate))) }
+        ensures refused { IfErr result (λ e. e ≡ OutOfMemory) }
+    {
+        let Some(request) = self.request(alloc, client, kind)? else {
+            return Ok(false);
+        };
+        let Some(answer) = self.rest_at(alloc, replica, kind, request)? else {
+            return Ok(false);
+        };
+        match fate {
+            Answer::Arrives => self.answer(alloc, client, kind, answer),
+            Answer::Lost => {
+                drop(answer);
+                Ok(true)
+            }
         }
     }
 
@@ -495,6 +583,9 @@ impl<A: Accept> State<A> {
             WorldEvent::Poll(client, which) => self.poll(alloc, *client, *which),
             WorldEvent::Down(client) => self.receive(alloc, *client),
             WorldEvent::Lose(client) => self.lose(alloc, *client),
+            WorldEvent::RestPoll(client, replica, kind, fate) => {
+                self.rest_poll(alloc, *client, *replica, *kind, *fate)
+            }
         }
     }
 
@@ -546,6 +637,26 @@ fn batch_in(reply: Option<Reply>) -> Option<Batch>
     match reply {
         Some(Reply::Entries(batch)) => Some(batch),
         _ => None,
+    }
+}
+
+// The answer to a poll without a stream: a body, or that nothing changed.
+fn rested_in(reply: Option<Reply>) -> Option<Option<SotwDraft>>
+    ensures { result ≡ option_and_then (λ r. rested_in (reply_of r)) reply }
+{
+    match reply {
+        Some(Reply::Rested(answer)) => Some(answer),
+        _ => None,
+    }
+}
+
+// The text of a node's cluster, empty where there is none.
+fn cluster_of(alloc: Global, node: Option<Node>) -> String
+    ensures { string_bytes result ≡ cluster_in node }
+{
+    match node {
+        Some(node) => node.cluster,
+        None => String::new(alloc),
     }
 }
 

@@ -41,7 +41,8 @@ impl<A: Accept> Model for World<A> {
 }
 
 /// The world in which these events happened, from the start. The headline holds of it: what replicas hold are the best writes of
-/// what they know, and clients that are settled show what their replica knows of what they want. Refused only by `OutOfMemory`.
+/// what they know, and clients that are settled, or have just polled, show what their replica knows of what they want. Refused only by
+/// `OutOfMemory`.
 pub fn play<A: Accept>(alloc: Global, events: &[WorldEvent]) -> Result<World<A>, Refusal>
     ensures ok { IfOk result (λ w. w ≡ map happening_of events.now) }
     ensures headline { IfOk result (λ w. Headline A.accepts w) }
@@ -78,7 +79,7 @@ impl<A: Accept> World<A> {
         Some(peer.view(kind))
     }
 
-    /// The variant of a client; none where there is no such client.
+    /// How a client asks; none where there is no such client.
     pub fn kind(&self, client: u32) -> Option<ClientKind>
         ensures { result ≡ option_map (λ p. p.kind) (finmap.get (world_of A.accepts self.now).peers client) }
     {
@@ -86,7 +87,7 @@ impl<A: Accept> World<A> {
         Some(peer.kind())
     }
 
-    /// Whether a client is up or down; none where there is no such client.
+    /// Whether a client is up or down, or polls; none where there is no such client.
     pub fn status(&self, client: u32) -> Option<Status>
         ensures { result ≡ option_map status_of (finmap.get (world_of A.accepts self.now).peers client) }
     {

@@ -1,3 +1,4 @@
 pub mod StampedWriteLemmas
 pub mod ReadGroups
 pub mod ReadWrites
+pub mod BatchLemmas

@@ -1,10 +1,7 @@
 -- A value spells one stamped write at most, and the object that is written for one spells it, is shallow and holds no float.
 use Rattle.std.proofs.Common.{◌≡◌, ◌≤◌, ℕ, suc, List, [], map, length, false, Option, Some, None, Result, Ok, Err, option_map, codes, refl, sym, ap, ◌∙◌, subst, arith}
 use Rattle.std.proofs.lemmas.Bool.{le-leb}
-use Rattle.std.specs.Prelude.{IfSome}
 use Rattle.std.specs.Option.{ForSome}
-use Rattle.serde_json.specs.declared.value.Value.{Value}
-use Rattle.serde_json.specs.View.{view}
 use Rattle.serde_json.specs.Written.{has_float}
 use Rattle.serde_json.specs.Data.{Data, null, boolean, number, string, array, object, unsigned, depth}
 use Rattle.serde_json.specs.Find.{get}
@@ -15,7 +12,7 @@ use Rattle.xds_resource.specs.Fields.{first_of}
 use Rattle.xds_resource.specs.Types.{row, type_of_url}
 use Rattle.xds_resource.specs.Writes.{StampedWrite}
 use Rattle.xds_resource.specs.Groups.{groups_of}
-use Rattle.xds_resource.specs.Resources.{max_text, max_nesting, NamedBody, value_of, from_object, from_value, IsCanonical}
+use Rattle.xds_resource.specs.Resources.{max_text, max_nesting, NamedBody, value_of, from_object, from_value, IsCanonical, IsWritable}
 use Rattle.xds_resource.proofs.Naming.{from_value-from_object}
 use Rattle.xds_fields.specs.Spelling.{IsTexts, set_value}
 use Rattle.xds_fields.specs.WrittenFields.{list_data}
@@ -102,7 +99,7 @@ IsBody-value_of t name (Some b) h =
     let r : NamedBody = record { name = name; body = b } in
     rw (set_value-from_object t d r (h b refl).object) (from_value-canonical t r (h b refl))
 
-first_of-None : (o : Option Data) → first_of o None ≡ o
+pub first_of-None : (o : Option Data) → first_of o None ≡ o
 first_of-None None = refl
 first_of-None (Some d) = refl
 
@@ -124,24 +121,22 @@ SpellsWrite-write_object t w h stamp =
 
 -- ---- how deep the object nests, and that it holds no float
 
-no_float : (o : Option Value) (b : Option Data) → option_map view o ≡ b → IfSome o (λ v. has_float (view v) ≡ false) → HasNoFloat b
-no_float None b e h = subst HasNoFloat e tt
-no_float (Some v) b e h = subst HasNoFloat e h
+no_float : (t : TypeName) (name : List ℕ) (body : Option (List ℕ)) → ForSome body (λ b. IsCanonical t (record { name = name; body = b })) → HasNoFloat (option_map value_of body)
+no_float t name None h = tt
+no_float t name (Some b) h = (h b refl).whole
 
-within : (o : Option Value) (b : Option Data) (n : ℕ) → option_map view o ≡ b → IfSome o (λ v. depth (view v) ≤ n) → IsWithin n b
-within None b n e h = subst (IsWithin n) e tt
-within (Some v) b n e h = subst (IsWithin n) e h
+within : (t : TypeName) (name : List ℕ) (body : Option (List ℕ)) → ForSome body (λ b. IsCanonical t (record { name = name; body = b })) → IsWithin max_nesting (option_map value_of body)
+within t name None h = tt
+within t name (Some b) h = (h b refl).shallow
 
-pub has_float-write_object : (t : TypeName) (w : StampedWrite) (o : Option Value) → option_map view o ≡ option_map value_of w.body → IfSome o (λ v. has_float (view v) ≡ false)
-    → has_float (write_object t w) ≡ false
-has_float-write_object t w o e h =
+pub has_float-write_object : (t : TypeName) (w : StampedWrite) → IsWritable t w → has_float (write_object t w) ≡ false
+has_float-write_object t w h =
     members_have_float-members_set (write_fields t w)
-    (no_float o _ e h, (refl, (HasNoFloat-list_data (map string w.groups) (items_have_float-texts w.groups), (refl, (refl, (refl, tt))))))
+    (no_float t w.name w.body h.body, (refl, (HasNoFloat-list_data (map string w.groups) (items_have_float-texts w.groups), (refl, (refl, (refl, tt))))))
 
-pub depth-write_object : (t : TypeName) (w : StampedWrite) (o : Option Value) → option_map view o ≡ option_map value_of w.body → IfSome o (λ v. depth (view v) ≤ max_nesting)
-    → depth (write_object t w) ≤ suc max_nesting
-depth-write_object t w o e h =
+pub depth-write_object : (t : TypeName) (w : StampedWrite) → IsWritable t w → depth (write_object t w) ≤ suc max_nesting
+depth-write_object t w h =
     let zeros : 0 ≤ max_nesting = omega arith in
     let listed : IsWithin max_nesting (list_data (map string w.groups)) = IsWithin-list_data (map string w.groups) 99 (omega (arith, items_depth-texts w.groups)) in
-    let all = members_depth-members_set (write_fields t w) max_nesting (within o _ max_nesting e h, (zeros, (listed, (zeros, (zeros, (zeros, tt)))))) in
+    let all = members_depth-members_set (write_fields t w) max_nesting (within t w.name w.body h.body, (zeros, (listed, (zeros, (zeros, (zeros, tt)))))) in
     omega arith

@@ -1,1 +1,2 @@
 pub mod StampedWrites
+pub mod Batches

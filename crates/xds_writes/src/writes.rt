@@ -1,7 +1,8 @@
 // Stamped writes in the form in which replicas exchange and keep them.
-ghost use Rattle.std.specs.Prelude.{◌≡◌, ◌≤◌, ℕ, suc, List, [], ◌∷◌, map, string_bytes, option_map, IsSomeAnd, Some, Ok, true, false, codes, IfOk, IfErr, IfSome, IfNone, Contains};
+ghost use Rattle.std.specs.Prelude.{◌≡◌, ◌≤◌, ℕ, suc, List, [], ◌∷◌, map, string_bytes, option_map, IsSomeAnd, Some, Ok, true, false, codes, IfOk, IfErr, OnOk, IfSome, IfNone, Contains};
 ghost use Rattle.serde_json.specs.Data.{Data, number, string, unsigned, depth};
 ghost use Rattle.serde_json.specs.Find.{get};
+ghost use Rattle.serde_json.specs.Read.{read as reading};
 ghost use Rattle.serde_json.specs.View.{view};
 ghost use Rattle.serde_json.specs.Written.{has_float};
 ghost use Rattle.xds_resource.specs.declared.types.TypeName.{TypeName};
@@ -13,6 +14,7 @@ ghost use Rattle.xds_resource.specs.Stamps.{IsStamp};
 ghost use Rattle.xds_resource.specs.Types.{row};
 ghost use Rattle.xds_resource.specs.Writes.{StampedWrite};
 ghost use Rattle.xds_fields.specs.Spelling.{IsJson, IsObject, Reads};
+ghost use Rattle.xds_writes.specs.Batches.{IsSound};
 ghost use Rattle.xds_writes.specs.StampedWrites.{IsBodyOf, AreGroups, SpellsWrite, IsSpelledBy, write_object as object_of};
 
 use serde_json::{Map, Value, put};
@@ -45,15 +47,54 @@ pub fn write_object(alloc: Global, write: &AnyWrite) -> Result<Value, Refusal>
     ensures shallow { IfOk result (λ v. depth (view v) ≤ suc max_nesting) }
     ensures refused { IfErr result (λ e. e ≡ OutOfMemory) }
 {
-    let body = write.value(alloc)?;
+    match write {
+        AnyWrite::Cluster(write) => object_of_write(alloc, write),
+        AnyWrite::Endpoint(write) => object_of_write(alloc, write),
+        AnyWrite::Listener(write) => object_of_write(alloc, write),
+        AnyWrite::Route(write) => object_of_write(alloc, write),
+        AnyWrite::Secret(write) => object_of_write(alloc, write),
+    }
+}
+
+// The object of a write of one type.
+pub(crate) fn object_of_write<T: ResourceType>(
+    alloc: Global,
+    write: &Write<T>,
+) -> Result<Value, Refusal>
+    ensures ok { IfOk result (λ v. view v ≡ object_of T.TYPE write.now) }
+    ensures whole { IfOk result (λ v. has_float (view v) ≡ false) }
+    ensures shallow { IfOk result (λ v. depth (view v) ≤ suc max_nesting) }
+    ensures sound { OnOk result (IsSound (T.TYPE, write.now)) }
+    ensures refused { IfErr result (λ e. e ≡ OutOfMemory) }
+{
+    let body = match write.shared_body()? {
+        Some(text) => Some(body_value(alloc, text.as_str())?),
+        None => None,
+    };
     object_with(alloc, write, body)
 }
 
+// The value of a body. Every body reads, so that only memory can fail.
+fn body_value(alloc: Global, text: &str) -> Result<Value, Refusal>
+    requires { reading text.now ≡ Some (value_of text.now) }
+    ensures ok { IfOk result (λ v. view v ≡ value_of text.now) }
+    ensures refused { IfErr result (λ e. e ≡ OutOfMemory) }
+{
+    match Value::from_str(alloc, text) {
+        Ok(value) => Ok(value),
+        Err(_) => Err(Refusal::OutOfMemory),
+    }
+}
+
 // The object of a write that has this body.
-fn object_with(alloc: Global, write: &AnyWrite, body: Option<Value>) -> Result<Value, Refusal>
-    requires { option_map view body ≡ option_map value_of (stamped_write write.now).body }
-    ensures ok { IfOk result
-        (λ v. view v ≡ object_of (write_type write.now) (stamped_write write.now)) }
+fn object_with<T: ResourceType>(
+    alloc: Global,
+    write: &Write<T>,
+    body: Option<Value>,
+) -> Result<Value, Refusal>
+    requires { option_map view body ≡ option_map value_of write.now.body }
+    ensures ok { IfOk result (λ v. view v ≡ object_of T.TYPE write.now) }
+    ensures stamped { OnOk result (IsStamp write.now.counter write.now.writer) }
     ensures refused { IfErr result (λ e. e ≡ OutOfMemory) }
 {
     let stamp = write.stamp();
@@ -63,7 +104,7 @@ fn object_with(alloc: Global, write: &AnyWrite, body: Option<Value>) -> Result<V
         &mut map,
         alloc,
         "typeUrl",
-        Value::try_from_str(alloc, write.type_name().url())?,
+        Value::try_from_str(alloc, T::TYPE.url())?,
     )?;
     put(
         &mut map,
@@ -77,7 +118,7 @@ fn object_with(alloc: Global, write: &AnyWrite, body: Option<Value>) -> Result<V
     Ok(Value::Object(map))
 }
 
-fn any_write_of(alloc: Global, value: &Value) -> Result<AnyWrite, Refusal>
+pub(crate) fn any_write_of(alloc: Global, value: &Value) -> Result<AnyWrite, Refusal>
     ensures { Reads (IsSpelledBy (view value.now)) (λ w. (write_type w, stamped_write w)) result }
 {
     if !value.is_object() {

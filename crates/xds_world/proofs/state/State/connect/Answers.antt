@@ -11,4 +11,4 @@ returns-in-Some-clause-ok g c =
     let w1 = c.open_at.new.self in
     let r = c.args.replica in
     let gave = subst (λ o. Gave events.Opened w o w1 (at_site w r events.Open)) c.in-Some.is c.in_ok-stream.ensures.ok in
-    connect_within g.A.Accept.accepts w w1 c.connect_link.new.self c.args.client r c.in-Some.stream (sym c.if-not-is_down.false ∙ c.is_down.ensures) gave c.connect_link.result c.connect_link.ensures.ok
+    connect_within g.A.Accept.accepts w w1 c.connect_link.new.self c.args.client r c.in-Some.stream (sym c.if-not-may_connect.false ∙ c.may_connect.ensures) gave c.connect_link.result c.connect_link.ensures.ok

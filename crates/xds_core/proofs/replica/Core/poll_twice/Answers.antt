@@ -1,0 +1,52 @@
+use Rattle.std.proofs.Common.{◌≡◌, Some, refl, sym, ap, subst, ◌∙◌}
+use Rattle.std.specs.Prelude.{IsSome}
+use Rattle.std.specs.FinMap as finmap
+use Rattle.xds_resource.specs.Refusals.{Gives}
+use Rattle.xds_resource.specs.declared.refusal.Refusal.TheVariants.{OutOfMemory}
+use Rattle.xds_store.specs.Stores.{if_done}
+use Rattle.xds_core.specs.Events as events
+use Rattle.xds_core.specs.Legal.{IsShort}
+use Rattle.xds_core.specs.Seen.{reply_of}
+use Rattle.xds_core.specs.declared.event.Reply.TheVariants as replies
+use Rattle.xds_streams.specs.States.{firsts}
+use Rattle.xds_streams.specs.Streams.{looked_at, polled_first}
+use Rattle.xds_core.proofs.StreamSteps.{there, with_streams, step_gives, step_kept, poll_short}
+use Rattle.xds_core.proofs.Twins.{first_gives, first_short, first_kept, firsts_short, firsts_kept}
+use Rattle.xds_core.proofs.replica.Core.poll_twice.Goals as goal
+
+pub set-requires : goal.set-requires
+set-requires c = subst (λ m. IsSome (finmap.get m c.args.number)) (sym c.in-Some.ensures.found) (there c.self.inside.streams c.args.number c.opening.result)
+
+pub returns-clause-steps : goal.returns-clause-steps
+returns-clause-steps c =
+    let n = c.args.number in
+    let s = c.in-Some.stream in
+    let left = c.poll_twice-drafts.new.self in
+    let x = c.opening.result in
+    let has : finmap.get c.args.self.now.streams n ≡ Some s = ap (λ k. finmap.get k.streams n) (sym c.self.view_is) ∙ sym c.replace.ensures.old ∙ c.in-Some.is in
+    let puts : c.set.new.self ≡ finmap.insert (finmap.insert c.args.self.now.streams n x) n left = c.set.ensures ∙ (λ i. finmap.insert (c.in-Some.ensures.found i) n left) ∙ (λ i. finmap.insert (finmap.insert (c.self.view_is i).streams n x) n left) in
+    first_gives (λ r. (reply_of r, _)) c.polled_twice.result _
+    (step_gives c.args.self.now n events.Polled replies.Polled (λ o. refl) (λ s. polled_first c.args.self.now.replica c.args.self.now.store s (looked_at c.args.which)) s left x has c.set.new.self puts (firsts c.poll_twice-drafts.result)
+    (if_done (λ p. p.0) c.polled_twice.result) _ (λ i. with_streams (c.self.view_is i) c.set.new.self) c.polled_twice.ensures.first
+    (subst (λ k. Gives (λ o. (o, left)) (firsts c.poll_twice-drafts.result) (polled_first k.replica k.store s (looked_at c.args.which))) c.self.view_is c.poll_twice-drafts.ensures.polls))
+
+pub returns-clause-err : goal.returns-clause-err
+returns-clause-err c =
+    let n = c.args.number in
+    let s = c.in-Some.stream in
+    let left = c.poll_twice-drafts.new.self in
+    let x = c.opening.result in
+    let has : finmap.get c.args.self.now.streams n ≡ Some s = ap (λ k. finmap.get k.streams n) (sym c.self.view_is) ∙ sym c.replace.ensures.old ∙ c.in-Some.is in
+    let puts : c.set.new.self ≡ finmap.insert (finmap.insert c.args.self.now.streams n x) n left = c.set.ensures ∙ (λ i. finmap.insert (c.in-Some.ensures.found i) n left) ∙ (λ i. finmap.insert (finmap.insert (c.self.view_is i).streams n x) n left) in
+    first_kept _ c.polled_twice.result
+    (step_kept c.args.self.now n events.Polled replies.Polled (λ o. refl) (λ s. polled_first c.args.self.now.replica c.args.self.now.store s (looked_at c.args.which)) s left x has c.set.new.self puts (firsts c.poll_twice-drafts.result)
+    (if_done (λ p. p.0) c.polled_twice.result) _ (λ i. with_streams (c.self.view_is i) c.set.new.self) c.polled_twice.ensures.first (firsts_kept _ c.poll_twice-drafts.result c.poll_twice-drafts.ensures.err))
+
+pub returns-clause-memory : goal.returns-clause-memory
+returns-clause-memory c =
+    let n = c.args.number in
+    let s = c.in-Some.stream in
+    let has : finmap.get c.args.self.now.streams n ≡ Some s = ap (λ k. finmap.get k.streams n) (sym c.self.view_is) ∙ sym c.replace.ensures.old ∙ c.in-Some.is in
+    first_short (λ e. e ≡ OutOfMemory → IsShort c.args.self.now (events.Poll n c.args.which)) c.polled_twice.result
+    (poll_short c.args.self.now _ n c.args.which replies.Polled s (firsts c.poll_twice-drafts.result) (if_done (λ p. p.0) c.polled_twice.result) has c.self.view_is c.polled_twice.ensures.first
+    (firsts_short _ c.poll_twice-drafts.result c.poll_twice-drafts.ensures.memory))

@@ -1,0 +1,5 @@
+pub mod Skipping
+pub mod OneMerge
+pub mod Knowing
+pub mod ByParts
+pub mod Telling

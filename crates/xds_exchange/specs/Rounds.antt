@@ -1,0 +1,32 @@
+-- What one replica tells another since the last time, by marks. This project's own.
+use Rattle.std.specs.Prelude.{◌≡◌, ℕ, List, length, not}
+use Rattle.std.specs.FinMap as finmap
+use Rattle.xds_resource.specs.declared.types.TypeName.{TypeName}
+use Rattle.xds_resource.specs.PerType.{PerType, at}
+use Rattle.xds_resource.specs.TypedWrites.{TypedWrite}
+use Rattle.xds_writes.specs.Batches.{in_order}
+use Rattle.xds_catalogue.specs.Holdings.{Entries, Holdings, IsCatalogue, IsNumbered}
+use Rattle.xds_catalogue.specs.Joins.{join, IsAbove}
+use Rattle.xds_store.specs.Since.{is_above, changed_since}
+use Rattle.xds_store.specs.Stores.{Store, grown, merged, all_entries}
+
+-- the entries whose latest change isn't above this number
+abbrev pub unchanged_after : Holdings → ℕ → Entries
+unchanged_after h mark = finmap.retain_keys h.entries (λ name. not (is_above h mark name))
+
+-- The one replica holds, of each entry of the other whose latest change isn't above the mark of its type, a write at least as great.
+abbrev pub Knows : Store → PerType ℕ → Store → Type 0
+Knows from marks to = (t : TypeName) → IsAbove (at to t).entries (unchanged_after (at from t) (at marks t))
+
+-- the writes that are told: those above the marks, deletions included
+abbrev pub told : Store → PerType ℕ → List TypedWrite
+told from marks = in_order (changed_since from marks)
+
+-- what every replica's catalogues are
+abbrev pub IsKept : Store → Type 0
+IsKept s = (t : TypeName) → IsCatalogue (at s t).entries × IsNumbered (at s t)
+
+-- `after` is what the merge of all that `from` holds makes of `to`: the join of both, of each type
+pub record HasAll (from to after : Store) : Type 0 where
+  pub all : after ≡ merged to (all_entries from)
+  pub joined : (t : TypeName) → (at after t).entries ≡ join (at to t).entries (at from t).entries

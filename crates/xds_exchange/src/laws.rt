@@ -1,0 +1,27 @@
+// Laws of merges by parts and of rounds. Each is a function that does nothing, whose clause is the law.
+ghost use Rattle.xds_exchange.specs.Laws.{PartsAreOneMerge, ChangesAreAll, AllIsKnown, ZerosKnowNothing, MergesKeepKnowing};
+
+/// The parts of some writes, merged one after another, come to one merge of them all.
+pub fn parts_are_one_merge()
+    ensures { PartsAreOneMerge }
+{}
+
+/// Where what isn't above the marks is known, what is above them comes to the same as all.
+pub fn changes_are_all()
+    ensures { ChangesAreAll }
+{}
+
+/// Once all is merged, all is known.
+pub fn all_is_known()
+    ensures { AllIsKnown }
+{}
+
+/// With marks of zero nothing needs to be known.
+pub fn zeros_know_nothing()
+    ensures { ZerosKnowNothing }
+{}
+
+/// What is known stays known, whatever writes are merged.
+pub fn merges_keep_knowing()
+    ensures { MergesKeepKnowing }
+{}

@@ -1,0 +1,91 @@
+// Replicas, as type parameters: of those a drop is one step to the proof.
+use std::alloc::Global;
+use xds_core::{Core, Event, Reply};
+use xds_exchange::{Peer, Round, round};
+use xds_resource::{AnyResource, Groups, Refusal, TypeName};
+use xds_writes::Batch;
+
+/// A replica that writes and tells others.
+pub trait Site: Drop + Sized {
+    fn first(alloc: Global) -> Self;
+
+    fn second(alloc: Global) -> Self;
+
+    fn third(alloc: Global) -> Self;
+
+    /// Puts a resource of this number, in a group where the number is odd.
+    fn put(&mut self, alloc: Global, kind: TypeName, number: u64) -> Result<(), Refusal>;
+
+    /// Deletes the resource of this number, if there is one.
+    fn delete(&mut self, alloc: Global, kind: TypeName, number: u64) -> Result<(), Refusal>;
+
+    /// Tells another what changed.
+    fn tell(&self, alloc: Global, other: &mut Self, peer: &mut Peer) -> Result<Round, Refusal>;
+
+    /// All entries.
+    fn text(&mut self, alloc: Global) -> Result<String, Refusal>;
+}
+
+impl Site for Core {
+    fn first(alloc: Global) -> Core {
+        Core::new(alloc, 1)
+    }
+
+    fn second(alloc: Global) -> Core {
+        Core::new(alloc, 2)
+    }
+
+    fn third(alloc: Global) -> Core {
+        Core::new(alloc, 3)
+    }
+
+    fn put(&mut self, alloc: Global, kind: TypeName, number: u64) -> Result<(), Refusal> {
+        let resource = resource_of(alloc, kind, number)?;
+        let groups = groups_of(alloc, number)?;
+        drop(self.step(Event::Put(resource, groups))?);
+        Ok(())
+    }
+
+    fn delete(&mut self, alloc: Global, kind: TypeName, number: u64) -> Result<(), Refusal> {
+        let name = format!(in alloc; "n{number}")?;
+        match self.step(Event::Delete(kind, name)) {
+            Ok(reply) => {
+                drop(reply);
+                Ok(())
+            }
+            Err(Refusal::NotFound) => Ok(()),
+            Err(refusal) => Err(refusal),
+        }
+    }
+
+    fn tell(&self, alloc: Global, other: &mut Core, peer: &mut Peer) -> Result<Round, Refusal> {
+        round(alloc, self, other, peer)
+    }
+
+    fn text(&mut self, alloc: Global) -> Result<String, Refusal> {
+        match self.step(Event::Snapshot)? {
+            Reply::Entries(batch) => batch_text(alloc, &batch),
+            _ => Err(Refusal::BadScript),
+        }
+    }
+}
+
+fn batch_text(alloc: Global, batch: &Batch) -> Result<String, Refusal> {
+    batch.write(alloc)
+}
+
+fn resource_of(alloc: Global, kind: TypeName, number: u64) -> Result<AnyResource, Refusal> {
+    let url = kind.url();
+    let field = kind.name_field();
+    let text = format!(in alloc; "{{\"@type\":\"{url}\",\"{field}\":\"n{number}\"}}")?;
+    AnyResource::parse(alloc, text.as_str())
+}
+
+fn groups_of(alloc: Global, number: u64) -> Result<Groups, Refusal> {
+    if number % 2 == 0 {
+        return Ok(Groups::none());
+    }
+    let mut texts = Vec::new(alloc);
+    texts.push(String::from_str(alloc, "g")?)?;
+    Groups::new(alloc, &texts)
+}

@@ -1,0 +1,4 @@
+pub mod Keeping
+pub mod InOrder
+pub mod Ending
+pub mod Telling

@@ -1,0 +1,4 @@
+pub mod Books
+pub mod Told
+pub mod Pieces
+pub mod Wakes

@@ -1,0 +1,255 @@
+// What lies under a node's lock.
+ghost use Rattle.std.specs.Prelude.{◌≡◌, ◌+◌, ◌<◌, ◌≤◌, ◌==◌, ◌⊎◌, [], ◌∷◌, ◌++◌, length, true, MatchBool, IsPermutation, IfOk, IfErr, OnErr};
+ghost use Rattle.std.specs.List.{flat_map};
+ghost use Rattle.xds_resource.specs.Stamps.{max_counter};
+ghost use Rattle.xds_resource.specs.declared.refusal.Refusal.TheVariants.{OutOfMemory, CounterSpent, JournalFull};
+ghost use Rattle.xds_store.specs.Since.{marks_of};
+ghost use Rattle.xds_store.specs.Counts.{counts_of};
+ghost use Rattle.xds_core.specs.Seen.{event_of, answer_of};
+ghost use Rattle.xds_tokens.specs.Entries.{AllBelow};
+ghost use Rattle.xds_tokens.specs.Holdings.{keeper};
+ghost use Rattle.xds_node.specs.Books.{Books, most_records, opened_books, base_of, present, next_number, record_of, with_record, with_seat, after_cut, IsFull};
+ghost use Rattle.xds_node.specs.Pieces.{piece_of, last_entries, IsWhole};
+ghost use Rattle.xds_node.specs.Told.{LeavesNoRecord};
+ghost use Rattle.xds_node.specs.Wakes.{due_at, wait_ends};
+
+use crate::history::History;
+use crate::line::Line;
+use crate::seat::{Seat, Unrecorded, gather};
+use crate::segment::Segment;
+use crate::twice::answered_twice;
+use crate::wakes::{Waiting, Wake};
+use std::alloc::Global;
+use std::marker::Model;
+use std::mem;
+use xds_core::{Core, Event, Marks, Reply};
+use xds_resource::Refusal;
+use xds_resource::stamp::MAX_COUNTER;
+use xds_tokens::{NodeName, Token, Tokens};
+
+/// What a wait for a stream ends by.
+#[derive(Clone, Copy, Debug, PartialEq, Eq, Drop)]
+pub enum Due {
+    /// A poll would give a response, or be refused by `NonceSpent`.
+    Ready,
+    /// The stream isn't open.
+    Closed,
+}
+
+/// How many records a journal may have.
+pub const MOST_RECORDS: usize = 65_536;
+
+/// What lies under a node's lock. Contracts see the books of all that happened; whenever the lock is free, the replica is
+/// what they come to.
+#[derive(Drop)]
+pub struct Desk<N: NodeName> {
+    base: Core,
+    core: Core,
+    journal: Vec<Line>,
+    // How many records were cut.
+    cut: u64,
+    // How many seats were made.
+    seats: u64,
+    token: Token<Line, N>,
+    alloc: Global,
+    // Whose writers wait, and whether the node was stopped. Nothing that is recorded depends on it.
+    waiting: Waiting,
+    stopped: bool,
+}
+
+impl<N: NodeName> Model for Desk<N> {
+    ghost use Rattle.std.specs.Coded.{codes};
+    ghost use Rattle.xds_fields.specs.Versions.{version_map_code};
+    ghost use Rattle.xds_node.specs.Books.{Books, IsKept};
+
+    ghost Value = { Books };
+
+    ghost coded = { Prim.hlevel (codes, version_map_code) };
+
+    ghost view = { λ d. record { replica = d.base.replica; before = d.token.cut; journal = d.journal.items; seats = d.seats } };
+
+    ghost invariant = { λ d. IsKept d.base d.core d.journal.items d.cut d.seats d.token };
+}
+
+impl<N: NodeName> Desk<N> {
+    /// That of a replica at which nothing happened.
+    pub fn new(alloc: Global, replica: u16, token: Token<Line, N>) -> Desk<N>
+        requires number { 1 ≤ replica }
+        requires keeper { token ≡ keeper 0 [] [] }
+        ensures { result ≡ opened_books replica }
+    {
+        Desk {
+            base: Core::new(alloc, replica),
+            core: Core::new(alloc, replica),
+            journal: Vec::new(alloc),
+            cut: 0,
+            seats: 0,
+            token,
+            alloc,
+            waiting: Waiting::new(),
+            stopped: false,
+        }
+    }
+
+    /// A seat more, which was told nothing. `CounterSpent` where no more can be counted.
+    pub fn seat(&mut self, tokens: &Tokens<Line, N>) -> Result<Seat<N>, Refusal>
+        ensures ok { IfOk result (λ s. (s ≡ []) × (self.new ≡ with_seat self.old)) }
+        ensures refused { IfErr result (λ e. (e ≡ CounterSpent) × (self.old.seats ≡ max_counter)) }
+        ensures err { OnErr result (self.new ≡ self.old) }
+    {
+        if self.seats == MAX_COUNTER {
+            return Err(Refusal::CounterSpent);
+        }
+        self.seats += 1;
+        Ok(Seat::of(tokens.seat(&mut self.token)))
+    }
+
+    /// One event of a seat: one step of the replica, and one record at the end of the journal. The answer is the step's,
+    /// a refusal or not. No record is left, and nothing changes, where the journal is full (`JournalFull`) or there is no
+    /// memory (`OutOfMemory`); then the event comes back.
+    pub fn call(
+        &mut self,
+        tokens: &Tokens<Line, N>,
+        seat: &mut Seat<N>,
+        event: Event,
+    ) -> Result<Result<Reply, Refusal>, Unrecorded>
+        ensures answer { IfOk result (λ a. answer_of a ≡ (record_of self.old (event_of event)).answer) }
+        ensures recorded { IfOk result (λ a. self.new ≡ with_record self.old (record_of self.old (event_of event))) }
+        ensures told { IfOk result (λ a. seat.new ≡ seat.old ++ (next_number self.old, record_of self.old (event_of event)) ∷ []) }
+        ensures rising { IfOk result (λ a. AllBelow (next_number self.old) seat.old) }
+        ensures back { IfErr result (λ e. e.event ≡ event) }
+        ensures full { IfErr result (λ e. LeavesNoRecord e.refusal × (e.refusal ≡ JournalFull → IsFull self.old)) }
+        ensures room { IfOk result (λ a. IsFull self.old → ⊥) }
+        ensures full_first { IfErr result (λ e. IsFull self.old → e.refusal ≡ JournalFull) }
+        ensures err { OnErr result ((self.new ≡ self.old) × (seat.new ≡ seat.old)) }
+    {
+        let records = self.journal.len();
+        if is_full(records, self.cut) {
+            return Err(unrecorded(Refusal::JournalFull, event));
+        }
+        if self.journal.reserve(1).is_err() {
+            return Err(unrecorded(Refusal::OutOfMemory, event));
+        }
+        match answered_twice(&mut self.core, &event) {
+            Ok((answer, kept)) => {
+                let number = self.cut + records as u64 + 1;
+                let line = Line::new(event, kept);
+                seat.tell(tokens, &mut self.token, number, &line);
+                self.journal.push_reserved(line);
+                Ok(answer)
+            }
+            Err(refusal) => Err(unrecorded(refusal, event)),
+        }
+    }
+
+    /// Hands out the journal and its base, and begins anew from a copy of the present replica. Refused only by
+    /// `OutOfMemory`; then nothing changes.
+    pub fn cut(&mut self, tokens: &Tokens<Line, N>) -> Result<Segment<N>, Refusal>
+        ensures ok { IfOk result (λ s. (s ≡ piece_of self.old) × (self.new ≡ after_cut self.old)) }
+        ensures refused { IfErr result (λ e. e ≡ OutOfMemory) }
+        ensures err { OnErr result (self.new ≡ self.old) }
+    {
+        let present = self.core.try_copy(self.alloc)?;
+        let first = self.cut + 1;
+        self.cut += self.journal.len() as u64;
+        Ok(Segment {
+            base: mem::replace(&mut self.base, present),
+            first,
+            records: mem::replace(&mut self.journal, Vec::new(self.alloc)),
+            token: tokens.share(&mut self.token),
+        })
+    }
+
+    /// The end: the records since the last cut, and whether all seats are handed in.
+    pub fn close(self, tokens: Tokens<Line, N>, seats: Vec<Seat<N>>) -> History<N>
+        ensures base { result.base ≡ base_of self }
+        ensures records { result.records ≡ self.journal }
+        ensures before { result.before ≡ self.before }
+        ensures told { result.told ≡ flat_map (λ told. told) seats.items }
+        ensures complete { result.complete ≡ (length seats.items == self.seats) }
+        ensures each { result.complete ≡ true → IsPermutation result.told (result.before ++ last_entries result) }
+        ensures whole { IsWhole result }
+    {
+        let Desk {
+            base,
+            core,
+            journal,
+            cut,
+            seats: made,
+            mut token,
+            alloc: _,
+            waiting: _,
+            stopped: _,
+        } = self;
+        drop(core);
+        let complete = seats.len() as u64 == made;
+        gather(&tokens, &mut token, seats);
+        tokens.look(&mut token);
+        History {
+            base,
+            records: journal,
+            cut,
+            complete,
+            tokens,
+            token,
+        }
+    }
+
+    /// What a wait for a stream ends by now; where by nothing, its writer counts as one that waits.
+    pub fn await_due(&mut self, stream: u64) -> Option<Due>
+        ensures due { result ≡ wait_ends (due_at (present self.old) stream) }
+        ensures same { self.new ≡ self.old }
+    {
+        match self.core.due(stream) {
+            None => Some(Due::Closed),
+            Some(true) => Some(Due::Ready),
+            Some(false) => {
+                self.waiting.add(stream);
+                None
+            }
+        }
+    }
+
+    /// The writers that wait, where an event wakes all of them; they count no longer.
+    pub fn woken(&mut self, wake: Wake) -> Waiting
+        ensures { self.new ≡ self.old }
+    {
+        match wake {
+            Wake::All => self.waiting.take(),
+            Wake::Writer(_) | Wake::Nobody => Waiting::new(),
+        }
+    }
+
+    /// From here on nobody waits for changes. It is no event.
+    pub fn stop(&mut self)
+        ensures { self.new ≡ self.old }
+    {
+        self.stopped = true;
+    }
+
+    /// Whether it was stopped.
+    pub fn is_stopped(&self) -> bool {
+        self.stopped
+    }
+
+    /// The counts of changes of all types.
+    pub fn marks(&self) -> Marks
+        ensures { counts_of result ≡ marks_of (present self.now).store }
+    {
+        self.core.marks()
+    }
+}
+
+// Whether a journal of so many records, after so many that were cut, has no room for one more.
+fn is_full(records: usize, cut: u64) -> bool
+    requires { cut + records ≤ max_counter }
+    ensures { MatchBool result ((records ≡ most_records) ⊎ (cut + records ≡ max_counter)) ((records ≡ most_records → ⊥) × (cut + records ≡ max_counter → ⊥)) }
+{
+    records == MOST_RECORDS || cut + records as u64 == MAX_COUNTER
+}
+
+fn unrecorded(refusal: Refusal, event: Event) -> Unrecorded
+    ensures { (result.refusal ≡ refusal) × (result.event ≡ event) }
+{
+    Unrecorded { refusal, event }
+}

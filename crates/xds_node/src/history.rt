@@ -1,0 +1,141 @@
+// What a node leaves at its end.
+ghost use Rattle.std.specs.Prelude.{◌≡◌, ◌≢◌, ◌⊎◌, ◌+◌, ◌<◌, ◌≤◌, ◌++◌, true, length, All, Contains, MatchBool, MatchResult, IfSome, IfNone, IsPermutation};
+ghost use Rattle.xds_resource.specs.declared.refusal.Refusal.TheVariants.{Gap};
+ghost use Rattle.xds_tokens.specs.Entries.{Counted};
+ghost use Rattle.xds_tokens.specs.Holdings.{with_shares};
+ghost use Rattle.xds_node.specs.Pieces.{piece_entries, pieces_entries, last_entries};
+
+use crate::line::Line;
+use crate::segment::Segment;
+use std::marker::Model;
+use xds_core::Core;
+use xds_resource::Refusal;
+use xds_tokens::{NodeName, Token, Tokens};
+
+/// What a node leaves at its end: the records since the last cut, and the replica before the first of them.
+#[derive(Drop)]
+pub struct History<N: NodeName> {
+    pub(crate) base: Core,
+    pub(crate) records: Vec<Line>,
+    pub(crate) cut: u64,
+    pub(crate) complete: bool,
+    pub(crate) tokens: Tokens<Line, N>,
+    pub(crate) token: Token<Line, N>,
+}
+
+impl<N: NodeName> Model for History<N> {
+    ghost use Rattle.std.specs.Coded.{codes};
+    ghost use Rattle.xds_fields.specs.Versions.{version_map_code};
+    ghost use Rattle.xds_core.specs.Steps.{core_code};
+    ghost use Rattle.xds_node.specs.Pieces.{Story, IsStory};
+
+    ghost Value = { Story };
+
+    ghost coded = { Prim.hlevel (codes, version_map_code, core_code) };
+
+    ghost view = { λ h. record { base = h.base; records = h.records.items; before = h.token.cut; complete = h.complete; told = h.token.told } };
+
+    ghost invariant = { λ h. IsStory h.base h.records.items h.cut h.complete h.token };
+}
+
+impl<N: NodeName> History<N> {
+    /// The replica before the first of the records.
+    pub fn base(&self) -> &Core
+        ensures { result.now ≡ self.now.base }
+    {
+        &self.base
+    }
+
+    /// The records since the last cut.
+    pub fn records(&self) -> &[Line]
+        ensures { result.now ≡ self.now.records }
+    {
+        self.records.as_slice()
+    }
+
+    /// How many records were cut before.
+    pub fn cut(&self) -> u64
+        ensures { result ≡ length self.now.before }
+    {
+        self.cut
+    }
+
+    /// Whether every seat of the node was handed in.
+    pub fn is_complete(&self) -> bool
+        ensures answer { result ≡ self.now.complete }
+        ensures each { self.now.complete ≡ true → IsPermutation self.now.told (self.now.before ++ last_entries self.now) }
+    {
+        self.complete
+    }
+
+    /// The end of the history, by these segments: `Gap` where they, in this order, don't begin with record 1 and join
+    /// without a gap up to the first record that the history has.
+    pub fn audit(self, segments: Vec<Segment<N>>) -> Result<(), Refusal>
+        ensures shares { All (Contains self.before) (pieces_entries segments.items) }
+        ensures each { self.complete ≡ true → length (pieces_entries segments.items) ≡ length self.before → IsPermutation self.told (pieces_entries segments.items ++ last_entries self) }
+        ensures in_order { MatchResult result (λ _. pieces_entries segments.items ≡ self.before) (λ e. (e ≡ Gap) × (pieces_entries segments.items ≢ self.before)) }
+    {
+        let History {
+            base,
+            records,
+            cut,
+            complete: _,
+            tokens,
+            mut token,
+        } = self;
+        drop(base);
+        drop(records);
+        let whole = are_in_order(segments.as_slice(), cut);
+        share(&tokens, &mut token, segments);
+        tokens.look(&mut token);
+        if whole { Ok(()) } else { Err(Refusal::Gap) }
+    }
+}
+
+// Whether segments hold just the records from 1 up to this number, in order.
+fn are_in_order<N: NodeName>(segments: &[Segment<N>], last: u64) -> bool
+    ensures { MatchBool result (Counted 1 (pieces_entries segments.now) × (length (pieces_entries segments.now) ≡ last)) (Counted 1 (pieces_entries segments.now) → length (pieces_entries segments.now) ≡ last → ⊥) }
+{
+    let mut left = last;
+    for segment in segments {
+        let Some(fewer) = left_after(last, left, segment.first(), segment.records().len() as u64)
+        else {
+            return false;
+        };
+        left = fewer;
+    }
+    left == 0
+}
+
+// How many records are left to come after a segment of so many, if it has no more of them and begins with the next.
+fn left_after(last: u64, left: u64, first: u64, records: u64) -> Option<u64>
+    requires { left ≤ last }
+    ensures next { IfSome result (λ n. (n + records ≡ left) × ((records ≡ 0) ⊎ (first + left ≡ last + 1))) }
+    ensures none { IfNone result ((left < records) ⊎ ((records ≢ 0) × (first + left ≢ last + 1))) }
+{
+    if records > left || (records != 0 && (first == 0 || first - 1 != last - left)) {
+        return None;
+    }
+    Some(left - records)
+}
+
+// Puts the tokens of segments into a token.
+fn share<N: NodeName>(
+    tokens: &Tokens<Line, N>,
+    token: &mut Token<Line, N>,
+    segments: Vec<Segment<N>>,
+)
+    ensures { token.new ≡ with_shares piece_entries token.old segments.items }
+{
+    for segment in segments {
+        let Segment {
+            base,
+            first: _,
+            records,
+            token: lent,
+        } = segment;
+        drop(base);
+        drop(records);
+        tokens.give(token, lent);
+    }
+}

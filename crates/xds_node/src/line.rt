@@ -1,0 +1,51 @@
+// A line of the journal.
+ghost use Rattle.std.specs.Prelude.{◌≡◌};
+ghost use Rattle.xds_core.specs.Seen.{event_of, answer_of};
+
+use std::marker::Model;
+use xds_core::{Event, Record, Reply};
+use xds_resource::Refusal;
+
+/// A line of the journal: an event, and what it was answered. Contracts see the record.
+#[derive(Drop)]
+pub struct Line {
+    record: Record,
+}
+
+impl Model for Line {
+    ghost use Rattle.std.specs.Coded.{codes};
+    ghost use Rattle.xds_fields.specs.Versions.{version_map_code};
+    ghost use Rattle.xds_core.specs.Legal.{Record};
+    ghost use Rattle.xds_core.specs.Seen.{event_of, answer_of};
+
+    ghost Value = { Record };
+
+    ghost coded = { Prim.hlevel (codes, version_map_code) };
+
+    ghost view = { λ l. record { event = event_of l.record.event; answer = answer_of l.record.answer } };
+}
+
+impl Line {
+    /// A line of this event and this answer.
+    pub fn new(event: Event, answer: Result<Reply, Refusal>) -> Line
+        ensures { result ≡ record { event = event_of event; answer = answer_of answer } }
+    {
+        Line {
+            record: Record { event, answer },
+        }
+    }
+
+    /// What happened.
+    pub fn event(&self) -> &Event
+        ensures { event_of result.now ≡ self.now.event }
+    {
+        &self.record.event
+    }
+
+    /// What it was answered.
+    pub fn answer(&self) -> &Result<Reply, Refusal>
+        ensures { answer_of result.now ≡ self.now.answer }
+    {
+        &self.record.answer
+    }
+}

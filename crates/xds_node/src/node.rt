@@ -1,0 +1,147 @@
+// A replica that threads share.
+ghost use Rattle.std.specs.Prelude.{◌≡◌, ◌≢◌, ◌≤◌, ◌++◌, [], true, MatchBool, IfOk, IfErr, IfSome, OnErr, IsPermutation};
+ghost use Rattle.std.specs.List.{flat_map};
+ghost use Rattle.xds_resource.specs.declared.refusal.Refusal.TheVariants.{OutOfMemory, CounterSpent};
+ghost use Rattle.xds_store.specs.Counts.{counts_of};
+ghost use Rattle.xds_core.specs.Legal.{IsLegal};
+ghost use Rattle.xds_core.specs.Seen.{event_of, answer_of};
+ghost use Rattle.xds_node.specs.Pieces.{last_entries, IsWhole};
+ghost use Rattle.xds_node.specs.Told.{IsTold, LeavesNoRecord};
+
+use crate::desk::{Desk, Due};
+use crate::history::History;
+use crate::line::Line;
+use crate::seat::{Seat, Unrecorded};
+use crate::segment::Segment;
+use crate::wakes::{Lanes, Wake};
+use std::alloc::Global;
+use std::sync::{Mutex, Wait};
+use xds_core::{Event, Marks, Reply};
+use xds_resource::Refusal;
+use xds_tokens::{NodeName, Opened, Tokens};
+
+/// A replica that threads share: one lock round its state and its journal.
+#[derive(Drop)]
+pub struct Node<N: NodeName> {
+    desk: Mutex<Desk<N>>,
+    tokens: Tokens<Line, N>,
+    lanes: Lanes,
+}
+
+impl<N: NodeName> Node<N> {
+    /// A node whose replica has this number, from 1, and at which nothing happened. Refused only by `OutOfMemory`.
+    pub fn new(alloc: Global, opened: Opened<Line>, replica: u16) -> Result<Node<N>, Refusal>
+        requires name { opened ≡ N.id }
+        requires number { 1 ≤ replica }
+        ensures { IfErr result (λ e. e ≡ OutOfMemory) }
+    {
+        let lanes = Lanes::new(alloc)?;
+        let (tokens, token) = opened.named::<N>();
+        Ok(Node {
+            desk: Mutex::new(Desk::new(alloc, replica, token)),
+            tokens,
+            lanes,
+        })
+    }
+
+    /// A seat, which was told nothing. `CounterSpent` where no more can be counted. It may wait for the lock.
+    pub fn seat<R: Wait>(&self, rt: &R) -> Result<Seat<N>, Refusal>
+        ensures ok { IfOk result (λ s. s ≡ []) }
+        ensures refused { IfErr result (λ e. e ≡ CounterSpent) }
+    {
+        self.desk.lock(rt).seat(&self.tokens)
+    }
+
+    /// One event of a seat: one step of the replica, and one record. It may wait for the lock.
+    pub fn call<R: Wait>(
+        &self,
+        rt: &R,
+        seat: &mut Seat<N>,
+        event: Event,
+    ) -> Result<Result<Reply, Refusal>, Unrecorded>
+        ensures told { IfOk result (λ a. IsTold seat.old seat.new (event_of event) (answer_of a)) }
+        ensures back { IfErr result (λ e. (e.event ≡ event) × LeavesNoRecord e.refusal) }
+        ensures err { OnErr result (seat.new ≡ seat.old) }
+    {
+        let wake = Wake::by(&event);
+        let mut desk = self.desk.lock(rt);
+        let answer = desk.call(&self.tokens, seat, event);
+        if let Ok(Ok(_)) = &answer {
+            let waiting = desk.woken(wake);
+            drop(desk);
+            self.lanes.wake(wake, &waiting);
+        }
+        answer
+    }
+
+    /// Waits until a poll of a stream would give a response, or be refused by `NonceSpent`, or the stream isn't open. It
+    /// is no event.
+    pub fn wait_due<R: Wait>(&self, rt: &R, stream: u64) -> Due {
+        let mut desk = self.desk.lock(rt);
+        for _ in rt.forever() {
+            if let Some(due) = desk.await_due(stream) {
+                return due;
+            }
+            desk = self.lanes.writer(stream).wait(rt, desk);
+        }
+        unreachable!()
+    }
+
+    /// Waits until the counts of changes differ from these, and answers them; none once the node was stopped. It is no
+    /// event.
+    pub fn wait_changed<R: Wait>(&self, rt: &R, seen: Marks) -> Option<Marks>
+        ensures { IfSome result (λ marks. counts_of marks ≢ counts_of seen) }
+    {
+        let mut desk = self.desk.lock(rt);
+        for _ in rt.forever() {
+            if desk.is_stopped() {
+                return None;
+            }
+            let marks = desk.marks();
+            if differ(marks, seen) {
+                return Some(marks);
+            }
+            desk = self.lanes.changed().wait(rt, desk);
+        }
+        unreachable!()
+    }
+
+    /// Ends all waiting for changes, now and from here on. It is no event, and the node is called as before.
+    pub fn stop<R: Wait>(&self, rt: &R) {
+        self.desk.lock(rt).stop();
+        self.lanes.changed().notify_all();
+    }
+
+    /// Hands out base and journal, and begins anew from a copy of the present replica. Refused only by `OutOfMemory`; then
+    /// nothing changes. It may wait for the lock.
+    pub fn cut<R: Wait>(&self, rt: &R) -> Result<Segment<N>, Refusal>
+        ensures refused { IfErr result (λ e. e ≡ OutOfMemory) }
+        ensures legal { IfOk result (λ s. IsLegal s.base s.records) }
+    {
+        self.desk.lock(rt).cut(&self.tokens)
+    }
+
+    /// The end of the node, by these seats.
+    pub fn close(self, seats: Vec<Seat<N>>) -> History<N>
+        ensures told { result.told ≡ flat_map (λ told. told) seats.items }
+        ensures each { result.complete ≡ true → IsPermutation result.told (result.before ++ last_entries result) }
+        ensures whole { IsWhole result }
+    {
+        let Node {
+            desk,
+            tokens,
+            lanes: _,
+        } = self;
+        desk.into_inner().close(tokens, seats)
+    }
+}
+
+fn differ(marks: Marks, seen: Marks) -> bool
+    ensures { MatchBool result (counts_of marks ≢ counts_of seen) (counts_of marks ≡ counts_of seen) }
+{
+    marks.cluster != seen.cluster
+        || marks.endpoint != seen.endpoint
+        || marks.listener != seen.listener
+        || marks.route != seen.route
+        || marks.secret != seen.secret
+}

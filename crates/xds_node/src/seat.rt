@@ -1,0 +1,79 @@
+// The right to call a node, with what was told for it.
+ghost use Rattle.std.specs.Prelude.{◌≡◌, [], ◌∷◌, ◌++◌, All, Contains};
+ghost use Rattle.xds_tokens.specs.Holdings.{keeper, seat_holding, recorded, with_seats, IsAlone};
+
+use crate::line::Line;
+use std::marker::Model;
+use xds_core::Event;
+use xds_resource::Refusal;
+use xds_tokens::{NodeName, Token, Tokens};
+
+/// The right to call a node. It has no bytes. Contracts see what its calls were told: each record, with its number.
+#[derive(Drop)]
+pub struct Seat<N: NodeName> {
+    token: Token<Line, N>,
+}
+
+impl<N: NodeName> Model for Seat<N> {
+    ghost use Rattle.std.specs.Prelude.{◌≡◌, ℕ, List};
+    ghost use Rattle.std.specs.Coded.{codes};
+    ghost use Rattle.xds_fields.specs.Versions.{version_map_code};
+    ghost use Rattle.xds_core.specs.Legal.{Record};
+    ghost use Rattle.xds_tokens.specs.Holdings.{seat_holding};
+
+    ghost Value = { List (ℕ × Record) };
+
+    ghost coded = { Prim.hlevel (codes, version_map_code) };
+
+    ghost view = { λ s. s.token.told };
+
+    ghost invariant = { λ s. s.token ≡ seat_holding s.token.told };
+}
+
+/// An event that left no record: the journal is full (`JournalFull`), or there was no memory (`OutOfMemory`). It can be
+/// tried again.
+#[derive(Drop)]
+pub struct Unrecorded {
+    pub refusal: Refusal,
+    pub event: Event,
+}
+
+impl<N: NodeName> Seat<N> {
+    /// A new seat, by its token.
+    pub fn of(token: Token<Line, N>) -> Seat<N>
+        requires { token ≡ seat_holding [] }
+        ensures { result ≡ [] }
+    {
+        Seat { token }
+    }
+
+    /// Tells it a record that the keeper adds to its journal. All that it was told before is recorded.
+    pub fn tell(
+        &mut self,
+        tokens: &Tokens<Line, N>,
+        token: &mut Token<Line, N>,
+        number: u64,
+        line: &Line,
+    )
+        requires { IsAlone token.old }
+        ensures kept { token.new ≡ keeper token.old.made token.old.cut (token.old.journal ++ (number, line.now) ∷ []) }
+        ensures told { self.new ≡ self.old ++ (number, line.now) ∷ [] }
+        ensures stands { All (Contains (recorded token.old)) self.old }
+    {
+        tokens.tell(token, &mut self.token, number, line);
+    }
+}
+
+/// Puts seats into a token.
+pub fn gather<N: NodeName>(
+    tokens: &Tokens<Line, N>,
+    token: &mut Token<Line, N>,
+    seats: Vec<Seat<N>>,
+)
+    ensures { token.new ≡ with_seats (λ told. told) token.old seats.items }
+{
+    for seat in seats {
+        let Seat { token: lent } = seat;
+        tokens.give(token, lent);
+    }
+}

@@ -1,0 +1,5 @@
+use Rattle.xds_node_tests.proofs.ends.segments_in_another_order_are_a_gap.Given as goal
+
+-- the node has the name of the tokens that were just made
+abbrev pub ghosts-audits : goal.ghosts-audits
+ghosts-audits g a = record { id = a.opened }

@@ -1,0 +1,13 @@
+// Tests of a node that threads share: what their seats are told, and what is left of it. Nothing else stands here.
+#![tactic(auto)]
+
+#[cfg(test)]
+mod calls;
+#[cfg(test)]
+mod ends;
+#[cfg(test)]
+mod full;
+#[cfg(test)]
+mod seats;
+#[cfg(test)]
+mod waits;

@@ -1,0 +1,14 @@
+use Rattle.std.proofs.Common.{arith}
+use Rattle.xds_outbox.specs.Parts.{typed_write}
+use Rattle.xds_outbox.proofs.Cutting.{full_of_writes, full_of_bytes}
+use Rattle.xds_outbox.proofs.outbox.part_len.Goals as goal
+
+pub returns-then-len-eq-MAX_WRITES-clause-ok : goal.returns-then-len-eq-MAX_WRITES-clause-ok
+returns-then-len-eq-MAX_WRITES-clause-ok c =
+    let before = c.loop-write.invariant in
+    rw before.0 (full_of_writes typed_write c.args.writes.now c.loop-write.write-index c.loop-write-test.true (omega (arith, before.0, c.if-len-eq-MAX_WRITES.true)) (omega (arith, before.2, before.3)))
+
+pub returns-then-bytes-weight-gt-MAX_BYTES-clause-ok : goal.returns-then-bytes-weight-gt-MAX_BYTES-clause-ok
+returns-then-bytes-weight-gt-MAX_BYTES-clause-ok c =
+    let before = c.loop-write.invariant in
+    rw before.0 (full_of_bytes typed_write c.args.writes.now c.loop-write.write-index c.write-item.result c.loop-write-test.true (omega (arith, before.0, before.1)) (omega (arith, before.2, before.3)) c.write-item.is (omega (arith, c.in_ok-weight.ensures.ok, c.in_ok-weight.ensures.few)) (omega (arith, before.2, c.in_ok-weight.ensures.ok, c.if-bytes-weight-gt-MAX_BYTES.true)))

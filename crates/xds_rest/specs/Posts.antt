@@ -1,0 +1,99 @@
+-- What a post to the REST variant asks for, or which reply it is finished with before a replica is asked: the paths of Envoy's "xDS
+-- REST and gRPC protocol", and its body a DiscoveryRequest in the proto3 JSON mapping. The bound on a body, the order of the checks
+-- and the body of a refusal are this project's own.
+use Rattle.std.specs.Prelude.{◌≡◌, ◌⊎◌, ℕ, List, [], ◌++◌, Bool, true, false, ◌||◌, not, if◌then◌else◌, ◌==◌, length, Option, Some, None, Result, Ok, Err, bytes_eq, codes, decimal, find, nat_lt}
+use Rattle.std.specs.List.{before_first}
+use Rattle.std.specs.Option.{option_map_or}
+use Rattle.serde_json.specs.Data.{Data}
+use Rattle.xds_resource.specs.declared.types.TypeName.{TypeName}
+use Rattle.xds_resource.specs.declared.refusal.Refusal.{Refusal}
+use Rattle.xds_resource.specs.declared.refusal.Refusal.TheVariants.{NotJson, BadMessage}
+use Rattle.xds_resource.specs.Types.{row, types}
+use Rattle.xds_resource.specs.Refusals.{number_of, name_of}
+use Rattle.xds_message.specs.Spelling.{IsJson}
+use Rattle.xds_message.specs.Messages.{Request, SpellsRequest}
+use Rattle.xds_streams.specs.Streams.{cluster_in}
+use Rattle.xds_core.specs.Events as events
+use Rattle.xds_core.specs.Events.{Event}
+
+-- a reply: its status, and its body, if it has one
+pub record HttpReply : Type 0 where
+  pub status : ℕ
+  pub body : Option (List ℕ)
+
+abbrev pub without_body : ℕ → HttpReply
+without_body status = record { status = status; body = None }
+
+abbrev pub with_body : ℕ → List ℕ → HttpReply
+with_body status text = record { status = status; body = Some text }
+
+-- ---- before the body is read
+
+-- the path up to its query, if it has one
+abbrev pub without_query : List ℕ → List ℕ
+without_query path = before_first (λ b. b == 63) path
+
+-- the type that is polled at a path
+abbrev pub type_of_path : List ℕ → Option TypeName
+type_of_path path = find (λ t. bytes_eq (without_query path) (row t).rest_path) types
+
+-- as many bytes as a body may have
+abbrev pub max_body : ℕ
+max_body = 4194304
+
+-- of a request to the path of a type: the type, or the status that finishes it
+abbrev pub admitted : List ℕ → List ℕ → TypeName → Result TypeName ℕ
+admitted method body t = if not (bytes_eq method (codes "POST")) then Err 405 else if nat_lt max_body (length body) then Err 413 else Ok t
+
+-- of any request: the type that it polls, or the status that finishes it
+abbrev pub addressed : List ℕ → List ℕ → List ℕ → Result TypeName ℕ
+addressed method path body = option_map_or (admitted method body) (type_of_path path) (Err 404)
+
+-- ---- the body
+
+-- A message names the type of the path, or none.
+abbrev pub is_own : TypeName → List ℕ → Bool
+is_own t url = bytes_eq url [] || bytes_eq url (row t).url
+
+-- a body that asks for something of a type: JSON that spells the request
+pub record IsPoll (t : TypeName) (body : List ℕ) (q : Request) : Type 0 where
+  pub value : Data
+  pub is_json : IsJson body value
+  pub spelled : SpellsRequest value q
+  pub own : is_own t q.type_url ≡ true
+
+-- why a body is refused: it is no JSON, or it spells no request, or that is of another type
+abbrev pub RefusesBody : TypeName → List ℕ → Refusal → Type 0
+RefusesBody t body e =
+    ((e ≡ NotJson) × ((d : Data) → IsJson body d → ⊥))
+    ⊎ ((e ≡ BadMessage) × ((d : Data) × IsJson body d × ((q : Request) → SpellsRequest d q → is_own t q.type_url ≡ false)))
+
+-- a refusal, as a JSON object
+abbrev pub refusal_object : Refusal → List ℕ
+refusal_object e = codes "{\"code\":" ++ decimal (number_of e) ++ codes ",\"name\":\"" ++ name_of e ++ codes "\"}"
+
+abbrev pub refused_reply : Refusal → HttpReply
+refused_reply e = with_body 400 (refusal_object e)
+
+-- what a replica is asked: the names that are wanted, the version that is kept, and the cluster of who asks
+abbrev pub poll_of : TypeName → Request → Event
+poll_of t q = events.Rest t q.resource_names q.version_info (cluster_in q.node)
+
+-- ---- all of it
+
+-- a request either is finished with a reply, or asks a replica
+pub data Asked : Type 0 where
+  Finished : HttpReply → Asked
+  Asks : Event → Asked
+
+abbrev pub IsReadAs : TypeName → List ℕ → Asked → Type 0
+IsReadAs t body (Finished r) = (e : Refusal) × RefusesBody t body e × (r ≡ refused_reply e)
+IsReadAs t body (Asks e) = (q : Request) × IsPoll t body q × (e ≡ poll_of t q)
+
+abbrev pub IsAskedBy : Result TypeName ℕ → List ℕ → Asked → Type 0
+IsAskedBy (Err status) body a = a ≡ Finished (without_body status)
+IsAskedBy (Ok t) body a = IsReadAs t body a
+
+-- what a request of this method, path and body comes to
+abbrev pub IsAsked : List ℕ → List ℕ → List ℕ → Asked → Type 0
+IsAsked method path body a = IsAskedBy (addressed method path body) body a

@@ -1,0 +1,87 @@
+// Replies of the REST variant.
+ghost use Rattle.std.specs.Prelude.{◌≡◌, Some, Err, string_bytes, IfOk, IfErr};
+ghost use Rattle.xds_resource.specs.declared.refusal.Refusal.TheVariants.{OutOfMemory};
+ghost use Rattle.xds_draft.specs.Drafts.{Drafted};
+ghost use Rattle.xds_core.specs.Events as events;
+ghost use Rattle.xds_core.specs.Seen.{reply_of as reply_seen};
+ghost use Rattle.xds_rest.specs.Posts.{without_body as bare, refusal_object, refused_reply};
+ghost use Rattle.xds_rest.specs.Replies.{http_of, reply_to};
+
+use std::alloc::Global;
+use std::marker::Model;
+use xds_core::Reply;
+use xds_draft::SotwDraft;
+use xds_resource::Refusal;
+
+/// A reply: its status, and its body, if it has one. A body is a JSON text.
+#[derive(Drop)]
+pub struct HttpReply {
+    pub status: u16,
+    pub body: Option<String>,
+}
+
+impl Model for HttpReply {
+    ghost use Rattle.std.specs.Prelude.{option_map, string_bytes};
+    ghost use Rattle.xds_rest.specs.Posts as posts;
+
+    ghost Value = { posts.HttpReply };
+
+    ghost view = { λ r. record { status = r.status; body = option_map string_bytes r.body } };
+}
+
+impl HttpReply {
+    /// A status alone.
+    pub fn without_body(status: u16) -> HttpReply
+        ensures { result ≡ bare status }
+    {
+        HttpReply { status, body: None }
+    }
+}
+
+// A refusal as a JSON object.
+fn refusal_text(alloc: Global, refusal: Refusal) -> Result<String, Refusal>
+    ensures ok { IfOk result (λ s. string_bytes s ≡ refusal_object refusal) }
+    ensures err { IfErr result (λ e. e ≡ OutOfMemory) }
+{
+    let number = refusal.number();
+    let name = refusal.name();
+    Ok(format!(in alloc; "{{\"code\":{number},\"name\":\"{name}\"}}")?)
+}
+
+/// The reply to a body that is refused.
+pub fn refused(alloc: Global, refusal: Refusal) -> Result<HttpReply, Refusal>
+    ensures ok { IfOk result (λ r. r ≡ refused_reply refusal) }
+    ensures err { IfErr result (λ e. e ≡ OutOfMemory) }
+{
+    let text = refusal_text(alloc, refusal)?;
+    Ok(HttpReply {
+        status: 400,
+        body: Some(text),
+    })
+}
+
+// The reply that has all that was asked for.
+fn whole(alloc: Global, draft: &SotwDraft) -> Result<HttpReply, Refusal>
+    ensures ok { IfOk result (λ r. r ≡ http_of (Some draft.now)) }
+    ensures err { IfErr result (λ e. e ≡ OutOfMemory) }
+{
+    let text = draft.write(alloc)?;
+    Ok(HttpReply {
+        status: 200,
+        body: Some(text),
+    })
+}
+
+/// The reply by what a replica answered to a poll: 304 where nothing changed, and else 200 with all of it. Any other answer of a
+/// replica isn't one to a poll, and gives 500. Refused is only `OutOfMemory`, where there is a text to make.
+pub fn reply_of(alloc: Global, reply: &Reply) -> Result<HttpReply, Refusal>
+    ensures ok { IfOk result (λ r. r ≡ reply_to (reply_seen reply.now)) }
+    ensures err { IfErr result (λ e. e ≡ OutOfMemory) }
+    ensures memory { result ≡ Err OutOfMemory → (d : Drafted) × (reply_seen reply.now ≡ events.Rested (Some d)) }
+{
+    match reply {
+        Reply::Rested(Some(draft)) => whole(alloc, draft),
+        Reply::Rested(None) => Ok(HttpReply::without_body(304)),
+        _ => Ok(HttpReply::without_body(500)),
+    }
+}

@@ -1,0 +1,16 @@
+-- What is claimed of the texts of traces. This project's own.
+use Rattle.std.specs.Prelude.{◌≡◌, ℕ, List}
+use Rattle.xds_rules.specs.declared.line.Line.{Line}
+use Rattle.xds_rules.specs.Texts.{Says, IsTrace, IsFirstBad}
+
+-- A text says one line at most.
+abbrev pub ATextSaysOneLine : Type 0
+ATextSaysOneLine = (text : List ℕ) (l k : Line) → Says text l → Says text k → l ≡ k
+
+-- Bytes are one trace at most.
+abbrev pub BytesAreOneTrace : Type 0
+BytesAreOneTrace = (bytes : List ℕ) (a b : List Line) → IsTrace bytes a → IsTrace bytes b → a ≡ b
+
+-- Bytes that are a trace have no bad line.
+abbrev pub ATraceHasNoBadLine : Type 0
+ATraceHasNoBadLine = (bytes : List ℕ) (trace : List Line) (number : ℕ) → IsTrace bytes trace → IsFirstBad bytes number → ⊥

@@ -1,0 +1,10 @@
+// Laws of the texts of traces: a function that does nothing, whose clauses are the laws.
+ghost use Rattle.xds_rules.specs.Laws.{ATextSaysOneLine, BytesAreOneTrace, ATraceHasNoBadLine};
+
+/// A text says one line at most, and bytes are one trace at most, with no bad line where they are one. So what
+/// `Trace::write` gives of a trace whose lines stand in order is read again as the same trace, or there is no memory.
+pub fn bytes_are_one_trace()
+    ensures line { ATextSaysOneLine }
+    ensures trace { BytesAreOneTrace }
+    ensures no_bad_line { ATraceHasNoBadLine }
+{}

@@ -1,0 +1,5 @@
+pub mod Passing
+pub mod Sendings
+pub mod Askings
+pub mod Readings
+pub mod Turns

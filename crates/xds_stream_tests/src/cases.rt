@@ -1,0 +1,87 @@
+// Streams from bytes to bytes.
+use crate::ran::{Pieces, bytes_of, run};
+use std::alloc::Global;
+use std::str;
+use std::test::Fail;
+use xds_cases::cases::{Outcome, hold, told};
+use xds_frames::{Decoder, frame_head};
+use xds_resource::Refusal;
+
+// Sizes of the pieces that the input comes in.
+const SIZES: [usize; 8] = [1, 2, 3, 5, 69, 70, 71, 4097];
+
+// The answer and the frames that are written, whatever pieces the input comes in.
+struct Stream;
+
+impl Outcome for Stream {
+    fn of(alloc: Global, given: &str) -> Result<String, Fail> {
+        let input = bytes_of(alloc, given)?;
+        let whole = served(alloc, input.as_slice(), usize::MAX)?;
+        for size in SIZES {
+            let cut = served(alloc, input.as_slice(), size)?;
+            if cut.as_str() != whole.as_str() {
+                return Err(Fail::new(format_args!("another answer in pieces of {size}")));
+            }
+        }
+        Ok(whole)
+    }
+}
+
+// What a stream comes to whose input comes in pieces of this size: the answer, and each frame as it is told in the cases.
+fn served(alloc: Global, input: &[u8], size: usize) -> Result<String, Fail> {
+    let ran = run(alloc, Pieces::new(input, size), Vec::new(alloc));
+    if !ran.closed {
+        return Err(Fail::new(format_args!("the stream is open")));
+    }
+    let answer = match ran.answer {
+        Ok(()) => Ok(String::from_str(alloc, "ok")?),
+        Err(refusal) => Err(refusal),
+    };
+    let mut text = told(alloc, answer)?;
+    push_frames(alloc, ran.writer.as_slice(), &mut text)?;
+    Ok(text)
+}
+
+fn push_frames(alloc: Global, bytes: &[u8], text: &mut String) -> Result<(), Refusal> {
+    let mut decoder = Decoder::new(alloc);
+    decoder.feed(bytes)?;
+    for _ in 0..u64::MAX {
+        let Some(frame) = decoder.next()? else {
+            return decoder.finish();
+        };
+        let head = frame_head(frame.kind, frame.text.len())?;
+        let head = hex::encode(alloc, head.as_slice())?;
+        let body = str::from_utf8(frame.text).ok().ok_or(Refusal::NotJson)?;
+        let head = head.as_str();
+        text.push_str(format!(in alloc; "; {head} {body}")?.as_str())?;
+    }
+    Ok(())
+}
+
+#[test]
+fn streams_are_served(rt: HostRuntime) -> Result<(), Fail> {
+    hold::<Stream, HostRuntime>(
+        &rt,
+        r#"0000004201 {"typeUrl":"CDS"}; 0000005601 {"responseNonce":"1","typeUrl":"CDS"}; 0000006c01 {"resourceNames":["z"],"responseNonce":"1","typeUrl":"CDS"} => ok; 0000006202 {"nonce":"1","typeUrl":"CDS","versionInfo":"1.0"}; 0000006802 {"nonce":"2","typeUrl":"CDS","versionInfo":"1.0.named"}
+0000004201 {"typeUrl":"CDS" => 18 Truncated
+0000006503 {"resourceNamesSubscribe":["m","n"],"typeUrl":"CDS"}; 0000007703 {"resourceNamesUnsubscribe":["m"],"responseNonce":"1","typeUrl":"CDS"}; 0000006103 {"resourceNamesSubscribe":["m"],"typeUrl":"CDS"} => ok; 0000008504 {"nonce":"1","removedResources":["m","n"],"systemVersionInfo":"1.0","typeUrl":"CDS"}; 0000008104 {"nonce":"2","removedResources":["m"],"systemVersionInfo":"1.0","typeUrl":"CDS"}
+0000004201 {"typeUrl":"CDS"}; 0000000302 {} => 13 WrongVariant; 0000006202 {"nonce":"1","typeUrl":"CDS","versionInfo":"1.0"}
+0000006103 {"resourceNamesSubscribe":["m"],"typeUrl":"CDS"} => ok; 0000008104 {"nonce":"1","removedResources":["m"],"systemVersionInfo":"1.0","typeUrl":"CDS"}
+0000004201 {"typeUrl":"CDS"}; 00000000 => 15 EmptyFrame; 0000006202 {"nonce":"1","typeUrl":"CDS","versionInfo":"1.0"}
+0000000101 => 1 NotJson
+0100000001 {} => 18 Truncated
+0000000305 {} => 13 WrongVariant
+0000004202 {"typeUrl":"CDS"} => 13 WrongVariant
+0000004201 {"typeUrl":"CDS"}; 01000001 => 16 FrameTooLong; 0000006202 {"nonce":"1","typeUrl":"CDS","versionInfo":"1.0"}
+0000000401 nul => 1 NotJson
+0000000301 [] => 7 BadMessage
+0000000301 {} => 7 BadMessage
+ => ok
+0000004201 {"typeUrl":"CDS"} => ok; 0000006202 {"nonce":"1","typeUrl":"CDS","versionInfo":"1.0"}
+0000006101 {"resourceNames":["q"],"typeUrl":"RDS"} => ok
+0000004201 {"typeUrl":"CDS"}; 0000004201 {"typeUrl":"CDS"} => ok; 0000006202 {"nonce":"1","typeUrl":"CDS","versionInfo":"1.0"}
+0000004201 {"typeUrl":"CDS"}; 0000004401 {"typeUrl":"LDS"} => ok; 0000006202 {"nonce":"1","typeUrl":"CDS","versionInfo":"1.0"}; 0000006402 {"nonce":"2","typeUrl":"LDS","versionInfo":"1.0"}
+0000001001 {"typeUrl":"x"}; 0000004201 {"typeUrl":"CDS"} => ok; 0000006202 {"nonce":"1","typeUrl":"CDS","versionInfo":"1.0"}
+0000000309 => 17 UnknownKind"#,
+    )
+}

@@ -1,0 +1,4 @@
+// Traces that replicas make, and that they keep the rules.
+#![tactic(auto)]
+
+pub mod laws;

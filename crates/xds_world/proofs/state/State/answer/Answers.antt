@@ -1,0 +1,23 @@
+use Rattle.std.proofs.Common.{◌≡◌, Some, sym, ap, subst, ◌∙◌}
+use Rattle.std.specs.Prelude.{IsSome, IfOk, option_map}
+use Rattle.std.specs.FinMap as finmap
+use Rattle.xds_core.proofs.StreamSteps.{there}
+use Rattle.xds_peer.specs.Calls.{Happened}
+use Rattle.xds_peer.specs.Peers.{peer_answered}
+use Rattle.xds_world.proofs.Edits.{with_peers, put_peers}
+use Rattle.xds_world.proofs.state.State.answer.Goals as goal
+
+pub set-requires : goal.set-requires
+set-requires g c = subst (λ m. IsSome (finmap.get m c.args.client)) (sym c.in-Some.ensures.found) (there c.self.inside.peers c.args.client c.blank_peer.result)
+
+pub returns-clause-ok : goal.returns-clause-ok
+returns-clause-ok g c =
+    let n = c.args.client in
+    let p = c.in-Some.peer in
+    let left = c.answer-answered.new.self in
+    let x = c.blank_peer.result in
+    let has : finmap.get c.args.self.now.peers n ≡ Some p = ap (λ w. finmap.get w.peers n) (sym c.self.view_is) ∙ sym c.replace.ensures.old ∙ c.in-Some.is in
+    let puts : c.set.new.self ≡ finmap.insert (finmap.insert c.args.self.now.peers n x) n left = c.set.ensures ∙ (λ i. finmap.insert (c.in-Some.ensures.found i) n left) ∙ (λ i. finmap.insert (finmap.insert (c.self.view_is i).peers n x) n left) in
+    let seen : option_map (λ d. d.now) c.as_ref.result ≡ c.args.answer = c.as_ref.ensures.value in
+    let told = subst (λ a. IfOk c.answer-answered.result (λ b. Happened p b left (peer_answered g.A.Accept.accepts c.args.kind a p))) seen c.answer-answered.ensures.ok in
+    put_peers c.args.self.now n (peer_answered g.A.Accept.accepts c.args.kind c.args.answer) p x left has c.set.new.self puts c.answer-answered.result _ (λ i. with_peers (c.self.view_is i) c.set.new.self) told
