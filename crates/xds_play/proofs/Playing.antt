@@ -2,7 +2,7 @@
 use Rattle.std.proofs.Common.{List, [], ◌∷◌, refl}
 use Rattle.xds_shelf.specs.Faults.{Test}
 use Rattle.xds_script.specs.Commands.{Said}
-use Rattle.xds_play.specs.Played.{Played, Plays, PlaysAll, Prints, nothing_played}
+use Rattle.xds_play.specs.Played.{Played, Plays, PlaysAll, nothing_played}
 
 -- whatever the rest comes to from here, all come to it from the start
 abbrev pub ArePlayedTo : Test → List Said → List Said → Played → Type 0
@@ -13,5 +13,5 @@ pub played_more : (test : Test) (all : List Said) (said : Said) (rest : List Sai
 played_more test all said rest p then so_far plays q behind = so_far q (then, plays, behind)
 
 -- once none is left
-pub played_all : (test : Test) (all : List Said) (p : Played) → ArePlayedTo test all [] p → Prints test all p.printed
-played_all test all p so_far = (p.happened, so_far p refl)
+pub played_to : (test : Test) (all : List Said) (p : Played) → ArePlayedTo test all [] p → PlaysAll test all nothing_played p
+played_to test all p so_far = so_far p refl

@@ -4,4 +4,4 @@
 pub mod play;
 pub mod show;
 
-pub use play::{Unplayed, play_commands, play_script};
+pub use play::{Play, Unplayed, play_all, play_commands, play_script};

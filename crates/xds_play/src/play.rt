@@ -7,7 +7,7 @@ ghost use Rattle.xds_model.specs.Settling.{IsAddedToSettle};
 ghost use Rattle.xds_model.specs.Worlds.{world as world_of};
 ghost use Rattle.xds_script.specs.Commands.{said_of};
 ghost use Rattle.xds_play.specs.Shown.{view_shown, content_shown, content_text, none_text, state_of};
-ghost use Rattle.xds_play.specs.Played.{Plays, Prints, IsPlayed, IsUnplayed, takes};
+ghost use Rattle.xds_play.specs.Played.{Plays, PlaysAll, Prints, IsPlayed, IsUnplayed, nothing_played, takes};
 
 use crate::show::{show_content, show_view};
 use std::alloc::Global;
@@ -49,12 +49,32 @@ pub fn play_commands(alloc: Global, commands: &[Command]) -> Result<String, Refu
     ensures printed { IfOk result (λ text. Prints takes (map said_of commands.now) (string_bytes text)) }
     ensures refused { IfErr result (λ e. e ≡ OutOfMemory) }
 {
+    let Play { world, text } = play_all(alloc, commands)?;
+    drop(world);
+    Ok(text)
+}
+
+/// What playing commands comes to.
+#[derive(Drop)]
+pub struct Play {
+    /// The world in which all happened.
+    pub world: World<Marked>,
+    /// What was printed.
+    pub text: String,
+}
+
+/// Plays the commands of a script. Refused only by `OutOfMemory`.
+pub fn play_all(alloc: Global, commands: &[Command]) -> Result<Play, Refusal>
+    ensures played { IfOk result (λ p. PlaysAll takes (map said_of commands.now) nothing_played
+        (record { happened = p.world; printed = string_bytes p.text })) }
+    ensures refused { IfErr result (λ e. e ≡ OutOfMemory) }
+{
     let mut world = play(alloc, &[])?;
     let mut text = String::new(alloc);
     for command in commands {
         world = play_command(alloc, world, &mut text, command)?;
     }
-    Ok(text)
+    Ok(Play { world, text })
 }
 
 // Plays a command.

@@ -19,3 +19,6 @@ pub mod Speaking
 pub mod InOrder
 pub mod Named
 pub mod Numbering
+pub mod Told
+pub mod Tellable
+pub mod Traced

@@ -18,7 +18,7 @@ called_by : (t : TypeName) (name : List ℕ) (o : Option (List ℕ)) → ForSome
 called_by t name None canonical = tt
 called_by t name (Some b) canonical = called_so t (record { name = name; body = b }) (canonical b refl)
 
-well_named : (e : Event) → IsSound e → IsWellNamed own_names e
+pub well_named : (e : Event) → IsSound e → IsWellNamed own_names e
 well_named Open sound = tt
 well_named (Request n m) sound = tt
 well_named (Poll n which) sound = tt

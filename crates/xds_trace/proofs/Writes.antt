@@ -51,7 +51,7 @@ named_one : (P : StampedWrite → Type 0) (q : List ℕ) (w : StampedWrite) (sam
 named_one P q w true p = p
 named_one P q w false p = tt
 
-best_one : (P : StampedWrite → Type 0) (ws : List StampedWrite) (q : List ℕ) → All P ws → IfSome (best ws q) P
+pub best_one : (P : StampedWrite → Type 0) (ws : List StampedWrite) (q : List ℕ) → All P ws → IfSome (best ws q) P
 best_one P [] q all = tt
 best_one P (w ∷ ws) q all =
     greater_one P (if_named q w) (best ws q) (named_one P q w (bytes_eq w.name q) (All-head P w ws all)) (best_one P ws q (All-tail P w ws all))

@@ -1,4 +1,5 @@
 // Laws of the traces that replicas make. Each is a function that does nothing, whose clauses are the laws.
+ghost use Rattle.xds_trace.specs.Telling.{EveryRecordIsTold};
 ghost use Rattle.xds_trace.specs.Claims.{EveryLegalTraceKeepsTheRules, SoDoIdleEnds, EveryTraceKeepsTheRules, SoDoesOneWithIdleEnds, EveryLegalTraceIsInOrder, EveryStreamHasANumber};
 
 /// The trace of what a replica did breaks no rule, whoever sent the requests and however bodies are called, nor does it with lines
@@ -19,4 +20,10 @@ pub fn every_trace_keeps_the_rules()
 pub fn every_legal_trace_is_in_order()
     ensures order { EveryLegalTraceIsInOrder }
     ensures numbers { EveryStreamHasANumber }
+{}
+
+/// Every record of a replica can be told in a trace: what it sent are resources of their types, and what it deleted has a name that
+/// a resource may have.
+pub fn every_record_is_told()
+    ensures { EveryRecordIsTold }
 {}

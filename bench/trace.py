@@ -1,0 +1,439 @@
+#!/usr/bin/env python3
+"""Compares `xds check` with a reading of the rules of traces in Python, over traces of random scripts and edits of them.
+
+    python3 bench/trace.py PROGRAM [FIRST LAST]
+
+Each seed from FIRST (0) up to LAST (1000) makes a script, as bench/play.py does; `xds play --trace` makes of it the trace of
+each replica, which must be found to be well. Then ten edits of these traces are made, of whole lines, of words and of what
+the messages say, and the program's verdict on each must be that of this reading. What differs is printed, with its seed, and
+the status is then 1. With `-` in place of PROGRAM, a trace is read from the standard input, and its verdict is printed.
+"""
+import json
+import random
+import re
+import subprocess
+import sys
+
+from play import TYPES, compact, groups_of, some_script
+
+URLS = {row[0]: word for word, row in TYPES.items()}
+LARGEST = 9223372036854775807
+
+
+class Bad(Exception):
+    """What is read says nothing."""
+
+
+class Float(float):
+    """A number that isn't whole, or is spelled as none."""
+
+
+def number_of(text):
+    value = int(text)
+    return Float(text) if text == "-0" or not -(1 << 63) <= value < 1 << 64 else value
+
+
+def no_constant(text):
+    raise Bad
+
+
+def nests_to(value):
+    if isinstance(value, dict):
+        return 1 + max(map(nests_to, value.values()), default=0)
+    return 1 + max(map(nests_to, value), default=0) if isinstance(value, list) else 0
+
+
+def is_whole(value):
+    if isinstance(value, dict):
+        return all(map(is_whole, value.values()))
+    return all(map(is_whole, value)) if isinstance(value, list) else not isinstance(value, float)
+
+
+def value_of(text):
+    """The JSON value of some bytes."""
+    try:
+        value = json.loads(text.decode("utf-8"), parse_int=number_of, parse_float=Float, parse_constant=no_constant)
+    except (ValueError, RecursionError):
+        raise Bad from None
+    if nests_to(value) > 127:
+        raise Bad
+    return value
+
+
+def need(condition):
+    if not condition:
+        raise Bad
+
+
+def member(value, *names):
+    """The member of an object under the first of these names that it has, or none."""
+    need(isinstance(value, dict))
+    return next((value[name] for name in names if name in value), None)
+
+
+def text_in(value, *names):
+    found = member(value, *names)
+    need(found is None or isinstance(found, str))
+    return found or ""
+
+
+def texts_in(value, *names):
+    found = member(value, *names)
+    need(found is None or isinstance(found, list) and all(isinstance(item, str) for item in found))
+    return found or []
+
+
+def objects_in(value, *names):
+    found = member(value, *names)
+    need(found is None or isinstance(found, list) and all(isinstance(item, dict) for item in found))
+    return found or []
+
+
+def resource_of(value, url):
+    """The name and the body of a JSON value that is a resource of this type."""
+    need(isinstance(value, dict) and is_whole(value) and nests_to(value) <= 100 and value.get("@type") == url)
+    body = compact(value).encode()
+    need(len(body) <= 1048576)
+    row = TYPES[URLS[url]]
+    name = next((value[field] for field in row[1:3] if field in value), None)
+    name = "" if name is None else name
+    need(isinstance(name, str) and 1 <= len(name.encode()) <= 1024 and name != "*")
+    return name, body
+
+
+class Write:
+    """A stamped write: the type, the name, and what orders the writes of a name."""
+
+    def __init__(self, value):
+        need(isinstance(value, dict))
+        url, name, counter, writer = (value.get(key) for key in ("typeUrl", "name", "counter", "writer"))
+        need(isinstance(url, str) and url in URLS and isinstance(name, str))
+        need(1 <= len(name.encode()) <= 1024 and name != "*")
+        need(type(counter) is int and 1 <= counter <= LARGEST and type(writer) is int and 1 <= writer <= 65535)
+        body, groups = value.get("body"), value.get("groups")
+        self.groups = groups_of([] if groups is None else groups)
+        need(self.groups is not None and not (body is None and self.groups))
+        self.body = None
+        if body is not None:
+            told, self.body = resource_of(body, url)
+            need(told == name)
+        self.kind, self.name, self.version = URLS[url], name, "%d-%d" % (counter, writer)
+        self.rank = (counter, writer, self.body is not None, self.body or b"", self.groups)
+
+
+def error_in(value):
+    error = member(value, "errorDetail", "error_detail")
+    if error is None:
+        return False
+    code = member(error, "code")
+    text_in(error, "message")
+    if isinstance(code, str):
+        need(re.fullmatch(r"-?[0-9]+", code))
+        code = int(code)
+    need(code is None or type(code) is int and -(1 << 31) <= code < 1 << 31)
+    return True
+
+
+def cluster_in(value):
+    node = member(value, "node")
+    if node is None:
+        return ""
+    text_in(node, "id")
+    return text_in(node, "cluster")
+
+
+class Request:
+    def __init__(self, kind, value):
+        need(isinstance(value, dict))
+        self.url = text_in(value, "typeUrl", "type_url")
+        self.nonce = text_in(value, "responseNonce", "response_nonce")
+        self.cluster, self.has_error = cluster_in(value), error_in(value)
+        self.subscribe = self.unsubscribe = ()
+        self.names, self.initial = [], {}
+        if kind == 1:
+            text_in(value, "versionInfo", "version_info")
+            self.names = texts_in(value, "resourceNames", "resource_names")
+        else:
+            self.subscribe = texts_in(value, "resourceNamesSubscribe", "resource_names_subscribe")
+            self.unsubscribe = texts_in(value, "resourceNamesUnsubscribe", "resource_names_unsubscribe")
+            initial = member(value, "initialResourceVersions", "initial_resource_versions")
+            need(initial is None or isinstance(initial, dict) and all(isinstance(it, str) for it in initial.values()))
+            self.initial = initial or {}
+
+
+class Response:
+    def __init__(self, kind, value):
+        need(isinstance(value, dict))
+        self.url, self.nonce = text_in(value, "typeUrl", "type_url"), text_in(value, "nonce")
+        need(self.url in URLS)
+        self.removed, told = [], objects_in(value, "resources")
+        if kind == 2:
+            text_in(value, "versionInfo", "version_info")
+            self.resources = [(*resource_of(item, self.url), None, None) for item in told]
+        else:
+            text_in(value, "systemVersionInfo", "system_version_info")
+            self.removed = texts_in(value, "removedResources", "removed_resources")
+            self.resources = []
+            for item in told:
+                name, version = text_in(item, "name"), text_in(item, "version")
+                self.resources.append((*resource_of(member(item, "resource"), self.url), name, version))
+
+
+def stream_of(word):
+    need(re.fullmatch(rb"[1-9][0-9]{0,18}", word) and int(word) <= LARGEST)
+    return int(word)
+
+
+def line_of(line):
+    """A line as its word and what it says."""
+    word, _, rest = line.partition(b" ")
+    if word == b"write":
+        return "write", Write(value_of(rest))
+    if word in (b"open", b"close"):
+        return word.decode(), stream_of(rest)
+    stream, space, rest = rest.partition(b" ")
+    need(space)
+    if word == b"idle":
+        need(rest.decode("ascii", "replace") in TYPES)
+        return "idle", stream_of(stream), rest.decode()
+    kind, space, rest = rest.partition(b" ")
+    need(space and (word, kind) in {(b"request", b"1"), (b"request", b"3"), (b"response", b"2"), (b"response", b"4")})
+    message = Request if word == b"request" else Response
+    return word.decode(), stream_of(stream), int(kind), message(int(kind), value_of(rest))
+
+
+def read(trace):
+    """The lines of a trace, or the number of the first bad one."""
+    lines = trace.split(b"\n")
+    last = lines.pop()
+    found, streams, variants = [], {}, {}
+    for number, line in enumerate(lines, 1):
+        try:
+            said = line_of(line)
+            if said[0] == "open":
+                need(said[1] not in streams)
+                streams[said[1]] = True
+            elif said[0] != "write":
+                need(streams.get(said[1]))
+            if said[0] == "close":
+                streams[said[1]] = False
+            if said[0] in ("request", "response"):
+                is_delta = said[2] >= 3
+                need(variants.setdefault(said[1], is_delta) == is_delta)
+        except Bad:
+            return None, number
+        found.append(said)
+    return (None, len(lines) + 1) if last else (found, None)
+
+
+class Talk:
+    """What the lines so far say of one type on one stream."""
+
+    def __init__(self, kind, is_delta):
+        self.complete, self.is_delta = TYPES[kind][3], is_delta
+        self.taken, self.sent, self.pending = [], [], set()
+
+    def explicit(self):
+        """The names that the taken requests want by their names, and whether they want all."""
+        if not self.taken:
+            return set(), False
+        names, star = set(), False
+        if self.is_delta:
+            for request in self.taken:
+                names = (names | set(request.unsubscribe)) - set(request.unsubscribe) | set(request.subscribe)
+            mentioned = any("*" in [*it.subscribe, *it.unsubscribe] for it in self.taken)
+            star = "*" in names or not mentioned and not self.taken[0].subscribe
+        else:
+            named = any(it.names for it in self.taken)
+            names = set(self.taken[-1].names)
+            star = "*" in names or not named
+        return (names - {"*"}, star) if self.complete else (names, False)
+
+    def covers(self, name, write, cluster):
+        names, star = self.explicit()
+        return name in names or star and (not write.groups or cluster.encode() in write.groups)
+
+    def open(self):
+        return [it for it in self.sent if it["state"] == "open"]
+
+    def is_ignored(self, request):
+        return bool(self.taken) and request.nonce != "" and not self.open() and not (self.sent and self.sent[-1]["nonce"] == request.nonce)
+
+    def take(self, request):
+        if self.is_ignored(request):
+            return
+        is_first = not self.taken
+        if not is_first:
+            for response in self.open():
+                if response["nonce"] == request.nonce:
+                    response["state"] = "refused" if request.has_error else "accepted"
+        before, _ = self.explicit()
+        self.taken.append(request)
+        if self.is_delta:
+            subscribed = set(request.subscribe) - ({"*"} if self.complete else set())
+            self.pending -= set(request.unsubscribe) - set(request.subscribe)
+            self.pending |= subscribed - (set(request.initial) if is_first else set())
+        else:
+            listed = set(request.names) - ({"*"} if self.complete else set())
+            self.pending = self.pending & listed | listed - before
+
+    def refused_offer(self):
+        for response in reversed(self.sent):
+            if response["state"] == "accepted":
+                return None
+            if response["state"] == "refused":
+                return response["offer"]
+        return None
+
+
+def verdict(lines):
+    """The first line at which a rule is broken, with the least such rule, or none."""
+    best = {word: {} for word in TYPES}
+    talks, clusters, used = {}, {}, {}
+
+    def live(kind, name):
+        write = best[kind].get(name)
+        return write if write and write.body is not None else None
+
+    for number, (word, *said) in enumerate(lines, 1):
+        if word == "write":
+            write = said[0]
+            held = best[write.kind].get(write.name)
+            if held is None or write.rank > held.rank:
+                best[write.kind][write.name] = write
+        elif word == "request":
+            stream, number_of_kind, request = said
+            clusters.setdefault(stream, request.cluster)
+            if request.url in URLS:
+                kind = URLS[request.url]
+                talks.setdefault((stream, kind), Talk(kind, number_of_kind == 3)).take(request)
+        elif word == "response":
+            stream, number_of_kind, response = said
+            kind = URLS[response.url]
+            talk = talks.setdefault((stream, kind), Talk(kind, number_of_kind == 4))
+            cluster = clusters.get(stream, "")
+            names = [name for name, *_ in response.resources]
+            offer = {(name, best[kind][name].version if name in best[kind] else None) for name in names}
+            offer |= {(name, "removed", True) for name in response.removed}
+            if response.nonce == "" or response.nonce in used.setdefault(stream, set()):
+                return number, 1
+            for name, body, told, version in response.resources:
+                write = live(kind, name)
+                if not write or write.body != body or talk.is_delta and (told != name or version != write.version):
+                    return number, 2
+            if not all(talk.covers(name, best[kind][name], cluster) for name in names):
+                return number, 3
+            wanted = {name for name in best[kind] if live(kind, name) and talk.covers(name, best[kind][name], cluster)}
+            if not talk.is_delta and talk.complete and not wanted <= set(names):
+                return number, 4
+            if wanted & set(response.removed):
+                return number, 5
+            if talk.open():
+                return number, 6
+            if talk.refused_offer() == offer:
+                return number, 7
+            used[stream].add(response.nonce)
+            talk.sent.append({"nonce": response.nonce, "offer": offer, "state": "open"})
+            talk.pending -= {*names, *response.removed}
+        elif word == "idle":
+            stream, kind = said
+            talk = talks.get((stream, kind))
+            if talk and any(talk.is_delta or live(kind, name) for name in talk.pending):
+                return number, 8
+    return None
+
+
+def told(trace):
+    """What `xds check` says of a trace: its output, the error line and the status."""
+    lines, bad = read(trace)
+    if bad:
+        return b"", b"line %d: 22 BadTrace\n" % bad, 1
+    broken = verdict(lines)
+    return (b"broken %d P%d\n" % broken, b"", 1) if broken else (b"ok\n", b"", 0)
+
+
+def edited(pick, lines):
+    """The lines with a change of one: gone, doubled, moved, or with other words."""
+    lines = list(lines)
+    at = pick.randrange(len(lines))
+    way = pick.randrange(9)
+    if way == 0:
+        del lines[at]
+    elif way == 1:
+        lines.insert(pick.randrange(len(lines) + 1), lines[at])
+    elif way == 2:
+        lines.insert(pick.randrange(len(lines)), lines.pop(at))
+    elif way == 3:
+        streams = [it.split(b" ")[1] for it in lines if it.startswith(b"open ")] or [b"1"]
+        lines.insert(at + 1, b"idle %s %s" % (pick.choice(streams), pick.choice(list(TYPES)).encode()))
+    elif way == 4:
+        lines[at] = lines[at].replace(b'"responseNonce":', b'"errorDetail":{},"responseNonce":', 1)
+    elif way == 5:
+        lines[at] = re.sub(rb'"(a|b|c|d)"', lambda it: b'"%s"' % pick.choice([b"a", b"b", b"c", b"*"]), lines[at], count=1)
+    elif way == 6:
+        lines[at] = re.sub(rb"[1-9]", lambda it: b"%d" % pick.randrange(1, 4), lines[at], count=pick.randrange(1, 4))
+    elif way == 7:
+        numbers = [it for it in range(len(lines)) if lines[it].startswith(b"response ")]
+        if numbers:
+            at = pick.choice(numbers)
+            head, _, text = lines[at].partition(b"{")
+            message = json.loads(b"{" + text)
+            key = pick.choice([it for it in ("resources", "removedResources") if it in message] or ["nonce"])
+            message[key] = message[key][1:]
+            lines[at] = head + compact(message).encode()
+    else:
+        cut = pick.randrange(len(lines[at]) + 1)
+        lines[at] = lines[at][:cut] + pick.choice([b"", b" ", b"\xff", b"}", b"0", b"x"]) + lines[at][cut + pick.randrange(2) :]
+    return lines
+
+
+def agrees(program, seed, trace):
+    run = subprocess.run([program, "check"], input=trace, capture_output=True)
+    given, wanted = (run.stdout, run.stderr, run.returncode), told(trace)
+    if given != wanted:
+        print("seed", seed, trace.decode("utf-8", "backslashreplace"), "wanted", wanted, "given", given, sep="\n")
+    return given == wanted, wanted
+
+
+def one(program, seed):
+    """Whether all verdicts of a seed agree, and the verdicts."""
+    pick = random.Random(seed)
+    script = some_script(pick)
+    well, verdicts = True, []
+    for replica in (1, 2, 3):
+        run = subprocess.run([program, "play", "--trace", str(replica)], input=script.encode(), capture_output=True)
+        if run.returncode or not run.stdout:
+            continue
+        same, wanted = agrees(program, seed, run.stdout)
+        if wanted[0] != b"ok\n":
+            print("seed", seed, "the trace of a replica is not well:", wanted, run.stdout.decode(), sep="\n")
+        well = well and same and wanted[0] == b"ok\n"
+        lines = run.stdout.split(b"\n")[:-1]
+        for _ in range(10):
+            changed = lines
+            for _ in range(pick.choice([1, 1, 1, 2, 3])):
+                changed = edited(pick, changed) or lines
+            same, wanted = agrees(program, seed, b"".join(line + b"\n" for line in changed))
+            well, verdicts = well and same, [*verdicts, wanted[0].split()[-1] if wanted[0] else b"bad"]
+    return well, verdicts
+
+
+def main():
+    if sys.argv[1] == "-":
+        output, errors, status = told(sys.stdin.buffer.read())
+        sys.stdout.buffer.write(output)
+        sys.stderr.buffer.write(errors)
+        sys.exit(status)
+    first, last = map(int, sys.argv[2:4] or (0, 1000))
+    wrong, counts = 0, {}
+    for seed in range(first, last):
+        well, verdicts = one(sys.argv[1], seed)
+        wrong += not well
+        for it in verdicts:
+            counts[it] = counts.get(it, 0) + 1
+    print(f"{last - first} seeds, {wrong} differ; verdicts:", ", ".join(f"{it.decode()} {counts[it]}" for it in sorted(counts)))
+    sys.exit(1 if wrong else 0)
+
+
+if __name__ == "__main__":
+    main()

@@ -1,0 +1,344 @@
+-- Whether a line breaks a rule, by what is kept.
+use Rattle.std.proofs.Common.{◌≡◌, ◌<◌, ℕ, List, [], ◌∷◌, map, Bool, true, false, not, ◌&&◌, ◌||◌, Option, Some, None, refl, sym, ap, subst, ◌∙◌, arith}
+use Rattle.std.specs.Prelude.{is_some, bytes_eq, if◌then◌else◌, IfSome}
+use Rattle.std.specs.List.{list_any, list_all, filter}
+use Rattle.std.specs.Option.{option_map_or, option_and_then, option_or, unwrap_or}
+use Rattle.std.specs.FinMap as finmap
+use Rattle.xds_resource.specs.declared.types.TypeName.{TypeName}
+use Rattle.xds_resource.specs.Writes.{StampedWrite}
+use Rattle.xds_resource.proofs.MadeMaps.{EachFound, each_found}
+use Rattle.xds_interest.specs.Interests.{Selection, covers, has_name}
+use Rattle.xds_interest.specs.Asked.{Asked, delta_kept}
+use Rattle.xds_interest.specs.Delta.{Mention}
+use Rattle.xds_interest.proofs.Choices.{and_first, and_second}
+use Rattle.xds_catalogue.specs.Content.{is_live, is_shown, if_live, live_at, content}
+use Rattle.xds_catalogue.specs.Holdings.{Entries, IsCatalogue}
+use Rattle.xds_owed.specs.Offers.{Offer, same_offer}
+use Rattle.xds_owed.specs.Variants.{is_whole}
+use Rattle.xds_owed.proofs.Repeating.{named_passes, one_fails}
+use Rattle.xds_owed.proofs.SameOffers.{offers_are_told_apart}
+use Rattle.xds_rules.specs.declared.line.Line.{Line}
+use Rattle.xds_rules.specs.declared.rule.Rule.{Rule}
+use Rattle.xds_rules.specs.declared.rule.Rule.TheVariants.{FreshNonce, BestResources, CoveredResources, WholeResponse, RightRemovals, OneAtATime, NothingRefusedAgain, NothingPending}
+use Rattle.xds_rules.specs.Answers.{Answer, stated_names}
+use Rattle.xds_rules.specs.Lines.{standing, live, interest, is_used, cluster_on, has_asked, taken, sent, is_pending, is_waiting, refused_offer, offer_at, speaks_delta, mentions, is_mentioned}
+use Rattle.xds_rules.specs.Lines as said
+use Rattle.xds_rules.specs.Rules.{place, is_put_by, HasStaleNonce, StatesAnother, StatesUncovered, LacksAName, RemovesShown, IsSecondAtATime, OffersRefused, LeavesPending, BreaksAtResponse}
+use Rattle.xds_check.specs.Kept.{Talk, Marks, is_marked, wanted, is_stale, states_another, states_uncovered, lacks_one, lacks_a_name, is_shown_in, removes_shown, offers_refused, is_missed, none_missed, least}
+use Rattle.xds_check.proofs.Talking.{wanted_is, stands_waits, stands_refused}
+use Rattle.xds_check.proofs.Lining.{IsSpokenBy, offer_same}
+
+-- a test that tells whether something holds
+abbrev pub Tells : Bool → Type 0 → Type 0
+Tells b P = (b ≡ true → P) × (b ≡ false → ¬ P)
+
+pub never : {X : Type 0} → true ≡ false → X
+never e = absurd cc
+
+tells_same : (b c : Bool) → b ≡ c → Tells b (c ≡ true)
+tells_same b c same = (λ is. sym same ∙ is, λ none_so is_so. never (sym is_so ∙ sym same ∙ none_so))
+
+-- ---- the least rule
+
+below_first : (o : Rule) → place o < 1 → ⊥
+below_first FreshNonce lt = omega (arith, lt)
+below_first BestResources lt = omega (arith, lt)
+below_first CoveredResources lt = omega (arith, lt)
+below_first WholeResponse lt = omega (arith, lt)
+below_first RightRemovals lt = omega (arith, lt)
+below_first OneAtATime lt = omega (arith, lt)
+below_first NothingRefusedAgain lt = omega (arith, lt)
+below_first NothingPending lt = omega (arith, lt)
+
+-- what is told of a rule and of those below it
+module _ (Broken : Rule → Type 0) where
+  abbrev NoneBelow : ℕ → Type 0
+  NoneBelow n = (o : Rule) → place o < n → ¬ (Broken o)
+
+  first_below : NoneBelow 1
+  first_below o lt = absurd (below_first o lt)
+
+  second_below : ¬ (Broken FreshNonce) → NoneBelow 2
+  second_below none_so FreshNonce lt = none_so
+  second_below none_so BestResources lt = absurd (omega (arith, lt))
+  second_below none_so CoveredResources lt = absurd (omega (arith, lt))
+  second_below none_so WholeResponse lt = absurd (omega (arith, lt))
+  second_below none_so RightRemovals lt = absurd (omega (arith, lt))
+  second_below none_so OneAtATime lt = absurd (omega (arith, lt))
+  second_below none_so NothingRefusedAgain lt = absurd (omega (arith, lt))
+  second_below none_so NothingPending lt = absurd (omega (arith, lt))
+
+  third_below : NoneBelow 2 → ¬ (Broken BestResources) → NoneBelow 3
+  third_below b none_so FreshNonce lt = b FreshNonce (omega arith)
+  third_below b none_so BestResources lt = none_so
+  third_below b none_so CoveredResources lt = absurd (omega (arith, lt))
+  third_below b none_so WholeResponse lt = absurd (omega (arith, lt))
+  third_below b none_so RightRemovals lt = absurd (omega (arith, lt))
+  third_below b none_so OneAtATime lt = absurd (omega (arith, lt))
+  third_below b none_so NothingRefusedAgain lt = absurd (omega (arith, lt))
+  third_below b none_so NothingPending lt = absurd (omega (arith, lt))
+
+  fourth_below : NoneBelow 3 → ¬ (Broken CoveredResources) → NoneBelow 4
+  fourth_below b none_so FreshNonce lt = b FreshNonce (omega arith)
+  fourth_below b none_so BestResources lt = b BestResources (omega arith)
+  fourth_below b none_so CoveredResources lt = none_so
+  fourth_below b none_so WholeResponse lt = absurd (omega (arith, lt))
+  fourth_below b none_so RightRemovals lt = absurd (omega (arith, lt))
+  fourth_below b none_so OneAtATime lt = absurd (omega (arith, lt))
+  fourth_below b none_so NothingRefusedAgain lt = absurd (omega (arith, lt))
+  fourth_below b none_so NothingPending lt = absurd (omega (arith, lt))
+
+  fifth_below : NoneBelow 4 → ¬ (Broken WholeResponse) → NoneBelow 5
+  fifth_below b none_so FreshNonce lt = b FreshNonce (omega arith)
+  fifth_below b none_so BestResources lt = b BestResources (omega arith)
+  fifth_below b none_so CoveredResources lt = b CoveredResources (omega arith)
+  fifth_below b none_so WholeResponse lt = none_so
+  fifth_below b none_so RightRemovals lt = absurd (omega (arith, lt))
+  fifth_below b none_so OneAtATime lt = absurd (omega (arith, lt))
+  fifth_below b none_so NothingRefusedAgain lt = absurd (omega (arith, lt))
+  fifth_below b none_so NothingPending lt = absurd (omega (arith, lt))
+
+  sixth_below : NoneBelow 5 → ¬ (Broken RightRemovals) → NoneBelow 6
+  sixth_below b none_so FreshNonce lt = b FreshNonce (omega arith)
+  sixth_below b none_so BestResources lt = b BestResources (omega arith)
+  sixth_below b none_so CoveredResources lt = b CoveredResources (omega arith)
+  sixth_below b none_so WholeResponse lt = b WholeResponse (omega arith)
+  sixth_below b none_so RightRemovals lt = none_so
+  sixth_below b none_so OneAtATime lt = absurd (omega (arith, lt))
+  sixth_below b none_so NothingRefusedAgain lt = absurd (omega (arith, lt))
+  sixth_below b none_so NothingPending lt = absurd (omega (arith, lt))
+
+  seventh_below : NoneBelow 6 → ¬ (Broken OneAtATime) → NoneBelow 7
+  seventh_below b none_so FreshNonce lt = b FreshNonce (omega arith)
+  seventh_below b none_so BestResources lt = b BestResources (omega arith)
+  seventh_below b none_so CoveredResources lt = b CoveredResources (omega arith)
+  seventh_below b none_so WholeResponse lt = b WholeResponse (omega arith)
+  seventh_below b none_so RightRemovals lt = b RightRemovals (omega arith)
+  seventh_below b none_so OneAtATime lt = none_so
+  seventh_below b none_so NothingRefusedAgain lt = absurd (omega (arith, lt))
+  seventh_below b none_so NothingPending lt = absurd (omega (arith, lt))
+
+  none_of_all : NoneBelow 7 → ¬ (Broken NothingRefusedAgain) → ¬ (Broken NothingPending) → (o : Rule) → ¬ (Broken o)
+  none_of_all b none_so last FreshNonce = b FreshNonce (omega arith)
+  none_of_all b none_so last BestResources = b BestResources (omega arith)
+  none_of_all b none_so last CoveredResources = b CoveredResources (omega arith)
+  none_of_all b none_so last WholeResponse = b WholeResponse (omega arith)
+  none_of_all b none_so last RightRemovals = b RightRemovals (omega arith)
+  none_of_all b none_so last OneAtATime = b OneAtATime (omega arith)
+  none_of_all b none_so last NothingRefusedAgain = none_so
+  none_of_all b none_so last NothingPending = last
+
+-- the least rule that is broken is told, and none where none is
+abbrev pub TellsLeast : (Rule → Type 0) → Option Rule → Type 0
+TellsLeast Broken None = (o : Rule) → ¬ (Broken o)
+TellsLeast Broken (Some r) = Broken r × ((o : Rule) → place o < place r → ¬ (Broken o))
+
+abbrev first_of : Bool → Bool → Bool → Bool → Bool → Bool → Bool → Option Rule
+first_of b1 b2 b3 b4 b5 b6 b7 =
+    if b1 then Some FreshNonce
+    else option_or (if b2 then Some BestResources else if b3 then Some CoveredResources else if b4 then Some WholeResponse else if b5 then Some RightRemovals else None)
+    (if b6 then Some OneAtATime else if b7 then Some NothingRefusedAgain else None)
+
+first_told : (Broken : Rule → Type 0) (b1 b2 b3 b4 b5 b6 b7 : Bool) → Tells b1 (Broken FreshNonce) → Tells b2 (Broken BestResources) → Tells b3 (Broken CoveredResources) → Tells b4 (Broken WholeResponse)
+    → Tells b5 (Broken RightRemovals) → Tells b6 (Broken OneAtATime) → Tells b7 (Broken NothingRefusedAgain) → ¬ (Broken NothingPending) → TellsLeast Broken (first_of b1 b2 b3 b4 b5 b6 b7)
+first_told B true b2 b3 b4 b5 b6 b7 d1 d2 d3 d4 d5 d6 d7 last = (d1.0 refl, first_below B)
+first_told B false true b3 b4 b5 b6 b7 d1 d2 d3 d4 d5 d6 d7 last = (d2.0 refl, second_below B (d1.1 refl))
+first_told B false false true b4 b5 b6 b7 d1 d2 d3 d4 d5 d6 d7 last = (d3.0 refl, third_below B (second_below B (d1.1 refl)) (d2.1 refl))
+first_told B false false false true b5 b6 b7 d1 d2 d3 d4 d5 d6 d7 last = (d4.0 refl, fourth_below B (third_below B (second_below B (d1.1 refl)) (d2.1 refl)) (d3.1 refl))
+first_told B false false false false true b6 b7 d1 d2 d3 d4 d5 d6 d7 last =
+    (d5.0 refl, fifth_below B (fourth_below B (third_below B (second_below B (d1.1 refl)) (d2.1 refl)) (d3.1 refl)) (d4.1 refl))
+first_told B false false false false false true b7 d1 d2 d3 d4 d5 d6 d7 last =
+    (d6.0 refl, sixth_below B (fifth_below B (fourth_below B (third_below B (second_below B (d1.1 refl)) (d2.1 refl)) (d3.1 refl)) (d4.1 refl)) (d5.1 refl))
+first_told B false false false false false false true d1 d2 d3 d4 d5 d6 d7 last =
+    (d7.0 refl, seventh_below B (sixth_below B (fifth_below B (fourth_below B (third_below B (second_below B (d1.1 refl)) (d2.1 refl)) (d3.1 refl)) (d4.1 refl)) (d5.1 refl)) (d6.1 refl))
+first_told B false false false false false false false d1 d2 d3 d4 d5 d6 d7 last =
+    none_of_all B (seventh_below B (sixth_below B (fifth_below B (fourth_below B (third_below B (second_below B (d1.1 refl)) (d2.1 refl)) (d3.1 refl)) (d4.1 refl)) (d5.1 refl)) (d6.1 refl)) (d7.1 refl) last
+
+-- ---- a name that a whole response lacks
+
+-- whether a write is shown, and its name isn't among some names
+abbrev is_lacked : Selection → List (List ℕ) → StampedWrite → Bool
+is_lacked s names w = is_shown s w && not (has_name names w.name)
+
+lacked_case : (shown out : Bool) (rest : Bool) → not (not (shown && out) && rest) ≡ ((shown && out) || not rest)
+lacked_case true true rest = refl
+lacked_case true false rest = refl
+lacked_case false out rest = refl
+
+lacks_step : (s : Selection) (names : List (List ℕ)) (w : StampedWrite) (ws : List StampedWrite) (shown : Bool) → is_shown s w ≡ shown
+    → lacks_one names (if shown then w ∷ filter (is_shown s) ws else filter (is_shown s) ws) ≡ ((shown && not (has_name names w.name)) || lacks_one names (filter (is_shown s) ws))
+lacks_step s names w ws true is = refl
+lacks_step s names w ws false is = refl
+
+-- where one of the shown writes is lacking, by all entries
+lacks_all : (s : Selection) (names : List (List ℕ)) (es : List (List ℕ × StampedWrite)) → lacks_one names (filter (is_shown s) (map (λ e. e.1) es)) ≡ not (list_all (λ e. not (is_lacked s names e.1)) es)
+lacks_all s names [] = refl
+lacks_all s names (e ∷ es) =
+    lacks_step s names e.1 (map (λ e. e.1) es) (is_shown s e.1) refl
+    ∙ ap (λ b. is_lacked s names e.1 || b) (lacks_all s names es)
+    ∙ sym (lacked_case (is_shown s e.1) (not (has_name names e.1.name)) (list_all (λ e. not (is_lacked s names e.1)) es))
+
+-- by names
+abbrev keeps_name : Entries → Selection → List (List ℕ) → List ℕ → Bool
+keeps_name m s names q = option_map_or (λ w. not (is_lacked s names w)) (finmap.get m q) true
+
+by_names : (m : Entries) (s : Selection) (names : List (List ℕ)) (es : List (List ℕ × StampedWrite)) → EachFound m es → list_all (λ e. not (is_lacked s names e.1)) es ≡ list_all (λ e. keeps_name m s names e.0) es
+by_names m s names [] found = refl
+by_names m s names (e ∷ es) found = (λ i. option_map_or (λ w. not (is_lacked s names w)) (sym found.0 i) true && by_names m s names es found.1 i)
+
+content_lacks : (m : Entries) (s : Selection) (names : List (List ℕ)) → lacks_one names (content m s) ≡ not (list_all (λ e. keeps_name m s names e.0) (finmap.entries m))
+content_lacks m s names = lacks_all s names (finmap.entries m) ∙ ap not (by_names m s names (finmap.entries m) (each_found m))
+
+abbrev if_so : StampedWrite → Bool → Option StampedWrite
+if_so w l = if l then Some w else None
+
+live_some : (w : StampedWrite) (l : Bool) → is_some (if_so w l) ≡ l
+live_some w true = refl
+live_some w false = refl
+
+-- of a name with a write, that it is shown
+shown_same : (m : Entries) (s : Selection) (q : List ℕ) (w : StampedWrite) → finmap.get m q ≡ Some w → w.name ≡ q → is_shown_in m s q ≡ is_shown s w
+shown_same m s q w has named =
+    (λ i. is_some (option_and_then if_live (has i)) && option_map_or (λ w. covers s q w.groups) (has i) false)
+    ∙ (λ i. live_some w (is_live w) i && covers s (sym named i) w.groups)
+
+shown_has : (m : Entries) (s : Selection) (q : List ℕ) (o : Option StampedWrite) → finmap.get m q ≡ o → is_shown_in m s q ≡ true → (w : StampedWrite) × (finmap.get m q ≡ Some w)
+shown_has m s q None has shown = never (sym shown ∙ (λ i. is_some (option_and_then if_live (has i)) && option_map_or (λ w. covers s q w.groups) (has i) false))
+shown_has m s q (Some w) has shown = (w, has)
+
+not_false : (b : Bool) → not b ≡ false → b ≡ true
+not_false true e = refl
+not_false false e = never e
+
+not_true : (b : Bool) → not b ≡ true → b ≡ false
+not_true true e = never (sym e)
+not_true false e = refl
+
+unkept : (m : Entries) (s : Selection) (names : List (List ℕ)) (catalogue : IsCatalogue m) (q : List ℕ) (o : Option StampedWrite) → finmap.get m q ≡ o → keeps_name m s names q ≡ false
+    → (is_shown_in m s q ≡ true) × (has_name names q ≡ false)
+unkept m s names catalogue q None has lacks = never (sym (ap (λ o. option_map_or (λ w. not (is_lacked s names w)) o true) has) ∙ lacks)
+unkept m s names catalogue q (Some w) has lacks =
+    let named : w.name ≡ q = subst (λ (o : Option StampedWrite). IfSome o (λ w. w.name ≡ q)) has (catalogue q) in
+    let both : is_lacked s names w ≡ true = not_false (is_lacked s names w) (sym (ap (λ o. option_map_or (λ w. not (is_lacked s names w)) o true) has) ∙ lacks) in (
+      shown_same m s q w has named ∙ and_first (is_shown s w) (not (has_name names w.name)) both,
+      sym (ap (has_name names) named) ∙ not_true (has_name names w.name) (and_second (is_shown s w) (not (has_name names w.name)) both),
+    )
+
+-- a response that lacks one lacks a name that is shown
+lacks_tells : (m : Entries) (s : Selection) (names : List (List ℕ)) → IsCatalogue m → lacks_one names (content m s) ≡ true → (q : List ℕ) × (is_shown_in m s q ≡ true) × (has_name names q ≡ false)
+lacks_tells m s names catalogue lacks =
+    let one = one_fails (keeps_name m s names) (finmap.entries m) (not_true _ (sym (content_lacks m s names) ∙ lacks)) in
+    let both = unkept m s names catalogue one.0 (finmap.get m one.0) refl one.1 in
+    (one.0, both.0, both.1)
+
+lacked_now : (shown has : Bool) → not (shown && not has) ≡ true → shown ≡ true → has ≡ false → ⊥
+lacked_now true true e s h = never h
+lacked_now true false e s h = never (sym e)
+lacked_now false has e s h = never (sym s)
+
+-- and one that lacks none lacks no such name
+lacks_none : (m : Entries) (s : Selection) (names : List (List ℕ)) → IsCatalogue m → lacks_one names (content m s) ≡ false → (q : List ℕ) → is_shown_in m s q ≡ true → has_name names q ≡ false → ⊥
+lacks_none m s names catalogue none q shown absent =
+    let has = shown_has m s q (finmap.get m q) refl shown in
+    let w = has.0 in
+    let named : w.name ≡ q = subst (λ (o : Option StampedWrite). IfSome o (λ w. w.name ≡ q)) has.1 (catalogue q) in
+    let kept = named_passes (keeps_name m s names) m q w (not_false _ (sym (content_lacks m s names) ∙ none)) has.1 in
+    lacked_now (is_shown s w) (has_name names w.name) (sym (ap (λ o. option_map_or (λ w. not (is_lacked s names w)) o true) has.1) ∙ kept)
+    (sym (shown_same m s q w has.1 named) ∙ shown) (ap (has_name names) named ∙ absent)
+
+whole_lacks : (whole lacks : Bool) → (whole && lacks) ≡ false → whole ≡ true → lacks ≡ false
+whole_lacks true lacks e w = e
+whole_lacks false lacks e w = never (sym w)
+
+-- ---- an offer that was refused
+
+none_some : (o : Offer) → ◌≡◌ {A = Option Offer} None (Some o) → ⊥
+none_some o is = absurd cc
+
+some_same : (r o : Offer) → Some r ≡ Some o → o ≡ r
+some_same r o is = cc
+
+refused_case : (o : Offer) (refused : Option Offer) → Tells (option_map_or (same_offer o) refused false) (refused ≡ Some o)
+refused_case o None = (λ e. never (sym e), λ _ is. none_some o is)
+refused_case o (Some r) = (
+  λ e. ap Some (sym ((offers_are_told_apart o r).0 e)),
+  λ e is. never (sym ((offers_are_told_apart o r).1 (some_same r o is)) ∙ e),
+)
+
+-- ---- the rules of a response
+
+module _ (s : ℕ) (e : List Line) (held : Entries) (k : Talk) (a : Answer) (spoken : IsSpokenBy s a.kind e k) (same : (q : List ℕ) → finmap.get held q ≡ standing a.kind e q) (catalogue : IsCatalogue held) where
+  want : wanted k ≡ interest s a.kind e
+  want = wanted_is a.kind (cluster_on s e) (has_asked s a.kind e) (taken s a.kind e) (sent s a.kind e) (is_pending s a.kind e) (is_used s e) k spoken
+
+  shown_is : (q : List ℕ) → is_shown_in held (wanted k) q ≡ said.is_shown s a.kind e q
+  shown_is q = (λ i. is_some (option_and_then if_live (same q i)) && option_map_or (λ w. covers (want i) q w.groups) (same q i) false)
+
+  tells_nonce : Tells (is_stale k a.nonce) (HasStaleNonce e s a)
+  tells_nonce = tells_same _ _ (ap (λ b. bytes_eq a.nonce [] || b) (spoken.used a.nonce))
+
+  tells_best : Tells (states_another held a) (StatesAnother e a)
+  tells_best = tells_same _ _ (λ i. list_any (λ x. not (option_map_or (is_put_by x) (option_and_then if_live (same x.name i)) false)) a.statements)
+
+  tells_covered : Tells (states_uncovered held (wanted k) a) (StatesUncovered e s a)
+  tells_covered = tells_same _ _ (λ i. list_any (λ name. not (option_map_or (λ w. covers (want i) name w.groups) (same name i) false)) (stated_names a))
+
+  tells_whole : Tells (lacks_a_name a.kind held (wanted k) a) (LacksAName e s a)
+  tells_whole = (
+    λ is_so. let one = lacks_tells held (wanted k) (stated_names a) catalogue (and_second (is_whole a.variant a.kind) _ is_so) in
+        (and_first (is_whole a.variant a.kind) _ is_so, one.0, sym (shown_is one.0) ∙ one.1, one.2),
+    λ none_so lacks. lacks_none held (wanted k) (stated_names a) catalogue (whole_lacks (is_whole a.variant a.kind) _ none_so lacks.0) lacks.1 (shown_is lacks.1 ∙ lacks.2) lacks.3,
+  )
+
+  tells_removals : Tells (removes_shown held (wanted k) a) (RemovesShown e s a)
+  tells_removals = tells_same _ _ (λ i. list_any (λ q. shown_is q i) a.removed)
+
+  tells_order : Tells (is_some k.unanswered) (IsSecondAtATime e s a)
+  tells_order = tells_same _ _ (stands_waits (sent s a.kind e) k.unanswered k.refused spoken.stands)
+
+  refused_is : offers_refused held k a ≡ option_map_or (same_offer (offer_at e a)) (refused_offer (sent s a.kind e)) false
+  refused_is = (λ i. option_map_or (same_offer (sym (offer_same a.kind e held a refl same) i)) (stands_refused (sent s a.kind e) k.unanswered k.refused spoken.stands i) false)
+
+  tells_refused : Tells (offers_refused held k a) (OffersRefused e s a)
+  tells_refused = subst (λ (b : Bool). Tells b (OffersRefused e s a)) (sym refused_is) (refused_case (offer_at e a) (refused_offer (sent s a.kind e)))
+
+  pub judged : TellsLeast (λ r. BreaksAtResponse r e s a) (least a.kind held k a)
+  judged =
+      first_told (λ r. BreaksAtResponse r e s a) (is_stale k a.nonce) (states_another held a) (states_uncovered held (wanted k) a) (lacks_a_name a.kind held (wanted k) a) (removes_shown held (wanted k) a)
+      (is_some k.unanswered) (offers_refused held k a) tells_nonce tells_best tells_covered tells_whole tells_removals tells_order tells_refused (λ b. b)
+
+-- ---- a name whose answer is missed
+
+kept_begun : (t : TypeName) (c : List ℕ) (ms : List Mention) → (delta_kept t c ms).begun ≡ is_mentioned ms
+kept_begun t c [] = refl
+kept_begun t c (m ∷ ms) = refl
+
+mark_there : (m : Marks) (q : List ℕ) (o : Option Bool) → finmap.get m q ≡ o → is_marked m q ≡ true → (b : Bool) × (finmap.get m q ≡ Some b)
+mark_there m q None has marked = never (sym marked ∙ ap (λ o. unwrap_or o false) has)
+mark_there m q (Some b) has marked = (b, has)
+
+module _ (s : ℕ) (t : TypeName) (e : List Line) (held : Entries) (k : Talk) (spoken : IsSpokenBy s t e k) (same : (q : List ℕ) → finmap.get held q ≡ standing t e q) where
+  speaks : k.delta.begun ≡ speaks_delta s t e
+  speaks = ap (λ (x : Asked). x.begun) spoken.delta ∙ kept_begun t (unwrap_or (cluster_on s e) []) (mentions (taken s t e))
+
+  counts_is : (q : List ℕ) → (k.delta.begun || is_some (live_at held q)) ≡ (speaks_delta s t e || is_some (live t e q))
+  counts_is q = (λ i. speaks i || is_some (option_and_then if_live (same q i)))
+
+  -- where some answer is missed
+  pub one_missed : none_missed held k ≡ false → LeavesPending e s t
+  one_missed none =
+      let one = one_fails (λ q. not (is_missed held k q)) (finmap.entries k.waiting) none in
+      let missed = not_false (is_missed held k one.0) one.1 in
+      record { name = one.0; pending = sym (spoken.waiting one.0) ∙ and_first (is_marked k.waiting one.0) _ missed; counts = sym (counts_is one.0) ∙ and_second (is_marked k.waiting one.0) _ missed }
+
+  both_now : (a b : Bool) → a ≡ true → b ≡ true → not (a && b) ≡ true → ⊥
+  both_now true true x y e = never (sym e)
+  both_now true false x y e = never (sym y)
+  both_now false b x y e = never (sym x)
+
+  -- and where none is
+  pub none_pending : none_missed held k ≡ true → ¬ (LeavesPending e s t)
+  none_pending all p =
+      let marked = spoken.waiting p.name ∙ p.pending in
+      let there = mark_there k.waiting p.name (finmap.get k.waiting p.name) refl marked in
+      both_now (is_marked k.waiting p.name) (k.delta.begun || is_some (live_at held p.name)) marked (counts_is p.name ∙ p.counts) (named_passes (λ q. not (is_missed held k q)) k.waiting p.name there.0 all there.1)

@@ -1,0 +1,9 @@
+mod Numbering
+mod Marking
+mod Waiting
+mod Talking
+mod Lining
+mod Deciding
+mod Passing
+mod Joining
+mod Hearing

@@ -1,0 +1,271 @@
+-- What the checker of a trace keeps of the lines so far, of one type: of each stream the client's interest, the last response,
+-- the offers that count, the names that wait and the nonces that were used. This project's own.
+use Rattle.std.specs.Prelude.{◌≡◌, ℕ, List, [], ◌∷◌, Bool, true, false, not, ◌&&◌, ◌||◌, if◌then◌else◌, ◌==◌, Option, Some, None, is_some, bytes_eq, refl}
+use Rattle.std.specs.Coded.{Coded, code_by, coded×, coded_ℕ, coded_bool, coded_list, coded_option}
+use Rattle.std.specs.List.{list_any, list_all}
+use Rattle.std.specs.Option.{option_map, option_map_or, option_or, unwrap_or}
+use Rattle.std.specs.Ordering.{nat_cmp}
+use Rattle.std.specs.FinMap as finmap
+use Rattle.std.specs.FinSet as set
+use Rattle.xds_resource.specs.declared.types.TypeName.{TypeName}
+use Rattle.xds_resource.specs.Names.{put_each}
+use Rattle.xds_resource.specs.Types.{is_same_type}
+use Rattle.xds_resource.specs.Writes.{StampedWrite, text_cmp, version_of}
+use Rattle.xds_interest.specs.Interests.{Selection, covers, has_name, is_star}
+use Rattle.xds_interest.specs.Asked.{Asked, asked_code, unasked, sotw_asked, delta_asked}
+use Rattle.xds_catalogue.specs.Content.{live_at, content}
+use Rattle.xds_catalogue.specs.Holdings.{Entries, Holdings}
+use Rattle.xds_catalogue.specs.Joins.{joined}
+use Rattle.xds_fields.specs.Versions.{VersionMap}
+use Rattle.xds_message.specs.DeltaMessages.{DeltaRequest}
+use Rattle.xds_owed.specs.declared.entry.Due.{Due}
+use Rattle.xds_owed.specs.declared.entry.Due.TheVariants.{Stated, Removed}
+use Rattle.xds_owed.specs.Offers.{Offer, due_code, same_offer}
+use Rattle.xds_owed.specs.Variants.{is_whole}
+use Rattle.xds_rules.specs.declared.asking.Asking.{Asking}
+use Rattle.xds_rules.specs.declared.asking.Asking.TheVariants.{Sotw, Delta}
+use Rattle.xds_rules.specs.declared.line.Line.{Line}
+use Rattle.xds_rules.specs.declared.line.Line.TheVariants as lines
+use Rattle.xds_rules.specs.declared.rule.Rule.{Rule}
+use Rattle.xds_rules.specs.declared.rule.Rule.TheVariants.{FreshNonce, BestResources, CoveredResources, WholeResponse, RightRemovals, OneAtATime, NothingRefusedAgain, NothingPending}
+use Rattle.xds_rules.specs.Answers.{Statement, Answer, stated_names, is_of, nonce_of, rejects, cluster_of, mention_in}
+use Rattle.xds_rules.specs.Rules.{is_put_by}
+use Rattle.xds_check.specs.Writes.{write_of}
+
+-- names, each with whether it is marked
+abbrev pub Marks : Type 0
+Marks = finmap.FinMap text_cmp Bool
+
+abbrev pub is_marked : Marks → List ℕ → Bool
+is_marked m name = unwrap_or (finmap.get m name) false
+
+-- what is kept of a stream, of one type
+pub record Talk : Type 0 where
+  -- whether the client made itself known, by a request of whatever type
+  pub known : Bool
+  -- whether there was a request of the type
+  pub begun : Bool
+  -- what the requests that were taken ask for, of either variant
+  pub sotw : Asked
+  pub delta : Asked
+  -- the nonce of the last response of the type
+  pub last : Option (List ℕ)
+  -- the offer of the response that no request answered
+  pub unanswered : Option Offer
+  -- the offer of the latest refused response, where none was accepted since
+  pub refused : Option Offer
+  -- the names that wait for an answer are marked
+  pub waiting : Marks
+  -- the nonces that were used on the stream
+  pub used : Marks
+
+abbrev pub offer_code : Coded Offer
+offer_code = finmap.code (coded_list coded_ℕ) due_code
+
+abbrev pub marks_code : Coded Marks
+marks_code = finmap.code (coded_list coded_ℕ) coded_bool
+
+abbrev pub talk_code : Coded Talk
+talk_code =
+    code_by (Bool × (Bool × (Asked × (Asked × (Option (List ℕ) × (Option Offer × (Option Offer × (Marks × Marks))))))))
+    (coded× coded_bool (coded× coded_bool (coded× asked_code (coded× asked_code (coded× (coded_option (coded_list coded_ℕ)) (coded× (coded_option offer_code) (coded× (coded_option offer_code) (coded× marks_code marks_code))))))))
+    (λ k. (k.known, (k.begun, (k.sotw, (k.delta, (k.last, (k.unanswered, (k.refused, (k.waiting, k.used)))))))))
+    (λ p. record { known = p.0; begun = p.1.0; sotw = p.1.1.0; delta = p.1.1.1.0; last = p.1.1.1.1.0; unanswered = p.1.1.1.1.1.0; refused = p.1.1.1.1.1.1.0; waiting = p.1.1.1.1.1.1.1.0; used = p.1.1.1.1.1.1.1.1 }) (λ _. refl)
+
+-- of a stream of which no line spoke
+abbrev pub unheard : Talk
+unheard = record { known = false; begun = false; sotw = unasked []; delta = unasked []; last = None; unanswered = None; refused = None; waiting = finmap.empty; used = finmap.empty }
+
+abbrev pub Talks : Type 0
+Talks = finmap.FinMap nat_cmp Talk
+
+-- what is kept of a stream
+abbrev pub talk_at : Talks → ℕ → Talk
+talk_at talks s = unwrap_or (finmap.get talks s) unheard
+
+-- what the client wants
+abbrev pub wanted : Talk → Selection
+wanted k = if k.delta.begun then k.delta.interest else k.sotw.interest
+
+-- ---- requests
+
+-- once the client made itself known, as one of this cluster
+abbrev pub introduced : List ℕ → Talk → Talk
+introduced cluster k = if k.known then k else record k { known = true; sotw = unasked cluster; delta = unasked cluster }
+
+-- whether a request is one that is ignored
+abbrev pub ignores : Talk → Asking → Bool
+ignores k m = k.begun && not (bytes_eq (nonce_of m) []) && not (is_some k.unanswered) && not (option_map_or (bytes_eq (nonce_of m)) k.last false)
+
+-- what a request of the state of the world says of a name that it lists
+abbrev pub listed_mark : TypeName → Selection → Marks → List ℕ → Option Bool
+listed_mark t old m name = Some (not (is_star t name) && (is_marked m name || not (set.contains old.names name)))
+
+abbrev pub listed_marks : TypeName → Selection → Marks → List (List ℕ) → Marks
+listed_marks t old m names = put_each (listed_mark t old m) finmap.empty names
+
+-- what a delta request that subscribes these names says of one that it unsubscribes
+abbrev pub left_mark : List (List ℕ) → List ℕ → Option Bool
+left_mark subscribed name = if has_name subscribed name then None else Some false
+
+-- what one says of a name that it subscribes, whose client says to have these versions
+abbrev pub joined_mark : TypeName → Bool → VersionMap → List ℕ → Option Bool
+joined_mark t begun versions name = if not (is_star t name) && (begun || not (is_some (finmap.get versions name))) then Some true else None
+
+abbrev pub mentioned_marks : TypeName → Bool → DeltaRequest → Marks → Marks
+mentioned_marks t begun m before =
+    put_each (joined_mark t begun m.initial_resource_versions) (put_each (left_mark m.resource_names_subscribe) before m.resource_names_unsubscribe) m.resource_names_subscribe
+
+-- the names that wait once a request is taken
+abbrev pub waiting_after : TypeName → Talk → Asking → Marks
+waiting_after t k (Sotw m) = listed_marks t (wanted k) k.waiting m.resource_names
+waiting_after t k (Delta m) = mentioned_marks t k.begun m k.waiting
+
+abbrev pub with_asked : TypeName → Talk → Asking → Talk
+with_asked t k (Sotw m) = record k { sotw = sotw_asked t k.sotw m.resource_names }
+with_asked t k (Delta m) = record k { delta = delta_asked t k.delta (mention_in m) }
+
+-- once a request is taken
+abbrev pub with_taken : TypeName → Asking → Talk → Talk
+with_taken t m k = record (with_asked t k m) { waiting = waiting_after t k m }
+
+-- whether a request answers the response that is unanswered
+abbrev pub is_answer : Talk → Asking → Bool
+is_answer k m = k.begun && is_some k.unanswered && option_map_or (bytes_eq (nonce_of m)) k.last false
+
+-- once the response is answered, if the request does that
+abbrev pub answered : Asking → Talk → Talk
+answered m k =
+    if is_answer k m then record k { unanswered = None; refused = if rejects m then k.unanswered else None } else k
+
+abbrev pub begun_now : Talk → Talk
+begun_now k = record k { begun = true }
+
+-- once a request of the type came
+abbrev pub requested : TypeName → Asking → Talk → Talk
+requested t m k = begun_now (answered m (if ignores k m then k else with_taken t m k))
+
+-- once a request of whatever type came
+abbrev pub asked : TypeName → Asking → Talk → Talk
+asked t m k = if is_of t m then requested t m (introduced (cluster_of m) k) else introduced (cluster_of m) k
+
+-- ---- responses
+
+-- what a response says of a name that it states
+abbrev pub stated_due : Entries → List ℕ → Option Due
+stated_due m name = option_map (λ w. Stated (version_of w)) (finmap.get m name)
+
+-- the offer of a response
+abbrev pub offer_in : Entries → Answer → Offer
+offer_in m a = put_each (λ _. Some Removed) (put_each (stated_due m) finmap.empty (stated_names a)) a.removed
+
+-- without the marks of these names
+abbrev pub unmarked : Marks → List (List ℕ) → Marks
+unmarked m names = put_each (λ _. Some false) m names
+
+-- once a response of the type was sent
+abbrev pub responded : Entries → Answer → Talk → Talk
+responded m a k = record k { last = Some a.nonce; unanswered = Some (offer_in m a); waiting = unmarked (unmarked k.waiting (stated_names a)) a.removed }
+
+abbrev pub with_nonce : List ℕ → Talk → Talk
+with_nonce nonce k = record k { used = finmap.insert k.used nonce true }
+
+-- once a response of whatever type was sent
+abbrev pub told : TypeName → Entries → Answer → Talk → Talk
+told t m a k = if is_same_type a.kind t then responded m a (with_nonce a.nonce k) else with_nonce a.nonce k
+
+-- ---- lines
+
+-- what is kept of a stream after a line
+abbrev pub heard : TypeName → Entries → ℕ → Line → Talk → Talk
+heard t m s (lines.Write w) k = k
+heard t m s (lines.Open r) k = k
+heard t m s (lines.Close r) k = k
+heard t m s (lines.Request r q) k = if r == s then asked t q k else k
+heard t m s (lines.Response r a) k = if r == s then told t m a k else k
+heard t m s (lines.Idle r u) k = k
+
+-- ---- what breaks the rules, by what is kept
+
+abbrev pub is_stale : Talk → List ℕ → Bool
+is_stale k nonce = bytes_eq nonce [] || is_some (finmap.get k.used nonce)
+
+-- whether a resource is that of the best live write of its name
+abbrev pub is_best_in : Entries → Statement → Bool
+is_best_in m x = option_map_or (is_put_by x) (live_at m x.name) false
+
+abbrev pub states_another : Entries → Answer → Bool
+states_another m a = list_any (λ x. not (is_best_in m x)) a.statements
+
+-- whether a name that has a best write is covered
+abbrev pub is_covered_in : Entries → Selection → List ℕ → Bool
+is_covered_in m s name = option_map_or (λ w. covers s name w.groups) (finmap.get m name) false
+
+abbrev pub states_uncovered : Entries → Selection → Answer → Bool
+states_uncovered m s a = list_any (λ name. not (is_covered_in m s name)) (stated_names a)
+
+-- whether a response lacks one of some writes
+abbrev pub lacks_one : List (List ℕ) → List StampedWrite → Bool
+lacks_one names ws = list_any (λ w. not (has_name names w.name)) ws
+
+abbrev pub lacks_a_name : TypeName → Entries → Selection → Answer → Bool
+lacks_a_name t m s a = is_whole a.variant t && lacks_one (stated_names a) (content m s)
+
+-- whether a name is live and covered
+abbrev pub is_shown_in : Entries → Selection → List ℕ → Bool
+is_shown_in m s name = is_some (live_at m name) && is_covered_in m s name
+
+abbrev pub removes_shown : Entries → Selection → Answer → Bool
+removes_shown m s a = list_any (is_shown_in m s) a.removed
+
+abbrev pub offers_refused : Entries → Talk → Answer → Bool
+offers_refused m k a = option_map_or (same_offer (offer_in m a)) k.refused false
+
+-- the least rule that a response breaks, of those that look at what it says of names
+abbrev pub least_by_names : TypeName → Entries → Selection → Answer → Option Rule
+least_by_names t m s a =
+    if states_another m a then Some BestResources
+    else if states_uncovered m s a then Some CoveredResources
+    else if lacks_a_name t m s a then Some WholeResponse
+    else if removes_shown m s a then Some RightRemovals else None
+
+-- and of those that look at what became of the responses before it
+abbrev pub least_by_order : Entries → Talk → Answer → Option Rule
+least_by_order m k a =
+    if is_some k.unanswered then Some OneAtATime else if offers_refused m k a then Some NothingRefusedAgain else None
+
+-- the least rule that a response breaks
+abbrev pub least : TypeName → Entries → Talk → Answer → Option Rule
+least t m k a = if is_stale k a.nonce then Some FreshNonce else option_or (least_by_names t m (wanted k) a) (least_by_order m k a)
+
+-- whether a name waits whose answer is missed
+abbrev pub is_missed : Entries → Talk → List ℕ → Bool
+is_missed m k name = is_marked k.waiting name && (k.delta.begun || is_some (live_at m name))
+
+-- whether no name waits whose answer is missed
+abbrev pub none_missed : Entries → Talk → Bool
+none_missed m k = list_all (λ e. not (is_missed m k e.0)) (finmap.entries k.waiting)
+
+-- the least rule that a line breaks, if it is one of this type
+abbrev pub broken_in : TypeName → Entries → Talks → Line → Option Rule
+broken_in t m talks (lines.Write w) = None
+broken_in t m talks (lines.Open s) = None
+broken_in t m talks (lines.Close s) = None
+broken_in t m talks (lines.Request s q) = None
+broken_in t m talks (lines.Response s a) = if is_same_type a.kind t then least t m (talk_at talks s) a else None
+broken_in t m talks (lines.Idle s u) = if is_same_type u t then (if none_missed m (talk_at talks s) then None else Some NothingPending) else None
+
+-- ---- all that is kept, after a line
+
+-- the writes that are held
+abbrev pub held_after : TypeName → Line → Holdings → Holdings
+held_after t (lines.Write w) h = option_map_or (λ x. joined h (x ∷ [])) (write_of t w) h
+held_after t (lines.Open s) h = h
+held_after t (lines.Close s) h = h
+held_after t (lines.Request s q) h = h
+held_after t (lines.Response s a) h = h
+held_after t (lines.Idle s u) h = h
+
+-- what is kept of every stream
+abbrev pub IsHeard : TypeName → Entries → Line → Talks → Talks → Type 0
+IsHeard t m l old new = (s : ℕ) → talk_at new s ≡ heard t m s l (talk_at old s)

@@ -1,0 +1,5 @@
+pub mod Callings
+pub mod Writings
+pub mod Readings
+pub mod Tellings
+pub mod Mergings

@@ -1,0 +1,9 @@
+use Rattle.std.proofs.Common.{[]}
+use Rattle.xds_frames.specs.Devices.{seen}
+use Rattle.xds_workers.specs.Reading.{IsRead}
+use Rattle.xds_workers.proofs.Callings.{Told}
+use Rattle.xds_workers.proofs.reader.read_requests.Given as goal
+
+abbrev pub invariant-loop : goal.invariant-loop
+invariant-loop g l =
+    Told (g.H.Host.told l.initial.seat) (g.H.Host.told l.seat) (λ told. IsRead l.stream told [] (seen g.D.Read.remaining l.initial.reader l.reader) l.decoder)

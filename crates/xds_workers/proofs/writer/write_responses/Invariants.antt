@@ -1,0 +1,8 @@
+use Rattle.xds_frames.specs.Devices.{seen}
+use Rattle.xds_workers.specs.Writing.{IsWritten}
+use Rattle.xds_workers.proofs.Callings.{Told}
+use Rattle.xds_workers.proofs.writer.write_responses.Given as goal
+
+abbrev pub invariant-loop : goal.invariant-loop
+invariant-loop g l =
+    Told (g.H.Host.told l.initial.seat) (g.H.Host.told l.seat) (λ told. IsWritten l.stream told (seen g.W.Write.contents l.initial.writer l.writer))

@@ -1,0 +1,5 @@
+pub mod Told
+pub mod Writing
+pub mod Reading
+pub mod Parcels
+pub mod Exchanging

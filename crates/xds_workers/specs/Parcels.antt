@@ -1,0 +1,47 @@
+-- How a batch is sent from one replica to another: in parcels, each of which has the frame of a part. This project's own.
+use Rattle.std.specs.Prelude.{◌≡◌, ◌==◌, ℕ, List, [], ◌∷◌, ◌++◌, Bool, length, Result, Ok, Err}
+use Rattle.serde_json.specs.Written.{compact_text}
+use Rattle.serde_json.specs.Data.{Data}
+use Rattle.xds_resource.specs.PerType.{PerType, each}
+use Rattle.xds_resource.specs.TypedWrites.{TypedWrite}
+use Rattle.xds_resource.specs.Writes.{StampedWrite}
+use Rattle.xds_frames.specs.declared.frame.FrameKind.TheVariants as kinds
+use Rattle.xds_frames.specs.Frames.{Framed, IsFrame, frame_bytes}
+use Rattle.xds_message.specs.Spelling.{IsJson}
+use Rattle.xds_writes.specs.Batches.{by_type, in_order, batch_object, SpellsBatch}
+use Rattle.xds_outbox.specs.Parts.{parts_of}
+use Rattle.xds_core.specs.Events.{Reply, Changed}
+
+-- the frame of a batch
+abbrev pub batch_frame : PerType (List StampedWrite) → Framed
+batch_frame b = record { kind = kinds.Batch; text = compact_text (batch_object b) }
+
+-- the parcels of some parts: of each its frame's bytes, and whether it is the last one
+abbrev pub packed : List (List TypedWrite) → List (List ℕ × Bool)
+packed [] = []
+packed (p ∷ ps) = (frame_bytes (batch_frame (by_type p)), length ps == 0) ∷ packed ps
+
+-- the parcels of some writes
+abbrev pub parcels_of : List TypedWrite → List (List ℕ × Bool)
+parcels_of ws = packed (parts_of ws)
+
+-- a batch that is told and the marks that it comes up to
+abbrev pub changed_in : Reply → PerType (List StampedWrite) × PerType ℕ
+changed_in (Changed b marks) = (b, marks)
+changed_in r = (each [], each 0)
+
+-- the parcels of what an answer tells
+abbrev pub parcels_in : {E : Type 0} → Result Reply E → List (List ℕ × Bool)
+parcels_in (Ok r) = parcels_of (in_order (changed_in r).0)
+parcels_in (Err e) = []
+
+-- the marks that an answer comes up to
+abbrev pub marks_in : {E : Type 0} → Result Reply E → PerType ℕ
+marks_in (Ok r) = (changed_in r).1
+marks_in (Err e) = each 0
+
+-- the bytes are a frame that spells this batch
+abbrev pub IsFrameOf : List ℕ → PerType (List StampedWrite) → Type 0
+IsFrameOf bytes b =
+    (text : List ℕ) × (more : List ℕ) × (d : Data) × IsFrame (record { kind = kinds.Batch; text = text }) × (bytes ≡ frame_bytes (record { kind = kinds.Batch; text = text }) ++ more)
+    × IsJson text d × SpellsBatch d b

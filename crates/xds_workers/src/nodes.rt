@@ -1,0 +1,36 @@
+// A node, as worker threads know it.
+
+use crate::hosts::Host;
+use std::sync::Wait;
+use xds_core::{Event, Marks, Reply};
+use xds_node::{Due, Node, NodeName, Seat, Segment, Unrecorded};
+use xds_resource::Refusal;
+
+impl<N: NodeName> Host for Node<N> {
+    type Seat = Seat<N>;
+
+    type Segment = Segment<N>;
+
+    ghost told = { λ s. s };
+
+    fn call<R: Wait>(
+        &self,
+        rt: &R,
+        seat: &mut Seat<N>,
+        event: Event,
+    ) -> Result<Result<Reply, Refusal>, Unrecorded> {
+        Node::call(self, rt, seat, event)
+    }
+
+    fn cut<R: Wait>(&self, rt: &R) -> Result<Segment<N>, Refusal> {
+        Node::cut(self, rt)
+    }
+
+    fn wait_due<R: Wait>(&self, rt: &R, stream: u64) -> Due {
+        Node::wait_due(self, rt, stream)
+    }
+
+    fn wait_changed<R: Wait>(&self, rt: &R, seen: Marks) -> Option<Marks> {
+        Node::wait_changed(self, rt, seen)
+    }
+}
