@@ -1,12 +1,13 @@
 #!/usr/bin/env python3
-"""Runs the tests of clients without memory once for each of their allocations, and makes that allocation fail.
+"""Runs the tests of calls without memory once for each of their allocations, and makes that allocation fail.
 
-    bench/fail_each.py [PROGRAM]
+    bench/fail_each.py [CRATE ..]
 
-PROGRAM is the tests' program, as `rt test` leaves it in crates/xds_cache_tests/out. A run is right where the test passes,
-by itself or after the client was refused a response for memory and went on, or where it ends with a refusal of its own
-for want of memory, outside of what it looks at. The client has to be refused at least once. It needs a C compiler, `cc`,
-as bench/fail_alloc.py does, whose shim it takes. The last line is 'N right, M not', and the status is 1 where M isn't 0.
+CRATE has tests of calls without memory, whose program `rt test` leaves in crates/CRATE/out; with no name it is each of
+them. A run is right where the test passes, by itself or after the call that it looks at was refused for memory and all
+went on, or where it ends with a refusal of its own for want of memory, outside of what it looks at. Each call has to be
+refused at least once. It needs a C compiler, `cc`, as bench/fail_alloc.py does, whose shim it takes. The last line is
+'N right, M not', and the status is 1 where M isn't 0.
 """
 import os
 import subprocess
@@ -16,15 +17,19 @@ import tempfile
 from fail_alloc import SHIM
 
 TOP = os.path.dirname(os.path.dirname(os.path.abspath(__file__)))
-PROGRAM = os.path.join(TOP, "crates", "xds_cache_tests", "out", "xds_cache_tests_tests")
-TESTS = [
-    "memory::state_of_the_world_without_memory",
-    "memory::delta_without_memory",
-    "memory::polling_without_memory",
-    "memory::changing_what_is_polled_without_memory",
-]
+TESTS = {
+    "xds_cache_tests": [
+        "memory::state_of_the_world_without_memory",
+        "memory::delta_without_memory",
+        "memory::polling_without_memory",
+        "memory::changing_what_is_polled_without_memory",
+    ],
+    "xds_stream_tests": ["memory::a_stream_without_memory"],
+    "xds_exchange_tests": ["memory::rounds_without_memory"],
+}
 WENT_ON = b"refused, and went on\n"
-GAVE_UP = [b"error: OutOfMemory", b"error: AllocError"]
+# The last is what the tests of streams say of their own input, where there was no memory to decode it.
+GAVE_UP = [b"error: OutOfMemory", b"error: AllocError", b'error: "no hex digits"']
 
 
 def kind_of(ended):
@@ -63,16 +68,17 @@ def tried(program, shim, count, test):
 
 
 def main():
-    program = sys.argv[1] if len(sys.argv) > 1 else PROGRAM
     right, wrong = 0, 0
     with tempfile.TemporaryDirectory(prefix="fail-each-") as folder:
         source, shim, count = (os.path.join(folder, name) for name in ("shim.c", "shim.so", "count"))
         with open(source, "w", encoding="utf-8") as file:
             file.write(SHIM)
         subprocess.run(["cc", "-O1", "-shared", "-fPIC", "-o", shim, source, "-ldl"], check=True)
-        for test in TESTS:
-            these, those = tried(program, shim, count, test)
-            right, wrong = right + these, wrong + those
+        for crate in sys.argv[1:] or TESTS:
+            program = os.path.join(TOP, "crates", crate, "out", f"{crate}_tests")
+            for test in TESTS[crate]:
+                these, those = tried(program, shim, count, test)
+                right, wrong = right + these, wrong + those
     print(f"{right} right, {wrong} not")
     return 1 if wrong else 0
 

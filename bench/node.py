@@ -13,15 +13,14 @@ a second by the clock. The program is made in a copy of this repository, over th
 proved; with --unproved it is run by `rt try` instead, which is slower, and shows only that it runs.
 """
 import argparse
-import os
 import resource
-import shutil
 import subprocess
 import sys
 import tempfile
 import time
 
-TOP = os.path.dirname(os.path.dirname(os.path.abspath(__file__)))
+from stream import made_in
+
 CLUSTERS = "type.googleapis.com/envoy.config.cluster.v3.Cluster"
 ENDPOINTS = "type.googleapis.com/envoy.config.endpoint.v3.ClusterLoadAssignment"
 HELD, SIZE = 1000, 600
@@ -320,37 +319,11 @@ ghosts-by_node a = record { id = a.opened }
 """
 
 
-def linked(source, target):
-    """The same file in another folder, or a copy of it where that can't be: `rt` takes no symbolic links."""
-    try:
-        os.link(source, target)
-    except OSError:
-        shutil.copy2(source, target)
-
-
-def made_in(folder):
-    """The program's crate, in a copy of this repository."""
-    for name in os.listdir(f"{TOP}/crates"):
-        for part in ("src", "specs", "proofs"):
-            if os.path.isdir(f"{TOP}/crates/{name}/{part}"):
-                shutil.copytree(f"{TOP}/crates/{name}/{part}", f"{folder}/crates/{name}/{part}")
-        if os.path.isfile(f"{TOP}/crates/{name}/out/rlib/stamp"):
-            shutil.copytree(f"{TOP}/crates/{name}/out/rlib", f"{folder}/crates/{name}/out/rlib", copy_function=linked)
-    shutil.copy(f"{TOP}/HANDLES", folder)
-    with open(f"{TOP}/crates.txt", encoding="utf-8") as file:
-        lines = file.read()
-    with open(f"{folder}/crates.txt", "w", encoding="utf-8") as file:
-        file.write(f"{lines}node_bench: {NEEDS}\n")
+def texts():
+    """The program's files."""
     source = PROGRAM.replace("CLUSTERS", CLUSTERS).replace("ENDPOINTS", ENDPOINTS).replace("HELD", str(HELD))
     padding = "t" * (SIZE - len('{"@type":"%s","name":"c000","padding":""}' % CLUSTERS))
-    written = {"src/main.rt": source.replace("PADDING", padding), "proofs/measured/Invariants.antt": PICK}
-    for name, text in written.items():
-        place = f"{folder}/crates/node_bench/{name}"
-        os.makedirs(os.path.dirname(place), exist_ok=True)
-        with open(place, "w", encoding="utf-8") as file:
-            file.write(text)
-    subprocess.run(["git", "init", "-q"], cwd=folder, check=True)
-    return f"{folder}/crates/node_bench"
+    return {"src/main.rt": source.replace("PADDING", padding), "proofs/measured/Invariants.antt": PICK}
 
 
 def once(command, crate):
@@ -386,7 +359,7 @@ def main():
     parser.add_argument("--unproved", action="store_true")
     given = parser.parse_args()
     with tempfile.TemporaryDirectory(prefix="node-bench-") as folder:
-        crate = made_in(folder)
+        crate = made_in(folder, "node_bench", NEEDS, texts())
         if given.unproved:
             command = ["rt", "try", "--"]
         else:

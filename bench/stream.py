@@ -130,22 +130,32 @@ def requests(count, names):
     return b"".join(made)
 
 
-def made_in(folder, name, needs, source):
-    """The crate of a program, in a copy of this repository."""
+def linked(source, target):
+    """The same file in another folder, or a copy of it where that can't be: `rt` takes no symbolic links."""
+    try:
+        os.link(source, target)
+    except OSError:
+        shutil.copy2(source, target)
+
+
+def made_in(folder, name, needs, texts):
+    """The crate of a program, with these texts by their places in it, in a copy of this repository."""
     for crate in os.listdir(f"{TOP}/crates"):
         for part in ("src", "specs", "proofs"):
             if os.path.isdir(f"{TOP}/crates/{crate}/{part}"):
                 shutil.copytree(f"{TOP}/crates/{crate}/{part}", f"{folder}/crates/{crate}/{part}")
         if os.path.isfile(f"{TOP}/crates/{crate}/out/rlib/stamp"):
-            os.symlink(f"{TOP}/crates/{crate}/out", f"{folder}/crates/{crate}/out")
+            shutil.copytree(f"{TOP}/crates/{crate}/out/rlib", f"{folder}/crates/{crate}/out/rlib", copy_function=linked)
     shutil.copy(f"{TOP}/HANDLES", folder)
     with open(f"{TOP}/crates.txt", encoding="utf-8") as file:
         lines = file.read()
     with open(f"{folder}/crates.txt", "w", encoding="utf-8") as file:
         file.write(f"{lines}{name}: {needs}\n")
-    os.makedirs(f"{folder}/crates/{name}/src")
-    with open(f"{folder}/crates/{name}/src/main.rt", "w", encoding="utf-8") as file:
-        file.write(source)
+    for place, text in texts.items():
+        place = f"{folder}/crates/{name}/{place}"
+        os.makedirs(os.path.dirname(place), exist_ok=True)
+        with open(place, "w", encoding="utf-8") as file:
+            file.write(text)
     subprocess.run(["git", "init", "-q"], cwd=folder, check=True)
     return f"{folder}/crates/{name}"
 
@@ -172,7 +182,7 @@ def main():
     parser.add_argument("counts", nargs="*", type=int)
     given = parser.parse_args()
     with tempfile.TemporaryDirectory(prefix="stream-bench-") as folder:
-        crate = made_in(folder, "stream_bench", NEEDS, program())
+        crate = made_in(folder, "stream_bench", NEEDS, {"src/main.rt": program()})
         if given.unproved:
             command = ["rt", "try", "--"]
         else:

@@ -21,7 +21,8 @@ fn is_round(done: Round, sent: usize, parts: usize, grown: u128) -> Result<(), F
     )))
 }
 
-fn put_all<S: Site>(
+/// Puts the resources 0 to count - 1 of a type.
+pub(crate) fn put_all<S: Site>(
     alloc: Global,
     site: &mut S,
     kind: TypeName,
@@ -33,7 +34,8 @@ fn put_all<S: Site>(
     Ok(())
 }
 
-fn are_equal<S: Site>(alloc: Global, one: &mut S, other: &mut S) -> Result<(), Fail> {
+/// Whether two replicas hold the same entries.
+pub(crate) fn are_equal<S: Site>(alloc: Global, one: &mut S, other: &mut S) -> Result<(), Fail> {
     let here = one.text(alloc)?;
     let there = other.text(alloc)?;
     if here.as_str() == there.as_str() {

@@ -7,4 +7,6 @@ mod cases;
 #[cfg(test)]
 mod faults;
 #[cfg(test)]
+mod memory;
+#[cfg(test)]
 mod ran;
