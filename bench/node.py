@@ -315,7 +315,7 @@ fn main(rt: HostRuntime) -> ExitCode {
 PICK = """use Rattle.node_bench.proofs.measured.Given as goal
 
 abbrev pub ghosts-by_node : goal.ghosts-by_node
-ghosts-by_node a = record { id = a.opened }
+ghosts-by_node g a = record { id = a.opened }
 """
 
 
