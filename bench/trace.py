@@ -2,17 +2,24 @@
 """Compares `xds check` with a reading of the rules of traces in Python, over traces of random scripts and edits of them.
 
     python3 bench/trace.py PROGRAM [FIRST LAST]
+    python3 bench/trace.py PROGRAM --time [LINES]
 
 Each seed from FIRST (0) up to LAST (1000) makes a script, as bench/play.py does; `xds play --trace` makes of it the trace of
 each replica, which must be found to be well. Then ten edits of these traces are made, of whole lines, of words and of what
 the messages say, and the program's verdict on each must be that of this reading. What differs is printed, with its seed, and
 the status is then 1. With `-` in place of PROGRAM, a trace is read from the standard input, and its verdict is printed.
+
+With --time, the program checks a trace of so many lines (100,000), whose resources have 600 bytes. Beside it, it reads a trace
+of as many requests of a type that is no type, each of which holds one line's JSON in a field that it doesn't know: so the same
+JSON is read, and nothing else is done. The status is 1 where the first takes more than twice as long as the second. It also
+tells the time up to a bad last line, before which all lines are read and none is judged.
 """
 import json
 import random
 import re
 import subprocess
 import sys
+import time
 
 from play import TYPES, compact, groups_of, some_script
 
@@ -418,12 +425,75 @@ def one(program, seed):
     return well, verdicts
 
 
+def padded(url, field, name):
+    """A resource whose body has 600 bytes."""
+    resource = {"@type": url, field: name, "x": ""}
+    return {**resource, "x": "x" * (600 - len(compact(resource)))}
+
+
+def long_trace(count):
+    """A trace of so many lines that breaks no rule: on a delta stream and on one of the state of the world, a write, the response
+    that tells it, and the answer, over and over."""
+    urls = {word: url for url, word in URLS.items()}
+    clusters, endpoints = urls["cluster"], urls["endpoint"]
+    field = TYPES["endpoint"][1]
+    lines = ["open 1", "open 2", "request 1 3 " + compact({"resourceNamesSubscribe": ["*"], "typeUrl": clusters})]
+    lines.append("request 2 1 " + compact({"resourceNames": ["e0"], "typeUrl": endpoints}))
+    for turn in range(count):
+        nonce, name = str(turn + 1), "c%d" % turn
+        resource = padded(clusters, "name", name)
+        lines.append("write " + compact({"body": resource, "counter": turn + 1, "name": name, "typeUrl": clusters, "writer": 1}))
+        stated = [{"name": name, "resource": resource, "version": "%d-1" % (turn + 1)}]
+        lines.append("response 1 4 " + compact({"nonce": nonce, "resources": stated, "typeUrl": clusters}))
+        lines.append("request 1 3 " + compact({"responseNonce": nonce, "typeUrl": clusters}))
+        name = "e%d" % turn
+        resource = padded(endpoints, field, name)
+        lines.append("write " + compact({"body": resource, "counter": turn + 1, "name": name, "typeUrl": endpoints, "writer": 1}))
+        lines.append("response 2 2 " + compact({"nonce": nonce, "resources": [resource], "typeUrl": endpoints}))
+        lines.append("request 2 1 " + compact({"resourceNames": ["e%d" % (turn + 1)], "responseNonce": nonce, "typeUrl": endpoints}))
+        lines.append("idle 2 endpoint")
+        if len(lines) >= count:
+            return lines[:count]
+    return lines
+
+
+def unread(lines):
+    """As many requests of a type that is no type, each with one line's JSON."""
+    told = [line.split("{", 1) for line in lines]
+    return ["open 1", *('request 1 1 {"typeUrl":"x","y":%s}' % ("{" + it[1] if len(it) > 1 else "{}") for it in told[1:])]
+
+
+def seconds(program, lines, wanted):
+    """The least time that three checks of a trace take."""
+    trace, times = "".join(line + "\n" for line in lines).encode(), []
+    for _ in range(3):
+        start = time.perf_counter()
+        run = subprocess.run([program, "check"], input=trace, capture_output=True)
+        times.append(time.perf_counter() - start)
+        if run.stdout + run.stderr != wanted:
+            sys.exit(f"the program says {run.stdout + run.stderr} in place of {wanted}")
+    return min(times)
+
+
+def timed(program, count):
+    lines = long_trace(count)
+    checked = seconds(program, lines, b"ok\n")
+    alone = seconds(program, unread(lines), b"ok\n")
+    read_all = seconds(program, [*lines, "x"], b"line %d: 22 BadTrace\n" % (count + 1))
+    size = sum(len(line) + 1 for line in lines)
+    print(f"{count} lines, {size / 1e6:.1f} MB: checked in {checked:.2f} s; their JSON read in {alone:.2f} s, {checked / alone:.2f} times less")
+    print(f"read up to a bad last line in {read_all:.2f} s")
+    return checked <= 2 * alone
+
+
 def main():
     if sys.argv[1] == "-":
         output, errors, status = told(sys.stdin.buffer.read())
         sys.stdout.buffer.write(output)
         sys.stderr.buffer.write(errors)
         sys.exit(status)
+    if sys.argv[2:3] == ["--time"]:
+        sys.exit(0 if timed(sys.argv[1], int((sys.argv[3:4] or [100000])[0])) else 1)
     first, last = map(int, sys.argv[2:4] or (0, 1000))
     wrong, counts = 0, {}
     for seed in range(first, last):

@@ -3,7 +3,7 @@ ghost use Rattle.std.specs.Prelude.{◌≡◌, ◌≢◌, ◌⊎◌, ◌+◌, �
 ghost use Rattle.xds_resource.specs.declared.refusal.Refusal.TheVariants.{Gap};
 ghost use Rattle.xds_tokens.specs.Entries.{Counted};
 ghost use Rattle.xds_tokens.specs.Holdings.{with_shares};
-ghost use Rattle.xds_node.specs.Pieces.{piece_entries, pieces_entries, last_entries};
+ghost use Rattle.xds_node.specs.Pieces.{piece_entries, pieces_entries, last_entries, IsWhole};
 
 use crate::line::Line;
 use crate::segment::Segment;
@@ -46,9 +46,11 @@ impl<N: NodeName> History<N> {
         &self.base
     }
 
-    /// The records since the last cut.
+    /// The records since the last cut. With all that was cut they are one list of steps from a replica at which nothing
+    /// happened.
     pub fn records(&self) -> &[Line]
-        ensures { result.now ≡ self.now.records }
+        ensures records { result.now ≡ self.now.records }
+        ensures whole { IsWhole self.now }
     {
         self.records.as_slice()
     }
@@ -58,6 +60,15 @@ impl<N: NodeName> History<N> {
         ensures { result ≡ length self.now.before }
     {
         self.cut
+    }
+
+    /// Whether these segments, in this order, hold just the records from 1 up to the first one that the history has.
+    pub fn follows(&self, segments: &[Segment<N>]) -> bool
+        ensures { MatchBool result
+            (Counted 1 (pieces_entries segments.now) × (length (pieces_entries segments.now) ≡ length self.now.before))
+            (Counted 1 (pieces_entries segments.now) → length (pieces_entries segments.now) ≡ length self.now.before → ⊥) }
+    {
+        are_in_order(segments, self.cut())
     }
 
     /// Whether every seat of the node was handed in.

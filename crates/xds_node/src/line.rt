@@ -35,6 +35,13 @@ impl Line {
         }
     }
 
+    /// The record.
+    pub fn record(&self) -> &Record
+        ensures { record { event = event_of result.now.event; answer = answer_of result.now.answer } ≡ self.now }
+    {
+        &self.record
+    }
+
     /// What happened.
     pub fn event(&self) -> &Event
         ensures { event_of result.now ≡ self.now.event }

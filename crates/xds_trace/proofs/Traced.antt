@@ -65,7 +65,7 @@ pub sound_more : (rs : List made.Record) (i : ℕ) (x : made.Record) → i < len
 sound_more rs i x below is before now =
     subst (All IsSoundRecord) (sym (map-take-more record_of rs i x below is)) (All-push IsSoundRecord (map record_of (take i rs)) (record_of x) before now)
 
-all_last : {X : Type 0} (P : X → Type 0) (ys : List X) (x : X) → All P (ys ++ x ∷ []) → P x
+pub all_last : {X : Type 0} (P : X → Type 0) (ys : List X) (x : X) → All P (ys ++ x ∷ []) → P x
 all_last P [] x all = All-head P x [] all
 all_last P (y ∷ ys) x all = all_last P ys x (All-tail P y (ys ++ x ∷ []) all)
 

@@ -4,4 +4,4 @@
 pub mod laws;
 pub mod telling;
 
-pub use telling::trace_of;
+pub use telling::{push_record, trace_of};

@@ -349,8 +349,8 @@ fn push_answered(
     }
 }
 
-// Adds the lines of a record.
-fn push_record(alloc: Global, lines: &mut Vec<Line>, made: &Record) -> Result<(), Refusal>
+/// Adds the lines of a record at the end of others. Refused as `trace_of` is.
+pub fn push_record(alloc: Global, lines: &mut Vec<Line>, made: &Record) -> Result<(), Refusal>
     ensures told { Tells (λ _. lines.new.items) (lines.old.items ++ lines_of own_names (record_of made.now)) (IsTold (record_of made.now)) result }
     ensures sound { UnlessShort result (IsSoundRecord (record_of made.now)) }
 {

@@ -1,0 +1,277 @@
+#!/usr/bin/env python3
+"""Compares what `xds serve` answers to polls over HTTP with a reading of docs/PROTOCOL.md in Python, over a socket.
+
+    python3 bench/posts.py PROGRAM [FIRST LAST]
+
+The program serves one replica, at ports that are free. Each seed from FIRST (0) up to LAST (10000) makes one request: its
+method, its path and its body, many of them wrong somewhere. It is sent over a connection that is kept open, a body now and
+then in chunks. Status and body of the reply must be those of the reading. One request in fifty is no HTTP any more: a byte of
+it is another, or it breaks off. Of such a one it counts only that the server goes on. What differs is printed, with its seed,
+and the status is then 1.
+"""
+import json
+import random
+import socket
+import subprocess
+import sys
+import time
+
+from play import TYPES, compact, is_complete
+from streams import NAMES, WRITES, Refused, Served, object_of, request_of, some_names
+
+PATHS = {word: "/v3/discovery:" + end for word, end in zip(TYPES, ("clusters", "endpoints", "listeners", "routes", "secrets"))}
+MOST = 4_194_304
+# How often a connection that is refused is tried again, while the server starts.
+TRIES = 200
+
+
+# ---- reading
+
+
+def poll_of(body, word):
+    """The names, the version and the cluster of a poll's body, read as the request of a frame."""
+    value = object_of(body)
+    url, request = request_of(1, body)
+    if url not in ("", TYPES[word][0]):
+        raise Refused(7)
+    held = value["versionInfo"] if "versionInfo" in value else value.get("version_info")
+    return request["names"], held or "", request["cluster"]
+
+
+def answer(replica, word, names, version, cluster):
+    """The status and the body of the reply to a poll."""
+    url, complete = TYPES[word][0], is_complete(word)
+    catalogue = replica.catalogues[word]
+    star = complete and (not names or "*" in names)
+    present = "1.%d" % catalogue.changes + (".named" if not star else "@" + cluster if cluster else "")
+    if star and version == present:
+        return 304, b""
+    shown = [json.loads(body) for _, body in covered(catalogue, star, set(names), cluster)]
+    made = {"typeUrl": url, "versionInfo": present}
+    if shown:
+        made["resources"] = shown
+    return 200, compact(made).encode()
+
+
+def covered(catalogue, star, names, cluster):
+    """What is live and covered, in ascending order of names."""
+    for name, (body, groups) in sorted(live(catalogue).items(), key=lambda entry: entry[0].encode()):
+        if name in names or star and (not groups or cluster.encode() in groups):
+            yield name, body
+
+
+def live(catalogue):
+    return {name: (body, groups) for name, (_, _, body, groups) in catalogue.entries.items() if body is not None}
+
+
+def wanted(replica, method, path, body):
+    words = {at: word for word, at in PATHS.items()}
+    word = words.get(path.partition("?")[0])
+    if word is None:
+        return 404, b""
+    if method != "POST":
+        return 405, b""
+    if len(body) > MOST:
+        return 413, b""
+    try:
+        names, version, cluster = poll_of(body, word)
+    except Refused as refusal:
+        number = refusal.args[0]
+        return 400, b'{"code":%d,"name":"%s"}' % (number, {1: b"NotJson", 7: b"BadMessage"}[number])
+    return answer(replica, word, names, version, cluster)
+
+
+# ---- random requests
+
+TEXTS = [b"", b"nul", b"\xff", b"[]", b"7", b'{"typeUrl":1}', b'{"typeUrl":"x"}', b"{}", b'{"resourceNames":["a",null]}', b'{"a":NaN}', b'{"a":1.5}',
+         b'{"errorDetail":{"code":2147483648}}', b'{"errorDetail":{"code":"-7"}}', b'{"node":[]}', b"[" * 128 + b"]" * 128, b" {} ", b'{"versionInfo":7}',
+         b'{"a":' + b"[" * 126 + b"]" * 126 + b"}", b'{"a":' + b"[" * 127 + b"]" * 127 + b"}", b'{"node":{"cluster":1}}', b'{"version_info":null}']
+
+
+def some_body(pick, replica, word):
+    if pick.random() < 0.15:
+        return pick.choice(TEXTS)
+    message = {}
+    if pick.random() < 0.6:
+        of = word if pick.random() < 0.9 else pick.choice(list(TYPES))
+        message[pick.choice(["typeUrl", "type_url"])] = TYPES[of][0]
+    if pick.random() < 0.6:
+        message[pick.choice(["resourceNames", "resource_names"])] = some_names(pick)
+    if pick.random() < 0.7:
+        count = replica.catalogues[word].changes
+        end = pick.choice(["", "", "@g1", "@g2", ".named"])
+        message[pick.choice(["versionInfo", "version_info"])] = "1.%d%s" % (pick.choice([count, count, 1]), end)
+    if pick.random() < 0.5:
+        message["node"] = pick.choice([{}, None, {"id": "n"}, {"id": "n", "cluster": "g1", "x": 1.5}, {"cluster": "g2"}, {"cluster": ""}])
+    if pick.random() < 0.1:
+        message["responseNonce"] = pick.choice(["", "1", None])
+    items = list(message.items())
+    pick.shuffle(items)
+    text = json.dumps(dict(items), ensure_ascii=pick.random() < 0.5, separators=pick.choice([(",", ":"), (", ", ": ")])).encode()
+    if pick.random() < 0.05:
+        at = pick.randrange(len(text))
+        text = text[:at] + bytes([pick.randrange(256)]) + text[at + 1 :]
+    return text
+
+
+def some_request(pick, replica):
+    word = pick.choice(["cluster", "cluster", *TYPES])
+    path = PATHS[word]
+    if pick.random() < 0.05:
+        path = pick.choice(["/", "/v3/discovery", "/v3/discovery:scoped", path + "/", path + "x", "/v2" + path[3:], path.upper()])
+    if pick.random() < 0.1:
+        path += pick.choice(["?", "?x=1", "?x=/v3/discovery:routes"])
+    method = "POST" if pick.random() < 0.93 else pick.choice(["GET", "PUT", "DELETE", "OPTIONS"])
+    return method, path, some_body(pick, replica, word)
+
+
+def chunked(pick, body):
+    cut, made = 0, b""
+    while cut < len(body):
+        size = pick.randrange(1, 200)
+        piece = body[cut : cut + size]
+        made += b"%x\r\n%s\r\n" % (len(piece), piece)
+        cut += size
+    return made + b"0\r\n\r\n"
+
+
+def sent(pick, method, path, body):
+    head = f"{method} {path} HTTP/1.1\r\nhost: 127.0.0.1\r\n".encode()
+    if pick.random() < 0.2:
+        return head + b"transfer-encoding: chunked\r\n\r\n" + chunked(pick, body)
+    return head + b"content-length: %d\r\n\r\n" % len(body) + body
+
+
+# ---- over a socket
+
+
+class Link:
+    """A connection that is kept open, and made anew where it was closed."""
+
+    def __init__(self, port):
+        self.port, self.socket, self.rest = port, None, b""
+
+    def open(self):
+        self.rest = b""
+        for _ in range(TRIES):
+            try:
+                self.socket = socket.create_connection(("127.0.0.1", self.port), 20)
+                self.socket.setsockopt(socket.IPPROTO_TCP, socket.TCP_NODELAY, 1)
+                return
+            except ConnectionRefusedError:
+                time.sleep(0.05)
+        sys.exit("the server doesn't take connections")
+
+    def close(self):
+        if self.socket:
+            self.socket.close()
+        self.socket = None
+
+    def ask(self, data):
+        """The status and the body of the reply."""
+        if not self.socket:
+            self.open()
+        self.socket.sendall(data)
+        head = self.until(b"\r\n\r\n")
+        fields = dict(line.lower().split(b": ", 1) for line in head.split(b"\r\n")[1:] if line)
+        status, count = int(head[9:12]), int(fields.get(b"content-length", 0))
+        while len(self.rest) < count:
+            self.more()
+        body, self.rest = self.rest[:count], self.rest[count:]
+        if fields.get(b"connection") == b"close":
+            self.close()
+        return status, body
+
+    def until(self, mark):
+        while mark not in self.rest:
+            self.more()
+        found, _, self.rest = self.rest.partition(mark)
+        return found
+
+    def more(self):
+        piece = self.socket.recv(1 << 16)
+        if not piece:
+            raise ConnectionError("closed")
+        self.rest += piece
+
+    def spoil(self, pick, data):
+        """Sends what is no request any more, and forgets the connection."""
+        self.close()
+        self.open()
+        at = pick.randrange(len(data))
+        self.socket.sendall(data[:at] + (bytes([pick.randrange(256)]) + data[at + 1 :] if pick.random() < 0.5 else b""))
+        self.close()
+
+
+def free_ports():
+    made = [socket.socket() for _ in range(2)]
+    for it in made:
+        it.bind(("127.0.0.1", 0))
+    ports = [it.getsockname()[1] for it in made]
+    for it in made:
+        it.close()
+    return ports
+
+
+def lines():
+    for word, name, groups, body in WRITES:
+        if body is None:
+            yield f"delete 1 {word} {name}\n"
+        else:
+            verb = f"putin 1 {groups}" if groups else "put 1"
+            yield f"{verb} {body.replace('URL', TYPES[word][0])}\n"
+
+
+def filled(link, replica):
+    """Waits until the server has taken all lines of its input."""
+    for _ in range(TRIES):
+        if all(link.ask(sent(random.Random(0), "POST", PATHS[word], b"{}")) == wanted(replica, "POST", PATHS[word], b"{}") for word in TYPES):
+            return
+        time.sleep(0.05)
+    sys.exit("the server doesn't hold what it was given")
+
+
+def main():
+    if len(sys.argv) not in (2, 4):
+        sys.exit(__doc__)
+    first, last = (int(word) for word in sys.argv[2:]) if len(sys.argv) == 4 else (0, 10000)
+    port, rest_port = free_ports()
+    command = [sys.argv[1], "serve", "--replicas", "1", "--port", str(port), "--rest-port", str(rest_port)]
+    server = subprocess.Popen(command, stdin=subprocess.PIPE, stderr=subprocess.DEVNULL)
+    try:
+        server.stdin.write("".join(lines()).encode())
+        server.stdin.flush()
+        compare(server, Link(rest_port), Served().replica, first, last)
+    finally:
+        server.kill()
+
+
+def compare(server, link, replica, first, last):
+    filled(link, replica)
+    wrong, statuses = 0, {}
+    for seed in range(first, last):
+        pick = random.Random(seed)
+        method, path, body = some_request(pick, replica)
+        data = sent(pick, method, path, body)
+        if pick.random() < 0.02:
+            link.spoil(pick, data)
+            continue
+        given = link.ask(data)
+        due = wanted(replica, method, path, body)
+        statuses[due[0]] = statuses.get(due[0], 0) + 1
+        if given != due:
+            wrong += 1
+            print(f"seed {seed}: {method} {path} {body}", f"wanted {due}", f"given {given}", sep="\n")
+    for size, status in ((MOST, 400), (MOST + 1, 413)):
+        given = link.ask(sent(random.Random(2), "POST", PATHS["cluster"], b" " * size))
+        wrong += given[0] != status
+    if server.poll() is not None:
+        wrong += 1
+        print("the server has ended")
+    told = ", ".join(f"{count} times {status}" for status, count in sorted(statuses.items()))
+    print(f"{sum(statuses.values())} requests compared: {told}; {wrong} differ")
+    sys.exit(1 if wrong or not statuses else 0)
+
+
+if __name__ == "__main__":
+    main()

@@ -1,0 +1,4 @@
+pub mod Askings
+pub mod Making
+pub mod Serving
+pub mod Turns
