@@ -6,25 +6,26 @@ use Rattle.std.specs.FinMap as finmap
 use Rattle.std.specs.FinSet as set
 use Rattle.xds_resource.specs.declared.types.TypeName.{TypeName}
 use Rattle.xds_resource.specs.Writes.{text_cmp}
-use Rattle.xds_resource.specs.Names.{put_each}
 use Rattle.xds_resource.proofs.MadeMaps.{get-put_each}
 use Rattle.xds_interest.specs.Interests.{Selection, has_name, is_star, names_among}
 use Rattle.xds_interest.proofs.SotwLaws.{has_name-names_among}
 use Rattle.xds_message.specs.DeltaMessages.{DeltaRequest}
-use Rattle.xds_check.specs.Kept.{Marks, is_marked, listed_mark, listed_marks, left_mark, joined_mark, mentioned_marks, unmarked}
+use Rattle.xds_check.proofs.Marking.{get-without_each}
+use Rattle.xds_check.specs.Kept.{Marks, is_marked, listed_mark, listed_marks, left_marks, joined_mark, mentioned_marks, unmarked}
 
 -- ---- a request of the state of the world
 
-listed_case : (star here waits : Bool) → unwrap_or (cond here (Some (not star && waits)) None) false ≡ ((not star && here) && waits)
+listed_case : (star here waits : Bool) → unwrap_or (cond here (option_or (cond (not star && waits) (Some true) None) None) None) false ≡ ((not star && here) && waits)
 listed_case true true waits = refl
 listed_case true false waits = refl
-listed_case false true waits = refl
+listed_case false true true = refl
+listed_case false true false = refl
 listed_case false false waits = refl
 
 pub listed_waits : (t : TypeName) (old : Selection) (m : Marks) (names : List (List ℕ)) (q : List ℕ)
     → is_marked (listed_marks t old m names) q ≡ (has_name (names_among t names) q && (is_marked m q || not (set.contains old.names q)))
 listed_waits t old m names q =
-    ap (λ o. unwrap_or o false) (get-put_each (listed_mark t old m) finmap.empty names q ∙ ap (λ (o : Option Bool). cond (has_name names q) (Some (not (is_star t q) && (is_marked m q || not (set.contains old.names q)))) o) (finmap.get-empty text_cmp q))
+    ap (λ o. unwrap_or o false) (get-put_each (listed_mark t old m) finmap.empty names q ∙ ap (λ (o : Option Bool). cond (has_name names q) (option_or (listed_mark t old m q) o) o) (finmap.get-empty text_cmp q))
     ∙ listed_case (is_star t q) (has_name names q) (is_marked m q || not (set.contains old.names q))
     ∙ ap (λ b. b && (is_marked m q || not (set.contains old.names q))) (sym (has_name-names_among t names q))
 
@@ -32,7 +33,7 @@ listed_waits t old m names q =
 
 -- joined: whether it says so of a name that it subscribes; sub and unsub: whether it subscribes and unsubscribes the name
 mentioned_case : (star sub unsub fresh : Bool) (o : Option Bool)
-    → unwrap_or (cond sub (option_or (cond (not star && fresh) (Some true) None) (cond unsub (option_or (cond sub None (Some false)) o) o)) (cond unsub (option_or (cond sub None (Some false)) o) o)) false
+    → unwrap_or (cond sub (option_or (cond (not star && fresh) (Some true) None) (cond (unsub && not sub) None o)) (cond (unsub && not sub) None o)) false
     ≡ (((not star && sub) && fresh) || (unwrap_or o false && not (unsub && not sub)))
 mentioned_case true true true fresh None = refl
 mentioned_case true true false fresh None = refl
@@ -70,15 +71,15 @@ mentioned_waits t begun r m q =
     let sub = has_name r.resource_names_subscribe q in
     let unsub = has_name r.resource_names_unsubscribe q in
     let fresh = begun || not (is_some (finmap.get r.initial_resource_versions q)) in
-    let left = put_each (left_mark r.resource_names_subscribe) m r.resource_names_unsubscribe in
+    let left = left_marks r.resource_names_subscribe m r.resource_names_unsubscribe in
     ap (λ o. unwrap_or o false) (get-put_each (joined_mark t begun r.initial_resource_versions) left r.resource_names_subscribe q
-    ∙ ap (λ (o : Option Bool). cond sub (option_or (joined_mark t begun r.initial_resource_versions q) o) o) (get-put_each (left_mark r.resource_names_subscribe) m r.resource_names_unsubscribe q))
+    ∙ ap (λ (o : Option Bool). cond sub (option_or (joined_mark t begun r.initial_resource_versions q) o) o) (get-without_each (λ name. not (has_name r.resource_names_subscribe name)) m r.resource_names_unsubscribe q))
     ∙ mentioned_case (is_star t q) sub unsub fresh (finmap.get m q)
     ∙ ap (λ b. (b && fresh) || (is_marked m q && not (unsub && not sub))) (sym (has_name-names_among t r.resource_names_subscribe q))
 
 -- ---- a response
 
-unmarked_case : (here : Bool) (o : Option Bool) → unwrap_or (cond here (Some false) o) false ≡ (unwrap_or o false && not here)
+unmarked_case : (here : Bool) (o : Option Bool) → unwrap_or (cond (here && true) None o) false ≡ (unwrap_or o false && not here)
 unmarked_case true None = refl
 unmarked_case true (Some true) = refl
 unmarked_case true (Some false) = refl
@@ -87,7 +88,7 @@ unmarked_case false (Some true) = refl
 unmarked_case false (Some false) = refl
 
 unmarked_waits : (m : Marks) (names : List (List ℕ)) (q : List ℕ) → is_marked (unmarked m names) q ≡ (is_marked m q && not (has_name names q))
-unmarked_waits m names q = ap (λ o. unwrap_or o false) (get-put_each (λ _. Some false) m names q) ∙ unmarked_case (has_name names q) (finmap.get m q)
+unmarked_waits m names q = ap (λ o. unwrap_or o false) (get-without_each (λ _. true) m names q) ∙ unmarked_case (has_name names q) (finmap.get m q)
 
 neither_told : (m s r : Bool) → ((m && not s) && not r) ≡ (m && not (s || r))
 neither_told true true r = refl

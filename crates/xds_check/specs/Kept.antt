@@ -39,6 +39,11 @@ Marks = finmap.FinMap text_cmp Bool
 abbrev pub is_marked : Marks → List ℕ → Bool
 is_marked m name = unwrap_or (finmap.get m name) false
 
+-- without those names of a list of which a test is true
+abbrev pub without_each : (List ℕ → Bool) → Marks → List (List ℕ) → Marks
+without_each f m [] = m
+without_each f m (n ∷ ns) = without_each f (if f n then finmap.remove m n else m) ns
+
 -- what is kept of a stream, of one type
 pub record Talk : Type 0 where
   -- whether the client made itself known, by a request of whatever type
@@ -54,7 +59,7 @@ pub record Talk : Type 0 where
   pub unanswered : Option Offer
   -- the offer of the latest refused response, where none was accepted since
   pub refused : Option Offer
-  -- the names that wait for an answer are marked
+  -- the names that wait for an answer are marked, and no others stand there
   pub waiting : Marks
   -- the nonces that were used on the stream
   pub used : Marks
@@ -99,14 +104,14 @@ ignores k m = k.begun && not (bytes_eq (nonce_of m) []) && not (is_some k.unansw
 
 -- what a request of the state of the world says of a name that it lists
 abbrev pub listed_mark : TypeName → Selection → Marks → List ℕ → Option Bool
-listed_mark t old m name = Some (not (is_star t name) && (is_marked m name || not (set.contains old.names name)))
+listed_mark t old m name = if not (is_star t name) && (is_marked m name || not (set.contains old.names name)) then Some true else None
 
 abbrev pub listed_marks : TypeName → Selection → Marks → List (List ℕ) → Marks
 listed_marks t old m names = put_each (listed_mark t old m) finmap.empty names
 
--- what a delta request that subscribes these names says of one that it unsubscribes
-abbrev pub left_mark : List (List ℕ) → List ℕ → Option Bool
-left_mark subscribed name = if has_name subscribed name then None else Some false
+-- without the names that a delta request unsubscribes, which subscribes others
+abbrev pub left_marks : List (List ℕ) → Marks → List (List ℕ) → Marks
+left_marks subscribed m names = without_each (λ name. not (has_name subscribed name)) m names
 
 -- what one says of a name that it subscribes, whose client says to have these versions
 abbrev pub joined_mark : TypeName → Bool → VersionMap → List ℕ → Option Bool
@@ -114,7 +119,7 @@ joined_mark t begun versions name = if not (is_star t name) && (begun || not (is
 
 abbrev pub mentioned_marks : TypeName → Bool → DeltaRequest → Marks → Marks
 mentioned_marks t begun m before =
-    put_each (joined_mark t begun m.initial_resource_versions) (put_each (left_mark m.resource_names_subscribe) before m.resource_names_unsubscribe) m.resource_names_subscribe
+    put_each (joined_mark t begun m.initial_resource_versions) (left_marks m.resource_names_subscribe before m.resource_names_unsubscribe) m.resource_names_subscribe
 
 -- the names that wait once a request is taken
 abbrev pub waiting_after : TypeName → Talk → Asking → Marks
@@ -161,7 +166,7 @@ offer_in m a = put_each (λ _. Some Removed) (put_each (stated_due m) finmap.emp
 
 -- without the marks of these names
 abbrev pub unmarked : Marks → List (List ℕ) → Marks
-unmarked m names = put_each (λ _. Some false) m names
+unmarked m names = without_each (λ _. true) m names
 
 -- once a response of the type was sent
 abbrev pub responded : Entries → Answer → Talk → Talk

@@ -1,12 +1,12 @@
 // Names with marks: those that wait for an answer, and nonces that were used.
-ghost use Rattle.std.specs.Prelude.{◌≡◌, ℕ, List, map, string_bytes, IfOk, IfErr, OnOk, Some, None, false, not, ◌&&◌, ◌||◌, is_some, if◌then◌else◌};
+ghost use Rattle.std.specs.Prelude.{◌≡◌, ℕ, List, map, string_bytes, IfOk, IfErr, OnOk, Some, None, true, not, ◌&&◌, ◌||◌, is_some, if◌then◌else◌};
 ghost use Rattle.std.specs.FinMap as finmap;
 ghost use Rattle.std.specs.FinSet as set;
 ghost use Rattle.xds_resource.specs.declared.refusal.Refusal.TheVariants.{OutOfMemory};
 ghost use Rattle.xds_resource.specs.Names.{put_each};
 ghost use Rattle.xds_interest.specs.Interests.{has_name, is_star as is_star_of};
 ghost use Rattle.xds_check.specs.Kept as kept;
-ghost use Rattle.xds_check.specs.Kept.{unmarked, listed_marks, mentioned_marks, left_mark, joined_mark};
+ghost use Rattle.xds_check.specs.Kept.{unmarked, listed_marks, mentioned_marks, left_marks, joined_mark};
 
 use std::alloc::Global;
 use xds_interest::Interest;
@@ -58,34 +58,29 @@ pub(crate) fn explicit_names<T: ResourceType>(
     Ok(marks)
 }
 
-// Takes the marks of these names.
-pub(crate) fn unmark(
-    alloc: Global,
-    marks: &mut NameMap<bool>,
-    names: &[String],
-) -> Result<(), Refusal>
-    ensures ok { OnOk result (marks.new ≡ unmarked marks.old (map string_bytes names.now)) }
-    ensures refused { IfErr result (λ e. e ≡ OutOfMemory) }
+// Takes the marks of these names. It takes no memory.
+pub(crate) fn unmark(marks: &mut NameMap<bool>, names: &[String])
+    ensures { marks.new ≡ unmarked marks.old (map string_bytes names.now) }
 {
     for name in names {
-        marks.put(alloc, name.as_str(), Some(false))?;
+        drop(marks.remove(name.as_str()));
     }
-    Ok(())
 }
 
-// Takes the marks of the names of resources.
-pub(crate) fn unmark_stated(
-    alloc: Global,
-    marks: &mut NameMap<bool>,
-    statements: &[Statement],
-) -> Result<(), Refusal>
-    ensures ok { OnOk result (marks.new ≡ unmarked marks.old (map (λ x. x.name) statements.now)) }
-    ensures refused { IfErr result (λ e. e ≡ OutOfMemory) }
+// Takes the marks of the names of resources. It takes no memory.
+pub(crate) fn unmark_stated(marks: &mut NameMap<bool>, statements: &[Statement])
+    ensures { marks.new ≡ unmarked marks.old (map (λ x. x.name) statements.now) }
 {
     for statement in statements {
-        marks.put(alloc, statement.name(), Some(false))?;
+        drop(marks.remove(statement.name()));
     }
-    Ok(())
+}
+
+// The mark of a name, if it waits.
+fn mark_if(waits: bool) -> Option<bool>
+    ensures { result ≡ (if waits then Some true else None) }
+{
+    if waits { Some(true) } else { None }
 }
 
 // Whether a name waits that a request of the state of the world lists, by the names that were explicit.
@@ -114,7 +109,7 @@ pub(crate) fn listed<T: ResourceType>(
     let mut marks = NameMap::new(alloc);
     for name in names {
         let waits = listed_mark_of(T::TYPE, &explicit, before, name.as_str());
-        marks.put(alloc, name.as_str(), Some(waits))?;
+        marks.put(alloc, name.as_str(), mark_if(waits))?;
     }
     Ok(marks)
 }
@@ -126,25 +121,22 @@ fn leave(
     subscribe: &[String],
     unsubscribe: &[String],
 ) -> Result<(), Refusal>
-    ensures ok { OnOk result (marks.new ≡ put_each (left_mark (map string_bytes subscribe.now)) marks.old (map string_bytes unsubscribe.now)) }
+    ensures ok { OnOk result (marks.new ≡ left_marks (map string_bytes subscribe.now) marks.old (map string_bytes unsubscribe.now)) }
     ensures refused { IfErr result (λ e. e ≡ OutOfMemory) }
 {
     let subscribed = marks_of(alloc, subscribe)?;
     for name in unsubscribe {
-        let mark = left_mark_of(&subscribed, name.as_str());
-        marks.put(alloc, name.as_str(), mark)?;
+        leave_one(marks, &subscribed, name.as_str());
     }
     Ok(())
 }
 
-// What a delta request that subscribes these names says of one that it unsubscribes.
-fn left_mark_of(subscribed: &NameMap<bool>, name: &str) -> Option<bool>
-    ensures { result ≡ (if is_some (finmap.get subscribed.now name.now) then None else Some false) }
+// Takes the mark of a name that a delta request unsubscribes, which subscribes these.
+fn leave_one(marks: &mut NameMap<bool>, subscribed: &NameMap<bool>, name: &str)
+    ensures { marks.new ≡ (if not (is_some (finmap.get subscribed.now name.now)) then finmap.remove marks.old name.now else marks.old) }
 {
-    if subscribed.contains(name) {
-        None
-    } else {
-        Some(false)
+    if !subscribed.contains(name) {
+        drop(marks.remove(name));
     }
 }
 

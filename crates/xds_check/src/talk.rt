@@ -2,6 +2,8 @@
 ghost use Rattle.std.specs.Prelude.{◌≡◌, bytes_eq, false, None, if◌then◌else◌, map, string_bytes, IfOk, IfErr, OnOk};
 ghost use Rattle.std.specs.Option.{option_map_or};
 ghost use Rattle.xds_resource.specs.declared.refusal.Refusal.TheVariants.{OutOfMemory};
+ghost use Rattle.xds_interest.specs.Asked.{delta_asked};
+ghost use Rattle.xds_interest.specs.Delta.{mention_of};
 ghost use Rattle.xds_rules.specs.Answers.{is_of as is_of_type};
 ghost use Rattle.xds_check.specs.Kept as kept;
 ghost use Rattle.xds_check.specs.Kept.{unheard, wanted, listed_marks, mentioned_marks, introduced, ignores, waiting_after, with_asked, with_taken, is_answer, answered, begun_now, requested, responded, with_nonce};
@@ -77,6 +79,22 @@ fn is_of(kind: TypeName, asking: &Asking) -> bool
         Some(named) => named.url() == kind.url(),
         None => false,
     }
+}
+
+// Takes a delta request. The names that it doesn't mention aren't looked at.
+fn take_mention<T: ResourceType>(
+    alloc: Global,
+    names: &mut DeltaNames<T>,
+    subscribe: &[String],
+    unsubscribe: &[String],
+) -> Result<(), Refusal>
+    ensures ok { OnOk result (names.new ≡ delta_asked T.TYPE names.old (mention_of subscribe.now unsubscribe.now)) }
+    ensures refused { IfErr result (λ e. e ≡ OutOfMemory) }
+{
+    let wanted = names.wanted_by(alloc, subscribe, unsubscribe)?;
+    drop(names.widen(alloc, &wanted)?);
+    names.narrow(&wanted, unsubscribe);
+    Ok(())
 }
 
 impl<T: ResourceType> Talk<T> {
@@ -206,8 +224,7 @@ impl<T: ResourceType> Talk<T> {
             Asking::Delta(request) => {
                 let subscribe = &request.resource_names_subscribe;
                 let unsubscribe = &request.resource_names_unsubscribe;
-                drop(self.delta.take(alloc, subscribe, unsubscribe)?);
-                Ok(())
+                take_mention(alloc, &mut self.delta, subscribe, unsubscribe)
             }
         }
     }
@@ -283,8 +300,8 @@ impl<T: ResourceType> Talk<T> {
     {
         let last = String::from_str(alloc, answer.nonce())?;
         let offer = offer_of(alloc, catalogue, answer)?;
-        unmark_stated(alloc, &mut self.waiting, answer.statements())?;
-        unmark(alloc, &mut self.waiting, answer.removed())?;
+        unmark_stated(&mut self.waiting, answer.statements());
+        unmark(&mut self.waiting, answer.removed());
         put(&mut self.last, Some(last));
         put(&mut self.unanswered, Some(offer));
         Ok(())

@@ -3,7 +3,7 @@ use Rattle.std.specs.Prelude.{◌≡◌, ◌⊎◌, ◌==◌, ◌||◌, ℕ, Lis
 use Rattle.http.specs.declared.response.Response.{Response}
 use Rattle.http.specs.Response.{head_of, body_of}
 use Rattle.http_body_util.specs.declared.full.Full.{Full}
-use Rattle.xds_rest.specs.Posts.{HttpReply, without_body}
+use Rattle.xds_rest.specs.Posts.{HttpReply}
 use Rattle.xds_posts.specs.Posted.{unavailable, IsReplyOrUnavailable}
 
 -- a number as a status: one that isn't of three digits, which no reply has, counts as a fault of the server

@@ -15,7 +15,7 @@ returns-in-Ok-push_lines g c =
     let ps = pieces_records c.args.segments.now in
     let rs = c.args.last.now in (
       added ps rs c.new-lines.result.items c.push_segments.new.lines.items c.push_lines.new.lines.items c.in-Ok.ensures.0 c.in-Ok-push_lines.ensures.0
-      ∙ ap (λ l. l ++ trace_of (ps ++ rs)) c.new-lines.ensures.items,
+          ∙ ap (λ l. l ++ trace_of (ps ++ rs)) c.new-lines.ensures.items,
       All-append IsSoundRecord ps rs c.in-Ok.ensures.1 c.in-Ok-push_lines.ensures.1,
     )
 

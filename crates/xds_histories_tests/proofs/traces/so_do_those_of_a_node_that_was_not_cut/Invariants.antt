@@ -1,5 +1,0 @@
-use Rattle.xds_histories_tests.proofs.traces.so_do_those_of_a_node_that_was_not_cut.Given as goal
-
--- the node has the name of the tokens that were just made
-abbrev pub ghosts-told : goal.ghosts-told
-ghosts-told g a = record { id = a.opened }
