@@ -1,0 +1,23 @@
+// The server: replicas that proxies connect to, in one process.
+#![tactic(auto)]
+
+pub mod change;
+pub mod ending;
+pub mod gate;
+pub mod held;
+pub mod input;
+pub mod replica;
+pub mod served;
+pub mod server;
+mod starting;
+pub mod streams;
+mod telling;
+pub mod wires;
+
+pub use change::{Change, read_change};
+pub use ending::{End, Ending};
+pub use gate::NoGate;
+pub use held::{Held, Taken};
+pub use input::take_input;
+pub use served::Served;
+pub use server::{Serving, serve};

@@ -1,0 +1,275 @@
+// One replica of the server: the threads that call it.
+use crate::ending::Ending;
+use crate::gate::NoGate;
+use crate::served::Served;
+use crate::streams::serve_streams;
+use crate::wires::{Bound, both, started};
+use crossbeam_channel::Receiver;
+use std::alloc::{AllocError, AllocGlobal, Global};
+use std::net::{Net, TcpListener, TcpStream};
+use std::random::RandomSource;
+use std::sync::{Arc, Wait};
+use std::thread;
+use std::thread::Threads;
+use std::time::Clock;
+use xds_core::Event;
+use xds_http::serve_on;
+use xds_link::{Incoming, Outgoing};
+use xds_resource::Refusal;
+use xds_workers::{Parcel, Receipt, called, exchange_in, exchange_out};
+
+/// Ends of the channels by which a replica tells another what changed: for what it tells, and for what becomes of it.
+pub type Sends = (Outgoing<Parcel>, Incoming<Receipt>);
+
+/// Ends of the channels by which a replica learns from another what changed.
+pub type Takes = (Incoming<Parcel>, Outgoing<Receipt>);
+
+/// The sockets of a replica.
+#[derive(Drop)]
+pub struct Sockets {
+    pub streams: TcpListener,
+    pub polls: TcpListener,
+}
+
+/// What a replica's thread is started with.
+pub type Replica = Bound<Sockets, Receiver<Event>, Sends, Takes>;
+
+/// Runs a replica for as long as the process runs: streams, polls, what is told to and by other replicas, and the changes
+/// that the input makes. It ends only where no change can come any more, or with the refusal by which it couldn't begin.
+pub fn run_replica<R, A>(
+    rt: &R,
+    alloc: Global,
+    node: &Arc<A>,
+    replica: Replica,
+    ending: &Arc<Ending>,
+) -> Result<(), Refusal>
+where
+    R: Wait
+        + Threads
+        + Clock
+        + Net<Listener = TcpListener, Stream = TcpStream>
+        + RandomSource
+        + AllocGlobal
+        + Copy
+        + Drop
+        + Send
+        + Sync
+        + 'static,
+    A: Served + Drop + Send + Sync + 'static,
+    A::Seat: Send + 'static,
+    A::Segment: Send,
+{
+    let Bound {
+        sockets,
+        changes,
+        sends,
+        takes,
+    } = replica;
+    let exchanging = start_exchange(rt, alloc, node, sends, takes);
+    let serving = start_serving(rt, alloc, node, sockets, ending);
+    let ended = match both(exchanging, serving) {
+        Ok(()) => take_changes(rt, &**node, &changes),
+        Err(refusal) => Err(refusal),
+    };
+    drop(changes);
+    ended
+}
+
+// The threads by which a replica and the others tell each other what changed.
+fn start_exchange<R, A>(
+    rt: &R,
+    alloc: Global,
+    node: &Arc<A>,
+    sends: Vec<Sends>,
+    takes: Vec<Takes>,
+) -> Result<(), Refusal>
+where
+    R: Wait + Threads + Copy + Drop + Send + Sync + 'static,
+    A: Served + Drop + Send + Sync + 'static,
+    A::Seat: Send + 'static,
+    A::Segment: Send,
+{
+    let mut done = Ok(());
+    for ends in sends {
+        done = both(done, start_sending(rt, alloc, node, ends));
+    }
+    for ends in takes {
+        done = both(done, start_taking(rt, alloc, node, ends));
+    }
+    done
+}
+
+// The threads that take streams, and polls.
+fn start_serving<R, A>(
+    rt: &R,
+    alloc: Global,
+    node: &Arc<A>,
+    sockets: Sockets,
+    ending: &Arc<Ending>,
+) -> Result<(), Refusal>
+where
+    R: Wait
+        + Threads
+        + Clock
+        + Net<Listener = TcpListener, Stream = TcpStream>
+        + RandomSource
+        + AllocGlobal
+        + Copy
+        + Drop
+        + Send
+        + Sync
+        + 'static,
+    A: Served + Drop + Send + Sync + 'static,
+    A::Seat: Send,
+    A::Segment: Send,
+{
+    let Sockets { streams, polls } = sockets;
+    let polled = start_polls(rt, node, polls);
+    both(polled, start_streams(rt, alloc, node, streams, ending))
+}
+
+// What a worker thread owns of a replica: a seat of its own, and a share of the node.
+fn place<R: Wait, A: Served + Drop>(rt: &R, node: &Arc<A>) -> Result<(A::Seat, Arc<A>), Refusal> {
+    let seat = node.seat(rt)?;
+    let node = Arc::try_clone(node)?;
+    Ok((seat, node))
+}
+
+// A thread that tells another replica what changed here.
+fn start_sending<R, A>(rt: &R, alloc: Global, node: &Arc<A>, ends: Sends) -> Result<(), Refusal>
+where
+    R: Wait + Threads + Copy + Drop + Send + Sync + 'static,
+    A: Served + Drop + Send + Sync + 'static,
+    A::Seat: Send + 'static,
+    A::Segment: Send,
+{
+    match place(rt, node) {
+        Ok((seat, node)) => {
+            let rt = *rt;
+            started(thread::spawn(&rt, move || {
+                send_all(&rt, alloc, &*node, seat, ends);
+            }))
+        }
+        Err(refusal) => {
+            drop(ends);
+            Err(refusal)
+        }
+    }
+}
+
+fn send_all<R: Wait, A: Served>(rt: &R, alloc: Global, node: &A, seat: A::Seat, ends: Sends) {
+    let mut seat = seat;
+    let (mut parcels, mut receipts) = ends;
+    let _ = exchange_out(
+        rt,
+        alloc,
+        node,
+        &mut seat,
+        &mut parcels,
+        &mut receipts,
+        &NoGate,
+    );
+}
+
+// A thread that takes what changed at another replica.
+fn start_taking<R, A>(rt: &R, alloc: Global, node: &Arc<A>, ends: Takes) -> Result<(), Refusal>
+where
+    R: Wait + Threads + Copy + Drop + Send + Sync + 'static,
+    A: Served + Drop + Send + Sync + 'static,
+    A::Seat: Send + 'static,
+    A::Segment: Send,
+{
+    match place(rt, node) {
+        Ok((seat, node)) => {
+            let rt = *rt;
+            started(thread::spawn(&rt, move || {
+                take_all(&rt, alloc, &*node, seat, ends);
+            }))
+        }
+        Err(refusal) => {
+            drop(ends);
+            Err(refusal)
+        }
+    }
+}
+
+fn take_all<R: Wait, A: Served>(rt: &R, alloc: Global, node: &A, seat: A::Seat, ends: Takes) {
+    let mut seat = seat;
+    let (mut parcels, mut receipts) = ends;
+    let _dropped = exchange_in(
+        rt,
+        alloc,
+        node,
+        &mut seat,
+        &mut parcels,
+        &mut receipts,
+        &NoGate,
+    );
+}
+
+// The thread of the REST server.
+fn start_polls<R, A>(rt: &R, node: &Arc<A>, listener: TcpListener) -> Result<(), Refusal>
+where
+    R: Wait
+        + Threads
+        + Clock
+        + Net<Listener = TcpListener, Stream = TcpStream>
+        + RandomSource
+        + AllocGlobal
+        + Copy
+        + Drop
+        + Send
+        + Sync
+        + 'static,
+    A: Served + Drop + Send + Sync + 'static,
+{
+    let node = Arc::try_clone(node)?;
+    let rt = *rt;
+    started(thread::spawn(&rt, move || {
+        let _ = serve_on(&rt, listener, node);
+    }))
+}
+
+// What a thread that takes connections owns: a share of the node, and one of the end.
+fn shares<A>(node: &Arc<A>, ending: &Arc<Ending>) -> Result<(Arc<A>, Arc<Ending>), AllocError>
+where
+    A: Drop,
+{
+    let node = Arc::try_clone(node)?;
+    let ending = Arc::try_clone(ending)?;
+    Ok((node, ending))
+}
+
+// The thread that takes connections.
+fn start_streams<R, A>(
+    rt: &R,
+    alloc: Global,
+    node: &Arc<A>,
+    listener: TcpListener,
+    ending: &Arc<Ending>,
+) -> Result<(), Refusal>
+where
+    R: Wait + Threads + Clock + Copy + Drop + Send + Sync + 'static,
+    A: Served + Drop + Send + Sync + 'static,
+    A::Seat: Send,
+    A::Segment: Send,
+{
+    let (node, ending) = shares(node, ending)?;
+    let rt = *rt;
+    started(thread::spawn(&rt, move || {
+        serve_streams(rt, alloc, &listener, &node, &ending);
+    }))
+}
+
+// Makes the changes that the input says. One that the replica refuses changes nothing.
+fn take_changes<R, A>(rt: &R, node: &A, changes: &Receiver<Event>) -> Result<(), Refusal>
+where
+    R: Wait,
+    A: Served,
+{
+    let mut seat = node.seat(rt)?;
+    for event in changes.iter(rt) {
+        let _ = called(rt, node, &NoGate, &mut seat, event);
+    }
+    Ok(())
+}

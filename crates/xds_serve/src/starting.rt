@@ -1,0 +1,157 @@
+// The threads that a server starts: one for each replica, and one for the input.
+ghost use Rattle.std.specs.Prelude.{◌≡◌, ◌≤◌};
+
+use crate::ending::{End, Ending};
+use crate::input::take_input;
+use crate::replica::{Replica, run_replica};
+use crate::served::Served;
+use crate::wires::started;
+use crossbeam_channel::Sender;
+use std::alloc::{AllocGlobal, Global};
+use std::io::Read;
+use std::marker::Brand;
+use std::net::{Net, TcpListener, TcpStream};
+use std::random::RandomSource;
+use std::sync::{Arc, Wait};
+use std::thread;
+use std::thread::Threads;
+use std::time::Clock;
+use xds_core::Event;
+use xds_node::{Line, Node, NodeName, Opened};
+use xds_resource::Refusal;
+
+/// Starts the thread of the replica behind so many others. Its node has a name of its own.
+pub(crate) fn start_replica<R>(
+    rt: &R,
+    alloc: Global,
+    index: u16,
+    replica: Replica,
+    ending: &Arc<Ending>,
+) -> Result<(), Refusal>
+where
+    R: Wait
+        + Threads
+        + Clock
+        + Net<Listener = TcpListener, Stream = TcpStream>
+        + RandomSource
+        + AllocGlobal
+        + Copy
+        + Drop
+        + Send
+        + Sync
+        + 'static,
+{
+    let number = index.saturating_add(1);
+    match Opened::<Line>::new(alloc) {
+        Ok(opened) => start_named::<R, Brand>(rt, alloc, opened, number, replica, ending),
+        Err(_) => {
+            drop(replica);
+            Err(Refusal::OutOfMemory)
+        }
+    }
+}
+
+// Starts the thread of a replica by a node of this name.
+fn start_named<R, N>(
+    rt: &R,
+    alloc: Global,
+    opened: Opened<Line>,
+    number: u16,
+    replica: Replica,
+    ending: &Arc<Ending>,
+) -> Result<(), Refusal>
+where
+    R: Wait
+        + Threads
+        + Clock
+        + Net<Listener = TcpListener, Stream = TcpStream>
+        + RandomSource
+        + AllocGlobal
+        + Copy
+        + Drop
+        + Send
+        + Sync
+        + 'static,
+    N: NodeName + Send + Sync + 'static,
+    requires name { opened ≡ N.id }
+    requires first { 1 ≤ number }
+{
+    match shared::<N>(alloc, opened, number) {
+        Ok(node) => start_node(rt, alloc, node, replica, ending),
+        Err(refusal) => {
+            drop(replica);
+            Err(refusal)
+        }
+    }
+}
+
+// A new node, as threads share it.
+fn shared<N: NodeName>(
+    alloc: Global,
+    opened: Opened<Line>,
+    number: u16,
+) -> Result<Arc<Node<N>>, Refusal>
+    requires name { opened ≡ N.id }
+    requires first { 1 ≤ number }
+{
+    Ok(Arc::new(alloc, Node::<N>::new(alloc, opened, number)?)?)
+}
+
+// Starts the thread of a replica.
+fn start_node<R, A>(
+    rt: &R,
+    alloc: Global,
+    node: Arc<A>,
+    replica: Replica,
+    ending: &Arc<Ending>,
+) -> Result<(), Refusal>
+where
+    R: Wait
+        + Threads
+        + Clock
+        + Net<Listener = TcpListener, Stream = TcpStream>
+        + RandomSource
+        + AllocGlobal
+        + Copy
+        + Drop
+        + Send
+        + Sync
+        + 'static,
+    A: Served + Drop + Send + Sync + 'static,
+    A::Seat: Send + 'static,
+    A::Segment: Send,
+{
+    let Ok(ending) = Arc::try_clone(ending) else {
+        drop(replica);
+        return Err(Refusal::OutOfMemory);
+    };
+    let rt = *rt;
+    started(thread::spawn(&rt, move || {
+        if let Err(refusal) = run_replica(&rt, alloc, &node, replica, &ending) {
+            ending.end(&rt, End::Refused(refusal));
+        }
+    }))
+}
+
+/// Starts the thread that takes the input, which a server doesn't wait for at its end.
+pub(crate) fn start_input<R, I>(
+    rt: &R,
+    alloc: Global,
+    input: I,
+    senders: Vec<Sender<Event>>,
+    ending: &Arc<Ending>,
+) -> Result<(), Refusal>
+where
+    R: Wait + Threads + Copy + Drop + Send + Sync + 'static,
+    I: Read + Drop + Send + 'static,
+{
+    let Ok(ending) = Arc::try_clone(ending) else {
+        drop(senders);
+        return Err(Refusal::OutOfMemory);
+    };
+    let rt = *rt;
+    started(thread::spawn(&rt, move || {
+        let mut input = input;
+        take_input(&rt, alloc, &mut input, senders.as_slice(), &ending);
+    }))
+}

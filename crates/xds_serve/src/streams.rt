@@ -1,0 +1,90 @@
+// The streams of a replica: each connection has a thread that reads its requests and one that writes its responses.
+use crate::ending::Ending;
+use crate::gate::NoGate;
+use crate::served::Served;
+use std::alloc::Global;
+use std::net::{Shutdown, TcpListener, TcpStream};
+use std::sync::{Arc, Wait};
+use std::thread;
+use std::thread::Threads;
+use std::time::{Clock, Duration};
+use xds_core::{Event, Reply};
+use xds_frames::Counted;
+use xds_workers::{called, serve_reader, serve_writer};
+
+/// Takes connections for as long as the process runs, each into a thread of its own. Where the system gives no connection,
+/// as where it has no descriptor left, it pauses for 10 milliseconds.
+pub fn serve_streams<R, A>(
+    rt: R,
+    alloc: Global,
+    listener: &TcpListener,
+    node: &Arc<A>,
+    ending: &Arc<Ending>,
+)
+where
+    R: Wait + Threads + Clock + Copy + Drop + Send + Sync + 'static,
+    A: Served + Drop + Send + Sync + 'static,
+    A::Seat: Send,
+    A::Segment: Send,
+{
+    for accepted in listener.incoming() {
+        match accepted {
+            Ok(socket) => start_stream(rt, alloc, socket, node, ending),
+            Err(_) => thread::sleep(&rt, Duration::from_millis(10)),
+        }
+    }
+}
+
+// Serves a connection in a thread of its own. Where there is none, or no memory, it is closed.
+fn start_stream<R, A>(rt: R, alloc: Global, socket: TcpStream, node: &Arc<A>, ending: &Arc<Ending>)
+where
+    R: Wait + Threads + Copy + Drop + Send + Sync + 'static,
+    A: Served + Drop + Send + Sync + 'static,
+    A::Seat: Send,
+    A::Segment: Send,
+{
+    let (Ok(node), Ok(ending)) = (Arc::try_clone(node), Arc::try_clone(ending)) else {
+        return;
+    };
+    let _ = thread::spawn(&rt, move || {
+        serve_stream(&rt, alloc, &socket, &*node);
+        ending.stream_ended(&rt);
+    });
+}
+
+// One stream, from its opening to its end.
+fn serve_stream<R, A>(rt: &R, alloc: Global, socket: &TcpStream, node: &A)
+where
+    R: Wait + Threads + Sync,
+    A: Served + Send + Sync,
+    A::Seat: Send,
+    A::Segment: Send,
+{
+    let (Ok(mut reading), Ok(mut writing)) = (node.seat(rt), node.seat(rt)) else {
+        return;
+    };
+    let Some(stream) = opened(rt, node, &mut reading) else {
+        return;
+    };
+    thread::scope(thread::scope_env(), rt, |scope| {
+        let writer = scope.spawn(move || {
+            let mut to = Counted::new(socket);
+            let _ = serve_writer(rt, alloc, node, &mut writing, stream, &mut to, &NoGate);
+            let _ = socket.shutdown(Shutdown::Both);
+        });
+        if writer.is_ok() {
+            let mut from = Counted::new(socket);
+            let _ = serve_reader(rt, alloc, node, &mut reading, stream, &mut from, &NoGate);
+        } else {
+            let _ = called(rt, node, &NoGate, &mut reading, Event::Close(stream));
+        }
+    });
+}
+
+// The number of a new stream.
+fn opened<R: Wait, A: Served>(rt: &R, node: &A, seat: &mut A::Seat) -> Option<u64> {
+    match called(rt, node, &NoGate, seat, Event::Open) {
+        Ok(Ok(Reply::Opened(stream))) => Some(stream),
+        _ => None,
+    }
+}
