@@ -1,7 +1,9 @@
 #!/usr/bin/env python3
-"""Runs the built program over the worked cases of examples/cases/ and examples/play/, and compares what only a run shows.
+"""Runs the built program over the worked cases of examples/, and compares what only a run shows.
 
     bench/run_examples.py [PROGRAM]
+
+The folders are cases/ (`xds answer`), play/, trace/ (`xds play --trace`) and check/.
 
 NAME.args has the words, one a line; NAME.stdin is the input. The program must write NAME.stdout to its output, the line
 of NAME.stderr first on its error output, or nothing where that is empty, and end with the status in NAME.status. With
@@ -14,13 +16,15 @@ import subprocess
 import sys
 
 TOP = os.path.dirname(os.path.dirname(os.path.abspath(__file__)))
-FOLDERS = [os.path.join(TOP, "examples", name) for name in ("cases", "play")]
+FOLDERS = [os.path.join(TOP, "examples", name) for name in ("cases", "play", "trace", "check")]
 
 # Words, the status, and whether the text goes to the output rather than to the error output.
 OTHER_WORDS = [
     ([], 2, False),
     (["play", "extra"], 2, False),
     (["play", "--replica", "1"], 2, False),
+    (["play", "--trace", "0"], 2, False),
+    (["check", "extra"], 2, False),
     (["answer", "extra"], 2, False),
     (["answer", "--replica", "0"], 2, False),
     (["answer", "--replica", "65536"], 2, False),
@@ -30,6 +34,7 @@ OTHER_WORDS = [
     (["--help"], 0, True),
     (["answer", "--help"], 0, True),
     (["play", "--help"], 0, True),
+    (["check", "--help"], 0, True),
 ]
 
 

@@ -5,17 +5,18 @@ use std::io::ErrorKind;
 use std::process::ExitCode;
 use std::rt::Env;
 use std::{env, io};
+use xds_commands::run;
 use xds_frames::{Counted, write_whole};
-use xds_program::run::{WRONG_WORDS, run, tell};
+use xds_program::run::{WRONG_WORDS, tell};
 use xds_resource::Refusal;
 
 fn main(rt: HostRuntime) -> ExitCode {
     let mut errors = Counted::new(rt.stderr());
     let status = match arguments(&rt) {
         Ok(words) => run(
-            rt.alloc(),
+            &rt,
             words.as_slice(),
-            &mut Counted::new(rt.reader()),
+            rt.stdin(),
             &mut Counted::new(rt.stdout()),
             &mut errors,
         ),

@@ -4,7 +4,12 @@ pub mod Taking
 pub mod Reading
 pub mod Writing
 pub mod Telling
+pub mod Judging
 pub mod CommandLine
-pub mod RightWords
+pub mod Values
+pub mod Asking
+pub mod OneTask
 pub mod LongWords
+pub mod OneOption
 pub mod OnlyRight
+pub mod RightWords

@@ -1,29 +1,28 @@
--- Words that ask for a task are taken, and name it; those that ask for an answer give the number of its replica.
-use Rattle.std.proofs.Common.{◌≡◌, ◌==◌, ◌∙◌, ℕ, Bool, List, [], ◌∷◌, ◌++◌, codes, true, false, refl, sym, ap, subst, inl, inr, cond, drop, Option, Some, None, option_map, Result, arith}
-use Rattle.std.specs.Prelude.{pos, neg_ℤ, unwrap_or, ◌≤ℤ◌, FitsSigned}
+-- Plain words ask for what they say.
+use Rattle.std.proofs.Common.{◌≡◌, ◌==◌, ℕ, Bool, List, [], ◌∷◌, ◌++◌, codes, true, false, refl, sym, subst, inl, inr, cond, drop, Option, Some, None, option_map, arith}
+use Rattle.std.specs.Prelude.{pos, neg_ℤ, ◌≤ℤ◌, FitsSigned}
 use Rattle.std.specs.Int.{w64}
 use Rattle.std.specs.Str.{bytes_eq}
-use Rattle.std.specs.Str.Parse.{ExplainsUnsignedError, HasUnsignedDigitsIfOk, IsNumeral, ParsesUnsigned, digits_value, without_leading_plus}
-use Rattle.std.specs.declared.num.ParseIntError.{ParseIntError}
+use Rattle.std.specs.Str.Parse.{IsNumeral, digits_value, without_leading_plus}
 use Rattle.std.proofs.lemmas.Bool.{ne_eqb}
 use Rattle.std.proofs.lemmas.Int.{ints}
 use Rattle.std.proofs.lemmas.Str.Parse.{digit_from_value}
-use Rattle.clap.specs.Words.{App, HasMatchesOf, IsSignedIn, Kinds, ReadsOne, Row, fault_of, is_simple, is_simple_and_free, kind_of, one_of, one_text, rows_of, subcommand_name_of, subcommand_of, subcommand_rows_of, takes}
+use Rattle.clap.specs.Words.{IsSignedIn, Row, Text, one_of}
 use Rattle.clap.specs.Lexer.{long_of, short_of, strip_byte}
 use Rattle.clap.specs.ValueTests.{accepts}
 use Rattle.clap.specs.declared.builder.value_parser.ValueParser.TheVariants as vp
-use Rattle.clap.specs.declared.error.Error.{Error}
-use Rattle.clap.specs.declared.error.kind.ErrorKind.TheVariants.{OutOfMemory}
-use Rattle.clap.specs.declared.parser.matches.ArgMatches.{ArgMatches}
-use Rattle.clap.specs.declared.parser.matches.Found.{Found}
 use Rattle.clap.proofs.OnLiterals.{clap_on_literals}
 use Rattle.clap.proofs.ValueTestLemmas.{Accepts-accepts}
-use Rattle.clap.proofs.WalkLemmas.{one_text-rows}
-use Rattle.xds_program.specs.Words.{Text, AreOptions, Asks, AsksAnswer, AsksPlay, IsReplicaText}
-use Rattle.xds_program.specs.declared.words.Task.{Task}
-use Rattle.xds_program.specs.declared.words.Task.TheVariants.{Answer, Play}
-use Rattle.xds_program.specs.CommandLine.{command_line, faults}
-use Rattle.xds_program.proofs.CommandLine.{command_line-is_free, command_line-is_simple, name_read, replica_read}
+use Rattle.xds_program.specs.PlainWords.{AreOptions, AreTraceOptions, AreWords, AsksAnswer, AsksCheck, AsksPlay, IsReplicaText}
+use Rattle.xds_program.specs.Laws.{NamesPlainly}
+use Rattle.xds_program.specs.declared.tasks.Task.{Task}
+use Rattle.xds_program.specs.declared.tasks.Task.TheVariants.{Answer, Play, Check}
+use Rattle.xds_program.specs.Words.{Asks, AsksIn, IsNumber, IsNumberText}
+use Rattle.xds_program.specs.CommandLine.{faults, named_in}
+use Rattle.xds_program.proofs.CommandLine.{name_read, number_given}
+use Rattle.xds_program.proofs.OneTask.{ask_one}
+use Rattle.xds_program.proofs.OnlyRight.{only_answer_words, only_check_words, only_play_words}
+use Rattle.xds_program.proofs.Values.{command_is, no_some}
 
 -- ---- the text of a replica's number
 
@@ -76,181 +75,171 @@ one = record { digits = (omega arith, (omega arith, tt)); value = refl; least = 
 
 -- ---- the forms of the words
 
--- the words are taken without a fault, and give the text as the replica's number
-abbrev Gives : List Text → Text → Type 0
-Gives words t = (takes command_line words ≡ true) × (replica_read words ≡ Some (Some t)) × (faults words ≡ []) × (name_read words ≡ Some (codes "answer"))
+-- the words are taken without a fault, name the command, and give its option this value
+abbrev Gives : Text → Text → Option Text → List Text → Type 0
+Gives command option value words = (number_given option words ≡ Some value) × (faults words ≡ []) × (name_read words ≡ Some command)
 
 -- so they do with the options, and where `--` follows them
-abbrev OptionsGive : Text → List Text → Text → Type 0
-OptionsGive p options t = Gives (p ∷ codes "answer" ∷ options) t × Gives (p ∷ codes "answer" ∷ options ++ codes "--" ∷ []) t
+abbrev OptionsGive : Text → Text → Option Text → Text → List Text → Type 0
+OptionsGive command option value p options = Gives command option value (p ∷ command ∷ options) × Gives command option value (p ∷ command ∷ options ++ codes "--" ∷ [])
 
--- no option: the default number
-no_option : (p : Text) → OptionsGive p [] (codes "1")
+-- no option of `answer`: the default number; and of `play`: none
+no_replica : (p : Text) → OptionsGive (codes "answer") (codes "replica") (Some (codes "1")) p []
 unfolding clap_on_literals
-no_option p = ((refl, refl, refl, refl), (refl, refl, refl, refl))
+no_replica p = ((refl, refl, refl), (refl, refl, refl))
 
--- `--replica N`
-two_words : (p t : Text) → IsTaken t → OptionsGive p (codes "--replica" ∷ t ∷ []) t
+no_trace : (p : Text) → OptionsGive (codes "play") (codes "trace") None p []
 unfolding clap_on_literals
-two_words p t h = (
-  (rw (h.no_dashes, h.no_long, h.no_short, h.fits) refl, rw (h.no_dashes, h.no_long, h.no_short, h.no_hyphen) refl, rw (h.no_dashes, h.no_long, h.no_short, h.fits) refl, refl),
-  (rw (h.no_dashes, h.no_long, h.no_short, h.fits) refl, rw (h.no_dashes, h.no_long, h.no_short, h.no_hyphen) refl, rw (h.no_dashes, h.no_long, h.no_short, h.fits) refl, refl),
+no_trace p = ((refl, refl, refl), (refl, refl, refl))
+
+-- `--replica N`, and `--trace N`
+replica_apart : (p t : Text) → IsTaken t → OptionsGive (codes "answer") (codes "replica") (Some t) p (codes "--replica" ∷ t ∷ [])
+unfolding clap_on_literals
+replica_apart p t h = (
+  (rw (h.no_dashes, h.no_long, h.no_short, h.no_hyphen) refl, rw (h.no_dashes, h.no_long, h.no_short, h.fits) refl, refl),
+  (rw (h.no_dashes, h.no_long, h.no_short, h.no_hyphen) refl, rw (h.no_dashes, h.no_long, h.no_short, h.fits) refl, refl),
 )
 
--- `--replica=N`
-one_word : (p t : Text) → IsTaken t → OptionsGive p ((codes "--replica=" ++ t) ∷ []) t
+trace_apart : (p t : Text) → IsTaken t → OptionsGive (codes "play") (codes "trace") (Some t) p (codes "--trace" ∷ t ∷ [])
 unfolding clap_on_literals
-one_word p t h = ((rw h.fits refl, rw h.no_hyphen refl, rw h.fits refl, refl), (rw h.fits refl, rw h.no_hyphen refl, rw h.fits refl, refl))
+trace_apart p t h = (
+  (rw (h.no_dashes, h.no_long, h.no_short, h.no_hyphen) refl, rw (h.no_dashes, h.no_long, h.no_short, h.fits) refl, refl),
+  (rw (h.no_dashes, h.no_long, h.no_short, h.no_hyphen) refl, rw (h.no_dashes, h.no_long, h.no_short, h.fits) refl, refl),
+)
 
--- each form of the options gives the number that it names
-options_give : (p : Text) (options : List Text) (n : ℕ) → AreOptions options n → (t : Text) × IsReplicaText t n × OptionsGive p options t
-options_give p options n (inl h) = (
+-- `--replica=N`, and `--trace=N`
+replica_joined : (p t : Text) → IsTaken t → OptionsGive (codes "answer") (codes "replica") (Some t) p ((codes "--replica=" ++ t) ∷ [])
+unfolding clap_on_literals
+replica_joined p t h = ((rw h.no_hyphen refl, rw h.fits refl, refl), (rw h.no_hyphen refl, rw h.fits refl, refl))
+
+trace_joined : (p t : Text) → IsTaken t → OptionsGive (codes "play") (codes "trace") (Some t) p ((codes "--trace=" ++ t) ∷ [])
+unfolding clap_on_literals
+trace_joined p t h = ((rw h.no_hyphen refl, rw h.fits refl, refl), (rw h.no_hyphen refl, rw h.fits refl, refl))
+
+-- `check`, which has no option
+check_alone : (p : Text) → ((faults (p ∷ codes "check" ∷ []) ≡ []) × (name_read (p ∷ codes "check" ∷ []) ≡ Some (codes "check")))
+    × ((faults (p ∷ codes "check" ∷ codes "--" ∷ []) ≡ []) × (name_read (p ∷ codes "check" ∷ codes "--" ∷ []) ≡ Some (codes "check")))
+unfolding clap_on_literals
+check_alone p = ((refl, refl), (refl, refl))
+
+-- ---- what they ask for
+
+-- a text that writes the number of a replica writes that number
+number_text : (t : Text) (n : ℕ) → IsReplicaText t n → IsNumberText t n
+number_text t n h = record { digits = h.digits; value = h.value; most = h.most }
+
+module _ (command option : Text) (value : Option Text) (options words : List Text) (are : AreWords command options words) where
+  -- the words give what their options give
+  words_give : OptionsGive command option value are.program options → Gives command option value words
+  words_give given = elim are.words_are [
+    | inl e ↦ subst (Gives command option value) (sym e) given.0
+    | inr e ↦ subst (Gives command option value) (sym e) given.1
+  ]
+
+-- a number that is given is found
+given_number : (found : Option (Text × List Row)) (command option t : Text) (n : ℕ) → option_map (λ p. p.0) found ≡ Some command
+    → option_map (λ p. one_of option p.1) found ≡ Some (Some t) → IsReplicaText t n → (p : Text × List Row) × (found ≡ Some p) × (p.0 ≡ command) × IsNumber p.1 option n
+given_number None command option t n name value is = absurd (cc)
+given_number (Some p) command option t n name value is =
+    let named : p.0 ≡ command = cc in
+    let found : one_of option p.1 ≡ Some t = cc in
+    (p, refl, named, (t, found, number_text t n is))
+
+-- each form of the options of `answer` gives the number that it names
+replica_given : (p : Text) (options : List Text) (n : ℕ) → AreOptions options n → (t : Text) × IsReplicaText t n × OptionsGive (codes "answer") (codes "replica") (Some t) p options
+replica_given p options n (inl h) = (
   codes "1",
   subst (IsReplicaText (codes "1")) (sym h.1) one,
-  subst (λ given. OptionsGive p given (codes "1")) (sym h.0) (no_option p),
+  subst (OptionsGive (codes "answer") (codes "replica") (Some (codes "1")) p) (sym h.0) (no_replica p),
 )
-options_give p options n (inr (t, is, inl e)) = (t, is, subst (λ given. OptionsGive p given t) (sym e) (two_words p t (is_taken t n is)))
-options_give p options n (inr (t, is, inr e)) = (t, is, subst (λ given. OptionsGive p given t) (sym e) (one_word p t (is_taken t n is)))
+replica_given p options n (inr (t, is, inl e)) =
+    (t, is, subst (OptionsGive (codes "answer") (codes "replica") (Some t) p) (sym e) (replica_apart p t (is_taken t n is)))
+replica_given p options n (inr (t, is, inr e)) =
+    (t, is, subst (OptionsGive (codes "answer") (codes "replica") (Some t) p) (sym e) (replica_joined p t (is_taken t n is)))
 
--- words that ask replica n give n
-words_give : (words : List Text) (n : ℕ) → AsksAnswer words n → (t : Text) × IsReplicaText t n × Gives words t
-words_give words n h =
-    let given = options_give h.program h.options n h.are_options in (
-      given.0,
-      given.1,
-      elim h.words_are [
-        | inl e ↦ subst (λ ws. Gives ws given.0) (sym e) given.2.0
-        | inr e ↦ subst (λ ws. Gives ws given.0) (sym e) given.2.1
-      ],
-    )
+answer_right : (words : List Text) (n : ℕ) → AsksAnswer words n → Asks words (Answer n)
+answer_right words n h =
+    let given = replica_given h.2.program h.0 n h.1 in
+    let gives = words_give (codes "answer") (codes "replica") (Some given.0) h.0 words h.2 given.2 in
+    let found = given_number (named_in words) (codes "answer") (codes "replica") given.0 n gives.2 gives.0 given.1 in
+    (gives.1, subst (λ (x : Option (Text × List Row)). AsksIn x (Answer n)) (sym found.1) (found.2, found.3))
 
--- what the words that ask replica n to answer give as the replica's number is a text of n
-pub reads_right : (words : List Text) (n : ℕ) → AsksAnswer words n → (text : Text) × IsReplicaText text n × (replica_read words ≡ Some (Some text))
-reads_right words n h =
-    let given = words_give words n h in
-    (given.0, given.1, given.2.1)
+-- so does each form of the options of `play`
+trace_given : (p : Text) (options : List Text) (n : ℕ) → AreTraceOptions options (Some n) → (t : Text) × IsReplicaText t n × OptionsGive (codes "play") (codes "trace") (Some t) p options
+trace_given p options n (t, is, inl e) =
+    (t, is, subst (OptionsGive (codes "play") (codes "trace") (Some t) p) (sym e) (trace_apart p t (is_taken t n is)))
+trace_given p options n (t, is, inr e) =
+    (t, is, subst (OptionsGive (codes "play") (codes "trace") (Some t) p) (sym e) (trace_joined p t (is_taken t n is)))
 
--- ---- `play`
+-- where no number is given, none is found
+no_number : (found : Option (Text × List Row)) → option_map (λ p. p.0) found ≡ Some (codes "play") → option_map (λ p. one_of (codes "trace") p.1) found ≡ Some None → AsksIn found (Play None)
+no_number None name value = absurd (cc)
+no_number (Some p) name value =
+    let named : p.0 ≡ codes "play" = cc in
+    let none : one_of (codes "trace") p.1 ≡ None = cc in
+    (named, λ n h. no_some (one_of (codes "trace") p.1) h.0 none h.1)
 
--- the words are taken without a fault, and name `play`
-abbrev NamesPlay : List Text → Type 0
-NamesPlay words = (takes command_line words ≡ true) × (faults words ≡ []) × (name_read words ≡ Some (codes "play"))
+play_right : (words : List Text) (trace : Option ℕ) → AsksPlay words trace → Asks words (Play trace)
+play_right words None h =
+    let given = subst (OptionsGive (codes "play") (codes "trace") None h.2.program) (sym h.1) (no_trace h.2.program) in
+    let gives = words_give (codes "play") (codes "trace") None h.0 words h.2 given in
+    (gives.1, no_number (named_in words) gives.2 gives.0)
+play_right words (Some n) h =
+    let given = trace_given h.2.program h.0 n h.1 in
+    let gives = words_give (codes "play") (codes "trace") (Some given.0) h.0 words h.2 given.2 in
+    let found = given_number (named_in words) (codes "play") (codes "trace") given.0 n gives.2 gives.0 given.1 in
+    (gives.1, subst (λ (x : Option (Text × List Row)). AsksIn x (Play (Some n))) (sym found.1) (found.2, found.3))
 
-play_alone : (p : Text) → NamesPlay (p ∷ codes "play" ∷ []) × NamesPlay (p ∷ codes "play" ∷ codes "--" ∷ [])
-unfolding clap_on_literals
-play_alone p = ((refl, refl, refl), (refl, refl, refl))
+check_named : (found : Option (Text × List Row)) → option_map (λ p. p.0) found ≡ Some (codes "check") → AsksIn found Check
+check_named None name = absurd (cc)
+check_named (Some p) name = cc
 
-names_play : (words : List Text) → AsksPlay words → NamesPlay words
-names_play words h = elim h.words_are [
-  | inl e ↦ subst NamesPlay (sym e) (play_alone h.program).0
-  | inr e ↦ subst NamesPlay (sym e) (play_alone h.program).1
-]
+check_right : (words : List Text) → AsksCheck words → Asks words Check
+check_right words h =
+    let gives : (faults words ≡ []) × (name_read words ≡ Some (codes "check")) = elim h.words_are [
+      | inl e ↦ subst (λ (ws : List Text). (faults ws ≡ []) × (name_read ws ≡ Some (codes "check"))) (sym e) (check_alone h.program).0
+      | inr e ↦ subst (λ (ws : List Text). (faults ws ≡ []) × (name_read ws ≡ Some (codes "check"))) (sym e) (check_alone h.program).1
+    ] in
+    (gives.0, check_named (named_in words) gives.1)
 
--- ---- any task
+-- ---- and only they
 
--- the name of a task's subcommand
-abbrev pub name_of : Task → Text
-name_of (Answer n) = codes "answer"
-name_of Play = codes "play"
+same_replica : (n m : ℕ) → Answer n ≡ Answer m → n ≡ m
+same_replica n m e = cc
 
--- words that ask for a task are taken
-pub takes_right : (words : List Text) (task : Task) → Asks words task → takes command_line words ≡ true
-takes_right words (Answer n) h = (words_give words n h).2.0
-takes_right words Play h = (names_play words h).0
+same_trace : (o p : Option ℕ) → Play o ≡ Play p → o ≡ p
+same_trace o p e = cc
 
--- and nothing is wrong with them
-pub faultless_right : (words : List Text) (task : Task) → Asks words task → faults words ≡ []
-faultless_right words (Answer n) h = (words_give words n h).2.2
-faultless_right words Play h = (names_play words h).1
+pub answer_plain : (words : List Text) (n : ℕ) → (Asks words (Answer n) → AsksAnswer words n) × (AsksAnswer words n → Asks words (Answer n))
+answer_plain words n = (
+  (λ asked.
+      let plain = only_answer_words words asked.0 (command_is (named_in words) (Answer n) asked.1) in
+      let same = same_replica n plain.0 (ask_one words (Answer n) (Answer plain.0) asked (answer_right words plain.0 plain.1)) in
+      subst (AsksAnswer words) (sym same) plain.1),
+  answer_right words n,
+)
 
--- and they name its subcommand
-pub names_right : (words : List Text) (task : Task) → Asks words task → name_read words ≡ Some (name_of task)
-names_right words (Answer n) h = (words_give words n h).2.3
-names_right words Play h = (names_play words h).2
+pub play_plain : (words : List Text) (trace : Option ℕ) → (Asks words (Play trace) → AsksPlay words trace) × (AsksPlay words trace → Asks words (Play trace))
+play_plain words trace = (
+  (λ asked.
+      let plain = only_play_words words asked.0 (command_is (named_in words) (Play trace) asked.1) in
+      let same = same_trace trace plain.0 (ask_one words (Play trace) (Play plain.0) asked (play_right words plain.0 plain.1)) in
+      subst (AsksPlay words) (sym same) plain.1),
+  play_right words trace,
+)
 
--- names of subcommands are told apart
-apart : (o : Option Text) → o ≡ Some (codes "answer") → o ≡ Some (codes "play") → ⊥
-apart o is other = cc
+pub check_plain : (words : List Text) → (Asks words Check → AsksCheck words) × (AsksCheck words → Asks words Check)
+check_plain words = (λ asked. only_check_words words asked.0 (command_is (named_in words) Check asked.1), check_right words)
 
--- two texts that are read of one line are one
-same_text : (o : Option (Option Text)) (s t : Text) → o ≡ Some (Some s) → o ≡ Some (Some t) → s ≡ t
-same_text o s t is other = cc
+-- words without a fault ask for a task
+faultless : (words : List Text) → NamesPlainly words → faults words ≡ [] → (task : Task) × Asks words task
+faultless words (inl answer) none =
+    let plain = only_answer_words words none answer in
+    (Answer plain.0, answer_right words plain.0 plain.1)
+faultless words (inr (inl play)) none =
+    let plain = only_play_words words none play in
+    (Play plain.0, play_right words plain.0 plain.1)
+faultless words (inr (inr check)) none = (Check, check_right words (only_check_words words none check))
 
--- words that ask two replicas ask one
-one_replica : (words : List Text) (n m : ℕ) → AsksAnswer words n → AsksAnswer words m → n ≡ m
-one_replica words n m h k =
-    let first = reads_right words n h in
-    let second = reads_right words m k in
-    let same = same_text (replica_read words) first.0 second.0 first.2 second.2 in
-    sym first.1.value ∙ ap (λ (t : Text). digits_value 10 (without_leading_plus t)) same ∙ second.1.value
-
--- words that ask for two tasks ask for one
-pub ask_one : (words : List Text) (one other : Task) → Asks words one → Asks words other → one ≡ other
-ask_one words (Answer n) (Answer m) h k = ap Answer (one_replica words n m h k)
-ask_one words (Answer n) Play h k = absurd (apart (name_read words) (names_right words (Answer n) h) (names_right words Play k))
-ask_one words Play (Answer m) h k = absurd (apart (name_read words) (names_right words (Answer m) k) (names_right words Play h))
-ask_one words Play Play h k = refl
-
--- ---- what `task_of` makes of a parse
-
--- a parse by a command that is the command line
-module _ (a : App) (words : List Text) (is : a ≡ command_line) where
-  -- words that ask for a task fail for want of memory alone
-  pub right_fails : (e : Error) → (takes a words ≡ true → kind_of e ≡ OutOfMemory) → (task : Task) → Asks words task → kind_of e ≡ OutOfMemory
-  right_fails e h task asked = h (ap (λ b. takes b words) is ∙ takes_right words task asked)
-
-  -- what is said of the kinds of error holds of the faults
-  pub faults_are : (P : Kinds → Type 0) → (is_simple_and_free a ≡ true → P (fault_of a words)) → P (faults words)
-  faults_are P h = subst (λ b. P (fault_of b words)) is (h (ap is_simple_and_free is ∙ command_line-is_free))
-
-  -- the subcommand's matches are those that the words name
-  pub matches_are : (m : ArgMatches) → HasMatchesOf a words m → subcommand_rows_of m ≡ subcommand_of command_line words
-  matches_are m h = (h (ap is_simple is ∙ command_line-is_simple)).1 ∙ ap (λ b. subcommand_of b words) is
-
--- one map after another
-mapped : {X Y Z : Type 0} (f : X → Y) (g : Y → Z) (o : Option X) → option_map (λ x. g (f x)) o ≡ option_map g (option_map f o)
-mapped f g None = refl
-mapped f g (Some x) = refl
-
--- the name in the matches is the one that the words have
-pub named_as : (m : ArgMatches) (words : List Text) → subcommand_rows_of m ≡ subcommand_of command_line words → subcommand_name_of m ≡ name_read words
-named_as m words same =
-    let both : subcommand_name_of m ≡ option_map (λ (p : Text × List Row). p.0) (subcommand_rows_of m) = mapped _ (λ (p : Text × List Row). p.0) _ in
-    both ∙ ap (option_map (λ (p : Text × List Row). p.0)) same
-
--- what `parse` gives at `u16`
-abbrev Parses : Text → Result ℕ ParseIntError → Type 0
-Parses t r = ParsesUnsigned 16 10 t r × ExplainsUnsignedError 10 t r × HasUnsignedDigitsIfOk t r
-
--- a text of n is read as n
-number_read : (t : Text) (n : ℕ) (r : Option ℕ) → IsReplicaText t n → ReadsOne Parses t r → r ≡ Some n
-number_read t n (Some v) h read = ap Some (read.0.1 ∙ h.value)
-number_read t n None h read = absurd (read.1.0 (h.digits, omega (arith, h.value, h.most)))
-
--- the text in the subcommand's matches
-text_read : (o : Option (Text × List Row)) (rows : List Row) (t : Text) → Some rows ≡ option_map (λ p. p.1) o
-    → option_map (λ p. one_of (codes "replica") p.1) o ≡ Some (Some t) → one_of (codes "replica") rows ≡ Some t
-text_read None rows t same read = cc
-text_read (Some p) rows t same read = cc
-
--- the number that is read of the subcommand's matches is the one that right words ask
-read_is_asked : (words : List Text) (f : Found) (r : Option ℕ) (n : ℕ) → AsksAnswer words n
-    → Some (rows_of f) ≡ option_map (λ p. p.1) (subcommand_of command_line words)
-    → ((t : Text) → one_text f (codes "replica") ≡ Some t → ReadsOne Parses t r) → AsksAnswer words (unwrap_or r 1)
-read_is_asked words f r n asked same read =
-    let given = reads_right words n asked in
-    let text = one_text-rows f (codes "replica") ∙ text_read (subcommand_of command_line words) (rows_of f) given.0 same given.2 in
-    let number = number_read given.0 n r given.1 (read given.0 text) in
-    subst (AsksAnswer words) (sym (ap (λ o. unwrap_or o 1) number)) asked
-
--- where `answer` is named, its replica is read
-pub answer_is_asked : (words : List Text) (f : Found) (r : Option ℕ) → ((task : Task) × Asks words task) → name_read words ≡ Some (codes "answer")
-    → Some (rows_of f) ≡ option_map (λ p. p.1) (subcommand_of command_line words)
-    → ((t : Text) → one_text f (codes "replica") ≡ Some t → ReadsOne Parses t r) → AsksAnswer words (unwrap_or r 1)
-answer_is_asked words f r (Answer n, asked) named same read = read_is_asked words f r n asked same read
-answer_is_asked words f r (Play, asked) named same read = absurd (apart (name_read words) named (names_right words Play asked))
-
--- where it isn't, `play` is asked for
-pub play_is_asked : (words : List Text) → ((task : Task) × Asks words task) → (name_read words ≡ Some (codes "answer") → ⊥) → AsksPlay words
-play_is_asked words (Answer n, asked) not = absurd (not (names_right words (Answer n) asked))
-play_is_asked words (Play, asked) not = asked
+pub faultless_ask : (words : List Text) → NamesPlainly words → ((faults words ≡ []) → (task : Task) × Asks words task) × ((task : Task) × Asks words task → faults words ≡ [])
+faultless_ask words names = (faultless words names, λ asked. asked.1.0)

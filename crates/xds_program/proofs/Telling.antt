@@ -4,12 +4,12 @@ use Rattle.xds_resource.specs.declared.refusal.Refusal.{Refusal}
 use Rattle.xds_resource.specs.declared.refusal.Refusal.TheVariants.{Device as DeviceRefusal, OutOfMemory}
 use Rattle.clap.proofs.CountText.{decimal-count_text}
 use Rattle.xds_program.specs.Outcomes.{HasRun, IsCause, IsShown, IsUnable, RunsTask, fault_line, refusal_line}
-use Rattle.xds_program.specs.declared.words.Task.{Task}
-use Rattle.xds_program.specs.Words.{Asks, Text}
-use Rattle.xds_program.specs.CommandLine.{faults}
+use Rattle.xds_program.specs.declared.tasks.Task.{Task}
+use Rattle.xds_program.specs.declared.run.Ran.TheVariants.{Done}
+use Rattle.xds_program.specs.Words.{Asks, IsWrongBy}
 use Rattle.clap.specs.declared.error.Error.{Error}
 use Rattle.clap.specs.declared.error.kind.ErrorKind.TheVariants as kind
-use Rattle.clap.specs.Words.{HasKind, kind_of}
+use Rattle.clap.specs.Words.{Text, kind_of}
 use Rattle.std.specs.Prelude.{◌≢◌}
 use Rattle.xds_frames.specs.Devices.{Device, HasFailed, Stays, Tells, Wrote, WrotePart}
 
@@ -54,7 +54,7 @@ part_written May input output errors text refusal status may failed told is = re
 }
 
 -- what is said of an input that was read whole
-of_input : (P : List ℕ → Type 0) (before : Option (List ℕ)) (bytes : List ℕ) → IfSome before (λ all. bytes ≡ all) → P bytes → IfSome before P
+pub of_input : (P : List ℕ → Type 0) (before : Option (List ℕ)) (bytes : List ℕ) → IfSome before (λ all. bytes ≡ all) → P bytes → IfSome before P
 of_input P None bytes same h = tt
 of_input P (Some all) bytes same h = subst P same h
 
@@ -109,23 +109,31 @@ weaker P Q output h (inl stays) = inl stays
 weaker P Q output h (inr begun) = inr (begun.0, h begun.0 begun.1, begun.2)
 
 -- words that were not taken ask for nothing, and are shown help, or what is wrong with them
-pub words_shown : (words : List Text) (input output errors : Device) (e : Error) (status : ℕ) → HasKind (faults words) e
+pub words_shown : (words : List Text) (input output errors : Device) (e : Error) (status : ℕ) → IsWrongBy words (kind_of e)
     → ((task : Task) → Asks words task → kind_of e ≡ kind.OutOfMemory) → Stays input
     → IsUnable (λ text. kind_of e ≢ kind.OutOfMemory) status (record { input = input; output = output; errors = errors })
     ⊎ ((kind_of e ≢ kind.OutOfMemory) × IsShown (kind_of e) status output errors)
-    → HasRun words status (record { input = input; output = output; errors = errors })
-words_shown words input output errors e status found right unread (inl unable) = inr (inr (record {
-  refusal = unable.refusal;
-  is_cause = unable.is_cause;
-  output = weaker _ _ output (λ text other task asked. other (right task asked)) unable.output;
-  told = unable.told;
-  status_is = unable.status_is;
-}))
+    → HasRun words (Done status) (record { input = input; output = output; errors = errors })
+words_shown words input output errors e status wrong right unread (inl unable) = inr (
+  status,
+  refl,
+  inr (record {
+    refusal = unable.refusal;
+    is_cause = unable.is_cause;
+    output = weaker _ _ output (λ text other task asked. other (right task asked)) unable.output;
+    told = unable.told;
+    status_is = unable.status_is;
+  }),
+)
 words_shown words input output errors e status (inl memory) right unread (inr shown) = absurd (shown.0 memory)
-words_shown words input output errors e status (inr among) right unread (inr shown) = inr (inl (record {
-  kind = kind_of e;
-  is_fault = among;
-  asks_none = λ task asked. shown.0 (right task asked);
-  unread = unread;
-  shown = shown.1;
-}))
+words_shown words input output errors e status (inr fault) right unread (inr shown) = inr (
+  status,
+  refl,
+  inl (record {
+    kind = kind_of e;
+    is_fault = fault;
+    asks_none = λ task asked. shown.0 (right task asked);
+    unread = unread;
+    shown = shown.1;
+  }),
+)

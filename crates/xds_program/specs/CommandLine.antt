@@ -1,30 +1,127 @@
--- The command line of `xds`, in the words in which `clap` says what a command is.
-use Rattle.std.specs.Prelude.{List, [], ◌∷◌, codes, true, Some, pos}
-use Rattle.clap.specs.Words.{App, Kinds, Rule, Text, fault_of, new_app, new_rule, with_rule, with_subcommand}
+-- The command line of `xds`, in the words in which `clap` says what a command is. This project's own.
+use Rattle.std.specs.Prelude.{◌≡◌, ℕ, List, [], ◌∷◌, codes, true, false, Some, Option, pos}
+use Rattle.clap.specs.declared.builder.arg.Arg.{Arg}
+use Rattle.clap.specs.declared.builder.command.Command.{Command}
+use Rattle.clap.specs.declared.builder.command.Command.TheViews.{out-Command}
+use Rattle.clap.specs.Words.{App, Kinds, Row, Rule, Text, app_of, fault_of, rule_of, new_app, new_rule, subcommand_of, with_rule, with_subcommand}
 use Rattle.clap.specs.Simple.{on_top}
+use Rattle.clap.specs.declared.builder.action.ArgAction.TheVariants.{Append}
 use Rattle.clap.specs.declared.builder.value_parser.ValueParser.TheVariants as vp
 
--- `--replica N`, N from 1 to 65,535, and 1 where it isn't given
-abbrev pub replica_option : Rule
-replica_option = record (new_rule (codes "replica")) {
-  long = Some (codes "replica");
-  value_names = 1;
-  parser = Some (vp.Signed (pos 1) (pos 65535));
-  defaults = codes "1" ∷ [];
-}
+-- ---- what a command is described by
 
--- `xds answer`
+-- an option whose value is any text
+abbrev pub text_option : Text → Rule
+text_option name = record (new_rule name) { long = Some name; value_names = 1 }
+
+-- an option whose value is a number from 1 to the most
+abbrev pub number_up_to : ℕ → Text → Rule
+number_up_to most name = record (text_option name) { parser = Some (vp.Signed (pos 1) (pos most)) }
+
+abbrev pub number_option : Text → Rule
+number_option name = number_up_to 65535 name
+
+-- the value of an option that isn't given
+abbrev pub with_default : Text → Rule → Rule
+with_default text option = record option { defaults = text ∷ [] }
+
+-- an option, or a word at least, that has to be given
+abbrev pub required : Rule → Rule
+required option = record option { required = true }
+
+-- words that are no options: the names of resources
+abbrev pub name_words : Rule
+name_words = record (new_rule (codes "name")) { value_names = 1; action = Some Append }
+
+-- ---- the commands
+
+-- `xds answer [--replica N]`
 abbrev pub answer_command : App
-answer_command = with_rule (new_app (codes "answer")) replica_option
+answer_command = with_rule (new_app (codes "answer")) (with_default (codes "1") (number_option (codes "replica")))
 
--- `xds play`, which has no options
+-- `xds play [--trace N]`
 abbrev pub play_command : App
-play_command = new_app (codes "play")
+play_command = with_rule (new_app (codes "play")) (number_option (codes "trace"))
 
--- `xds`, which wants one of the two
+-- `xds check`, which has no options
+abbrev pub check_command : App
+check_command = new_app (codes "check")
+
+abbrev pub replicas_option : Rule
+replicas_option = with_default (codes "2") (number_up_to 16 (codes "replicas"))
+
+abbrev pub port_option : Rule
+port_option = with_default (codes "18000") (number_option (codes "port"))
+
+abbrev pub rest_port_option : Rule
+rest_port_option = with_default (codes "18100") (number_option (codes "rest-port"))
+
+-- `xds serve [--replicas N] [--port P] [--rest-port Q] [--streams S]`
+abbrev pub serve_command : App
+serve_command =
+    with_rule (with_rule (with_rule (with_rule (new_app (codes "serve")) replicas_option)
+    port_option)
+    rest_port_option)
+    (number_option (codes "streams"))
+
+-- `xds client`, with the options that say where it asks, how, and for what
+abbrev pub client_start : App
+client_start =
+    with_rule (with_rule (with_rule (new_app (codes "client")) (required (text_option (codes "addr"))))
+    (required (text_option (codes "variant"))))
+    (required (text_option (codes "type")))
+
+-- `xds client --addr A --variant VARIANT --type TYPE --responses N [--cluster TEXT] NAME..`
+abbrev pub client_command : App
+client_command =
+    with_rule (with_rule (with_rule client_start (required (number_option (codes "responses"))))
+    (text_option (codes "cluster")))
+    (required name_words)
+
+-- `xds poll`, with the options that say where it asks, and for what
+abbrev pub poll_start : App
+poll_start = with_rule (with_rule (new_app (codes "poll")) (required (text_option (codes "addr")))) (required (text_option (codes "type")))
+
+-- `xds poll --addr A --type TYPE [--version V] [--cluster TEXT] [NAME..]`
+abbrev pub poll_command : App
+poll_command = with_rule (with_rule (with_rule poll_start (text_option (codes "version"))) (text_option (codes "cluster"))) name_words
+
+-- `xds`, which wants a command
+abbrev pub wanting_command : App
+wanting_command = on_top (λ s. record s { subcommand_required = true }) (new_app (codes "xds"))
+
+-- and with the first three of them
+abbrev pub first_commands : App
+first_commands =
+    with_subcommand (with_subcommand (with_subcommand wanting_command
+    answer_command.top)
+    play_command.top)
+    check_command.top
+
+-- `xds`, with all of them
 abbrev pub command_line : App
-command_line = with_subcommand (with_subcommand (on_top (λ s. record s { subcommand_required = true }) (new_app (codes "xds"))) answer_command.top) play_command.top
+command_line = with_subcommand (with_subcommand (with_subcommand first_commands serve_command.top) client_command.top) poll_command.top
 
--- what `clap` may find wrong with the words, the call for help among it; nothing where they are right
+-- ---- commands and options of `clap`
+
+-- the options of the command are its own
+abbrev pub IsLocal : Command → Type 0
+IsLocal command = (out-Command command).has_globals ≡ false
+
+-- the command is as described
+abbrev pub IsCommand : App → Command → Type 0
+IsCommand described command = (app_of command ≡ described) × IsLocal command
+
+-- so is the option
+abbrev pub IsOption : Rule → Arg → Type 0
+IsOption described option = (rule_of option ≡ described) × (option.global ≡ false)
+
+-- ---- what `clap` makes of words
+
+-- what `clap` may find wrong with the words, the call for help among it; nothing where it takes them
 abbrev pub faults : List Text → Kinds
 faults words = fault_of command_line words
+
+-- the command that the words name, with the values that they give it
+abbrev pub named_in : List Text → Option (Text × List Row)
+named_in words = subcommand_of command_line words

@@ -1,13 +1,36 @@
 -- What the words of a command line are, in other words. This project's own.
-use Rattle.std.specs.Prelude.{◌≡◌, ◌↔◌, List, []}
-use Rattle.xds_program.specs.declared.words.Task.{Task}
-use Rattle.xds_program.specs.Words.{Asks, Text}
-use Rattle.xds_program.specs.CommandLine.{faults}
+use Rattle.std.specs.Prelude.{◌≡◌, ◌⊎◌, ◌↔◌, ℕ, List, [], codes, Option, Some, option_map}
+use Rattle.clap.specs.Words.{Text}
+use Rattle.xds_program.specs.declared.tasks.Task.{Task}
+use Rattle.xds_program.specs.declared.tasks.Task.TheVariants.{Answer, Play, Check}
+use Rattle.xds_program.specs.CommandLine.{faults, named_in}
+use Rattle.xds_program.specs.Words.{Asks}
+use Rattle.xds_program.specs.PlainWords.{AsksAnswer, AsksCheck, AsksPlay}
 
 -- words ask for one task at most
 abbrev pub AskOneTask : Type 0
 AskOneTask = (words : List Text) (one other : Task) → Asks words one → Asks words other → one ≡ other
 
--- `clap` finds nothing wrong exactly with the words that ask for a task
+-- the words name this command
+abbrev pub Names : List Text → Text → Type 0
+Names words command = option_map (λ p. p.0) (named_in words) ≡ Some command
+
+-- the words name a command that uses no device but the program's own
+abbrev pub NamesPlainly : List Text → Type 0
+NamesPlainly words = Names words (codes "answer") ⊎ (Names words (codes "play") ⊎ Names words (codes "check"))
+
+-- `clap` finds nothing wrong exactly with those of these words that ask for a task
 abbrev pub FaultlessWordsAsk : Type 0
-FaultlessWordsAsk = (words : List Text) → faults words ≡ [] ↔ (task : Task) × Asks words task
+FaultlessWordsAsk = (words : List Text) → NamesPlainly words → faults words ≡ [] ↔ (task : Task) × Asks words task
+
+-- which words ask for an answer, in plain words
+abbrev pub AnswerWordsAsk : Type 0
+AnswerWordsAsk = (words : List Text) (replica : ℕ) → Asks words (Answer replica) ↔ AsksAnswer words replica
+
+-- which words ask for a script to be played
+abbrev pub PlayWordsAsk : Type 0
+PlayWordsAsk = (words : List Text) (trace : Option ℕ) → Asks words (Play trace) ↔ AsksPlay words trace
+
+-- which words ask for a trace to be checked
+abbrev pub CheckWordsAsk : Type 0
+CheckWordsAsk = (words : List Text) → Asks words Check ↔ AsksCheck words

@@ -1,6 +1,9 @@
 pub mod Answers
 pub mod Faults
-pub mod Words
+pub mod Tasks
 pub mod CommandLine
+pub mod Words
+pub mod PlainWords
 pub mod Laws
+pub mod Judged
 pub mod Outcomes

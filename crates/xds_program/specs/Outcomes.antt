@@ -1,19 +1,24 @@
 -- What a run of the program leaves on its output and its error output, and its status. This project's own.
-use Rattle.std.specs.Prelude.{◌≡◌, ◌⊎◌, ℕ, List, ◌++◌, IfSome, codes, decimal}
+use Rattle.std.specs.Prelude.{◌≡◌, ◌⊎◌, ℕ, List, ◌++◌, IfSome, Option, None, Some, codes, decimal}
 use Rattle.clap.specs.declared.error.kind.ErrorKind.{ErrorKind}
 use Rattle.clap.specs.declared.error.kind.ErrorKind.TheVariants.{DisplayHelp, DisplayVersion}
-use Rattle.clap.specs.Words.{IsAmong}
+use Rattle.clap.specs.Words.{Text}
 use Rattle.xds_resource.specs.declared.refusal.Refusal.{Refusal}
-use Rattle.xds_resource.specs.declared.refusal.Refusal.TheVariants.{Device as DeviceRefusal, OutOfMemory, BadScript}
+use Rattle.xds_resource.specs.declared.refusal.Refusal.TheVariants.{Device as DeviceRefusal, OutOfMemory, BadScript, BadTrace}
 use Rattle.xds_resource.specs.Refusals.{number_of, name_of}
 use Rattle.xds_program.specs.Faults.{IsAnswer, IsFault}
 use Rattle.xds_frames.specs.Devices.{Device, HasFailed, Stays, Tells, WrotePart, Wrote}
 use Rattle.xds_play.specs.declared.play.Unplayed.TheVariants as unplayed
 use Rattle.xds_play.specs.Played.{IsPlayed, IsUnplayed}
-use Rattle.xds_program.specs.declared.words.Task.{Task}
-use Rattle.xds_program.specs.declared.words.Task.TheVariants.{Answer, Play}
-use Rattle.xds_program.specs.Words.{Asks, Text}
-use Rattle.xds_program.specs.CommandLine.{faults}
+use Rattle.xds_rules.specs.Texts.{IsFirstBad}
+use Rattle.xds_tracing.specs.Traced.{IsTraced}
+use Rattle.xds_program.specs.Judged.{TellsVerdict}
+use Rattle.xds_program.specs.declared.tasks.Task.{Task}
+use Rattle.xds_program.specs.declared.tasks.Task.TheVariants.{Answer, Play, Check, Serve, Client, Poll}
+use Rattle.xds_program.specs.declared.run.Ran.{Ran}
+use Rattle.xds_program.specs.declared.run.Ran.TheVariants.{Done}
+use Rattle.xds_program.specs.declared.run.Ran.TheVariants as rans
+use Rattle.xds_program.specs.Words.{Asks, IsFaultOf}
 
 -- how a refusal is told
 abbrev pub refusal_line : Refusal → List ℕ
@@ -41,6 +46,11 @@ pub record TellsFault (Refuses : ℕ → Refusal → Type 0) (errors : Device) :
   pub refusal : Refusal
   pub refuses : Refuses line refusal
   pub told : Tells errors (fault_line line refusal)
+
+-- A text is written with this status; or the output fails in its midst, which is told with status 1.
+abbrev pub Prints : List ℕ → ℕ → ℕ → Device → Device → Type 0
+Prints text wanted status output errors =
+    ((status ≡ wanted) × Wrote output text × Stays errors) ⊎ ((status ≡ 1) × WrotePart output text × Tells errors (refusal_line DeviceRefusal))
 
 -- Status 0 comes with the text that the input calls for, and status 1 with the line that is refused and no output.
 abbrev pub HasOutcome : (List ℕ → List ℕ → Type 0) → (List ℕ → ℕ → Refusal → Type 0) → ℕ → Streams → Type 0
@@ -71,14 +81,57 @@ RunsAnswer replica status s = RunsTask (IsAnswer replica) IsFault status s
 abbrev pub IsBadLine : List ℕ → ℕ → Refusal → Type 0
 IsBadLine script line refusal = (refusal ≡ BadScript) × IsUnplayed script (unplayed.BadScript line)
 
--- `xds play`: what a script prints, or its first bad line
-abbrev pub RunsPlay : ℕ → Streams → Type 0
-RunsPlay status s = RunsTask IsPlayed IsBadLine status s
+-- what is printed of a script that has no bad line: what its show lines ask for, or the trace of a replica
+abbrev pub IsPlayedFor : Option ℕ → List ℕ → List ℕ → Type 0
+IsPlayedFor None script text = IsPlayed script text
+IsPlayedFor (Some replica) script text = IsTraced replica script text
 
--- the task is done
-abbrev pub Runs : Task → ℕ → Streams → Type 0
-Runs (Answer replica) status s = RunsAnswer replica status s
-Runs Play status s = RunsPlay status s
+-- `xds play`: what is printed of the script, or its first bad line
+abbrev pub RunsPlay : Option ℕ → ℕ → Streams → Type 0
+RunsPlay trace status s = RunsTask (IsPlayedFor trace) IsBadLine status s
+
+-- a line of a trace is refused: it is the first that is bad
+abbrev pub IsBadTraceLine : List ℕ → ℕ → Refusal → Type 0
+IsBadTraceLine input line refusal = (refusal ≡ BadTrace) × IsFirstBad input line
+
+-- a verdict of the input may be printed, with one status or the other
+abbrev pub MayTell : Device → List ℕ → Type 0
+MayTell input text = IfSome input.before (λ bytes. (status : ℕ) × TellsVerdict bytes status text)
+
+-- a verdict is printed, with its status; or the first bad line is told, with status 1 and no output
+abbrev pub HasVerdict : ℕ → Streams → Type 0
+HasVerdict status s = IfSome s.input.before (λ input.
+    (IsPrinted (TellsVerdict input status) s.output × Stays s.errors) ⊎ ((status ≡ 1) × TellsFault (IsBadTraceLine input) s.errors × Stays s.output))
+
+-- `xds check`: the verdict on a trace, or its first bad line
+abbrev pub RunsCheck : ℕ → Streams → Type 0
+RunsCheck status s = HasVerdict status s ⊎ IsUnable (MayTell s.input) status s
+
+-- the device is as it was, and none of its calls failed
+abbrev pub IsSame : Device → Type 0
+IsSame d = (d.after ≡ d.before) × (d.failed_after ≡ d.failed_before)
+
+-- nothing is read, and nothing is written
+abbrev pub IsUntouched : Streams → Type 0
+IsUntouched s = IsSame s.input × IsSame s.output × IsSame s.errors
+
+-- the task is done, with this status, and has its outcome
+abbrev pub IsDone : (ℕ → Streams → Type 0) → Ran → Streams → Type 0
+IsDone Ends ran s = (status : ℕ) × (ran ≡ Done status) × Ends status s
+
+-- a task is handed to the caller, untouched
+abbrev pub IsHanded : Ran → Ran → Streams → Type 0
+IsHanded handed ran s = (ran ≡ handed) × IsUntouched s
+
+-- what becomes of a task: `xds answer`, `xds play` and `xds check` are done; one that needs a network is handed to
+-- the caller
+abbrev pub Runs : Task → Ran → Streams → Type 0
+Runs (Answer replica) ran s = IsDone (RunsAnswer replica) ran s
+Runs (Play trace) ran s = IsDone (RunsPlay trace) ran s
+Runs Check ran s = IsDone RunsCheck ran s
+Runs (Serve task) ran s = IsHanded (rans.Serve task) ran s
+Runs (Client task) ran s = IsHanded (rans.Client task) ran s
+Runs (Poll task) ran s = IsHanded (rans.Poll task) ran s
 
 -- the words call for help, or for the version
 abbrev pub IsCall : ErrorKind → Type 0
@@ -98,12 +151,13 @@ AsksNone words = (task : Task) → Asks words task → ⊥
 -- The words ask for no task: they call for help, or they are wrong. The input isn't read.
 pub record IsAside (words : List Text) (status : ℕ) (s : Streams) : Type 0 where
   pub kind : ErrorKind
-  pub is_fault : IsAmong kind (faults words)
+  pub is_fault : IsFaultOf words kind
   pub asks_none : AsksNone words
   pub unread : Stays s.input
   pub shown : IsShown kind status s.output s.errors
 
--- A run whose words ask for a task does it, or tells the line that is refused; other words get help, or are told to be wrong; and
--- any run may be unable to go on. A text that no task calls for is begun only where none is asked for.
-abbrev pub HasRun : List Text → ℕ → Streams → Type 0
-HasRun words status s = ((task : Task) × Asks words task × Runs task status s) ⊎ (IsAside words status s ⊎ IsUnable (λ text. AsksNone words) status s)
+-- A run whose words ask for a task does it, or tells the line that is refused, or hands it to the caller; other words get help,
+-- or are told to be wrong; and any run may be unable to go on. A text that no task calls for is begun only where none is asked for.
+abbrev pub HasRun : List Text → Ran → Streams → Type 0
+HasRun words ran s = ((task : Task) × Asks words task × Runs task ran s)
+    ⊎ IsDone (λ status s. IsAside words status s ⊎ IsUnable (λ text. AsksNone words) status s) ran s

@@ -1,41 +1,103 @@
--- What the words of a command line ask for, the program's name first. This project's own, by the customs of `clap`.
-use Rattle.std.specs.Prelude.{◌≡◌, ◌⊎◌, ◌≤◌, ℕ, List, [], ◌∷◌, ◌++◌, codes}
+-- Which words ask for which task, by what `clap`'s own model finds in them. This project's own.
+use Rattle.std.specs.Prelude.{◌≡◌, ◌⊎◌, ◌≤◌, ◌+◌, ℕ, List, [], codes, Option, Some, None, unwrap_or}
+use Rattle.std.specs.Option.{option_and_then}
 use Rattle.std.specs.Str.Parse.{IsNumeral, digits_value, without_leading_plus}
-use Rattle.xds_program.specs.declared.words.Task.{Task}
-use Rattle.xds_program.specs.declared.words.Task.TheVariants.{Answer, Play}
+use Rattle.std.specs.Net.Grammar.{IsSocketV4Text}
+use Rattle.std.specs.declared.net.socket_addr.SocketAddrV4.{SocketAddrV4}
+use Rattle.clap.specs.declared.error.kind.ErrorKind.{ErrorKind}
+use Rattle.clap.specs.declared.error.kind.ErrorKind.TheVariants.{OutOfMemory, ValueValidation}
+use Rattle.clap.specs.Words.{IsAmong, Row, Text, all_of, first_of, one_of}
+use Rattle.xds_resource.specs.Types.{type_of_word}
+use Rattle.xds_program.specs.declared.tasks.Task.{Task}
+use Rattle.xds_program.specs.declared.tasks.Task.TheVariants.{Answer, Play, Check, Serve, Client, Poll}
+use Rattle.xds_program.specs.declared.tasks.ServeTask.{ServeTask}
+use Rattle.xds_program.specs.Tasks.{Look, Watch, variant_of_word}
+use Rattle.xds_program.specs.CommandLine.{faults, named_in}
 
-abbrev pub Text : Type 0
-Text = List ℕ
+-- ---- the values of a command's options
 
--- the number of a replica, from 1 to 65,535, in decimal digits; a plus may stand before them
-pub record IsReplicaText (text : Text) (replica : ℕ) : Type 0 where
+-- the text writes this number of at most 65,535 in decimal digits; a plus may stand before them
+pub record IsNumberText (text : Text) (n : ℕ) : Type 0 where
   pub digits : IsNumeral 10 (without_leading_plus text)
-  pub value : digits_value 10 (without_leading_plus text) ≡ replica
-  pub least : 1 ≤ replica
-  pub most : replica ≤ 65535
+  pub value : digits_value 10 (without_leading_plus text) ≡ n
+  pub most : n ≤ 65535
 
--- `--replica N`, in two words or, with an `=`, in one
-abbrev pub IsReplicaOption : List Text → ℕ → Type 0
-IsReplicaOption given replica = (text : Text) × IsReplicaText text replica × ((given ≡ codes "--replica" ∷ text ∷ []) ⊎ (given ≡ (codes "--replica=" ++ text) ∷ []))
+-- the value of the option is this number
+abbrev pub IsNumber : List Row → Text → ℕ → Type 0
+IsNumber rows option n = (text : Text) × (one_of option rows ≡ Some text) × IsNumberText text n
 
--- the options of `answer`; with none of them, replica 1 answers
-abbrev pub AreOptions : List Text → ℕ → Type 0
-AreOptions given replica = ((given ≡ []) × (replica ≡ 1)) ⊎ IsReplicaOption given replica
+-- the value of `--addr` is this IPv4 address and port
+abbrev pub IsAddress : List Row → SocketAddrV4 → Type 0
+IsAddress rows addr = (text : Text) × (one_of (codes "addr") rows ≡ Some text) × IsSocketV4Text text addr
 
--- The words ask replica `replica` to answer: the program's name, `answer`, its options, and perhaps `--`, which ends
--- the options.
-pub record AsksAnswer (words : List Text) (replica : ℕ) : Type 0 where
-  pub program : Text
-  pub options : List Text
-  pub are_options : AreOptions options replica
-  pub words_are : (words ≡ program ∷ codes "answer" ∷ options) ⊎ (words ≡ program ∷ codes "answer" ∷ options ++ codes "--" ∷ [])
+-- the value of an option, empty where it isn't given
+abbrev pub text_in : Text → List Row → Text
+text_in option rows = unwrap_or (first_of option rows) []
 
--- The words ask for a script to be played: the program's name, `play`, and perhaps `--`.
-pub record AsksPlay (words : List Text) : Type 0 where
-  pub program : Text
-  pub words_are : (words ≡ program ∷ codes "play" ∷ []) ⊎ (words ≡ program ∷ codes "play" ∷ codes "--" ∷ [])
+-- the names, in their order
+abbrev pub names_in : List Row → List Text
+names_in rows = unwrap_or (all_of (codes "name") rows) []
 
--- the words ask for the task
+-- what fits, or none where nothing fits
+abbrev pub Finds : {X : Type 0} → (X → Type 0) → Option X → Type 0
+Finds Fits (Some x) = Fits x
+Finds {X} Fits None = (x : X) → Fits x → ⊥
+
+-- ---- the tasks
+
+-- `xds serve`: no replica's port is above 65,535
+pub record AsksServe (rows : List Row) (task : ServeTask) : Type 0 where
+  pub replicas : IsNumber rows (codes "replicas") task.replicas
+  pub port : IsNumber rows (codes "port") task.port
+  pub rest_port : IsNumber rows (codes "rest-port") task.rest_port
+  pub streams : Finds (IsNumber rows (codes "streams")) task.streams
+  pub ports : task.port + task.replicas ≤ 65536
+  pub rest_ports : task.rest_port + task.replicas ≤ 65536
+
+-- `xds client`
+pub record AsksClient (rows : List Row) (task : Watch) : Type 0 where
+  pub addr : IsAddress rows task.addr
+  pub variant : option_and_then variant_of_word (first_of (codes "variant") rows) ≡ Some task.variant
+  pub kind : option_and_then type_of_word (first_of (codes "type") rows) ≡ Some task.kind
+  pub responses : IsNumber rows (codes "responses") task.responses
+  pub cluster : text_in (codes "cluster") rows ≡ task.cluster
+  pub names : names_in rows ≡ task.names
+
+-- `xds poll`
+pub record AsksPoll (rows : List Row) (task : Look) : Type 0 where
+  pub addr : IsAddress rows task.addr
+  pub kind : option_and_then type_of_word (first_of (codes "type") rows) ≡ Some task.kind
+  pub version : text_in (codes "version") rows ≡ task.version
+  pub cluster : text_in (codes "cluster") rows ≡ task.cluster
+  pub names : names_in rows ≡ task.names
+
+-- the command of this name, with these values, asks for the task
+abbrev pub AsksBy : Text → List Row → Task → Type 0
+AsksBy command rows (Answer replica) = (command ≡ codes "answer") × IsNumber rows (codes "replica") replica
+AsksBy command rows (Play trace) = (command ≡ codes "play") × Finds (IsNumber rows (codes "trace")) trace
+AsksBy command rows Check = command ≡ codes "check"
+AsksBy command rows (Serve task) = (command ≡ codes "serve") × AsksServe rows task
+AsksBy command rows (Client task) = (command ≡ codes "client") × AsksClient rows task
+AsksBy command rows (Poll task) = (command ≡ codes "poll") × AsksPoll rows task
+
+-- the command that was named, if one was, asks for the task
+abbrev pub AsksIn : Option (Text × List Row) → Task → Type 0
+AsksIn None task = ⊥
+AsksIn (Some named) task = AsksBy named.0 named.1 task
+
+-- the words ask for the task: `clap` finds nothing wrong with them, and the command that they name asks for it
 abbrev pub Asks : List Text → Task → Type 0
-Asks words (Answer replica) = AsksAnswer words replica
-Asks words Play = AsksPlay words
+Asks words task = (faults words ≡ []) × AsksIn (named_in words) task
+
+-- why words ask for no task, as the kind of an error: what `clap` finds wrong with them, or, where it finds nothing, a value
+-- that is none of those that it may be
+abbrev pub IsFaultOf : List Text → ErrorKind → Type 0
+IsFaultOf words kind = IsAmong kind (faults words) ⊎ ((faults words ≡ []) × (kind ≡ ValueValidation))
+
+-- so it is, or there was no memory
+abbrev pub IsWrongBy : List Text → ErrorKind → Type 0
+IsWrongBy words kind = (kind ≡ OutOfMemory) ⊎ IsFaultOf words kind
+
+-- an error of this kind is told of words that ask for no task, or there was no memory
+abbrev pub IsToldOf : List Text → ErrorKind → Type 0
+IsToldOf words kind = ((task : Task) → Asks words task → kind ≡ OutOfMemory) × IsWrongBy words kind

@@ -1,8 +1,16 @@
 //! What the words are, as statements that the prover checks. The functions do nothing.
-ghost use Rattle.xds_program.specs.Laws.{AskOneTask, FaultlessWordsAsk};
+ghost use Rattle.xds_program.specs.Laws.{AnswerWordsAsk, AskOneTask, CheckWordsAsk, FaultlessWordsAsk, PlayWordsAsk};
 
-/// Words ask for one task at most, and `clap` finds nothing wrong exactly with those that ask for one.
+/// Words ask for one task at most; and of the words that name `answer`, `play` or `check`, `clap` finds nothing wrong
+/// exactly with those that ask for one.
 pub fn words_ask_for_one_task()
     ensures one { AskOneTask }
     ensures faultless { FaultlessWordsAsk }
+{}
+
+/// Which words ask for an answer, for a script to be played and for a trace to be checked, in plain words.
+pub fn plain_words_ask()
+    ensures answer { AnswerWordsAsk }
+    ensures play { PlayWordsAsk }
+    ensures check { CheckWordsAsk }
 {}

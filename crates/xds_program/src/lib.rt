@@ -2,9 +2,14 @@
 #![tactic(auto)]
 
 pub mod answer;
+mod command_line;
+pub mod judge;
 pub mod laws;
+mod option_values;
 pub mod run;
+pub mod tasks;
 pub mod words;
 
 pub use answer::{LineFault, answer_lines};
-pub use words::{Task, task_of};
+pub use tasks::{ClientTask, PollTask, ServeTask, StreamVariant, Task};
+pub use words::task_of;

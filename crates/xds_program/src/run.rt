@@ -1,17 +1,21 @@
 // A run of the program, over the reader and the writers that it is given.
-ghost use Rattle.std.specs.Prelude.{◌≡◌, ◌≢◌, ◌⊎◌, map, string_bytes};
+ghost use Rattle.std.specs.Prelude.{◌≡◌, ◌≢◌, ◌⊎◌, map, string_bytes, IfOk, IfErr};
 ghost use Rattle.clap.specs.Words.{kind_of};
 ghost use Rattle.xds_frames.specs.Devices.{Device, Tells, seen};
-ghost use Rattle.xds_program.specs.Outcomes.{HasRun, IsShown, IsUnable, RunsAnswer, RunsPlay, fault_line, refusal_line};
+ghost use Rattle.xds_play.specs.Played.{IsUnplayed};
+ghost use Rattle.xds_program.specs.Outcomes.{HasRun, IsPlayedFor, IsShown, IsUnable, Prints, Runs, RunsAnswer, RunsCheck, RunsPlay, fault_line, refusal_line};
 
 use crate::answer::{LineFault, answer_lines};
-use crate::words::{Task, task_of};
+use crate::judge::{Unjudged, judge};
+use crate::tasks::{ClientTask, PollTask, ServeTask, Task};
+use crate::words::task_of;
 use clap::error::ErrorKind;
 use std::alloc::Global;
 use std::io::{Read, Write};
 use xds_frames::{Counted, read_whole, write_whole};
 use xds_play::{Unplayed, play_script};
 use xds_resource::Refusal;
+use xds_tracing::trace_script;
 
 /// The status of a run that did what it was asked.
 pub const DONE: u8 = 0;
@@ -22,15 +26,28 @@ pub const REFUSED: u8 = 1;
 /// The status of a run with wrong words.
 pub const WRONG_WORDS: u8 = 2;
 
-/// Runs the program with these words, the first of which is its name, and answers its status. The words are looked at
-/// before any input.
+/// What became of a run.
+#[derive(Debug, Drop)]
+pub enum Ran {
+    /// It is done, with this status.
+    Done(u8),
+    /// It is up to the caller to serve. Nothing was read or written.
+    Serve(ServeTask),
+    /// It is up to the caller to run a client. Nothing was read or written.
+    Client(ClientTask),
+    /// It is up to the caller to poll. Nothing was read or written.
+    Poll(PollTask),
+}
+
+/// Runs the program with these words, the first of which is its name. The words are looked at before any input. It does
+/// `xds answer`, `xds play` and `xds check`; a task that needs a network is handed to the caller.
 pub fn run<I: Read, O: Write, E: Write>(
     alloc: Global,
     words: &[String],
     input: &mut Counted<I>,
     output: &mut Counted<O>,
     errors: &mut Counted<E>,
-) -> u8
+) -> Ran
     ensures { HasRun (map string_bytes words.now) result (record {
       input = seen I.remaining input.old input.new;
       output = seen O.contents output.old output.new;
@@ -38,9 +55,32 @@ pub fn run<I: Read, O: Write, E: Write>(
     }) }
 {
     match task_of(alloc, words) {
-        Ok(Task::Answer { replica }) => answer(alloc, replica, input, output, errors),
-        Ok(Task::Play) => play(alloc, input, output, errors),
-        Err(error) => show(alloc, &error, output, errors),
+        Ok(task) => run_task(alloc, task, input, output, errors),
+        Err(error) => Ran::Done(show(alloc, &error, output, errors)),
+    }
+}
+
+// Does the task, or hands it to the caller.
+fn run_task<I: Read, O: Write, E: Write>(
+    alloc: Global,
+    task: Task,
+    input: &mut Counted<I>,
+    output: &mut Counted<O>,
+    errors: &mut Counted<E>,
+) -> Ran
+    ensures { Runs task result (record {
+      input = seen I.remaining input.old input.new;
+      output = seen O.contents output.old output.new;
+      errors = seen E.contents errors.old errors.new;
+    }) }
+{
+    match task {
+        Task::Answer { replica } => Ran::Done(answer(alloc, replica, input, output, errors)),
+        Task::Play { trace } => Ran::Done(play(alloc, trace, input, output, errors)),
+        Task::Check => Ran::Done(check(alloc, input, output, errors)),
+        Task::Serve(serve) => Ran::Serve(serve),
+        Task::Client(client) => Ran::Client(client),
+        Task::Poll(poll) => Ran::Poll(poll),
     }
 }
 
@@ -71,14 +111,27 @@ pub fn answer<I: Read, O: Write, E: Write>(
     }
 }
 
-/// Runs `xds play`: what the script of the input prints goes to the output, and its first bad line to the error output.
+// What is printed of a script: what its show lines ask for, or the trace of a replica.
+fn played(alloc: Global, trace: Option<u16>, script: &[u8]) -> Result<String, Unplayed>
+    ensures played { IfOk result (λ text. IsPlayedFor trace script.now (string_bytes text)) }
+    ensures unplayed { IfErr result (λ e. IsUnplayed script.now e) }
+{
+    match trace {
+        None => play_script(alloc, script),
+        Some(replica) => trace_script(alloc, replica, script),
+    }
+}
+
+/// Runs `xds play`: what the script of the input prints, or the trace of a replica of the world that it leads to, goes to the
+/// output, and the script's first bad line to the error output.
 pub fn play<I: Read, O: Write, E: Write>(
     alloc: Global,
+    trace: Option<u16>,
     input: &mut Counted<I>,
     output: &mut Counted<O>,
     errors: &mut Counted<E>,
 ) -> u8
-    ensures { RunsPlay result (record {
+    ensures { RunsPlay trace result (record {
       input = seen I.remaining input.old input.new;
       output = seen O.contents output.old output.new;
       errors = seen E.contents errors.old errors.new;
@@ -88,7 +141,7 @@ pub fn play<I: Read, O: Write, E: Write>(
         Ok(bytes) => bytes,
         Err(refusal) => return tell(refusal, errors),
     };
-    let text = match play_script(alloc, bytes.as_slice()) {
+    let text = match played(alloc, trace, bytes.as_slice()) {
         Ok(text) => text,
         Err(Unplayed::OutOfMemory) => return tell(Refusal::OutOfMemory, errors),
         Err(Unplayed::BadScript(line)) => {
@@ -98,6 +151,48 @@ pub fn play<I: Read, O: Write, E: Write>(
     };
     match write_whole(output, text.as_bytes()) {
         Ok(()) => DONE,
+        Err(refusal) => tell(refusal, errors),
+    }
+}
+
+/// Runs `xds check`: the verdict on the trace of the input goes to the output, and its first bad line to the error output.
+pub fn check<I: Read, O: Write, E: Write>(
+    alloc: Global,
+    input: &mut Counted<I>,
+    output: &mut Counted<O>,
+    errors: &mut Counted<E>,
+) -> u8
+    ensures { RunsCheck result (record {
+      input = seen I.remaining input.old input.new;
+      output = seen O.contents output.old output.new;
+      errors = seen E.contents errors.old errors.new;
+    }) }
+{
+    let bytes = match read_whole(alloc, input) {
+        Ok(bytes) => bytes,
+        Err(refusal) => return tell(refusal, errors),
+    };
+    match judge(alloc, bytes.as_slice()) {
+        Ok(verdict) => print(verdict.text.as_bytes(), verdict.status, output, errors),
+        Err(Unjudged::OutOfMemory) => tell(Refusal::OutOfMemory, errors),
+        Err(Unjudged::BadTrace(line)) => {
+            let refusal = Refusal::BadTrace;
+            tell_fault(alloc, LineFault { line, refusal }, errors)
+        }
+    }
+}
+
+/// Writes a text, and answers this status; or tells that the output failed, and answers the status of that.
+pub fn print<O: Write, E: Write>(
+    text: &[u8],
+    status: u8,
+    output: &mut Counted<O>,
+    errors: &mut Counted<E>,
+) -> u8
+    ensures { Prints text.now status result (seen O.contents output.old output.new) (seen E.contents errors.old errors.new) }
+{
+    match write_whole(output, text) {
+        Ok(()) => status,
         Err(refusal) => tell(refusal, errors),
     }
 }

@@ -5,3 +5,7 @@
 mod play;
 #[cfg(test)]
 mod program;
+#[cfg(test)]
+mod trace;
+#[cfg(test)]
+mod words;

@@ -5,15 +5,33 @@ use std::io::{ErrorKind, Read, Write};
 use std::test::Fail;
 use xds_cases::cases::{Outcome, hold, replaced, words_of, written_out};
 use xds_frames::Counted;
-use xds_program::run::run;
+use xds_program::run::{Ran, run};
 use xds_program::{LineFault, answer_lines};
 use xds_resource::Refusal;
 
 // The words of a command line, the program's name first.
-fn words(alloc: Global, given: &str) -> Result<Vec<String>, Fail> {
+pub(crate) fn words(alloc: Global, given: &str) -> Result<Vec<String>, Fail> {
     let mut line = String::from_str(alloc, "xds ")?;
     line.push_str(given)?;
     Ok(words_of(alloc, line.as_str())?)
+}
+
+// The status of a run that is done. There is none where its task is handed to the caller.
+fn status_of(ran: Ran) -> Option<u8> {
+    match ran {
+        Ran::Done(status) => Some(status),
+        _ => None,
+    }
+}
+
+// The status of a run in words, or which task is handed to the caller.
+fn end_of(alloc: Global, ran: Ran) -> Result<String, Fail> {
+    match ran {
+        Ran::Done(status) => Ok(format!(in alloc; "{status}")?),
+        Ran::Serve(_) => Ok(String::from_str(alloc, "serve")?),
+        Ran::Client(_) => Ok(String::from_str(alloc, "client")?),
+        Ran::Poll(_) => Ok(String::from_str(alloc, "poll")?),
+    }
 }
 
 // The status of a run over words and the input after a `|`, its output and its error output. `~` is a line feed, and
@@ -39,16 +57,17 @@ pub(crate) fn told(alloc: Global, given: &str, input: &[u8]) -> Result<String, F
     let mut input = Counted::new(input);
     let mut output = Counted::new(Vec::new(alloc));
     let mut errors = Counted::new(Vec::new(alloc));
-    let status = run(
+    let ran = run(
         alloc,
         words.as_slice(),
         &mut input,
         &mut output,
         &mut errors,
     );
+    let end = end_of(alloc, ran)?;
     let output = String::from_utf8(output.inner).ok().ok_or("output")?;
     let errors = String::from_utf8(errors.inner).ok().ok_or("errors")?;
-    let told = format!(in alloc; "{status} {output}{errors}")?;
+    let told = format!(in alloc; "{end} {output}{errors}")?;
     Ok(replaced(alloc, told.as_str(), "\n", "~")?)
 }
 
@@ -171,13 +190,14 @@ impl Outcome for Aside {
         let mut input = Counted::new(b"{}".as_slice());
         let mut output = Counted::new(Vec::new(alloc));
         let mut errors = Counted::new(Vec::new(alloc));
-        let status = run(
+        let ran = run(
             alloc,
             words.as_slice(),
             &mut input,
             &mut output,
             &mut errors,
         );
+        let end = end_of(alloc, ran)?;
         let output = String::from_utf8(output.inner).ok().ok_or("output")?;
         let shown = if output.as_str().contains("Usage: ") {
             "help"
@@ -186,7 +206,7 @@ impl Outcome for Aside {
         };
         let told = if errors.inner.is_empty() { "" } else { "fault" };
         let left = input.inner.len();
-        Ok(format!(in alloc; "{shown}{told} {status} {left}")?)
+        Ok(format!(in alloc; "{shown}{told} {end} {left}")?)
     }
 }
 
@@ -223,7 +243,24 @@ help answer => help 0 2
 answer -h => help 0 2
 answer --help => help 0 2
 play --help => help 0 2
-help play => help 0 2",
+help play => help 0 2
+help check => help 0 2
+check extra => fault 2 2
+play --trace 0 => fault 2 2
+serve --help => help 0 2
+client --port 1 => fault 2 2
+serve --port 65535 => fault 2 2
+poll --addr here --type cluster => fault 2 2",
+    )
+}
+
+#[test]
+fn tasks_of_a_network_are_handed_on(rt: HostRuntime) -> Result<(), Fail> {
+    hold::<Aside, HostRuntime>(
+        &rt,
+        "serve =>  serve 2
+client --addr 127.0.0.1:18000 --variant delta --type route --responses 1 q =>  client 2
+poll --addr 127.0.0.1:18100 --type cluster =>  poll 2",
     )
 }
 
@@ -288,8 +325,8 @@ fn failing_devices_are_told(rt: HostRuntime) -> Result<(), Fail> {
     let mut reader = failing_after(alloc, 0);
     let mut output = Counted::new(Vec::new(alloc));
     let mut errors = Counted::new(Vec::new(alloc));
-    let status = run(alloc, words, &mut reader, &mut output, &mut errors);
-    assert_eq!(rt; status, 1);
+    let status = status_of(run(alloc, words, &mut reader, &mut output, &mut errors));
+    assert_eq!(rt; status, Some(1));
     assert_eq!(rt; errors.inner.as_slice(), b"19 Device\n".as_slice());
     assert_eq!(rt; reader.failed, 1);
     assert!(rt; output.inner.is_empty());
@@ -297,23 +334,23 @@ fn failing_devices_are_told(rt: HostRuntime) -> Result<(), Fail> {
     let mut reader = Counted::new(input.as_bytes());
     let mut output = failing_after(alloc, 8);
     let mut errors = Counted::new(Vec::new(alloc));
-    let status = run(alloc, words, &mut reader, &mut output, &mut errors);
-    assert_eq!(rt; status, 1);
+    let status = status_of(run(alloc, words, &mut reader, &mut output, &mut errors));
+    assert_eq!(rt; status, Some(1));
     assert_eq!(rt; errors.inner.as_slice(), b"19 Device\n".as_slice());
     assert_eq!(rt; output.inner.taken.as_slice(), b"{\"nonce\"".as_slice());
     assert_eq!(rt; (reader.failed, output.failed, errors.failed), (0, 1, 0));
     let mut reader = Counted::new(input.as_bytes());
     let mut output = Counted::new(Stuck);
     let mut errors = Counted::new(Vec::new(alloc));
-    let status = run(alloc, words, &mut reader, &mut output, &mut errors);
-    assert_eq!(rt; status, 1);
+    let status = status_of(run(alloc, words, &mut reader, &mut output, &mut errors));
+    assert_eq!(rt; status, Some(1));
     assert_eq!(rt; errors.inner.as_slice(), b"19 Device\n".as_slice());
     assert_eq!(rt; output.failed, 1);
     let mut reader = Counted::new(b"".as_slice());
     let mut output = Counted::new(Vec::new(alloc));
     let mut errors = failing_after(alloc, 4);
-    let status = run(alloc, words, &mut reader, &mut output, &mut errors);
-    assert_eq!(rt; status, 1);
+    let status = status_of(run(alloc, words, &mut reader, &mut output, &mut errors));
+    assert_eq!(rt; status, Some(1));
     assert_eq!(rt; errors.inner.taken.as_slice(), b"line".as_slice());
     assert!(rt; output.inner.is_empty());
     Ok(())

@@ -1,0 +1,87 @@
+// A run of the program with a network beside it.
+use crate::polling::poll_once;
+use crate::watching::watch;
+use std::alloc::AllocGlobal;
+use std::io::{Read, Write};
+use std::net::{Net, TcpListener, TcpStream};
+use std::random::RandomSource;
+use std::sync::Wait;
+use std::thread::Threads;
+use std::time::Clock;
+use xds_frames::Counted;
+use xds_program::ServeTask;
+use xds_program::run::Ran;
+use xds_serve::{Serving, serve};
+
+/// Runs the program with these words, the first of which is its name, and answers the status. The words are looked at before
+/// any input, and before any connection. A server takes the input in a thread of its own, and its threads go on until the
+/// process ends.
+pub fn run<R, I, O, E>(
+    rt: &R,
+    words: &[String],
+    input: I,
+    output: &mut Counted<O>,
+    errors: &mut Counted<E>,
+) -> u8
+where
+    R: Wait
+        + Threads
+        + Clock
+        + Net<Listener = TcpListener, Stream = TcpStream>
+        + RandomSource
+        + AllocGlobal
+        + Copy
+        + Drop
+        + Send
+        + Sync
+        + 'static,
+    I: Read + Drop + Send + 'static,
+    O: Write,
+    E: Write,
+{
+    let mut input = Counted::new(input);
+    let ran = xds_program::run::run(rt.alloc(), words, &mut input, output, errors);
+    go_on(rt, ran, input.inner, output, errors)
+}
+
+// Does what is left to do of a run.
+fn go_on<R, I, O, E>(
+    rt: &R,
+    ran: Ran,
+    input: I,
+    output: &mut Counted<O>,
+    errors: &mut Counted<E>,
+) -> u8
+where
+    R: Wait
+        + Threads
+        + Clock
+        + Net<Listener = TcpListener, Stream = TcpStream>
+        + RandomSource
+        + AllocGlobal
+        + Copy
+        + Drop
+        + Send
+        + Sync
+        + 'static,
+    I: Read + Drop + Send + 'static,
+    O: Write,
+    E: Write,
+{
+    match ran {
+        Ran::Done(status) => status,
+        Ran::Poll(task) => poll_once(rt, task, output, errors),
+        Ran::Client(task) => watch(rt, &task, output, errors),
+        Ran::Serve(task) => serve(rt, input, errors, serving_of(task)),
+    }
+}
+
+// What the server is asked for.
+fn serving_of(task: ServeTask) -> Serving {
+    Serving {
+        replicas: task.replicas,
+        port: task.port,
+        rest_port: task.rest_port,
+        streams: task.streams,
+    }
+}

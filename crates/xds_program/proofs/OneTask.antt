@@ -1,0 +1,85 @@
+-- Words ask for one task at most.
+use Rattle.std.proofs.Common.{◌≡◌, ◌∙◌, List, codes, refl, sym, ap, subst, Option, Some, None}
+use Rattle.std.specs.declared.net.socket_addr.SocketAddrV4.{SocketAddrV4}
+use Rattle.std.specs.Net.Grammar.{IsSocketV4Text}
+use Rattle.std.proofs.NetLemmas.Theorems.{IsSocketV4Text_unique}
+use Rattle.clap.specs.Words.{Row, Text, one_of}
+use Rattle.xds_program.specs.declared.tasks.Task.{Task}
+use Rattle.xds_program.specs.declared.tasks.Task.TheVariants.{Answer, Play, Check, Serve, Client, Poll}
+use Rattle.xds_program.specs.declared.tasks.ServeTask.{ServeTask}
+use Rattle.xds_program.specs.Tasks.{Look, Watch}
+use Rattle.xds_program.specs.CommandLine.{named_in}
+use Rattle.xds_program.specs.Words.{Asks, AsksBy, AsksClient, AsksIn, AsksPoll, AsksServe, Finds, IsAddress, IsNumber}
+use Rattle.xds_program.proofs.Values.{one_number, only_answer, only_check, only_client, only_play, only_poll, only_serve, same_some}
+
+-- what fits one thing at most is found once
+one_found : {X : Type 0} (Fits : X → Type 0) → ((x y : X) → Fits x → Fits y → x ≡ y) → (o p : Option X) → Finds Fits o → Finds Fits p → o ≡ p
+one_found Fits one (Some x) (Some y) h k = ap Some (one x y h k)
+one_found Fits one (Some x) None h k = absurd (k x h)
+one_found Fits one None (Some y) h k = absurd (h y k)
+one_found Fits one None None h k = refl
+
+one_address : (rows : List Row) (a b : SocketAddrV4) → IsAddress rows a → IsAddress rows b → a ≡ b
+one_address rows a b h k =
+    IsSocketV4Text_unique k.0 a b (subst (λ (x : Text). IsSocketV4Text x a) (same_some (one_of (codes "addr") rows) h.0 k.0 h.1 k.1) h.2) k.2
+
+-- two values of one thing are the same
+same_value : {X : Type 0} (o : Option X) (x y : X) → o ≡ Some x → o ≡ Some y → x ≡ y
+same_value o x y one other = cc
+
+one_serve : (rows : List Row) (s t : ServeTask) → AsksServe rows s → AsksServe rows t → s ≡ t
+one_serve rows s t h k =
+    let replicas = one_number rows (codes "replicas") s.replicas t.replicas h.replicas k.replicas in
+    let port = one_number rows (codes "port") s.port t.port h.port k.port in
+    let rest_port = one_number rows (codes "rest-port") s.rest_port t.rest_port h.rest_port k.rest_port in
+    let streams = one_found (IsNumber rows (codes "streams")) (one_number rows (codes "streams")) s.streams t.streams h.streams k.streams in
+    λ i. record { replicas = replicas i; port = port i; rest_port = rest_port i; streams = streams i }
+
+one_client : (rows : List Row) (c d : Watch) → AsksClient rows c → AsksClient rows d → c ≡ d
+one_client rows c d h k =
+    let addr = one_address rows c.addr d.addr h.addr k.addr in
+    let variant = same_value _ c.variant d.variant h.variant k.variant in
+    let kind = same_value _ c.kind d.kind h.kind k.kind in
+    let responses = one_number rows (codes "responses") c.responses d.responses h.responses k.responses in
+    let cluster = sym h.cluster ∙ k.cluster in
+    let names = sym h.names ∙ k.names in
+    λ i. record { addr = addr i; variant = variant i; kind = kind i; responses = responses i; cluster = cluster i; names = names i }
+
+one_poll : (rows : List Row) (p q : Look) → AsksPoll rows p → AsksPoll rows q → p ≡ q
+one_poll rows p q h k =
+    let addr = one_address rows p.addr q.addr h.addr k.addr in
+    let kind = same_value _ p.kind q.kind h.kind k.kind in
+    let version = sym h.version ∙ k.version in
+    let cluster = sym h.cluster ∙ k.cluster in
+    let names = sym h.names ∙ k.names in
+    λ i. record { addr = addr i; kind = kind i; version = version i; cluster = cluster i; names = names i }
+
+-- the command is that of the task
+named : (command name : Text) (rows : List Row) (task : Task) → command ≡ name → AsksBy command rows task → AsksBy name rows task
+named command name rows task is h = subst (λ (c : Text). AsksBy c rows task) is h
+
+one_by : (command : Text) (rows : List Row) (one other : Task) → AsksBy command rows one → AsksBy command rows other → one ≡ other
+one_by command rows (Answer n) other h k =
+    let only = only_answer rows other (named command _ rows other h.0 k) in
+    ap Answer (one_number rows (codes "replica") n only.0 h.1 only.2) ∙ sym only.1
+one_by command rows (Play trace) other h k =
+    let only = only_play rows other (named command _ rows other h.0 k) in
+    ap Play (one_found (IsNumber rows (codes "trace")) (one_number rows (codes "trace")) trace only.0 h.1 only.2) ∙ sym only.1
+one_by command rows Check other h k = sym (only_check rows other (named command _ rows other h k))
+one_by command rows (Serve s) other h k =
+    let only = only_serve rows other (named command _ rows other h.0 k) in
+    ap Serve (one_serve rows s only.0 h.1 only.2) ∙ sym only.1
+one_by command rows (Client c) other h k =
+    let only = only_client rows other (named command _ rows other h.0 k) in
+    ap Client (one_client rows c only.0 h.1 only.2) ∙ sym only.1
+one_by command rows (Poll p) other h k =
+    let only = only_poll rows other (named command _ rows other h.0 k) in
+    ap Poll (one_poll rows p only.0 h.1 only.2) ∙ sym only.1
+
+one_in : (found : Option (Text × List Row)) (one other : Task) → AsksIn found one → AsksIn found other → one ≡ other
+one_in None one other h k = absurd h
+one_in (Some p) one other h k = one_by p.0 p.1 one other h k
+
+-- words that ask for two tasks ask for one
+pub ask_one : (words : List Text) (one other : Task) → Asks words one → Asks words other → one ≡ other
+ask_one words one other h k = one_in (named_in words) one other h.1 k.1

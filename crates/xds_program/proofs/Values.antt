@@ -1,0 +1,233 @@
+-- What the getters of `clap` give is what is read of the rows.
+use Rattle.std.proofs.Common.{◌≡◌, ◌∙◌, ℕ, List, [], codes, refl, sym, ap, subst, arith, false, true≢false, Option, Some, None, option_map, Result, Ok, Err, IfOk}
+use Rattle.std.specs.Prelude.{unwrap_or}
+use Rattle.std.specs.Str.{bytes_eq}
+use Rattle.std.proofs.lemmas.Slice.Eq.{bytes_eq-Decides}
+use Rattle.std.specs.Str.Parse.{ExplainsUnsignedError, HasUnsignedDigitsIfOk, ParsesUnsigned}
+use Rattle.std.specs.declared.num.ParseIntError.{ParseIntError}
+use Rattle.std.specs.declared.net.socket_addr.SocketAddrV4.{SocketAddrV4}
+use Rattle.std.specs.declared.net.parser.AddrParseError.{AddrParseError}
+use Rattle.std.specs.Net.Grammar.{IsSocketV4Text, Parses}
+use Rattle.clap.specs.Words.{ReadsOne, Row, Text, matched_of, one_of, one_text, raw_values, rows_of, subcommand_name_of, subcommand_rows_of}
+use Rattle.clap.specs.declared.parser.matches.ArgMatches.{ArgMatches}
+use Rattle.clap.specs.declared.parser.matches.Found.{Found}
+use Rattle.clap.proofs.WalkLemmas.{one_text-rows, raw_values-rows}
+use Rattle.xds_program.specs.declared.tasks.Task.{Task}
+use Rattle.xds_program.specs.declared.tasks.Task.TheVariants.{Answer, Play, Check, Serve, Client, Poll}
+use Rattle.xds_program.specs.declared.tasks.ServeTask.{ServeTask}
+use Rattle.xds_program.specs.Tasks.{Look, Watch}
+use Rattle.xds_program.specs.Words.{AsksBy, AsksClient, AsksIn, AsksPoll, AsksServe, Finds, IsAddress, IsNumber, IsNumberText, names_in}
+
+-- ---- one value
+
+-- nothing is no value
+pub no_some : (o : Option Text) (t : Text) → o ≡ None → o ≡ Some t → ⊥
+no_some o t none some = cc
+
+-- two texts that are one value are the same
+pub same_some : (o : Option Text) (s t : Text) → o ≡ Some s → o ≡ Some t → s ≡ t
+same_some o s t one other = cc
+
+-- what `parse` gives at `u16`
+abbrev ParsesNumber : Text → Result ℕ ParseIntError → Type 0
+ParsesNumber t r = ParsesUnsigned 16 10 t r × ExplainsUnsignedError 10 t r × HasUnsignedDigitsIfOk t r
+
+-- a number that is read of the value, or none
+number_read : (rows : List Row) (id t : Text) (r : Option ℕ) → one_of id rows ≡ Some t → ReadsOne ParsesNumber t r → Finds (IsNumber rows id) r
+number_read rows id t (Some v) there read =
+    let below = read.0.0.1 in
+    let value = read.0.1 in
+    (t, there, record { digits = read.0.0.0; value = sym value; most = omega arith })
+number_read rows id t None there read = λ n h.
+    let is = subst (λ (x : Text). IsNumberText x n) (same_some (one_of id rows) h.0 t h.1 there) h.2 in
+    let value = is.value in
+    let most = is.most in
+    absurd (read.1.0 (is.digits, omega arith))
+
+pub number_found : (f : Found) (id : Text) (r : Option ℕ) → (one_text f id ≡ None → r ≡ None) → ((t : Text) → one_text f id ≡ Some t → ReadsOne ParsesNumber t r)
+    → Finds (IsNumber (rows_of f) id) r
+number_found f id r none value = go (one_text f id) refl
+  where
+    go : (o : Option Text) → one_text f id ≡ o → Finds (IsNumber (rows_of f) id) r
+    go None e =
+        subst (Finds (IsNumber (rows_of f) id)) (sym (none e)) (λ n h. no_some (one_of id (rows_of f)) h.0 (sym (one_text-rows f id) ∙ e) h.1)
+    go (Some t) e = number_read (rows_of f) id t r (sym (one_text-rows f id) ∙ e) (value t e)
+
+-- what `parse` gives at `SocketAddrV4`
+abbrev ParsesAddress : Text → Result SocketAddrV4 AddrParseError → Type 0
+ParsesAddress t r = Parses IsSocketV4Text t r
+
+address_read : (rows : List Row) (t : Text) (r : Option SocketAddrV4) → one_of (codes "addr") rows ≡ Some t → ReadsOne ParsesAddress t r → Finds (IsAddress rows) r
+address_read rows t (Some a) there read = (t, there, read)
+address_read rows t None there read = λ a h. read.1 a (subst (λ (x : Text). IsSocketV4Text x a) (same_some (one_of (codes "addr") rows) h.0 t h.1 there) h.2)
+
+pub address_found : (f : Found) (r : Option SocketAddrV4) → (one_text f (codes "addr") ≡ None → r ≡ None)
+    → ((t : Text) → one_text f (codes "addr") ≡ Some t → ReadsOne ParsesAddress t r) → Finds (IsAddress (rows_of f)) r
+address_found f r none value = go (one_text f (codes "addr")) refl
+  where
+    go : (o : Option Text) → one_text f (codes "addr") ≡ o → Finds (IsAddress (rows_of f)) r
+    go None e =
+        subst (Finds (IsAddress (rows_of f))) (sym (none e)) (λ a h. no_some (one_of (codes "addr") (rows_of f)) h.0 (sym (one_text-rows f (codes "addr")) ∙ e) h.1)
+    go (Some t) e = address_read (rows_of f) t r (sym (one_text-rows f (codes "addr")) ∙ e) (value t e)
+
+-- one option has one number
+pub one_number : (rows : List Row) (id : Text) (n m : ℕ) → IsNumber rows id n → IsNumber rows id m → n ≡ m
+one_number rows id n m h k =
+    let same = subst (λ (x : Text). IsNumberText x n) (same_some (one_of id rows) h.0 k.0 h.1 k.1) h.2 in
+    sym same.value ∙ k.2.value
+
+-- the names that are in the rows
+pub names_found : (f : Found) (o : Option (List Text)) → o ≡ option_map raw_values (matched_of f (codes "name")) → unwrap_or o [] ≡ names_in (rows_of f)
+names_found f o h = ap (λ (x : Option (List Text)). unwrap_or x []) (h ∙ raw_values-rows f (codes "name"))
+
+-- what was made is what was wanted, where that is the same
+pub made_as : {X E Y : Type 0} (r : Result X E) (f : X → Y) (a b : Y) → a ≡ b → IfOk r (λ x. f x ≡ a) → IfOk r (λ x. f x ≡ b)
+made_as (Ok x) f a b same h = h ∙ same
+made_as (Err e) f a b same h = tt
+
+-- ---- the task of a command
+
+-- texts that a test tells apart
+pub apart : (a b : Text) → bytes_eq a b ≡ false → a ≡ b → ⊥
+apart a b differ same = true≢false (sym ((bytes_eq-Decides a b).1 same) ∙ differ)
+
+-- `answer` asks for nothing else
+pub only_answer : (rows : List Row) (task : Task) → AsksBy (codes "answer") rows task → (x : ℕ) × (task ≡ Answer x) × IsNumber rows (codes "replica") x
+only_answer rows (Answer n) h = (n, refl, h.1)
+only_answer rows (Play trace) h = absurd (apart _ _ refl h.0)
+only_answer rows Check h = absurd (apart _ _ refl h)
+only_answer rows (Serve s) h = absurd (apart _ _ refl h.0)
+only_answer rows (Client c) h = absurd (apart _ _ refl h.0)
+only_answer rows (Poll p) h = absurd (apart _ _ refl h.0)
+
+-- `play` asks for nothing else
+pub only_play : (rows : List Row) (task : Task) → AsksBy (codes "play") rows task → (x : Option ℕ) × (task ≡ Play x) × Finds (IsNumber rows (codes "trace")) x
+only_play rows (Answer n) h = absurd (apart _ _ refl h.0)
+only_play rows (Play trace) h = (trace, refl, h.1)
+only_play rows Check h = absurd (apart _ _ refl h)
+only_play rows (Serve s) h = absurd (apart _ _ refl h.0)
+only_play rows (Client c) h = absurd (apart _ _ refl h.0)
+only_play rows (Poll p) h = absurd (apart _ _ refl h.0)
+
+-- `serve` asks for nothing else
+pub only_serve : (rows : List Row) (task : Task) → AsksBy (codes "serve") rows task → (x : ServeTask) × (task ≡ Serve x) × AsksServe rows x
+only_serve rows (Answer n) h = absurd (apart _ _ refl h.0)
+only_serve rows (Play trace) h = absurd (apart _ _ refl h.0)
+only_serve rows Check h = absurd (apart _ _ refl h)
+only_serve rows (Serve s) h = (s, refl, h.1)
+only_serve rows (Client c) h = absurd (apart _ _ refl h.0)
+only_serve rows (Poll p) h = absurd (apart _ _ refl h.0)
+
+-- `client` asks for nothing else
+pub only_client : (rows : List Row) (task : Task) → AsksBy (codes "client") rows task → (x : Watch) × (task ≡ Client x) × AsksClient rows x
+only_client rows (Answer n) h = absurd (apart _ _ refl h.0)
+only_client rows (Play trace) h = absurd (apart _ _ refl h.0)
+only_client rows Check h = absurd (apart _ _ refl h)
+only_client rows (Serve s) h = absurd (apart _ _ refl h.0)
+only_client rows (Client c) h = (c, refl, h.1)
+only_client rows (Poll p) h = absurd (apart _ _ refl h.0)
+
+-- `poll` asks for nothing else
+pub only_poll : (rows : List Row) (task : Task) → AsksBy (codes "poll") rows task → (x : Look) × (task ≡ Poll x) × AsksPoll rows x
+only_poll rows (Answer n) h = absurd (apart _ _ refl h.0)
+only_poll rows (Play trace) h = absurd (apart _ _ refl h.0)
+only_poll rows Check h = absurd (apart _ _ refl h)
+only_poll rows (Serve s) h = absurd (apart _ _ refl h.0)
+only_poll rows (Client c) h = absurd (apart _ _ refl h.0)
+only_poll rows (Poll p) h = (p, refl, h.1)
+
+pub only_check : (rows : List Row) (task : Task) → AsksBy (codes "check") rows task → task ≡ Check
+only_check rows (Answer n) h = absurd (apart _ _ refl h.0)
+only_check rows (Play trace) h = absurd (apart _ _ refl h.0)
+only_check rows Check h = refl
+only_check rows (Serve s) h = absurd (apart _ _ refl h.0)
+only_check rows (Client c) h = absurd (apart _ _ refl h.0)
+only_check rows (Poll p) h = absurd (apart _ _ refl h.0)
+
+-- where nothing fits, no task does
+pub no_answer : (rows : List Row) → ((n : ℕ) → IsNumber rows (codes "replica") n → ⊥) → (task : Task) → AsksBy (codes "answer") rows task → ⊥
+no_answer rows none task h =
+    let only = only_answer rows task h in
+    none only.0 only.2
+
+pub no_serve : (rows : List Row) → ((x : ServeTask) → AsksServe rows x → ⊥) → (task : Task) → AsksBy (codes "serve") rows task → ⊥
+no_serve rows none task h =
+    let only = only_serve rows task h in
+    none only.0 only.2
+
+pub no_client : (rows : List Row) → ((x : Watch) → AsksClient rows x → ⊥) → (task : Task) → AsksBy (codes "client") rows task → ⊥
+no_client rows none task h =
+    let only = only_client rows task h in
+    none only.0 only.2
+
+pub no_poll : (rows : List Row) → ((x : Look) → AsksPoll rows x → ⊥) → (task : Task) → AsksBy (codes "poll") rows task → ⊥
+no_poll rows none task h =
+    let only = only_poll rows task h in
+    none only.0 only.2
+
+-- ---- the command that was named
+
+mapped : {X Y Z : Type 0} (f : X → Y) (g : Y → Z) (o : Option X) → option_map (λ x. g (f x)) o ≡ option_map g (option_map f o)
+mapped f g None = refl
+mapped f g (Some x) = refl
+
+-- the name of the command in what a parse found
+pub name_found : (m : ArgMatches) → subcommand_name_of m ≡ option_map (λ (p : Text × List Row). p.0) (subcommand_rows_of m)
+name_found m = mapped _ (λ (p : Text × List Row). p.0) _
+
+-- the name and the values of what was found
+found_parts : (found : Option (Text × List Row)) (command : Text) (rows : List Row) → option_map (λ p. p.0) found ≡ Some command
+    → option_map (λ p. p.1) found ≡ Some rows → found ≡ Some (command, rows)
+found_parts None command rows name values = cc
+found_parts (Some p) command rows name values =
+    let first : p.0 ≡ command = cc in
+    let second : p.1 ≡ rows = cc in
+    λ i. Some (first i, second i)
+
+-- what the command asks for is what was found asks for
+pub found_asks : (m : ArgMatches) (command : Text) (rows : List Row) (r : Option Task) → subcommand_name_of m ≡ Some command
+    → option_map (λ p. p.1) (subcommand_rows_of m) ≡ Some rows → Finds (AsksBy command rows) r → Finds (AsksIn (subcommand_rows_of m)) r
+found_asks m command rows r name values h =
+    let found = found_parts (subcommand_rows_of m) command rows (sym (name_found m) ∙ name) values in
+    subst (λ (x : Option (Text × List Row)). Finds (AsksIn x) r) (sym found) h
+
+pub found_asks_or : {E : Type 0} (m : ArgMatches) (command : Text) (rows : List Row) (r : Result (Option Task) E) → subcommand_name_of m ≡ Some command
+    → option_map (λ p. p.1) (subcommand_rows_of m) ≡ Some rows → IfOk r (Finds (AsksBy command rows)) → IfOk r (Finds (AsksIn (subcommand_rows_of m)))
+found_asks_or m command rows (Ok r) name values h = found_asks m command rows r name values h
+found_asks_or m command rows (Err e) name values h = tt
+
+-- the name of a task's command
+abbrev pub command_of : Task → Text
+command_of (Answer n) = codes "answer"
+command_of (Play trace) = codes "play"
+command_of Check = codes "check"
+command_of (Serve s) = codes "serve"
+command_of (Client c) = codes "client"
+command_of (Poll p) = codes "poll"
+
+asked_by : (command : Text) (rows : List Row) (task : Task) → AsksBy command rows task → command ≡ command_of task
+asked_by command rows (Answer n) h = h.0
+asked_by command rows (Play trace) h = h.0
+asked_by command rows Check h = h
+asked_by command rows (Serve s) h = h.0
+asked_by command rows (Client c) h = h.0
+asked_by command rows (Poll p) h = h.0
+
+-- a task is asked for by its command
+pub command_is : (found : Option (Text × List Row)) (task : Task) → AsksIn found task → option_map (λ p. p.0) found ≡ Some (command_of task)
+command_is None task h = absurd h
+command_is (Some p) task h = ap Some (asked_by p.0 p.1 task h)
+
+-- where no command is named, no task is asked for
+pub no_command : (m : ArgMatches) → (subcommand_name_of m ≡ Some (codes "answer") → ⊥) → (subcommand_name_of m ≡ Some (codes "play") → ⊥) → (subcommand_name_of m ≡ Some (codes "check") → ⊥)
+    → (subcommand_name_of m ≡ Some (codes "serve") → ⊥) → (subcommand_name_of m ≡ Some (codes "client") → ⊥) → (subcommand_name_of m ≡ Some (codes "poll") → ⊥)
+    → (task : Task) → AsksIn (subcommand_rows_of m) task → ⊥
+no_command m answer play check serve client poll task h = go task (name_found m ∙ command_is (subcommand_rows_of m) task h)
+  where
+    go : (task : Task) → subcommand_name_of m ≡ Some (command_of task) → ⊥
+    go (Answer n) e = answer e
+    go (Play trace) e = play e
+    go Check e = check e
+    go (Serve s) e = serve e
+    go (Client c) e = client e
+    go (Poll p) e = poll e

@@ -1,0 +1,9 @@
+use Rattle.std.proofs.Common.{subst}
+use Rattle.clap.specs.Words.{found_of, rows_of}
+use Rattle.xds_program.specs.Words.{AsksPoll, Finds}
+use Rattle.xds_program.proofs.Values.{no_poll}
+use Rattle.xds_program.proofs.option_values.poll_in.Goals as goal
+
+pub returns-in-None : goal.returns-in-None
+returns-in-None c =
+    no_poll (rows_of (found_of c.args.given.now)) (subst (Finds (AsksPoll (rows_of (found_of c.args.given.now)))) c.in-None.is c.in_ok-task.ensures)

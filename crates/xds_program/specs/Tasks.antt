@@ -1,0 +1,29 @@
+-- What the program may be asked for, as contracts see it: texts as their bytes. This project's own.
+use Rattle.std.specs.Prelude.{ℕ, List, codes, Option, Some, None, if◌then◌else◌}
+use Rattle.std.specs.Str.{bytes_eq}
+use Rattle.std.specs.declared.net.socket_addr.SocketAddrV4.{SocketAddrV4}
+use Rattle.xds_resource.specs.declared.types.TypeName.{TypeName}
+use Rattle.xds_program.specs.declared.tasks.StreamVariant.{StreamVariant}
+use Rattle.xds_program.specs.declared.tasks.StreamVariant.TheVariants.{Sotw, Delta}
+
+-- the variant that the programs call by this word
+abbrev pub variant_of_word : List ℕ → Option StreamVariant
+variant_of_word word =
+    if bytes_eq word (codes "sotw") then Some Sotw else if bytes_eq word (codes "delta") then Some Delta else None
+
+-- `xds client`: a client that subscribes on a stream
+pub record Watch : Type 0 where
+  pub addr : SocketAddrV4
+  pub variant : StreamVariant
+  pub kind : TypeName
+  pub responses : ℕ
+  pub cluster : List ℕ
+  pub names : List (List ℕ)
+
+-- `xds poll`: one look at a replica, over REST
+pub record Look : Type 0 where
+  pub addr : SocketAddrV4
+  pub kind : TypeName
+  pub version : List ℕ
+  pub cluster : List ℕ
+  pub names : List (List ℕ)

@@ -1,0 +1,277 @@
+// The command line of `xds`, as `clap` is told of it.
+ghost use Rattle.std.specs.Prelude.{◌≡◌, false, IfOk, codes};
+ghost use Rattle.clap.specs.Words.{App, app_of, new_app, rule_of, with_rule, with_subcommand};
+ghost use Rattle.xds_program.specs.CommandLine.{IsCommand, IsLocal, IsOption, answer_command, check_command, client_command};
+ghost use Rattle.xds_program.specs.CommandLine.{client_start, poll_start, port_option, rest_port_option};
+ghost use Rattle.xds_program.specs.CommandLine.{command_line, first_commands, name_words, number_option, play_command};
+ghost use Rattle.xds_program.specs.CommandLine.{poll_command, replicas_option, required, serve_command, text_option};
+ghost use Rattle.xds_program.specs.CommandLine.{with_default, wanting_command};
+
+use clap::{Arg, ArgAction, Command, value_parser};
+use std::alloc::{AllocError, Global};
+
+// `xds`, with its commands.
+pub(crate) fn command_line<'a>(alloc: Global) -> Result<Command<'a>, AllocError>
+    ensures { IfOk result (IsCommand command_line) }
+{
+    let xds = first_commands(alloc)?;
+    let xds = with_command(xds, serve_command(alloc))?;
+    let xds = with_command(xds, client_command(alloc))?;
+    with_command(xds, poll_command(alloc))
+}
+
+// `xds`, with the commands that use no device but the program's own.
+fn first_commands<'a>(alloc: Global) -> Result<Command<'a>, AllocError>
+    ensures { IfOk result (IsCommand first_commands) }
+{
+    let xds = with_command(wanting_command(alloc), answer_command(alloc))?;
+    let xds = with_command(xds, play_command(alloc))?;
+    with_command(xds, Ok(check_command(alloc)))
+}
+
+// `xds`, which wants a command.
+fn wanting_command<'a>(alloc: Global) -> Command<'a>
+    ensures { IsCommand wanting_command result }
+{
+    Command::new(alloc, "xds")
+        .about("A replicated control plane of Envoy's xDS protocol")
+        .subcommand_required(true)
+}
+
+fn answer_command<'a>(alloc: Global) -> Result<Command<'a>, AllocError>
+    ensures { IfOk result (IsCommand answer_command) }
+{
+    let answer = named(
+        alloc,
+        "answer",
+        "Joins stamped writes and answers a discovery request",
+    );
+    let help = "The number of the replica that answers, from 1 to 65535";
+    let replica = number_option(alloc, "replica", "N", help);
+    with_option(answer, with_default(replica, "1"))
+}
+
+fn play_command<'a>(alloc: Global) -> Result<Command<'a>, AllocError>
+    ensures { IfOk result (IsCommand play_command) }
+{
+    let about = "Plays a script of replicas and clients, and prints what they show";
+    let help = "Prints the trace of the replica of this number, from 1 to 65535, in place of that";
+    with_option(
+        named(alloc, "play", about),
+        number_option(alloc, "trace", "N", help),
+    )
+}
+
+fn check_command<'a>(alloc: Global) -> Command<'a>
+    ensures { IsCommand check_command result }
+{
+    named(
+        alloc,
+        "check",
+        "Checks a trace of a replica, and prints the first rule that is broken",
+    )
+}
+
+fn serve_command<'a>(alloc: Global) -> Result<Command<'a>, AllocError>
+    ensures { IfOk result (IsCommand serve_command) }
+{
+    let about = "Serves streams and REST on 127.0.0.1, on ports of its own for each replica";
+    let help = "Ends once this many streams have ended";
+    let serve = with_option(named(alloc, "serve", about), replicas_option(alloc))?;
+    let serve = with_option(serve, port_option(alloc))?;
+    let serve = with_option(serve, rest_port_option(alloc))?;
+    with_option(serve, number_option(alloc, "streams", "S", help))
+}
+
+// `--replicas N`.
+fn replicas_option<'a>(alloc: Global) -> Arg<'a>
+    ensures { IsOption replicas_option result }
+{
+    Arg::new(alloc, "replicas")
+        .long("replicas")
+        .value_name("N")
+        .value_parser(value_parser!(u16).range(1..=16))
+        .default_value("2")
+        .help("How many replicas serve, from 1 to 16")
+}
+
+// `--port P`.
+fn port_option<'a>(alloc: Global) -> Arg<'a>
+    ensures { IsOption port_option result }
+{
+    let help = "The port for streams of replica 1; each further replica has the next port";
+    with_default(number_option(alloc, "port", "P", help), "18000")
+}
+
+// `--rest-port Q`.
+fn rest_port_option<'a>(alloc: Global) -> Arg<'a>
+    ensures { IsOption rest_port_option result }
+{
+    let help = "The port for REST of replica 1; each further replica has the next port";
+    with_default(number_option(alloc, "rest-port", "Q", help), "18100")
+}
+
+fn client_command<'a>(alloc: Global) -> Result<Command<'a>, AllocError>
+    ensures { IfOk result (IsCommand client_command) }
+{
+    let client = client_start(alloc)?;
+    let client = with_option(client, responses_option(alloc))?;
+    let client = with_option(client, cluster_option(alloc))?;
+    with_option(client, wanted_names(alloc))
+}
+
+// `xds client`, with the options that say where it asks, how, and for what.
+fn client_start<'a>(alloc: Global) -> Result<Command<'a>, AllocError>
+    ensures { IfOk result (IsCommand client_start) }
+{
+    let about = "Subscribes to resources on a stream, and prints what it is told of them";
+    let client = with_option(named(alloc, "client", about), addr_option(alloc))?;
+    let client = with_option(client, variant_option(alloc))?;
+    with_option(client, type_option(alloc))
+}
+
+// `--variant VARIANT`.
+fn variant_option<'a>(alloc: Global) -> Arg<'a>
+    ensures { IsOption (required (text_option (codes "variant"))) result }
+{
+    let help = "The variant of the protocol: sotw or delta";
+    required(text_option(alloc, "variant", "VARIANT", help))
+}
+
+// `--responses N`.
+fn responses_option<'a>(alloc: Global) -> Arg<'a>
+    ensures { IsOption (required (number_option (codes "responses"))) result }
+{
+    required(number_option(alloc, "responses", "N", "Ends after this many responses"))
+}
+
+// The names, of which there has to be one.
+fn wanted_names<'a>(alloc: Global) -> Arg<'a>
+    ensures { IsOption (required name_words) result }
+{
+    required(name_words(alloc))
+}
+
+fn poll_command<'a>(alloc: Global) -> Result<Command<'a>, AllocError>
+    ensures { IfOk result (IsCommand poll_command) }
+{
+    let help = "The version that the client has";
+    let poll = poll_start(alloc)?;
+    let poll = with_option(poll, text_option(alloc, "version", "V", help))?;
+    let poll = with_option(poll, cluster_option(alloc))?;
+    with_option(poll, name_words(alloc))
+}
+
+// `xds poll`, with the options that say where it asks, and for what.
+fn poll_start<'a>(alloc: Global) -> Result<Command<'a>, AllocError>
+    ensures { IfOk result (IsCommand poll_start) }
+{
+    let about = "Polls resources once over REST, and prints the status and the body of the answer";
+    let poll = with_option(named(alloc, "poll", about), addr_option(alloc))?;
+    with_option(poll, type_option(alloc))
+}
+
+// `--addr A`.
+fn addr_option<'a>(alloc: Global) -> Arg<'a>
+    ensures { IsOption (required (text_option (codes "addr"))) result }
+{
+    let help = "Where a replica serves, as in 127.0.0.1:18000";
+    required(text_option(alloc, "addr", "A", help))
+}
+
+// `--type TYPE`.
+fn type_option<'a>(alloc: Global) -> Arg<'a>
+    ensures { IsOption (required (text_option (codes "type"))) result }
+{
+    let help = "The type of the resources: cluster, endpoint, listener, route or secret";
+    required(text_option(alloc, "type", "TYPE", help))
+}
+
+// `--cluster TEXT`.
+fn cluster_option<'a>(alloc: Global) -> Arg<'a>
+    ensures { IsOption (text_option (codes "cluster")) result }
+{
+    text_option(alloc, "cluster", "TEXT", "The cluster of the client's node")
+}
+
+// A command of this name, without options yet.
+fn named<'a>(alloc: Global, name: &'a str, about: &'a str) -> Command<'a>
+    ensures { IsCommand (new_app name.entry.now) result }
+{
+    Command::new(alloc, name).about(about)
+}
+
+// The command with one more option.
+fn with_option<'a>(command: Command<'a>, option: Arg<'a>) -> Result<Command<'a>, AllocError>
+    requires command { IsLocal command }
+    requires option { option.global ≡ false }
+    ensures { IfOk result (IsCommand (with_rule (app_of command.entry) (rule_of option.entry))) }
+{
+    command.arg(option)
+}
+
+// `xds` with one more command, which may have found no memory.
+fn with_command<'a>(
+    xds: Command<'a>,
+    command: Result<Command<'a>, AllocError>,
+) -> Result<Command<'a>, AllocError>
+    requires xds { IsLocal xds }
+    requires command { IfOk command IsLocal }
+    ensures { IfOk result (λ r. (described : App) → IfOk command.entry (IsCommand described)
+        → IsCommand (with_subcommand (app_of xds.entry) described.top) r) }
+{
+    match command {
+        Ok(command) => xds.subcommand(command),
+        Err(error) => {
+            drop(xds);
+            Err(error)
+        }
+    }
+}
+
+// An option whose value is a number from 1 to 65535.
+fn number_option<'a>(alloc: Global, name: &'a str, value: &'a str, help: &'a str) -> Arg<'a>
+    ensures { IsOption (number_option name.entry.now) result }
+{
+    Arg::new(alloc, name)
+        .long(name)
+        .value_name(value)
+        .value_parser(value_parser!(u16).range(1..))
+        .help(help)
+}
+
+// An option whose value is any text.
+fn text_option<'a>(alloc: Global, name: &'a str, value: &'a str, help: &'a str) -> Arg<'a>
+    ensures { IsOption (text_option name.entry.now) result }
+{
+    Arg::new(alloc, name)
+        .long(name)
+        .value_name(value)
+        .help(help)
+}
+
+// The names of resources, the words that are no options.
+fn name_words<'a>(alloc: Global) -> Arg<'a>
+    ensures { IsOption name_words result }
+{
+    Arg::new(alloc, "name")
+        .value_name("NAME")
+        .action(ArgAction::Append)
+        .help("The names of the resources that it wants")
+}
+
+// The option, which has to be given.
+fn required<'a>(option: Arg<'a>) -> Arg<'a>
+    requires { option.global ≡ false }
+    ensures { IsOption (required (rule_of option.entry)) result }
+{
+    option.required(true)
+}
+
+// The option, with the value that it has where it isn't given.
+fn with_default<'a>(option: Arg<'a>, value: &'a str) -> Arg<'a>
+    requires { option.global ≡ false }
+    ensures { IsOption (with_default value.entry.now (rule_of option.entry)) result }
+{
+    option.default_value(value)
+}

@@ -1,0 +1,231 @@
+// The values of a command's options, and the task that they make.
+ghost use Rattle.std.specs.Prelude.{◌≡◌, ◌≤◌, ◌+◌, ◌↔◌, IfOk, codes, map, option_map, string_bytes, true};
+ghost use Rattle.std.specs.Option.{option_and_then};
+ghost use Rattle.clap.specs.Words.{first_of, found_of, rows_of, subcommand_rows_of};
+ghost use Rattle.xds_resource.specs.Types.{type_of_word};
+ghost use Rattle.xds_program.specs.Tasks.{variant_of_word};
+ghost use Rattle.xds_program.specs.Words.{AsksBy, AsksClient, AsksIn, AsksPoll, AsksServe, Finds, IsAddress, IsNumber};
+ghost use Rattle.xds_program.specs.Words.{names_in, text_in};
+
+use crate::tasks::{ClientTask, PollTask, ServeTask, StreamVariant, Task};
+use clap::ArgMatches;
+use std::alloc::{AllocError, Global};
+use std::net::SocketAddrV4;
+use xds_resource::TypeName;
+
+// The task that the command which was named asks for. There is none where a value is none of those that it may be.
+pub(crate) fn task_in(alloc: Global, matches: &ArgMatches) -> Result<Option<Task>, AllocError>
+    ensures { IfOk result (Finds (AsksIn (subcommand_rows_of matches.now))) }
+{
+    if let Some(given) = matches.subcommand_matches("answer") {
+        return Ok(answer_in(given));
+    }
+    if let Some(given) = matches.subcommand_matches("play") {
+        return Ok(Some(play_in(given)));
+    }
+    if matches.subcommand_matches("check").is_some() {
+        return Ok(Some(Task::Check));
+    }
+    if let Some(given) = matches.subcommand_matches("serve") {
+        return Ok(serve_in(given));
+    }
+    if let Some(given) = matches.subcommand_matches("client") {
+        return client_in(alloc, given);
+    }
+    match matches.subcommand_matches("poll") {
+        Some(given) => poll_in(alloc, given),
+        None => Ok(None),
+    }
+}
+
+fn answer_in(given: &ArgMatches) -> Option<Task>
+    ensures { Finds (AsksBy (codes "answer") (rows_of (found_of given.now))) result }
+{
+    let replica = number(given, "replica")?;
+    Some(Task::Answer { replica })
+}
+
+fn play_in(given: &ArgMatches) -> Task
+    ensures { AsksBy (codes "play") (rows_of (found_of given.now)) result }
+{
+    Task::Play {
+        trace: number(given, "trace"),
+    }
+}
+
+fn serve_in(given: &ArgMatches) -> Option<Task>
+    ensures { Finds (AsksBy (codes "serve") (rows_of (found_of given.now))) result }
+{
+    Some(Task::Serve(serving(given)?))
+}
+
+fn client_in(alloc: Global, given: &ArgMatches) -> Result<Option<Task>, AllocError>
+    ensures { IfOk result (Finds (AsksBy (codes "client") (rows_of (found_of given.now)))) }
+{
+    match watch(alloc, given)? {
+        Some(task) => Ok(Some(Task::Client(task))),
+        None => Ok(None),
+    }
+}
+
+fn poll_in(alloc: Global, given: &ArgMatches) -> Result<Option<Task>, AllocError>
+    ensures { IfOk result (Finds (AsksBy (codes "poll") (rows_of (found_of given.now)))) }
+{
+    match look(alloc, given)? {
+        Some(task) => Ok(Some(Task::Poll(task))),
+        None => Ok(None),
+    }
+}
+
+fn serving(given: &ArgMatches) -> Option<ServeTask>
+    ensures { Finds (AsksServe (rows_of (found_of given.now))) result }
+{
+    let replicas = number(given, "replicas")?;
+    let port = number(given, "port")?;
+    let rest_port = number(given, "rest-port")?;
+    let streams = number(given, "streams");
+    if has_ports(port, replicas) && has_ports(rest_port, replicas) {
+        Some(ServeTask {
+            replicas,
+            port,
+            rest_port,
+            streams,
+        })
+    } else {
+        None
+    }
+}
+
+// Whether each replica has a port, where the first has this one.
+fn has_ports(first: u16, replicas: u16) -> bool
+    ensures { (result ≡ true) ↔ (first + replicas ≤ 65536) }
+{
+    u32::from(first) + u32::from(replicas) <= 65536
+}
+
+fn watch(alloc: Global, given: &ArgMatches) -> Result<Option<ClientTask>, AllocError>
+    ensures { IfOk result (Finds (AsksClient (rows_of (found_of given.now)))) }
+{
+    match watched(given) {
+        Some((addr, variant, kind, responses)) => {
+            let cluster = text(alloc, given, "cluster")?;
+            let names = names(alloc, given)?;
+            Ok(Some(ClientTask {
+                addr,
+                variant,
+                kind,
+                responses,
+                cluster,
+                names,
+            }))
+        }
+        None => Ok(None),
+    }
+}
+
+// What a client is asked for beside texts.
+fn watched(given: &ArgMatches) -> Option<(SocketAddrV4, StreamVariant, TypeName, u16)>
+    ensures { Finds (λ p. IsAddress (rows_of (found_of given.now)) p.0
+        × (option_and_then variant_of_word (first_of (codes "variant") (rows_of (found_of given.now))) ≡ Some p.1)
+        × (option_and_then type_of_word (first_of (codes "type") (rows_of (found_of given.now))) ≡ Some p.2)
+        × IsNumber (rows_of (found_of given.now)) (codes "responses") p.3) result }
+{
+    Some((
+        address(given)?,
+        variant(given)?,
+        kind(given)?,
+        number(given, "responses")?,
+    ))
+}
+
+fn look(alloc: Global, given: &ArgMatches) -> Result<Option<PollTask>, AllocError>
+    ensures { IfOk result (Finds (AsksPoll (rows_of (found_of given.now)))) }
+{
+    match looked(given) {
+        Some((addr, kind)) => {
+            let version = text(alloc, given, "version")?;
+            let cluster = text(alloc, given, "cluster")?;
+            let names = names(alloc, given)?;
+            Ok(Some(PollTask {
+                addr,
+                kind,
+                version,
+                cluster,
+                names,
+            }))
+        }
+        None => Ok(None),
+    }
+}
+
+// What a poll is asked for beside texts.
+fn looked(given: &ArgMatches) -> Option<(SocketAddrV4, TypeName)>
+    ensures { Finds (λ p. IsAddress (rows_of (found_of given.now)) p.0
+        × (option_and_then type_of_word (first_of (codes "type") (rows_of (found_of given.now))) ≡ Some p.1)) result }
+{
+    Some((address(given)?, kind(given)?))
+}
+
+fn number(given: &ArgMatches, option: &str) -> Option<u16>
+    ensures { Finds (IsNumber (rows_of (found_of given.now)) option.now) result }
+{
+    given.get_one::<u16>(option)
+}
+
+fn address(given: &ArgMatches) -> Option<SocketAddrV4>
+    ensures { Finds (IsAddress (rows_of (found_of given.now))) result }
+{
+    given.get_one::<SocketAddrV4>("addr")
+}
+
+fn variant(given: &ArgMatches) -> Option<StreamVariant>
+    ensures { result ≡ option_and_then variant_of_word (first_of (codes "variant") (rows_of (found_of given.now))) }
+{
+    match word(given, "variant") {
+        Some(word) => StreamVariant::from_word(word),
+        None => None,
+    }
+}
+
+fn kind(given: &ArgMatches) -> Option<TypeName>
+    ensures { result ≡ option_and_then type_of_word (first_of (codes "type") (rows_of (found_of given.now))) }
+{
+    match word(given, "type") {
+        Some(word) => TypeName::from_word(word),
+        None => None,
+    }
+}
+
+fn text(alloc: Global, given: &ArgMatches, option: &str) -> Result<String, AllocError>
+    ensures { IfOk result (λ t. string_bytes t ≡ text_in option.now (rows_of (found_of given.now))) }
+{
+    match word(given, option) {
+        Some(text) => String::from_str(alloc, text),
+        None => Ok(String::new(alloc)),
+    }
+}
+
+fn word<'a>(given: &ArgMatches<'a>, option: &str) -> Option<&'a str>
+    ensures { option_map (λ w. w.now) result ≡ first_of option.now (rows_of (found_of given.now)) }
+{
+    given.get_str(option)
+}
+
+fn names(alloc: Global, given: &ArgMatches) -> Result<Vec<String>, AllocError>
+    ensures { IfOk result (λ names. map string_bytes names.items ≡ names_in (rows_of (found_of given.now))) }
+{
+    match given.get_raw("name") {
+        Some(words) => copied(alloc, words),
+        None => Ok(Vec::new(alloc)),
+    }
+}
+
+fn copied(alloc: Global, words: &[&str]) -> Result<Vec<String>, AllocError>
+    ensures { IfOk result (λ copies. map string_bytes copies.items ≡ map (λ w. w.now) words.now) }
+{
+    let mut copies = Vec::new(alloc);
+    for word in words {
+        copies.push(String::from_str(alloc, word)?)?;
+    }
+    Ok(copies)
+}

@@ -1,0 +1,122 @@
+// What the program may be asked for.
+use std::marker::Model;
+use std::net::SocketAddrV4;
+use xds_resource::TypeName;
+
+/// What the words ask for.
+#[derive(Debug, Drop)]
+pub enum Task {
+    /// `xds answer`, as the replica of this number, from 1.
+    Answer { replica: u16 },
+    /// `xds play`, for what its script shows, or for the trace of the replica of this number, from 1.
+    Play { trace: Option<u16> },
+    /// `xds check`.
+    Check,
+    /// `xds serve`.
+    Serve(ServeTask),
+    /// `xds client`.
+    Client(ClientTask),
+    /// `xds poll`.
+    Poll(PollTask),
+}
+
+/// What `xds serve` is asked for.
+#[derive(Clone, Copy, Debug, PartialEq, Eq)]
+pub struct ServeTask {
+    /// How many replicas serve, from 1 to 16.
+    pub replicas: u16,
+    /// The port for streams of replica 1, from 1. Each further replica has the next port.
+    pub port: u16,
+    /// The port for REST of replica 1, from 1. Each further replica has the next port.
+    pub rest_port: u16,
+    /// After how many ended streams it ends, from 1; never, where there is none.
+    pub streams: Option<u16>,
+}
+
+/// How a client asks on a stream: in which of the protocol's two variants.
+#[derive(Clone, Copy, Debug, PartialEq, Eq)]
+pub enum StreamVariant {
+    /// State of the world.
+    Sotw,
+    /// Incremental.
+    Delta,
+}
+
+impl StreamVariant {
+    ghost use Rattle.std.specs.Prelude.{◌≡◌};
+    ghost use Rattle.xds_program.specs.Tasks.{variant_of_word};
+
+    /// The variant whose word this is, if there is one.
+    pub fn from_word(word: &str) -> Option<StreamVariant>
+        ensures { result ≡ variant_of_word word.now }
+    {
+        match word {
+            "sotw" => Some(StreamVariant::Sotw),
+            "delta" => Some(StreamVariant::Delta),
+            _ => None,
+        }
+    }
+}
+
+/// What `xds client` is asked for.
+#[derive(Debug, Drop)]
+pub struct ClientTask {
+    /// Where a replica serves streams.
+    pub addr: SocketAddrV4,
+    /// How it asks.
+    pub variant: StreamVariant,
+    /// The type of the resources.
+    pub kind: TypeName,
+    /// After how many responses it ends, from 1.
+    pub responses: u16,
+    /// The cluster of its node, empty where none is given.
+    pub cluster: String,
+    /// The names of the resources that it wants, in the order of the words.
+    pub names: Vec<String>,
+}
+
+impl Model for ClientTask {
+    ghost use Rattle.std.specs.Prelude.{map, string_bytes};
+    ghost use Rattle.xds_program.specs.Tasks.{Watch};
+
+    ghost Value = { Watch };
+
+    ghost view = { λ c. record {
+      addr = c.addr;
+      variant = c.variant;
+      kind = c.kind;
+      responses = c.responses;
+      cluster = string_bytes c.cluster;
+      names = map string_bytes c.names.items;
+    } };
+}
+
+/// What `xds poll` is asked for.
+#[derive(Debug, Drop)]
+pub struct PollTask {
+    /// Where a replica serves REST.
+    pub addr: SocketAddrV4,
+    /// The type of the resources.
+    pub kind: TypeName,
+    /// The version that the client has, empty where none is given.
+    pub version: String,
+    /// The cluster of its node, empty where none is given.
+    pub cluster: String,
+    /// The names of the resources that it wants, in the order of the words.
+    pub names: Vec<String>,
+}
+
+impl Model for PollTask {
+    ghost use Rattle.std.specs.Prelude.{map, string_bytes};
+    ghost use Rattle.xds_program.specs.Tasks.{Look};
+
+    ghost Value = { Look };
+
+    ghost view = { λ p. record {
+      addr = p.addr;
+      kind = p.kind;
+      version = string_bytes p.version;
+      cluster = string_bytes p.cluster;
+      names = map string_bytes p.names.items;
+    } };
+}

@@ -1,0 +1,179 @@
+// Which words ask for which task: right words and wrong ones.
+use crate::program::words;
+use std::alloc::Global;
+use std::test::Fail;
+use xds_cases::cases::{Outcome, hold};
+use xds_program::{ClientTask, PollTask, ServeTask, Task, task_of};
+
+// What words ask for, told in words; `help`, or `wrong`.
+struct Asked;
+
+impl Outcome for Asked {
+    fn of(alloc: Global, given: &str) -> Result<String, Fail> {
+        let words = words(alloc, given)?;
+        match task_of(alloc, words.as_slice()) {
+            Ok(task) => told(alloc, &task),
+            Err(error) => Ok(String::from_str(
+                alloc,
+                if error.use_stderr() { "wrong" } else { "help" },
+            )?),
+        }
+    }
+}
+
+fn told(alloc: Global, task: &Task) -> Result<String, Fail> {
+    match task {
+        Task::Answer { replica } => Ok(format!(in alloc; "answer {replica}")?),
+        Task::Play { trace } => Ok(format!(in alloc; "play {trace:?}")?),
+        Task::Check => Ok(String::from_str(alloc, "check")?),
+        Task::Serve(serve) => told_serve(alloc, *serve),
+        Task::Client(client) => told_client(alloc, client),
+        Task::Poll(poll) => told_poll(alloc, poll),
+    }
+}
+
+fn told_serve(alloc: Global, serve: ServeTask) -> Result<String, Fail> {
+    let ServeTask {
+        replicas,
+        port,
+        rest_port,
+        streams,
+    } = serve;
+    Ok(format!(in alloc; "serve {replicas} {port} {rest_port} {streams:?}")?)
+}
+
+fn told_client(alloc: Global, client: &ClientTask) -> Result<String, Fail> {
+    let addr = client.addr;
+    let variant = client.variant;
+    let kind = client.kind;
+    let responses = client.responses;
+    let cluster = client.cluster.as_str();
+    let mut text = format!(in alloc; "client {addr} {variant:?} {kind:?} {responses} ({cluster})")?;
+    tell_names(&mut text, &client.names)?;
+    Ok(text)
+}
+
+fn told_poll(alloc: Global, poll: &PollTask) -> Result<String, Fail> {
+    let addr = poll.addr;
+    let kind = poll.kind;
+    let version = poll.version.as_str();
+    let cluster = poll.cluster.as_str();
+    let mut text = format!(in alloc; "poll {addr} {kind:?} ({version}) ({cluster})")?;
+    tell_names(&mut text, &poll.names)?;
+    Ok(text)
+}
+
+fn tell_names(text: &mut String, names: &Vec<String>) -> Result<(), Fail> {
+    for name in names {
+        text.push_str(" ")?;
+        text.push_str(name.as_str())?;
+    }
+    Ok(())
+}
+
+#[test]
+fn words_ask_for_programs_over_their_input(rt: HostRuntime) -> Result<(), Fail> {
+    hold::<Asked, HostRuntime>(
+        &rt,
+        "answer => answer 1
+answer --replica=+007 -- => answer 7
+play => play None
+play --trace 1 => play Some(1)
+play --trace=65535 -- => play Some(65535)
+check => check
+check -- => check
+play --trace => wrong
+play --trace 0 => wrong
+play --trace 65536 => wrong
+play --trace x => wrong
+play --trace 1 --trace 1 => wrong
+play 1 => wrong
+play --replica 1 => wrong
+check --trace 1 => wrong
+check file => wrong
+check -- -- => wrong
+help check => help
+check --help => help
+play -h => help
+chec => wrong
+Check => wrong",
+    )
+}
+
+#[test]
+fn words_ask_for_servers(rt: HostRuntime) -> Result<(), Fail> {
+    hold::<Asked, HostRuntime>(
+        &rt,
+        "serve => serve 2 18000 18100 None
+serve --replicas 1 => serve 1 18000 18100 None
+serve --streams 3 --rest-port 9000 --port 8000 --replicas 16 => serve 16 8000 9000 Some(3)
+serve --replicas=2 --port=65534 --rest-port=1 --streams=65535 -- => serve 2 65534 1 Some(65535)
+serve --replicas 1 --port 65535 --rest-port 65535 => serve 1 65535 65535 None
+serve --port 65535 => wrong
+serve --replicas 16 --port 65521 => wrong
+serve --replicas 16 --port 65520 => serve 16 65520 18100 None
+serve --replicas 3 --rest-port 65534 => wrong
+serve --replicas 0 => wrong
+serve --replicas 17 => wrong
+serve --port 0 => wrong
+serve --port 65536 => wrong
+serve --rest-port 0 => wrong
+serve --streams 0 => wrong
+serve --streams 65536 => wrong
+serve --streams -1 => wrong
+serve --streams => wrong
+serve --port 1 --port 1 => wrong
+serve 1 => wrong
+serve --trace 1 => wrong
+serve --help => help",
+    )
+}
+
+#[test]
+fn words_ask_for_clients(rt: HostRuntime) -> Result<(), Fail> {
+    hold::<Asked, HostRuntime>(
+        &rt,
+        "client --addr 127.0.0.1:18000 --variant sotw --type route --responses 1 q => client 127.0.0.1:18000 Sotw Route 1 () q
+client --addr=10.0.0.255:1 --variant=delta --type=secret --responses=65535 --cluster=g1 b a b => client 10.0.0.255:1 Delta Secret 65535 (g1) b a b
+client a --responses 2 --type cluster --addr 0.0.0.0:0 --variant delta * -- --type => client 0.0.0.0:0 Delta Cluster 2 () a * --type
+client --addr 127.0.0.1:18000 --variant sotw --type listener --responses 1 --cluster g:1 endpoint => client 127.0.0.1:18000 Sotw Listener 1 (g:1) endpoint
+client --addr 127.0.0.1:18000 --variant sotw --type route --responses 1 => wrong
+client --addr 127.0.0.1:18000 --variant sotw --type route q => wrong
+client --addr 127.0.0.1:18000 --variant sotw --responses 1 q => wrong
+client --addr 127.0.0.1:18000 --type route --responses 1 q => wrong
+client --variant sotw --type route --responses 1 q => wrong
+client --addr localhost:18000 --variant sotw --type route --responses 1 q => wrong
+client --addr 127.0.0.1 --variant sotw --type route --responses 1 q => wrong
+client --addr 127.0.0.1:65536 --variant sotw --type route --responses 1 q => wrong
+client --addr 127.0.0.01:1 --variant sotw --type route --responses 1 q => wrong
+client --addr [::1]:18000 --variant sotw --type route --responses 1 q => wrong
+client --addr 127.0.0.1:18000 --variant rest --type route --responses 1 q => wrong
+client --addr 127.0.0.1:18000 --variant Sotw --type route --responses 1 q => wrong
+client --addr 127.0.0.1:18000 --variant sotw --type routes --responses 1 q => wrong
+client --addr 127.0.0.1:18000 --variant sotw --type route --responses 0 q => wrong
+client --addr 127.0.0.1:18000 --variant sotw --type route --responses 65536 q => wrong
+client --addr 127.0.0.1:18000 --variant sotw --type route --responses 1 --version 1.0 q => wrong
+client --addr 127.0.0.1:18000 --addr 127.0.0.1:18000 --variant sotw --type route --responses 1 q => wrong
+client --help => help",
+    )
+}
+
+#[test]
+fn words_ask_for_polls(rt: HostRuntime) -> Result<(), Fail> {
+    hold::<Asked, HostRuntime>(
+        &rt,
+        "poll --addr 127.0.0.1:18100 --type cluster => poll 127.0.0.1:18100 Cluster () ()
+poll --type endpoint --version 1.1.named --addr 127.0.0.1:18101 --cluster g1 a b => poll 127.0.0.1:18101 Endpoint (1.1.named) (g1) a b
+poll --addr 127.0.0.1:18100 a --type cluster b => poll 127.0.0.1:18100 Cluster () () a b
+poll --addr 127.0.0.1:18100 => wrong
+poll --type cluster => wrong
+poll --addr 127.0.0.1:x --type cluster => wrong
+poll --addr 127.0.0.1:18100 --type x => wrong
+poll --addr 127.0.0.1:18100 --type cluster --responses 1 => wrong
+poll --addr 127.0.0.1:18100 --type cluster --variant sotw => wrong
+poll --addr 127.0.0.1:18100 --type cluster --version 1 --version 1 => wrong
+poll --addr 127.0.0.1:18100 --type cluster -x => wrong
+poll --addr 127.0.0.1:18100 --type cluster -- -x => poll 127.0.0.1:18100 Cluster () () -x
+poll --help => help",
+    )
+}
