@@ -583,7 +583,7 @@ def played(script):
 
 NAMES = ["a", "b", "\u00e9", "B"]
 GROUPS = ["g1", "g2", "\u00e9"]
-BAD_LINES = [" ", "up", "up 0", "up 01", "replica 65536", "client 1 rest", "names 1 cluster ", "change 1 cluster", "change 1 cluster a",
+BAD_LINES = [" ", "up", "up 0", "up 01", "replica 65536", "client 1 grpc", "names 1 cluster ", "change 1 cluster", "change 1 cluster a",
              "change 1 cluster +", "put 1 {}", "client 1 sotw ", "client 1 sotw g1 g2", "putin 1 g1", "putin 1 g1, {}", "poll 1 x", "view 1", "Replica 1", "up +1", "merge 1  1", "lose 4294967296", "\u00e9"]
 
 

@@ -384,7 +384,11 @@ def edited(pick, lines):
         if numbers:
             at = pick.choice(numbers)
             head, _, text = lines[at].partition(b"{")
-            message = json.loads(b"{" + text)
+            try:
+                message = json.loads((b"{" + text).decode("utf-8", "replace"))
+            except ValueError:
+                # (an edit before this one spoiled the line)
+                return None
             key = pick.choice([it for it in ("resources", "removedResources") if it in message] or ["nonce"])
             message[key] = message[key][1:]
             lines[at] = head + compact(message).encode()
@@ -408,7 +412,7 @@ def one(program, seed):
     script = some_script(pick)
     well, verdicts = True, []
     for replica in (1, 2, 3):
-        run = subprocess.run([program, "play", "--trace", str(replica)], input=script.encode(), capture_output=True)
+        run = subprocess.run([program, "play", "--trace", str(replica)], input=script, capture_output=True)
         if run.returncode or not run.stdout:
             continue
         same, wanted = agrees(program, seed, run.stdout)
