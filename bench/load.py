@@ -5,11 +5,11 @@
 
 The program serves one replica that holds the clusters (1,000 of 600 bytes). N streams (1,000) ask for all of them, the even
 ones in the incremental variant, the odd ones state of the world, and accept every response. Printed are: streams opened and
-settled a second; what an acceptance by one more stream costs beside ten of them and beside all; the time from a put until the last incremental stream has it, and until every stream has it; the same for
-a row of puts (200), one after another; processor time, memory and threads of the server; then the same puts beside streams
-that ask and never read (100); polls over HTTP a second at 16 connections that are kept open, whole and unchanged; and what
-the server's memory is after so many more events (100,000), and after as many again. This script runs on the same machine
-and takes a core of its own.
+settled a second; what an acceptance by one more stream costs beside ten of them and beside all; the time from a put until the
+last incremental stream has it, and until every stream has it; the same for a row of puts (200), one after another; processor
+time, memory and threads of the server; then the same puts beside streams that ask and never read (100); polls over HTTP a
+second at 16 connections that are kept open, whole and unchanged; and what the server's memory is after so many more events
+(100,000), and after as many again. This script runs on the same machine and takes a core of its own.
 """
 import argparse
 import os
