@@ -22,7 +22,10 @@ fn words_are_looked_at_first(rt: HostRuntime) -> Result<(), Fail> {
     let helped = ran(&rt, "xds client --help", b"".as_slice())?;
     assert!(rt; helped.as_str().starts_with("0 "), "help is shown");
     let wrong = ran(&rt, "xds serve --replicas 17", b"replica 1\n".as_slice())?;
-    assert!(rt; wrong.as_str().starts_with("2 "), "there are 16 replicas at most");
+    assert!(rt;
+        wrong.as_str().starts_with("2 "),
+        "there are 16 replicas at most"
+    );
     let wrong = ran(&rt, "xds poll --type cluster", b"".as_slice())?;
     assert!(rt; wrong.as_str().starts_with("2 "), "a poll has an address");
     Ok(())

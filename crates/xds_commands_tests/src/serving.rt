@@ -205,11 +205,7 @@ fn a_peer_that_ends_is_told(rt: HostRuntime) -> Result<(), Fail> {
         "xds client --addr 127.0.0.1:18590 --variant sotw --type cluster --responses 1 *",
     )?;
     is_told(rt.alloc(), watched.as_str(), "1 18 Truncated~")?;
-    let polled = hung_up(
-        &rt,
-        18591,
-        "xds poll --addr 127.0.0.1:18591 --type cluster",
-    )?;
+    let polled = hung_up(&rt, 18591, "xds poll --addr 127.0.0.1:18591 --type cluster")?;
     is_told(rt.alloc(), polled.as_str(), "1 19 Device~")
 }
 
