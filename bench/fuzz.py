@@ -35,7 +35,7 @@ import streams
 import trace
 from doors import Doors
 from play import NotJson, TYPES, compact, read_json
-from spoil import noise, some, spoiled, spoiled_json, spoiled_lines
+from spoil import noise, some, spoiled, spoiled_gently, spoiled_json, spoiled_lines
 from streams import Refused
 
 # The longest that one input may take where each has a process of its own, in seconds.
@@ -54,7 +54,7 @@ def some_frame(pick, kind, served):
     """A frame of a request, most of them spoiled in a way that leaves the frame whole."""
     text = streams.some_request(pick, kind, served)
     if pick.random() < 0.35:
-        text = some(pick, text, [spoiled_json, spoiled_json, spoiled_json, spoiled])
+        text = some(pick, text, [spoiled_gently, spoiled_gently, spoiled_gently, spoiled_json, spoiled])
     if pick.random() < 0.02:
         text = noise(pick)
     return streams.framed(kind if pick.random() < 0.97 else pick.randrange(256), text)
@@ -100,7 +100,7 @@ def stream_wanted(_, data):
 def script_case(pick):
     kind = kind_of(pick)
     data = noise(pick) if kind == "noise" else play.some_script(pick)
-    return "0", some(pick, data, [spoiled_lines, spoiled_lines, spoiled_lines, spoiled_json, spoiled]) if kind == "spoiled" else data
+    return "0", some(pick, data, [spoiled_lines, spoiled_lines, spoiled_gently, spoiled_gently, spoiled_gently, spoiled_json, spoiled]) if kind == "spoiled" else data
 
 
 def script_wanted(_, data):
@@ -114,7 +114,7 @@ def trace_case(pick, good):
     kind = kind_of(pick)
     if kind == "noise":
         return "-", noise(pick)
-    return "-", some(pick, good, [edited, edited, edited, spoiled_lines, spoiled_json, spoiled_json, spoiled]) if kind == "spoiled" else good
+    return "-", some(pick, good, [edited, edited, edited, spoiled_gently, spoiled_gently, spoiled_lines, spoiled_json, spoiled]) if kind == "spoiled" else good
 
 
 def edited(pick, data):
@@ -185,7 +185,7 @@ def batch_case(pick):
     if kind == "noise":
         return "-", noise(pick)
     data = compare.spelled(pick, {"writes": [json.loads(compare.spelled(pick, it)) for it in good_writes(pick, 8)]}).encode()
-    return "-", some(pick, data, [spoiled_json, spoiled_json, spoiled_json, spoiled]) if kind == "spoiled" else data
+    return "-", some(pick, data, [spoiled_gently, spoiled_gently, spoiled_gently, spoiled_json, spoiled]) if kind == "spoiled" else data
 
 
 def answer_case(pick):
@@ -194,7 +194,7 @@ def answer_case(pick):
         return str(replica), noise(pick)
     lines = [compare.spelled(pick, it) for it in good_writes(pick, 10)] + [compare.spelled(pick, compare.some_request(pick)[0])]
     data = "\n".join(lines).encode() + pick.choice([b"", b"\n"])
-    ways = [spoiled_json, spoiled_json, spoiled_json, spoiled_lines, spoiled_lines, spoiled]
+    ways = [spoiled_gently, spoiled_gently, spoiled_gently, spoiled_gently, spoiled_json, spoiled_lines, spoiled]
     return str(replica), some(pick, data, ways) if kind == "spoiled" else data
 
 
@@ -320,7 +320,7 @@ def main():
     parser.add_argument("--program")
     parser.add_argument("--at-once", type=int, default=10000)
     parser.add_argument("rest", nargs="*")
-    given = parser.parse_args()
+    given = parser.parse_intermixed_args()
     if given.door == "posts":
         return posts.main(given.rest, spoils=True)
     first, last = map(int, given.rest) if len(given.rest) == 2 else (0, 10000)

@@ -1,8 +1,9 @@
 """Spoils good inputs, in one of many ways each time: what the fuzzers of bench/fuzz.py feed the program with.
 
-`spoiled(pick, data)` changes bytes as such, `spoiled_json` changes a JSON text within them as one who knows JSON would, and
-`spoiled_lines` whole lines and their words. `pick` is a `random.Random`; what comes out depends on it and on the input alone.
+`spoiled(pick, data)` changes bytes as such, `spoiled_json` changes a JSON text within them as one who knows JSON would,
+`spoiled_gently` so that it is JSON again, and `spoiled_lines` whole lines and their words. `pick` is a `random.Random`; what comes out depends on it and on the input alone.
 """
+import json
 import re
 
 TOKEN = re.compile(rb'"(?:[^"\\]|\\.)*"|-?[0-9][0-9.eE+-]*|true|false|null|[{}\[\],:]')
@@ -34,13 +35,29 @@ KEYS = [b'"typeUrl"', b'"type_url"', b'"resourceNames"', b'"resource_names"', b'
         b'"removedResources"', b'"systemVersionInfo"', b'"name"', b'"@type"', b'"clusterName"', b'"cluster_name"', b'"counter"', b'"writer"', b'"body"', b'"groups"', b'"writes"', b'"id"', b'"cluster"',
         b'"code"', b'"message"', b'"reject"', b'"x"', b'""', b'"\\u006eame"', b'"na\\u006de"', b'"Name"', b'"TYPEURL"']
 
+
+
+def is_json(text):
+    try:
+        json.loads(text)
+    except (ValueError, RecursionError):
+        return False
+    return True
+
+
+# Those of them that are JSON, for inputs that are to get further than to a reader of JSON.
+READABLE = [text for text in NUMBERS + TEXTS + VALUES if is_json(text) and text not in (b"NaN", b"Infinity", b"-Infinity")]
+
+# An input of so many bytes is spoiled no further.
+ENOUGH = 100_000
+
 # Depths at which readers end, or a resource does, and far beyond.
-DEPTHS = [1, 2, 96, 97, 98, 99, 100, 101, 102, 123, 124, 125, 126, 127, 128, 129, 200, 20000]
+DEPTHS = [1, 1, 2, 2, 3, 96, 97, 98, 99, 100, 101, 102, 123, 124, 125, 126, 127, 128, 129, 200]
 
 
 def deep(pick):
     """A value that nests deep, of arrays, of objects, or of both."""
-    count = pick.choice(DEPTHS)
+    count = pick.choice(DEPTHS) if pick.random() < 0.97 else 20000
     way = pick.randrange(4)
     if way == 0:
         return b"[" * count + b"]" * count
@@ -110,24 +127,21 @@ def value_end(data, tokens, at):
     return at
 
 
-def members(data, tokens):
-    """Of each member of an object: the numbers of its key's token and of the token behind its value."""
-    for at in range(len(tokens) - 2):
-        if data[tokens[at][0]] == 0x22 and token(data, tokens[at + 1]) == b":":
-            yield at, value_end(data, tokens, at + 2)
+def keys(data, tokens):
+    """The numbers of the tokens that are keys of objects."""
+    return [at for at in range(len(tokens) - 2) if data[tokens[at][0]] == 0x22 and token(data, tokens[at + 1]) == b":"]
 
 
 def values(data, tokens):
-    """Of each value: the numbers of its first token and of the one behind it."""
-    for at, place in enumerate(tokens):
-        mark = token(data, place)
-        is_key = at + 1 < len(tokens) and mark[:1] == b'"' and token(data, tokens[at + 1]) == b":"
-        if mark not in (b"}", b"]", b",", b":") and not is_key:
-            yield at, value_end(data, tokens, at)
+    """The numbers of the tokens at which values begin."""
+    no_values = set(keys(data, tokens))
+    return [at for at, place in enumerate(tokens) if at not in no_values and data[place[0]] not in b"}],:"]
 
 
 def some_json(pick):
     """A JSON value, now and then none."""
+    if pick.random() < 0.7:
+        return pick.choice(READABLE)
     return pick.choice([lambda: pick.choice(NUMBERS), lambda: pick.choice(TEXTS), lambda: pick.choice(TEXTS), lambda: pick.choice(VALUES), lambda: deep(pick)])()
 
 
@@ -140,11 +154,11 @@ def spoiled_json(pick, data):
     if way in (0, 1, 2, 3, 4):
         return with_member(pick, data, tokens, way)
     if way in (5, 6, 7):
-        found = list(values(data, tokens))
+        found = values(data, tokens)
         if not found:
             return spoiled(pick, data)
-        at, end = pick.choice(found)
-        start, stop = tokens[at][0], tokens[end - 1][1]
+        at = pick.choice(found)
+        start, stop = tokens[at][0], tokens[value_end(data, tokens, at) - 1][1]
         if way == 5:
             return data[:start] + some_json(pick) + data[stop:]
         if way == 6:
@@ -170,6 +184,22 @@ def spoiled_json(pick, data):
     return data + pick.choice([b" ", b",", b"}", b"]", b"1", b"{}", b"\0", b"\n", b"x", b'""'])
 
 
+def spoiled_gently(pick, data):
+    """The data with the JSON of one of its lines changed so that it is JSON again, as a rule."""
+    lines = data.split(b"\n")
+    found = [at for at, line in enumerate(lines) if b"{" in line]
+    if not found:
+        return spoiled_json(pick, data)
+    at = pick.choice(found)
+    head, _, text = lines[at].partition(b"{")
+    for _ in range(6):
+        made = spoiled_json(pick, b"{" + text)
+        if is_json(made) and b"\n" not in made:
+            break
+    lines[at] = head + made
+    return b"\n".join(lines)
+
+
 def some_text(pick, old):
     way = pick.randrange(4)
     if way == 0:
@@ -192,10 +222,11 @@ def some_number(pick, old):
 
 def with_member(pick, data, tokens, way):
     """The data with a member gone, doubled, moved, under another key or beside one of another key."""
-    found = list(members(data, tokens))
+    found = keys(data, tokens)
     if not found:
         return spoiled(pick, data)
-    at, end = pick.choice(found)
+    at = pick.choice(found)
+    end = value_end(data, tokens, at + 2)
     start, stop = tokens[at][0], tokens[end - 1][1]
     key, value = token(data, tokens[at]), data[tokens[at + 2][0] : stop]
     if way == 0:
@@ -290,5 +321,7 @@ def noise(pick):
 def some(pick, good, ways):
     """A good input that was spoiled a few times, in these ways, each a function of `pick` and the data."""
     for _ in range(pick.choice([1, 1, 1, 1, 2, 2, 3, 6])):
+        if len(good) > ENOUGH:
+            break
         good = pick.choice(ways)(pick, good)
     return good
