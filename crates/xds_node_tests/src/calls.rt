@@ -1,7 +1,7 @@
 // Events of the tests, and what they are answered.
 use std::alloc::Global;
 use xds_core::{Event, Reply};
-use xds_node::Unrecorded;
+use xds_node::{NodeName, Seat, Unrecorded};
 use xds_resource::{AnyResource, Groups, Refusal};
 
 /// What a call of a node answers.
@@ -39,4 +39,11 @@ pub(crate) fn reply(answer: Answer) -> Result<Reply, Refusal> {
         Ok(Err(refusal)) => Err(refusal),
         Err(unrecorded) => Err(unrecorded.refusal),
     }
+}
+
+/// A list of one seat, for a node that is closed.
+pub(crate) fn alone<N: NodeName>(alloc: Global, seat: Seat<N>) -> Result<Vec<Seat<N>>, Refusal> {
+    let mut seats = Vec::new(alloc);
+    seats.push(seat)?;
+    Ok(seats)
 }

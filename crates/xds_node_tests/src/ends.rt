@@ -1,7 +1,7 @@
 // The end of a node: seats that are missing, and segments that are.
 ghost use Rattle.std.specs.Prelude.{◌≡◌};
 
-use crate::calls::{counter, put};
+use crate::calls::{alone, counter, put};
 use std::alloc::Global;
 use std::marker::Brand;
 use std::sync::Wait;
@@ -9,7 +9,37 @@ use std::test::Fail;
 use xds_node::{History, Line, Node, NodeName, Opened, Seat, Segment};
 use xds_resource::Refusal;
 
-// A node that was cut twice, and once where nothing was left to cut, and what was cut.
+// Puts four clusters, and cuts the node twice between them, and once where nothing is left to cut.
+fn cuts<N: NodeName, R: Wait>(
+    rt: &R,
+    alloc: Global,
+    node: &Node<N>,
+    seat: &mut Seat<N>,
+    segments: &mut Vec<Segment<N>>,
+) -> Result<(), Refusal> {
+    counter(node.call(rt, seat, put(alloc, "a")?))?;
+    counter(node.call(rt, seat, put(alloc, "b")?))?;
+    segments.push(node.cut(rt)?)?;
+    segments.push(node.cut(rt)?)?;
+    counter(node.call(rt, seat, put(alloc, "c")?))?;
+    segments.push(node.cut(rt)?)?;
+    counter(node.call(rt, seat, put(alloc, "d")?))?;
+    Ok(())
+}
+
+// The one seat of a node that is cut so.
+fn seat_that_cuts<N: NodeName, R: Wait>(
+    rt: &R,
+    alloc: Global,
+    node: &Node<N>,
+    segments: &mut Vec<Segment<N>>,
+) -> Result<Vec<Seat<N>>, Refusal> {
+    let mut seat = node.seat(rt)?;
+    cuts(rt, alloc, node, &mut seat, segments)?;
+    alone(alloc, seat)
+}
+
+// What is left of a node that was cut so, and what was cut.
 fn cut_twice<N: NodeName, R: Wait>(
     rt: &R,
     alloc: Global,
@@ -18,18 +48,15 @@ fn cut_twice<N: NodeName, R: Wait>(
     requires { opened ≡ N.id }
 {
     let node = Node::<N>::new(alloc, opened, 1)?;
-    let mut seat = node.seat(rt)?;
     let mut segments = Vec::new(alloc);
-    counter(node.call(rt, &mut seat, put(alloc, "a")?))?;
-    counter(node.call(rt, &mut seat, put(alloc, "b")?))?;
-    segments.push(node.cut(rt)?)?;
-    segments.push(node.cut(rt)?)?;
-    counter(node.call(rt, &mut seat, put(alloc, "c")?))?;
-    segments.push(node.cut(rt)?)?;
-    counter(node.call(rt, &mut seat, put(alloc, "d")?))?;
-    let mut seats = Vec::new(alloc);
-    seats.push(seat)?;
-    Ok((node.close(seats), segments))
+    match seat_that_cuts(rt, alloc, &node, &mut segments) {
+        Ok(seats) => Ok((node.close(seats), segments)),
+        Err(refusal) => {
+            drop(segments);
+            drop(node);
+            Err(refusal)
+        }
+    }
 }
 
 // How the segments are handed in.
@@ -92,6 +119,17 @@ fn segments_in_another_order_are_a_gap(rt: HostRuntime) -> Result<(), Fail> {
     Ok(())
 }
 
+// Two seats of a node; the second alone is in the list.
+fn two_seats<N: NodeName, R: Wait>(
+    rt: &R,
+    alloc: Global,
+    node: &Node<N>,
+) -> Result<(Seat<N>, Vec<Seat<N>>), Refusal> {
+    let kept = node.seat(rt)?;
+    let seats = alone(alloc, node.seat(rt)?)?;
+    Ok((kept, seats))
+}
+
 // Whether the history is complete where one of two seats is handed in.
 fn lacks_a_seat<N: NodeName, R: Wait>(
     rt: &R,
@@ -101,12 +139,17 @@ fn lacks_a_seat<N: NodeName, R: Wait>(
     requires { opened ≡ N.id }
 {
     let node = Node::<N>::new(alloc, opened, 1)?;
-    let kept = node.seat(rt)?;
-    let mut seats: Vec<Seat<N>> = Vec::new(alloc);
-    seats.push(node.seat(rt)?)?;
-    let history = node.close(seats);
-    drop(kept);
-    Ok(history.is_complete())
+    match two_seats(rt, alloc, &node) {
+        Ok((kept, seats)) => {
+            let history = node.close(seats);
+            drop(kept);
+            Ok(history.is_complete())
+        }
+        Err(refusal) => {
+            drop(node);
+            Err(refusal)
+        }
+    }
 }
 
 #[test]

@@ -1,7 +1,7 @@
 // A journal that is full, and is cut.
 ghost use Rattle.std.specs.Prelude.{◌≡◌};
 
-use crate::calls::{Answer, counter, put};
+use crate::calls::{Answer, alone, counter, put};
 use std::alloc::Global;
 use std::marker::Brand;
 use std::sync::Wait;
@@ -36,19 +36,40 @@ fn turned_away(answer: Answer) -> Result<Event, Refusal> {
     }
 }
 
-// What is cut of a node whose journal is full; the event that found no room is tried again then.
-fn full_and_cut<N: NodeName, R: Wait>(
+// Fills a journal and cuts it; the event that found no room is tried again then.
+fn fill_and_cut<N: NodeName, R: Wait>(
     rt: &R,
     alloc: Global,
     node: &Node<N>,
     seat: &mut Seat<N>,
-) -> Result<Vec<Segment<N>>, Refusal> {
+    segments: &mut Vec<Segment<N>>,
+) -> Result<(), Refusal> {
     fill(rt, node, seat)?;
     let event = turned_away(node.call(rt, seat, put(alloc, "a")?))?;
-    let mut segments = Vec::new(alloc);
-    segments.push(node.cut(rt)?)?;
+    cut(rt, node, segments)?;
     counter(node.call(rt, seat, event))?;
-    Ok(segments)
+    Ok(())
+}
+
+fn cut<N: NodeName, R: Wait>(
+    rt: &R,
+    node: &Node<N>,
+    segments: &mut Vec<Segment<N>>,
+) -> Result<(), Refusal> {
+    segments.push(node.cut(rt)?)?;
+    Ok(())
+}
+
+// The one seat of a node whose journal is filled and cut.
+fn seat_that_fills<N: NodeName, R: Wait>(
+    rt: &R,
+    alloc: Global,
+    node: &Node<N>,
+    segments: &mut Vec<Segment<N>>,
+) -> Result<Vec<Seat<N>>, Refusal> {
+    let mut seat = node.seat(rt)?;
+    fill_and_cut(rt, alloc, node, &mut seat, segments)?;
+    alone(alloc, seat)
 }
 
 // What is left of a node whose journal was full once.
@@ -93,9 +114,17 @@ fn ended<N: NodeName>(
     history: History<N>,
     segments: Vec<Segment<N>>,
 ) -> Result<Outcome, Refusal> {
-    let mut outcome = seen(alloc, &history, &segments)?;
-    outcome.audit = history.audit(segments);
-    Ok(outcome)
+    match seen(alloc, &history, &segments) {
+        Ok(outcome) => Ok(Outcome {
+            audit: history.audit(segments),
+            ..outcome
+        }),
+        Err(refusal) => {
+            drop(history);
+            drop(segments);
+            Err(refusal)
+        }
+    }
 }
 
 fn fills_up<N: NodeName, R: Wait>(
@@ -106,11 +135,15 @@ fn fills_up<N: NodeName, R: Wait>(
     requires { opened ≡ N.id }
 {
     let node = Node::<N>::new(alloc, opened, 1)?;
-    let mut seat = node.seat(rt)?;
-    let segments = full_and_cut(rt, alloc, &node, &mut seat)?;
-    let mut seats = Vec::new(alloc);
-    seats.push(seat)?;
-    ended(alloc, node.close(seats), segments)
+    let mut segments = Vec::new(alloc);
+    match seat_that_fills(rt, alloc, &node, &mut segments) {
+        Ok(seats) => ended(alloc, node.close(seats), segments),
+        Err(refusal) => {
+            drop(segments);
+            drop(node);
+            Err(refusal)
+        }
+    }
 }
 
 #[test]

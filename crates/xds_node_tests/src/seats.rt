@@ -102,6 +102,36 @@ fn count(outcome: &mut Outcome, seen: &mut Vec<bool>, counters: &Vec<u64>) {
     }
 }
 
+// What the workers were told, and their seats.
+fn gathered<N: NodeName>(
+    alloc: Global,
+    done: Vec<Worker<N>>,
+    outcome: &mut Outcome,
+) -> Result<Vec<Seat<N>>, Refusal> {
+    let mut seen = Vec::new(alloc);
+    seen.resize(SEATS * PUTS, false)?;
+    let mut seats = Vec::new(alloc);
+    for worker in done {
+        if worker.failed {
+            return Err(Refusal::BadTrace);
+        }
+        count(outcome, &mut seen, &worker.counters);
+        seats.push(worker.seat)?;
+    }
+    Ok(seats)
+}
+
+fn all_work<N: NodeName + Send + Sync, R: Threads + Wait + Sync>(
+    rt: &R,
+    alloc: Global,
+    node: &Node<N>,
+    outcome: &mut Outcome,
+) -> Result<Vec<Seat<N>>, Refusal> {
+    let workers = workers(rt, alloc, node)?;
+    let done = map_vec(rt, workers, &|worker| worked(rt, alloc, node, worker))?;
+    gathered(alloc, done, outcome)
+}
+
 fn four_seats<N: NodeName + Send + Sync, R: Threads + Wait + Sync>(
     rt: &R,
     alloc: Global,
@@ -110,29 +140,24 @@ fn four_seats<N: NodeName + Send + Sync, R: Threads + Wait + Sync>(
     requires { opened ≡ N.id }
 {
     let node = Node::<N>::new(alloc, opened, 1)?;
-    let workers = workers(rt, alloc, &node)?;
-    let shared = &node;
-    let done = map_vec(rt, workers, &|worker| worked(rt, alloc, shared, worker))?;
     let mut outcome = Outcome {
         told: 0,
         others: 0,
         complete: false,
         records: 0,
     };
-    let mut seen = Vec::new(alloc);
-    seen.resize(SEATS * PUTS, false)?;
-    let mut seats = Vec::new(alloc);
-    for worker in done {
-        if worker.failed {
-            return Err(Refusal::BadTrace);
+    match all_work(rt, alloc, &node, &mut outcome) {
+        Ok(seats) => {
+            let history = node.close(seats);
+            outcome.complete = history.is_complete();
+            outcome.records = history.records().len();
+            Ok(outcome)
         }
-        count(&mut outcome, &mut seen, &worker.counters);
-        seats.push(worker.seat)?;
+        Err(refusal) => {
+            drop(node);
+            Err(refusal)
+        }
     }
-    let history = node.close(seats);
-    outcome.complete = history.is_complete();
-    outcome.records = history.records().len();
-    Ok(outcome)
 }
 
 #[test]
@@ -149,15 +174,12 @@ fn four_seats_are_told_each_counter_once(rt: HostRuntime) -> Result<(), Fail> {
     Ok(())
 }
 
-// Whether a seat that put a cluster finds it in a snapshot, and what the writer of the cluster is.
+// How many clusters a seat finds in a snapshot when it has put one, and what the writer of the first is.
 fn finds_its_write<N: NodeName, R: Wait>(
     rt: &R,
     alloc: Global,
-    opened: Opened<Line>,
-) -> Result<(usize, u16), Refusal>
-    requires { opened ≡ N.id }
-{
-    let node = Node::<N>::new(alloc, opened, 7)?;
+    node: &Node<N>,
+) -> Result<(usize, u16), Refusal> {
     let mut seat = node.seat(rt)?;
     counter(node.call(rt, &mut seat, put(alloc, "a")?))?;
     match reply(node.call(rt, &mut seat, Event::Snapshot))? {
@@ -169,10 +191,21 @@ fn finds_its_write<N: NodeName, R: Wait>(
     }
 }
 
+fn found<N: NodeName, R: Wait>(
+    rt: &R,
+    alloc: Global,
+    opened: Opened<Line>,
+) -> Result<(usize, u16), Refusal>
+    requires { opened ≡ N.id }
+{
+    let node = Node::<N>::new(alloc, opened, 7)?;
+    finds_its_write(rt, alloc, &node)
+}
+
 #[test]
 fn a_seat_reads_what_it_wrote(rt: HostRuntime) -> Result<(), Fail> {
     let opened = Opened::<Line>::new(rt.alloc())?;
-    let (clusters, writer) = finds_its_write::<Brand, _>(&rt, rt.alloc(), opened)?;
+    let (clusters, writer) = found::<Brand, _>(&rt, rt.alloc(), opened)?;
     assert!(rt; clusters == 1, "the snapshot has the cluster");
     assert!(rt;
         writer == 7,

@@ -50,6 +50,59 @@ fn calls<N: NodeName, R: Wait>(
     (seat, answer)
 }
 
+const NONE: Marks = Marks {
+    cluster: 0,
+    endpoint: 0,
+    listener: 0,
+    route: 0,
+    secret: 0,
+};
+
+// How waits for a stream end while another thread puts a cluster, and while it closes the stream.
+fn both_waits<N: NodeName + Send + Sync, R: Threads + Wait + Sync>(
+    rt: &R,
+    alloc: Global,
+    node: &Node<N>,
+) -> Result<(Due, Due), Refusal> {
+    let mut seat = node.seat(rt)?;
+    let number = opened_stream(rt, alloc, node, &mut seat)?;
+    let event = put(alloc, "a")?;
+    let (first, (seat, answer)) = join(
+        rt,
+        || node.wait_due(rt, number),
+        || calls(rt, node, seat, event),
+    );
+    counter(answer)?;
+    let mut seat = seat;
+    reply(node.call(rt, &mut seat, Event::Poll(number, None)))?;
+    let (last, (seat, answer)) = join(
+        rt,
+        || node.wait_due(rt, number),
+        || calls(rt, node, seat, Event::Close(number)),
+    );
+    reply(answer)?;
+    drop(seat);
+    Ok((first, last))
+}
+
+fn waited<N: NodeName + Send + Sync, R: Threads + Wait + Sync>(
+    rt: &R,
+    alloc: Global,
+    node: &Node<N>,
+) -> Result<Outcome, Refusal> {
+    let (first, last) = both_waits(rt, alloc, node)?;
+    let changed = node.wait_changed(rt, NONE);
+    let clusters = changed.map(|marks| marks.cluster);
+    let seen = changed.unwrap_or(NONE);
+    let (left, _) = join(rt, || node.wait_changed(rt, seen), || node.stop(rt));
+    Ok(Outcome {
+        first,
+        last,
+        clusters,
+        stopped: left.is_none(),
+    })
+}
+
 fn waits<N: NodeName + Send + Sync, R: Threads + Wait + Sync>(
     rt: &R,
     alloc: Global,
@@ -58,42 +111,7 @@ fn waits<N: NodeName + Send + Sync, R: Threads + Wait + Sync>(
     requires { opened ≡ N.id }
 {
     let node = Node::<N>::new(alloc, opened, 1)?;
-    let mut seat = node.seat(rt)?;
-    let number = opened_stream(rt, alloc, &node, &mut seat)?;
-    let shared = &node;
-    let event = put(alloc, "a")?;
-    let (first, (seat, answer)) = join(
-        rt,
-        || shared.wait_due(rt, number),
-        || calls(rt, shared, seat, event),
-    );
-    counter(answer)?;
-    let mut seat = seat;
-    reply(node.call(rt, &mut seat, Event::Poll(number, None)))?;
-    let (last, (seat, answer)) = join(
-        rt,
-        || shared.wait_due(rt, number),
-        || calls(rt, shared, seat, Event::Close(number)),
-    );
-    reply(answer)?;
-    let none = Marks {
-        cluster: 0,
-        endpoint: 0,
-        listener: 0,
-        route: 0,
-        secret: 0,
-    };
-    let changed = node.wait_changed(rt, none);
-    let clusters = changed.map(|marks| marks.cluster);
-    let seen = changed.unwrap_or(none);
-    let (left, _) = join(rt, || shared.wait_changed(rt, seen), || shared.stop(rt));
-    drop(seat);
-    Ok(Outcome {
-        first,
-        last,
-        clusters,
-        stopped: left.is_none(),
-    })
+    waited(rt, alloc, &node)
 }
 
 #[test]
