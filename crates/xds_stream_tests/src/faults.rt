@@ -13,7 +13,12 @@ const ANSWERED: &str = r#"0000006202 {"nonce":"1","typeUrl":"CDS","versionInfo":
 
 // Whether a beginning of the two requests, in pieces of this size, is answered as it is to be: well where it ends between
 // frames, and the first request once it is there whole.
-fn is_right_at_the_end(alloc: Global, input: &[u8], size: usize, response: &[u8]) -> Result<bool, Fail> {
+fn is_right_at_the_end(
+    alloc: Global,
+    input: &[u8],
+    size: usize,
+    response: &[u8],
+) -> Result<bool, Fail> {
     let mut ends = Ends::new(input, size, Vec::new(alloc));
     let ran = run(alloc, &mut ends)?;
     let answer = if input.len() % 70 == 0 {
@@ -41,7 +46,12 @@ fn input_is_served_wherever_it_ends(rt: HostRuntime) -> Result<(), Fail> {
 }
 
 // Whether a read that fails is told, one byte a read, and what came before it was answered.
-fn is_right_at_a_read(alloc: Global, input: &[u8], failing: u64, response: &[u8]) -> Result<bool, Fail> {
+fn is_right_at_a_read(
+    alloc: Global,
+    input: &[u8],
+    failing: u64,
+    response: &[u8],
+) -> Result<bool, Fail> {
     let never = (usize::MAX, u64::MAX);
     let mut ends = Ends::failing(input, (1, failing), never, Vec::new(alloc));
     let ran = run(alloc, &mut ends)?;
@@ -63,7 +73,12 @@ fn each_read_may_fail(rt: HostRuntime) -> Result<(), Fail> {
 }
 
 // Whether a writer that takes one byte a call is given this many of them before a call fails.
-fn is_right_at_a_write(alloc: Global, input: &[u8], failing: u64, written: &[u8]) -> Result<bool, Fail> {
+fn is_right_at_a_write(
+    alloc: Global,
+    input: &[u8],
+    failing: u64,
+    written: &[u8],
+) -> Result<bool, Fail> {
     let never = (usize::MAX, u64::MAX);
     let mut ends = Ends::failing(input, never, (1, failing), Vec::new(alloc));
     let ran = run(alloc, &mut ends)?;

@@ -6,10 +6,10 @@ use std::test::Fail;
 use xds_core::{Core, Event};
 use xds_resource::{AnyResource, Groups, Refusal};
 
-const REQUESTS: &str =
-    r#"0000004201 {"typeUrl":"CDS"}; 0000004401 {"typeUrl":"LDS"}"#;
+const REQUESTS: &str = r#"0000004201 {"typeUrl":"CDS"}; 0000004401 {"typeUrl":"LDS"}"#;
 
-const RESPONSES: &str = r#"000000bb02 {"nonce":"1","resources":[{"@type":"CDS","name":"a"}],"typeUrl":"CDS","versionInfo":"1.1"}; 0000006402 {"nonce":"2","typeUrl":"LDS","versionInfo":"1.0"}"#;
+const RESPONSES: &str =
+    r#"000000bb02 {"nonce":"1","resources":[{"@type":"CDS","name":"a"}],"typeUrl":"CDS","versionInfo":"1.1"}; 0000006402 {"nonce":"2","typeUrl":"LDS","versionInfo":"1.0"}"#;
 
 // A replica takes a cluster.
 fn put_a_cluster(alloc: Global, core: &mut Core) -> Result<(), Fail> {
