@@ -207,4 +207,5 @@ def main():
     sys.exit(1 if wrong or not results else 0)
 
 
-main()
+if __name__ == "__main__":
+    main()

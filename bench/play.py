@@ -8,7 +8,9 @@ line that says nothing. What differs is printed, with its seed, and the status i
 script of the standard input is read, and what it must print is printed.
 """
 import json
+import math
 import random
+import re
 import subprocess
 import sys
 
@@ -60,6 +62,63 @@ def by_bytes(names):
 
 class BadScript(Exception):
     pass
+
+
+# ---- JSON
+
+
+class NotJson(ValueError):
+    pass
+
+
+class Float(float):
+    """A number that isn't whole, or is spelled as none."""
+
+
+LARGEST_DEPTH = 127
+STRING = re.compile(r'"(?:[^"\\]|\\.)*"', re.S)
+
+
+def float_of(text):
+    value = Float(text)
+    if math.isinf(value):
+        raise NotJson
+    return value
+
+
+def number_of(text):
+    value = int(text) if len(text) < 25 else None
+    return float_of(text) if value is None or text == "-0" or not -(2**63) <= value < 2**64 else value
+
+
+def no_constant(text):
+    raise NotJson
+
+
+def nests_to(text):
+    """How deep a JSON text nests."""
+    depth = most = 0
+    for mark in re.findall(r"[\[\]{}]", STRING.sub("", text)):
+        depth += 1 if mark in "[{" else -1
+        most = max(most, depth)
+    return most
+
+
+def has_lone_surrogate(text):
+    """Whether a string of a JSON text has half of a pair that stands for a letter."""
+    return "\\u" in text and any(0xD800 <= ord(letter) < 0xE000 for found in STRING.findall(text) for letter in json.loads(found))
+
+
+def read_json(data):
+    """The value of a JSON text in bytes: a number that is no 64-bit integer is a `Float`, of a doubled key the last counts."""
+    try:
+        text = data.decode()
+        value = json.loads(text, parse_int=number_of, parse_float=float_of, parse_constant=no_constant)
+    except (ValueError, RecursionError):
+        raise NotJson from None
+    if nests_to(text) > LARGEST_DEPTH or has_lone_surrogate(text):
+        raise NotJson
+    return value
 
 
 # ---- a replica
@@ -259,14 +318,35 @@ class Replica:
     def owes(self, stream, kind):
         return self.streams[stream][1][kind].owes(self.catalogues[kind])
 
+    def rest(self, kind, names, version, cluster):
+        """What a poll without a stream is told: the version and what is to be seen, or none where nothing changed."""
+        catalogue = self.catalogues[kind]
+        star = is_complete(kind) and (not names or "*" in names)
+        present = "%d.%d" % (self.number, catalogue.changes) + (".named" if not star else "@" + cluster if cluster else "")
+        if star and version == present:
+            return None
+        shown = {}
+        for name in catalogue.entries:
+            live = catalogue.live(name)
+            if live and (name in names or star and is_open_to(live[2], cluster)):
+                shown[name] = live[:2]
+        return present, shown
+
 
 # ---- a client
 
 
+def is_refused(body):
+    """Whether the clients of scripts refuse a body."""
+    return json.loads(body).get("reject") is True
+
+
 class Client:
-    def __init__(self, is_delta, cluster):
-        self.is_delta = is_delta
+    def __init__(self, variant, cluster):
+        self.is_delta, self.is_rest = variant == "delta", variant == "rest"
         self.cluster = cluster
+        # of a client of REST: the version of the answer that it took last
+        self.kept = dict.fromkeys(TYPES, "")
         self.wanted = {kind: set() for kind in TYPES}
         self.cache = {kind: {} for kind in TYPES}
         self.nonce = dict.fromkeys(TYPES, "")
@@ -307,6 +387,7 @@ class Client:
         else:
             self.wanted[kind] = set(wish[1])
         self.cache[kind] = {name: held for name, held in self.cache[kind].items() if self.wants(kind, name)}
+        self.kept[kind] = ""
         if self.link and (self.asked[kind] or self.wanted[kind]):
             self.asked[kind] = True
             request = self.request(kind, "", subscribe=wish[1], unsubscribe=wish[2]) if self.is_delta else self.request(kind, self.nonce[kind])
@@ -315,7 +396,7 @@ class Client:
     def receive(self, response):
         kind, nonce = response["kind"], response["nonce"]
         self.nonce[kind] = nonce
-        if any(json.loads(body).get("reject") is True for _, _, body in response["resources"]):
+        if any(is_refused(body) for _, _, body in response["resources"]):
             return self.request(kind, nonce, error=True)
         stated = {name: (version, body) for name, version, body in response["resources"] if self.wants(kind, name)}
         if not self.is_delta and is_complete(kind):
@@ -326,12 +407,25 @@ class Client:
                 self.cache[kind].pop(name, None)
         return self.request(kind, nonce)
 
+    def poll(self, replica, kind, is_lost):
+        """A poll without a stream."""
+        if not self.wanted[kind]:
+            return
+        told = replica.rest(kind, self.wanted[kind], self.kept[kind], self.cluster)
+        if is_lost or told is None or any(is_refused(body) for _, body in told[1].values()):
+            return
+        self.kept[kind], shown = told
+        if is_complete(kind):
+            self.cache[kind] = shown
+        else:
+            self.cache[kind].update(shown)
+
 
 # ---- scripts
 
 
 def number(word, most):
-    if not word.isascii() or not word.isdigit() or word != str(int(word)) or not 1 <= int(word) <= most:
+    if not re.fullmatch("[1-9][0-9]{0,9}", word, re.A) or int(word) > most:
         raise BadScript
     return int(word)
 
@@ -357,9 +451,9 @@ def name_word(word):
 
 
 def kind_word(word):
-    if word not in ("sotw", "delta"):
+    if word not in ("sotw", "delta", "rest"):
         raise BadScript
-    return word == "delta"
+    return word
 
 
 def groups_word(word):
@@ -380,8 +474,6 @@ def depth(value):
 def is_whole(value):
     if isinstance(value, float):
         return False
-    if isinstance(value, int) and not isinstance(value, bool):
-        return -(2**63) <= value < 2**64
     if isinstance(value, dict):
         value = list(value.values())
     return all(map(is_whole, value)) if isinstance(value, list) else True
@@ -390,8 +482,8 @@ def is_whole(value):
 def resource(text):
     """The type, the name and the body of the resource that a text is."""
     try:
-        value = json.loads(text)
-    except ValueError:
+        value = read_json(text.encode())
+    except NotJson:
         raise BadScript from None
     if len(text.encode()) > 1048576 or not is_whole(value) or depth(value) > 100 or not isinstance(value, dict):
         raise BadScript
@@ -415,6 +507,8 @@ READERS = {
     "settle": [whole_number, type_word],
     "view": [whole_number, type_word],
     "content": [replica_number, type_word],
+    "rest": [whole_number, replica_number, type_word],
+    "restlost": [whole_number, replica_number, type_word],
 }
 
 
@@ -476,8 +570,8 @@ class World:
     def replica(self, replica):
         self.replicas.setdefault(replica, Replica(replica))
 
-    def client(self, client, is_delta, cluster):
-        self.clients.setdefault(client, Client(is_delta, cluster))
+    def client(self, client, variant, cluster):
+        self.clients.setdefault(client, Client(variant, cluster))
 
     def put(self, replica, kind, name, body):
         self.putin(replica, [], kind, name, body)
@@ -501,8 +595,15 @@ class World:
                     self.replicas[replica].catalogues[kind].join(name, write)
 
     def connect(self, client, replica):
-        if client in self.clients and not self.clients[client].link and replica in self.replicas:
+        if client in self.clients and not self.clients[client].is_rest and not self.clients[client].link and replica in self.replicas:
             self.clients[client].connect(self.replicas[replica])
+
+    def rest(self, client, replica, kind, is_lost=False):
+        if client in self.clients and self.clients[client].is_rest and replica in self.replicas:
+            self.clients[client].poll(self.replicas[replica], kind, is_lost)
+
+    def restlost(self, client, replica, kind):
+        self.rest(client, replica, kind, is_lost=True)
 
     def names(self, client, kind, wish):
         if client in self.clients:
@@ -553,7 +654,7 @@ class World:
             self.printed.append("none")
             return
         held = self.clients[client].cache[kind]
-        state = "down" if not self.link(client) else "settled" if self.is_settled(client, kind) else "open"
+        state = "rest" if self.clients[client].is_rest else "down" if not self.link(client) else "settled" if self.is_settled(client, kind) else "open"
         self.printed.append("view %d %s %s %d" % (client, kind, state, len(held)))
         for name in by_bytes(held):
             self.printed.append(" ".join(held[name]) if self.clients[client].is_delta else held[name][1])
@@ -622,8 +723,10 @@ def some_wish(pick, client, kind, is_delta):
 
 def some_line(pick, replicas, clients, kinds):
     replica = pick.choice(replicas) if pick.random() < 0.98 else 9
-    client, is_delta = pick.choice(clients) if pick.random() < 0.98 else (9, True)
+    client, variant = pick.choice(clients) if pick.random() < 0.98 else (9, "delta")
     kind = pick.choice(kinds)
+    if pick.random() < (0.6 if variant == "rest" else 0.02):
+        return "%s %d %d %s" % (pick.choice(["rest", "rest", "rest", "restlost"]), client, replica, kind)
     verb = pick.choices(
         ["put", "delete", "snapshot", "merge", "connect", "wish", "up", "poll", "down", "lose", "settle", "view", "content"],
         [14, 5, 3, 5, 12, 8, 18, 16, 16, 2, 6, 7, 2],
@@ -639,7 +742,7 @@ def some_line(pick, replicas, clients, kinds):
     if verb == "connect":
         return "connect %d %d" % (client, replica)
     if verb == "wish":
-        return some_wish(pick, client, kind, is_delta)
+        return some_wish(pick, client, kind, variant == "delta")
     if verb == "poll":
         return "poll %d" % client if pick.random() < 0.5 else "poll %d %s" % (client, kind)
     if verb in ("settle", "view"):
@@ -651,11 +754,11 @@ def some_line(pick, replicas, clients, kinds):
 
 def some_script(pick):
     replicas = pick.sample([1, 2, 3, 65535], pick.randrange(1, 4))
-    clients = [(client, pick.random() < 0.5) for client in pick.sample([1, 2, 3, 4294967295], pick.randrange(1, 4))]
+    clients = [(client, pick.choice(["sotw", "sotw", "delta", "delta", "rest"])) for client in pick.sample([1, 2, 3, 4294967295], pick.randrange(1, 4))]
     kinds = list(TYPES) if pick.random() < 0.3 else pick.sample(list(TYPES), pick.choice([1, 1, 2]))
     lines = ["replica %d" % replica for replica in replicas]
-    lines += ["client %d %s%s" % (client, "delta" if is_delta else "sotw", pick.choice(["", " g1", " g2", " \u00e9"])) for client, is_delta in clients]
-    lines += [some_wish(pick, client, kind, is_delta) for client, is_delta in clients for kind in kinds if pick.random() < 0.7]
+    lines += ["client %d %s%s" % (client, variant, pick.choice(["", " g1", " g2", " \u00e9"])) for client, variant in clients]
+    lines += [some_wish(pick, client, kind, variant == "delta") for client, variant in clients for kind in kinds if pick.random() < 0.7]
     lines += [some_put(pick, pick.choice(replicas), pick.choice(kinds)) for _ in range(pick.randrange(8))]
     lines += ["connect %d %d" % (client, pick.choice(replicas)) for client, _ in clients if pick.random() < 0.85]
     lines += [some_line(pick, replicas, clients, kinds) for _ in range(pick.randrange(5, 90))]

@@ -2,21 +2,27 @@
 """Compares what `xds serve` answers to polls over HTTP with a reading of docs/PROTOCOL.md in Python, over a socket.
 
     python3 bench/posts.py PROGRAM [FIRST LAST]
+    python3 bench/fuzz.py posts PROGRAM [FIRST LAST]
 
 The program serves one replica, at ports that are free. Each seed from FIRST (0) up to LAST (10000) makes one request: its
-method, its path and its body, many of them wrong somewhere. It is sent over a connection that is kept open, a body now and
-then in chunks. Status and body of the reply must be those of the reading. One request in fifty is no HTTP any more: a byte of
-it is another, or it breaks off. Of such a one it counts only that the server goes on. What differs is printed, with its seed,
-and the status is then 1.
+method, its path and its body, many of them wrong somewhere; in the second form most bodies are spoiled by bench/spoil.py. It
+is sent over a connection that is kept open, a body now and then in chunks. Status and body of the reply must be those of the
+reading. One request in fifty has a head of the table below, of which the status is known. One in fifty is no HTTP any more:
+a byte of it is another, or it breaks off, or it is spoiled otherwise; of such a one it counts that the server closes the
+connection once the client has ended its side, that what it says until then begins as a reply, and that it goes on. What
+differs is printed, with its seed, and the status is then 1.
 """
+import errno
 import json
 import random
+import re
 import socket
 import subprocess
 import sys
 import time
 
 from play import TYPES, compact, is_complete
+from spoil import noise, some, spoiled, spoiled_gently, spoiled_json
 from streams import NAMES, WRITES, Refused, Served, object_of, request_of, some_names
 
 PATHS = {word: "/v3/discovery:" + end for word, end in zip(TYPES, ("clusters", "endpoints", "listeners", "routes", "secrets"))}
@@ -125,6 +131,81 @@ def some_request(pick, replica):
     return method, path, some_body(pick, replica, word)
 
 
+def spoiled_request(pick, replica):
+    """A request whose body is spoiled, and now and then its path."""
+    method, path, body = some_request(pick, replica)
+    if pick.random() < 0.7:
+        body = some(pick, body, [spoiled_gently, spoiled_gently, spoiled_gently, spoiled_json, spoiled])
+    elif pick.random() < 0.4:
+        body = noise(pick)
+    if pick.random() < 0.05:
+        at = pick.randrange(len(path) + 1)
+        path = path[:at] + pick.choice(["%3A", "%00", "..", "/", "//", ":", "x", "~", "&", ";", "=", "'", "y" * 5000]) + path[at:]
+        path = path if path.startswith("/") else "/" + path
+    if pick.random() < 0.03:
+        method = pick.choice(["post", "Post", "POSTS", "POS", "PATCH", "BREW", "TRACE", "P" * 500])
+    return method, path, body
+
+
+# Heads with what stands at four places of them, and the status that they are answered with: 0 where the connection is closed with
+# no reply, and none where the reply is that of a request with another head.
+HEADS = [
+    ("{} HTTP/1.0", "", None),
+    ("{} HTTP/2.0", "", 400),
+    ("{} HTTP/1.2", "", 400),
+    ("{} http/1.1", "", 400),
+    ("{}", "", 400),
+    ("{}#x HTTP/1.1", "", None),
+    ("\r\n\r\n{} HTTP/1.1", "", None),
+    ("{}\0 HTTP/1.1", "", 400),
+    (" {} HTTP/1.1", "", 400),
+    ("({} HTTP/1.1", "", 400),
+    ("{}?%s HTTP/1.1" % ("y" * 60000), "", None),
+    ("{}?%s HTTP/1.1" % ("y" * 66000), "", 414),
+    ("{} HTTP/1.1", "host: a\r\n", 400),
+    ("{} HTTP/1.1", "content-length: LENGTH\r\n", None),
+    ("{} HTTP/1.1", "content-length: 7777\r\n", 400),
+    ("{} HTTP/1.1", "content-length: -1\r\n", 400),
+    ("{} HTTP/1.1", "content-length: +LENGTH\r\n", 400),
+    ("{} HTTP/1.1", "content-length: 0x1\r\n", 400),
+    ("{} HTTP/1.1", "content-length: 18446744073709551616\r\n", 400),
+    ("{} HTTP/1.1", "content-length: \r\n", 400),
+    ("{} HTTP/1.1", "content-length: 1, 1\r\n", 400),
+    ("{} HTTP/1.1", "transfer-encoding: gzip\r\n", 400),
+    ("{} HTTP/1.1", "transfer-encoding: chunked\r\n", 400),
+    ("{} HTTP/1.1", "x: a\r\n b\r\n", 400),
+    ("{} HTTP/1.1", "x : a\r\n", 400),
+    ("{} HTTP/1.1", "x\0: a\r\n", 400),
+    ("{} HTTP/1.1", "x: a\0b\r\n", 400),
+    ("{} HTTP/1.1", ": a\r\n", 400),
+    ("{} HTTP/1.1", "x\r\n", 400),
+    ("{} HTTP/1.1", "\xff: a\r\n", 400),
+    ("{} HTTP/1.1", "x: \xff\r\n", None),
+    ("{} HTTP/1.1", "x: %s\r\n" % ("y" * 60000), None),
+    ("{} HTTP/1.1", "x: %s\r\n" % ("y" * 70000), 431),
+    ("{} HTTP/1.1", "".join("x%d: y\r\n" % at for at in range(90)), None),
+    ("{} HTTP/1.1", "".join("x%d: y\r\n" % at for at in range(110)), 431),
+    ("{} HTTP/1.1", "connection: upgrade\r\nupgrade: h2c\r\n", None),
+    ("{} HTTP/1.1", "connection: close\r\n", None),
+]
+# Bodies in chunks that are none, or are spelled otherwise than usual, each with whether it says `{}`.
+CHUNKS = [(b"2;a=b\r\n{}\r\n0\r\n\r\n", True), (b"02\r\n{}\r\n0\r\nx: y\r\n\r\n", True), (b"1\r\n{\r\n1\r\n}\r\n0\r\n\r\n", True), (b"2\r\n{}\r\n000\r\n\r\n", True),
+          (b"x\r\n{}\r\n0\r\n\r\n", False), (b"fffffffffffffffff\r\n{}\r\n0\r\n\r\n", False), (b"2\r\n{}xx0\r\n\r\n", False), (b"-2\r\n{}\r\n0\r\n\r\n", False), (b"\r\n\r\n", False)]
+# What the server may say of bytes that are no request.
+STATUSES = {200, 304, 400, 404, 405, 408, 413, 414, 431, 501}
+
+
+def headed(pick, path, body):
+    """A request with a head of the table, or a body of chunks that are none, and the status that it gets, if that isn't of the body."""
+    post = f"POST {path}"
+    if pick.random() < 0.2:
+        chunks, is_whole = pick.choice(CHUNKS)
+        return f"{post} HTTP/1.1\r\nhost: a\r\ntransfer-encoding: chunked\r\n\r\n".encode() + chunks, None if is_whole else 0, b"{}"
+    line, fields, status = pick.choice(HEADS)
+    head = line.replace("{}", post) + f"\r\nhost: 127.0.0.1\r\ncontent-length: LENGTH\r\n{fields}\r\n"
+    return head.replace("LENGTH", str(len(body))).encode("latin-1") + body, status, body
+
+
 def chunked(pick, body):
     cut, made = 0, b""
     while cut < len(body):
@@ -168,9 +249,16 @@ class Link:
         self.socket = None
 
     def ask(self, data):
-        """The status and the body of the reply."""
-        if not self.socket:
-            self.open()
+        """The status and the body of the reply. A server may have closed a connection behind a reply that came before a whole body."""
+        if self.socket:
+            try:
+                return self.ask_here(data)
+            except ConnectionError:
+                self.close()
+        self.open()
+        return self.ask_here(data)
+
+    def ask_here(self, data):
         self.socket.sendall(data)
         head = self.until(b"\r\n\r\n")
         fields = dict(line.lower().split(b": ", 1) for line in head.split(b"\r\n")[1:] if line)
@@ -194,13 +282,23 @@ class Link:
             raise ConnectionError("closed")
         self.rest += piece
 
-    def spoil(self, pick, data):
-        """Sends what is no request any more, and forgets the connection."""
+    def alone(self, data):
+        """All that comes for some bytes over a connection of their own, until the server closes it; it is told that no more come."""
         self.close()
         self.open()
-        at = pick.randrange(len(data))
-        self.socket.sendall(data[:at] + (bytes([pick.randrange(256)]) + data[at + 1 :] if pick.random() < 0.5 else b""))
+        found = b""
+        try:
+            self.socket.sendall(data)
+            self.socket.shutdown(socket.SHUT_WR)
+            while piece := self.socket.recv(1 << 16):
+                found += piece
+        except ConnectionError:
+            pass
+        except OSError as fault:
+            if fault.errno != errno.ENOTCONN:
+                raise
         self.close()
+        return found
 
 
 def free_ports():
@@ -231,47 +329,67 @@ def filled(link, replica):
     sys.exit("the server doesn't hold what it was given")
 
 
-def main():
-    if len(sys.argv) not in (2, 4):
+def main(words, spoils=False):
+    if len(words) not in (1, 3):
         sys.exit(__doc__)
-    first, last = (int(word) for word in sys.argv[2:]) if len(sys.argv) == 4 else (0, 10000)
+    first, last = (int(word) for word in words[1:]) if len(words) == 3 else (0, 10000)
     port, rest_port = free_ports()
-    command = [sys.argv[1], "serve", "--replicas", "1", "--port", str(port), "--rest-port", str(rest_port)]
+    command = [words[0], "serve", "--replicas", "1", "--port", str(port), "--rest-port", str(rest_port)]
     server = subprocess.Popen(command, stdin=subprocess.PIPE, stderr=subprocess.DEVNULL)
     try:
         server.stdin.write("".join(lines()).encode())
         server.stdin.flush()
-        compare(server, Link(rest_port), Served().replica, first, last)
+        return compare(server, Link(rest_port), Served().replica, range(first, last), spoils)
     finally:
         server.kill()
 
 
-def compare(server, link, replica, first, last):
-    filled(link, replica)
-    wrong, statuses = 0, {}
-    for seed in range(first, last):
-        pick = random.Random(seed)
-        method, path, body = some_request(pick, replica)
+def one(link, replica, pick, spoils):
+    """A request, what it is answered and what it should be."""
+    method, path, body = spoiled_request(pick, replica) if spoils else some_request(pick, replica)
+    chance = pick.random()
+    if chance < 0.02:
         data = sent(pick, method, path, body)
-        if pick.random() < 0.02:
-            link.spoil(pick, data)
-            continue
-        given = link.ask(data)
-        due = wanted(replica, method, path, body)
-        statuses[due[0]] = statuses.get(due[0], 0) + 1
+        at = pick.randrange(len(data))
+        data = some(pick, data, [spoiled]) if spoils else data[:at] + (bytes([pick.randrange(256)]) + data[at + 1 :] if pick.random() < 0.5 else b"")
+        found = link.alone(data)
+        said = re.match(rb"HTTP/1\.[01] ([0-9]{3}) ", found)
+        return data, bool(found and (not said or int(said.group(1)) not in STATUSES)) and found, False
+    if chance < 0.04:
+        word = pick.choice(list(TYPES))
+        data, status, body = headed(pick, PATHS[word], body)
+        found = link.alone(data) if status == 0 else link.ask(data)
+        link.close()
+        if status is None:
+            return data, found, wanted(replica, "POST", PATHS[word], body)
+        return data, found, (status, b"") if status else b""
+    return (method, path, body), link.ask(sent(pick, method, path, body)), wanted(replica, method, path, body)
+
+
+def compare(server, link, replica, seeds, spoils):
+    filled(link, replica)
+    begin, wrong, statuses = time.monotonic(), 0, {}
+    for seed in seeds:
+        try:
+            asked, given, due = one(link, replica, random.Random(seed), spoils)
+        except (OSError, ValueError) as fault:
+            link.close()
+            asked, given, due = None, repr(fault), None
+        kind = due[0] if due else "no HTTP"
+        statuses[kind] = statuses.get(kind, 0) + 1
         if given != due:
             wrong += 1
-            print(f"seed {seed}: {method} {path} {body}", f"wanted {due}", f"given {given}", sep="\n")
+            print(f"seed {seed}: {str(asked)[:6000]}", f"wanted {due}", f"given {given}", sep="\n", flush=True)
     for size, status in ((MOST, 400), (MOST + 1, 413)):
         given = link.ask(sent(random.Random(2), "POST", PATHS["cluster"], b" " * size))
         wrong += given[0] != status
     if server.poll() is not None:
         wrong += 1
         print("the server has ended")
-    told = ", ".join(f"{count} times {status}" for status, count in sorted(statuses.items()))
-    print(f"{sum(statuses.values())} requests compared: {told}; {wrong} differ")
-    sys.exit(1 if wrong or not statuses else 0)
+    told = ", ".join(f"{statuses[status]} times {status}" for status in sorted(statuses, key=str))
+    print(f"posts: {sum(statuses.values())} inputs in {time.monotonic() - begin:.0f} s; answers: {told}; {wrong} differ")
+    return 1 if wrong or not statuses else 0
 
 
 if __name__ == "__main__":
-    main()
+    sys.exit(main(sys.argv[1:]))

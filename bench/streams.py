@@ -10,17 +10,12 @@ then 1. The program is made in a copy of this repository, over the libraries tha
 """
 import argparse
 import json
-import os
 import random
 import re
-import subprocess
 import sys
-import tempfile
 
-from play import TYPES, Replica, compact
-from stream import made_in
-
-NEEDS = "xds_stream xds_core xds_frames xds_resource hex"
+from doors import Doors
+from play import TYPES, NotJson, Replica, compact, read_json
 
 # What the replica holds, each write behind the groups that it is for: a put, or the deletion of a cluster.
 WRITES = [
@@ -38,132 +33,6 @@ WRITES = [
 ]
 NAMES = ["a", "b", "gone", "\u00e9", "missing", "*"]
 
-PROGRAM = r'''// Serves the streams of the standard input, one a line, and prints what each comes to.
-#![tactic(auto)]
-
-use std::alloc::Global;
-use std::io;
-use std::io::{Read, Write};
-use std::process::ExitCode;
-use xds_core::{Core, Event};
-use xds_frames::Counted;
-use xds_resource::{AnyResource, Groups, Refusal, TypeName};
-use xds_stream::run_stream;
-
-const WRITES: &str = r#"THE_WRITES"#;
-
-// A reader that gives its bytes in pieces of these sizes, again and again.
-#[derive(Drop)]
-struct Pieces<'a> {
-    bytes: &'a [u8],
-    sizes: &'a [usize],
-    turn: usize,
-}
-
-impl Pieces<'_> {
-    fn size(&mut self) -> usize {
-        let size = self.sizes.get(self.turn).copied().unwrap_or(1);
-        self.turn = self.turn.saturating_add(1);
-        if self.turn >= self.sizes.len() {
-            self.turn = 0;
-        }
-        size
-    }
-}
-
-impl Read for Pieces<'_> {
-    fn read(&mut self, buf: &mut [u8]) -> io::Result<usize> {
-        let size = self.size();
-        let count = size.min(self.bytes.len()).min(buf.len());
-        let (piece, rest) = self.bytes.split_at(count);
-        buf[..count].copy_from_slice(piece);
-        self.bytes = rest;
-        Ok(count)
-    }
-}
-
-fn groups_of(alloc: Global, word: &str) -> Result<Groups, Refusal> {
-    let mut texts = Vec::new(alloc);
-    if word.is_empty() {
-        return Groups::new(alloc, texts.as_slice());
-    }
-    for text in word.split(',') {
-        texts.push(String::from_str(alloc, text)?)?;
-    }
-    Groups::new(alloc, texts.as_slice())
-}
-
-// A write: the groups and the resource, or a minus and the name of a cluster that is deleted.
-fn write_line(alloc: Global, core: &mut Core, line: &str) -> Result<(), Refusal> {
-    let (groups, text) = line.split_once(' ').ok_or(Refusal::BadScript)?;
-    let event = if groups == "-" {
-        Event::Delete(TypeName::Cluster, String::from_str(alloc, text)?)
-    } else {
-        Event::Put(AnyResource::parse(alloc, text)?, groups_of(alloc, groups)?)
-    };
-    drop(core.step(event)?);
-    Ok(())
-}
-
-fn filled(alloc: Global) -> Result<Core, Refusal> {
-    let mut core = Core::new(alloc, 1);
-    for line in WRITES.lines() {
-        write_line(alloc, &mut core, line)?;
-    }
-    Ok(core)
-}
-
-fn sizes_of(alloc: Global, word: &str) -> Result<Vec<usize>, Refusal> {
-    let mut sizes = Vec::new(alloc);
-    for size in word.split(',') {
-        sizes.push(size.parse().ok().ok_or(Refusal::BadScript)?)?;
-    }
-    Ok(sizes)
-}
-
-// The number of the answer, 0 where it is well, and the bytes written.
-fn served(alloc: Global, line: &str) -> Result<String, Refusal> {
-    let (sizes, digits) = line.split_once(' ').ok_or(Refusal::BadScript)?;
-    let sizes = sizes_of(alloc, sizes)?;
-    let bytes = hex::decode(alloc, digits).ok().ok_or(Refusal::BadScript)?;
-    let mut core = filled(alloc)?;
-    let mut reader = Counted::new(Pieces {
-        bytes: bytes.as_slice(),
-        sizes: sizes.as_slice(),
-        turn: 0,
-    });
-    let mut writer = Counted::new(Vec::new(alloc));
-    let number = match run_stream(alloc, &mut core, &mut reader, &mut writer) {
-        Ok(()) => 0,
-        Err(refusal) => refusal.number(),
-    };
-    let written = hex::encode(alloc, writer.inner.as_slice())?;
-    let written = written.as_str();
-    Ok(format!(in alloc; "{number} {written}")?)
-}
-
-fn run(rt: &HostRuntime) -> io::Result<bool> {
-    let alloc = rt.alloc();
-    let mut input = String::new(alloc);
-    rt.reader().read_to_string(&mut input)?;
-    for line in input.lines() {
-        let Ok(answer) = served(alloc, line) else {
-            return Ok(false);
-        };
-        let answer = answer.as_str();
-        println!(rt; "{answer}")?;
-    }
-    Ok(true)
-}
-
-fn main(rt: HostRuntime) -> ExitCode {
-    match run(&rt) {
-        Ok(true) => ExitCode::SUCCESS,
-        _ => ExitCode::FAILURE,
-    }
-}
-'''
-
 
 # ---- reading
 
@@ -172,25 +41,11 @@ class Refused(Exception):
     """A refusal, by its number."""
 
 
-def depth(value):
-    if isinstance(value, dict):
-        value = list(value.values())
-    elif not isinstance(value, list):
-        return 0
-    return 1 + max(map(depth, value), default=0)
-
-
-def no_constant(text):
-    raise ValueError(text)
-
-
 def object_of(text):
     try:
-        value = json.loads(text.decode(), parse_constant=no_constant)
-    except (ValueError, RecursionError):
+        value = read_json(text)
+    except NotJson:
         raise Refused(1) from None
-    if depth(value) > 127:
-        raise Refused(1)
     if not isinstance(value, dict):
         raise Refused(7)
     return value
@@ -217,7 +72,7 @@ def texts(value, name):
 def look_at_code(error):
     code = error.get("code")
     if isinstance(code, str) and re.fullmatch("-?[0-9]+", code, re.A):
-        code = int(code)
+        code = int(re.sub("^(-?)0*(?=[0-9])", r"\1", code)[:20])
     if code is not None and (isinstance(code, bool) or not isinstance(code, int) or not -(2**31) <= code < 2**31):
         raise Refused(7)
 
@@ -410,27 +265,18 @@ def main():
     for seed in range(first, last):
         pick = random.Random(seed)
         cases.append((seed, some_input(pick), some_sizes(pick)))
-    lines = "".join("%s %s\n" % (",".join(map(str, sizes)), data.hex()) for _, data, sizes in cases)
-    with tempfile.TemporaryDirectory(prefix="streams-") as folder:
-        crate = made_in(folder, "streams_bench", NEEDS, PROGRAM.replace("THE_WRITES", writes()))
-        if given.proved:
-            subprocess.run(["rt", "run"], cwd=crate, input=b"", check=True)
-            command = [f"{crate}/out/streams_bench"]
-        else:
-            command = ["rt", "try", "--steps", "1000000000000", "--seconds", "3000"]
-        ended = subprocess.run(command, cwd=crate, input=lines.encode(), capture_output=True)
-    printed = [line for line in ended.stdout.decode().split("\n") if re.fullmatch("[0-9]+ [0-9a-f]*", line)]
+    printed, errors = Doors(writes(), given.proved).answers("stream", [(",".join(map(str, sizes)), data) for _, data, sizes in cases])
     if len(printed) != len(cases):
-        sys.exit(f"{len(printed)} answers to {len(cases)} inputs, status {ended.returncode}\n{ended.stderr.decode()[-3000:]}")
+        sys.exit(f"{len(printed)} answers to {len(cases)} inputs\n{errors.decode()}")
     wrong, numbers, responses = 0, {}, 0
-    for (seed, data, sizes), line in zip(cases, printed):
+    for (seed, data, sizes), answer in zip(cases, printed):
         served = Served()
         number = served.read(data)
         numbers[number] = numbers.get(number, 0) + 1
         responses += bool(served.written)
-        if line != "%d %s" % (number, served.written.hex()):
+        if answer != (number, served.written, b""):
             wrong += 1
-            print(f"seed {seed}: {data} in pieces of {sizes}", f"wanted {number} {served.written}", f"given {line}", sep="\n")
+            print(f"seed {seed}: {data} in pieces of {sizes}", f"wanted {number} {served.written}", f"given {answer}", sep="\n")
     told = ", ".join("%d times %d" % (numbers[number], number) for number in sorted(numbers))
     print(f"{len(cases)} inputs, {responses} of them answered with a response; answers: {told}; {wrong} differ")
     sys.exit(1 if wrong or not cases else 0)

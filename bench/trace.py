@@ -21,7 +21,7 @@ import subprocess
 import sys
 import time
 
-from play import TYPES, compact, groups_of, some_script
+from play import TYPES, NotJson, compact, depth, groups_of, is_whole, read_json, some_script
 
 URLS = {row[0]: word for word, row in TYPES.items()}
 LARGEST = 9223372036854775807
@@ -31,40 +31,12 @@ class Bad(Exception):
     """What is read says nothing."""
 
 
-class Float(float):
-    """A number that isn't whole, or is spelled as none."""
-
-
-def number_of(text):
-    value = int(text)
-    return Float(text) if text == "-0" or not -(1 << 63) <= value < 1 << 64 else value
-
-
-def no_constant(text):
-    raise Bad
-
-
-def nests_to(value):
-    if isinstance(value, dict):
-        return 1 + max(map(nests_to, value.values()), default=0)
-    return 1 + max(map(nests_to, value), default=0) if isinstance(value, list) else 0
-
-
-def is_whole(value):
-    if isinstance(value, dict):
-        return all(map(is_whole, value.values()))
-    return all(map(is_whole, value)) if isinstance(value, list) else not isinstance(value, float)
-
-
 def value_of(text):
     """The JSON value of some bytes."""
     try:
-        value = json.loads(text.decode("utf-8"), parse_int=number_of, parse_float=Float, parse_constant=no_constant)
-    except (ValueError, RecursionError):
+        return read_json(text)
+    except NotJson:
         raise Bad from None
-    if nests_to(value) > 127:
-        raise Bad
-    return value
 
 
 def need(condition):
@@ -98,7 +70,7 @@ def objects_in(value, *names):
 
 def resource_of(value, url):
     """The name and the body of a JSON value that is a resource of this type."""
-    need(isinstance(value, dict) and is_whole(value) and nests_to(value) <= 100 and value.get("@type") == url)
+    need(isinstance(value, dict) and is_whole(value) and depth(value) <= 100 and value.get("@type") == url)
     body = compact(value).encode()
     need(len(body) <= 1048576)
     row = TYPES[URLS[url]]
@@ -135,8 +107,8 @@ def error_in(value):
     code = member(error, "code")
     text_in(error, "message")
     if isinstance(code, str):
-        need(re.fullmatch(r"-?[0-9]+", code))
-        code = int(code)
+        need(re.fullmatch("-?[0-9]+", code, re.A))
+        code = int(re.sub("^(-?)0*(?=[0-9])", r"\1", code)[:20])
     need(code is None or type(code) is int and -(1 << 31) <= code < 1 << 31)
     return True
 
@@ -389,7 +361,11 @@ def edited(pick, lines):
             except ValueError:
                 # (an edit before this one spoiled the line)
                 return None
+            if not isinstance(message, dict):
+                return None
             key = pick.choice([it for it in ("resources", "removedResources") if it in message] or ["nonce"])
+            if not isinstance(message.get(key), (list, str)):
+                return None
             message[key] = message[key][1:]
             lines[at] = head + compact(message).encode()
     else:
