@@ -5,11 +5,11 @@
 
 The program serves one replica that holds the clusters (1,000 of 600 bytes). N streams (1,000) ask for all of them, the even
 ones in the incremental variant, the odd ones state of the world, and accept every response. Printed are: streams opened and
-settled a second; the time from a put until the last incremental stream has it, and until every stream has it; the same for
-a row of puts (200), one after another; processor time, memory and threads of the server; then the same puts beside streams
-that ask and never read (100); polls over HTTP a second at 16 connections that are kept open, whole and unchanged; and what
-the server's memory is after so many more events (100,000), and after as many again. This script runs on the same machine
-and takes a core of its own.
+settled a second; what an acceptance by one more stream costs beside ten of them and beside all; the time from a put until the
+last incremental stream has it, and until every stream has it; the same for a row of puts (200), one after another; processor
+time, memory and threads of the server; then the same puts beside streams that ask and never read (100); polls over HTTP a
+second at 16 connections that are kept open, whole and unchanged; and what the server's memory is after so many more events
+(100,000), and after as many again. This script runs on the same machine and takes a core of its own.
 """
 import argparse
 import os
@@ -76,6 +76,33 @@ class Stream:
         self.socket.sendall(framed(3 if self.is_delta else 1, said.encode()))
 
 
+class Alone:
+    """A stream that asks for one cluster after another: each time it accepts what it got and asks for the next, in one request."""
+
+    def __init__(self, port):
+        self.socket = socket.create_connection(("127.0.0.1", port), PATIENCE)
+        self.socket.setsockopt(socket.IPPROTO_TCP, socket.TCP_NODELAY, 1)
+        self.accepts = ""
+
+    def read(self, count):
+        data = b""
+        while len(data) < count:
+            piece = self.socket.recv(count - len(data))
+            if not piece:
+                raise ConnectionError("a stream was closed")
+            data += piece
+        return data
+
+    def ask(self, name):
+        """The seconds from the request to the response."""
+        begin = time.perf_counter()
+        said = '{"resourceNamesSubscribe":["%s"],%s"typeUrl":"%s"}' % (name, self.accepts, URL)
+        self.socket.sendall(framed(3, said.encode()))
+        text = self.read(int.from_bytes(self.read(4), "big"))
+        self.accepts = '"responseNonce":"%s",' % NONCE.match(text[1:]).group(1).decode()
+        return time.perf_counter() - begin
+
+
 class Server:
     def __init__(self, program):
         self.port, self.rest_port = free_ports()
@@ -129,10 +156,24 @@ class Waiting:
         return not self.left
 
 
-def opened(server, count):
+def accepted(server, clusters, beside, count=1000):
+    """What an acceptance costs, with all other streams settled."""
+    alone, spent = Alone(server.port), server.processor()
+    times = sorted(alone.ask(f"c{number % clusters}") for number in range(count))
+    spent = (server.processor() - spent) / count
+    alone.socket.close()
+    print(f"an acceptance with the next request and its response, beside {beside} settled streams: {times[count // 2] * 1e6:.0f} us (middle of {count}), {spent * 1e6:.0f} us of processor time", flush=True)
+
+
+def opened(server, count, clusters):
     chosen, streams = selectors.DefaultSelector(), []
     begin = time.perf_counter()
     for number in range(count):
+        if number == 10:
+            wait(chosen, Waiting(streams, server.changes))
+            before = time.perf_counter()
+            accepted(server, clusters, number)
+            begin += time.perf_counter() - before
         stream = Stream(server.port, number % 2 == 0)
         chosen.register(stream.socket, selectors.EVENT_READ, stream)
         streams.append(stream)
@@ -203,7 +244,8 @@ def main():
             server.put(f"c{number}", given.bytes, 0)
         server.flush()
         print(f"{given.clusters} clusters of {given.bytes} bytes: {server.told()}", flush=True)
-        chosen, streams = opened(server, given.streams)
+        chosen, streams = opened(server, given.streams, given.clusters)
+        accepted(server, given.clusters, given.streams)
         puts(server, chosen, streams, given.puts, given.bytes, "")
         silent = [Stream(server.port, False) for _ in range(given.silent)]
         if silent:

@@ -11,8 +11,10 @@ the status is then 1. With `-` in place of PROGRAM, a trace is read from the sta
 
 With --time, the program checks a trace of so many lines (100,000), whose resources have 600 bytes. Beside it, it reads a trace
 of as many requests of a type that is no type, each of which holds one line's JSON in a field that it doesn't know: so the same
-JSON is read, and nothing else is done. The status is 1 where the first takes more than twice as long as the second. It also
-tells the time up to a bad last line, before which all lines are read and none is judged.
+JSON is read, and nothing else is done. It also tells the time up to a bad last line, before which all lines are read and none is
+judged, and that of traces of half as many and of so many lines in which clusters come and go, so that few live of all that ever
+stood. The status is 1 where the first takes more than twice as long as the JSON alone, or where twice the lines take more than
+three times as long.
 """
 import json
 import random
@@ -437,6 +439,24 @@ def long_trace(count):
     return lines
 
 
+def passing_trace(count):
+    """One of clusters that come and go: a stream of the state of the world is told each, and that it is gone, so that one lives at
+    most, whatever stood before."""
+    clusters = {word: url for url, word in URLS.items()}["cluster"]
+    lines = ["open 1", "request 1 1 " + compact({"resourceNames": ["*"], "typeUrl": clusters})]
+    counter = 0
+    while len(lines) < count:
+        name = "c%d" % counter
+        resource = {"@type": clusters, "name": name}
+        for body in ({"body": resource}, {}):
+            counter += 1
+            lines.append("write " + compact({**body, "counter": counter, "name": name, "typeUrl": clusters, "writer": 1}))
+            stated = {"resources": [resource]} if body else {}
+            lines.append("response 1 2 " + compact({"nonce": str(counter), **stated, "typeUrl": clusters}))
+            lines.append("request 1 1 " + compact({"resourceNames": ["*"], "responseNonce": str(counter), "typeUrl": clusters}))
+    return lines[:count]
+
+
 def unread(lines):
     """As many requests of a type that is no type, each with one line's JSON."""
     told = [line.split("{", 1) for line in lines]
@@ -463,7 +483,9 @@ def timed(program, count):
     size = sum(len(line) + 1 for line in lines)
     print(f"{count} lines, {size / 1e6:.1f} MB: checked in {checked:.2f} s; their JSON read in {alone:.2f} s, {checked / alone:.2f} times less")
     print(f"read up to a bad last line in {read_all:.2f} s")
-    return checked <= 2 * alone
+    half, whole = (seconds(program, passing_trace(it), b"ok\n") for it in (count // 2, count))
+    print(f"clusters that come and go: {count // 2} lines in {half:.2f} s, {count} in {whole:.2f} s")
+    return checked <= 2 * alone and whole <= 3 * half
 
 
 def main():

@@ -192,7 +192,7 @@ content_lacks m s names = lacks_all s names (finmap.entries m) ∙ ap not (by_na
 abbrev if_so : StampedWrite → Bool → Option StampedWrite
 if_so w l = if l then Some w else None
 
-live_some : (w : StampedWrite) (l : Bool) → is_some (if_so w l) ≡ l
+pub live_some : (w : StampedWrite) (l : Bool) → is_some (if_so w l) ≡ l
 live_some w true = refl
 live_some w false = refl
 
@@ -225,7 +225,7 @@ unkept m s names catalogue q (Some w) has lacks =
     )
 
 -- a response that lacks one lacks a name that is shown
-lacks_tells : (m : Entries) (s : Selection) (names : List (List ℕ)) → IsCatalogue m → lacks_one names (content m s) ≡ true → (q : List ℕ) × (is_shown_in m s q ≡ true) × (has_name names q ≡ false)
+pub lacks_tells : (m : Entries) (s : Selection) (names : List (List ℕ)) → IsCatalogue m → lacks_one names (content m s) ≡ true → (q : List ℕ) × (is_shown_in m s q ≡ true) × (has_name names q ≡ false)
 lacks_tells m s names catalogue lacks =
     let one = one_fails (keeps_name m s names) (finmap.entries m) (not_true _ (sym (content_lacks m s names) ∙ lacks)) in
     let both = unkept m s names catalogue one.0 (finmap.get m one.0) refl one.1 in
@@ -237,7 +237,7 @@ lacked_now true false e s h = never (sym e)
 lacked_now false has e s h = never (sym s)
 
 -- and one that lacks none lacks no such name
-lacks_none : (m : Entries) (s : Selection) (names : List (List ℕ)) → IsCatalogue m → lacks_one names (content m s) ≡ false → (q : List ℕ) → is_shown_in m s q ≡ true → has_name names q ≡ false → ⊥
+pub lacks_none : (m : Entries) (s : Selection) (names : List (List ℕ)) → IsCatalogue m → lacks_one names (content m s) ≡ false → (q : List ℕ) → is_shown_in m s q ≡ true → has_name names q ≡ false → ⊥
 lacks_none m s names catalogue none q shown absent =
     let has = shown_has m s q (finmap.get m q) refl shown in
     let w = has.0 in

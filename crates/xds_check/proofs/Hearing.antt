@@ -49,7 +49,7 @@ request_heard t m talks now r q is s = ap (λ x. talk_at x s) is ∙ changed tal
 pub answer_heard : (t : TypeName) (m : Entries) (talks now : Talks) (r : ℕ) (a : Answer) → now ≡ put_talk talks r (told t m a (talk_at talks r)) → IsHeard t m (lines.Response r a) talks now
 answer_heard t m talks now r a is s = ap (λ x. talk_at x s) is ∙ changed talks r (told t m a) s
 
-nothing_in : {X : Type 0} (xs : List X) → length xs ≡ 0 → xs ≡ []
+pub nothing_in : {X : Type 0} (xs : List X) → length xs ≡ 0 → xs ≡ []
 nothing_in [] none = refl
 nothing_in (x ∷ xs) none = absurd (omega (arith, none))
 

@@ -7,3 +7,4 @@ mod Deciding
 mod Passing
 mod Joining
 mod Hearing
+mod Living

@@ -1,16 +1,15 @@
 -- What marks say once they were put at names.
 use Rattle.std.proofs.Common.{◌≡◌, ℕ, List, [], ◌∷◌, Bool, true, false, cond, Option, Some, None, refl, sym, ap, ◌∙◌}
-use Rattle.std.specs.Prelude.{is_some, not, ◌&&◌, ◌||◌, bytes_eq}
-use Rattle.std.specs.List.{list_any}
+use Rattle.std.specs.Prelude.{is_some, ◌&&◌, ◌||◌, bytes_eq}
 use Rattle.std.specs.FinMap as finmap
 use Rattle.std.specs.FinSet as set
-use Rattle.xds_resource.specs.Writes.{StampedWrite, text_cmp}
+use Rattle.xds_resource.specs.Writes.{text_cmp}
 use Rattle.xds_resource.specs.Names.{put_each}
 use Rattle.xds_resource.proofs.MadeMaps.{get-put_each}
 use Rattle.xds_resource.proofs.NameMaps.{get-remove, bytes_eq_tells, bytes_eq_swap}
 use Rattle.xds_interest.specs.Interests.{has_name}
 use Rattle.xds_interest.proofs.Texts.{contains-from_texts}
-use Rattle.xds_check.specs.Kept.{Marks, without_each, lacks_one}
+use Rattle.xds_check.specs.Kept.{Marks, without_each}
 
 there : (b : Bool) → is_some (cond b (Some true) None) ≡ b
 there true = refl
@@ -23,12 +22,6 @@ marked_names ns q = ap is_some (get-put_each (λ _. Some true) finmap.empty ns q
 pub marked_set : (m : Marks) (ns : List (List ℕ)) (s : set.FinSet text_cmp) → put_each (λ _. Some true) finmap.empty ns ≡ m → set.from_list ns ≡ s → (q : List ℕ) → is_some (finmap.get m q) ≡ set.contains s q
 marked_set m ns s is same q =
     ap (λ x. is_some (finmap.get x q)) (sym is) ∙ marked_names ns q ∙ sym (contains-from_texts ns q) ∙ ap (λ x. set.contains x q) same
-
--- where names are marked, what isn't marked is lacking
-pub lacking : (names : Marks) (stated : List (List ℕ)) (ws shown : List StampedWrite) (whole : Bool) (b : Bool) → b ≡ list_any (λ w. not (is_some (finmap.get names w.name))) shown
-    → ((q : List ℕ) → is_some (finmap.get names q) ≡ has_name stated q) → shown ≡ ws → whole ≡ true → b ≡ (whole && lacks_one stated ws)
-lacking names stated ws shown whole b is same all is_so =
-    is ∙ (λ i. list_any (λ w. not (same w.name i)) (all i)) ∙ sym (ap (λ x. x && lacks_one stated ws) is_so)
 
 -- ---- names that were taken out
 

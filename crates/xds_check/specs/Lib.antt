@@ -1,3 +1,4 @@
 pub mod Writes
 pub mod Kept
+pub mod LiveNames
 pub mod Verdicts

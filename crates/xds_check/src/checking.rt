@@ -7,11 +7,13 @@ ghost use Rattle.xds_resource.specs.Types.{is_same_type};
 ghost use Rattle.xds_catalogue.specs.Holdings.{nothing_held};
 ghost use Rattle.xds_catalogue.specs.Joins.{joined};
 ghost use Rattle.xds_check.specs.Kept.{unheard, talk_at, least, none_missed, broken_in, held_after, IsHeard, asked, told};
+ghost use Rattle.xds_check.specs.LiveNames.{AreLive, no_names};
 ghost use Rattle.xds_check.specs.Verdicts.{TellsFirst, found_of, earlier_of, IsVerdict};
 
 use crate::by_stream::ByStream;
 use crate::by_type::ByType;
 use crate::judging;
+use crate::live_names::LiveNames;
 use crate::talk::Talk;
 use std::alloc::Global;
 use xds_catalogue::Catalogue;
@@ -33,13 +35,15 @@ pub struct Broken {
 fn broken_at_first<T: ResourceType>(
     alloc: Global,
     catalogue: &Catalogue<T>,
+    live_names: &LiveNames,
     answer: &Answer,
 ) -> Result<Option<Rule>, Refusal>
+    requires { AreLive catalogue.now.entries live_names.now }
     ensures ok { IfOk result (λ r. r ≡ least T.TYPE catalogue.now.entries unheard answer.now) }
     ensures refused { IfErr result (λ e. e ≡ OutOfMemory) }
 {
     let talk = Talk::new(alloc);
-    let told = judging::broken_by(alloc, catalogue, &talk, answer);
+    let told = judging::broken_by(alloc, catalogue, live_names, &talk, answer);
     drop(talk);
     told
 }
@@ -48,16 +52,18 @@ fn broken_at_first<T: ResourceType>(
 fn broken_by<T: ResourceType>(
     alloc: Global,
     catalogue: &Catalogue<T>,
+    live_names: &LiveNames,
     talks: &ByStream<Talk<T>>,
     stream: u64,
     answer: &Answer,
 ) -> Result<Option<Rule>, Refusal>
+    requires { AreLive catalogue.now.entries live_names.now }
     ensures ok { IfOk result (λ r. r ≡ least T.TYPE catalogue.now.entries (talk_at talks.now stream) answer.now) }
     ensures refused { IfErr result (λ e. e ≡ OutOfMemory) }
 {
     match talks.get(stream) {
-        Some(talk) => judging::broken_by(alloc, catalogue, talk, answer),
-        None => broken_at_first(alloc, catalogue, answer),
+        Some(talk) => judging::broken_by(alloc, catalogue, live_names, talk, answer),
+        None => broken_at_first(alloc, catalogue, live_names, answer),
     }
 }
 
@@ -85,9 +91,11 @@ fn is_same(kind: TypeName, other: TypeName) -> bool
 fn broken_at<T: ResourceType>(
     alloc: Global,
     catalogue: &Catalogue<T>,
+    live_names: &LiveNames,
     talks: &ByStream<Talk<T>>,
     line: &Line,
 ) -> Result<Option<Rule>, Refusal>
+    requires { AreLive catalogue.now.entries live_names.now }
     ensures ok { IfOk result (λ r. r ≡ broken_in T.TYPE catalogue.now.entries talks.now line.now) }
     ensures refused { IfErr result (λ e. e ≡ OutOfMemory) }
 {
@@ -96,7 +104,7 @@ fn broken_at<T: ResourceType>(
             if !is_same(answer.kind(), T::TYPE) {
                 return Ok(None);
             }
-            broken_by(alloc, catalogue, talks, *stream, answer)
+            broken_by(alloc, catalogue, live_names, talks, *stream, answer)
         }
         Line::Idle(stream, kind) => {
             if !is_same(*kind, T::TYPE) || none_missed(catalogue, talks, *stream) {
@@ -176,21 +184,82 @@ fn take_answer<T: ResourceType>(
     }
 }
 
+// Takes the name of what stands under it out of the live names.
+fn take_name<T: ResourceType>(
+    alloc: Global,
+    catalogue: &Catalogue<T>,
+    live_names: &mut LiveNames,
+    name: &str,
+) -> Result<(), Refusal>
+    requires { AreLive catalogue.now.entries live_names.old }
+    ensures ok { OnOk result (AreLive (finmap.remove catalogue.now.entries name.now) live_names.new) }
+    ensures refused { IfErr result (λ e. e ≡ OutOfMemory) }
+{
+    match catalogue.get(name) {
+        Some(write) => live_names.set(alloc, name, write.groups(), false),
+        None => Ok(()),
+    }
+}
+
+// Puts the name of what stands under it into the live names, if that lives.
+fn put_name<T: ResourceType>(
+    alloc: Global,
+    catalogue: &Catalogue<T>,
+    live_names: &mut LiveNames,
+    name: &str,
+) -> Result<(), Refusal>
+    requires { AreLive (finmap.remove catalogue.now.entries name.now) live_names.old }
+    ensures ok { OnOk result (AreLive catalogue.now.entries live_names.new) }
+    ensures refused { IfErr result (λ e. e ≡ OutOfMemory) }
+{
+    match catalogue.get(name) {
+        Some(write) => {
+            if write.body().is_none() {
+                return Ok(());
+            }
+            live_names.set(alloc, name, write.groups(), true)
+        }
+        None => Ok(()),
+    }
+}
+
+// Joins a copy of a write, and keeps the names of the live ones.
+fn take_one<T: ResourceType>(
+    alloc: Global,
+    catalogue: &mut Catalogue<T>,
+    live_names: &mut LiveNames,
+    write: &Write<T>,
+) -> Result<(), Refusal>
+    requires room { catalogue.old.changes < max_counter }
+    requires live { AreLive catalogue.old.entries live_names.old }
+    ensures ok { OnOk result (catalogue.new ≡ joined catalogue.old (write.now ∷ [])) }
+    ensures live { OnOk result (AreLive catalogue.new.entries live_names.new) }
+    ensures refused { IfErr result (λ e. e ≡ OutOfMemory) }
+{
+    let name = write.name();
+    take_name(alloc, catalogue, live_names, name)?;
+    join(alloc, catalogue, write)?;
+    put_name(alloc, catalogue, live_names, name)
+}
+
 // Joins the write that a line is, if it is one of the type.
 fn take_write<T: ByType>(
     alloc: Global,
     catalogue: &mut Catalogue<T>,
+    live_names: &mut LiveNames,
     line: &Line,
 ) -> Result<(), Refusal>
-    requires { catalogue.old.changes < max_counter }
+    requires room { catalogue.old.changes < max_counter }
+    requires live { AreLive catalogue.old.entries live_names.old }
     ensures ok { OnOk result (catalogue.new ≡ held_after T.TYPE line.now catalogue.old) }
+    ensures live { OnOk result (AreLive catalogue.new.entries live_names.new) }
     ensures refused { IfErr result (λ e. e ≡ OutOfMemory) }
 {
     let Line::Write(write) = line else {
         return Ok(());
     };
     match T::write_of(write) {
-        Some(write) => join(alloc, catalogue, write),
+        Some(write) => take_one(alloc, catalogue, live_names, write),
         None => Ok(()),
     }
 }
@@ -219,20 +288,23 @@ fn take_talk<T: ResourceType>(
 fn take_line<T: ByType>(
     alloc: Global,
     catalogue: &mut Catalogue<T>,
+    live_names: &mut LiveNames,
     talks: &mut ByStream<Talk<T>>,
     line: &Line,
 ) -> Result<Option<Rule>, Refusal>
-    requires { catalogue.old.changes < max_counter }
+    requires room { catalogue.old.changes < max_counter }
+    requires live { AreLive catalogue.old.entries live_names.old }
     ensures broken { IfOk result (λ r. r ≡ broken_in T.TYPE catalogue.old.entries talks.old line.now) }
     ensures heard { IfOk result (λ r. r ≡ None → IsHeard T.TYPE catalogue.old.entries line.now talks.old talks.new) }
     ensures held { IfOk result (λ r. r ≡ None → catalogue.new ≡ held_after T.TYPE line.now catalogue.old) }
+    ensures live { IfOk result (λ r. r ≡ None → AreLive catalogue.new.entries live_names.new) }
     ensures refused { IfErr result (λ e. e ≡ OutOfMemory) }
 {
-    if let Some(rule) = broken_at(alloc, catalogue, talks, line)? {
+    if let Some(rule) = broken_at(alloc, catalogue, live_names, talks, line)? {
         return Ok(Some(rule));
     }
     take_talk(alloc, catalogue, talks, line)?;
-    take_write(alloc, catalogue, line)?;
+    take_write(alloc, catalogue, live_names, line)?;
     Ok(None)
 }
 
@@ -240,16 +312,18 @@ fn take_line<T: ByType>(
 fn pass<T: ByType>(
     alloc: Global,
     catalogue: &mut Catalogue<T>,
+    live_names: &mut LiveNames,
     talks: &mut ByStream<Talk<T>>,
     lines: &[Line],
 ) -> Result<Option<Broken>, Refusal>
     requires nothing_held { catalogue.old ≡ nothing_held }
+    requires none_live { live_names.old ≡ no_names }
     requires nothing_heard { talks.old ≡ finmap.empty }
     ensures ok { IfOk result (λ r. TellsFirst (λ u. is_same_type u T.TYPE) lines.now (found_of r)) }
     ensures refused { IfErr result (λ e. e ≡ OutOfMemory) }
 {
     for (i, line) in lines.iter().enumerate() {
-        if let Some(rule) = take_line(alloc, catalogue, talks, line)? {
+        if let Some(rule) = take_line(alloc, catalogue, live_names, talks, line)? {
             return Ok(Some(Broken { line: i + 1, rule }));
         }
     }
@@ -262,9 +336,11 @@ fn first_broken<T: ByType>(alloc: Global, lines: &[Line]) -> Result<Option<Broke
     ensures refused { IfErr result (λ e. e ≡ OutOfMemory) }
 {
     let mut catalogue = Catalogue::<T>::new(alloc);
+    let mut live_names = LiveNames::new(alloc);
     let mut talks = ByStream::new(alloc);
-    let told = pass(alloc, &mut catalogue, &mut talks, lines);
+    let told = pass(alloc, &mut catalogue, &mut live_names, &mut talks, lines);
     drop(catalogue);
+    drop(live_names);
     drop(talks);
     told
 }

@@ -9,8 +9,11 @@ ghost use Rattle.xds_interest.specs.Interests.{has_name};
 ghost use Rattle.xds_catalogue.specs.Content.{live_at};
 ghost use Rattle.xds_rules.specs.Rules as rules;
 ghost use Rattle.xds_check.specs.Kept as kept;
+ghost use Rattle.xds_check.specs.LiveNames as living;
+ghost use Rattle.xds_check.specs.LiveNames.{AreLive};
 ghost use Rattle.xds_check.specs.Kept.{is_best_in, is_covered_in, is_shown_in, least_by_names, least_by_order, least};
 
+use crate::live_names::LiveNames;
 use crate::marks::is_marked;
 use crate::offering::{is_same, offer_of};
 use crate::talk::Talk;
@@ -128,34 +131,64 @@ fn names_of(alloc: Global, statements: &[Statement]) -> Result<NameMap<bool>, Re
     Ok(names)
 }
 
-// Whether some names lack that of one of some writes.
-fn lacks_one<T: ResourceType>(names: &NameMap<bool>, writes: &[&Write<T>]) -> bool
-    ensures { result ≡ list_any (λ w. not (is_some (finmap.get names.now w.name))) (map (λ w. w.now) writes.now) }
+// Whether the names of a response have one, where that lives.
+fn has_if_live<T: ResourceType>(
+    catalogue: &Catalogue<T>,
+    stated: &NameMap<bool>,
+    name: &str,
+) -> bool
+    ensures { result ≡ living.has_if_live catalogue.now.entries stated.now name.now }
 {
-    for write in writes {
-        if !names.contains(write.name()) {
-            return true;
+    live(catalogue, name).is_none() || stated.contains(name)
+}
+
+// Whether they have all explicit names that live.
+fn has_explicit<T: ResourceType>(
+    catalogue: &Catalogue<T>,
+    interest: &Interest<T>,
+    stated: &NameMap<bool>,
+) -> bool
+    ensures { result ≡ living.has_explicit catalogue.now.entries interest.now stated.now }
+{
+    for name in interest.names() {
+        if !has_if_live(catalogue, stated, name.as_str()) {
+            return false;
         }
     }
-    false
+    true
+}
+
+// Whether they have all that is live and covered. It looks at explicit names, and, up to the first that is lacking, at names that
+// the response has: not at all that stand in the catalogue.
+fn has_shown<T: ResourceType>(
+    catalogue: &Catalogue<T>,
+    live_names: &LiveNames,
+    interest: &Interest<T>,
+    stated: &NameMap<bool>,
+) -> bool
+    ensures { result ≡ living.has_shown catalogue.now.entries live_names.now interest.now stated.now }
+{
+    has_explicit(catalogue, interest, stated)
+        && (!interest.has_star() || live_names.are_in(interest.cluster(), stated))
 }
 
 // Whether a whole response lacks a name that is live and covered.
 fn lacks_a_name<T: ResourceType>(
     alloc: Global,
     catalogue: &Catalogue<T>,
+    live_names: &LiveNames,
     interest: &Interest<T>,
     answer: &Answer,
 ) -> Result<bool, Refusal>
+    requires { AreLive catalogue.now.entries live_names.now }
     ensures ok { IfOk result (λ b. b ≡ kept.lacks_a_name T.TYPE catalogue.now.entries interest.now answer.now) }
     ensures refused { IfErr result (λ e. e ≡ OutOfMemory) }
 {
     if !answer.variant().is_whole(T::TYPE) {
         return Ok(false);
     }
-    let shown = catalogue.content(alloc, interest)?;
-    let names = names_of(alloc, answer.statements())?;
-    Ok(lacks_one(&names, &shown))
+    let stated = names_of(alloc, answer.statements())?;
+    Ok(!has_shown(catalogue, live_names, interest, &stated))
 }
 
 // Whether a name is live and covered.
@@ -211,9 +244,11 @@ fn offers_refused<T: ResourceType>(
 fn broken_by_names<T: ResourceType>(
     alloc: Global,
     catalogue: &Catalogue<T>,
+    live_names: &LiveNames,
     interest: &Interest<T>,
     answer: &Answer,
 ) -> Result<Option<Rule>, Refusal>
+    requires { AreLive catalogue.now.entries live_names.now }
     ensures ok { IfOk result (λ r. r ≡ least_by_names T.TYPE catalogue.now.entries interest.now answer.now) }
     ensures refused { IfErr result (λ e. e ≡ OutOfMemory) }
 {
@@ -223,7 +258,7 @@ fn broken_by_names<T: ResourceType>(
     if states_uncovered(catalogue, interest, answer.statements()) {
         return Ok(Some(Rule::CoveredResources));
     }
-    if lacks_a_name(alloc, catalogue, interest, answer)? {
+    if lacks_a_name(alloc, catalogue, live_names, interest, answer)? {
         return Ok(Some(Rule::WholeResponse));
     }
     if removes_shown(catalogue, interest, answer.removed()) {
@@ -255,16 +290,18 @@ fn broken_by_order<T: ResourceType>(
 pub(crate) fn broken_by<T: ResourceType>(
     alloc: Global,
     catalogue: &Catalogue<T>,
+    live_names: &LiveNames,
     talk: &Talk<T>,
     answer: &Answer,
 ) -> Result<Option<Rule>, Refusal>
+    requires { AreLive catalogue.now.entries live_names.now }
     ensures ok { IfOk result (λ r. r ≡ least T.TYPE catalogue.now.entries talk.now answer.now) }
     ensures refused { IfErr result (λ e. e ≡ OutOfMemory) }
 {
     if is_stale(talk, answer.nonce()) {
         return Ok(Some(Rule::FreshNonce));
     }
-    if let Some(rule) = broken_by_names(alloc, catalogue, talk.wanted(), answer)? {
+    if let Some(rule) = broken_by_names(alloc, catalogue, live_names, talk.wanted(), answer)? {
         return Ok(Some(rule));
     }
     broken_by_order(alloc, catalogue, talk, answer)

@@ -6,6 +6,7 @@ mod by_stream;
 mod by_type;
 pub mod checking;
 mod judging;
+mod live_names;
 mod marks;
 mod offering;
 mod talk;

@@ -1,0 +1,61 @@
+// A run of the program, over an input in memory.
+use std::alloc::{AllocGlobal, Global};
+use std::io::Read;
+use std::net::{Net, TcpListener, TcpStream};
+use std::random::RandomSource;
+use std::sync::Wait;
+use std::test::Fail;
+use std::thread::Threads;
+use std::time::Clock;
+use xds_cases::cases::{replaced, words_of, written_out};
+use xds_commands::run;
+use xds_frames::Counted;
+use xds_resource::Refusal;
+
+/// The status of a run over these words and this input, its output and its error output, with `~` for a line feed.
+pub(crate) fn ran<R, I>(rt: &R, line: &str, input: I) -> Result<String, Refusal>
+where
+    R: Wait
+        + Threads
+        + Clock
+        + Net<Listener = TcpListener, Stream = TcpStream>
+        + RandomSource
+        + AllocGlobal
+        + Copy
+        + Drop
+        + Send
+        + Sync
+        + 'static,
+    I: Read + Drop + Send + 'static,
+{
+    let alloc = rt.alloc();
+    let words = words_of(alloc, line)?;
+    let mut output = Counted::new(Vec::new(alloc));
+    let mut errors = Counted::new(Vec::new(alloc));
+    let status = run(rt, words.as_slice(), input, &mut output, &mut errors);
+    told(alloc, status, output.inner, errors.inner)
+}
+
+fn told(alloc: Global, status: u8, output: Vec<u8>, errors: Vec<u8>) -> Result<String, Refusal> {
+    let output = text_of(output)?;
+    let errors = text_of(errors)?;
+    let told = format!(in alloc; "{status} {output}{errors}")?;
+    replaced(alloc, told.as_str(), "\n", "~")
+}
+
+fn text_of(bytes: Vec<u8>) -> Result<String, Refusal> {
+    match String::from_utf8(bytes) {
+        Ok(text) => Ok(text),
+        Err(_) => Err(Refusal::BadMessage),
+    }
+}
+
+/// That a run told what is wanted, in which the words of the types stand for their URLs.
+pub(crate) fn is_told(alloc: Global, found: &str, wanted: &str) -> Result<(), Fail> {
+    let wanted = written_out(alloc, wanted)?;
+    if found == wanted.as_str() {
+        Ok(())
+    } else {
+        Err(Fail::new(format_args!("{found} and not {wanted}")))
+    }
+}

@@ -1,0 +1,68 @@
+// Polls where the journal is full.
+ghost use Rattle.std.specs.Prelude.{◌≡◌};
+
+use crate::calls::{by_node, standing};
+use crate::server::same;
+use std::alloc::Global;
+use std::marker::Brand;
+use std::sync::Wait;
+use std::test::Fail;
+use xds_core::Event;
+use xds_node::{Line, MOST_RECORDS, Node, NodeName, Opened, Seat};
+use xds_posts::answer_at;
+use xds_resource::Refusal;
+
+// Makes as many records as a journal holds.
+fn fill<N: NodeName, R: Wait>(rt: &R, node: &Node<N>, seat: &mut Seat<N>) -> Result<(), Refusal> {
+    for _ in 0..MOST_RECORDS {
+        if node.call(rt, seat, Event::Close(9)).is_err() {
+            return Err(Refusal::BadTrace);
+        }
+    }
+    Ok(())
+}
+
+// Why a poll at a full journal has no reply by a seat, if it has none.
+fn refused<N: NodeName, R: Wait>(
+    rt: &R,
+    alloc: Global,
+    node: &Node<N>,
+) -> Result<Option<Refusal>, Refusal> {
+    let mut seat = node.seat(rt)?;
+    fill(rt, node, &mut seat)?;
+    let path = "/v3/discovery:secrets";
+    Ok(answer_at(rt, alloc, node, &mut seat, "POST", path, b"{}").err())
+}
+
+// How many records stand once the node was asked at a full journal, after a call alone found no room there.
+fn cut_for_a_request<N: NodeName, R: Wait>(
+    rt: &R,
+    alloc: Global,
+    node: &Node<N>,
+) -> Result<usize, Fail> {
+    if refused(rt, alloc, node)? != Some(Refusal::JournalFull) {
+        return Err(Fail::from("a call found room"));
+    }
+    let found = by_node(rt, alloc, node, "POST /v3/discovery:secrets {}")?;
+    let wanted =
+        "200 {\"typeUrl\":\"type.googleapis.com/envoy.extensions.transport_sockets.tls.v3.Secret\",\"versionInfo\":\"1.0.named\"}";
+    same(found.as_str(), wanted, "a full journal")?;
+    Ok(standing(rt, node)?)
+}
+
+fn full<N: NodeName, R: Wait>(rt: &R, alloc: Global, opened: Opened<Line>) -> Result<usize, Fail>
+    requires { opened ≡ N.id }
+{
+    let node = Node::<N>::new(alloc, opened, 1)?;
+    let records = cut_for_a_request(rt, alloc, &node);
+    drop(node);
+    records
+}
+
+#[test]
+fn a_full_journal_is_cut_for_a_request(rt: HostRuntime) -> Result<(), Fail> {
+    let opened = Opened::<Line>::new(rt.alloc())?;
+    let records = full::<Brand, _>(&rt, rt.alloc(), opened)?;
+    assert!(rt; records == 1, "the poll is the first record after the cut");
+    Ok(())
+}

@@ -1,0 +1,66 @@
+// A poll for which no memory is found. With ample memory it is answered at once; `rt try --test --fail-alloc N` refuses the N-th
+// allocation. The poll that comes again is answered as if the first had not been.
+ghost use Rattle.std.specs.Prelude.{◌≡◌};
+
+use crate::calls::shown;
+use crate::server::same;
+use std::alloc::Global;
+use std::marker::Brand;
+use std::sync::Wait;
+use std::test::Fail;
+use xds_node::{Line, Node, NodeName, Opened};
+use xds_posts::{answer_at, reply_at};
+use xds_resource::Refusal;
+
+const PATH: &str = "/v3/discovery:secrets";
+
+const NONE_HELD: &str =
+    "200 {\"typeUrl\":\"type.googleapis.com/envoy.extensions.transport_sockets.tls.v3.Secret\",\"versionInfo\":\"1.0.named\"}";
+
+// Whether the first poll by a seat was refused. The second is answered.
+fn by_seat<N: NodeName, R: Wait>(rt: &R, alloc: Global, node: &Node<N>) -> Result<bool, Fail> {
+    let mut seat = node.seat(rt)?;
+    let first = answer_at(rt, alloc, node, &mut seat, "POST", PATH, b"{}");
+    let refused = matches!(first, Err(Refusal::OutOfMemory));
+    drop(first);
+    let again = answer_at(rt, alloc, node, &mut seat, "POST", PATH, b"{}")?;
+    same(shown(alloc, again)?.as_str(), NONE_HELD, PATH)?;
+    Ok(refused)
+}
+
+// The same by the node alone.
+fn by_node<N: NodeName, R: Wait>(rt: &R, alloc: Global, node: &Node<N>) -> Result<bool, Fail> {
+    let first = reply_at(rt, alloc, node, "POST", PATH, b"{}");
+    let unavailable = first.status == 503;
+    drop(first);
+    let again = reply_at(rt, alloc, node, "POST", PATH, b"{}");
+    same(shown(alloc, again)?.as_str(), NONE_HELD, PATH)?;
+    Ok(unavailable)
+}
+
+fn either<N: NodeName, R: Wait>(rt: &R, alloc: Global, node: &Node<N>) -> Result<bool, Fail> {
+    let refused = by_seat(rt, alloc, node)?;
+    Ok(by_node(rt, alloc, node)? || refused)
+}
+
+fn comes_again<N: NodeName, R: Wait>(
+    rt: &R,
+    alloc: Global,
+    opened: Opened<Line>,
+) -> Result<bool, Fail>
+    requires { opened ≡ N.id }
+{
+    let node = Node::<N>::new(alloc, opened, 1)?;
+    let refused = either(rt, alloc, &node);
+    drop(node);
+    refused
+}
+
+#[test]
+fn a_poll_without_memory(rt: HostRuntime) -> Result<(), Fail> {
+    let opened = Opened::<Line>::new(rt.alloc())?;
+    if comes_again::<Brand, _>(&rt, rt.alloc(), opened)? {
+        println!(rt; "refused, and went on")?;
+    }
+    Ok(())
+}

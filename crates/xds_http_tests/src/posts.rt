@@ -1,0 +1,52 @@
+// Requests over a socket, each over a connection of its own.
+ghost use Rattle.std.specs.Prelude.{◌≡◌};
+
+use crate::server::{begun, same, started, told, written};
+use std::alloc::AllocGlobal;
+use std::marker::Brand;
+use std::net::{Net, SocketAddr, TcpListener, TcpStream};
+use std::test::Fail;
+use xds_cases::cases::written_out;
+use xds_node::{Line, Opened};
+
+// Sends each request, and compares its reply with what is wanted.
+pub(crate) fn hold<R>(rt: &R, server: SocketAddr, cases: &str) -> Result<(), Fail>
+where
+    R: Net<Listener = TcpListener, Stream = TcpStream> + AllocGlobal,
+{
+    for case in cases.lines() {
+        let case = written_out(rt.alloc(), case)?;
+        let (given, wanted) = case.as_str().split_once(" => ").ok_or("no outcome")?;
+        let sent = written(rt.alloc(), given, true)?;
+        let found = told(rt.alloc(), begun(rt, server, sent.as_str().as_bytes())?)?;
+        same(found.as_str(), wanted, given)?;
+    }
+    Ok(())
+}
+
+// Replica 1 holds the cluster `a`, put once.
+const POSTS: &str =
+    r#"POST /v3/discovery:clusters {} => 200 {"resources":[{"@type":"CDS","name":"a"}],"typeUrl":"CDS","versionInfo":"1.1"}
+POST /v3/discovery:clusters {"versionInfo":"1.1"} => 304
+POST /v3/discovery:clusters {"resourceNames":["a"],"versionInfo":"1.1"} => 200 {"resources":[{"@type":"CDS","name":"a"}],"typeUrl":"CDS","versionInfo":"1.1.named"}
+POST /v3/discovery:clusters {"resourceNames":["*"],"versionInfo":"1.1"} => 304
+POST /v3/discovery:clusters {"resourceNames":["*","a"],"versionInfo":"1.1"} => 304
+POST /v3/discovery:clusters {"node":{"cluster":"g1","id":"1"},"versionInfo":"1.1@g1"} => 304
+GET /v3/discovery:clusters => 405
+PUT /v3/discovery:clusters {} => 405
+HEAD /v3/discovery:clusters => 405
+POST /v3/discovery:scoped {} => 404
+GET / => 404
+POST /v3/discovery:clusters?x=1 {} => 200 {"resources":[{"@type":"CDS","name":"a"}],"typeUrl":"CDS","versionInfo":"1.1"}
+POST /v3/discovery:clusters => 400 {"code":1,"name":"NotJson"}
+POST /v3/discovery:clusters [] => 400 {"code":7,"name":"BadMessage"}
+POST /v3/discovery:clusters {"typeUrl":"RDS"} => 400 {"code":7,"name":"BadMessage"}
+POST /v3/discovery:routes {"resourceNames":["q"]} => 200 {"typeUrl":"RDS","versionInfo":"1.0.named"}
+POST /v3/discovery:secrets {} => 200 {"typeUrl":"SDS","versionInfo":"1.0.named"}"#;
+
+#[test]
+fn posts_are_answered_over_a_socket(rt: HostRuntime) -> Result<(), Fail> {
+    let opened = Opened::<Line>::new(rt.alloc())?;
+    let server = started::<Brand, _>(&rt, opened)?;
+    hold(&rt, server, POSTS)
+}

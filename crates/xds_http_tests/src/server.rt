@@ -1,0 +1,174 @@
+// A server over a socket, and a client that writes what it is told to.
+ghost use Rattle.std.specs.Prelude.{◌≡◌};
+
+use std::alloc::{AllocGlobal, Global};
+use std::io::{Read, Write};
+use std::net::{Ipv4Addr, Net, SocketAddr, TcpListener, TcpStream};
+use std::random::RandomSource;
+use std::sync::{Arc, Wait};
+use std::test::Fail;
+use std::thread;
+use std::thread::Threads;
+use std::time::Clock;
+use xds_core::{Event, Reply};
+use xds_http::{Replies, serve_on};
+use xds_node::{Line, Node, NodeName, Opened, Seat};
+use xds_resource::{AnyResource, Groups, Refusal, TypeName};
+
+/// A cluster of this name, put for all.
+pub(crate) fn put<N: NodeName, R: Wait>(
+    rt: &R,
+    alloc: Global,
+    node: &Node<N>,
+    seat: &mut Seat<N>,
+    name: &str,
+) -> Result<(), Refusal> {
+    let url = TypeName::Cluster.url();
+    let text = format!(in alloc; "{{\"@type\":\"{url}\",\"name\":\"{name}\"}}")?;
+    let resource = AnyResource::parse(alloc, text.as_str())?;
+    match node.call(rt, seat, Event::Put(resource, Groups::none())) {
+        Ok(Ok(Reply::Written(_))) => Ok(()),
+        Ok(_) => Err(Refusal::BadTrace),
+        Err(unrecorded) => Err(unrecorded.refusal),
+    }
+}
+
+/// The value, where what was done with it went well.
+pub(crate) fn kept<V: Drop, E>(value: V, done: Result<(), E>) -> Result<V, E> {
+    match done {
+        Ok(()) => Ok(value),
+        Err(fault) => Err(fault),
+    }
+}
+
+// Puts the cluster `a` by a seat that lives no longer.
+fn put_a<N: NodeName, R: Wait>(rt: &R, alloc: Global, node: &Node<N>) -> Result<(), Refusal> {
+    let mut seat = node.seat(rt)?;
+    let done = put(rt, alloc, node, &mut seat, "a");
+    drop(seat);
+    done
+}
+
+/// A node of replica 1, at which the cluster `a` was put.
+pub(crate) fn node_with_a<N: NodeName, R: Wait>(
+    rt: &R,
+    alloc: Global,
+    opened: Opened<Line>,
+) -> Result<Node<N>, Refusal>
+    requires { opened ≡ N.id }
+{
+    let node = Node::<N>::new(alloc, opened, 1)?;
+    let done = put_a(rt, alloc, &node);
+    kept(node, done)
+}
+
+// Serves what replies in a thread of its own, until the process ends.
+fn serve_in_thread<R, A>(rt: &R, listener: TcpListener, replies: A) -> Result<(), Fail>
+where
+    R: Wait
+        + Threads
+        + Clock
+        + RandomSource
+        + AllocGlobal
+        + Copy
+        + Drop
+        + Send
+        + Sync
+        + Net<Listener = TcpListener, Stream = TcpStream>
+        + 'static,
+    A: Replies + Drop + Send + Sync + 'static,
+{
+    let shared = Arc::new(rt.alloc(), replies)?;
+    let host = *rt;
+    let _ = thread::spawn(rt, move || serve_on(&host, listener, shared))?;
+    Ok(())
+}
+
+/// Serves such a node in a thread of its own, at a port that the system picks, until the process ends.
+pub(crate) fn started<N, R>(rt: &R, opened: Opened<Line>) -> Result<SocketAddr, Fail>
+where
+    N: NodeName + Send + Sync + 'static,
+    R: Wait
+        + Threads
+        + Clock
+        + RandomSource
+        + AllocGlobal
+        + Copy
+        + Drop
+        + Send
+        + Sync
+        + Net<Listener = TcpListener, Stream = TcpStream>
+        + 'static,
+    requires { opened ≡ N.id }
+{
+    let listener = TcpListener::bind(rt, SocketAddr::from((Ipv4Addr::LOCALHOST, 0)))?;
+    let server = listener.local_addr()?;
+    let node = node_with_a::<N, R>(rt, rt.alloc(), opened)?;
+    serve_in_thread(rt, listener, node)?;
+    Ok(server)
+}
+
+/// Connects, writes these bytes, and leaves the connection open.
+pub(crate) fn begun<R>(rt: &R, server: SocketAddr, sent: &[u8]) -> Result<TcpStream, Fail>
+where
+    R: Net<Listener = TcpListener, Stream = TcpStream>,
+{
+    let mut socket = TcpStream::connect(rt, server)?;
+    socket.write_all(sent)?;
+    Ok(socket)
+}
+
+/// All that comes over a connection until the other side closes it: each response's status, and its body behind a space where it
+/// has one.
+pub(crate) fn told(alloc: Global, mut socket: TcpStream) -> Result<String, Fail> {
+    let mut got = Vec::new(alloc);
+    socket.read_to_end(&mut got)?;
+    let text = std::str::from_utf8(got.as_slice()).map_err(|_| "it is no text")?;
+    let mut all = String::new(alloc);
+    for response in text.split("HTTP/1.1 ") {
+        if let Some((head, body)) = response.split_once("\r\n\r\n") {
+            push(&mut all, head, body)?;
+        }
+    }
+    Ok(all)
+}
+
+// Adds a response.
+fn push(all: &mut String, head: &str, body: &str) -> Result<(), Fail> {
+    if !all.is_empty() {
+        all.push(' ')?;
+    }
+    let (status, _) = head.split_once(' ').ok_or("a response has no status")?;
+    all.push_str(status)?;
+    if !body.is_empty() {
+        all.push(' ')?;
+        all.push_str(body)?;
+    }
+    Ok(())
+}
+
+/// The method, the path and the body of a request, `METHOD PATH BODY`.
+pub(crate) fn parts(request: &str) -> Result<(&str, &str, &str), Fail> {
+    let (method, rest) = request.split_once(' ').ok_or("a request has no path")?;
+    let (path, body) = rest.split_once(' ').unwrap_or((rest, ""));
+    Ok((method, path, body))
+}
+
+/// A request as it is sent, and whether it is the last of its connection.
+pub(crate) fn written(alloc: Global, request: &str, last: bool) -> Result<String, Fail> {
+    let (method, path, body) = parts(request)?;
+    let connection = if last { "close" } else { "keep-alive" };
+    let length = body.len();
+    Ok(format!(in alloc;
+        "{method} {path} HTTP/1.1\r\nhost: h\r\nconnection: {connection}\r\ncontent-length: {length}\r\n\r\n{body}"
+    )?)
+}
+
+/// Fails unless what is told is what is wanted.
+pub(crate) fn same(found: &str, wanted: &str, given: &str) -> Result<(), Fail> {
+    if found == wanted {
+        Ok(())
+    } else {
+        Err(Fail::new(format_args!("{found} and not {wanted}, at {given}")))
+    }
+}

@@ -1,0 +1,13 @@
+// Tests of the server as a whole, over sockets. Nothing else stands here.
+#![tactic(auto)]
+
+#[cfg(test)]
+mod clients;
+#[cfg(test)]
+mod endings;
+#[cfg(test)]
+mod inputs;
+#[cfg(test)]
+mod servers;
+#[cfg(test)]
+mod streams;

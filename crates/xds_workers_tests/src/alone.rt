@@ -1,0 +1,253 @@
+// How worker threads end, each called alone.
+ghost use Rattle.std.specs.Prelude.{◌≡◌};
+
+use crate::calls::{open, put, refused};
+use crate::exchanges::crossed;
+use crate::gates::Open;
+use crate::short::Short;
+use crate::sites::Site;
+use crate::streams::REQUEST;
+use std::alloc::Global;
+use std::marker::Brand;
+use std::sync::Wait;
+use std::test::Fail;
+use xds_core::{Event, Request};
+use xds_frames::{Counted, Faulty, FrameKind, write_frame};
+use xds_link::link;
+use xds_message::DiscoveryRequest;
+use xds_node::{Line, Node, NodeName, Opened};
+use xds_resource::Refusal;
+use xds_workers::{
+    Ended, Host, Parcel, Receipt, called, exchange_in, exchange_out, serve_reader, serve_writer,
+};
+
+/// The refusal, if it is one.
+pub(crate) fn outcome<T: Drop>(answer: Result<T, Refusal>) -> Result<(), Refusal> {
+    match answer {
+        Ok(_) => Ok(()),
+        Err(refusal) => Err(refusal),
+    }
+}
+
+// What the reader of a stream answers where one request comes.
+fn reads<A: Host, R: Wait>(
+    rt: &R,
+    alloc: Global,
+    node: &A,
+    seat: &mut A::Seat,
+    stream: u64,
+) -> Result<(), Refusal> {
+    let frame = write_frame(alloc, FrameKind::DiscoveryRequest, REQUEST)?;
+    let mut reader = Counted::new(frame.as_slice());
+    serve_reader(rt, alloc, node, seat, stream, &mut reader, &Open)
+}
+
+// What the writer of a stream answers, of which this write fails, and how many bytes it wrote.
+fn writes<A: Host, R: Wait>(
+    rt: &R,
+    alloc: Global,
+    node: &A,
+    seat: &mut A::Seat,
+    stream: u64,
+    failing: u64,
+) -> (Result<(), Refusal>, usize) {
+    let mut writer = Counted::new(Faulty::new(Vec::new(alloc), failing));
+    let wrote = serve_writer(rt, alloc, node, seat, stream, &mut writer, &Open);
+    (wrote, writer.inner.inner.len())
+}
+
+// Opens a stream, and asks for the clusters on it.
+fn asked<A: Host, R: Wait>(
+    rt: &R,
+    alloc: Global,
+    node: &A,
+    seat: &mut A::Seat,
+) -> Result<u64, Refusal> {
+    let stream = open(rt, node, seat)?;
+    let request = Request::Sotw(DiscoveryRequest::read(alloc, REQUEST)?);
+    refused(node.call(rt, seat, Event::Request(stream, request)))?;
+    Ok(stream)
+}
+
+// What a reader and a writer answer, and how many bytes were written: where the stream isn't open, and where a write fails and
+// the stream is asked once more.
+#[derive(Drop)]
+struct Streams {
+    read: Result<(), Refusal>,
+    wrote: Result<(), Refusal>,
+    bytes: usize,
+    failed: Result<(), Refusal>,
+    after: Result<(), Refusal>,
+}
+
+fn streams_at<A: Site, R: Wait>(
+    rt: &R,
+    alloc: Global,
+    node: Result<A, Refusal>,
+) -> Result<Streams, Refusal> {
+    let node = node?;
+    let mut seat = node.seat(rt)?;
+    let read = reads(rt, alloc, &node, &mut seat, 9);
+    let (wrote, bytes) = writes(rt, alloc, &node, &mut seat, 9, 0);
+    let stream = asked(rt, alloc, &node, &mut seat)?;
+    let (failed, _) = writes(rt, alloc, &node, &mut seat, stream, 1);
+    let after = reads(rt, alloc, &node, &mut seat, stream);
+    Ok(Streams {
+        read,
+        wrote,
+        bytes,
+        failed,
+        after,
+    })
+}
+
+fn streams_of<N: NodeName, R: Wait>(
+    rt: &R,
+    alloc: Global,
+    opened: Opened<Line>,
+) -> Result<Streams, Refusal>
+    requires { opened ≡ N.id }
+{
+    streams_at(rt, alloc, Node::<N>::new(alloc, opened, 1))
+}
+
+#[test]
+fn a_stream_is_over_where_it_is_closed_or_a_write_fails(rt: HostRuntime) -> Result<(), Fail> {
+    let opened = Opened::<Line>::new(rt.alloc())?;
+    let came = streams_of::<Brand, _>(&rt, rt.alloc(), opened)?;
+    assert!(rt;
+        came.read == Err(Refusal::NoStream),
+        "there is no stream that is asked"
+    );
+    assert!(rt; came.wrote == Ok(()), "nor one that is written to");
+    assert!(rt; came.bytes == 0, "and nothing is written");
+    assert!(rt; came.failed == Err(Refusal::Device), "a write fails");
+    assert!(rt;
+        came.after == Err(Refusal::NoStream),
+        "then its stream is closed"
+    );
+    Ok(())
+}
+
+// What is answered where the journal is full and stays so.
+#[derive(Drop)]
+struct Full {
+    called: Result<(), Refusal>,
+    cuts: u64,
+    read: Result<(), Refusal>,
+    wrote: Result<(), Refusal>,
+    told: Result<Ended, Refusal>,
+    dropped: u64,
+    receipt: Option<Receipt>,
+}
+
+// An exchange of a node: what telling comes to, how many of the parcels of one empty batch were dropped, and the receipt.
+fn exchanged<A: Host, R: Wait>(
+    rt: &R,
+    alloc: Global,
+    node: &A,
+    seat: &mut A::Seat,
+) -> Result<(Result<Ended, Refusal>, u64, Option<Receipt>), Refusal> {
+    let ((mut out, mut receipts), (mut from, mut back)) = crossed(link(alloc), link(alloc))?;
+    let told = exchange_out(rt, alloc, node, seat, &mut out, &mut receipts, &Open);
+    let frame = write_frame(alloc, FrameKind::Batch, b"{}")?;
+    let _ = out.put(rt, Parcel { frame, last: true });
+    out.end(rt);
+    let dropped = exchange_in(rt, alloc, node, seat, &mut from, &mut back, &Open);
+    Ok((told, dropped, receipts.take(rt)))
+}
+
+fn full_at<A: Site, R: Wait>(
+    rt: &R,
+    alloc: Global,
+    node: Result<A, Refusal>,
+) -> Result<Full, Refusal> {
+    let node = node?;
+    let mut seat = node.seat(rt)?;
+    node.stop(rt);
+    let node = Short::new(node, 0);
+    let called = outcome(called(rt, &node, &Open, &mut seat, Event::Open));
+    let cuts = node.cuts(rt);
+    let read = reads(rt, alloc, &node, &mut seat, 1);
+    let (wrote, _) = writes(rt, alloc, &node, &mut seat, 1, 0);
+    let (told, dropped, receipt) = exchanged(rt, alloc, &node, &mut seat)?;
+    Ok(Full {
+        called,
+        cuts,
+        read,
+        wrote,
+        told,
+        dropped,
+        receipt,
+    })
+}
+
+fn full_of<N: NodeName, R: Wait>(
+    rt: &R,
+    alloc: Global,
+    opened: Opened<Line>,
+) -> Result<Full, Refusal>
+    requires { opened ≡ N.id }
+{
+    full_at(rt, alloc, Node::<N>::new(alloc, opened, 1))
+}
+
+#[test]
+fn a_journal_that_stays_full_is_told(rt: HostRuntime) -> Result<(), Fail> {
+    let opened = Opened::<Line>::new(rt.alloc())?;
+    let came = full_of::<Brand, _>(&rt, rt.alloc(), opened)?;
+    let refused = Err(Refusal::JournalFull);
+    assert!(rt; came.called == refused, "a call finds no room");
+    assert!(rt; came.cuts == 1, "in spite of a cut");
+    assert!(rt; came.read == refused, "nor does a request");
+    assert!(rt; came.wrote == refused, "nor a poll");
+    assert!(rt;
+        came.told == Err(Refusal::JournalFull),
+        "nor what asks what changed"
+    );
+    assert!(rt; came.dropped == 1, "nor a merge");
+    assert!(rt;
+        came.receipt == Some(Receipt::Lost),
+        "which is told as lost"
+    );
+    Ok(())
+}
+
+// What telling a peer comes to that is gone: where nothing is to be told, and where a cluster is.
+fn to_nobody<A: Site, R: Wait>(
+    rt: &R,
+    alloc: Global,
+    node: Result<A, Refusal>,
+) -> Result<(Ended, Ended), Refusal> {
+    let node = node?;
+    let mut seat = node.seat(rt)?;
+    node.stop(rt);
+    let ((mut out, mut receipts), (from, mut back)) = crossed(link(alloc), link(alloc))?;
+    back.end(rt);
+    drop(from.leave());
+    let nothing = exchange_out(rt, alloc, &node, &mut seat, &mut out, &mut receipts, &Open)?;
+    put(rt, alloc, &node, &mut seat, "a")?;
+    let something = exchange_out(rt, alloc, &node, &mut seat, &mut out, &mut receipts, &Open)?;
+    Ok((nothing, something))
+}
+
+fn to_nobody_of<N: NodeName, R: Wait>(
+    rt: &R,
+    alloc: Global,
+    opened: Opened<Line>,
+) -> Result<(Ended, Ended), Refusal>
+    requires { opened ≡ N.id }
+{
+    to_nobody(rt, alloc, Node::<N>::new(alloc, opened, 1))
+}
+
+#[test]
+fn a_peer_that_is_gone_is_told_where_there_is_something_to_tell(
+    rt: HostRuntime,
+) -> Result<(), Fail> {
+    let opened = Opened::<Line>::new(rt.alloc())?;
+    let (nothing, something) = to_nobody_of::<Brand, _>(&rt, rt.alloc(), opened)?;
+    assert!(rt; nothing == Ended::Stopped, "nothing was to be told");
+    assert!(rt; something == Ended::Unlinked, "nobody takes a cluster");
+    Ok(())
+}

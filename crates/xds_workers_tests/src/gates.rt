@@ -1,0 +1,90 @@
+// Gates of the tests.
+use std::sync::{Condvar, Mutex, Wait};
+use xds_workers::{Gate, Place};
+
+/// Lets every thread pass.
+pub(crate) struct Open;
+
+impl<S: Drop> Gate<S> for Open {
+    fn pass<R: Wait>(&self, _rt: &R, _place: Place, _stream: u64) {}
+
+    fn keep<R: Wait>(&self, _rt: &R, segment: S) {
+        drop(segment);
+    }
+}
+
+#[derive(Drop)]
+struct Counts {
+    reads: u64,
+    writes: u64,
+    is_free: bool,
+}
+
+/// Holds a read, from this one on, until so many frames are to be written, and each write until writes are free.
+#[derive(Drop)]
+pub(crate) struct Held {
+    counts: Mutex<Counts>,
+    changed: Condvar,
+    read: u64,
+    writes: u64,
+}
+
+impl Held {
+    pub(crate) fn new(read: u64, writes: u64, is_free: bool) -> Held {
+        Held {
+            counts: Mutex::new(Counts {
+                reads: 0,
+                writes: 0,
+                is_free,
+            }),
+            changed: Condvar::new(),
+            read,
+            writes,
+        }
+    }
+
+    /// Lets all writes pass from here on.
+    pub(crate) fn free<R: Wait>(&self, rt: &R) {
+        self.counts.lock(rt).is_free = true;
+        self.changed.notify_all();
+    }
+
+    fn before_read<R: Wait>(&self, rt: &R) {
+        let mut counts = self.counts.lock(rt);
+        counts.reads = counts.reads.saturating_add(1);
+        if counts.reads < self.read {
+            return;
+        }
+        for _ in rt.forever() {
+            if counts.writes >= self.writes {
+                return;
+            }
+            counts = self.changed.wait(rt, counts);
+        }
+    }
+
+    fn before_write<R: Wait>(&self, rt: &R) {
+        let mut counts = self.counts.lock(rt);
+        counts.writes = counts.writes.saturating_add(1);
+        self.changed.notify_all();
+        for _ in rt.forever() {
+            if counts.is_free {
+                return;
+            }
+            counts = self.changed.wait(rt, counts);
+        }
+    }
+}
+
+impl<S: Drop> Gate<S> for Held {
+    fn pass<R: Wait>(&self, rt: &R, place: Place, _stream: u64) {
+        match place {
+            Place::BeforeRead => self.before_read(rt),
+            Place::BeforeWrite => self.before_write(rt),
+        }
+    }
+
+    fn keep<R: Wait>(&self, _rt: &R, segment: S) {
+        drop(segment);
+    }
+}

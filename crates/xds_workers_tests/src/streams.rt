@@ -1,0 +1,276 @@
+// The two threads of a stream.
+ghost use Rattle.std.specs.Prelude.{◌≡◌};
+
+use crate::calls::open;
+use crate::gates::Held;
+use crate::sites::{Site, both};
+use std::alloc::Global;
+use std::io;
+use std::io::Read;
+use std::marker::Brand;
+use std::sync::Wait;
+use std::test::Fail;
+use std::thread::{Threads, join};
+use xds_frames::{Counted, FrameKind, write_frame};
+use xds_node::{Line, Node, NodeName, Opened};
+use xds_resource::Refusal;
+use xds_workers::{Host, serve_reader, serve_writer};
+
+pub(crate) const REQUEST: &[u8] =
+    b"{\"typeUrl\":\"type.googleapis.com/envoy.config.cluster.v3.Cluster\"}";
+
+const RESPONSE: &[u8] =
+    b"{\"nonce\":\"1\",\"typeUrl\":\"type.googleapis.com/envoy.config.cluster.v3.Cluster\",\"versionInfo\":\"1.0\"}";
+
+// A reader that gives its bytes in pieces of one size.
+#[derive(Drop)]
+struct Pieces<'a> {
+    bytes: &'a [u8],
+    size: usize,
+}
+
+impl Read for Pieces<'_> {
+    fn read(&mut self, buf: &mut [u8]) -> io::Result<usize> {
+        let count = self.size.min(self.bytes.len()).min(buf.len());
+        let (piece, rest) = self.bytes.split_at(count);
+        buf[..count].copy_from_slice(piece);
+        self.bytes = rest;
+        Ok(count)
+    }
+}
+
+// What a stream came to.
+#[derive(Drop)]
+struct Served {
+    read: Result<(), Refusal>,
+    wrote: Result<(), Refusal>,
+    output: Vec<u8>,
+}
+
+fn reads<A: Host, R: Wait>(
+    rt: &R,
+    alloc: Global,
+    node: &A,
+    seat: A::Seat,
+    stream: u64,
+    input: Pieces<'_>,
+    gate: &Held,
+) -> Result<(), Refusal> {
+    let mut seat = seat;
+    let mut reader = Counted::new(input);
+    serve_reader(rt, alloc, node, &mut seat, stream, &mut reader, gate)
+}
+
+fn writes<A: Host, R: Wait>(
+    rt: &R,
+    alloc: Global,
+    node: &A,
+    seat: A::Seat,
+    stream: u64,
+    gate: &Held,
+) -> (Result<(), Refusal>, Vec<u8>) {
+    let mut seat = seat;
+    let mut writer = Counted::new(Vec::new(alloc));
+    let wrote = serve_writer(rt, alloc, node, &mut seat, stream, &mut writer, gate);
+    (wrote, writer.inner)
+}
+
+// Serves an open stream by two threads, each with a seat.
+fn by_two<A: Host + Sync, R: Threads + Wait + Sync>(
+    rt: &R,
+    alloc: Global,
+    node: &A,
+    seats: (A::Seat, A::Seat),
+    stream: u64,
+    input: Pieces<'_>,
+    gate: &Held,
+) -> Served
+where
+    A::Seat: Send,
+    A::Segment: Send,
+{
+    let (one, other) = seats;
+    let (read, (wrote, output)) = join(
+        rt,
+        move || reads(rt, alloc, node, one, stream, input, gate),
+        move || writes(rt, alloc, node, other, stream, gate),
+    );
+    Served {
+        read,
+        wrote,
+        output,
+    }
+}
+
+// Serves a stream of a node that holds nothing. The read of this number waits until so many frames are to be written.
+fn serve_one<A: Site + Sync, R: Threads + Wait + Sync>(
+    rt: &R,
+    alloc: Global,
+    node: Result<A, Refusal>,
+    input: Pieces<'_>,
+    gate: &Held,
+) -> Result<Served, Refusal>
+where
+    A::Seat: Send,
+    A::Segment: Send,
+{
+    let node = node?;
+    let mut seats = both(node.seat(rt), node.seat(rt))?;
+    let stream = open(rt, &node, &mut seats.0)?;
+    Ok(by_two(rt, alloc, &node, seats, stream, input, gate))
+}
+
+fn serve<N: NodeName + Send + Sync, R: Threads + Wait + Sync>(
+    rt: &R,
+    alloc: Global,
+    opened: Opened<Line>,
+    input: Pieces<'_>,
+    gate: &Held,
+) -> Result<Served, Refusal>
+    requires { opened ≡ N.id }
+{
+    serve_one(rt, alloc, Node::<N>::new(alloc, opened, 1), input, gate)
+}
+
+// Serves two streams of a node that holds nothing. What is written to the first waits until the second was served whole.
+fn beside<A: Site + Sync, R: Threads + Wait + Sync>(
+    rt: &R,
+    alloc: Global,
+    node: Result<A, Refusal>,
+    bytes: &[u8],
+) -> Result<(Served, Served), Refusal>
+where
+    A::Seat: Send,
+    A::Segment: Send,
+{
+    let node = node?;
+    let (mut seats, others) = both(
+        both(node.seat(rt), node.seat(rt)),
+        both(node.seat(rt), node.seat(rt)),
+    )?;
+    let first = open(rt, &node, &mut seats.0)?;
+    let second = open(rt, &node, &mut seats.0)?;
+    let held = Held::new(2, 1, false);
+    let free = Held::new(2, 1, true);
+    let (shared, slow, quick) = (&node, &held, &free);
+    let input = Pieces { bytes, size: 4096 };
+    let same = Pieces { bytes, size: 4096 };
+    Ok(join(
+        rt,
+        move || by_two(rt, alloc, shared, seats, first, input, slow),
+        move || {
+            let served = by_two(rt, alloc, shared, others, second, same, quick);
+            slow.free(rt);
+            served
+        },
+    ))
+}
+
+fn serve_beside<N: NodeName + Send + Sync, R: Threads + Wait + Sync>(
+    rt: &R,
+    alloc: Global,
+    opened: Opened<Line>,
+    bytes: &[u8],
+) -> Result<(Served, Served), Refusal>
+    requires { opened ≡ N.id }
+{
+    beside(rt, alloc, Node::<N>::new(alloc, opened, 1), bytes)
+}
+
+// The same of these bytes, in pieces of this size.
+fn serve_in_pieces<R: Threads + Wait + Sync>(
+    rt: &R,
+    alloc: Global,
+    bytes: &[u8],
+    size: usize,
+    reads: u64,
+    writes: u64,
+) -> Result<Served, Refusal> {
+    let opened = Opened::<Line>::new(alloc)?;
+    serve::<Brand, _>(
+        rt,
+        alloc,
+        opened,
+        Pieces { bytes, size },
+        &Held::new(reads, writes, true),
+    )
+}
+
+#[test]
+fn a_request_is_answered(rt: HostRuntime) -> Result<(), Fail> {
+    let input = write_frame(rt.alloc(), FrameKind::DiscoveryRequest, REQUEST)?;
+    let output = write_frame(rt.alloc(), FrameKind::DiscoveryResponse, RESPONSE)?;
+    let whole = serve_in_pieces(&rt, rt.alloc(), &input, 4096, 2, 1)?;
+    assert!(rt;
+        whole.read == Ok(()) && whole.wrote == Ok(()),
+        "both threads end well"
+    );
+    assert!(rt; whole.output == output, "the response is written");
+    let bytes = serve_in_pieces(&rt, rt.alloc(), &input, 1, 71, 1)?;
+    assert!(rt;
+        bytes.read == Ok(()) && bytes.wrote == Ok(()),
+        "both threads end well"
+    );
+    assert!(rt; bytes.output == output, "the response is written");
+    Ok(())
+}
+
+#[test]
+fn a_peer_that_closes_within_a_frame_is_told(rt: HostRuntime) -> Result<(), Fail> {
+    let input = write_frame(rt.alloc(), FrameKind::DiscoveryRequest, REQUEST)?;
+    let cut = serve_in_pieces(&rt, rt.alloc(), &input[..69], 7, 0, 0)?;
+    assert!(rt;
+        cut.read == Err(Refusal::Truncated),
+        "the input ends within a frame"
+    );
+    assert!(rt; cut.wrote == Ok(()), "the stream is closed");
+    assert!(rt; cut.output.is_empty(), "nothing was asked for");
+    Ok(())
+}
+
+#[test]
+fn a_frame_of_another_kind_is_refused(rt: HostRuntime) -> Result<(), Fail> {
+    let input = write_frame(rt.alloc(), FrameKind::DiscoveryResponse, b"{}")?;
+    let refused = serve_in_pieces(&rt, rt.alloc(), &input, 4096, 0, 0)?;
+    assert!(rt;
+        refused.read == Err(Refusal::WrongVariant),
+        "a client sends requests"
+    );
+    assert!(rt; refused.wrote == Ok(()), "the stream is closed");
+    Ok(())
+}
+
+#[test]
+fn a_request_of_the_other_variant_ends_a_stream(rt: HostRuntime) -> Result<(), Fail> {
+    let mut input = write_frame(rt.alloc(), FrameKind::DiscoveryRequest, REQUEST)?;
+    let other = write_frame(rt.alloc(), FrameKind::DeltaDiscoveryRequest, REQUEST)?;
+    input.extend_from_slice(other.as_slice())?;
+    let refused = serve_in_pieces(&rt, rt.alloc(), &input, 4096, 0, 0)?;
+    assert!(rt;
+        refused.read == Err(Refusal::WrongVariant),
+        "the stream began in the variant of the first"
+    );
+    assert!(rt; refused.wrote == Ok(()), "the stream is closed");
+    Ok(())
+}
+
+#[test]
+fn a_peer_that_never_reads_holds_nobody_else(rt: HostRuntime) -> Result<(), Fail> {
+    let input = write_frame(rt.alloc(), FrameKind::DiscoveryRequest, REQUEST)?;
+    let output = write_frame(rt.alloc(), FrameKind::DiscoveryResponse, RESPONSE)?;
+    let opened = Opened::<Line>::new(rt.alloc())?;
+    let (slow, quick) = serve_beside::<Brand, _>(&rt, rt.alloc(), opened, &input)?;
+    assert!(rt;
+        quick.output == output,
+        "the other stream is served meanwhile"
+    );
+    assert!(rt;
+        slow.output == output,
+        "and this one once it can be written to"
+    );
+    assert!(rt;
+        slow.wrote == Ok(()) && quick.wrote == Ok(()),
+        "both end well"
+    );
+    Ok(())
+}
