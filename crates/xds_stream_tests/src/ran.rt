@@ -7,7 +7,7 @@ use xds_cases::cases::written_out;
 use xds_core::{Core, Event, Request};
 use xds_frames::Counted;
 use xds_message::DiscoveryRequest;
-use xds_resource::Refusal;
+use xds_resource::{AnyResource, Groups, Refusal};
 use xds_stream::run_stream;
 
 /// A reader that gives its bytes in pieces of one size.
@@ -64,13 +64,67 @@ pub(crate) struct Ran<W: Drop> {
     pub(crate) closed: bool,
 }
 
+/// A replica, as these tests know it: by a trait alone, so that to drop it is a single step of a proof.
+pub(crate) trait Replica: Drop {
+    /// Puts a resource.
+    fn put(&mut self, alloc: Global, text: &str) -> Result<(), Refusal>;
+
+    /// Serves a stream.
+    fn serve<R: Read, W: Write>(
+        &mut self,
+        alloc: Global,
+        reader: &mut Counted<R>,
+        writer: &mut Counted<W>,
+    ) -> Result<(), Refusal>;
+
+    /// Whether a request on stream 1 is told that there is no such stream.
+    fn is_closed(&mut self, later: DiscoveryRequest) -> bool;
+}
+
+impl Replica for Core {
+    fn put(&mut self, alloc: Global, text: &str) -> Result<(), Refusal> {
+        let resource = AnyResource::parse(alloc, text)?;
+        outcome(self.step(Event::Put(resource, Groups::none())))
+    }
+
+    fn serve<R: Read, W: Write>(
+        &mut self,
+        alloc: Global,
+        reader: &mut Counted<R>,
+        writer: &mut Counted<W>,
+    ) -> Result<(), Refusal> {
+        run_stream(alloc, self, reader, writer)
+    }
+
+    fn is_closed(&mut self, later: DiscoveryRequest) -> bool {
+        outcome(self.step(Event::Request(1, Request::Sotw(later)))) == Err(Refusal::NoStream)
+    }
+}
+
+// The refusal, if it is one.
+fn outcome<T: Drop>(answer: Result<T, Refusal>) -> Result<(), Refusal> {
+    match answer {
+        Ok(_) => Ok(()),
+        Err(refusal) => Err(refusal),
+    }
+}
+
 /// Serves the first stream of replica 1, which holds nothing.
 pub(crate) fn run<R: Read + Drop, W: Write + Drop>(alloc: Global, reader: R, writer: W) -> Ran<W> {
-    let mut core = Core::new(alloc, 1);
+    run_at(alloc, Core::new(alloc, 1), reader, writer)
+}
+
+fn run_at<C: Replica, R: Read + Drop, W: Write + Drop>(
+    alloc: Global,
+    replica: C,
+    reader: R,
+    writer: W,
+) -> Ran<W> {
+    let mut replica = replica;
     let mut reader = Counted::new(reader);
     let mut writer = Counted::new(writer);
-    let answer = run_stream(alloc, &mut core, &mut reader, &mut writer);
-    let closed = is_closed(alloc, &mut core);
+    let answer = replica.serve(alloc, &mut reader, &mut writer);
+    let closed = is_closed(alloc, &mut replica);
     Ran {
         answer,
         writer: writer.inner,
@@ -78,13 +132,11 @@ pub(crate) fn run<R: Read + Drop, W: Write + Drop>(alloc: Global, reader: R, wri
     }
 }
 
-// Whether a request on stream 1 is told that there is no such stream.
-fn is_closed(alloc: Global, core: &mut Core) -> bool {
-    let Ok(request) = DiscoveryRequest::read(alloc, b"{}") else {
-        return false;
-    };
-    let answer = core.step(Event::Request(1, Request::Sotw(request)));
-    matches!(&answer, Err(Refusal::NoStream))
+fn is_closed<C: Replica>(alloc: Global, replica: &mut C) -> bool {
+    match DiscoveryRequest::read(alloc, b"{}") {
+        Ok(later) => replica.is_closed(later),
+        Err(_) => false,
+    }
 }
 
 /// The bytes of items that stand apart by `; `: hex digits, and where a space follows them a text.
