@@ -1,35 +1,30 @@
 // The end of a node: seats that are missing, and segments that are.
 ghost use Rattle.std.specs.Prelude.{◌≡◌};
 
-use crate::calls::{counter, put};
+use crate::sites::{Left, Site, alone, put};
 use std::alloc::Global;
 use std::marker::Brand;
 use std::sync::Wait;
 use std::test::Fail;
-use xds_node::{History, Line, Node, NodeName, Opened, Seat, Segment};
+use xds_node::{Line, Node, NodeName, Opened};
 use xds_resource::Refusal;
 
-// A node that was cut twice, and once where nothing was left to cut, and what was cut.
-fn cut_twice<N: NodeName, R: Wait>(
+// Cuts a node twice, and once where nothing is left to cut, and answers what was cut.
+fn cut_twice<A: Site, R: Wait>(
     rt: &R,
     alloc: Global,
-    opened: Opened<Line>,
-) -> Result<(History<N>, Vec<Segment<N>>), Refusal>
-    requires { opened ≡ N.id }
-{
-    let node = Node::<N>::new(alloc, opened, 1)?;
-    let mut seat = node.seat(rt)?;
+    node: &A,
+    seat: &mut A::Seat,
+) -> Result<Vec<A::Segment>, Refusal> {
     let mut segments = Vec::new(alloc);
-    counter(node.call(rt, &mut seat, put(alloc, "a")?))?;
-    counter(node.call(rt, &mut seat, put(alloc, "b")?))?;
+    put(rt, alloc, node, seat, "a")?;
+    put(rt, alloc, node, seat, "b")?;
     segments.push(node.cut(rt)?)?;
     segments.push(node.cut(rt)?)?;
-    counter(node.call(rt, &mut seat, put(alloc, "c")?))?;
+    put(rt, alloc, node, seat, "c")?;
     segments.push(node.cut(rt)?)?;
-    counter(node.call(rt, &mut seat, put(alloc, "d")?))?;
-    let mut seats = Vec::new(alloc);
-    seats.push(seat)?;
-    Ok((node.close(seats), segments))
+    put(rt, alloc, node, seat, "d")?;
+    Ok(segments)
 }
 
 // How the segments are handed in.
@@ -40,7 +35,33 @@ enum Order {
     Backwards,
 }
 
+fn ordered<P: Drop>(segments: &mut Vec<P>, order: Order) {
+    match order {
+        Order::WithoutTheLast => drop(segments.pop()),
+        Order::Backwards => segments.as_mut_slice().reverse(),
+        Order::AsCut => {}
+    }
+}
+
 // What an audit answers where the segments are all, where the last is missing, or where they are the other way round.
+fn audited<A: Site, R: Wait>(
+    rt: &R,
+    alloc: Global,
+    node: Result<A, Refusal>,
+    order: Order,
+) -> Result<bool, Refusal> {
+    let node = node?;
+    let mut seat = node.seat(rt)?;
+    let mut segments = cut_twice(rt, alloc, &node, &mut seat)?;
+    ordered(&mut segments, order);
+    let seats = alone(alloc, seat)?;
+    match node.close(seats).audit(segments) {
+        Ok(()) => Ok(true),
+        Err(Refusal::Gap) => Ok(false),
+        Err(refusal) => Err(refusal),
+    }
+}
+
 fn audits<N: NodeName, R: Wait>(
     rt: &R,
     alloc: Global,
@@ -49,17 +70,7 @@ fn audits<N: NodeName, R: Wait>(
 ) -> Result<bool, Refusal>
     requires { opened ≡ N.id }
 {
-    let (history, mut segments) = cut_twice::<N, R>(rt, alloc, opened)?;
-    match order {
-        Order::WithoutTheLast => drop(segments.pop()),
-        Order::Backwards => segments.as_mut_slice().reverse(),
-        Order::AsCut => {}
-    }
-    match history.audit(segments) {
-        Ok(()) => Ok(true),
-        Err(Refusal::Gap) => Ok(false),
-        Err(refusal) => Err(refusal),
-    }
+    audited(rt, alloc, Node::<N>::new(alloc, opened, 1), order)
 }
 
 #[test]
@@ -93,6 +104,19 @@ fn segments_in_another_order_are_a_gap(rt: HostRuntime) -> Result<(), Fail> {
 }
 
 // Whether the history is complete where one of two seats is handed in.
+fn one_of_two<A: Site, R: Wait>(
+    rt: &R,
+    alloc: Global,
+    node: Result<A, Refusal>,
+) -> Result<bool, Refusal> {
+    let node = node?;
+    let kept = node.seat(rt)?;
+    let seats = alone(alloc, node.seat(rt)?)?;
+    let left = node.close(seats);
+    drop(kept);
+    Ok(left.is_complete())
+}
+
 fn lacks_a_seat<N: NodeName, R: Wait>(
     rt: &R,
     alloc: Global,
@@ -100,13 +124,7 @@ fn lacks_a_seat<N: NodeName, R: Wait>(
 ) -> Result<bool, Refusal>
     requires { opened ≡ N.id }
 {
-    let node = Node::<N>::new(alloc, opened, 1)?;
-    let kept = node.seat(rt)?;
-    let mut seats: Vec<Seat<N>> = Vec::new(alloc);
-    seats.push(node.seat(rt)?)?;
-    let history = node.close(seats);
-    drop(kept);
-    Ok(history.is_complete())
+    one_of_two(rt, alloc, Node::<N>::new(alloc, opened, 1))
 }
 
 #[test]

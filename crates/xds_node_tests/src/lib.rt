@@ -12,4 +12,6 @@ mod memory;
 #[cfg(test)]
 mod seats;
 #[cfg(test)]
+mod sites;
+#[cfg(test)]
 mod waits;

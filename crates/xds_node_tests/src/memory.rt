@@ -1,36 +1,35 @@
-// A node that finds no memory. `bench/fail_each.py` runs this test with each allocation failing in turn: a call that was refused
+// A node that finds no memory. `bench/refused.py` runs this test with each allocation failing in turn: a call that was refused
 // left no record and gives its event back, and a cut that was refused has cut nothing.
 ghost use Rattle.std.specs.Prelude.{◌≡◌};
 
-use crate::calls::{counter, put};
+use crate::calls::{Told, counter};
+use crate::sites::{Happens, Left, Records, Site, alone, put};
 use std::alloc::Global;
 use std::marker::Brand;
 use std::sync::Wait;
 use std::test::Fail;
-use xds_core::Event;
-use xds_node::{Line, Node, NodeName, Opened, Seat, Segment, Unrecorded};
+use xds_node::{Line, Node, NodeName, Opened};
 use xds_resource::Refusal;
 
 // The counter of a write, and whether its call was refused at first.
-fn called_again<N: NodeName, R: Wait>(
+fn called_again<A: Site, R: Wait>(
     rt: &R,
-    node: &Node<N>,
-    seat: &mut Seat<N>,
-    event: Event,
+    node: &A,
+    seat: &mut A::Seat,
+    event: A::Event,
 ) -> Result<(u64, bool), Refusal> {
-    match node.call(rt, seat, event) {
-        Err(
-            Unrecorded {
-                refusal: Refusal::OutOfMemory,
-                event,
-            },
-        ) => Ok((counter(node.call(rt, seat, event))?, true)),
-        answer => Ok((counter(answer)?, false)),
+    let answer = node.call(rt, seat, event);
+    if answer.refused() != Err(Refusal::OutOfMemory) {
+        return Ok((counter(answer)?, false));
+    }
+    match answer.back() {
+        Some((event, _)) => Ok((counter(node.call(rt, seat, event))?, true)),
+        None => Err(Refusal::BadTrace),
     }
 }
 
 // What was cut, and whether that was refused at first.
-fn cut_again<N: NodeName, R: Wait>(rt: &R, node: &Node<N>) -> Result<(Segment<N>, bool), Refusal> {
+fn cut_again<A: Site, R: Wait>(rt: &R, node: &A) -> Result<(A::Segment, bool), Refusal> {
     match node.cut(rt) {
         Err(Refusal::OutOfMemory) => Ok((node.cut(rt)?, true)),
         Err(refusal) => Err(refusal),
@@ -39,43 +38,56 @@ fn cut_again<N: NodeName, R: Wait>(rt: &R, node: &Node<N>) -> Result<(Segment<N>
 }
 
 // Whether a call and a cut were refused at first.
+#[derive(Clone, Copy)]
+struct Refused {
+    call: bool,
+    cut: bool,
+}
+
+fn ended<L: Left>(alloc: Global, left: L, segment: L::Segment) -> Result<(), Refusal> {
+    if segment.first() != 1 || segment.count() != 1 || left.count() != 1 || !left.is_complete() {
+        return Err(Refusal::BadTrace);
+    }
+    left.audit(alone(alloc, segment)?)
+}
+
+fn short<A: Site, R: Wait>(
+    rt: &R,
+    alloc: Global,
+    node: Result<A, Refusal>,
+) -> Result<Refused, Refusal> {
+    let node = node?;
+    let mut seat = node.seat(rt)?;
+    let event = A::Event::put(alloc, "a")?;
+    let (first, call) = called_again(rt, &node, &mut seat, event)?;
+    let (segment, cut) = cut_again(rt, &node)?;
+    let second = put(rt, alloc, &node, &mut seat, "b")?;
+    if first != 1 || second != 2 {
+        return Err(Refusal::BadStamp);
+    }
+    let seats = alone(alloc, seat)?;
+    ended(alloc, node.close(seats), segment)?;
+    Ok(Refused { call, cut })
+}
+
 fn refused<N: NodeName, R: Wait>(
     rt: &R,
     alloc: Global,
     opened: Opened<Line>,
-) -> Result<(bool, bool), Fail>
+) -> Result<Refused, Refusal>
     requires { opened ≡ N.id }
 {
-    let node = Node::<N>::new(alloc, opened, 1)?;
-    let mut seat = node.seat(rt)?;
-    let mut seats = Vec::new(alloc);
-    let mut segments = Vec::new(alloc);
-    let (first, called) = called_again(rt, &node, &mut seat, put(alloc, "a")?)?;
-    let (segment, cut) = cut_again(rt, &node)?;
-    if first != 1 || segment.first() != 1 || segment.records().len() != 1 {
-        return Err("the write isn't the first, or isn't all that is cut".into());
-    }
-    segments.push(segment)?;
-    if counter(node.call(rt, &mut seat, put(alloc, "b")?))? != 2 {
-        return Err("the write isn't the second".into());
-    }
-    seats.push(seat)?;
-    let history = node.close(seats);
-    if !history.is_complete() || history.records().len() != 1 {
-        return Err("there is another record than that of the second write".into());
-    }
-    history.audit(segments)?;
-    Ok((called, cut))
+    short(rt, alloc, Node::<N>::new(alloc, opened, 1))
 }
 
 #[test]
 fn a_node_without_memory(rt: HostRuntime) -> Result<(), Fail> {
     let opened = Opened::<Line>::new(rt.alloc())?;
-    let (called, cut) = refused::<Brand, _>(&rt, rt.alloc(), opened)?;
-    if called {
+    let refused = refused::<Brand, _>(&rt, rt.alloc(), opened)?;
+    if refused.call {
         println!(rt; "refused, and went on: call")?;
     }
-    if cut {
+    if refused.cut {
         println!(rt; "refused, and went on: cut")?;
     }
     Ok(())

@@ -1,14 +1,14 @@
 // Seats in threads of their own.
 ghost use Rattle.std.specs.Prelude.{◌≡◌};
 
-use crate::calls::{counter, put, reply};
+use crate::calls::clusters;
+use crate::sites::{Happens, Left, Site, put};
 use std::alloc::Global;
 use std::marker::Brand;
 use std::sync::Wait;
 use std::test::Fail;
 use std::thread::{Threads, map_vec};
-use xds_core::{Event, Reply};
-use xds_node::{Line, Node, NodeName, Opened, Seat};
+use xds_node::{Line, Node, NodeName, Opened};
 use xds_resource::Refusal;
 
 const SEATS: usize = 4;
@@ -17,66 +17,77 @@ const PUTS: usize = 1000;
 
 // A seat with the number of its thread, and the counters that it was told.
 #[derive(Drop)]
-struct Worker<N: NodeName> {
-    seat: Seat<N>,
+struct Worker<S> {
+    seat: S,
     number: usize,
     counters: Vec<u64>,
-    failed: bool,
+    done: Result<(), Refusal>,
 }
 
-fn workers<N: NodeName, R: Wait>(
+fn workers<A: Site, R: Wait>(
     rt: &R,
     alloc: Global,
-    node: &Node<N>,
-) -> Result<Vec<Worker<N>>, Refusal> {
+    node: &A,
+) -> Result<Vec<Worker<A::Seat>>, Refusal> {
     let mut workers = Vec::new(alloc);
     for number in 0..SEATS {
         workers.push(Worker {
             seat: node.seat(rt)?,
             number,
             counters: Vec::new(alloc),
-            failed: false,
+            done: Ok(()),
         })?;
     }
     Ok(workers)
 }
 
 // Puts clusters with names of its own.
-fn worked<N: NodeName, R: Wait>(
+fn worked<A: Site, R: Wait>(
     rt: &R,
     alloc: Global,
-    node: &Node<N>,
-    worker: Worker<N>,
-) -> Worker<N> {
-    let Worker {
-        mut seat,
-        number,
-        mut counters,
-        failed: _,
-    } = worker;
-    let failed = puts(rt, alloc, node, &mut seat, number, &mut counters).is_err();
-    Worker {
-        seat,
-        number,
-        counters,
-        failed,
-    }
+    node: &A,
+    worker: Worker<A::Seat>,
+) -> Worker<A::Seat> {
+    let mut worker = worker;
+    worker.done = puts(
+        rt,
+        alloc,
+        node,
+        &mut worker.seat,
+        worker.number,
+        &mut worker.counters,
+    );
+    worker
 }
 
-fn puts<N: NodeName, R: Wait>(
+fn puts<A: Site, R: Wait>(
     rt: &R,
     alloc: Global,
-    node: &Node<N>,
-    seat: &mut Seat<N>,
+    node: &A,
+    seat: &mut A::Seat,
     number: usize,
     counters: &mut Vec<u64>,
 ) -> Result<(), Refusal> {
     for index in 0..PUTS {
         let name = format!(in alloc; "{number}-{index}")?;
-        let event = put(alloc, name.as_str())?;
-        counters.push(counter(node.call(rt, seat, event))?)?;
+        counters.push(put(rt, alloc, node, seat, name.as_str())?)?;
     }
     Ok(())
+}
+
+// All workers at once, each in a thread of its own.
+fn worked_at_once<A: Site + Sync, R: Threads + Wait + Sync>(
+    rt: &R,
+    alloc: Global,
+    node: &A,
+    workers: Vec<Worker<A::Seat>>,
+) -> Result<Vec<Worker<A::Seat>>, Refusal>
+where
+    A::Seat: Send,
+{
+    Ok(map_vec(rt, workers, &|worker| {
+        worked(rt, alloc, node, worker)
+    })?)
 }
 
 // What four threads were told.
@@ -89,7 +100,7 @@ struct Outcome {
     records: usize,
 }
 
-// Counts what a worker was told, and gives back its seat.
+// Counts what a worker was told.
 fn count(outcome: &mut Outcome, seen: &mut Vec<bool>, counters: &Vec<u64>) {
     for counter in counters.as_slice() {
         match seen.get_mut(counter.wrapping_sub(1) as usize) {
@@ -102,6 +113,47 @@ fn count(outcome: &mut Outcome, seen: &mut Vec<bool>, counters: &Vec<u64>) {
     }
 }
 
+// Counts what all workers were told, and gives back their seats.
+fn counted<S: Drop>(
+    alloc: Global,
+    outcome: &mut Outcome,
+    workers: Vec<Worker<S>>,
+) -> Result<Vec<S>, Refusal> {
+    let mut seen = Vec::new(alloc);
+    seen.resize(SEATS * PUTS, false)?;
+    let mut seats = Vec::new(alloc);
+    for worker in workers {
+        worker.done?;
+        count(outcome, &mut seen, &worker.counters);
+        seats.push(worker.seat)?;
+    }
+    Ok(seats)
+}
+
+fn four<A: Site + Sync, R: Threads + Wait + Sync>(
+    rt: &R,
+    alloc: Global,
+    node: Result<A, Refusal>,
+) -> Result<Outcome, Refusal>
+where
+    A::Seat: Send,
+{
+    let node = node?;
+    let workers = workers(rt, alloc, &node)?;
+    let done = worked_at_once(rt, alloc, &node, workers)?;
+    let mut outcome = Outcome {
+        told: 0,
+        others: 0,
+        complete: false,
+        records: 0,
+    };
+    let seats = counted(alloc, &mut outcome, done)?;
+    let left = node.close(seats);
+    outcome.complete = left.is_complete();
+    outcome.records = left.count();
+    Ok(outcome)
+}
+
 fn four_seats<N: NodeName + Send + Sync, R: Threads + Wait + Sync>(
     rt: &R,
     alloc: Global,
@@ -109,30 +161,7 @@ fn four_seats<N: NodeName + Send + Sync, R: Threads + Wait + Sync>(
 ) -> Result<Outcome, Refusal>
     requires { opened ≡ N.id }
 {
-    let node = Node::<N>::new(alloc, opened, 1)?;
-    let workers = workers(rt, alloc, &node)?;
-    let shared = &node;
-    let done = map_vec(rt, workers, &|worker| worked(rt, alloc, shared, worker))?;
-    let mut outcome = Outcome {
-        told: 0,
-        others: 0,
-        complete: false,
-        records: 0,
-    };
-    let mut seen = Vec::new(alloc);
-    seen.resize(SEATS * PUTS, false)?;
-    let mut seats = Vec::new(alloc);
-    for worker in done {
-        if worker.failed {
-            return Err(Refusal::BadTrace);
-        }
-        count(&mut outcome, &mut seen, &worker.counters);
-        seats.push(worker.seat)?;
-    }
-    let history = node.close(seats);
-    outcome.complete = history.is_complete();
-    outcome.records = history.records().len();
-    Ok(outcome)
+    four(rt, alloc, Node::<N>::new(alloc, opened, 1))
 }
 
 #[test]
@@ -149,7 +178,18 @@ fn four_seats_are_told_each_counter_once(rt: HostRuntime) -> Result<(), Fail> {
     Ok(())
 }
 
-// Whether a seat that put a cluster finds it in a snapshot, and what the writer of the cluster is.
+// How many clusters a seat that put one finds in a snapshot, and the writer of the first.
+fn found<A: Site, R: Wait>(
+    rt: &R,
+    alloc: Global,
+    node: Result<A, Refusal>,
+) -> Result<(usize, u16), Refusal> {
+    let node = node?;
+    let mut seat = node.seat(rt)?;
+    put(rt, alloc, &node, &mut seat, "a")?;
+    clusters(node.call(rt, &mut seat, A::Event::snapshot()))
+}
+
 fn finds_its_write<N: NodeName, R: Wait>(
     rt: &R,
     alloc: Global,
@@ -157,16 +197,7 @@ fn finds_its_write<N: NodeName, R: Wait>(
 ) -> Result<(usize, u16), Refusal>
     requires { opened ≡ N.id }
 {
-    let node = Node::<N>::new(alloc, opened, 7)?;
-    let mut seat = node.seat(rt)?;
-    counter(node.call(rt, &mut seat, put(alloc, "a")?))?;
-    match reply(node.call(rt, &mut seat, Event::Snapshot))? {
-        Reply::Entries(batch) => match batch.cluster.first() {
-            Some(write) => Ok((batch.cluster.len(), write.stamp().writer)),
-            None => Err(Refusal::NotFound),
-        },
-        _ => Err(Refusal::BadTrace),
-    }
+    found(rt, alloc, Node::<N>::new(alloc, opened, 7))
 }
 
 #[test]
