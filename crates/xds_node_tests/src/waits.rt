@@ -1,6 +1,5 @@
 // Threads that wait for what others do.
 ghost use Rattle.std.specs.Prelude.{◌≡◌};
-ghost use Rattle.std.specs.Thread.{IsSend};
 
 use crate::calls::{NOTHING, refused, stream};
 use crate::sites::{Happens, Site};
