@@ -34,6 +34,14 @@ LOOKED_AT = {
         "memory::feeding_without_memory": {"feed": "Decoder::feed"},
         "memory::framing_without_memory": {"push_frame": "push_frame"},
     },
+    "xds_catalogue_tests": {
+        "many_writes::each_change_without_memory": {
+            "put": "Catalogue::put",
+            "delete": "Catalogue::delete",
+            "join_write": "Catalogue::join_write",
+            "join_all": "Catalogue::join_all",
+        },
+    },
     "xds_core_tests": {
         "memory::a_batch_without_memory": {"": "Core::step, Merge of writes of four types"},
         "memory::each_event_without_memory": {
