@@ -157,16 +157,13 @@ fn is_short<V: Drop>(answer: Result<V, Refusal>) -> Result<bool, Refusal> {
 }
 
 // The same of a change of some writes.
-fn changes(
-    alloc: Global,
-    catalogue: &mut Catalogue<Cluster>,
-    verb: &str,
-) -> Result<bool, Refusal> {
+fn changes(alloc: Global, catalogue: &mut Catalogue<Cluster>, verb: &str) -> Result<bool, Refusal> {
     if verb == "delete" {
         return is_short(catalogue.delete("1", 1));
     }
     if verb == "put" {
-        let text = r#"{"@type":"type.googleapis.com/envoy.config.cluster.v3.Cluster","name":"2500"}"#;
+        let text =
+            r#"{"@type":"type.googleapis.com/envoy.config.cluster.v3.Cluster","name":"2500"}"#;
         let resource = Resource::parse(alloc, text)?;
         return is_short(catalogue.put(resource, Groups::none(), 1));
     }

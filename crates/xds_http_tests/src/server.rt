@@ -16,17 +16,17 @@ use xds_node::{Line, Node, NodeName, Opened, Seat, Unrecorded};
 use xds_resource::{AnyResource, Groups, Refusal, TypeName};
 
 // What is looked for in what a call of a node answers. It is told by reference, and dropped by a function that doesn't know the type.
-trait Told: Drop {
+trait Answered: Drop {
     fn is_written(&self) -> bool;
 }
 
-impl Told for Result<Result<Reply, Refusal>, Unrecorded> {
+impl Answered for Result<Result<Reply, Refusal>, Unrecorded> {
     fn is_written(&self) -> bool {
         matches!(self, Ok(Ok(Reply::Written(_))))
     }
 }
 
-fn written_by<T: Told>(answer: T) -> Result<(), Refusal> {
+fn written_by<T: Answered>(answer: T) -> Result<(), Refusal> {
     if answer.is_written() {
         return Ok(());
     }

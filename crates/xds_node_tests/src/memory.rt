@@ -70,7 +70,7 @@ fn short<A: Site, R: Wait>(
     Ok(Refused { call, cut })
 }
 
-fn refused<N: NodeName, R: Wait>(
+fn refused_of<N: NodeName, R: Wait>(
     rt: &R,
     alloc: Global,
     opened: Opened<Line>,
@@ -83,7 +83,7 @@ fn refused<N: NodeName, R: Wait>(
 #[test]
 fn a_node_without_memory(rt: HostRuntime) -> Result<(), Fail> {
     let opened = Opened::<Line>::new(rt.alloc())?;
-    let refused = refused::<Brand, _>(&rt, rt.alloc(), opened)?;
+    let refused = refused_of::<Brand, _>(&rt, rt.alloc(), opened)?;
     if refused.call {
         println!(rt; "refused, and went on: call")?;
     }

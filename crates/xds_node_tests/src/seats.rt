@@ -85,9 +85,7 @@ fn worked_at_once<A: Site + Sync, R: Threads + Wait + Sync>(
 where
     A::Seat: Send,
 {
-    Ok(map_vec(rt, workers, &|worker| {
-        worked(rt, alloc, node, worker)
-    })?)
+    Ok(map_vec(rt, workers, &|worker| { worked(rt, alloc, node, worker) })?)
 }
 
 // What four threads were told.

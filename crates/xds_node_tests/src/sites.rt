@@ -118,9 +118,13 @@ impl<N: NodeName> Left for History<N> {
 /// A node.
 pub(crate) trait Site: Drop {
     type Seat: Drop;
+
     type Event: Happens;
+
     type Answer: Told<Event = Self::Event>;
+
     type Segment: Records;
+
     type Left: Left<Segment = Self::Segment>;
 
     fn seat<R: Wait>(&self, rt: &R) -> Result<Self::Seat, Refusal>;

@@ -2,10 +2,9 @@
 // while the stream is served, a beginning of the responses was written, and the stream is closed.
 use crate::ran::{Pieces, Replica, written_bytes};
 use std::alloc::Global;
-use std::io;
 use std::io::Write;
-use std::str;
 use std::test::Fail;
+use std::{io, str};
 use xds_core::Core;
 use xds_frames::Counted;
 use xds_message::DiscoveryRequest;
@@ -45,7 +44,7 @@ struct Served {
 }
 
 // Serves a stream that asks for the clusters and the listeners of a replica, which holds a cluster.
-fn served<C: Replica>(alloc: Global, replica: C) -> Result<Served, Fail> {
+fn serve_short<C: Replica>(alloc: Global, replica: C) -> Result<Served, Fail> {
     let cluster = written_bytes(alloc, r#" {"@type":"CDS","name":"a"}"#)?;
     let cluster = str::from_utf8(cluster.as_slice()).ok().ok_or("no UTF-8")?;
     let input = written_bytes(
@@ -75,9 +74,12 @@ fn a_stream_without_memory(rt: HostRuntime) -> Result<(), Fail> {
         alloc,
         r#"000000bb02 {"nonce":"1","resources":[{"@type":"CDS","name":"a"}],"typeUrl":"CDS","versionInfo":"1.1"}; 0000006402 {"nonce":"2","typeUrl":"LDS","versionInfo":"1.0"}"#,
     )?;
-    let served = served(alloc, Core::new(alloc, 1))?;
+    let served = serve_short(alloc, Core::new(alloc, 1))?;
     let taken = &served.taken;
-    let written = taken.bytes.get(..taken.count).ok_or("more bytes than room")?;
+    let written = taken
+        .bytes
+        .get(..taken.count)
+        .ok_or("more bytes than room")?;
     let is_refused = served.answer == Err(Refusal::OutOfMemory);
     assert!(rt; is_refused || served.answer == Ok(()));
     assert!(rt; responses.as_slice().starts_with(written));

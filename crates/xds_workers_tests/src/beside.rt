@@ -2,7 +2,8 @@
 ghost use Rattle.std.specs.Prelude.{◌≡◌};
 ghost use Rattle.std.specs.Thread.{IsSend};
 
-use crate::calls::{held, open, put, refused};
+use crate::calls;
+use crate::calls::{open, put, refused};
 use crate::gates::Held;
 use crate::sites::{Site, both};
 use crate::streams::{Pieces, REQUEST, RESPONSE, Served, by_two};
@@ -24,10 +25,7 @@ const WITH_A: &[u8] =
 const MOST_TURNS: u64 = 1_000_000;
 
 // A new stream of a node, with two seats.
-fn stream_of<A: Site, R: Wait>(
-    rt: &R,
-    node: &A,
-) -> Result<(u64, (A::Seat, A::Seat)), Refusal> {
+fn stream_of<A: Site, R: Wait>(rt: &R, node: &A) -> Result<(u64, (A::Seat, A::Seat)), Refusal> {
     let mut seats = both(node.seat(rt), node.seat(rt))?;
     let stream = open(rt, node, &mut seats.0);
     both(stream, Ok(seats))
@@ -107,7 +105,7 @@ fn full_and_cut<A: Site, R: Wait>(rt: &R, alloc: Global, node: &A) -> Result<Ful
     let first = put(rt, alloc, node, &mut seat, "b");
     drop(node.cut(rt)?);
     let again = put(rt, alloc, node, &mut seat, "b");
-    let held = held(rt, alloc, node, &mut seat)?;
+    let held = calls::held(rt, alloc, node, &mut seat)?;
     Ok(Full {
         filled,
         put: first,
@@ -166,7 +164,10 @@ fn a_peer_that_never_reads_holds_nobody_else(rt: HostRuntime) -> Result<(), Fail
         "both end well"
     );
     let refused = Err(Refusal::JournalFull);
-    assert!(rt; full.filled == refused && full.put == refused, "the journal is full");
+    assert!(rt;
+        full.filled == refused && full.put == refused,
+        "the journal is full"
+    );
     assert!(rt; full.again == Ok(()), "once it is cut there is room");
     let held = full.held.as_str();
     assert!(rt;
