@@ -12,6 +12,4 @@ mod memory;
 #[cfg(test)]
 mod seats;
 #[cfg(test)]
-mod sites;
-#[cfg(test)]
 mod waits;

@@ -1,14 +1,14 @@
 // Seats in threads of their own.
 ghost use Rattle.std.specs.Prelude.{◌≡◌};
 
-use crate::calls::clusters;
-use crate::sites::{Happens, Left, Site, put};
+use crate::calls::{counter, put, reply};
 use std::alloc::Global;
 use std::marker::Brand;
 use std::sync::Wait;
 use std::test::Fail;
 use std::thread::{Threads, map_vec};
-use xds_node::{Line, Node, NodeName, Opened};
+use xds_core::{Event, Reply};
+use xds_node::{Line, Node, NodeName, Opened, Seat};
 use xds_resource::Refusal;
 
 const SEATS: usize = 4;
@@ -17,75 +17,66 @@ const PUTS: usize = 1000;
 
 // A seat with the number of its thread, and the counters that it was told.
 #[derive(Drop)]
-struct Worker<S> {
-    seat: S,
+struct Worker<N: NodeName> {
+    seat: Seat<N>,
     number: usize,
     counters: Vec<u64>,
-    done: Result<(), Refusal>,
+    failed: bool,
 }
 
-fn workers<A: Site, R: Wait>(
+fn workers<N: NodeName, R: Wait>(
     rt: &R,
     alloc: Global,
-    node: &A,
-) -> Result<Vec<Worker<A::Seat>>, Refusal> {
+    node: &Node<N>,
+) -> Result<Vec<Worker<N>>, Refusal> {
     let mut workers = Vec::new(alloc);
     for number in 0..SEATS {
         workers.push(Worker {
             seat: node.seat(rt)?,
             number,
             counters: Vec::new(alloc),
-            done: Ok(()),
+            failed: false,
         })?;
     }
     Ok(workers)
 }
 
 // Puts clusters with names of its own.
-fn worked<A: Site, R: Wait>(
+fn worked<N: NodeName, R: Wait>(
     rt: &R,
     alloc: Global,
-    node: &A,
-    worker: Worker<A::Seat>,
-) -> Worker<A::Seat> {
-    let mut worker = worker;
-    worker.done = puts(
-        rt,
-        alloc,
-        node,
-        &mut worker.seat,
-        worker.number,
-        &mut worker.counters,
-    );
-    worker
+    node: &Node<N>,
+    worker: Worker<N>,
+) -> Worker<N> {
+    let Worker {
+        mut seat,
+        number,
+        mut counters,
+        failed: _,
+    } = worker;
+    let failed = puts(rt, alloc, node, &mut seat, number, &mut counters).is_err();
+    Worker {
+        seat,
+        number,
+        counters,
+        failed,
+    }
 }
 
-fn puts<A: Site, R: Wait>(
+fn puts<N: NodeName, R: Wait>(
     rt: &R,
     alloc: Global,
-    node: &A,
-    seat: &mut A::Seat,
+    node: &Node<N>,
+    seat: &mut Seat<N>,
     number: usize,
     counters: &mut Vec<u64>,
 ) -> Result<(), Refusal> {
     for index in 0..PUTS {
         let name = format!(in alloc; "{number}-{index}")?;
-        counters.push(put(rt, alloc, node, seat, name.as_str())?)?;
+        let event = put(alloc, name.as_str())?;
+        counters.push(counter(node.call(rt, seat, event))?)?;
     }
     Ok(())
-}
-
-// All workers at once, each in a thread of its own.
-fn worked_at_once<A: Site + Sync, R: Threads + Wait + Sync>(
-    rt: &R,
-    alloc: Global,
-    node: &A,
-    workers: Vec<Worker<A::Seat>>,
-) -> Result<Vec<Worker<A::Seat>>, Refusal>
-where
-    A::Seat: Send,
-{
-    Ok(map_vec(rt, workers, &|worker| { worked(rt, alloc, node, worker) })?)
 }
 
 // What four threads were told.
@@ -98,7 +89,7 @@ struct Outcome {
     records: usize,
 }
 
-// Counts what a worker was told.
+// Counts what a worker was told, and gives back its seat.
 fn count(outcome: &mut Outcome, seen: &mut Vec<bool>, counters: &Vec<u64>) {
     for counter in counters.as_slice() {
         match seen.get_mut(counter.wrapping_sub(1) as usize) {
@@ -111,45 +102,34 @@ fn count(outcome: &mut Outcome, seen: &mut Vec<bool>, counters: &Vec<u64>) {
     }
 }
 
-// Counts what all workers were told, and gives back their seats.
-fn counted<S: Drop>(
+// What the workers were told, and their seats.
+fn gathered<N: NodeName>(
     alloc: Global,
+    done: Vec<Worker<N>>,
     outcome: &mut Outcome,
-    workers: Vec<Worker<S>>,
-) -> Result<Vec<S>, Refusal> {
+) -> Result<Vec<Seat<N>>, Refusal> {
     let mut seen = Vec::new(alloc);
     seen.resize(SEATS * PUTS, false)?;
     let mut seats = Vec::new(alloc);
-    for worker in workers {
-        worker.done?;
+    for worker in done {
+        if worker.failed {
+            return Err(Refusal::BadTrace);
+        }
         count(outcome, &mut seen, &worker.counters);
         seats.push(worker.seat)?;
     }
     Ok(seats)
 }
 
-fn four<A: Site + Sync, R: Threads + Wait + Sync>(
+fn all_work<N: NodeName + Send + Sync, R: Threads + Wait + Sync>(
     rt: &R,
     alloc: Global,
-    node: Result<A, Refusal>,
-) -> Result<Outcome, Refusal>
-where
-    A::Seat: Send,
-{
-    let node = node?;
-    let workers = workers(rt, alloc, &node)?;
-    let done = worked_at_once(rt, alloc, &node, workers)?;
-    let mut outcome = Outcome {
-        told: 0,
-        others: 0,
-        complete: false,
-        records: 0,
-    };
-    let seats = counted(alloc, &mut outcome, done)?;
-    let left = node.close(seats);
-    outcome.complete = left.is_complete();
-    outcome.records = left.count();
-    Ok(outcome)
+    node: &Node<N>,
+    outcome: &mut Outcome,
+) -> Result<Vec<Seat<N>>, Refusal> {
+    let workers = workers(rt, alloc, node)?;
+    let done = map_vec(rt, workers, &|worker| worked(rt, alloc, node, worker))?;
+    gathered(alloc, done, outcome)
 }
 
 fn four_seats<N: NodeName + Send + Sync, R: Threads + Wait + Sync>(
@@ -159,7 +139,25 @@ fn four_seats<N: NodeName + Send + Sync, R: Threads + Wait + Sync>(
 ) -> Result<Outcome, Refusal>
     requires { opened ≡ N.id }
 {
-    four(rt, alloc, Node::<N>::new(alloc, opened, 1))
+    let node = Node::<N>::new(alloc, opened, 1)?;
+    let mut outcome = Outcome {
+        told: 0,
+        others: 0,
+        complete: false,
+        records: 0,
+    };
+    match all_work(rt, alloc, &node, &mut outcome) {
+        Ok(seats) => {
+            let history = node.close(seats);
+            outcome.complete = history.is_complete();
+            outcome.records = history.records().len();
+            Ok(outcome)
+        }
+        Err(refusal) => {
+            drop(node);
+            Err(refusal)
+        }
+    }
 }
 
 #[test]
@@ -176,32 +174,38 @@ fn four_seats_are_told_each_counter_once(rt: HostRuntime) -> Result<(), Fail> {
     Ok(())
 }
 
-// How many clusters a seat that put one finds in a snapshot, and the writer of the first.
-fn found<A: Site, R: Wait>(
+// How many clusters a seat finds in a snapshot when it has put one, and what the writer of the first is.
+fn finds_its_write<N: NodeName, R: Wait>(
     rt: &R,
     alloc: Global,
-    node: Result<A, Refusal>,
+    node: &Node<N>,
 ) -> Result<(usize, u16), Refusal> {
-    let node = node?;
     let mut seat = node.seat(rt)?;
-    put(rt, alloc, &node, &mut seat, "a")?;
-    clusters(node.call(rt, &mut seat, A::Event::snapshot()))
+    counter(node.call(rt, &mut seat, put(alloc, "a")?))?;
+    match reply(node.call(rt, &mut seat, Event::Snapshot))? {
+        Reply::Entries(batch) => match batch.cluster.first() {
+            Some(write) => Ok((batch.cluster.len(), write.stamp().writer)),
+            None => Err(Refusal::NotFound),
+        },
+        _ => Err(Refusal::BadTrace),
+    }
 }
 
-fn finds_its_write<N: NodeName, R: Wait>(
+fn found<N: NodeName, R: Wait>(
     rt: &R,
     alloc: Global,
     opened: Opened<Line>,
 ) -> Result<(usize, u16), Refusal>
     requires { opened ≡ N.id }
 {
-    found(rt, alloc, Node::<N>::new(alloc, opened, 7))
+    let node = Node::<N>::new(alloc, opened, 7)?;
+    finds_its_write(rt, alloc, &node)
 }
 
 #[test]
 fn a_seat_reads_what_it_wrote(rt: HostRuntime) -> Result<(), Fail> {
     let opened = Opened::<Line>::new(rt.alloc())?;
-    let (clusters, writer) = finds_its_write::<Brand, _>(&rt, rt.alloc(), opened)?;
+    let (clusters, writer) = found::<Brand, _>(&rt, rt.alloc(), opened)?;
     assert!(rt; clusters == 1, "the snapshot has the cluster");
     assert!(rt;
         writer == 7,

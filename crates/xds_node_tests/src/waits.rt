@@ -1,15 +1,15 @@
 // Threads that wait for what others do.
 ghost use Rattle.std.specs.Prelude.{◌≡◌};
 
-use crate::calls::{NOTHING, refused, stream};
-use crate::sites::{Happens, Site};
+use crate::calls::{Answer, counter, put, reply, stream};
 use std::alloc::Global;
 use std::marker::Brand;
 use std::sync::Wait;
 use std::test::Fail;
 use std::thread::{Threads, join};
-use xds_core::Marks;
-use xds_node::{Due, Line, Node, NodeName, Opened};
+use xds_core::{Event, Marks, Request};
+use xds_message::DeltaDiscoveryRequest;
+use xds_node::{Due, Line, Node, NodeName, Opened, Seat};
 use xds_resource::Refusal;
 
 // A client that wants all clusters.
@@ -26,89 +26,80 @@ struct Outcome {
 }
 
 // Opens a stream whose client wants all clusters, and has it told that there are none.
-fn opened_stream<A: Site, R: Wait>(
+fn opened_stream<N: NodeName, R: Wait>(
     rt: &R,
     alloc: Global,
-    node: &A,
-    seat: &mut A::Seat,
+    node: &Node<N>,
+    seat: &mut Seat<N>,
 ) -> Result<u64, Refusal> {
-    let number = stream(node.call(rt, seat, A::Event::open()))?;
-    let request = A::Event::ask(alloc, number, WANTS_ALL)?;
-    refused(node.call(rt, seat, request))?;
-    refused(node.call(rt, seat, A::Event::poll(number)))?;
+    let number = stream(node.call(rt, seat, Event::Open))?;
+    let request = DeltaDiscoveryRequest::read(alloc, WANTS_ALL)?;
+    reply(node.call(rt, seat, Event::Request(number, Request::Delta(request))))?;
+    reply(node.call(rt, seat, Event::Poll(number, None)))?;
     Ok(number)
 }
 
-fn calls<A: Site, R: Wait>(
+fn calls<N: NodeName, R: Wait>(
     rt: &R,
-    node: &A,
-    seat: A::Seat,
-    event: A::Event,
-) -> (A::Seat, Result<(), Refusal>) {
+    node: &Node<N>,
+    seat: Seat<N>,
+    event: Event,
+) -> (Seat<N>, Answer) {
     let mut seat = seat;
-    let answer = refused(node.call(rt, &mut seat, event));
+    let answer = node.call(rt, &mut seat, event);
     (seat, answer)
 }
 
-// What a thread that waits for a stream sees while another makes a call.
-fn waits_for<A: Site + Sync, R: Threads + Wait + Sync>(
-    rt: &R,
-    node: &A,
-    seat: A::Seat,
-    stream: u64,
-    event: A::Event,
-) -> (Due, (A::Seat, Result<(), Refusal>))
-where
-    A::Seat: Send,
-    A::Event: Send,
-{
-    join(
-        rt,
-        move || node.wait_due(rt, stream),
-        move || calls(rt, node, seat, event),
-    )
-}
+const NONE: Marks = Marks {
+    cluster: 0,
+    endpoint: 0,
+    listener: 0,
+    route: 0,
+    secret: 0,
+};
 
-// What a thread that waits for changes sees, and then while the node is stopped.
-fn stops<A: Site + Sync, R: Threads + Wait + Sync>(rt: &R, node: &A) -> (Option<u64>, bool) {
-    let changed = node.wait_changed(rt, NOTHING);
-    let clusters = changed.map(|marks: Marks| marks.cluster);
-    let seen = changed.unwrap_or(NOTHING);
-    let (left, _) = join(
-        rt,
-        move || node.wait_changed(rt, seen),
-        move || node.stop(rt),
-    );
-    (clusters, left.is_none())
-}
-
-fn waited<A: Site + Sync, R: Threads + Wait + Sync>(
+// How waits for a stream end while another thread puts a cluster, and while it closes the stream.
+fn both_waits<N: NodeName + Send + Sync, R: Threads + Wait + Sync>(
     rt: &R,
     alloc: Global,
-    node: Result<A, Refusal>,
-) -> Result<Outcome, Refusal>
-where
-    A::Seat: Send,
-    A::Event: Send,
-{
-    let node = node?;
+    node: &Node<N>,
+) -> Result<(Due, Due), Refusal> {
     let mut seat = node.seat(rt)?;
-    let number = opened_stream(rt, alloc, &node, &mut seat)?;
-    let event = A::Event::put(alloc, "a")?;
-    let (first, (seat, answer)) = waits_for(rt, &node, seat, number, event);
-    answer?;
+    let number = opened_stream(rt, alloc, node, &mut seat)?;
+    let event = put(alloc, "a")?;
+    let (first, (seat, answer)) = join(
+        rt,
+        || node.wait_due(rt, number),
+        || calls(rt, node, seat, event),
+    );
+    counter(answer)?;
     let mut seat = seat;
-    refused(node.call(rt, &mut seat, A::Event::poll(number)))?;
-    let event = A::Event::close(number);
-    let (last, (seat, answer)) = waits_for(rt, &node, seat, number, event);
+    reply(node.call(rt, &mut seat, Event::Poll(number, None)))?;
+    let (last, (seat, answer)) = join(
+        rt,
+        || node.wait_due(rt, number),
+        || calls(rt, node, seat, Event::Close(number)),
+    );
+    reply(answer)?;
     drop(seat);
-    answer?;
-    let (clusters, stopped) = stops(rt, &node);
+    Ok((first, last))
+}
+
+fn waited<N: NodeName + Send + Sync, R: Threads + Wait + Sync>(
+    rt: &R,
+    alloc: Global,
+    node: &Node<N>,
+) -> Result<Outcome, Refusal> {
+    let (first, last) = both_waits(rt, alloc, node)?;
+    let changed = node.wait_changed(rt, NONE);
+    let clusters = changed.map(|marks| marks.cluster);
+    let seen = changed.unwrap_or(NONE);
+    let (left, _) = join(rt, || node.wait_changed(rt, seen), || node.stop(rt));
     Ok(Outcome {
         first,
         last,
         clusters,
-        stopped,
+        stopped: left.is_none(),
     })
 }
 
@@ -119,7 +110,8 @@ fn waits<N: NodeName + Send + Sync, R: Threads + Wait + Sync>(
 ) -> Result<Outcome, Refusal>
     requires { opened ≡ N.id }
 {
-    waited(rt, alloc, Node::<N>::new(alloc, opened, 1))
+    let node = Node::<N>::new(alloc, opened, 1)?;
+    waited(rt, alloc, &node)
 }
 
 #[test]

@@ -1,5 +1,5 @@
 // Streams from bytes to bytes.
-use crate::ran::{Pieces, bytes_of, run};
+use crate::ran::{Ends, bytes_of, run};
 use std::alloc::Global;
 use std::str;
 use std::test::Fail;
@@ -29,7 +29,8 @@ impl Outcome for Stream {
 
 // What a stream comes to whose input comes in pieces of this size: the answer, and each frame as it is told in the cases.
 fn served(alloc: Global, input: &[u8], size: usize) -> Result<String, Fail> {
-    let ran = run(alloc, Pieces::new(input, size), Vec::new(alloc));
+    let mut ends = Ends::new(input, size, Vec::new(alloc));
+    let ran = run(alloc, &mut ends)?;
     if !ran.closed {
         return Err(Fail::new(format_args!("the stream is open")));
     }
@@ -38,7 +39,7 @@ fn served(alloc: Global, input: &[u8], size: usize) -> Result<String, Fail> {
         Err(refusal) => Err(refusal),
     };
     let mut text = told(alloc, answer)?;
-    push_frames(alloc, ran.writer.as_slice(), &mut text)?;
+    push_frames(alloc, ends.written(), &mut text)?;
     Ok(text)
 }
 

@@ -1,91 +1,53 @@
 // A stream that finds no memory. `bench/fail_each.py` runs this test with each allocation failing in turn: where one fails
 // while the stream is served, a beginning of the responses was written, and the stream is closed.
-use crate::ran::{Pieces, Replica, written_bytes};
+use crate::ran::{Ends, serve, written_bytes};
 use std::alloc::Global;
-use std::io::Write;
 use std::test::Fail;
-use std::{io, str};
-use xds_core::Core;
-use xds_frames::Counted;
-use xds_message::DiscoveryRequest;
-use xds_resource::Refusal;
+use xds_core::{Core, Event};
+use xds_resource::{AnyResource, Groups, Refusal};
 
-const ROOM: usize = 512;
+const REQUESTS: &str = r#"0000004201 {"typeUrl":"CDS"}; 0000004401 {"typeUrl":"LDS"}"#;
 
-// A writer that takes its bytes without memory of the allocator.
-#[derive(Drop)]
-struct Taken {
-    bytes: [u8; ROOM],
-    count: usize,
+const RESPONSES: &str =
+    r#"000000bb02 {"nonce":"1","resources":[{"@type":"CDS","name":"a"}],"typeUrl":"CDS","versionInfo":"1.1"}; 0000006402 {"nonce":"2","typeUrl":"LDS","versionInfo":"1.0"}"#;
+
+// A replica takes a cluster.
+fn put_a_cluster(alloc: Global, core: &mut Core) -> Result<(), Fail> {
+    let text = written_bytes(alloc, r#" {"@type":"CDS","name":"a"}"#)?;
+    let text = String::from_utf8(text).ok().ok_or("no UTF-8")?;
+    let cluster = AnyResource::parse(alloc, text.as_str())?;
+    drop(core.step(Event::Put(cluster, Groups::none()))?);
+    Ok(())
 }
 
-impl Write for Taken {
-    fn write(&mut self, buf: &[u8]) -> io::Result<usize> {
-        let Some(room) = self.bytes.get_mut(self.count..) else {
-            return Ok(0);
-        };
-        let count = buf.len().min(room.len());
-        room[..count].copy_from_slice(&buf[..count]);
-        self.count = self.count.saturating_add(count);
-        Ok(count)
+// Whether the stream was refused memory. It is closed, and a beginning of the responses was written; all, where it wasn't.
+fn is_refused(alloc: Global, core: &mut Core) -> Result<bool, Fail> {
+    let input = written_bytes(alloc, REQUESTS)?;
+    let responses = written_bytes(alloc, RESPONSES)?;
+    // (what is written takes no memory meanwhile)
+    let taken = Vec::with_capacity(alloc, responses.len())?;
+    put_a_cluster(alloc, core)?;
+    let mut ends = Ends::new(input.as_slice(), 50, taken);
+    let ran = serve(alloc, core, &mut ends)?;
+    let refused = ran.answer == Err(Refusal::OutOfMemory);
+    let whole = ends.written().len() == responses.len();
+    if !ran.closed || !responses.as_slice().starts_with(ends.written()) {
+        return Err("it is open, or other responses are written".into());
     }
-
-    fn flush(&mut self) -> io::Result<()> {
-        Ok(())
+    if !refused && (ran.answer != Ok(()) || !whole) {
+        return Err("a response is left out".into());
     }
+    Ok(refused)
 }
 
-// What a stream came to that perhaps found no memory.
-#[derive(Drop)]
-struct Served {
-    answer: Result<(), Refusal>,
-    taken: Taken,
-    closed: bool,
-}
-
-// Serves a stream that asks for the clusters and the listeners of a replica, which holds a cluster.
-fn serve_short<C: Replica>(alloc: Global, replica: C) -> Result<Served, Fail> {
-    let cluster = written_bytes(alloc, r#" {"@type":"CDS","name":"a"}"#)?;
-    let cluster = str::from_utf8(cluster.as_slice()).ok().ok_or("no UTF-8")?;
-    let input = written_bytes(
-        alloc,
-        r#"0000004201 {"typeUrl":"CDS"}; 0000004401 {"typeUrl":"LDS"}"#,
-    )?;
-    let mut replica = replica;
-    replica.put(alloc, cluster)?;
-    let later = DiscoveryRequest::read(alloc, b"{}")?;
-    let mut reader = Counted::new(Pieces::new(input.as_slice(), 50));
-    let mut writer = Counted::new(Taken {
-        bytes: [0; ROOM],
-        count: 0,
-    });
-    let answer = replica.serve(alloc, &mut reader, &mut writer);
-    Ok(Served {
-        answer,
-        taken: writer.inner,
-        closed: replica.is_closed(later),
-    })
+fn is_served(alloc: Global) -> Result<bool, Fail> {
+    let mut core = Core::new(alloc, 1);
+    is_refused(alloc, &mut core)
 }
 
 #[test]
 fn a_stream_without_memory(rt: HostRuntime) -> Result<(), Fail> {
-    let alloc = rt.alloc();
-    let responses = written_bytes(
-        alloc,
-        r#"000000bb02 {"nonce":"1","resources":[{"@type":"CDS","name":"a"}],"typeUrl":"CDS","versionInfo":"1.1"}; 0000006402 {"nonce":"2","typeUrl":"LDS","versionInfo":"1.0"}"#,
-    )?;
-    let served = serve_short(alloc, Core::new(alloc, 1))?;
-    let taken = &served.taken;
-    let written = taken
-        .bytes
-        .get(..taken.count)
-        .ok_or("more bytes than room")?;
-    let is_refused = served.answer == Err(Refusal::OutOfMemory);
-    assert!(rt; is_refused || served.answer == Ok(()));
-    assert!(rt; responses.as_slice().starts_with(written));
-    assert!(rt; is_refused || written.len() == responses.len());
-    assert!(rt; served.closed);
-    if is_refused {
+    if is_served(rt.alloc())? {
         println!(rt; "refused, and went on")?;
     }
     Ok(())

@@ -5,9 +5,9 @@ use std::io::{ErrorKind, Read, Write};
 use std::test::Fail;
 use xds_cases::cases::written_out;
 use xds_core::{Core, Event, Request};
-use xds_frames::Counted;
+use xds_frames::{Counted, Faulty};
 use xds_message::DiscoveryRequest;
-use xds_resource::{AnyResource, Groups, Refusal};
+use xds_resource::Refusal;
 use xds_stream::run_stream;
 
 /// A reader that gives its bytes in pieces of one size.
@@ -33,21 +33,20 @@ impl Read for Pieces<'_> {
     }
 }
 
-/// A writer that takes one byte a call.
+/// A writer that takes at most so many bytes a call.
 #[derive(Drop)]
-pub(crate) struct Dripping {
+pub(crate) struct Taking {
     pub(crate) taken: Vec<u8>,
+    size: usize,
 }
 
-impl Write for Dripping {
+impl Write for Taking {
     fn write(&mut self, buf: &[u8]) -> io::Result<usize> {
-        let Some(&byte) = buf.first() else {
-            return Ok(0);
-        };
-        if self.taken.push(byte).is_err() {
+        let count = self.size.min(buf.len());
+        if self.taken.extend_from_slice(&buf[..count]).is_err() {
             return Err(io::Error::from(ErrorKind::OutOfMemory));
         }
-        Ok(1)
+        Ok(count)
     }
 
     fn flush(&mut self) -> io::Result<()> {
@@ -55,88 +54,66 @@ impl Write for Dripping {
     }
 }
 
+/// Both ends of a stream. Each fails at one of its calls, if at any.
+#[derive(Drop)]
+pub(crate) struct Ends<'a> {
+    pub(crate) reader: Counted<Faulty<Pieces<'a>>>,
+    pub(crate) writer: Counted<Faulty<Taking>>,
+}
+
+impl<'a> Ends<'a> {
+    /// Ends that never fail, and what is written into this buffer.
+    pub(crate) fn new(bytes: &'a [u8], size: usize, taken: Vec<u8>) -> Ends<'a> {
+        Ends::failing(bytes, (size, u64::MAX), (usize::MAX, u64::MAX), taken)
+    }
+
+    /// Ends with the sizes of their pieces, and with the call that fails of each.
+    pub(crate) fn failing(
+        bytes: &'a [u8],
+        (size, read): (usize, u64),
+        (most, write): (usize, u64),
+        taken: Vec<u8>,
+    ) -> Ends<'a> {
+        let reader = Faulty::new(Pieces::new(bytes, size), read);
+        let writer = Faulty::new(Taking { taken, size: most }, write);
+        Ends {
+            reader: Counted::new(reader),
+            writer: Counted::new(writer),
+        }
+    }
+
+    /// What was written.
+    pub(crate) fn written(&self) -> &[u8] {
+        self.writer.inner.inner.taken.as_slice()
+    }
+}
+
 /// What a stream came to.
 #[derive(Drop)]
-pub(crate) struct Ran<W: Drop> {
+pub(crate) struct Ran {
     pub(crate) answer: Result<(), Refusal>,
-    pub(crate) writer: W,
     /// Whether the stream was closed.
     pub(crate) closed: bool,
 }
 
-/// A replica, as these tests know it: by a trait alone, so that to drop it is a single step of a proof.
-pub(crate) trait Replica: Drop {
-    /// Puts a resource.
-    fn put(&mut self, alloc: Global, text: &str) -> Result<(), Refusal>;
-
-    /// Serves a stream.
-    fn serve<R: Read, W: Write>(
-        &mut self,
-        alloc: Global,
-        reader: &mut Counted<R>,
-        writer: &mut Counted<W>,
-    ) -> Result<(), Refusal>;
-
-    /// Whether a request on stream 1 is told that there is no such stream.
-    fn is_closed(&mut self, later: DiscoveryRequest) -> bool;
+/// Serves the first stream of a replica.
+pub(crate) fn serve(alloc: Global, core: &mut Core, ends: &mut Ends<'_>) -> Result<Ran, Refusal> {
+    let later = DiscoveryRequest::read(alloc, b"{}")?;
+    let answer = run_stream(alloc, core, &mut ends.reader, &mut ends.writer);
+    let closed = is_closed(core, later);
+    Ok(Ran { answer, closed })
 }
 
-impl Replica for Core {
-    fn put(&mut self, alloc: Global, text: &str) -> Result<(), Refusal> {
-        let resource = AnyResource::parse(alloc, text)?;
-        outcome(self.step(Event::Put(resource, Groups::none())))
-    }
-
-    fn serve<R: Read, W: Write>(
-        &mut self,
-        alloc: Global,
-        reader: &mut Counted<R>,
-        writer: &mut Counted<W>,
-    ) -> Result<(), Refusal> {
-        run_stream(alloc, self, reader, writer)
-    }
-
-    fn is_closed(&mut self, later: DiscoveryRequest) -> bool {
-        outcome(self.step(Event::Request(1, Request::Sotw(later)))) == Err(Refusal::NoStream)
-    }
-}
-
-// The refusal, if it is one.
-fn outcome<T: Drop>(answer: Result<T, Refusal>) -> Result<(), Refusal> {
-    match answer {
-        Ok(_) => Ok(()),
-        Err(refusal) => Err(refusal),
-    }
+// Whether a request on stream 1 is told that there is no such stream.
+fn is_closed(core: &mut Core, request: DiscoveryRequest) -> bool {
+    let answer = core.step(Event::Request(1, Request::Sotw(request)));
+    matches!(&answer, Err(Refusal::NoStream))
 }
 
 /// Serves the first stream of replica 1, which holds nothing.
-pub(crate) fn run<R: Read + Drop, W: Write + Drop>(alloc: Global, reader: R, writer: W) -> Ran<W> {
-    run_at(alloc, Core::new(alloc, 1), reader, writer)
-}
-
-fn run_at<C: Replica, R: Read + Drop, W: Write + Drop>(
-    alloc: Global,
-    replica: C,
-    reader: R,
-    writer: W,
-) -> Ran<W> {
-    let mut replica = replica;
-    let mut reader = Counted::new(reader);
-    let mut writer = Counted::new(writer);
-    let answer = replica.serve(alloc, &mut reader, &mut writer);
-    let closed = is_closed(alloc, &mut replica);
-    Ran {
-        answer,
-        writer: writer.inner,
-        closed,
-    }
-}
-
-fn is_closed<C: Replica>(alloc: Global, replica: &mut C) -> bool {
-    match DiscoveryRequest::read(alloc, b"{}") {
-        Ok(later) => replica.is_closed(later),
-        Err(_) => false,
-    }
+pub(crate) fn run(alloc: Global, ends: &mut Ends<'_>) -> Result<Ran, Refusal> {
+    let mut core = Core::new(alloc, 1);
+    serve(alloc, &mut core, ends)
 }
 
 /// The bytes of items that stand apart by `; `: hex digits, and where a space follows them a text.
