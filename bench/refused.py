@@ -11,7 +11,8 @@ other allocations of the test every answer was the ordinary one, or the test end
 third outcome is printed, and so is a call that was never refused, or was though it takes no memory.
 
 In the second form it does so with every test of the crates that have no threads (those of calls that change nothing among them, as of
-readers and writers): each must pass or end with `OutOfMemory`.
+readers and writers), and prints a line a test: each run must pass or end with `OutOfMemory`. Left out are tests that tell of a
+difference without what was answered.
 
 CRATE is a crate of tests, whose program `rt test` leaves in crates/CRATE/out; with none it is each that is built. It needs a C
 compiler, `cc`, for the shim of bench/fail_alloc.py. The last line is 'N right, M not', and the status is 1 where M isn't 0.
@@ -81,6 +82,8 @@ LOOKED_AT = {
 }
 # Crates whose tests run in threads: one that gives up may leave another waiting.
 THREADED = {"xds_link_tests", "xds_node_tests", "xds_workers_tests", "xds_histories_tests", "xds_http_tests", "xds_serve_tests", "xds_client_tests", "xds_commands_tests"}
+# Tests that tell of a difference without what was answered.
+SILENT = {"cases::streams_are_served", "faults::input_is_served_wherever_it_ends", "faults::each_read_may_fail", "faults::each_write_may_fail"}
 # What an allocation that failed makes of an answer that is compared with another, or of a test.
 SHORT = [*GAVE_UP, b"OutOfMemory", b"AllocError"]
 PATIENCE = 120
@@ -190,7 +193,7 @@ def main():
                 print(f"{crate} isn't built: run `rt test` there")
                 wrong += bool(given.crates)
                 continue
-            tests = [(test, every, ()) for test in tests_of(crate)] if given.tests else [(test, looked_at, (calls,)) for test, calls in LOOKED_AT[crate].items()]
+            tests = [(test, every, ()) for test in tests_of(crate) if test not in SILENT] if given.tests else [(test, looked_at, (calls,)) for test, calls in LOOKED_AT[crate].items()]
             for test, look, more in tests:
                 these, those = look(shim, program, test, *more, given.most)
                 right, wrong = right + these, wrong + those
