@@ -15,6 +15,7 @@ import re
 import socket
 import subprocess
 import sys
+import tempfile
 import time
 
 from play import TYPES, NotJson, compact, depth, is_complete, is_whole, read_json, some_body
@@ -206,15 +207,20 @@ def one(program, listener, pick):
     words = [program, "client", "--addr", "127.0.0.1:%d" % listener.getsockname()[1], "--variant", "delta" if is_delta else "sotw", "--type", kind, "--responses", str(responses)]
     words += ["--cluster", cluster] * bool(cluster) + names
     due, steps = wanted(Client(is_delta, kind, names, cluster), responses, data)
-    run = subprocess.Popen(words, stdin=subprocess.DEVNULL, stdout=subprocess.PIPE, stderr=subprocess.PIPE)
-    try:
-        link, _ = listener.accept()
-        sent = served(pick, link, data, steps)
-        output, errors = run.communicate(timeout=PATIENCE)
-    except (OSError, subprocess.TimeoutExpired) as fault:
-        run.kill()
-        return words, data, (repr(fault), *run.communicate(), run.returncode), due
-    return words, data, (sent, output, errors, run.returncode), due
+    # (into files, since nobody reads them before the end)
+    with tempfile.TemporaryFile() as output, tempfile.TemporaryFile() as errors:
+        run = subprocess.Popen(words, stdin=subprocess.DEVNULL, stdout=output, stderr=errors)
+        try:
+            link, _ = listener.accept()
+            sent = served(pick, link, data, steps)
+            run.wait(timeout=PATIENCE)
+        except (OSError, subprocess.TimeoutExpired) as fault:
+            run.kill()
+            run.wait()
+            sent = repr(fault)
+        output.seek(0)
+        errors.seek(0)
+        return words, data, (sent, output.read(), errors.read(), run.returncode), due
 
 
 def served(pick, link, data, steps):
@@ -263,7 +269,7 @@ def main(words):
             statuses[kind] = statuses.get(kind, 0) + 1
             if given != due:
                 wrong += 1
-                print(f"seed {seed}: {said} {data[:5000]}", f"wanted {due}", f"given {given}", sep="\n", flush=True)
+                print(f"seed {seed}: {said} {data[:5000]}", f"wanted {str(due)[:5000]}", f"given {str(given)[:5000]}", sep="\n", flush=True)
     told = ", ".join(f"{statuses[kind]} times {kind}" for kind in sorted(statuses))
     print(f"clients: {len(seeds)} inputs in {time.monotonic() - begin:.0f} s; ends: {told}; {wrong} differ")
     return 1 if wrong or not seeds else 0
