@@ -11,8 +11,8 @@ other allocations of the test every answer was the ordinary one, or the test end
 third outcome is printed, and so is a call that was never refused, or was though it takes no memory.
 
 In the second form it does so with every test of the crates that have no threads (those of calls that change nothing among them, as of
-readers and writers), and prints a line a test: each run must pass or end with `OutOfMemory`. Left out are tests that tell of a
-difference without what was answered.
+readers and writers): each run must pass or end with `OutOfMemory`. Printed are a line a test and, of each crate, the calls
+with an allocator that stand in it. Left out are tests that tell of a difference without what was answered.
 
 CRATE is a crate of tests, whose program `rt test` leaves in crates/CRATE/out; with none it is each that is built. It needs a C
 compiler, `cc`, for the shim of bench/fail_alloc.py. The last line is 'N right, M not', and the status is 1 where M isn't 0.
@@ -159,6 +159,22 @@ def tests_of(crate):
                 yield f"{name[: -len('.rt')]}::{test}"
 
 
+def calls_in(crate):
+    """The calls of a crate of tests that are given an allocator, but for its own, and those of catalogues, replicas and the like."""
+    text = ""
+    for name in (crate, "xds_cases"):
+        folder = os.path.join(TOP, "crates", name, "src")
+        for file in sorted(os.listdir(folder)):
+            with open(os.path.join(folder, file), encoding="utf-8") as it:
+                text += re.sub(r"//.*", "", it.read())
+    own = set(re.findall(r"fn (\w+)", text))
+    found = re.findall(r"([A-Z]\w+(?:::<\w+>)?::\w+)\((?:rt\.)?alloc\b", text) + re.findall(r"(\.\w+)\(\s*(?:rt\.)?alloc\b", text)
+    found += [it for it in re.findall(r"(?<![\w:.])([a-z]\w+)\(\s*(?:rt\.)?alloc\b", text) if it not in own]
+    found += re.findall(r"(\.(?:put|delete|join_write|join_all|step|feed|next_part|fill))\(", text)
+    std = ("Vec::", "String::", "Value::", "Arc::", "ArcStr::", ".to_string", ".replace", "hex::")
+    return sorted({re.sub(r"::<\w+>", "", it) for it in found if not it.startswith(std) and (it[0] != "." or f"fn {it[1:]}(" not in text or it in (".take", ".poll", ".put"))})
+
+
 def every(shim, program, test, most):
     count = shim.allocations(program, test)
     step = max(1, count // most)
@@ -194,6 +210,8 @@ def main():
                 wrong += bool(given.crates)
                 continue
             tests = [(test, every, ()) for test in tests_of(crate) if test not in SILENT] if given.tests else [(test, looked_at, (calls,)) for test, calls in LOOKED_AT[crate].items()]
+            if given.tests:
+                print(f"{crate}, with the calls {', '.join(calls_in(crate))}", flush=True)
             for test, look, more in tests:
                 these, those = look(shim, program, test, *more, given.most)
                 right, wrong = right + these, wrong + those
