@@ -86,6 +86,8 @@ THREADED = {"xds_link_tests", "xds_node_tests", "xds_workers_tests", "xds_histor
 SILENT = {"cases::streams_are_served", "faults::input_is_served_wherever_it_ends", "faults::each_read_may_fail", "faults::each_write_may_fail"}
 # What an allocation that failed makes of an answer that is compared with another, or of a test.
 SHORT = [*GAVE_UP, b"OutOfMemory", b"AllocError"]
+# How tests of some crates say that there was no memory for what they were to give to a call.
+OWN = {"xds_frames_tests": [b"21 BadScript", b'"a text is none"']}
 PATIENCE = 120
 
 
@@ -175,7 +177,7 @@ def calls_in(crate):
     return sorted({re.sub(r"::<\w+>", "", it) for it in found if not it.startswith(std) and (it[0] != "." or f"fn {it[1:]}(" not in text or it in (".take", ".poll", ".put"))})
 
 
-def every(shim, program, test, most):
+def every(shim, program, test, words, most):
     count = shim.allocations(program, test)
     step = max(1, count // most)
     passed, ended, wrong = 0, 0, []
@@ -183,7 +185,7 @@ def every(shim, program, test, most):
         status, text = shim.run(program, test, at)
         if is_passed(status, text):
             passed += 1
-        elif status and status > 0 and any(words in text for words in SHORT):
+        elif status and status > 0 and any(it in text for it in words):
             ended += 1
         else:
             wrong.append((at, status, text[-300:]))
@@ -209,7 +211,7 @@ def main():
                 print(f"{crate} isn't built: run `rt test` there")
                 wrong += bool(given.crates)
                 continue
-            tests = [(test, every, ()) for test in tests_of(crate) if test not in SILENT] if given.tests else [(test, looked_at, (calls,)) for test, calls in LOOKED_AT[crate].items()]
+            tests = [(test, every, (SHORT + OWN.get(crate, []),)) for test in tests_of(crate) if test not in SILENT] if given.tests else [(test, looked_at, (calls,)) for test, calls in LOOKED_AT[crate].items()]
             if given.tests:
                 print(f"{crate}, with the calls {', '.join(calls_in(crate))}", flush=True)
             for test, look, more in tests:
