@@ -83,7 +83,8 @@ LOOKED_AT = {
 # Crates whose tests run in threads: one that gives up may leave another waiting.
 THREADED = {"xds_link_tests", "xds_node_tests", "xds_workers_tests", "xds_histories_tests", "xds_http_tests", "xds_serve_tests", "xds_client_tests", "xds_commands_tests"}
 # Tests that tell of a difference without what was answered.
-SILENT = {"cases::streams_are_served", "faults::input_is_served_wherever_it_ends", "faults::each_read_may_fail", "faults::each_write_may_fail"}
+SILENT = {"cases::streams_are_served", "faults::input_is_served_wherever_it_ends", "faults::each_read_may_fail", "faults::each_write_may_fail",
+          "counted::one_call_fails_and_is_counted", "counted::calls_after_the_last_fail"}
 # What an allocation that failed makes of an answer that is compared with another, or of a test.
 SHORT = [*GAVE_UP, b"OutOfMemory", b"AllocError"]
 # How tests of some crates say that there was no memory for what they were to give to a call.
