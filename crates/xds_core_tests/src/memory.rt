@@ -118,7 +118,8 @@ const EVENTS: &str = r#"= put {"@type":"CDS","name":"a"} => 1-1
 - owed 1 => yes
 - due 1 => no
 - poll 1 => none
-+ owed 1 => no
++ owed 1 => yes
++ poll 1 => {"nonce":"2","resources":[{"@type":"CDS","name":"a"}],"typeUrl":"CDS","versionInfo":"1.1.named"}
 
 = open => 1
 ? delta 1 {"initialResourceVersions":{"x":"1-1"},"resourceNamesSubscribe":["a","*"],"typeUrl":"CDS"}
