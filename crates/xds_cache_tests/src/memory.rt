@@ -121,23 +121,9 @@ poll cluster => {"node":{"id":"7"},"resourceNames":["b"],"typeUrl":"CDS"}"#,
     Ok(())
 }
 
-// Plays a script as `goes_on` does, and says whether the call was refused.
-fn told<P: Player>(
-    rt: &HostRuntime,
-    before: &str,
-    call: &str,
-    refused: &str,
-    at_last: &str,
-) -> Result<(), Fail> {
-    if goes_on::<P, HostRuntime>(rt, before, call, refused, at_last)? {
-        println!(rt; "refused, and went on")?;
-    }
-    Ok(())
-}
-
 #[test]
 fn connecting_in_state_of_the_world_without_memory(rt: HostRuntime) -> Result<(), Fail> {
-    told::<Sotw>(
+    let refused = goes_on::<Sotw, HostRuntime>(
         &rt,
         r#"change cluster * => none
 change route q => none
@@ -150,12 +136,16 @@ connect => {"node":{"id":"7"},"resourceNames":["*"],"typeUrl":"CDS","versionInfo
         r#"view cluster => {"@type":"CDS","name":"a"}
 receive {"nonce":"1","typeUrl":"CDS","versionInfo":"v2"} => {"resourceNames":["*"],"responseNonce":"1","typeUrl":"CDS","versionInfo":"v2"}
 view cluster => none"#,
-    )
+    )?;
+    if refused {
+        println!(rt; "refused, and went on")?;
+    }
+    Ok(())
 }
 
 #[test]
 fn connecting_in_delta_without_memory(rt: HostRuntime) -> Result<(), Fail> {
-    told::<Delta>(
+    let refused = goes_on::<Delta, HostRuntime>(
         &rt,
         r#"change cluster * => none
 connect => {"node":{"id":"7"},"resourceNamesSubscribe":["*"],"typeUrl":"CDS"}
@@ -167,12 +157,16 @@ connect => {"initialResourceVersions":{"a":"1-1"},"node":{"id":"7"},"resourceNam
         r#"view cluster => 1-1 {"@type":"CDS","name":"a"}
 receive {"nonce":"1","removedResources":["a"],"typeUrl":"CDS"} => {"responseNonce":"1","typeUrl":"CDS"}
 view cluster => none"#,
-    )
+    )?;
+    if refused {
+        println!(rt; "refused, and went on")?;
+    }
+    Ok(())
 }
 
 #[test]
 fn changing_in_state_of_the_world_without_memory(rt: HostRuntime) -> Result<(), Fail> {
-    told::<Sotw>(
+    let refused = goes_on::<Sotw, HostRuntime>(
         &rt,
         r#"change cluster * => none
 connect => {"node":{"id":"7"},"resourceNames":["*"],"typeUrl":"CDS"}
@@ -184,12 +178,16 @@ change cluster b => {"resourceNames":["b"],"responseNonce":"2","typeUrl":"CDS","
         r#"view cluster => {"@type":"CDS","name":"b"}
 receive {"nonce":"3","resources":[{"@type":"CDS","name":"a"}],"typeUrl":"CDS","versionInfo":"v3"} => {"resourceNames":["b"],"responseNonce":"3","typeUrl":"CDS","versionInfo":"v3"}
 view cluster => none"#,
-    )
+    )?;
+    if refused {
+        println!(rt; "refused, and went on")?;
+    }
+    Ok(())
 }
 
 #[test]
 fn changing_in_delta_without_memory(rt: HostRuntime) -> Result<(), Fail> {
-    told::<Delta>(
+    let refused = goes_on::<Delta, HostRuntime>(
         &rt,
         r#"change cluster a b => none
 connect => {"node":{"id":"7"},"resourceNamesSubscribe":["a","b"],"typeUrl":"CDS"}
@@ -200,5 +198,9 @@ change cluster c - a => {"resourceNamesSubscribe":["c"],"resourceNamesUnsubscrib
         r#"view cluster => none
 receive {"nonce":"2","resources":[{"name":"c","resource":{"@type":"CDS","name":"c"},"version":"2-1"}],"typeUrl":"CDS"} => {"responseNonce":"2","typeUrl":"CDS"}
 view cluster => 2-1 {"@type":"CDS","name":"c"}"#,
-    )
+    )?;
+    if refused {
+        println!(rt; "refused, and went on")?;
+    }
+    Ok(())
 }
