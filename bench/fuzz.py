@@ -4,6 +4,7 @@
     python3 bench/fuzz.py DOOR [--proved | --built FILE] [--keep FILE] [--at-once N] [FIRST LAST]
     python3 bench/fuzz.py DOOR --program PROGRAM [FIRST LAST]
     python3 bench/fuzz.py posts PROGRAM [FIRST LAST]
+    python3 bench/fuzz.py sockets PROGRAM [FIRST LAST]
 
 DOOR is one of
 
@@ -13,17 +14,20 @@ DOOR is one of
     batches   batches, to `Batch::read`, and into a new replica; a reading of docs/FORMATS.md here
     answers   stamped writes and a request, to `xds answer`; a reading here
     posts     polls over HTTP, over a socket to `xds serve`: status and body; that of bench/posts.py
+    sockets   the bytes of streams, over a socket each to `xds serve`, frame by frame; that of bench/streams.py
 
-Each seed from FIRST (0) up to LAST (10000) makes one input. But for posts they all go through one process, whose program is made by
+Each seed from FIRST (0) up to LAST (10000) makes one input. But for posts and sockets they all go through one process, whose program is made by
 bench/doors.py: by `rt try`, or with --proved proved and built, or FILE that --keep FILE left of a run before, N inputs (10,000) a
 process. With --program the built `xds` is started once for each input of scripts, traces and answers. An input counts as wrong
 where the answer isn't that of the reading, and a run where the program ends before all are answered, or takes too long. What
 differs is printed with its seed, and the status is then 1.
 """
 import argparse
+import errno
 import json
 import os
 import random
+import socket
 import subprocess
 import sys
 import time
@@ -119,7 +123,11 @@ def trace_case(pick, good):
 
 def edited(pick, data):
     lines = data.split(b"\n")[:-1]
-    found = trace.edited(pick, lines) if lines else None
+    try:
+        found = trace.edited(pick, lines) if lines else None
+    except (ValueError, RecursionError):
+        # (it was spoiled so that it can't be edited any more)
+        return data
     return b"".join(line + b"\n" for line in found) if found else data
 
 
@@ -242,6 +250,92 @@ def asked(replica, held, line):
     return compact(made).encode() + b"\n"
 
 
+# ---- streams over sockets
+
+
+def read_exactly(link, count):
+    found = b""
+    while len(found) < count:
+        piece = link.recv(min(1 << 16, count - len(found)))
+        if not piece:
+            break
+        found += piece
+    return found
+
+
+def connected(pick, port):
+    """A connection from one of many addresses of this machine, so that their ports are enough."""
+    link = socket.socket()
+    link.settimeout(PATIENCE)
+    link.setsockopt(socket.IPPROTO_TCP, socket.TCP_NODELAY, 1)
+    link.bind((f"127.0.{pick.randrange(1, 255)}.{pick.randrange(1, 255)}", 0))
+    link.connect(("127.0.0.1", port))
+    return link
+
+
+def cut_in_two(pick, link, data):
+    at = pick.randrange(len(data) + 1) if pick.random() < 0.2 else len(data)
+    link.sendall(data[:at])
+    link.sendall(data[at:])
+
+
+def served_over_socket(pick, link, data):
+    """What the server wrote and what it should have: it is waited for the responses to each frame before the next is sent."""
+    served, given = streams.Served(), b""
+    while data:
+        try:
+            behind = served.frame(data)
+        except Refused:
+            break
+        cut_in_two(pick, link, data[: len(data) - len(behind)])
+        given += read_exactly(link, len(served.written) - len(given))
+        if given != served.written:
+            return given, served.written
+        data = behind
+    try:
+        # (the end of the input, or what is refused: the server closes the stream, and writes nothing more)
+        cut_in_two(pick, link, data)
+        link.shutdown(socket.SHUT_WR)
+        given += read_exactly(link, 1 << 30)
+    except OSError as fault:
+        # (what it refuses it need not have read)
+        if fault.errno not in (errno.ECONNRESET, errno.EPIPE, errno.ENOTCONN):
+            raise
+    return given, served.written
+
+
+def over_sockets(words):
+    program, seeds = words[0], range(*map(int, words[1:3])) if len(words) == 3 else range(10000)
+    port, rest_port = posts.free_ports()
+    server = subprocess.Popen([program, "serve", "--replicas", "1", "--port", str(port), "--rest-port", str(rest_port)], stdin=subprocess.PIPE, stderr=subprocess.DEVNULL)
+    begin, wrong, answered = time.monotonic(), 0, 0
+    try:
+        server.stdin.write("".join(posts.lines()).encode())
+        server.stdin.flush()
+        posts.filled(posts.Link(rest_port), streams.Served().replica)
+        for seed in seeds:
+            pick = random.Random(seed)
+            data = stream_input(pick)
+            try:
+                with connected(pick, port) as link:
+                    given, due = served_over_socket(pick, link, data)
+            except OSError as fault:
+                given, due = repr(fault), None
+            answered += bool(due)
+            if given != due:
+                wrong += 1
+                print(f"seed {seed}: {brief(data)}", f"wanted {due}", f"given {given}", sep="\n", flush=True)
+            if server.poll() is not None:
+                print("the server has ended")
+                return 1
+        with open(f"/proc/{server.pid}/status", encoding="ascii") as file:
+            held = [line.split()[1] for line in file if line.startswith(("VmRSS", "Threads"))]
+    finally:
+        server.kill()
+    print(f"sockets: {len(seeds)} inputs in {time.monotonic() - begin:.0f} s, {answered} of them answered with a response; {wrong} differ; at the end the server holds {held[0]} kB and {held[1]} threads")
+    return 1 if wrong or not seeds else 0
+
+
 # ---- runs
 
 # Of each door: its name in bench/doors.py, how a case of it is made, and what it must be answered.
@@ -313,7 +407,7 @@ def run_some(doors, door, seeds, counts):
 
 def main():
     parser = argparse.ArgumentParser(description=__doc__, formatter_class=argparse.RawDescriptionHelpFormatter)
-    parser.add_argument("door", choices=[*DOORS, "posts"])
+    parser.add_argument("door", choices=[*DOORS, "posts", "sockets"])
     parser.add_argument("--proved", action="store_true")
     parser.add_argument("--built")
     parser.add_argument("--keep")
@@ -323,6 +417,8 @@ def main():
     given = parser.parse_intermixed_args()
     if given.door == "posts":
         return posts.main(given.rest, spoils=True)
+    if given.door == "sockets":
+        return over_sockets(given.rest)
     first, last = map(int, given.rest) if len(given.rest) == 2 else (0, 10000)
     begin = time.monotonic()
     doors = Program(given.program) if given.program else Doors(streams.writes(), given.proved, given.built and os.path.abspath(given.built))

@@ -1,15 +1,16 @@
 #!/usr/bin/env python3
 """Load on `xds serve`: many streams of both variants, all settled, and what a put costs until every one of them has it.
 
-    python3 bench/load.py [--streams N] [--clusters N] [--bytes N] [--puts N] [--silent N] [--events N] [--rest N] PROGRAM
+    python3 bench/load.py [--streams N] [--clusters N] [--bytes N] [--puts N] [--silent N] [--events N] [--rounds N] [--rest N] PROGRAM
 
 The program serves one replica that holds the clusters (1,000 of 600 bytes). N streams (1,000) ask for all of them, the even
 ones in the incremental variant, the odd ones state of the world, and accept every response. Printed are: streams opened and
 settled a second; what an acceptance by one more stream costs beside ten of them and beside all; the time from a put until the
 last incremental stream has it, and until every stream has it; the same for a row of puts (200), one after another; processor
 time, memory and threads of the server; then the same puts beside streams that ask and never read (100); polls over HTTP a
-second at 16 connections that are kept open, whole and unchanged; and what the server's memory is after so many more events
-(100,000), and after as many again. This script runs on the same machine and takes a core of its own.
+second at 16 connections that are kept open, whole and unchanged; and what the server's memory was, at least and at most, during so
+many more puts (100,000) that ten streams take, during as many again, and so on (4 rounds). This script runs on the same machine and
+takes a core of its own.
 """
 import argparse
 import os
@@ -27,7 +28,7 @@ NONCE = re.compile(rb'\{"nonce":"(\d+)"')
 SOTW_END = re.compile(rb'"versionInfo":"1\.(\d+)"\}$')
 DELTA_END = re.compile(rb'"systemVersionInfo":"1\.(\d+)","typeUrl":"[^"]*"\}$')
 # The longest that anything is waited for.
-PATIENCE = 300
+PATIENCE = 900
 
 
 def framed(kind, text):
@@ -218,23 +219,31 @@ def polls(server, seconds=4):
         print(subprocess.run(command, capture_output=True, text=True).stdout.strip().replace("\n", "; "), flush=True)
 
 
-def settled_events(server, chosen, streams, count, size):
-    """So many puts of one cluster, each taken by the incremental streams."""
-    done = 0
+def settled_events(server, chosen, streams, count, size, number):
+    """So many puts of one cluster, each taken by the incremental streams. The memory is looked at every thousand puts: it rises as the
+    journal fills, and falls as it is cut."""
+    done, held, begin = 0, [], time.perf_counter()
+    responses = sum(it.responses for it in streams)
     while done < count:
         for _ in range(100):
             server.put("c1", size, server.changes)
         server.flush()
         done += 100
-        for key, _ in chosen.select(0):
-            key.data.take()
+        wait(chosen, Waiting(streams, server.changes - 200))
+        if done % 1000 == 0:
+            held.append(server.status("VmRSS") / 1024)
     wait(chosen, Waiting(streams, server.changes))
-    print(f"after {count} more puts: {server.told()}", flush=True)
+    responses = sum(it.responses for it in streams) - responses
+    held.sort()
+    print(
+        f"{count} more puts, {responses} responses, in {time.perf_counter() - begin:.0f} s (round {number}): the server held {held[0]:.0f} to {held[-1]:.0f} MB, {held[len(held) // 2]:.0f} at the middle; now {server.told()}",
+        flush=True,
+    )
 
 
 def main():
     parser = argparse.ArgumentParser(description=__doc__, formatter_class=argparse.RawDescriptionHelpFormatter)
-    for word, default in (("streams", 1000), ("clusters", 1000), ("bytes", 600), ("puts", 200), ("silent", 100), ("events", 100000), ("rest", 1)):
+    for word, default in (("streams", 1000), ("clusters", 1000), ("bytes", 600), ("puts", 200), ("silent", 100), ("events", 100000), ("rounds", 4), ("rest", 1)):
         parser.add_argument(f"--{word}", type=int, default=default)
     parser.add_argument("program")
     given = parser.parse_args()
@@ -255,8 +264,8 @@ def main():
         for stream in streams[20:]:
             chosen.unregister(stream.socket)
             stream.socket.close()
-        for _ in range(2 if given.events else 0):
-            settled_events(server, chosen, streams[:20:2], given.events, given.bytes)
+        for number in range(given.rounds if given.events else 0):
+            settled_events(server, chosen, streams[:20:2], given.events, given.bytes, number + 1)
     finally:
         server.run.kill()
 

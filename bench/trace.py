@@ -363,7 +363,11 @@ def edited(pick, lines):
             except ValueError:
                 # (an edit before this one spoiled the line)
                 return None
+            if not isinstance(message, dict):
+                return None
             key = pick.choice([it for it in ("resources", "removedResources") if it in message] or ["nonce"])
+            if not isinstance(message.get(key), (list, str)):
+                return None
             message[key] = message[key][1:]
             lines[at] = head + compact(message).encode()
     else:

@@ -1,5 +1,5 @@
 // A delta client that plays a script. Its changes name what is subscribed, then `-` and what is unsubscribed.
-use crate::script::{Player, answered, joined, perhaps_answered, words_of};
+use crate::script::{NO_MEMORY, Player, answered, joined, perhaps_answered, words_of};
 use std::alloc::Global;
 use xds_cache::{DeltaClient, Down, Holding, Marked, Up};
 use xds_message::DeltaDiscoveryResponse;
@@ -25,11 +25,16 @@ impl Player for Delta {
 
     fn connect(&mut self, alloc: Global) -> Result<String, Refusal> {
         let client = self.down.take().ok_or(Refusal::NotFound)?;
-        let Ok((up, requests)) = client.connect(alloc) else {
-            return Err(Refusal::OutOfMemory);
-        };
-        self.up = Some(up);
-        joined(alloc, requests.as_slice())
+        match client.connect(alloc) {
+            Ok((up, requests)) => {
+                self.up = Some(up);
+                joined(alloc, requests.as_slice())
+            }
+            Err(down) => {
+                self.down = Some(down);
+                Ok(String::from_str(alloc, NO_MEMORY)?)
+            }
+        }
     }
 
     fn lose(&mut self) -> Result<(), Refusal> {

@@ -1,6 +1,7 @@
-// Clients that find no memory for a response. `bench/fail_each.py` runs these tests with each allocation failing in turn:
-// where one fails in `receive`, what is held stays, the client is of no use until its stream is lost, and then it goes on. One
-// that polls goes on at once.
+// Clients that find no memory. `bench/fail_each.py` runs these tests with each allocation failing in turn: where one fails in
+// `receive`, what is held stays, the client is of no use until its stream is lost, and then it goes on. One that polls goes on
+// at once, and so does each where an allocation fails in `connect`, from which the client that is down comes back, or in
+// `change`.
 use crate::delta::Delta;
 use crate::rest::Rest;
 use crate::script::{NO_MEMORY, Player, ask, play_on};
@@ -113,6 +114,90 @@ poll cluster => {"node":{"id":"7"},"resourceNames":["*"],"typeUrl":"CDS","versio
 change cluster b => none"#,
         r#"view cluster => {"@type":"CDS","name":"b"}
 poll cluster => {"node":{"id":"7"},"resourceNames":["b"],"typeUrl":"CDS"}"#,
+    )?;
+    if refused {
+        println!(rt; "refused, and went on")?;
+    }
+    Ok(())
+}
+
+#[test]
+fn connecting_in_state_of_the_world_without_memory(rt: HostRuntime) -> Result<(), Fail> {
+    let refused = goes_on::<Sotw, HostRuntime>(
+        &rt,
+        r#"change cluster * => none
+change route q => none
+connect => {"node":{"id":"7"},"resourceNames":["*"],"typeUrl":"CDS"} {"resourceNames":["q"],"typeUrl":"RDS"}
+receive {"nonce":"1","resources":[{"@type":"CDS","name":"a"}],"typeUrl":"CDS","versionInfo":"v1"} => {"resourceNames":["*"],"responseNonce":"1","typeUrl":"CDS","versionInfo":"v1"}
+lose => none"#,
+        "connect",
+        r#"view cluster => {"@type":"CDS","name":"a"}
+connect => {"node":{"id":"7"},"resourceNames":["*"],"typeUrl":"CDS","versionInfo":"v1"} {"resourceNames":["q"],"typeUrl":"RDS"}"#,
+        r#"view cluster => {"@type":"CDS","name":"a"}
+receive {"nonce":"1","typeUrl":"CDS","versionInfo":"v2"} => {"resourceNames":["*"],"responseNonce":"1","typeUrl":"CDS","versionInfo":"v2"}
+view cluster => none"#,
+    )?;
+    if refused {
+        println!(rt; "refused, and went on")?;
+    }
+    Ok(())
+}
+
+#[test]
+fn connecting_in_delta_without_memory(rt: HostRuntime) -> Result<(), Fail> {
+    let refused = goes_on::<Delta, HostRuntime>(
+        &rt,
+        r#"change cluster * => none
+connect => {"node":{"id":"7"},"resourceNamesSubscribe":["*"],"typeUrl":"CDS"}
+receive {"nonce":"1","resources":[{"name":"a","resource":{"@type":"CDS","name":"a"},"version":"1-1"}],"typeUrl":"CDS"} => {"responseNonce":"1","typeUrl":"CDS"}
+lose => none"#,
+        "connect",
+        r#"view cluster => 1-1 {"@type":"CDS","name":"a"}
+connect => {"initialResourceVersions":{"a":"1-1"},"node":{"id":"7"},"resourceNamesSubscribe":["*"],"typeUrl":"CDS"}"#,
+        r#"view cluster => 1-1 {"@type":"CDS","name":"a"}
+receive {"nonce":"1","removedResources":["a"],"typeUrl":"CDS"} => {"responseNonce":"1","typeUrl":"CDS"}
+view cluster => none"#,
+    )?;
+    if refused {
+        println!(rt; "refused, and went on")?;
+    }
+    Ok(())
+}
+
+#[test]
+fn changing_in_state_of_the_world_without_memory(rt: HostRuntime) -> Result<(), Fail> {
+    let refused = goes_on::<Sotw, HostRuntime>(
+        &rt,
+        r#"change cluster * => none
+connect => {"node":{"id":"7"},"resourceNames":["*"],"typeUrl":"CDS"}
+receive {"nonce":"1","resources":[{"@type":"CDS","name":"a"},{"@type":"CDS","name":"b"}],"typeUrl":"CDS","versionInfo":"v1"} => {"resourceNames":["*"],"responseNonce":"1","typeUrl":"CDS","versionInfo":"v1"}"#,
+        "change cluster b",
+        r#"view cluster => {"@type":"CDS","name":"a"} {"@type":"CDS","name":"b"}
+receive {"nonce":"2","resources":[{"@type":"CDS","name":"a"},{"@type":"CDS","name":"b"}],"typeUrl":"CDS","versionInfo":"v1"} => {"resourceNames":["*"],"responseNonce":"2","typeUrl":"CDS","versionInfo":"v1"}
+change cluster b => {"resourceNames":["b"],"responseNonce":"2","typeUrl":"CDS","versionInfo":"v1"}"#,
+        r#"view cluster => {"@type":"CDS","name":"b"}
+receive {"nonce":"3","resources":[{"@type":"CDS","name":"a"}],"typeUrl":"CDS","versionInfo":"v3"} => {"resourceNames":["b"],"responseNonce":"3","typeUrl":"CDS","versionInfo":"v3"}
+view cluster => none"#,
+    )?;
+    if refused {
+        println!(rt; "refused, and went on")?;
+    }
+    Ok(())
+}
+
+#[test]
+fn changing_in_delta_without_memory(rt: HostRuntime) -> Result<(), Fail> {
+    let refused = goes_on::<Delta, HostRuntime>(
+        &rt,
+        r#"change cluster a b => none
+connect => {"node":{"id":"7"},"resourceNamesSubscribe":["a","b"],"typeUrl":"CDS"}
+receive {"nonce":"1","resources":[{"name":"a","resource":{"@type":"CDS","name":"a"},"version":"1-1"}],"typeUrl":"CDS"} => {"responseNonce":"1","typeUrl":"CDS"}"#,
+        "change cluster c - a",
+        r#"view cluster => 1-1 {"@type":"CDS","name":"a"}
+change cluster c - a => {"resourceNamesSubscribe":["c"],"resourceNamesUnsubscribe":["a"],"typeUrl":"CDS"}"#,
+        r#"view cluster => none
+receive {"nonce":"2","resources":[{"name":"c","resource":{"@type":"CDS","name":"c"},"version":"2-1"}],"typeUrl":"CDS"} => {"responseNonce":"2","typeUrl":"CDS"}
+view cluster => 2-1 {"@type":"CDS","name":"c"}"#,
     )?;
     if refused {
         println!(rt; "refused, and went on")?;

@@ -1,5 +1,5 @@
 // A state-of-the-world client that plays a script.
-use crate::script::{Player, answered, joined, perhaps_answered, words_of};
+use crate::script::{NO_MEMORY, Player, answered, joined, perhaps_answered, words_of};
 use std::alloc::Global;
 use xds_cache::{Down, Holding, Marked, SotwClient, Up};
 use xds_message::DiscoveryResponse;
@@ -25,11 +25,16 @@ impl Player for Sotw {
 
     fn connect(&mut self, alloc: Global) -> Result<String, Refusal> {
         let client = self.down.take().ok_or(Refusal::NotFound)?;
-        let Ok((up, requests)) = client.connect(alloc) else {
-            return Err(Refusal::OutOfMemory);
-        };
-        self.up = Some(up);
-        joined(alloc, requests.as_slice())
+        match client.connect(alloc) {
+            Ok((up, requests)) => {
+                self.up = Some(up);
+                joined(alloc, requests.as_slice())
+            }
+            Err(down) => {
+                self.down = Some(down);
+                Ok(String::from_str(alloc, NO_MEMORY)?)
+            }
+        }
     }
 
     fn lose(&mut self) -> Result<(), Refusal> {

@@ -146,3 +146,65 @@ fn refused_batch_changes_nothing(rt: HostRuntime) -> Result<(), Fail> {
     }
     Ok(())
 }
+
+// Whether a call found no memory. Another refusal is passed on.
+fn is_short<V: Drop>(answer: Result<V, Refusal>) -> Result<bool, Refusal> {
+    match answer {
+        Ok(_) => Ok(false),
+        Err(Refusal::OutOfMemory) => Ok(true),
+        Err(refusal) => Err(refusal),
+    }
+}
+
+// The same of a change of some writes.
+fn changes(alloc: Global, catalogue: &mut Catalogue<Cluster>, verb: &str) -> Result<bool, Refusal> {
+    if verb == "delete" {
+        return is_short(catalogue.delete("1", 1));
+    }
+    if verb == "put" {
+        let text =
+            r#"{"@type":"type.googleapis.com/envoy.config.cluster.v3.Cluster","name":"2500"}"#;
+        let resource = Resource::parse(alloc, text)?;
+        return is_short(catalogue.put(resource, Groups::none(), 1));
+    }
+    if verb == "join_write" {
+        let write = numbered(alloc, 6)?;
+        return is_short(catalogue.join_write(write));
+    }
+    let more = batch(alloc, &[7, 2_502, 8])?;
+    is_short(catalogue.join_all(more))
+}
+
+// Whether a change found no memory at first. It has changed nothing then, and is made when it comes again.
+fn changes_again(
+    alloc: Global,
+    catalogue: &mut Catalogue<Cluster>,
+    before: &Catalogue<Cluster>,
+    verb: &str,
+) -> Result<bool, Refusal> {
+    if !changes(alloc, catalogue, verb)? {
+        return Ok(false);
+    }
+    if !same(catalogue, before) || changes(alloc, catalogue, verb)? || same(catalogue, before) {
+        return Err(Refusal::BadTrace);
+    }
+    Ok(true)
+}
+
+fn is_refused(alloc: Global, verb: &str) -> Result<bool, Refusal> {
+    let mut catalogue = Catalogue::new(alloc);
+    catalogue.join_all(batch(alloc, &[1, 2, 3, 2_501, 4, 5])?)?;
+    let before = catalogue.try_copy(alloc)?;
+    changes_again(alloc, &mut catalogue, &before, verb)
+}
+
+// With ample memory each change is made at once; `bench/refused.py` refuses one allocation after another.
+#[test]
+fn each_change_without_memory(rt: HostRuntime) -> Result<(), Fail> {
+    for verb in ["put", "delete", "join_write", "join_all"] {
+        if is_refused(rt.alloc(), verb)? {
+            println!(rt; "refused, and went on: {verb}")?;
+        }
+    }
+    Ok(())
+}

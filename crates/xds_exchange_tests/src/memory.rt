@@ -1,12 +1,14 @@
-// A round that finds no memory. `bench/fail_each.py` runs this test with each allocation failing in turn: where a round is
-// refused, the next one tells everything.
+// A round that finds no memory, and an outbox. `bench/fail_each.py` runs these tests with each allocation failing in turn: where
+// a round is refused, the next one tells everything, and an outbox that was refused has what it had.
+use crate::parts::{Wanted, batch_of};
 use crate::replicas::Site;
 use crate::rounds::{are_equal, put_all};
 use std::alloc::Global;
 use std::test::Fail;
 use xds_core::Core;
-use xds_exchange::Peer;
+use xds_exchange::{Outbox, Peer};
 use xds_resource::{Refusal, TypeName};
+use xds_writes::Batch;
 
 // Whether the first of two rounds was refused.
 fn told_again<S: Site>(alloc: Global) -> Result<bool, Fail> {
@@ -44,6 +46,67 @@ fn tell_again<S: Site>(alloc: Global, one: &mut S, other: &mut S) -> Result<bool
 fn rounds_without_memory(rt: HostRuntime) -> Result<(), Fail> {
     if told_again::<Core>(rt.alloc())? {
         println!(rt; "refused, and went on")?;
+    }
+    Ok(())
+}
+
+// Whether an outbox was refused a batch at first; it has none then, and has it at last.
+fn is_filled_again(alloc: Global, outbox: &mut Outbox, batch: Batch) -> Result<bool, Fail> {
+    let copy = batch.try_copy(alloc)?;
+    match outbox.fill(batch) {
+        Ok(()) => Ok(false),
+        Err(Refusal::OutOfMemory) => {
+            if outbox.len() != 0 {
+                return Err("a refused batch is there".into());
+            }
+            outbox.fill(copy)?;
+            Ok(true)
+        }
+        Err(refusal) => Err(refusal.into()),
+    }
+}
+
+// A part, and whether it was refused at first; all is left then.
+fn cut_again(outbox: &mut Outbox, left: usize) -> Result<(Option<Batch>, bool), Fail> {
+    match outbox.next_part() {
+        Ok(part) => Ok((part, false)),
+        Err(Refusal::OutOfMemory) => {
+            if outbox.len() != left {
+                return Err("a refused part is gone".into());
+            }
+            Ok((outbox.next_part()?, true))
+        }
+        Err(refusal) => Err(refusal.into()),
+    }
+}
+
+// Whether filling and cutting were refused.
+fn is_parted(alloc: Global) -> Result<(bool, bool), Fail> {
+    let wanted = Wanted {
+        clusters: 3,
+        secrets: 2,
+        bytes: 1,
+        group: 2,
+    };
+    let batch = batch_of(alloc, &wanted)?;
+    let mut outbox = Outbox::new(alloc);
+    let filled = is_filled_again(alloc, &mut outbox, batch)?;
+    let (part, cut) = cut_again(&mut outbox, 5)?;
+    let part = part.ok_or("no part comes")?;
+    if part.cluster.len() != 3 || part.secret.len() != 2 || outbox.len() != 0 {
+        return Err("the part isn't the batch".into());
+    }
+    Ok((filled, cut))
+}
+
+#[test]
+fn parts_without_memory(rt: HostRuntime) -> Result<(), Fail> {
+    let (filled, cut) = is_parted(rt.alloc())?;
+    if filled {
+        println!(rt; "refused, and went on: fill")?;
+    }
+    if cut {
+        println!(rt; "refused, and went on: next_part")?;
     }
     Ok(())
 }

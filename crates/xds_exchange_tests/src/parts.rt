@@ -17,11 +17,11 @@ impl Outcome for Parts {
 }
 
 #[derive(Drop)]
-struct Wanted {
-    clusters: u64,
-    secrets: u64,
-    bytes: usize,
-    group: usize,
+pub(crate) struct Wanted {
+    pub(crate) clusters: u64,
+    pub(crate) secrets: u64,
+    pub(crate) bytes: usize,
+    pub(crate) group: usize,
 }
 
 fn parts_of(alloc: Global, given: &str) -> Result<String, Refusal> {
@@ -64,7 +64,7 @@ fn push_size(alloc: Global, all: &mut String, part: &Batch) -> Result<(), Refusa
 }
 
 // The same write again and again: an outbox looks at no name.
-fn batch_of(alloc: Global, wanted: &Wanted) -> Result<Batch, Refusal> {
+pub(crate) fn batch_of(alloc: Global, wanted: &Wanted) -> Result<Batch, Refusal> {
     let mut batch = Batch::new(alloc);
     let cluster = AnyWrite::Cluster(write_of(alloc, wanted)?);
     let secret = AnyWrite::Secret(write_of(alloc, wanted)?);

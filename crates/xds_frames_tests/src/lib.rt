@@ -6,3 +6,5 @@
 mod counted;
 #[cfg(test)]
 mod frames;
+#[cfg(test)]
+mod memory;

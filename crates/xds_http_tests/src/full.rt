@@ -12,10 +12,15 @@ use xds_node::{Line, MOST_RECORDS, Node, NodeName, Opened, Seat};
 use xds_posts::answer_at;
 use xds_resource::Refusal;
 
+// Whether a call left no record.
+fn is_lost<T: Drop, E: Drop>(answer: Result<T, E>) -> bool {
+    answer.is_err()
+}
+
 // Makes as many records as a journal holds.
 fn fill<N: NodeName, R: Wait>(rt: &R, node: &Node<N>, seat: &mut Seat<N>) -> Result<(), Refusal> {
     for _ in 0..MOST_RECORDS {
-        if node.call(rt, seat, Event::Close(9)).is_err() {
+        if is_lost(node.call(rt, seat, Event::Close(9))) {
             return Err(Refusal::BadTrace);
         }
     }

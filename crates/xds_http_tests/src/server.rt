@@ -12,8 +12,26 @@ use std::thread::Threads;
 use std::time::Clock;
 use xds_core::{Event, Reply};
 use xds_http::{Replies, serve_on};
-use xds_node::{Line, Node, NodeName, Opened, Seat};
+use xds_node::{Line, Node, NodeName, Opened, Seat, Unrecorded};
 use xds_resource::{AnyResource, Groups, Refusal, TypeName};
+
+// What is looked for in what a call of a node answers. It is told by reference, and dropped by a function that doesn't know the type.
+trait Answered: Drop {
+    fn is_written(&self) -> bool;
+}
+
+impl Answered for Result<Result<Reply, Refusal>, Unrecorded> {
+    fn is_written(&self) -> bool {
+        matches!(self, Ok(Ok(Reply::Written(_))))
+    }
+}
+
+fn written_by<T: Answered>(answer: T) -> Result<(), Refusal> {
+    if answer.is_written() {
+        return Ok(());
+    }
+    Err(Refusal::BadTrace)
+}
 
 /// A cluster of this name, put for all.
 pub(crate) fn put<N: NodeName, R: Wait>(
@@ -26,11 +44,7 @@ pub(crate) fn put<N: NodeName, R: Wait>(
     let url = TypeName::Cluster.url();
     let text = format!(in alloc; "{{\"@type\":\"{url}\",\"name\":\"{name}\"}}")?;
     let resource = AnyResource::parse(alloc, text.as_str())?;
-    match node.call(rt, seat, Event::Put(resource, Groups::none())) {
-        Ok(Ok(Reply::Written(_))) => Ok(()),
-        Ok(_) => Err(Refusal::BadTrace),
-        Err(unrecorded) => Err(unrecorded.refusal),
-    }
+    written_by(node.call(rt, seat, Event::Put(resource, Groups::none())))
 }
 
 /// The value, where what was done with it went well.

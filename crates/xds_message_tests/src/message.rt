@@ -25,6 +25,8 @@ fn rewritten(alloc: Global, bytes: &[u8]) -> Result<String, Refusal> {
 fn requests_are_read(rt: HostRuntime) -> Result<(), Fail> {
     let latin = rewritten(rt.alloc(), &[123, 34, 120, 34, 58, 34, 255, 34, 125]);
     assert_eq!(rt; latin.err(), Some(Refusal::NotJson));
+    let stray = rewritten(rt.alloc(), &[123, 255, 125]);
+    assert_eq!(rt; stray.err(), Some(Refusal::NotJson));
     hold::<RequestAgain, HostRuntime>(
         &rt,
         r#"{"versionInfo":"3-1","node":{"id":"envoy-1","cluster":"edge","metadata":{"weight":0.5}},"resourceNames":["a","b"],"typeUrl":"t","responseNonce":"7","errorDetail":{"code":3,"message":"no name","details":[]}} => {"errorDetail":{"code":3,"message":"no name"},"node":{"cluster":"edge","id":"envoy-1"},"resourceNames":["a","b"],"responseNonce":"7","typeUrl":"t","versionInfo":"3-1"}

@@ -8,6 +8,8 @@ mod ends;
 #[cfg(test)]
 mod full;
 #[cfg(test)]
+mod memory;
+#[cfg(test)]
 mod seats;
 #[cfg(test)]
 mod waits;

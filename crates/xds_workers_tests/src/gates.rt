@@ -20,7 +20,7 @@ struct Counts {
     is_free: bool,
 }
 
-/// Holds a read, from this one on, until so many frames are to be written, and each write until writes are free.
+/// Holds each read, from this one on, until so many frames are to be written and it is let go, and each write until it is let go.
 #[derive(Drop)]
 pub(crate) struct Held {
     counts: Mutex<Counts>,
@@ -43,7 +43,23 @@ impl Held {
         }
     }
 
-    /// Lets all writes pass from here on.
+    /// Waits until that read is held, and so many frames are to be written.
+    pub(crate) fn wait_held<R: Wait>(&self, rt: &R) {
+        let mut counts = self.counts.lock(rt);
+        for _ in rt.forever() {
+            if counts.reads >= self.read && counts.writes >= self.writes {
+                return;
+            }
+            counts = self.changed.wait(rt, counts);
+        }
+    }
+
+    /// Whether it was let go.
+    pub(crate) fn is_free<R: Wait>(&self, rt: &R) -> bool {
+        self.counts.lock(rt).is_free
+    }
+
+    /// Lets both go from here on.
     pub(crate) fn free<R: Wait>(&self, rt: &R) {
         self.counts.lock(rt).is_free = true;
         self.changed.notify_all();
@@ -55,8 +71,9 @@ impl Held {
         if counts.reads < self.read {
             return;
         }
+        self.changed.notify_all();
         for _ in rt.forever() {
-            if counts.writes >= self.writes {
+            if counts.writes >= self.writes && counts.is_free {
                 return;
             }
             counts = self.changed.wait(rt, counts);

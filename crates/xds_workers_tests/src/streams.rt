@@ -19,14 +19,14 @@ use xds_workers::{Host, serve_reader, serve_writer};
 pub(crate) const REQUEST: &[u8] =
     b"{\"typeUrl\":\"type.googleapis.com/envoy.config.cluster.v3.Cluster\"}";
 
-const RESPONSE: &[u8] =
+pub(crate) const RESPONSE: &[u8] =
     b"{\"nonce\":\"1\",\"typeUrl\":\"type.googleapis.com/envoy.config.cluster.v3.Cluster\",\"versionInfo\":\"1.0\"}";
 
-// A reader that gives its bytes in pieces of one size.
+/// A reader that gives its bytes in pieces of one size.
 #[derive(Drop)]
-struct Pieces<'a> {
-    bytes: &'a [u8],
-    size: usize,
+pub(crate) struct Pieces<'a> {
+    pub(crate) bytes: &'a [u8],
+    pub(crate) size: usize,
 }
 
 impl Read for Pieces<'_> {
@@ -39,12 +39,12 @@ impl Read for Pieces<'_> {
     }
 }
 
-// What a stream came to.
+/// What a stream came to.
 #[derive(Drop)]
-struct Served {
-    read: Result<(), Refusal>,
-    wrote: Result<(), Refusal>,
-    output: Vec<u8>,
+pub(crate) struct Served {
+    pub(crate) read: Result<(), Refusal>,
+    pub(crate) wrote: Result<(), Refusal>,
+    pub(crate) output: Vec<u8>,
 }
 
 fn reads<A: Host, R: Wait>(
@@ -75,8 +75,8 @@ fn writes<A: Host, R: Wait>(
     (wrote, writer.inner)
 }
 
-// Serves an open stream by two threads, each with a seat.
-fn by_two<A: Host + Sync, R: Threads + Wait + Sync>(
+/// Serves an open stream by two threads, each with a seat.
+pub(crate) fn by_two<A: Host + Sync, R: Threads + Wait + Sync>(
     rt: &R,
     alloc: Global,
     node: &A,
@@ -130,51 +130,6 @@ fn serve<N: NodeName + Send + Sync, R: Threads + Wait + Sync>(
     requires { opened ≡ N.id }
 {
     serve_one(rt, alloc, Node::<N>::new(alloc, opened, 1), input, gate)
-}
-
-// Serves two streams of a node that holds nothing. What is written to the first waits until the second was served whole.
-fn beside<A: Site + Sync, R: Threads + Wait + Sync>(
-    rt: &R,
-    alloc: Global,
-    node: Result<A, Refusal>,
-    bytes: &[u8],
-) -> Result<(Served, Served), Refusal>
-where
-    A::Seat: Send,
-    A::Segment: Send,
-{
-    let node = node?;
-    let (mut seats, others) = both(
-        both(node.seat(rt), node.seat(rt)),
-        both(node.seat(rt), node.seat(rt)),
-    )?;
-    let first = open(rt, &node, &mut seats.0)?;
-    let second = open(rt, &node, &mut seats.0)?;
-    let held = Held::new(2, 1, false);
-    let free = Held::new(2, 1, true);
-    let (shared, slow, quick) = (&node, &held, &free);
-    let input = Pieces { bytes, size: 4096 };
-    let same = Pieces { bytes, size: 4096 };
-    Ok(join(
-        rt,
-        move || by_two(rt, alloc, shared, seats, first, input, slow),
-        move || {
-            let served = by_two(rt, alloc, shared, others, second, same, quick);
-            slow.free(rt);
-            served
-        },
-    ))
-}
-
-fn serve_beside<N: NodeName + Send + Sync, R: Threads + Wait + Sync>(
-    rt: &R,
-    alloc: Global,
-    opened: Opened<Line>,
-    bytes: &[u8],
-) -> Result<(Served, Served), Refusal>
-    requires { opened ≡ N.id }
-{
-    beside(rt, alloc, Node::<N>::new(alloc, opened, 1), bytes)
 }
 
 // The same of these bytes, in pieces of this size.
@@ -251,26 +206,5 @@ fn a_request_of_the_other_variant_ends_a_stream(rt: HostRuntime) -> Result<(), F
         "the stream began in the variant of the first"
     );
     assert!(rt; refused.wrote == Ok(()), "the stream is closed");
-    Ok(())
-}
-
-#[test]
-fn a_peer_that_never_reads_holds_nobody_else(rt: HostRuntime) -> Result<(), Fail> {
-    let input = write_frame(rt.alloc(), FrameKind::DiscoveryRequest, REQUEST)?;
-    let output = write_frame(rt.alloc(), FrameKind::DiscoveryResponse, RESPONSE)?;
-    let opened = Opened::<Line>::new(rt.alloc())?;
-    let (slow, quick) = serve_beside::<Brand, _>(&rt, rt.alloc(), opened, &input)?;
-    assert!(rt;
-        quick.output == output,
-        "the other stream is served meanwhile"
-    );
-    assert!(rt;
-        slow.output == output,
-        "and this one once it can be written to"
-    );
-    assert!(rt;
-        slow.wrote == Ok(()) && quick.wrote == Ok(()),
-        "both end well"
-    );
     Ok(())
 }

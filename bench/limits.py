@@ -1,0 +1,172 @@
+#!/usr/bin/env python3
+"""Slow peers of `xds serve`, and many: what the limits of docs/SERVING.md come to, over sockets.
+
+    python3 bench/limits.py PROGRAM
+
+The program serves one replica. Over HTTP a head, a body and a connection are begun and left, more connections are opened than may be,
+and a reply isn't read; over streams a frame is begun and left, and responses aren't read. Meanwhile a poll and a stream are answered
+each half second, and it is told how long the slowest took. Then a server with few descriptors is given more connections than it has
+descriptors for. It takes some 40 seconds, and prints a line a limit. The status is 1 where one isn't as the document says.
+"""
+import json
+import resource
+import socket
+import subprocess
+import sys
+import threading
+import time
+
+from load import URL, Alone, framed
+from posts import free_ports
+
+PATH = "/v3/discovery:clusters"
+LIMIT = 30
+MOST = 1024
+CLUSTERS, BYTES = 1000, 6000
+
+
+def post(body, length=None):
+    return b"POST %s HTTP/1.1\r\nhost: a\r\ncontent-length: %d\r\n\r\n%s" % (PATH.encode(), len(body) if length is None else length, body)
+
+
+class Server:
+    def __init__(self, program, descriptors=None):
+        self.port, self.rest_port = free_ports()
+        words = [program, "serve", "--replicas", "1", "--port", str(self.port), "--rest-port", str(self.rest_port)]
+        bound = (lambda: resource.setrlimit(resource.RLIMIT_NOFILE, (descriptors, descriptors))) if descriptors else None
+        self.run = subprocess.Popen(words, stdin=subprocess.PIPE, stderr=subprocess.DEVNULL, preexec_fn=bound)
+        body = {"@type": URL, "x": "y" * BYTES}
+        for number in range(CLUSTERS):
+            self.run.stdin.write(f'put 1 {json.dumps({**body, "name": f"c{number}"})}\n'.encode())
+        self.run.stdin.flush()
+        while not self.answers(b'"name":"c%d"' % (CLUSTERS - 1)):
+            time.sleep(0.05)
+
+    def link(self, port=None):
+        made = socket.create_connection(("127.0.0.1", port or self.rest_port), 60)
+        made.setsockopt(socket.IPPROTO_TCP, socket.TCP_NODELAY, 1)
+        return made
+
+    def answers(self, part):
+        """Whether a poll of the last cluster is answered with this."""
+        try:
+            with self.link() as link:
+                link.sendall(post(b'{"resourceNames":["c%d"]}' % (CLUSTERS - 1)))
+                return part in link.recv(1 << 20)
+        except ConnectionError:
+            return False
+
+
+def ended(link):
+    """What comes until the other side closes, and after how many seconds it does."""
+    begin, found = time.monotonic(), b""
+    try:
+        while piece := link.recv(1 << 16):
+            found += piece
+    except ConnectionError:
+        pass
+    return found, time.monotonic() - begin
+
+
+class Ended(threading.Thread):
+    def __init__(self, link, sent):
+        super().__init__()
+        link.sendall(sent)
+        self.link = link
+        self.start()
+
+    def run(self):
+        self.found, self.seconds = ended(self.link)
+
+
+def told(what, good, more):
+    print(f"{what}: {more}{'' if good else ' -- NOT AS IT SHOULD BE'}", flush=True)
+    return good
+
+
+def in_time(ending):
+    return LIMIT - 1 <= ending.seconds <= LIMIT + 5
+
+
+def slow(server):
+    half_head = Ended(server.link(), b"POST %s HTTP/1.1\r\nhost: a\r\nconte" % PATH.encode())
+    half_body = Ended(server.link(), post(b"{", 2))
+    idle = Ended(server.link(), b"")
+    kept = Ended(server.link(), post(b'{"resourceNames":["c0"]}'))
+    unread = [server.link() for _ in range(20)]
+    for link in unread:
+        link.sendall(post(b"{}"))
+    silent = [server.link(server.port) for _ in range(20)]
+    for number, link in enumerate(silent):
+        link.sendall(framed(1, b'{"typeUrl":"%s"}' % URL.encode())[: None if number < 10 else 20])
+    alone, slowest, turns = Alone(server.port), 0, 0
+    while half_head.is_alive() or half_body.is_alive() or idle.is_alive() or kept.is_alive():
+        begin = time.monotonic()
+        good = server.answers(b'"name":"c%d"' % (CLUSTERS - 1))
+        alone.ask("c%d" % (turns % CLUSTERS))
+        slowest, turns = max(slowest, time.monotonic() - begin), turns + 1
+        if not good or turns > 10 * LIMIT:
+            break
+        time.sleep(0.5)
+    begin = time.monotonic()
+    silent[0].settimeout(5)
+    first = silent[0].recv(5)
+    yield told("half a head", in_time(half_head) and not half_head.found, f"closed after {half_head.seconds:.1f} s, with {half_head.found[:20]}")
+    yield told("half a body", in_time(half_body) and half_body.found.startswith(b"HTTP/1.1 408"), f"{half_body.found[:12]} after {half_body.seconds:.1f} s")
+    yield told("a connection on which nothing comes", in_time(idle) and not idle.found, f"closed after {idle.seconds:.1f} s")
+    yield told("a connection that is kept behind a reply", in_time(kept) and kept.found.startswith(b"HTTP/1.1 200"), f"closed after {kept.seconds:.1f} s")
+    yield told("a poll and a request on a stream, beside 20 replies and 10 responses that aren't read and 10 halves of frames", good and slowest < 5, f"{turns} times, the slowest after {slowest * 1000:.0f} ms")
+    yield told("a stream that didn't read", len(first) == 5 and first[4] == 2, f"still gets its response, after {time.monotonic() - begin:.1f} s")
+    for link in [*unread, *silent, alone.socket]:
+        link.close()
+
+
+def many(server):
+    links, closed = [], 0
+    time.sleep(1)
+    for _ in range(MOST + 20):
+        links.append(server.link())
+    time.sleep(1)
+    for link in links:
+        link.settimeout(0.001)
+        try:
+            closed += link.recv(1) == b""
+        except ConnectionError:
+            closed += 1
+        except TimeoutError:
+            pass
+    for link in links:
+        link.close()
+    time.sleep(1)
+    good = server.answers(b'"name"')
+    yield told(f"{MOST + 20} connections", closed == 20 and good, f"{closed} were closed at once; then a poll is {'answered' if good else 'refused'}")
+
+
+def few(program):
+    server = Server(program, descriptors=64)
+    links = [server.link(port) for _ in range(100) for port in (server.port, server.rest_port)]
+    time.sleep(1)
+    alive = server.run.poll() is None
+    for link in links:
+        link.close()
+    time.sleep(1)
+    good = server.answers(b'"name"')
+    alone = Alone(server.port)
+    stream = alone.ask("c0") < 1
+    server.run.kill()
+    yield told("200 connections at a server with 64 descriptors", alive and good and stream, f"it goes on, and once they are closed a poll is {'answered' if good else 'refused'} and a stream, too")
+
+
+def main(words):
+    if len(words) != 1:
+        sys.exit(__doc__)
+    server = Server(words[0])
+    try:
+        good = [*slow(server), *many(server), *few(words[0])]
+    finally:
+        server.run.kill()
+    return 0 if all(good) else 1
+
+
+if __name__ == "__main__":
+    sys.exit(main(sys.argv[1:]))

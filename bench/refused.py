@@ -1,0 +1,226 @@
+#!/usr/bin/env python3
+"""Refuses the allocations of public calls, one after another, and says of each call what it was answered.
+
+    bench/refused.py [--most N] [CRATE ..]
+    bench/refused.py --tests [--most N] [CRATE ..]
+
+In the first form it runs the tests that look at calls without memory, once for each allocation of theirs, in which that allocation
+fails; N is how many of a test's allocations are tried (all). Printed is a line a call: at how many allocations it was refused. Each
+time its answer was 8 and what it left was as promised, as the test says of itself, and then it was made again and all went on. At all
+other allocations of the test every answer was the ordinary one, or the test ended with `OutOfMemory` before or behind that call; any
+third outcome is printed, and so is a call that was never refused, or was though it takes no memory.
+
+In the second form it does so with every test of the crates that have no threads (those of calls that change nothing among them, as of
+readers and writers): each run must pass or end with `OutOfMemory`. Printed are a line a test and, of each crate, the calls
+with an allocator that stand in it. Left out are tests that tell of a difference without what was answered.
+
+CRATE is a crate of tests, whose program `rt test` leaves in crates/CRATE/out; with none it is each that is built. It needs a C
+compiler, `cc`, for the shim of bench/fail_alloc.py. The last line is 'N right, M not', and the status is 1 where M isn't 0.
+"""
+import argparse
+import os
+import re
+import subprocess
+import sys
+import tempfile
+
+from fail_alloc import SHIM
+from fail_each import GAVE_UP, TOP
+
+# What a test prints where the call that it looks at was refused and all went on, with the call's word where it looks at several.
+WENT_ON = re.compile(rb"refused, and went on(?:: (\w+))?\n")
+# Of each test: its calls, by their words.
+LOOKED_AT = {
+    "xds_frames_tests": {
+        "memory::feeding_without_memory": {"feed": "Decoder::feed"},
+        "memory::framing_without_memory": {"push_frame": "push_frame"},
+    },
+    "xds_catalogue_tests": {
+        "many_writes::each_change_without_memory": {
+            "put": "Catalogue::put",
+            "delete": "Catalogue::delete",
+            "join_write": "Catalogue::join_write",
+            "join_all": "Catalogue::join_all",
+        },
+    },
+    "xds_core_tests": {
+        "memory::a_batch_without_memory": {"": "Core::step, Merge of writes of four types"},
+        "memory::each_event_without_memory": {
+            "put": "Core::step, Put",
+            "putin": "Core::step, Put for groups",
+            "delete": "Core::step, Delete",
+            "merge": "Core::step, Merge",
+            "snapshot": "Core::step, Snapshot",
+            "since": "Core::step, Since",
+            "rest": "Core::step, Rest",
+            "open": "Core::step, Open",
+            "sotw": "Core::step, Request of the state of the world",
+            "delta": "Core::step, Request of delta",
+            "poll": "Core::step, Poll",
+            "owes": None,
+            "close": None,
+        },
+    },
+    "xds_cache_tests": {
+        "memory::connecting_in_state_of_the_world_without_memory": {"": "SotwClient::connect"},
+        "memory::changing_in_state_of_the_world_without_memory": {"": "SotwClient::change"},
+        "memory::state_of_the_world_without_memory": {"": "SotwClient::receive"},
+        "memory::connecting_in_delta_without_memory": {"": "DeltaClient::connect"},
+        "memory::changing_in_delta_without_memory": {"": "DeltaClient::change"},
+        "memory::delta_without_memory": {"": "DeltaClient::receive"},
+        "memory::changing_what_is_polled_without_memory": {"": "RestClient::change"},
+        "memory::polling_without_memory": {"": "RestClient::receive"},
+    },
+    "xds_stream_tests": {"memory::a_stream_without_memory": {"": "run_stream"}},
+    "xds_exchange_tests": {
+        "memory::rounds_without_memory": {"": "round"},
+        "memory::parts_without_memory": {"fill": "Outbox::fill", "next_part": "Outbox::next_part"},
+    },
+    "xds_rest_tests": {"memory::a_poll_without_memory": {"": "answer of xds_rest"}},
+    "xds_node_tests": {"memory::a_node_without_memory": {"call": "Node::call", "cut": "Node::cut"}},
+    "xds_http_tests": {"memory::a_poll_without_memory": {"": "answer_at of xds_posts"}},
+}
+# Crates whose tests run in threads: one that gives up may leave another waiting.
+THREADED = {"xds_link_tests", "xds_node_tests", "xds_workers_tests", "xds_histories_tests", "xds_http_tests", "xds_serve_tests", "xds_client_tests", "xds_commands_tests"}
+# Tests that tell of a difference without what was answered.
+SILENT = {"cases::streams_are_served", "faults::input_is_served_wherever_it_ends", "faults::each_read_may_fail", "faults::each_write_may_fail",
+          "counted::one_call_fails_and_is_counted", "counted::calls_after_the_last_fail"}
+# What an allocation that failed makes of an answer that is compared with another, or of a test.
+SHORT = [*GAVE_UP, b"OutOfMemory", b"AllocError"]
+# How tests of some crates say that there was no memory for what they were to give to a call.
+OWN = {"xds_frames_tests": [b"21 BadScript", b'"a text is none"']}
+PATIENCE = 120
+
+
+class Shim:
+    """Runs programs in which an allocation fails."""
+
+    def __init__(self, folder):
+        source, self.shim, self.count = (os.path.join(folder, name) for name in ("shim.c", "shim.so", "count"))
+        with open(source, "w", encoding="utf-8") as file:
+            file.write(SHIM)
+        subprocess.run(["cc", "-O1", "-shared", "-fPIC", "-o", self.shim, source, "-ldl"], check=True)
+
+    def run(self, program, test, at):
+        """The status and all that is printed; none where it takes too long."""
+        env = dict(os.environ, LD_PRELOAD=self.shim, FAIL_AT=str(at))
+        if at == 0:
+            env["COUNT_TO"] = self.count
+        try:
+            ended = subprocess.run([program, test], capture_output=True, env=env, timeout=PATIENCE)
+        except subprocess.TimeoutExpired:
+            return None, b"it took too long"
+        return ended.returncode, ended.stdout + ended.stderr
+
+    def allocations(self, program, test):
+        """How many there are where all is well."""
+        status, text = self.run(program, test, 0)
+        if status != 0 or b"test result: ok" not in text or WENT_ON.search(text):
+            sys.exit(f"{test} fails with ample memory: {status} {text[-500:]}")
+        with open(self.count, encoding="utf-8") as file:
+            return int(file.read())
+
+
+def is_passed(status, text):
+    return status == 0 and b"test result: ok" in text
+
+
+def looked_at(shim, program, test, calls, most):
+    """How many runs were right, and how many weren't."""
+    count = shim.allocations(program, test)
+    refused, passed, ended, wrong = dict.fromkeys(calls, 0), 0, 0, []
+    for at in range(1, min(count, most) + 1):
+        status, text = shim.run(program, test, at)
+        found = WENT_ON.search(text)
+        word = (found.group(1) or b"").decode() if found else None
+        if is_passed(status, text) and found and calls.get(word):
+            refused[word] += 1
+        elif is_passed(status, text) and not found:
+            passed += 1
+        elif status and status > 0 and not found and any(words in text for words in SHORT):
+            ended += 1
+        else:
+            wrong.append((at, status, text[-300:]))
+    for word, call in calls.items():
+        if call:
+            print(f"{call}: {refused[word]} allocations refused, each answered 8 with all as promised" if refused[word] else f"{call}: NEVER REFUSED", flush=True)
+            wrong += [] if refused[word] else [(call, "never refused")]
+        else:
+            print(f"{word}: takes no memory, and was never refused", flush=True)
+    print(f"    {test}: {count} allocations, {passed} with every answer as ever, {ended} refused outside of the calls, {len(wrong)} otherwise", flush=True)
+    for row in wrong[:10]:
+        print(*row)
+    return sum(refused.values()) + passed + ended, len(wrong)
+
+
+def tests_of(crate):
+    """The tests of a crate, by their modules."""
+    folder = os.path.join(TOP, "crates", crate, "src")
+    for name in sorted(os.listdir(folder)):
+        with open(os.path.join(folder, name), encoding="utf-8") as file:
+            for test in re.findall(r"#\[test\]\s+fn (\w+)\(", file.read()):
+                yield f"{name[: -len('.rt')]}::{test}"
+
+
+def calls_in(crate):
+    """The calls of a crate of tests that are given an allocator, but for its own, and those of catalogues, replicas and the like."""
+    text = ""
+    for name in (crate, "xds_cases"):
+        folder = os.path.join(TOP, "crates", name, "src")
+        for file in sorted(os.listdir(folder)):
+            with open(os.path.join(folder, file), encoding="utf-8") as it:
+                text += re.sub(r"//.*", "", it.read())
+    own = set(re.findall(r"fn (\w+)", text))
+    found = re.findall(r"([A-Z]\w+(?:::<\w+>)?::\w+)\((?:rt\.)?alloc\b", text) + re.findall(r"(\.\w+)\(\s*(?:rt\.)?alloc\b", text)
+    found += [it for it in re.findall(r"(?<![\w:.])([a-z]\w+)\(\s*(?:rt\.)?alloc\b", text) if it not in own]
+    found += re.findall(r"(\.(?:put|delete|join_write|join_all|step|feed|next_part|fill))\(", text)
+    std = ("Vec::", "String::", "Value::", "Arc::", "ArcStr::", ".to_string", ".replace", "hex::")
+    return sorted({re.sub(r"::<\w+>", "", it) for it in found if not it.startswith(std) and (it[0] != "." or f"fn {it[1:]}(" not in text or it in (".take", ".poll", ".put"))})
+
+
+def every(shim, program, test, words, most):
+    count = shim.allocations(program, test)
+    step = max(1, count // most)
+    passed, ended, wrong = 0, 0, []
+    for at in range(1, count + 1, step):
+        status, text = shim.run(program, test, at)
+        if is_passed(status, text):
+            passed += 1
+        elif status and status > 0 and any(it in text for it in words):
+            ended += 1
+        else:
+            wrong.append((at, status, text[-300:]))
+    print(f"{test}: {count} allocations, {passed + ended + len(wrong)} of them refused: {ended} answered 8, {passed} with every answer as ever, {len(wrong)} otherwise", flush=True)
+    for row in wrong[:10]:
+        print(*row)
+    return passed + ended, len(wrong)
+
+
+def main():
+    parser = argparse.ArgumentParser(description=__doc__, formatter_class=argparse.RawDescriptionHelpFormatter)
+    parser.add_argument("--tests", action="store_true")
+    parser.add_argument("--most", type=int, default=10**9)
+    parser.add_argument("crates", nargs="*")
+    given = parser.parse_args()
+    chosen = given.crates or (sorted(it for it in os.listdir(os.path.join(TOP, "crates")) if it.endswith("_tests") and it not in THREADED) if given.tests else LOOKED_AT)
+    right, wrong = 0, 0
+    with tempfile.TemporaryDirectory(prefix="refused-") as folder:
+        shim = Shim(folder)
+        for crate in chosen:
+            program = os.path.join(TOP, "crates", crate, "out", f"{crate}_tests")
+            if not os.path.isfile(program):
+                print(f"{crate} isn't built: run `rt test` there")
+                wrong += bool(given.crates)
+                continue
+            tests = [(test, every, (SHORT + OWN.get(crate, []),)) for test in tests_of(crate) if test not in SILENT] if given.tests else [(test, looked_at, (calls,)) for test, calls in LOOKED_AT[crate].items()]
+            if given.tests:
+                print(f"{crate}, with the calls {', '.join(calls_in(crate))}", flush=True)
+            for test, look, more in tests:
+                these, those = look(shim, program, test, *more, given.most)
+                right, wrong = right + these, wrong + those
+    print(f"{right} right, {wrong} not")
+    return 1 if wrong or not right else 0
+
+
+if __name__ == "__main__":
+    sys.exit(main())
