@@ -1,62 +1,30 @@
 // The end of a node: seats that are missing, and segments that are.
 ghost use Rattle.std.specs.Prelude.{◌≡◌};
 
-use crate::calls::{alone, counter, put};
+use crate::sites::{Left, Site, alone, put};
 use std::alloc::Global;
 use std::marker::Brand;
 use std::sync::Wait;
 use std::test::Fail;
-use xds_node::{History, Line, Node, NodeName, Opened, Seat, Segment};
+use xds_node::{Line, Node, NodeName, Opened};
 use xds_resource::Refusal;
 
-// Puts four clusters, and cuts the node twice between them, and once where nothing is left to cut.
-fn cuts<N: NodeName, R: Wait>(
+// Cuts a node twice, and once where nothing is left to cut, and answers what was cut.
+fn cut_twice<A: Site, R: Wait>(
     rt: &R,
     alloc: Global,
-    node: &Node<N>,
-    seat: &mut Seat<N>,
-    segments: &mut Vec<Segment<N>>,
-) -> Result<(), Refusal> {
-    counter(node.call(rt, seat, put(alloc, "a")?))?;
-    counter(node.call(rt, seat, put(alloc, "b")?))?;
-    segments.push(node.cut(rt)?)?;
-    segments.push(node.cut(rt)?)?;
-    counter(node.call(rt, seat, put(alloc, "c")?))?;
-    segments.push(node.cut(rt)?)?;
-    counter(node.call(rt, seat, put(alloc, "d")?))?;
-    Ok(())
-}
-
-// The one seat of a node that is cut so.
-fn seat_that_cuts<N: NodeName, R: Wait>(
-    rt: &R,
-    alloc: Global,
-    node: &Node<N>,
-    segments: &mut Vec<Segment<N>>,
-) -> Result<Vec<Seat<N>>, Refusal> {
-    let mut seat = node.seat(rt)?;
-    cuts(rt, alloc, node, &mut seat, segments)?;
-    alone(alloc, seat)
-}
-
-// What is left of a node that was cut so, and what was cut.
-fn cut_twice<N: NodeName, R: Wait>(
-    rt: &R,
-    alloc: Global,
-    opened: Opened<Line>,
-) -> Result<(History<N>, Vec<Segment<N>>), Refusal>
-    requires { opened ≡ N.id }
-{
-    let node = Node::<N>::new(alloc, opened, 1)?;
+    node: &A,
+    seat: &mut A::Seat,
+) -> Result<Vec<A::Segment>, Refusal> {
     let mut segments = Vec::new(alloc);
-    match seat_that_cuts(rt, alloc, &node, &mut segments) {
-        Ok(seats) => Ok((node.close(seats), segments)),
-        Err(refusal) => {
-            drop(segments);
-            drop(node);
-            Err(refusal)
-        }
-    }
+    put(rt, alloc, node, seat, "a")?;
+    put(rt, alloc, node, seat, "b")?;
+    segments.push(node.cut(rt)?)?;
+    segments.push(node.cut(rt)?)?;
+    put(rt, alloc, node, seat, "c")?;
+    segments.push(node.cut(rt)?)?;
+    put(rt, alloc, node, seat, "d")?;
+    Ok(segments)
 }
 
 // How the segments are handed in.
@@ -67,7 +35,33 @@ enum Order {
     Backwards,
 }
 
+fn ordered<P: Drop>(segments: &mut Vec<P>, order: Order) {
+    match order {
+        Order::WithoutTheLast => drop(segments.pop()),
+        Order::Backwards => segments.as_mut_slice().reverse(),
+        Order::AsCut => {}
+    }
+}
+
 // What an audit answers where the segments are all, where the last is missing, or where they are the other way round.
+fn audited<A: Site, R: Wait>(
+    rt: &R,
+    alloc: Global,
+    node: Result<A, Refusal>,
+    order: Order,
+) -> Result<bool, Refusal> {
+    let node = node?;
+    let mut seat = node.seat(rt)?;
+    let mut segments = cut_twice(rt, alloc, &node, &mut seat)?;
+    ordered(&mut segments, order);
+    let seats = alone(alloc, seat)?;
+    match node.close(seats).audit(segments) {
+        Ok(()) => Ok(true),
+        Err(Refusal::Gap) => Ok(false),
+        Err(refusal) => Err(refusal),
+    }
+}
+
 fn audits<N: NodeName, R: Wait>(
     rt: &R,
     alloc: Global,
@@ -76,17 +70,7 @@ fn audits<N: NodeName, R: Wait>(
 ) -> Result<bool, Refusal>
     requires { opened ≡ N.id }
 {
-    let (history, mut segments) = cut_twice::<N, R>(rt, alloc, opened)?;
-    match order {
-        Order::WithoutTheLast => drop(segments.pop()),
-        Order::Backwards => segments.as_mut_slice().reverse(),
-        Order::AsCut => {}
-    }
-    match history.audit(segments) {
-        Ok(()) => Ok(true),
-        Err(Refusal::Gap) => Ok(false),
-        Err(refusal) => Err(refusal),
-    }
+    audited(rt, alloc, Node::<N>::new(alloc, opened, 1), order)
 }
 
 #[test]
@@ -119,18 +103,20 @@ fn segments_in_another_order_are_a_gap(rt: HostRuntime) -> Result<(), Fail> {
     Ok(())
 }
 
-// Two seats of a node; the second alone is in the list.
-fn two_seats<N: NodeName, R: Wait>(
+// Whether the history is complete where one of two seats is handed in.
+fn one_of_two<A: Site, R: Wait>(
     rt: &R,
     alloc: Global,
-    node: &Node<N>,
-) -> Result<(Seat<N>, Vec<Seat<N>>), Refusal> {
+    node: Result<A, Refusal>,
+) -> Result<bool, Refusal> {
+    let node = node?;
     let kept = node.seat(rt)?;
     let seats = alone(alloc, node.seat(rt)?)?;
-    Ok((kept, seats))
+    let left = node.close(seats);
+    drop(kept);
+    Ok(left.is_complete())
 }
 
-// Whether the history is complete where one of two seats is handed in.
 fn lacks_a_seat<N: NodeName, R: Wait>(
     rt: &R,
     alloc: Global,
@@ -138,18 +124,7 @@ fn lacks_a_seat<N: NodeName, R: Wait>(
 ) -> Result<bool, Refusal>
     requires { opened ≡ N.id }
 {
-    let node = Node::<N>::new(alloc, opened, 1)?;
-    match two_seats(rt, alloc, &node) {
-        Ok((kept, seats)) => {
-            let history = node.close(seats);
-            drop(kept);
-            Ok(history.is_complete())
-        }
-        Err(refusal) => {
-            drop(node);
-            Err(refusal)
-        }
-    }
+    one_of_two(rt, alloc, Node::<N>::new(alloc, opened, 1))
 }
 
 #[test]

@@ -1,75 +1,49 @@
 // A journal that is full, and is cut.
 ghost use Rattle.std.specs.Prelude.{◌≡◌};
 
-use crate::calls::{Answer, alone, counter, put};
+use crate::calls::{Told, counter, refused};
+use crate::sites::{Happens, Left, Records, Site, alone};
 use std::alloc::Global;
 use std::marker::Brand;
 use std::sync::Wait;
 use std::test::Fail;
-use xds_core::Event;
-use xds_node::{History, Line, MOST_RECORDS, Node, NodeName, Opened, Seat, Segment, Unrecorded};
-use xds_resource::{Refusal, TypeName};
+use xds_node::{Line, MOST_RECORDS, Node, NodeName, Opened};
+use xds_resource::Refusal;
 
 // Fills a journal with refused events, each of which is recorded.
-fn fill<N: NodeName, R: Wait>(rt: &R, node: &Node<N>, seat: &mut Seat<N>) -> Result<(), Refusal> {
+fn fill<A: Site, R: Wait>(rt: &R, node: &A, seat: &mut A::Seat) -> Result<(), Refusal> {
     for _ in 0..MOST_RECORDS {
-        match node.call(rt, seat, Event::Close(9)) {
-            Ok(Err(Refusal::NoStream)) => {}
-            Ok(_) => return Err(Refusal::BadTrace),
-            Err(unrecorded) => return Err(unrecorded.refusal),
+        match refused(node.call(rt, seat, A::Event::close(9))) {
+            Err(Refusal::NoStream) => {}
+            Err(refusal) => return Err(refusal),
+            Ok(()) => return Err(Refusal::BadTrace),
         }
     }
     Ok(())
 }
 
 // The event that comes back of a call that finds no room.
-fn turned_away(answer: Answer) -> Result<Event, Refusal> {
-    match answer {
-        Err(
-            Unrecorded {
-                refusal: Refusal::JournalFull,
-                event,
-            },
-        ) => Ok(event),
-        Err(unrecorded) => Err(unrecorded.refusal),
-        Ok(_) => Err(Refusal::BadTrace),
+fn turned_away<T: Told>(answer: T) -> Result<T::Event, Refusal> {
+    match answer.back() {
+        Some((event, Refusal::JournalFull)) => Ok(event),
+        Some((_, refusal)) => Err(refusal),
+        None => Err(Refusal::BadTrace),
     }
 }
 
-// Fills a journal and cuts it; the event that found no room is tried again then.
-fn fill_and_cut<N: NodeName, R: Wait>(
+// What is cut of a node whose journal is full; the event that found no room is tried again then.
+fn full_and_cut<A: Site, R: Wait>(
     rt: &R,
     alloc: Global,
-    node: &Node<N>,
-    seat: &mut Seat<N>,
-    segments: &mut Vec<Segment<N>>,
-) -> Result<(), Refusal> {
+    node: &A,
+    seat: &mut A::Seat,
+) -> Result<A::Segment, Refusal> {
     fill(rt, node, seat)?;
-    let event = turned_away(node.call(rt, seat, put(alloc, "a")?))?;
-    cut(rt, node, segments)?;
+    let event = A::Event::put(alloc, "a")?;
+    let event = turned_away(node.call(rt, seat, event))?;
+    let segment = node.cut(rt)?;
     counter(node.call(rt, seat, event))?;
-    Ok(())
-}
-
-fn cut<N: NodeName, R: Wait>(
-    rt: &R,
-    node: &Node<N>,
-    segments: &mut Vec<Segment<N>>,
-) -> Result<(), Refusal> {
-    segments.push(node.cut(rt)?)?;
-    Ok(())
-}
-
-// The one seat of a node whose journal is filled and cut.
-fn seat_that_fills<N: NodeName, R: Wait>(
-    rt: &R,
-    alloc: Global,
-    node: &Node<N>,
-    segments: &mut Vec<Segment<N>>,
-) -> Result<Vec<Seat<N>>, Refusal> {
-    let mut seat = node.seat(rt)?;
-    fill_and_cut(rt, alloc, node, &mut seat, segments)?;
-    alone(alloc, seat)
+    Ok(segment)
 }
 
 // What is left of a node whose journal was full once.
@@ -86,45 +60,33 @@ struct Outcome {
     audit: Result<(), Refusal>,
 }
 
-fn seen<N: NodeName>(
-    alloc: Global,
-    history: &History<N>,
-    segments: &Vec<Segment<N>>,
-) -> Result<Outcome, Refusal> {
-    let Some(segment) = segments.first() else {
-        return Err(Refusal::NotFound);
-    };
+fn ended<L: Left>(alloc: Global, left: L, segment: L::Segment) -> Result<Outcome, Refusal> {
+    let (cut, first) = (segment.count(), segment.first());
+    let (records, before) = (left.count(), left.cut());
+    let held = left.clusters(alloc)?;
+    let complete = left.is_complete();
+    let audit = left.audit(alone(alloc, segment)?);
     Ok(Outcome {
-        cut: segment.records().len(),
-        first: segment.first(),
-        records: history.records().len(),
-        before: history.cut(),
-        held: history
-            .base()
-            .entries(alloc, TypeName::Cluster)?
-            .cluster
-            .len(),
-        complete: history.is_complete(),
-        audit: Ok(()),
+        cut,
+        first,
+        records,
+        before,
+        held,
+        complete,
+        audit,
     })
 }
 
-fn ended<N: NodeName>(
+fn full<A: Site, R: Wait>(
+    rt: &R,
     alloc: Global,
-    history: History<N>,
-    segments: Vec<Segment<N>>,
+    node: Result<A, Refusal>,
 ) -> Result<Outcome, Refusal> {
-    match seen(alloc, &history, &segments) {
-        Ok(outcome) => Ok(Outcome {
-            audit: history.audit(segments),
-            ..outcome
-        }),
-        Err(refusal) => {
-            drop(history);
-            drop(segments);
-            Err(refusal)
-        }
-    }
+    let node = node?;
+    let mut seat = node.seat(rt)?;
+    let segment = full_and_cut(rt, alloc, &node, &mut seat)?;
+    let seats = alone(alloc, seat)?;
+    ended(alloc, node.close(seats), segment)
 }
 
 fn fills_up<N: NodeName, R: Wait>(
@@ -134,16 +96,7 @@ fn fills_up<N: NodeName, R: Wait>(
 ) -> Result<Outcome, Refusal>
     requires { opened ≡ N.id }
 {
-    let node = Node::<N>::new(alloc, opened, 1)?;
-    let mut segments = Vec::new(alloc);
-    match seat_that_fills(rt, alloc, &node, &mut segments) {
-        Ok(seats) => ended(alloc, node.close(seats), segments),
-        Err(refusal) => {
-            drop(segments);
-            drop(node);
-            Err(refusal)
-        }
-    }
+    full(rt, alloc, Node::<N>::new(alloc, opened, 1))
 }
 
 #[test]

@@ -12,4 +12,8 @@ mod memory;
 #[cfg(test)]
 mod seats;
 #[cfg(test)]
+mod sites;
+#[cfg(test)]
+mod threads;
+#[cfg(test)]
 mod waits;

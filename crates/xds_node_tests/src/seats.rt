@@ -1,14 +1,15 @@
 // Seats in threads of their own.
 ghost use Rattle.std.specs.Prelude.{◌≡◌};
 
-use crate::calls::{counter, put, reply};
+use crate::calls::clusters;
+use crate::sites::{Happens, Left, Site, put};
+use crate::threads::all_work;
 use std::alloc::Global;
 use std::marker::Brand;
 use std::sync::Wait;
 use std::test::Fail;
-use std::thread::{Threads, map_vec};
-use xds_core::{Event, Reply};
-use xds_node::{Line, Node, NodeName, Opened, Seat};
+use std::thread::Threads;
+use xds_node::{Line, Node, NodeName, Opened};
 use xds_resource::Refusal;
 
 const SEATS: usize = 4;
@@ -17,64 +18,60 @@ const PUTS: usize = 1000;
 
 // A seat with the number of its thread, and the counters that it was told.
 #[derive(Drop)]
-struct Worker<N: NodeName> {
-    seat: Seat<N>,
+pub(crate) struct Worker<S> {
+    seat: S,
     number: usize,
     counters: Vec<u64>,
-    failed: bool,
+    done: Result<(), Refusal>,
 }
 
-fn workers<N: NodeName, R: Wait>(
+pub(crate) fn workers<A: Site, R: Wait>(
     rt: &R,
     alloc: Global,
-    node: &Node<N>,
-) -> Result<Vec<Worker<N>>, Refusal> {
+    node: &A,
+) -> Result<Vec<Worker<A::Seat>>, Refusal> {
     let mut workers = Vec::new(alloc);
     for number in 0..SEATS {
         workers.push(Worker {
             seat: node.seat(rt)?,
             number,
             counters: Vec::new(alloc),
-            failed: false,
+            done: Ok(()),
         })?;
     }
     Ok(workers)
 }
 
 // Puts clusters with names of its own.
-fn worked<N: NodeName, R: Wait>(
+pub(crate) fn worked<A: Site, R: Wait>(
     rt: &R,
     alloc: Global,
-    node: &Node<N>,
-    worker: Worker<N>,
-) -> Worker<N> {
-    let Worker {
-        mut seat,
-        number,
-        mut counters,
-        failed: _,
-    } = worker;
-    let failed = puts(rt, alloc, node, &mut seat, number, &mut counters).is_err();
-    Worker {
-        seat,
-        number,
-        counters,
-        failed,
-    }
+    node: &A,
+    worker: Worker<A::Seat>,
+) -> Worker<A::Seat> {
+    let mut worker = worker;
+    worker.done = puts(
+        rt,
+        alloc,
+        node,
+        &mut worker.seat,
+        worker.number,
+        &mut worker.counters,
+    );
+    worker
 }
 
-fn puts<N: NodeName, R: Wait>(
+fn puts<A: Site, R: Wait>(
     rt: &R,
     alloc: Global,
-    node: &Node<N>,
-    seat: &mut Seat<N>,
+    node: &A,
+    seat: &mut A::Seat,
     number: usize,
     counters: &mut Vec<u64>,
 ) -> Result<(), Refusal> {
     for index in 0..PUTS {
         let name = format!(in alloc; "{number}-{index}")?;
-        let event = put(alloc, name.as_str())?;
-        counters.push(counter(node.call(rt, seat, event))?)?;
+        counters.push(put(rt, alloc, node, seat, name.as_str())?)?;
     }
     Ok(())
 }
@@ -89,7 +86,7 @@ struct Outcome {
     records: usize,
 }
 
-// Counts what a worker was told, and gives back its seat.
+// Counts what a worker was told.
 fn count(outcome: &mut Outcome, seen: &mut Vec<bool>, counters: &Vec<u64>) {
     for counter in counters.as_slice() {
         match seen.get_mut(counter.wrapping_sub(1) as usize) {
@@ -102,34 +99,40 @@ fn count(outcome: &mut Outcome, seen: &mut Vec<bool>, counters: &Vec<u64>) {
     }
 }
 
-// What the workers were told, and their seats.
-fn gathered<N: NodeName>(
+// Counts what all workers were told, and gives back their seats.
+fn counted<S: Drop>(
     alloc: Global,
-    done: Vec<Worker<N>>,
     outcome: &mut Outcome,
-) -> Result<Vec<Seat<N>>, Refusal> {
+    workers: Vec<Worker<S>>,
+) -> Result<Vec<S>, Refusal> {
     let mut seen = Vec::new(alloc);
     seen.resize(SEATS * PUTS, false)?;
     let mut seats = Vec::new(alloc);
-    for worker in done {
-        if worker.failed {
-            return Err(Refusal::BadTrace);
-        }
+    for worker in workers {
+        worker.done?;
         count(outcome, &mut seen, &worker.counters);
         seats.push(worker.seat)?;
     }
     Ok(seats)
 }
 
-fn all_work<N: NodeName + Send + Sync, R: Threads + Wait + Sync>(
-    rt: &R,
+// What is left of a node, and what its workers were told.
+fn four<A: Site>(
     alloc: Global,
-    node: &Node<N>,
-    outcome: &mut Outcome,
-) -> Result<Vec<Seat<N>>, Refusal> {
-    let workers = workers(rt, alloc, node)?;
-    let done = map_vec(rt, workers, &|worker| worked(rt, alloc, node, worker))?;
-    gathered(alloc, done, outcome)
+    node: A,
+    done: Result<Vec<Worker<A::Seat>>, Refusal>,
+) -> Result<Outcome, Refusal> {
+    let mut outcome = Outcome {
+        told: 0,
+        others: 0,
+        complete: false,
+        records: 0,
+    };
+    let seats = counted(alloc, &mut outcome, done?)?;
+    let left = node.close(seats);
+    outcome.complete = left.is_complete();
+    outcome.records = left.count();
+    Ok(outcome)
 }
 
 fn four_seats<N: NodeName + Send + Sync, R: Threads + Wait + Sync>(
@@ -140,24 +143,8 @@ fn four_seats<N: NodeName + Send + Sync, R: Threads + Wait + Sync>(
     requires { opened ≡ N.id }
 {
     let node = Node::<N>::new(alloc, opened, 1)?;
-    let mut outcome = Outcome {
-        told: 0,
-        others: 0,
-        complete: false,
-        records: 0,
-    };
-    match all_work(rt, alloc, &node, &mut outcome) {
-        Ok(seats) => {
-            let history = node.close(seats);
-            outcome.complete = history.is_complete();
-            outcome.records = history.records().len();
-            Ok(outcome)
-        }
-        Err(refusal) => {
-            drop(node);
-            Err(refusal)
-        }
-    }
+    let done = all_work(rt, alloc, &node);
+    four(alloc, node, done)
 }
 
 #[test]
@@ -174,38 +161,32 @@ fn four_seats_are_told_each_counter_once(rt: HostRuntime) -> Result<(), Fail> {
     Ok(())
 }
 
-// How many clusters a seat finds in a snapshot when it has put one, and what the writer of the first is.
-fn finds_its_write<N: NodeName, R: Wait>(
+// How many clusters a seat that put one finds in a snapshot, and the writer of the first.
+fn found<A: Site, R: Wait>(
     rt: &R,
     alloc: Global,
-    node: &Node<N>,
+    node: Result<A, Refusal>,
 ) -> Result<(usize, u16), Refusal> {
+    let node = node?;
     let mut seat = node.seat(rt)?;
-    counter(node.call(rt, &mut seat, put(alloc, "a")?))?;
-    match reply(node.call(rt, &mut seat, Event::Snapshot))? {
-        Reply::Entries(batch) => match batch.cluster.first() {
-            Some(write) => Ok((batch.cluster.len(), write.stamp().writer)),
-            None => Err(Refusal::NotFound),
-        },
-        _ => Err(Refusal::BadTrace),
-    }
+    put(rt, alloc, &node, &mut seat, "a")?;
+    clusters(node.call(rt, &mut seat, A::Event::snapshot()))
 }
 
-fn found<N: NodeName, R: Wait>(
+fn finds_its_write<N: NodeName, R: Wait>(
     rt: &R,
     alloc: Global,
     opened: Opened<Line>,
 ) -> Result<(usize, u16), Refusal>
     requires { opened ≡ N.id }
 {
-    let node = Node::<N>::new(alloc, opened, 7)?;
-    finds_its_write(rt, alloc, &node)
+    found(rt, alloc, Node::<N>::new(alloc, opened, 7))
 }
 
 #[test]
 fn a_seat_reads_what_it_wrote(rt: HostRuntime) -> Result<(), Fail> {
     let opened = Opened::<Line>::new(rt.alloc())?;
-    let (clusters, writer) = found::<Brand, _>(&rt, rt.alloc(), opened)?;
+    let (clusters, writer) = finds_its_write::<Brand, _>(&rt, rt.alloc(), opened)?;
     assert!(rt; clusters == 1, "the snapshot has the cluster");
     assert!(rt;
         writer == 7,

@@ -1,15 +1,16 @@
 // Threads that wait for what others do.
 ghost use Rattle.std.specs.Prelude.{◌≡◌};
 
-use crate::calls::{Answer, counter, put, reply, stream};
+use crate::calls::{NOTHING, refused, stream};
+use crate::sites::{Happens, Site};
+use crate::threads::{waits_and_calls, waits_and_stops};
 use std::alloc::Global;
 use std::marker::Brand;
 use std::sync::Wait;
 use std::test::Fail;
-use std::thread::{Threads, join};
-use xds_core::{Event, Marks, Request};
-use xds_message::DeltaDiscoveryRequest;
-use xds_node::{Due, Line, Node, NodeName, Opened, Seat};
+use std::thread::Threads;
+use xds_core::Marks;
+use xds_node::{Due, Line, Node, NodeName, Opened};
 use xds_resource::Refusal;
 
 // A client that wants all clusters.
@@ -26,37 +27,43 @@ struct Outcome {
 }
 
 // Opens a stream whose client wants all clusters, and has it told that there are none.
-fn opened_stream<N: NodeName, R: Wait>(
+fn opened_stream<A: Site, R: Wait>(
     rt: &R,
     alloc: Global,
-    node: &Node<N>,
-    seat: &mut Seat<N>,
+    node: &A,
+    seat: &mut A::Seat,
 ) -> Result<u64, Refusal> {
-    let number = stream(node.call(rt, seat, Event::Open))?;
-    let request = DeltaDiscoveryRequest::read(alloc, WANTS_ALL)?;
-    reply(node.call(rt, seat, Event::Request(number, Request::Delta(request))))?;
-    reply(node.call(rt, seat, Event::Poll(number, None)))?;
+    let number = stream(node.call(rt, seat, A::Event::open()))?;
+    let request = A::Event::ask(alloc, number, WANTS_ALL)?;
+    refused(node.call(rt, seat, request))?;
+    refused(node.call(rt, seat, A::Event::poll(number)))?;
     Ok(number)
 }
 
-fn calls<N: NodeName, R: Wait>(
+// Has a stream told what changed, once the call that changed it went well. Answers the seat, and the event that closes the stream.
+fn told<A: Site, R: Wait>(
     rt: &R,
-    node: &Node<N>,
-    seat: Seat<N>,
-    event: Event,
-) -> (Seat<N>, Answer) {
+    node: &A,
+    seat: A::Seat,
+    number: u64,
+    answer: Result<(), Refusal>,
+) -> Result<(A::Seat, A::Event), Refusal> {
+    answer?;
     let mut seat = seat;
-    let answer = node.call(rt, &mut seat, event);
-    (seat, answer)
+    refused(node.call(rt, &mut seat, A::Event::poll(number)))?;
+    Ok((seat, A::Event::close(number)))
 }
 
-const NONE: Marks = Marks {
-    cluster: 0,
-    endpoint: 0,
-    listener: 0,
-    route: 0,
-    secret: 0,
-};
+// A seat whose stream has been told all, the stream, and the event that changes something.
+fn begun<A: Site, R: Wait>(
+    rt: &R,
+    alloc: Global,
+    node: &A,
+) -> Result<(A::Seat, u64, A::Event), Refusal> {
+    let mut seat = node.seat(rt)?;
+    let number = opened_stream(rt, alloc, node, &mut seat)?;
+    Ok((seat, number, A::Event::put(alloc, "a")?))
+}
 
 // How waits for a stream end while another thread puts a cluster, and while it closes the stream.
 fn both_waits<N: NodeName + Send + Sync, R: Threads + Wait + Sync>(
@@ -64,25 +71,24 @@ fn both_waits<N: NodeName + Send + Sync, R: Threads + Wait + Sync>(
     alloc: Global,
     node: &Node<N>,
 ) -> Result<(Due, Due), Refusal> {
-    let mut seat = node.seat(rt)?;
-    let number = opened_stream(rt, alloc, node, &mut seat)?;
-    let event = put(alloc, "a")?;
-    let (first, (seat, answer)) = join(
-        rt,
-        || node.wait_due(rt, number),
-        || calls(rt, node, seat, event),
-    );
-    counter(answer)?;
-    let mut seat = seat;
-    reply(node.call(rt, &mut seat, Event::Poll(number, None)))?;
-    let (last, (seat, answer)) = join(
-        rt,
-        || node.wait_due(rt, number),
-        || calls(rt, node, seat, Event::Close(number)),
-    );
-    reply(answer)?;
+    let (seat, number, event) = begun(rt, alloc, node)?;
+    let (first, (seat, answer)) = waits_and_calls(rt, node, number, seat, event);
+    let (seat, event) = told(rt, node, seat, number, answer)?;
+    let (last, (seat, answer)) = waits_and_calls(rt, node, number, seat, event);
     drop(seat);
+    answer?;
     Ok((first, last))
+}
+
+// How waits for changes end where something has changed, and while another thread stops the node.
+fn changes<N: NodeName + Send + Sync, R: Threads + Wait + Sync>(
+    rt: &R,
+    node: &Node<N>,
+) -> (Option<u64>, bool) {
+    let changed = node.wait_changed(rt, NOTHING);
+    let clusters = changed.map(|marks: Marks| marks.cluster);
+    let seen = changed.unwrap_or(NOTHING);
+    (clusters, waits_and_stops(rt, node, seen).is_none())
 }
 
 fn waited<N: NodeName + Send + Sync, R: Threads + Wait + Sync>(
@@ -91,15 +97,12 @@ fn waited<N: NodeName + Send + Sync, R: Threads + Wait + Sync>(
     node: &Node<N>,
 ) -> Result<Outcome, Refusal> {
     let (first, last) = both_waits(rt, alloc, node)?;
-    let changed = node.wait_changed(rt, NONE);
-    let clusters = changed.map(|marks| marks.cluster);
-    let seen = changed.unwrap_or(NONE);
-    let (left, _) = join(rt, || node.wait_changed(rt, seen), || node.stop(rt));
+    let (clusters, stopped) = changes(rt, node);
     Ok(Outcome {
         first,
         last,
         clusters,
-        stopped: left.is_none(),
+        stopped,
     })
 }
 
@@ -111,7 +114,9 @@ fn waits<N: NodeName + Send + Sync, R: Threads + Wait + Sync>(
     requires { opened ≡ N.id }
 {
     let node = Node::<N>::new(alloc, opened, 1)?;
-    waited(rt, alloc, &node)
+    let outcome = waited(rt, alloc, &node);
+    drop(node);
+    outcome
 }
 
 #[test]
