@@ -86,7 +86,7 @@ THREADED = {"xds_link_tests", "xds_node_tests", "xds_workers_tests", "xds_histor
 SILENT = {"cases::streams_are_served", "faults::input_is_served_wherever_it_ends", "faults::each_read_may_fail", "faults::each_write_may_fail",
           "counted::one_call_fails_and_is_counted", "counted::calls_after_the_last_fail"}
 # What an allocation that failed makes of an answer that is compared with another, or of a test.
-SHORT = [*GAVE_UP, b"OutOfMemory", b"AllocError"]
+SHORT = [*GAVE_UP, b"OutOfMemory", b"AllocError", b"AllocFailed", b"out of memory"]
 # How tests of some crates say that there was no memory for what they were to give to a call.
 OWN = {"xds_frames_tests": [b"21 BadScript", b'"a text is none"']}
 PATIENCE = 120
@@ -125,6 +125,11 @@ def is_passed(status, text):
     return status == 0 and b"test result: ok" in text
 
 
+def is_ended(status, text, words):
+    """Whether a test ended since there was no memory: by a refusal, or by an assertion that tells of it."""
+    return bool(status) and (status > 0 or b"assertion" in text) and any(it in text for it in words)
+
+
 def looked_at(shim, program, test, calls, most):
     """How many runs were right, and how many weren't."""
     count = shim.allocations(program, test)
@@ -137,7 +142,7 @@ def looked_at(shim, program, test, calls, most):
             refused[word] += 1
         elif is_passed(status, text) and not found:
             passed += 1
-        elif status and status > 0 and not found and any(words in text for words in SHORT):
+        elif is_ended(status, text, SHORT) and not found:
             ended += 1
         else:
             wrong.append((at, status, text[-300:]))
@@ -186,7 +191,7 @@ def every(shim, program, test, words, most):
         status, text = shim.run(program, test, at)
         if is_passed(status, text):
             passed += 1
-        elif status and status > 0 and any(it in text for it in words):
+        elif is_ended(status, text, words):
             ended += 1
         else:
             wrong.append((at, status, text[-300:]))
