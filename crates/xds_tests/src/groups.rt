@@ -5,7 +5,7 @@ use xds_cases::cases::{Outcome, hold, told};
 use xds_resource::{Groups, Refusal};
 
 // The texts between commas. An empty text has none.
-pub fn texts_of(alloc: Global, text: &str) -> Result<Vec<String>, Refusal> {
+pub(crate) fn texts_of(alloc: Global, text: &str) -> Result<Vec<String>, Refusal> {
     let mut texts = Vec::new(alloc);
     if text.is_empty() {
         return Ok(texts);
