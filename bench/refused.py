@@ -89,8 +89,9 @@ SILENT = {"cases::streams_are_served", "faults::input_is_served_wherever_it_ends
           "counted::one_call_fails_and_is_counted", "counted::calls_after_the_last_fail"}
 # What an allocation that failed makes of an answer that is compared with another, or of a test.
 SHORT = [*GAVE_UP, b"OutOfMemory", b"AllocError", b"AllocFailed", b"out of memory"]
-# How tests of some crates say that there was no memory for what they were to give to a call.
-OWN = {"xds_frames_tests": [b"21 BadScript", b'"a text is none"']}
+# How tests of some crates say that there was no memory: for what they were to give to a call, or for a reply, in whose place
+# `reply_at` sends a 503.
+OWN = {"xds_frames_tests": [b"21 BadScript", b'"a text is none"'], "xds_http_tests": [b"503 and not 200"]}
 PATIENCE = 120
 
 
@@ -132,7 +133,7 @@ def is_ended(status, text, words):
     return bool(status) and (status > 0 or b"assertion" in text) and any(it in text for it in words)
 
 
-def looked_at(shim, program, test, calls, most):
+def looked_at(shim, program, test, calls, words, most):
     """How many runs were right, and how many weren't."""
     count = shim.allocations(program, test)
     refused, passed, ended, wrong = dict.fromkeys(calls, 0), 0, 0, []
@@ -144,7 +145,7 @@ def looked_at(shim, program, test, calls, most):
             refused[word] += 1
         elif is_passed(status, text) and not found:
             passed += 1
-        elif is_ended(status, text, SHORT) and not found:
+        elif is_ended(status, text, words) and not found:
             ended += 1
         else:
             wrong.append((at, status, text[-300:]))
@@ -221,7 +222,9 @@ def main():
                 print(f"{crate} isn't built: run `rt test` there")
                 wrong += bool(given.crates)
                 continue
-            tests = [(test, every, (SHORT + OWN.get(crate, []),)) for test in tests_of(crate) if test not in SILENT] if given.tests else [(test, looked_at, (calls,)) for test, calls in LOOKED_AT[crate].items()]
+            words = SHORT + OWN.get(crate, [])
+            looked = [(test, looked_at, (calls, words)) for test, calls in LOOKED_AT[crate].items()] if crate in LOOKED_AT else []
+            tests = [(test, every, (words,)) for test in tests_of(crate) if test not in SILENT] if given.tests else looked
             if given.tests:
                 print(f"{crate}, with the calls {', '.join(calls_in(crate))}", flush=True)
             for test, look, more in tests:
