@@ -2,3 +2,4 @@ pub mod Numbers
 pub mod StreamSteps
 pub mod StepLaws
 pub mod Twins
+pub mod Fitting

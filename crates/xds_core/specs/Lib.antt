@@ -6,3 +6,4 @@ pub mod Seen
 pub mod Legal
 pub mod Laws
 pub mod Twice
+pub mod Lists

@@ -45,6 +45,7 @@ pub struct Core {
 impl Model for Core {
     ghost use Rattle.std.specs.Prelude.{◌≤◌};
     ghost use Rattle.xds_resource.specs.Stamps.{max_counter};
+    ghost use Rattle.xds_core.specs.Lists.{AllFit, streams_of};
     ghost use Rattle.xds_core.specs.Steps as steps;
     ghost use Rattle.xds_core.specs.Steps.{core_code};
 
@@ -52,9 +53,9 @@ impl Model for Core {
 
     ghost coded = { core_code };
 
-    ghost view = { λ c. record { replica = c.replica; store = c.held; opened = c.opened; streams = c.streams } };
+    ghost view = { λ c. record { replica = c.replica; store = c.held; opened = c.opened; streams = streams_of c.streams } };
 
-    ghost invariant = { λ c. record { numbered : 1 ≤ c.replica; counted : c.opened ≤ max_counter } };
+    ghost invariant = { λ c. record { numbered : 1 ≤ c.replica; counted : c.opened ≤ max_counter; fitting : AllFit c.held c.streams } };
 }
 
 impl Core {

@@ -1,12 +1,15 @@
 // What an incremental (delta) client asked for of one type, and what it was told.
-ghost use Rattle.std.specs.Prelude.{◌≡◌, ◌<◌, ◌≤◌, ◌⊎◌, true, false, is_some, IsSome, IfSome, IfOk, IfErr, OnOk, OnErr};
+ghost use Rattle.std.specs.Prelude.{◌≡◌, ◌<◌, ◌≤◌, ◌⊎◌, true, false, if◌then◌else◌, is_some, IsSome, IfSome, IfOk, IfErr, OnOk, OnErr};
 ghost use Rattle.std.specs.FinMap as finmap;
 ghost use Rattle.xds_resource.specs.Stamps.{max_counter};
 ghost use Rattle.xds_resource.specs.declared.refusal.Refusal.TheVariants.{OutOfMemory, NonceSpent};
 ghost use Rattle.xds_interest.specs.Touches.{delta_touch};
 ghost use Rattle.xds_owed.specs.Offers.{offer};
 ghost use Rattle.xds_owed.specs.declared.variant.VariantName.TheVariants as variants;
-ghost use Rattle.xds_ledger.specs.Sessions.{unopened, is_taken, outcome, send};
+ghost use Rattle.xds_ledger.specs.Sessions.{is_taken, outcome, send};
+ghost use Rattle.xds_ledger.specs.Lists.{FitsNext, SessionFits, StaysFit, new_kept};
+ghost use Rattle.xds_catalogue.specs.Holdings.{Holdings};
+ghost use Rattle.xds_owed.specs.Listed.{changed_since};
 ghost use Rattle.xds_delta.specs.Parts.{account_after, account_taken, session_taken};
 ghost use Rattle.xds_delta.specs.Polls as polls;
 ghost use Rattle.xds_delta.specs.Polls.{HasPolled, mention, sending, response as response_of};
@@ -29,14 +32,13 @@ pub struct Session<T: ResourceType> {
 }
 
 impl<T: ResourceType> Model for Session<T> {
-    ghost use Rattle.xds_ledger.specs.Sessions as sessions;
-    ghost use Rattle.xds_ledger.specs.Sessions.{session_code};
+    ghost use Rattle.xds_ledger.specs.Lists.{Kept, kept_code};
 
-    ghost Value = { sessions.Session };
+    ghost Value = { Kept };
 
-    ghost coded = { session_code };
+    ghost coded = { kept_code };
 
-    ghost view = { λ s. record { asked = s.names; account = s.ledger } };
+    ghost view = { λ s. record { session = record { asked = s.names; account = s.ledger.account }; listed = s.ledger.listed } };
 }
 
 // Takes the first request's names: those that it subscribes are mentioned, and it says which versions the client holds.
@@ -47,7 +49,8 @@ fn take_first<T: ResourceType>(
     interest: &Interest<T>,
     touched: Touched,
 ) -> Result<(), Refusal>
-    ensures ok { OnOk result (ledger.new ≡ account_after T.TYPE ledger.old request.now interest.now touched interest.now.names request.now.initial_resource_versions) }
+    ensures ok { OnOk result (ledger.new.account ≡ account_after T.TYPE ledger.old.account request.now interest.now touched interest.now.names request.now.initial_resource_versions) }
+    ensures fits { OnOk result (FitsNext variants.Delta T.TYPE touched ledger.old ledger.new) }
     ensures err { OnErr result (ledger.new ≡ ledger.old) }
     ensures refused { IfErr result (λ e. e ≡ OutOfMemory) }
 {
@@ -73,7 +76,8 @@ fn take_later<T: ResourceType>(
     interest: &Interest<T>,
     touched: Touched,
 ) -> Result<(), Refusal>
-    ensures ok { OnOk result (ledger.new ≡ account_after T.TYPE ledger.old request.now interest.now touched touched.names finmap.empty) }
+    ensures ok { OnOk result (ledger.new.account ≡ account_after T.TYPE ledger.old.account request.now interest.now touched touched.names finmap.empty) }
+    ensures fits { OnOk result (FitsNext variants.Delta T.TYPE touched ledger.old ledger.new) }
     ensures err { OnErr result (ledger.new ≡ ledger.old) }
     ensures refused { IfErr result (λ e. e ≡ OutOfMemory) }
 {
@@ -100,7 +104,8 @@ fn take_names<T: ResourceType>(
     interest: &Interest<T>,
     touched: Touched,
 ) -> Result<(), Refusal>
-    ensures ok { OnOk result (ledger.new ≡ account_taken T.TYPE begun ledger.old request.now interest.now touched) }
+    ensures ok { OnOk result (ledger.new.account ≡ account_taken T.TYPE begun ledger.old.account request.now interest.now touched) }
+    ensures fits { OnOk result (FitsNext variants.Delta T.TYPE touched ledger.old ledger.new) }
     ensures err { OnErr result (ledger.new ≡ ledger.old) }
     ensures refused { IfErr result (λ e. e ≡ OutOfMemory) }
 {
@@ -114,7 +119,8 @@ fn take_names<T: ResourceType>(
 impl<T: ResourceType> Session<T> {
     /// Before the first request, of a client with this cluster text. It is owed nothing.
     pub fn new(alloc: Global, cluster: ClusterText) -> Session<T>
-        ensures { result ≡ unopened cluster }
+        ensures new { result ≡ new_kept cluster }
+        ensures fits { (h : Holdings) → SessionFits variants.Delta T.TYPE h result }
     {
         Session {
             names: DeltaNames::new(alloc, cluster),
@@ -130,8 +136,9 @@ impl<T: ResourceType> Session<T> {
         alloc: Global,
         request: &DeltaDiscoveryRequest,
     ) -> Result<Outcome, Refusal>
-        ensures ok { OnOk result (self.new ≡ polls.take T.TYPE self.old request.now) }
-        ensures taken { IfOk result (λ r. r ≡ outcome self.old request.now.response_nonce) }
+        ensures ok { OnOk result (self.new.session ≡ polls.take T.TYPE self.old.session request.now) }
+        ensures taken { IfOk result (λ r. r ≡ outcome self.old.session request.now.response_nonce) }
+        ensures fits { OnOk result (StaysFit variants.Delta T.TYPE self.old self.new) }
         ensures err { OnErr result (self.new ≡ self.old) }
         ensures refused { IfErr result (λ e. e ≡ OutOfMemory) }
     {
@@ -157,7 +164,8 @@ impl<T: ResourceType> Session<T> {
         touched: Touched,
     ) -> Result<(), Refusal>
         requires { touched ≡ delta_touch T.TYPE (mention request.now) }
-        ensures ok { OnOk result (self.new ≡ session_taken T.TYPE self.old request.now) }
+        ensures ok { OnOk result (self.new.session ≡ session_taken T.TYPE self.old.session request.now) }
+        ensures fits { OnOk result (StaysFit variants.Delta T.TYPE self.old self.new) }
         ensures err { OnErr result (self.new ≡ self.old) }
         ensures refused { IfErr result (λ e. e ≡ OutOfMemory) }
     {
@@ -178,10 +186,11 @@ impl<T: ResourceType> Session<T> {
         request: &DeltaDiscoveryRequest,
         touched: Touched,
     ) -> Result<(), Refusal>
-        requires later { self.old.asked.begun ≡ true }
+        requires later { self.old.session.asked.begun ≡ true }
         requires touches { touched ≡ delta_touch T.TYPE (mention request.now) }
         requires some { touched.all ≡ false }
-        ensures ok { OnOk result (self.new ≡ session_taken T.TYPE self.old request.now) }
+        ensures ok { OnOk result (self.new.session ≡ session_taken T.TYPE self.old.session request.now) }
+        ensures fits { OnOk result (StaysFit variants.Delta T.TYPE self.old self.new) }
         ensures err { OnErr result (self.new ≡ self.old) }
         ensures refused { IfErr result (λ e. e ≡ OutOfMemory) }
     {
@@ -199,21 +208,23 @@ impl<T: ResourceType> Session<T> {
 
     // Whether a request with this nonce is taken.
     fn takes(&self, nonce: &str) -> bool
-        ensures { result ≡ is_taken self.now nonce.now }
+        ensures { result ≡ is_taken self.now.session nonce.now }
     {
         !(self.names.has_begun() && self.ledger.is_stale(nonce))
     }
 
     /// Whether the client is owed something: a response of the type is unanswered or due. It takes no memory.
     pub fn owes(&self, catalogue: &Catalogue<T>) -> bool
-        ensures { result ≡ polls.owes T.TYPE self.now catalogue.now.entries }
+        requires { SessionFits variants.Delta T.TYPE catalogue.now self.now }
+        ensures { result ≡ polls.owes T.TYPE self.now.session catalogue.now.entries }
     {
         self.names.has_begun() && self.ledger.owes(self.names.interest(), catalogue)
     }
 
     /// Whether `poll` has a response to send, be there a nonce for it or not. It takes no memory.
     pub fn sends(&self, catalogue: &Catalogue<T>) -> bool
-        ensures { result ≡ is_some (sending T.TYPE self.now catalogue.now.entries) }
+        requires { SessionFits variants.Delta T.TYPE catalogue.now self.now }
+        ensures { result ≡ is_some (sending T.TYPE self.now.session catalogue.now.entries) }
     {
         self.names.has_begun() && self.ledger.sends(self.names.interest(), catalogue)
     }
@@ -227,7 +238,8 @@ impl<T: ResourceType> Session<T> {
         catalogue: &Catalogue<T>,
         number: u64,
     ) -> Result<(NameMap<Due>, DeltaDraft), Refusal>
-        ensures offer { IfOk result (λ p. p.0 ≡ offer variants.Delta T.TYPE self.now.asked.interest catalogue.now.entries self.now.account.beliefs) }
+        requires { SessionFits variants.Delta T.TYPE catalogue.now self.now }
+        ensures offer { IfOk result (λ p. p.0 ≡ offer variants.Delta T.TYPE self.now.session.asked.interest catalogue.now.entries self.now.session.account.beliefs) }
         ensures draft { IfOk result (λ p. p.1 ≡ response_of replica T.TYPE catalogue.now p.0 number) }
         ensures refused { IfErr result (λ e. e ≡ OutOfMemory) }
     {
@@ -235,6 +247,35 @@ impl<T: ResourceType> Session<T> {
         let offer = self.ledger.offer(alloc, interest, catalogue)?;
         let draft = response(alloc, replica, catalogue, &offer, number)?;
         Ok((offer, draft))
+    }
+
+    /// Lists the names that changed since the session was refreshed last, and answers how many these are; none before the
+    /// first request. Refused only by `OutOfMemory`, and then the session is as it was.
+    pub fn refresh(&mut self, alloc: Global, catalogue: &Catalogue<T>) -> Result<u64, Refusal>
+        requires { SessionFits variants.Delta T.TYPE catalogue.now self.old }
+        ensures same { self.new.session ≡ self.old.session }
+        ensures fits { SessionFits variants.Delta T.TYPE catalogue.now self.new }
+        ensures count { IfOk result (λ n. n ≡ (if self.old.session.asked.begun then finmap.len (changed_since catalogue.now self.old.listed.mark) else 0)) }
+        ensures mark { OnOk result (self.old.session.asked.begun ≡ true → self.new.listed.mark ≡ catalogue.now.changes) }
+        ensures err { OnErr result (self.new ≡ self.old) }
+        ensures refused { IfErr result (λ e. e ≡ OutOfMemory) }
+    {
+        if !self.names.has_begun() {
+            return Ok(0);
+        }
+        self.ledger.refresh(alloc, catalogue)
+    }
+
+    /// Looks at what changed since, and lets the names go that are owed nothing, as far as there is memory for it.
+    pub fn tidy(&mut self, alloc: Global, catalogue: &Catalogue<T>)
+        requires { SessionFits variants.Delta T.TYPE catalogue.now self.old }
+        ensures same { self.new.session ≡ self.old.session }
+        ensures fits { SessionFits variants.Delta T.TYPE catalogue.now self.new }
+    {
+        if !self.names.has_begun() {
+            return;
+        }
+        self.ledger.tidy(alloc, self.names.interest(), catalogue);
     }
 
     /// The next response, if one is to be sent: nothing of the type is unanswered, something is owed, and it isn't
@@ -248,10 +289,31 @@ impl<T: ResourceType> Session<T> {
         catalogue: &Catalogue<T>,
         nonces: &mut Nonces,
     ) -> Result<Option<DeltaDraft>, Refusal>
-        ensures ok { IfOk result (λ answer. HasPolled replica T.TYPE catalogue.now self.old nonces.old answer self.new nonces.new) }
+        requires { SessionFits variants.Delta T.TYPE catalogue.now self.old }
+        ensures ok { IfOk result (λ answer. HasPolled replica T.TYPE catalogue.now self.old.session nonces.old answer self.new.session nonces.new) }
         ensures bound { IfOk result (λ answer. IfSome answer (λ _. nonces.new ≤ max_counter)) }
-        ensures err { OnErr result ((self.new ≡ self.old) × (nonces.new ≡ nonces.old)) }
-        ensures refused { IfErr result (λ e. IsSome (sending T.TYPE self.old catalogue.now.entries) × (((e ≡ NonceSpent) × (nonces.old ≡ max_counter)) ⊎ ((e ≡ OutOfMemory) × (nonces.old < max_counter)))) }
+        ensures fits { SessionFits variants.Delta T.TYPE catalogue.now self.new }
+        ensures err { OnErr result ((self.new.session ≡ self.old.session) × (nonces.new ≡ nonces.old)) }
+        ensures refused { IfErr result (λ e. IsSome (sending T.TYPE self.old.session catalogue.now.entries) × (((e ≡ NonceSpent) × (nonces.old ≡ max_counter)) ⊎ ((e ≡ OutOfMemory) × (nonces.old < max_counter)))) }
+    {
+        self.tidy(alloc, catalogue);
+        self.poll_tidied(alloc, replica, catalogue, nonces)
+    }
+
+    // The next response, from the list as it is.
+    fn poll_tidied(
+        &mut self,
+        alloc: Global,
+        replica: u16,
+        catalogue: &Catalogue<T>,
+        nonces: &mut Nonces,
+    ) -> Result<Option<DeltaDraft>, Refusal>
+        requires { SessionFits variants.Delta T.TYPE catalogue.now self.old }
+        ensures ok { IfOk result (λ answer. HasPolled replica T.TYPE catalogue.now self.old.session nonces.old answer self.new.session nonces.new) }
+        ensures bound { IfOk result (λ answer. IfSome answer (λ _. nonces.new ≤ max_counter)) }
+        ensures fits { SessionFits variants.Delta T.TYPE catalogue.now self.new }
+        ensures err { OnErr result ((self.new.session ≡ self.old.session) × (nonces.new ≡ nonces.old)) }
+        ensures refused { IfErr result (λ e. IsSome (sending T.TYPE self.old.session catalogue.now.entries) × (((e ≡ NonceSpent) × (nonces.old ≡ max_counter)) ⊎ ((e ≡ OutOfMemory) × (nonces.old < max_counter)))) }
     {
         if !self.sends(catalogue) {
             return Ok(None);
@@ -266,7 +328,7 @@ impl<T: ResourceType> Session<T> {
 
     /// Notes that a response with this offer was sent, as the one of this number. It takes no memory.
     pub fn send(&mut self, alloc: Global, offer: NameMap<Due>, number: u64)
-        ensures { self.new ≡ send self.old offer number }
+        ensures { self.new ≡ record self.old { session = send self.old.session offer number } }
     {
         self.ledger.send(alloc, offer, number);
     }

@@ -2,3 +2,4 @@ pub mod Ledgers
 pub mod Sessions
 pub mod Texts
 pub mod Laws
+pub mod Lists

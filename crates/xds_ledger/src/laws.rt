@@ -1,5 +1,5 @@
 //! What sessions are, as statements that the prover checks. The functions do nothing.
-ghost use Rattle.xds_ledger.specs.Laws.{OfferSaysIt, AcceptedByName, TakenByName, UntouchedKeepsBelief, TouchedIsNotTold, SendingCommutes, AcceptedOwesNothing, NothingOwed, OffersAreToldApart};
+ghost use Rattle.xds_ledger.specs.Laws.{NewListFits, WiderListFits, RefreshedListFits, PrunedListFits, OwedIsListed, LaterHoldingsFit, JoinedIsLater, RequestKeepsFitting, OfferSaysIt, AcceptedByName, TakenByName, UntouchedKeepsBelief, TouchedIsNotTold, SendingCommutes, AcceptedOwesNothing, NothingOwed, OffersAreToldApart};
 
 /// What an offer says, and what is believed after an answer and after a request, name by name.
 pub fn name_by_name()
@@ -28,4 +28,17 @@ pub fn accepted_offers_settle()
 /// Two offers are equal where each says what the other says.
 pub fn offers_are_told_apart()
     ensures { OffersAreToldApart }
+{}
+
+/// A list of what may be owed suffices from the start, and once it was refreshed or pruned, once a request was taken that
+/// it has all names of, and at a catalogue to which writes came. Once it was refreshed it has all that is owed.
+pub fn lists_suffice()
+    ensures new { NewListFits }
+    ensures wider { WiderListFits }
+    ensures refreshed { RefreshedListFits }
+    ensures pruned { PrunedListFits }
+    ensures owed { OwedIsListed }
+    ensures taken { RequestKeepsFitting }
+    ensures later { LaterHoldingsFit }
+    ensures joined { JoinedIsLater }
 {}

@@ -1,83 +1,64 @@
-// What a server keeps of one type on one stream, beside the interest.
-ghost use Rattle.std.specs.Prelude.{◌≡◌, bytes_eq, is_some, IfOk, IfErr};
+// What a server keeps of one type on one stream, beside the interest: an account of what it told, and a list of what it may owe.
+ghost use Rattle.std.specs.Prelude.{◌≡◌, map, string_bytes, is_some, IfOk, IfErr, OnOk, OnErr};
+ghost use Rattle.std.specs.FinMap as finmap;
+ghost use Rattle.std.specs.FinSet as set;
 ghost use Rattle.xds_resource.specs.declared.refusal.Refusal.TheVariants.{OutOfMemory};
-ghost use Rattle.xds_ledger.specs.Ledgers as ledgers;
-ghost use Rattle.xds_ledger.specs.Ledgers.{untold, nonce_text};
+ghost use Rattle.xds_owed.specs.Listed.{StaysSufficient, changed_since};
 ghost use Rattle.xds_owed.specs.Offers.{offer as offer_of};
+ghost use Rattle.xds_ledger.specs.Ledgers as ledgers;
+ghost use Rattle.xds_ledger.specs.Ledgers.{AreInOrder, versions_of, settled, touch, resume};
+ghost use Rattle.xds_ledger.specs.Lists.{Fits, FitsNext, new_books, refreshed};
 
-use itoa::Buffer;
+use crate::account::Account;
 use std::alloc::Global;
-use std::marker::{Model, PhantomData};
-use xds_beliefs::Sent;
-use xds_beliefs::copying::{copy_beliefs, copy_offer};
+use std::collections::btree_set::Iter;
+use std::marker::Model;
 use xds_catalogue::Catalogue;
-use xds_interest::Interest;
+use xds_interest::{Interest, Touched};
 use xds_owed::repeats::repeats;
-use xds_owed::{Beliefs, Due, Variant, offer, something_owed};
+use xds_owed::{Due, Listed, Variant, offer, something_owed};
 use xds_resource::{NameMap, Refusal, ResourceType};
 
-/// What a client was told of one type on one stream, and what is unanswered. Contracts see it as an account.
+/// What a client was told of one type on one stream, what is unanswered, and which names it may be owed.
 #[derive(Drop)]
 pub struct Ledger<T: ResourceType, V: Variant> {
-    pub(crate) beliefs: Beliefs,
-    // The number of the last response of the type, 0 before the first.
-    nonce: u64,
-    pub(crate) accepted: bool,
-    pub(crate) sent: Option<Sent>,
-    pub(crate) refused: Option<NameMap<Due>>,
-    kind: PhantomData<T>,
-    variant: PhantomData<V>,
+    pub(crate) account: Account<T, V>,
+    pub(crate) listed: Listed,
 }
 
 impl<T: ResourceType, V: Variant> Model for Ledger<T, V> {
-    ghost use Rattle.xds_ledger.specs.Ledgers.{Account, account_code};
+    ghost use Rattle.xds_ledger.specs.Lists.{Books, books_code};
 
-    ghost Value = { Account };
+    ghost Value = { Books };
 
-    ghost coded = { account_code };
+    ghost coded = { books_code };
 
-    ghost view = { λ l. record { beliefs = l.beliefs; nonce = l.nonce; accepted = l.accepted; sent = l.sent; refused = l.refused } };
-}
-
-// Whether a text is the nonce of the response of a number. It takes no memory.
-fn is_nonce(number: u64, text: &str) -> bool
-    ensures { result ≡ bytes_eq text.now (nonce_text number) }
-{
-    if number == 0 {
-        return text.is_empty();
-    }
-    let mut digits = Buffer::new();
-    text == digits.format(number)
+    ghost view = { λ l. record { account = l.account; listed = l.listed } };
 }
 
 impl<T: ResourceType, V: Variant> Ledger<T, V> {
     /// Before the first request.
     pub fn new(alloc: Global) -> Ledger<T, V>
-        ensures { result ≡ untold }
+        ensures { result ≡ new_books }
     {
         Ledger {
-            beliefs: Beliefs::new(alloc),
-            nonce: 0,
-            accepted: false,
-            sent: None,
-            refused: None,
-            kind: PhantomData,
-            variant: PhantomData,
+            account: Account::new(alloc),
+            listed: Listed::new(alloc),
         }
     }
 
     /// Whether a request with this nonce answers the unanswered response.
     pub fn answers(&self, nonce: &str) -> bool
-        ensures { result ≡ ledgers.answers self.now nonce.now }
+        ensures { result ≡ ledgers.answers self.now.account nonce.now }
     {
-        self.sent.is_some() && is_nonce(self.nonce, nonce)
+        self.account.answers(nonce)
     }
 
     /// Whether a request with this nonce is out of date, so that it is ignored.
     pub fn is_stale(&self, nonce: &str) -> bool
-        ensures { result ≡ ledgers.is_stale self.now nonce.now }
+        ensures { result ≡ ledgers.is_stale self.now.account nonce.now }
     {
-        self.sent.is_none() && !nonce.is_empty() && !is_nonce(self.nonce, nonce)
+        self.account.is_stale(nonce)
     }
 
     /// What a response would say now.
@@ -87,76 +68,122 @@ impl<T: ResourceType, V: Variant> Ledger<T, V> {
         interest: &Interest<T>,
         catalogue: &Catalogue<T>,
     ) -> Result<NameMap<Due>, Refusal>
-        ensures ok { IfOk result (λ o. o ≡ offer_of V.NAME T.TYPE interest.now catalogue.now.entries self.now.beliefs) }
+        requires { Fits V.NAME T.TYPE interest.now catalogue.now self.now }
+        ensures ok { IfOk result (λ o. o ≡ offer_of V.NAME T.TYPE interest.now catalogue.now.entries self.now.account.beliefs) }
         ensures err { IfErr result (λ e. e ≡ OutOfMemory) }
     {
-        offer(alloc, V::NAME, interest, catalogue, &self.beliefs)
+        let beliefs = self.account.beliefs();
+        offer(alloc, V::NAME, interest, catalogue, beliefs, &self.listed)
     }
 
     /// Whether a response is due: something is owed that can be told, or, where a response is the whole, none was
-    /// accepted yet. It takes no memory.
+    /// accepted yet. It takes no memory, and looks at the listed names and at the changes above the mark alone.
     pub fn is_due(&self, interest: &Interest<T>, catalogue: &Catalogue<T>) -> bool
-        ensures { result ≡ ledgers.is_due V.NAME T.TYPE interest.now catalogue.now.entries self.now }
+        requires { Fits V.NAME T.TYPE interest.now catalogue.now self.now }
+        ensures { result ≡ ledgers.is_due V.NAME T.TYPE interest.now catalogue.now.entries self.now.account }
     {
-        something_owed(V::NAME, interest, catalogue, &self.beliefs)
-            || (V::NAME.is_whole(T::TYPE) && !self.accepted)
+        let beliefs = self.account.beliefs();
+        something_owed(V::NAME, interest, catalogue, beliefs, &self.listed)
+            || (V::NAME.is_whole(T::TYPE) && !self.account.has_accepted())
     }
 
     /// Whether the client is owed something: its answer is out, or a response is due. It takes no memory.
     pub fn owes(&self, interest: &Interest<T>, catalogue: &Catalogue<T>) -> bool
-        ensures { result ≡ ledgers.owes V.NAME T.TYPE interest.now catalogue.now.entries self.now }
+        requires { Fits V.NAME T.TYPE interest.now catalogue.now self.now }
+        ensures { result ≡ ledgers.owes V.NAME T.TYPE interest.now catalogue.now.entries self.now.account }
     {
-        self.sent.is_some() || self.is_due(interest, catalogue)
+        self.account.awaits_answer() || self.is_due(interest, catalogue)
     }
 
     /// Whether a response is to be sent: nothing is unanswered, a response is due, and its offer isn't the one that was
     /// refused last. It takes no memory.
     pub fn sends(&self, interest: &Interest<T>, catalogue: &Catalogue<T>) -> bool
-        ensures { result ≡ is_some (ledgers.sending V.NAME T.TYPE interest.now catalogue.now.entries self.now) }
+        requires { Fits V.NAME T.TYPE interest.now catalogue.now self.now }
+        ensures { result ≡ is_some (ledgers.sending V.NAME T.TYPE interest.now catalogue.now.entries self.now.account) }
     {
-        self.sent.is_none()
+        !self.account.awaits_answer()
             && self.is_due(interest, catalogue)
             && !self.repeats(interest, catalogue)
     }
 
     // Whether the offer of the next response is the one that was refused last.
     fn repeats(&self, interest: &Interest<T>, catalogue: &Catalogue<T>) -> bool
-        ensures { result ≡ ledgers.is_refused self.now (offer_of V.NAME T.TYPE interest.now catalogue.now.entries self.now.beliefs) }
+        requires { Fits V.NAME T.TYPE interest.now catalogue.now self.now }
+        ensures { result ≡ ledgers.is_refused self.now.account (offer_of V.NAME T.TYPE interest.now catalogue.now.entries self.now.account.beliefs) }
     {
-        match &self.refused {
-            Some(refused) => repeats(refused, V::NAME, interest, catalogue, &self.beliefs),
+        match self.account.refused() {
+            Some(refused) => repeats(
+                refused,
+                V::NAME,
+                interest,
+                catalogue,
+                self.account.beliefs(),
+                &self.listed,
+            ),
             None => false,
         }
     }
 
+    /// Lists the names that changed since the ledger was refreshed last, and answers how many these are. Refused only by
+    /// `OutOfMemory`, and then the ledger is as it was.
+    pub fn refresh(&mut self, alloc: Global, catalogue: &Catalogue<T>) -> Result<u64, Refusal>
+        ensures ok { OnOk result (self.new ≡ refreshed catalogue.now self.old) }
+        ensures count { IfOk result (λ n. n ≡ finmap.len (changed_since catalogue.now self.old.listed.mark)) }
+        ensures same { self.new.account ≡ self.old.account }
+        ensures fits { StaysSufficient catalogue.now self.old.listed self.new.listed }
+        ensures err { OnErr result (self.new ≡ self.old) }
+        ensures refused { IfErr result (λ e. e ≡ OutOfMemory) }
+    {
+        self.listed.refresh(alloc, catalogue)
+    }
+
+    /// Refreshes the ledger, and lets the names go that are owed nothing, as far as there is memory for it. So what comes
+    /// next looks at the names alone that something is owed of, or that changed since.
+    pub fn tidy(&mut self, alloc: Global, interest: &Interest<T>, catalogue: &Catalogue<T>)
+        requires { Fits V.NAME T.TYPE interest.now catalogue.now self.old }
+        ensures same { self.new.account ≡ self.old.account }
+        ensures fits { Fits V.NAME T.TYPE interest.now catalogue.now self.new }
+    {
+        let beliefs = self.account.beliefs();
+        self.listed
+            .tidy(alloc, V::NAME, interest, catalogue, beliefs);
+    }
+
     /// Notes that an offer was sent, as the response of this number.
     pub fn send(&mut self, alloc: Global, offer: NameMap<Due>, number: u64)
-        ensures { self.new ≡ ledgers.send self.old offer number }
+        ensures { self.new ≡ record self.old { account = ledgers.send self.old.account offer number } }
     {
-        self.nonce = number;
-        self.sent = Some(Sent::new(alloc, offer));
+        self.account.send(alloc, offer, number);
     }
 
-    // A copy of the unanswered response, if there is one.
-    fn copy_sent(&self, alloc: Global) -> Result<Option<Sent>, Refusal>
-        ensures ok { IfOk result (λ s. s ≡ self.now.sent) }
-        ensures err { IfErr result (λ e. e ≡ OutOfMemory) }
+    /// Takes a request: it settles the response that it answers, and then its names are taken. `interest` is the
+    /// client's interest then, `touched` the names that the request touches, `mentioned` those that it mentions, and
+    /// `versions` what the client says it holds, in ascending order of names. Refused only by `OutOfMemory`, and then
+    /// nothing is taken. It looks at the names that the request and the response that it answers speak of, and at all
+    /// that are believed held only where every name is touched or a whole response is accepted.
+    pub fn take(
+        &mut self,
+        alloc: Global,
+        nonce: &str,
+        rejects: bool,
+        interest: &Interest<T>,
+        touched: Touched,
+        mentioned: Iter<'_, String>,
+        versions: &[(&str, &str)],
+    ) -> Result<(), Refusal>
+        requires sorted { AreInOrder (map (λ p. (p.0.now, p.1.now)) versions.now) }
+        ensures ok { OnOk result (self.new.account ≡ resume (touch (settled V.NAME T.TYPE self.old.account nonce.now rejects) interest.now touched (set.from_list (map string_bytes mentioned.entry))) (versions_of (map (λ p. (p.0.now, p.1.now)) versions.now))) }
+        ensures fits { OnOk result (FitsNext V.NAME T.TYPE touched self.old self.new) }
+        ensures err { OnErr result (self.new ≡ self.old) }
+        ensures refused { IfErr result (λ e. e ≡ OutOfMemory) }
     {
-        match &self.sent {
-            Some(sent) => Ok(Some(sent.try_copy(alloc)?)),
-            None => Ok(None),
-        }
-    }
-
-    // A copy of the offer that was refused last, if there is one.
-    fn copy_refused(&self, alloc: Global) -> Result<Option<NameMap<Due>>, Refusal>
-        ensures ok { IfOk result (λ o. o ≡ self.now.refused) }
-        ensures err { IfErr result (λ e. e ≡ OutOfMemory) }
-    {
-        match &self.refused {
-            Some(refused) => Ok(Some(copy_offer(alloc, refused)?)),
-            None => Ok(None),
-        }
+        let all = mentioned.clone()?;
+        let listed = self.listed_after(alloc, nonce, rejects, &touched, all, versions)?;
+        self.account.take(
+            alloc, nonce, rejects, interest, touched, mentioned, versions,
+        )?;
+        self.listed = listed;
+        Ok(())
     }
 
     /// An equal ledger, with memory of its own. Refused only by `OutOfMemory`.
@@ -165,13 +192,8 @@ impl<T: ResourceType, V: Variant> Ledger<T, V> {
         ensures err { IfErr result (λ e. e ≡ OutOfMemory) }
     {
         Ok(Ledger {
-            beliefs: copy_beliefs(alloc, &self.beliefs)?,
-            nonce: self.nonce,
-            accepted: self.accepted,
-            sent: self.copy_sent(alloc)?,
-            refused: self.copy_refused(alloc)?,
-            kind: PhantomData,
-            variant: PhantomData,
+            account: self.account.try_copy(alloc)?,
+            listed: self.listed.try_copy(alloc)?,
         })
     }
 }

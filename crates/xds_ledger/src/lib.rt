@@ -1,8 +1,10 @@
 // What a server told a client of one type on one stream, and what it owes.
 #![tactic(auto)]
 
+mod account;
 pub mod laws;
 pub mod ledger;
+mod listing;
 pub mod nonces;
 pub mod outcome;
 mod taking;

@@ -1,4 +1,4 @@
-// How a ledger takes a request. What is believed changes in place, name by name of those that the request and the response
+// How an account takes a request. What is believed changes in place, name by name of those that the request and the response
 // that it answers speak of; it is made anew where a request touches every name, or a response that is the whole was accepted.
 ghost use Rattle.std.specs.Prelude.{◌≡◌, ◌&&◌, not, if◌then◌else◌, ℕ, List, Some, true, false, map, string_bytes, option_map, IfOk, IfErr, IfSome, OnOk, OnErr};
 ghost use Rattle.std.specs.FinMap as finmap;
@@ -10,7 +10,7 @@ ghost use Rattle.xds_ledger.specs.Ledgers.{answered, beliefs_accepted, beliefs_t
 ghost use Rattle.xds_owed.specs.Owed as owed;
 ghost use Rattle.xds_owed.specs.Variants.{is_whole};
 
-use crate::ledger::Ledger;
+use crate::account::Account;
 use std::alloc::Global;
 use std::collections::btree_set::Iter;
 use xds_beliefs::Sent;
@@ -44,7 +44,7 @@ fn change_beliefs<T: ResourceType>(
     change(alloc, beliefs, changes)
 }
 
-impl<T: ResourceType, V: Variant> Ledger<T, V> {
+impl<T: ResourceType, V: Variant> Account<T, V> {
     /// Takes a request: it settles the response that it answers, and then its names are taken. `interest` is the
     /// client's interest then, `touched` the names that the request touches, `mentioned` those that it mentions, and
     /// `versions` what the client says it holds, in ascending order of names. Refused only by `OutOfMemory`, and then

@@ -3,7 +3,9 @@ pub mod ByName
 pub mod SameOffers
 pub mod OfferMade
 pub mod SomethingOwed
-pub mod LookedThrough
 pub mod LookedAt
+pub mod Walking
 pub mod Repeating
 pub mod Replacing
+pub mod Later
+pub mod Fitting

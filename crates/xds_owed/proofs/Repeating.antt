@@ -1,6 +1,6 @@
 -- That an offer is the next one again where both say the same of each name.
 use Rattle.std.proofs.Common.{◌≡◌, ℕ, List, [], ◌∷◌, Bool, true, false, cond, ◌&&◌, Option, Some, None, refl, sym, ap, ◌∙◌}
-use Rattle.std.specs.Prelude.{bytes_eq, is_some}
+use Rattle.std.specs.Prelude.{bytes_eq, is_some, option_map, if◌then◌else◌}
 use Rattle.std.specs.List.{list_all}
 use Rattle.std.specs.FinMap as finmap
 use Rattle.std.proofs.lemmas.Bool.{false_from_ne_true, true≢false}
@@ -9,13 +9,17 @@ use Rattle.xds_resource.specs.declared.types.TypeName.{TypeName}
 use Rattle.xds_resource.specs.Writes.{text_cmp}
 use Rattle.xds_resource.proofs.NameMaps.{bytes_eq_tells, same_names}
 use Rattle.xds_interest.specs.Interests.{Selection}
-use Rattle.xds_catalogue.specs.Holdings.{Entries}
+use Rattle.xds_catalogue.specs.Holdings.{Holdings, Entries, IsNumbered}
 use Rattle.xds_owed.specs.declared.variant.VariantName.{VariantName}
 use Rattle.xds_owed.specs.declared.entry.Due.{Due}
-use Rattle.xds_owed.specs.Owed.{Beliefs}
+use Rattle.xds_owed.specs.declared.entry.Due.TheVariants.{Stated}
+use Rattle.xds_owed.specs.Variants.{is_whole}
+use Rattle.xds_owed.specs.Owed.{Beliefs, present, owed_of, is_owed}
+use Rattle.xds_owed.specs.Listed.{Listed, is_listed, is_since, Fits}
 use Rattle.xds_owed.specs.Offers.{Offer, offered, offer, same_offer}
 use Rattle.xds_owed.specs.Repeats.{same_saying, still_says}
-use Rattle.xds_owed.proofs.ByName.{offered_absent, offer_says_it}
+use Rattle.xds_owed.proofs.ByName.{present_absent, offer_says_it}
+use Rattle.xds_owed.proofs.Fitting.{none_at_first, past_if, unowed_else}
 use Rattle.xds_owed.proofs.SameOffers.{same_due_itself, same_due_tells, offers_are_told_apart}
 use Rattle.xds_interest.proofs.Choices.{and_first, and_second}
 
@@ -53,23 +57,11 @@ one_fails p [] none = absurd cc
 one_fails p (e ∷ es) none = fails_first p e es (p e.0) refl none (one_fails p es)
 
 module _ (refused : Offer) (v : VariantName) (t : TypeName) (s : Selection) (m : Entries) (b : Beliefs) where
-  agree_all_at : (q : List ℕ) (r : Option Due) (e : Option _) (w : Option _) → finmap.get refused q ≡ r → finmap.get b q ≡ e → finmap.get m q ≡ w
-      → ((d : Due) → finmap.get refused q ≡ Some d → still_says refused v t s m b q ≡ true) → ((x : _) → finmap.get b q ≡ Some x → still_says refused v t s m b q ≡ true)
-      → (is_some (finmap.get m q) ≡ true → still_says refused v t s m b q ≡ true) → still_says refused v t s m b q ≡ true
-  agree_all_at q (Some d) e w has unheld unknown said believed held = said d has
-  agree_all_at q None (Some x) w has unheld unknown said believed held = believed x unheld
-  agree_all_at q None None (Some x) has unheld unknown said believed held = held (ap is_some unknown)
-  agree_all_at q None None None has unheld unknown said believed held = λ i. same_saying (has i) (offered_absent v t s m b q unheld unknown i)
-
-  -- where they agree of each name that either may speak of, they are the same
-  pub repeats_where : list_all (λ e. still_says refused v t s m b e.0) (finmap.entries refused) ≡ true → list_all (λ e. still_says refused v t s m b e.0) (finmap.entries b) ≡ true
-      → ((name : List ℕ) → is_some (finmap.get m name) ≡ true → still_says refused v t s m b name ≡ true) → same_offer (offer v t s m b) refused ≡ true
-  repeats_where said believed held =
+  -- where they agree of each name, they are the same
+  pub repeats_where : ((q : List ℕ) → still_says refused v t s m b q ≡ true) → same_offer (offer v t s m b) refused ≡ true
+  repeats_where each =
       (offers_are_told_apart (offer v t s m b) refused).1
-      (same_names (offer v t s m b) refused
-      (λ q. offer_says_it v t s m b q
-      ∙ sym (same_tells (finmap.get refused q) (offered v t s m b q)
-      (agree_all_at q (finmap.get refused q) (finmap.get b q) (finmap.get m q) refl refl refl (λ d. named_passes (still_says refused v t s m b) refused q d said) (λ x. named_passes (still_says refused v t s m b) b q x believed) (held q)))))
+      (same_names (offer v t s m b) refused (λ q. offer_says_it v t s m b q ∙ sym (same_tells (finmap.get refused q) (offered v t s m b q) (each q))))
 
   -- where they don't agree of some name, they differ
   pub differs_where : (name : List ℕ) → still_says refused v t s m b name ≡ false → same_offer (offer v t s m b) refused ≡ false
@@ -81,9 +73,38 @@ module _ (refused : Offer) (v : VariantName) (t : TypeName) (s : Selection) (m :
   pub differs_among : {X : Type 0} (n : finmap.FinMap text_cmp X) → list_all (λ e. still_says refused v t s m b e.0) (finmap.entries n) ≡ false → false ≡ same_offer (offer v t s m b) refused
   differs_among n apart = let one = one_fails (still_says refused v t s m b) (finmap.entries n) apart in sym (differs_where one.0 one.1)
 
-  -- once they agree of each name that was told or is believed, the others decide
-  pub others_decide : (result : Bool) → list_all (λ e. still_says refused v t s m b e.0) (finmap.entries refused) ≡ true → list_all (λ e. still_says refused v t s m b e.0) (finmap.entries b) ≡ true
-      → (result ≡ true → (name : List ℕ) → is_some (finmap.get m name) ≡ true → still_says refused v t s m b name ≡ true) → (result ≡ false → (name : List ℕ) × (still_says refused v t s m b name ≡ false))
-      → result ≡ same_offer (offer v t s m b) refused
-  others_decide true said believed all one = sym (repeats_where said believed (all refl))
-  others_decide false said believed all one = let other = one refl in sym (differs_where other.0 other.1)
+-- ---- the names that aren't looked at
+
+absent : (o : Option Due) (b : Bool) → b ≡ false → (if b then o else None) ≡ None
+absent o true is = absurd cc
+absent o false is = refl
+
+-- a whole response says nothing of a name without an entry in the catalogue, and another nothing of a name that is owed nothing
+silent : (v : VariantName) (t : TypeName) (s : Selection) (h : Holdings) (b : Beliefs) (l : Listed) (q : List ℕ) (whole : Bool) → is_whole v t ≡ whole → IsNumbered h → Fits v t s h b l → is_listed l q ≡ false
+    → is_since h (if whole then 0 else l.mark) q ≡ false → offered v t s h.entries b q ≡ None
+silent v t s h b l q true whole numbered fits out unchanged =
+    ap (λ w. if w then option_map Stated (present s h.entries q) else if is_owed v t s h.entries b q then owed_of s h.entries b q else None) whole
+    ∙ ap (option_map Stated) (present_absent s h.entries q (none_at_first h q (past_if h 0 q numbered unchanged)))
+silent v t s h b l q false partly numbered fits out unchanged =
+    ap (λ w. if w then option_map Stated (present s h.entries q) else if is_owed v t s h.entries b q then owed_of s h.entries b q else None) partly
+    ∙ absent (owed_of s h.entries b q) (is_owed v t s h.entries b q) (unowed_else v t s h b l q numbered fits out unchanged)
+
+module _ (v : VariantName) (t : TypeName) (s : Selection) (h : Holdings) (b : Beliefs) (l : Listed) (refused : Offer) (mark : ℕ) where
+  abbrev test : List ℕ → Bool
+  test q = still_says refused v t s h.entries b q
+
+  each_at : (q : List ℕ) (r : Option Due) (o : Option ℕ) (since : Bool) → finmap.get refused q ≡ r → finmap.get l.names q ≡ o → is_since h mark q ≡ since → mark ≡ (if is_whole v t then 0 else l.mark) → Fits v t s h b l → IsNumbered h
+      → list_all (λ e. test e.0) (finmap.entries refused) ≡ true → list_all (λ e. test e.0) (finmap.entries l.names) ≡ true → ((name : List ℕ) → is_since h mark name ≡ true → test name ≡ true) → test q ≡ true
+  each_at q (Some d) o since has there is from fits numbered said listed changed = named_passes test refused q d said has
+  each_at q None (Some k) since has there is from fits numbered said listed changed = named_passes test l.names q k listed there
+  each_at q None None true has there is from fits numbered said listed changed = changed q is
+  each_at q None None false has there is from fits numbered said listed changed =
+      λ i. same_saying (has i) (silent v t s h b l q (is_whole v t) refl numbered fits (ap is_some there) (ap (λ n. is_since h n q) (sym from) ∙ is) i)
+
+  -- once they agree of each name that was refused or is listed, those that changed since decide
+  pub others_decide : (result : Bool) → mark ≡ (if is_whole v t then 0 else l.mark) → Fits v t s h b l → list_all (λ e. test e.0) (finmap.entries refused) ≡ true → list_all (λ e. test e.0) (finmap.entries l.names) ≡ true
+      → (result ≡ true → (name : List ℕ) → is_since h mark name ≡ true → test name ≡ true) → (result ≡ false → (name : List ℕ) × (test name ≡ false)) → (result ≡ true → IsNumbered h)
+      → result ≡ same_offer (offer v t s h.entries b) refused
+  others_decide true from fits said listed all one numbered =
+      sym (repeats_where refused v t s h.entries b (λ q. each_at q (finmap.get refused q) (finmap.get l.names q) (is_since h mark q) refl refl refl from fits (numbered refl) said listed (all refl)))
+  others_decide false from fits said listed all one numbered = let other = one refl in sym (differs_where refused v t s h.entries b other.0 other.1)

@@ -1,95 +1,68 @@
--- That the names with an entry, and the others that are present, are all of which something may be owed.
+-- That the listed names, and those that changed since the mark, are all of which something may be owed.
 use Rattle.std.proofs.Common.{◌≡◌, ℕ, List, [], ◌∷◌, map, Bool, true, false, ◌||◌, Option, Some, None, refl, sym, ap, ◌∙◌}
 use Rattle.std.specs.Prelude.{is_some}
-use Rattle.std.specs.Option.{option_map_or}
 use Rattle.std.specs.List.{list_any}
 use Rattle.std.specs.FinMap as finmap
-use Rattle.std.proofs.lemmas.List.Folds.{list_any-append}
 use Rattle.xds_resource.specs.declared.types.TypeName.{TypeName}
-use Rattle.xds_resource.proofs.NameMaps.{has_text}
-use Rattle.xds_interest.specs.Interests.{Selection}
-use Rattle.xds_catalogue.specs.Holdings.{Entries}
-use Rattle.xds_owed.specs.declared.variant.VariantName.{VariantName}
-use Rattle.xds_owed.specs.declared.entry.Entry.{Entry}
-use Rattle.xds_owed.specs.Variants.{is_told}
-use Rattle.xds_owed.specs.Owed.{Beliefs, present, owed, is_owed, is_owed_at, something_owed}
-use Rattle.xds_owed.proofs.Choosing.{none_passes}
+use Rattle.xds_resource.specs.Writes.{text_cmp}
 use Rattle.xds_resource.proofs.NameMaps.{has_text-keys}
-use Rattle.xds_resource.proofs.MadeMaps.{EachFound, each_found}
-use Rattle.xds_owed.proofs.Choosing.{listed_fails}
-use Rattle.xds_owed.proofs.ByName.{present_absent}
-
--- a test of entries is a test of their names
-by_entries : (p : List ℕ → Bool) (f : List ℕ → Entry → Bool) (b : Beliefs) → ((name : List ℕ) (e : Entry) → finmap.get b name ≡ Some e → p name ≡ f name e)
-    → (es : List (List ℕ × Entry)) → EachFound b es → list_any p (map (λ e. e.0) es) ≡ list_any (λ e. f e.0 e.1) es
-by_entries p f b same [] found = refl
-by_entries p f b same (e ∷ es) found = (λ i. same e.0 e.1 found.0 i || by_entries p f b same es found.1 i)
-
-entry_owed : (v : VariantName) (t : TypeName) (s : Selection) (m : Entries) (b : Beliefs) (name : List ℕ) (e : Entry) → finmap.get b name ≡ Some e → is_owed v t s m b name ≡ is_owed_at v t s m name e
-entry_owed v t s m b name e is = ap (λ o. option_map_or (is_told v t) (owed o (present s m name)) false) is
-
--- the names with an entry, by their entries
-abbrev pub believed : VariantName → TypeName → Selection → Entries → Beliefs → Bool
-believed v t s m b = list_any (λ e. is_owed_at v t s m e.0 e.1) (finmap.entries b)
-
-names_believed : (v : VariantName) (t : TypeName) (s : Selection) (m : Entries) (b : Beliefs) → list_any (is_owed v t s m b) (finmap.keys b) ≡ believed v t s m b
-names_believed v t s m b = by_entries (is_owed v t s m b) (is_owed_at v t s m) b (entry_owed v t s m b) (finmap.entries b) (each_found b)
-
-true_or : (a b : Bool) → a ≡ true → (a || b) ≡ true
-true_or true b e = refl
-true_or false b e = absurd cc
-
-passes_at : (p : List ℕ → Bool) (names : List (List ℕ)) (q : List ℕ) (any : Bool) → list_any p names ≡ any → p q ≡ true → has_text names q ≡ true → any ≡ true
-passes_at p names q true is passes listed = refl
-passes_at p names q false is passes listed = let fails = listed_fails p names q is listed in absurd cc
+use Rattle.xds_interest.specs.Interests.{Selection}
+use Rattle.xds_catalogue.specs.Holdings.{Holdings, Entries, IsNumbered}
+use Rattle.xds_owed.specs.declared.variant.VariantName.{VariantName}
+use Rattle.xds_owed.specs.Owed.{Beliefs, is_owed, something_owed, names_known}
+use Rattle.xds_owed.specs.Listed.{Listed, is_listed, is_since, Fits}
+use Rattle.xds_owed.proofs.Choosing.{none_passes, listed_fails}
+use Rattle.xds_owed.proofs.ByName.{nothing_owed}
+use Rattle.xds_owed.proofs.Fitting.{unowed_else}
 
 pub is_some_of : {X : Type 0} (o : Option X) → is_some o ≡ true → (x : X) × (o ≡ Some x)
 is_some_of None e = absurd cc
 is_some_of (Some x) e = (x, refl)
 
-known_at : {X : Type 0} (o : Option X) → (o ≡ None → ⊥) → is_some o ≡ true
-known_at None some = absurd (some refl)
-known_at (Some x) some = refl
+-- ---- a test of the names of a map
 
--- a name without an entry that is present is owed
-found_owed : (v : VariantName) (t : TypeName) (s : Selection) (m : Entries) (b : Beliefs) (name : List ℕ) → finmap.get b name ≡ None → is_some (present s m name) ≡ true
-    → list_any (is_owed v t s m b) (finmap.keys m) ≡ true
-found_owed v t s m b name unheld there =
-    let version = is_some_of (present s m name) there in
-    let passes : is_owed v t s m b name ≡ true = (λ i. option_map_or (is_told v t) (owed (unheld i) (version.1 i)) false) in
-    let known : has_text (finmap.keys m) name ≡ true =
-    has_text-keys m name ∙ known_at (finmap.get m name) (λ absent. let gone = present_absent s m name absent in absurd (let e = sym gone ∙ version.1 in cc)) in
-    passes_at (is_owed v t s m b) (finmap.keys m) name _ refl passes known
+by_names : {X : Type 0} (p : List ℕ → Bool) (es : List (List ℕ × X)) → list_any (λ e. p e.0) es ≡ list_any p (map (λ e. e.0) es)
+by_names p [] = refl
+by_names p (e ∷ es) = ap (λ b. p e.0 || b) (by_names p es)
 
--- where no entry is owed, and no name without one is present, nothing is
-not_owed : (v : VariantName) (t : TypeName) (s : Selection) (m : Entries) (b : Beliefs) → believed v t s m b ≡ false → ((name : List ℕ) → finmap.get b name ≡ None → present s m name ≡ None)
-    → (name : List ℕ) (e : Option Entry) → finmap.get b name ≡ e → is_owed v t s m b name ≡ false
-not_owed v t s m b none absent name None is = (λ i. option_map_or (is_told v t) (owed (is i) (absent name is i)) false)
-not_owed v t s m b none absent name (Some e) is =
-    listed_fails (is_owed v t s m b) (finmap.keys b) name (names_believed v t s m b ∙ none) (has_text-keys b name ∙ ap is_some is)
+-- none of its names passes a test that none of its entries passes
+pub named_fails : {X : Type 0} (p : List ℕ → Bool) (n : finmap.FinMap text_cmp X) (q : List ℕ) → list_any (λ e. p e.0) (finmap.entries n) ≡ false → is_some (finmap.get n q) ≡ true → p q ≡ false
+named_fails p n q none there = listed_fails p (finmap.keys n) q (sym (by_names p (finmap.entries n)) ∙ none) (has_text-keys n q ∙ there)
 
-owed_by : (v : VariantName) (t : TypeName) (s : Selection) (m : Entries) (b : Beliefs) (first second : Bool) → believed v t s m b ≡ first
-    → (second ≡ true → (name : List ℕ) × (finmap.get b name ≡ None) × (is_some (present s m name) ≡ true))
-    → (second ≡ false → (name : List ℕ) → finmap.get b name ≡ None → present s m name ≡ None)
-    → (first || second) ≡ (list_any (is_owed v t s m b) (finmap.keys b) || list_any (is_owed v t s m b) (finmap.keys m))
-owed_by v t s m b true second is found none = sym (true_or _ _ (names_believed v t s m b ∙ is))
-owed_by v t s m b false true is found none =
-    let one = found refl in
-    sym ((λ i. (names_believed v t s m b ∙ is) i || found_owed v t s m b one.0 one.1 one.2 i))
-owed_by v t s m b false false is found none =
-    sym ((λ i. (names_believed v t s m b ∙ is) i || none_passes (is_owed v t s m b) (λ name. not_owed v t s m b is (none refl) name (finmap.get b name) refl) (finmap.keys m) i))
+first_passes : {X : Type 0} (p : List ℕ → Bool) (e : List ℕ × X) (es : List (List ℕ × X)) (b : Bool) → p e.0 ≡ b → (list_any (λ e. p e.0) es ≡ true → (name : List ℕ) × (p name ≡ true)) → (b || list_any (λ e. p e.0) es) ≡ true
+    → (name : List ℕ) × (p name ≡ true)
+first_passes p e es true here later some = (e.0, here)
+first_passes p e es false here later some = later some
 
-together : (v : VariantName) (t : TypeName) (s : Selection) (m : Entries) (b : Beliefs)
-    → (list_any (is_owed v t s m b) (finmap.keys b) || list_any (is_owed v t s m b) (finmap.keys m)) ≡ something_owed v t s m b
-together v t s m b = sym (list_any-append (is_owed v t s m b) (finmap.keys b) (finmap.keys m))
+pub one_passes : {X : Type 0} (p : List ℕ → Bool) (es : List (List ℕ × X)) → list_any (λ e. p e.0) es ≡ true → (name : List ℕ) × (p name ≡ true)
+one_passes p [] some = absurd cc
+one_passes p (e ∷ es) some = first_passes p e es (p e.0) refl (one_passes p es) some
 
--- where a name with an entry is owed
-pub owed_believed : (v : VariantName) (t : TypeName) (s : Selection) (m : Entries) (b : Beliefs) → believed v t s m b ≡ true → true ≡ something_owed v t s m b
-owed_believed v t s m b is = sym (true_or _ _ (names_believed v t s m b ∙ is)) ∙ together v t s m b
+-- ---- what is owed
 
--- where none is, it is up to the names without an entry
-pub owed_else : (v : VariantName) (t : TypeName) (s : Selection) (m : Entries) (b : Beliefs) (second : Bool) → believed v t s m b ≡ false
-    → (second ≡ true → (name : List ℕ) × (finmap.get b name ≡ None) × (is_some (present s m name) ≡ true))
-    → (second ≡ false → (name : List ℕ) → finmap.get b name ≡ None → present s m name ≡ None)
-    → second ≡ something_owed v t s m b
-owed_else v t s m b second is found none = owed_by v t s m b false second is found none ∙ together v t s m b
+some_owed : (v : VariantName) (t : TypeName) (s : Selection) (m : Entries) (b : Beliefs) (name : List ℕ) (o : Bool) → something_owed v t s m b ≡ o → is_owed v t s m b name ≡ true → true ≡ o
+some_owed v t s m b name true is owed = refl
+some_owed v t s m b name false is owed = let never : false ≡ true = sym (nothing_owed v t s m b name is) ∙ owed in absurd cc
+
+-- where one name is owed, something is
+pub owed_found : (v : VariantName) (t : TypeName) (s : Selection) (m : Entries) (b : Beliefs) (name : List ℕ) → is_owed v t s m b name ≡ true → true ≡ something_owed v t s m b
+owed_found v t s m b name = some_owed v t s m b name (something_owed v t s m b) refl
+
+-- where a listed name is
+pub owed_listed : (v : VariantName) (t : TypeName) (s : Selection) (m : Entries) (b : Beliefs) (l : Listed) → list_any (λ e. is_owed v t s m b e.0) (finmap.entries l.names) ≡ true → true ≡ something_owed v t s m b
+owed_listed v t s m b l some = let one = one_passes (is_owed v t s m b) (finmap.entries l.names) some in owed_found v t s m b one.0 one.1
+
+none_at : (v : VariantName) (t : TypeName) (s : Selection) (h : Holdings) (b : Beliefs) (l : Listed) (name : List ℕ) (listed since : Bool) → is_listed l name ≡ listed → is_since h l.mark name ≡ since → IsNumbered h → Fits v t s h b l
+    → list_any (λ e. is_owed v t s h.entries b e.0) (finmap.entries l.names) ≡ false → ((q : List ℕ) → is_since h l.mark q ≡ true → is_owed v t s h.entries b q ≡ false) → is_owed v t s h.entries b name ≡ false
+none_at v t s h b l name true since there is numbered fits none unchanged = named_fails (is_owed v t s h.entries b) l.names name none there
+none_at v t s h b l name false true out is numbered fits none unchanged = unchanged name is
+none_at v t s h b l name false false out is numbered fits none unchanged = unowed_else v t s h b l name numbered fits out is
+
+-- where none is, those that changed since the mark decide
+pub owed_else : (v : VariantName) (t : TypeName) (s : Selection) (h : Holdings) (b : Beliefs) (l : Listed) (result : Bool) → Fits v t s h b l → list_any (λ e. is_owed v t s h.entries b e.0) (finmap.entries l.names) ≡ false
+    → (result ≡ true → (name : List ℕ) × (is_owed v t s h.entries b name ≡ true)) → (result ≡ false → (q : List ℕ) → is_since h l.mark q ≡ true → is_owed v t s h.entries b q ≡ false) → (result ≡ false → IsNumbered h)
+    → result ≡ something_owed v t s h.entries b
+owed_else v t s h b l true fits none found unchanged numbered = let one = found refl in owed_found v t s h.entries b one.0 one.1
+owed_else v t s h b l false fits none found unchanged numbered =
+    sym (none_passes (is_owed v t s h.entries b)
+    (λ name. none_at v t s h b l name (is_listed l name) (is_since h l.mark name) refl refl (numbered refl) fits none (unchanged refl)) (names_known h.entries b))

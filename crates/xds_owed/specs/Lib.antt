@@ -4,3 +4,5 @@ pub mod Offers
 pub mod OfferParts
 pub mod Repeats
 pub mod OfferLaws
+pub mod Listed
+pub mod ListLaws

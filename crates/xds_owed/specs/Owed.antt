@@ -79,10 +79,6 @@ names_known m beliefs = finmap.keys beliefs ++ finmap.keys m
 abbrev pub is_owed : VariantName → TypeName → Selection → Entries → Beliefs → List ℕ → Bool
 is_owed v t s m beliefs name = option_map_or (is_told v t) (owed_of s m beliefs name) false
 
--- the same of a name, from its entry
-abbrev pub is_owed_at : VariantName → TypeName → Selection → Entries → List ℕ → Entry → Bool
-is_owed_at v t s m name entry = option_map_or (is_told v t) (owed (Some entry) (present s m name)) false
-
 -- whether something that can be told is owed of some name
 abbrev pub something_owed : VariantName → TypeName → Selection → Entries → Beliefs → Bool
 something_owed v t s m beliefs = list_any (is_owed v t s m beliefs) (names_known m beliefs)

@@ -3,6 +3,7 @@
 
 pub mod believed;
 pub mod entry;
+pub mod listed;
 pub mod offers;
 pub mod owed;
 pub mod repeats;
@@ -11,6 +12,7 @@ pub mod version;
 
 pub use believed::Beliefs;
 pub use entry::{Due, Entry};
+pub use listed::Listed;
 pub use offers::offer;
 pub use owed::something_owed;
 pub use variant::{Delta, StateOfTheWorld, Variant, VariantName};

@@ -1,15 +1,18 @@
 // What a client is owed of one name.
-ghost use Rattle.std.specs.Prelude.{◌≡◌, ℕ, List, IfOk, IfErr, option_map, is_some, is_none, ◌&&◌, None, true, false};
+ghost use Rattle.std.specs.Prelude.{◌≡◌, ℕ, List, IfOk, IfErr, option_map, true, false};
 ghost use Rattle.std.specs.List.{list_any};
 ghost use Rattle.std.specs.FinMap as finmap;
 ghost use Rattle.std.specs.Option.{option_map_or};
 ghost use Rattle.xds_resource.specs.Stamps.{version_text};
 ghost use Rattle.xds_resource.specs.declared.refusal.Refusal.TheVariants.{OutOfMemory};
-ghost use Rattle.xds_owed.specs.Owed.{present, owed, something_owed, is_owed_at};
+ghost use Rattle.xds_owed.specs.Owed.{present, owed, is_owed, something_owed};
+ghost use Rattle.xds_owed.specs.Listed.{Fits, is_since};
+ghost use Rattle.xds_catalogue.specs.Holdings.{IsNumbered};
 ghost use Rattle.xds_owed.specs.Variants.{is_told};
 
 use crate::believed::Beliefs;
 use crate::entry::{Due, Entry};
+use crate::listed::Listed;
 use crate::variant::VariantName;
 use crate::version::Version;
 use std::alloc::Global;
@@ -70,52 +73,57 @@ pub fn due_of(
     }
 }
 
-// Whether something is owed of a name with an entry.
-fn believed_owed<T: ResourceType>(
+// Whether something is owed of a name that can be told, from the whole. It takes no memory.
+pub(crate) fn name_owed<T: ResourceType>(
     variant: VariantName,
     interest: &Interest<T>,
     catalogue: &Catalogue<T>,
     beliefs: &Beliefs,
+    name: &str,
 ) -> bool
-    ensures { result ≡ list_any (λ e. is_owed_at variant T.TYPE interest.now catalogue.now.entries e.0 e.1) (finmap.entries beliefs.now) }
+    ensures { result ≡ is_owed variant T.TYPE interest.now catalogue.now.entries beliefs.now name.now }
 {
-    for (name, entry) in beliefs.iter() {
-        if is_owed(
-            variant,
-            T::TYPE,
-            Some(entry),
-            present(interest, catalogue, name),
-        ) {
+    is_owed(
+        variant,
+        T::TYPE,
+        beliefs.get(name),
+        present(interest, catalogue, name),
+    )
+}
+
+// Whether something is owed of a listed name.
+fn listed_owed<T: ResourceType>(
+    variant: VariantName,
+    interest: &Interest<T>,
+    catalogue: &Catalogue<T>,
+    beliefs: &Beliefs,
+    listed: &Listed,
+) -> bool
+    ensures { result ≡ list_any (λ e. is_owed variant T.TYPE interest.now catalogue.now.entries beliefs.now e.0) (finmap.entries listed.now.names) }
+{
+    for (name, _number) in listed.names().iter() {
+        if name_owed(variant, interest, catalogue, beliefs, name) {
             return true;
         }
     }
     false
 }
 
-// Whether a name is present and has no entry.
-fn is_unbelieved<T: ResourceType>(
+// Whether something is owed of a name that changed since a mark.
+fn changed_owed<T: ResourceType>(
+    variant: VariantName,
     interest: &Interest<T>,
     catalogue: &Catalogue<T>,
     beliefs: &Beliefs,
-    name: &str,
+    mark: u64,
 ) -> bool
-    ensures { result ≡ (is_none (finmap.get beliefs.now name.now) && is_some (present interest.now catalogue.now.entries name.now)) }
+    ensures found { result ≡ true → (name : List ℕ) × (is_owed variant T.TYPE interest.now catalogue.now.entries beliefs.now name ≡ true) }
+    ensures none { result ≡ false → (name : List ℕ) → is_since catalogue.now mark name ≡ true → is_owed variant T.TYPE interest.now catalogue.now.entries beliefs.now name ≡ false }
+    ensures numbered { result ≡ false → IsNumbered catalogue.now }
 {
-    !beliefs.contains(name) && present(interest, catalogue, name).is_some()
-}
-
-// Whether a name without an entry is present.
-fn unbelieved_owed<T: ResourceType>(
-    interest: &Interest<T>,
-    catalogue: &Catalogue<T>,
-    beliefs: &Beliefs,
-) -> bool
-    ensures found { result ≡ true → (name : List ℕ) × (finmap.get beliefs.now name ≡ None) × (is_some (present interest.now catalogue.now.entries name) ≡ true) }
-    ensures none { result ≡ false → (name : List ℕ) → finmap.get beliefs.now name ≡ None → present interest.now catalogue.now.entries name ≡ None }
-{
-    let mut after = 0;
+    let mut after = mark;
     while let Some((number, write)) = catalogue.next_change(after) {
-        if is_unbelieved(interest, catalogue, beliefs, write.name()) {
+        if name_owed(variant, interest, catalogue, beliefs, write.name()) {
             return true;
         }
         after = number;
@@ -123,17 +131,20 @@ fn unbelieved_owed<T: ResourceType>(
     false
 }
 
-/// Whether something is owed of some name that can be told. It takes no memory.
+/// Whether something is owed of some name that can be told: of a listed one, or of one that changed since the mark. It
+/// takes no memory.
 pub fn something_owed<T: ResourceType>(
     variant: VariantName,
     interest: &Interest<T>,
     catalogue: &Catalogue<T>,
     beliefs: &Beliefs,
+    listed: &Listed,
 ) -> bool
+    requires { Fits variant T.TYPE interest.now catalogue.now beliefs.now listed.now }
     ensures { result ≡ something_owed variant T.TYPE interest.now catalogue.now.entries beliefs.now }
 {
-    if believed_owed(variant, interest, catalogue, beliefs) {
+    if listed_owed(variant, interest, catalogue, beliefs, listed) {
         return true;
     }
-    unbelieved_owed(interest, catalogue, beliefs)
+    changed_owed(variant, interest, catalogue, beliefs, listed.mark())
 }

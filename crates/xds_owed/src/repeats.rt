@@ -1,13 +1,16 @@
 // Whether a response would say again what the client refused, name by name.
-ghost use Rattle.std.specs.Prelude.{◌≡◌, ℕ, List, option_map, is_some, true, false};
+ghost use Rattle.std.specs.Prelude.{◌≡◌, ℕ, List, option_map, if◌then◌else◌, true, false};
 ghost use Rattle.std.specs.List.{list_all};
 ghost use Rattle.std.specs.FinMap as finmap;
 ghost use Rattle.xds_resource.specs.Stamps.{version_text};
+ghost use Rattle.xds_catalogue.specs.Holdings.{IsNumbered};
+ghost use Rattle.xds_owed.specs.Listed.{Fits, is_since};
 ghost use Rattle.xds_owed.specs.Offers.{offer, same_offer};
 ghost use Rattle.xds_owed.specs.Repeats.{due_said, said_of as due_of, still_says};
 
 use crate::believed::Beliefs;
 use crate::entry::{Due, Entry};
+use crate::listed::Listed;
 use crate::owed::present;
 use crate::variant::VariantName;
 use xds_catalogue::Catalogue;
@@ -81,17 +84,18 @@ fn still_says_where_said<T: ResourceType>(
     true
 }
 
-// Whether it does so of each name with an entry.
-fn still_says_where_believed<T: ResourceType>(
+// Whether it does so of each listed name.
+fn still_says_where_listed<T: ResourceType>(
     refused: &NameMap<Due>,
     variant: VariantName,
     interest: &Interest<T>,
     catalogue: &Catalogue<T>,
     beliefs: &Beliefs,
+    listed: &Listed,
 ) -> bool
-    ensures { result ≡ list_all (λ e. still_says refused.now variant T.TYPE interest.now catalogue.now.entries beliefs.now e.0) (finmap.entries beliefs.now) }
+    ensures { result ≡ list_all (λ e. still_says refused.now variant T.TYPE interest.now catalogue.now.entries beliefs.now e.0) (finmap.entries listed.now.names) }
 {
-    for (name, _entry) in beliefs.iter() {
+    for (name, _number) in listed.names().iter() {
         if !still_says(refused, variant, interest, catalogue, beliefs, name) {
             return false;
         }
@@ -99,19 +103,21 @@ fn still_says_where_believed<T: ResourceType>(
     true
 }
 
-// Whether it does so of each name that the catalogue holds.
-fn still_says_where_held<T: ResourceType>(
+// Whether it does so of each name that changed since a mark.
+fn still_says_where_changed<T: ResourceType>(
     refused: &NameMap<Due>,
     variant: VariantName,
     interest: &Interest<T>,
     catalogue: &Catalogue<T>,
     beliefs: &Beliefs,
+    mark: u64,
 ) -> bool
-    ensures all { result ≡ true → (name : List ℕ) → is_some (finmap.get catalogue.now.entries name) ≡ true
+    ensures all { result ≡ true → (name : List ℕ) → is_since catalogue.now mark name ≡ true
         → still_says refused.now variant T.TYPE interest.now catalogue.now.entries beliefs.now name ≡ true }
     ensures one { result ≡ false → (name : List ℕ) × (still_says refused.now variant T.TYPE interest.now catalogue.now.entries beliefs.now name ≡ false) }
+    ensures numbered { result ≡ true → IsNumbered catalogue.now }
 {
-    let mut after = 0;
+    let mut after = mark;
     while let Some((number, write)) = catalogue.next_change(after) {
         if !still_says(refused, variant, interest, catalogue, beliefs, write.name()) {
             return false;
@@ -121,21 +127,32 @@ fn still_says_where_held<T: ResourceType>(
     true
 }
 
-/// Whether a response would say what an offer says. It takes no memory.
+/// Whether a response would say what an offer says. Where responses aren't the whole, only the names of the offer, the
+/// listed ones and those that changed since the mark are looked at. It takes no memory.
 pub fn repeats<T: ResourceType>(
     refused: &NameMap<Due>,
     variant: VariantName,
     interest: &Interest<T>,
     catalogue: &Catalogue<T>,
     beliefs: &Beliefs,
+    listed: &Listed,
 ) -> bool
+    requires { Fits variant T.TYPE interest.now catalogue.now beliefs.now listed.now }
     ensures { result ≡ same_offer (offer variant T.TYPE interest.now catalogue.now.entries beliefs.now) refused.now }
 {
     if !still_says_where_said(refused, variant, interest, catalogue, beliefs) {
         return false;
     }
-    if !still_says_where_believed(refused, variant, interest, catalogue, beliefs) {
+    if !still_says_where_listed(refused, variant, interest, catalogue, beliefs, listed) {
         return false;
     }
-    still_says_where_held(refused, variant, interest, catalogue, beliefs)
+    let mark = first_mark(variant.is_whole(T::TYPE), listed);
+    still_says_where_changed(refused, variant, interest, catalogue, beliefs, mark)
+}
+
+// From which mark on the changes are looked at: a whole response speaks of every name.
+fn first_mark(whole: bool, listed: &Listed) -> u64
+    ensures { result ≡ (if whole then 0 else listed.now.mark) }
+{
+    if whole { 0 } else { listed.mark() }
 }

@@ -8,6 +8,7 @@ use Rattle.std.specs.List.{filter}
 use Rattle.std.specs.FinMap as finmap
 use Rattle.xds_resource.specs.declared.types.TypeName.{TypeName}
 use Rattle.xds_resource.specs.declared.refusal.Refusal.{Refusal}
+use Rattle.xds_resource.specs.declared.refusal.Refusal.TheVariants.{OutOfMemory}
 use Rattle.xds_resource.specs.Types.{is_same_type}
 use Rattle.xds_resource.specs.Writes.{StampedWrite}
 use Rattle.xds_resource.specs.TypedWrites.{TypedWrite, writes_of}
@@ -156,3 +157,7 @@ read_bad_request input rest line p e r last refused = record {
   writes_are = r.writes_are;
   refused = refused;
 }
+
+-- at the line at which memory was lacking
+pub no_memory_at : (input : List ℕ) (line number : ℕ) (e : Refusal) → IsFault input line OutOfMemory → number ≡ line → e ≡ OutOfMemory → IsFault input number e
+no_memory_at input line number e h same is = subst (λ n. IsFault input n e) (sym same) (subst (λ r. IsFault input line r) (sym is) h)

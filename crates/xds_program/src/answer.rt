@@ -1,5 +1,5 @@
 // `xds answer`: stamped writes and one request in, the response of a fresh stream's first poll out.
-ghost use Rattle.std.specs.Prelude.{◌≡◌, ◌≢◌, Ok, IfOk, IfErr, OnOk, Some, ◌∷◌, []};
+ghost use Rattle.std.specs.Prelude.{◌≡◌, ◌≢◌, Ok, IfOk, IfErr, OnOk, Some, ◌∷◌, [], ℕ, List};
 ghost use Rattle.std.specs.Option.{option_map};
 ghost use Rattle.xds_resource.specs.PerType.{at, with_at};
 ghost use Rattle.xds_catalogue.specs.Holdings.{IsCatalogue};
@@ -21,7 +21,7 @@ use xds_resource::{Refusal, ResourceType, TypeName};
 use xds_script::lines::{split_line, without_last_feed};
 use xds_sotw::Session;
 use xds_store::Catalogues;
-use xds_writes::read_write;
+use xds_writes::WriteReader;
 
 /// Which line of an input is refused, and why.
 #[derive(Clone, Copy, Debug, PartialEq, Eq)]
@@ -41,49 +41,118 @@ pub fn answer_lines(alloc: Global, replica: u16, input: &[u8]) -> Result<Vec<u8>
     ensures answered { IfOk result (λ output. IsAnswer replica input.now output.items) }
     ensures refused { IfErr result (λ fault. IsFault input.now fault.line fault.refusal) }
 {
+    match gather(alloc, input) {
+        Ok(gathered) => answer_gathered(alloc, replica, &gathered),
+        Err(fault) => Err(fault),
+    }
+}
+
+/// The same, of an input that is dropped before the answer is written, so that they aren't both in memory.
+pub fn answer_input(alloc: Global, replica: u16, input: Vec<u8>) -> Result<Vec<u8>, LineFault>
+    ensures answered { IfOk result (λ output. IsAnswer replica input.items output.items) }
+    ensures refused { IfErr result (λ fault. IsFault input.items fault.line fault.refusal) }
+{
+    let gathered = gather(alloc, input.as_slice());
+    drop(input);
+    match gathered {
+        Ok(gathered) => answer_gathered(alloc, replica, &gathered),
+        Err(fault) => Err(fault),
+    }
+}
+
+// What the lines of an input say: what their writes leave, and the request, which is on this line.
+#[derive(Drop)]
+struct Gathered {
+    catalogues: Catalogues,
+    request: DiscoveryRequest,
+    line: usize,
+}
+
+// Reads the lines of an input.
+fn gather(alloc: Global, input: &[u8]) -> Result<Gathered, LineFault>
+    ensures named { IfOk result (λ g. (t : TypeName) → IsCatalogue (at g.catalogues t).entries) }
+    ensures answers { IfOk result (λ g. (replica : ℕ) (output : List ℕ)
+        → output ≡ answer_text (response_by replica (at g.catalogues) g.request) → IsAnswer replica input.now output) }
+    ensures fails { IfOk result (λ g. IsFault input.now g.line Refusal.OutOfMemory) }
+    ensures refused { IfErr result (λ fault. IsFault input.now fault.line fault.refusal) }
+{
     let mut catalogues = Catalogues::new(alloc);
+    let mut reader = WriteReader::new(alloc);
     let mut rest = without_last_feed(input);
     let mut line = 1usize;
     while let Some((bytes, following)) = split_line(rest) {
-        if let Err(refusal) = take_write(alloc, &mut catalogues, bytes) {
+        if let Err(refusal) = take_write(alloc, &mut reader, &mut catalogues, bytes) {
             return Err(LineFault { line, refusal });
         }
         rest = following;
         line += 1;
     }
-    match answer_request(alloc, replica, &catalogues, rest) {
-        Ok(output) => Ok(output),
+    match read_request(alloc, rest) {
+        Ok(request) => Ok(Gathered {
+            catalogues,
+            request,
+            line,
+        }),
         Err(refusal) => Err(LineFault { line, refusal }),
     }
 }
 
 // Joins the write that the line spells.
-fn take_write(alloc: Global, catalogues: &mut Catalogues, line: &[u8]) -> Result<(), Refusal>
+fn take_write(
+    alloc: Global,
+    reader: &mut WriteReader,
+    catalogues: &mut Catalogues,
+    line: &[u8],
+) -> Result<(), Refusal>
     ensures taken { OnOk result ((x : TypedWrite) × IsWriteLine line.now x
         × (catalogues.new ≡ with_at catalogues.old x.0 (joined (at catalogues.old x.0) (x.1 ∷ [])))) }
     ensures refused { IfErr result (λ e. RefusesWrite (at catalogues.old) line.now e) }
 {
-    let write = read_write(alloc, line)?;
+    let write = reader.read(alloc, line)?;
     catalogues.join(write)
 }
 
-// What is written for the request that the line spells.
-fn answer_request(
-    alloc: Global,
-    replica: u16,
-    catalogues: &Catalogues,
-    line: &[u8],
-) -> Result<Vec<u8>, Refusal>
-    requires { (t : TypeName) → IsCatalogue (at catalogues.now t).entries }
-    ensures answered { IfOk result (λ output. (m : Request) × IsRequestLine line.now m
-        × (output.items ≡ answer_text (response_by replica (at catalogues.now) m))) }
+// The request that the line spells.
+fn read_request(alloc: Global, line: &[u8]) -> Result<DiscoveryRequest, Refusal>
+    ensures reads { IfOk result (λ r. IsRequestLine line.now r) }
     ensures refused { IfErr result (λ e. RefusesRequest line.now e) }
 {
     let request = DiscoveryRequest::read(alloc, line)?;
     if request.type_url.is_empty() {
         return Err(Refusal::BadMessage);
     }
-    match respond_among(alloc, replica, catalogues, &request)? {
+    Ok(request)
+}
+
+// What is written for what was gathered.
+fn answer_gathered(alloc: Global, replica: u16, gathered: &Gathered) -> Result<Vec<u8>, LineFault>
+    requires { (t : TypeName) → IsCatalogue (at gathered.now.catalogues t).entries }
+    ensures answered { IfOk result (λ output. output.items
+        ≡ answer_text (response_by replica (at gathered.now.catalogues) gathered.now.request)) }
+    ensures refused { IfErr result (λ fault. (fault.line ≡ gathered.now.line) × (fault.refusal ≡ Refusal.OutOfMemory)) }
+{
+    match answer_to(alloc, replica, &gathered.catalogues, &gathered.request) {
+        Ok(output) => Ok(output),
+        Err(refusal) => Err(LineFault {
+            line: gathered.line,
+            refusal,
+        }),
+    }
+}
+
+// What is written for a request.
+fn answer_to(
+    alloc: Global,
+    replica: u16,
+    catalogues: &Catalogues,
+    request: &DiscoveryRequest,
+) -> Result<Vec<u8>, Refusal>
+    requires { (t : TypeName) → IsCatalogue (at catalogues.now t).entries }
+    ensures answered { IfOk result
+        (λ output. output.items ≡ answer_text (response_by replica (at catalogues.now) request.now)) }
+    ensures refused { IfErr result (λ e. e ≡ Refusal.OutOfMemory) }
+{
+    match respond_among(alloc, replica, catalogues, request)? {
         Some(draft) => text_of(alloc, &draft),
         None => Ok(Vec::new(alloc)),
     }

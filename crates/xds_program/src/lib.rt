@@ -10,6 +10,6 @@ pub mod run;
 pub mod tasks;
 pub mod words;
 
-pub use answer::{LineFault, answer_lines};
+pub use answer::{LineFault, answer_input, answer_lines};
 pub use tasks::{ClientTask, PollTask, ServeTask, StreamVariant, Task};
 pub use words::task_of;

@@ -5,7 +5,7 @@ ghost use Rattle.xds_frames.specs.Devices.{Device, Tells, seen};
 ghost use Rattle.xds_play.specs.Played.{IsUnplayed};
 ghost use Rattle.xds_program.specs.Outcomes.{HasRun, IsPlayedFor, IsShown, IsUnable, Prints, Runs, RunsAnswer, RunsCheck, RunsPlay, fault_line, refusal_line};
 
-use crate::answer::{LineFault, answer_lines};
+use crate::answer::{LineFault, answer_input};
 use crate::judge::{Unjudged, judge};
 use crate::tasks::{ClientTask, PollTask, ServeTask, Task};
 use crate::words::task_of;
@@ -84,7 +84,7 @@ fn run_task<I: Read, O: Write, E: Write>(
     }
 }
 
-/// Runs `xds answer`: what [`answer_lines`] gives goes to the output, and the line that it refuses to the error output.
+/// Runs `xds answer`: what [`answer_input`] gives goes to the output, and the line that it refuses to the error output.
 pub fn answer<I: Read, O: Write, E: Write>(
     alloc: Global,
     replica: u16,
@@ -102,7 +102,7 @@ pub fn answer<I: Read, O: Write, E: Write>(
         Ok(bytes) => bytes,
         Err(refusal) => return tell(refusal, errors),
     };
-    match answer_lines(alloc, replica, bytes.as_slice()) {
+    match answer_input(alloc, replica, bytes) {
         Ok(text) => match write_whole(output, text.as_slice()) {
             Ok(()) => DONE,
             Err(refusal) => tell(refusal, errors),

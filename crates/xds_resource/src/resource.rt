@@ -109,6 +109,21 @@ impl<T: ResourceType> Resource<T> {
         })
     }
 
+    /// The resource of this name whose text has been read and written by the caller. Refused only by `OutOfMemory`.
+    pub fn of_text(alloc: Global, name: &str, body: String) -> Result<Resource<T>, Refusal>
+        requires { IsCanonical T.TYPE (record { name = name.now; body = string_bytes body }) }
+        ensures ok { IfOk result (λ r. r ≡ record { name = name.now; body = string_bytes body }) }
+        ensures refused { IfErr result (λ e. e ≡ Refusal.OutOfMemory) }
+    {
+        let name = ArcStr::from_str(alloc, name)?;
+        let body = shared(body)?;
+        Ok(Resource {
+            name,
+            body,
+            kind: PhantomData,
+        })
+    }
+
     pub fn name(&self) -> &str
         ensures { result.now ≡ self.now.name }
     {

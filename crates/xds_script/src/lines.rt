@@ -2,6 +2,8 @@
 ghost use Rattle.std.specs.Prelude.{◌≡◌, ◌<◌, ◌+◌, [], ◌∷◌, length, IfSome, IfNone, List, ℕ};
 ghost use Rattle.xds_script.specs.Lines.{feed, pieces, without_last_feed};
 
+use memchr::memchr;
+
 /// The bytes without a line feed at their end.
 pub fn without_last_feed(bytes: &[u8]) -> &[u8]
     ensures { result.now ≡ without_last_feed bytes.now }
@@ -18,10 +20,8 @@ pub fn split_line(bytes: &[u8]) -> Option<(&[u8], &[u8])>
     ensures last { IfNone result (pieces feed bytes.now ≡ bytes.now ∷ []) }
     ensures shorter { IfSome result (λ p. length p.1.now < length bytes.now) }
 {
-    for (i, b) in bytes.iter().enumerate() {
-        if *b == b'\n' {
-            return Some((&bytes[..i], &bytes[i + 1..]));
-        }
-    }
-    None
+    let Some(i) = memchr(b'\n', bytes) else {
+        return None;
+    };
+    Some((&bytes[..i], &bytes[i + 1..]))
 }

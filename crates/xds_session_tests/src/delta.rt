@@ -1,7 +1,13 @@
 // Stories of an incremental client and one replica. A step is done on a copy of the session, which then stands for it.
+ghost use Rattle.std.proofs.Props.{props};
+ghost use Rattle.xds_catalogue.specs.Holdings.{IsCatalogue};
+ghost use Rattle.xds_owed.specs.declared.variant.VariantName.TheVariants as variants;
+ghost use Rattle.xds_ledger.specs.Lists.{SessionFits};
+
 use crate::stories::{Actor, change, hold, text};
 use std::alloc::Global;
 use std::test::Fail;
+use xds_cases::cases::replaced;
 use xds_catalogue::Catalogue;
 use xds_delta::Session;
 use xds_interest::ClusterText;
@@ -15,6 +21,8 @@ struct Server<T: ResourceType> {
     catalogue: Catalogue<T>,
     session: Session<T>,
     nonces: Nonces,
+    ghost named: { IsCatalogue catalogue.entries } by { Prim.hlevel props },
+    ghost fits: { SessionFits variants.Delta T.TYPE catalogue session },
 }
 
 impl<T: ResourceType> Actor for Server<T> {
@@ -28,37 +36,78 @@ impl<T: ResourceType> Actor for Server<T> {
     }
 
     fn answer(&mut self, alloc: Global, verb: &str, rest: &str) -> Result<String, Refusal> {
-        self.session = self.session.try_copy(alloc)?;
+        self.stand_in(alloc)?;
         match verb {
             "cluster" => self.is_of(alloc, rest),
             "take" => self.take(alloc, rest),
             "poll" => self.poll(alloc),
-            "owes" => text(
-                alloc,
-                if self.session.owes(&self.catalogue) {
-                    "yes"
-                } else {
-                    "no"
-                },
-            ),
-            _ => change(alloc, &mut self.catalogue, verb, rest),
+            "sends" => self.send(alloc),
+            "refresh" => self.refresh(alloc),
+            "many" => self.put_many(alloc, rest),
+            "owes" => text(alloc, if self.owes() { "yes" } else { "no" }),
+            _ => self.change(alloc, verb, rest),
         }
     }
 }
 
 impl<T: ResourceType> Server<T> {
+    // A copy of the session stands for it.
+    fn stand_in(&mut self, alloc: Global) -> Result<(), Refusal> {
+        let session = self.session.try_copy(alloc)?;
+        self.session = session;
+        Ok(())
+    }
+
+    fn owes(&self) -> bool {
+        self.session.owes(&self.catalogue)
+    }
+
+    fn change(&mut self, alloc: Global, verb: &str, rest: &str) -> Result<String, Refusal> {
+        change(alloc, &mut self.catalogue, verb, rest)
+    }
+
     fn take(&mut self, alloc: Global, request: &str) -> Result<String, Refusal> {
         let request = DeltaDiscoveryRequest::read(alloc, request.as_bytes())?;
-        match self.session.take(alloc, &request)? {
-            Outcome::Taken => text(alloc, "taken"),
-            Outcome::Ignored => text(alloc, "ignored"),
-        }
+        let outcome = self.session.take(alloc, &request);
+        outcome_text(alloc, outcome)
     }
 
     // The client is of another cluster from the start.
     fn is_of(&mut self, alloc: Global, cluster: &str) -> Result<String, Refusal> {
-        self.session = Session::new(alloc, ClusterText::new(alloc, cluster)?);
+        let cluster = ClusterText::new(alloc, cluster)?;
+        self.session = Session::new(alloc, cluster);
         text(alloc, "of")
+    }
+
+    // Whether a poll gives a response.
+    fn send(&mut self, alloc: Global) -> Result<String, Refusal> {
+        let response = self
+            .session
+            .poll(alloc, self.replica, &self.catalogue, &mut self.nonces)?;
+        text(alloc, if response.is_some() { "some" } else { "none" })
+    }
+
+    // How many names changed since the session was refreshed.
+    fn refresh(&mut self, alloc: Global) -> Result<String, Refusal> {
+        let names = self.session.refresh(alloc, &self.catalogue)?;
+        Ok(format!(in alloc; "{names}")?)
+    }
+
+    fn put_one(&mut self, alloc: Global, number: u64) -> Result<String, Refusal> {
+        let name = format!(in alloc; "{number}")?;
+        let named = replaced(alloc, r#"{"@type":"URL","name":"N"}"#, "N", name.as_str())?;
+        let resource = replaced(alloc, named.as_str(), "URL", T::TYPE.url())?;
+        self.change(alloc, "put", resource.as_str())
+    }
+
+    // Puts a resource under each number below this one.
+    fn put_many(&mut self, alloc: Global, count: &str) -> Result<String, Refusal> {
+        let count = count.parse::<u64>().map_err(|_| Refusal::BadScript)?;
+        for number in 0..count {
+            self.put_one(alloc, number)?;
+        }
+        let changes = self.catalogue.changes();
+        Ok(format!(in alloc; "{changes}")?)
     }
 
     fn poll(&mut self, alloc: Global) -> Result<String, Refusal> {
@@ -69,6 +118,13 @@ impl<T: ResourceType> Server<T> {
             Some(draft) => draft.write(alloc),
             None => text(alloc, "none"),
         }
+    }
+}
+
+fn outcome_text(alloc: Global, outcome: Result<Outcome, Refusal>) -> Result<String, Refusal> {
+    match outcome? {
+        Outcome::Taken => text(alloc, "taken"),
+        Outcome::Ignored => text(alloc, "ignored"),
     }
 }
 
@@ -213,5 +269,37 @@ putin g2 {"@type":"CDS","name":"a"} => 4-1
 poll => {"nonce":"4","removedResources":["a"],"systemVersionInfo":"1.4","typeUrl":"CDS"}
 take {"responseNonce":"4","typeUrl":"CDS"} => taken
 owes => no"#,
+    )
+}
+
+#[test]
+fn a_settled_client_costs_what_changes(rt: HostRuntime) -> Result<(), Fail> {
+    hold::<Server<Cluster>, HostRuntime>(
+        &rt,
+        1,
+        r#"many 1000 => 1000
+refresh => 0
+take {"resourceNamesSubscribe":["*"],"typeUrl":"CDS"} => taken
+sends => some
+take {"responseNonce":"1","typeUrl":"CDS"} => taken
+owes => no
+sends => none
+refresh => 0
+put {"@type":"CDS","name":"7"} => 1001-1
+owes => yes
+refresh => 1
+refresh => 0
+owes => yes
+poll => {"nonce":"2","resources":[{"name":"7","resource":{"@type":"CDS","name":"7"},"version":"1001-1"}],"systemVersionInfo":"1.1001","typeUrl":"CDS"}
+delete 8 => 1002-1
+take {"responseNonce":"2","typeUrl":"CDS"} => taken
+refresh => 1
+poll => {"nonce":"3","removedResources":["8"],"systemVersionInfo":"1.1002","typeUrl":"CDS"}
+take {"resourceNamesUnsubscribe":["*"],"responseNonce":"3","typeUrl":"CDS"} => taken
+sends => none
+refresh => 0
+take {"resourceNamesSubscribe":["*"],"typeUrl":"CDS"} => taken
+refresh => 1000
+sends => some"#,
     )
 }

@@ -1,7 +1,12 @@
 // What a client of clusters was told and is owed, by scripts over a ledger of either variant.
-ghost use Rattle.std.specs.Prelude.{map};
+ghost use Rattle.std.specs.Prelude.{◌≡◌, [], map};
+ghost use Rattle.xds_resource.specs.declared.types.TypeName.TheVariants as types;
+ghost use Rattle.std.proofs.Props.{props};
+ghost use Rattle.xds_catalogue.specs.Holdings.{IsCatalogue};
 ghost use Rattle.xds_ledger.specs.Ledgers.{AreInOrder};
+ghost use Rattle.xds_ledger.specs.Lists.{Fits};
 
+use crate::stories::change;
 use std::alloc::Global;
 use std::test::Fail;
 use xds_cases::cases::words_of;
@@ -11,7 +16,7 @@ use xds_interest::{ClusterText, Interest};
 use xds_ledger::{
     Delta, Due, Entry, Ledger, Nonces, StateOfTheWorld, Variant, VariantName, Version,
 };
-use xds_resource::{Cluster, Groups, NameMap, Refusal, Resource, Stamp, TypeName};
+use xds_resource::{Cluster, NameMap, Refusal, Stamp, TypeName};
 
 // What the replica holds, what a client wants, and what it was told.
 #[derive(Drop)]
@@ -19,6 +24,9 @@ struct Client<V: Variant> {
     catalogue: Catalogue<Cluster>,
     interest: Interest<Cluster>,
     ledger: Ledger<Cluster, V>,
+    ghost named: { IsCatalogue catalogue.entries } by { Prim.hlevel props },
+    ghost anywhere: { interest.cluster ≡ [] },
+    ghost fits: { Fits V.NAME types.Cluster interest catalogue ledger },
 }
 
 // The names of an offer, each with `=` and its version, or with `-` where it is removed.
@@ -80,6 +88,10 @@ impl<V: Variant> Client<V> {
         self.taken(alloc, "", false, name, &[(name, version)])
     }
 
+    fn change(&mut self, alloc: Global, verb: &str, rest: &str) -> Result<String, Refusal> {
+        change(alloc, &mut self.catalogue, verb, rest)
+    }
+
     fn offered(&self, alloc: Global) -> Result<NameMap<Due>, Refusal> {
         self.ledger.offer(alloc, &self.interest, &self.catalogue)
     }
@@ -121,11 +133,7 @@ impl<V: Variant> Script for Client<V> {
 
     fn step(&mut self, alloc: Global, verb: &str, rest: &str) -> Result<String, Refusal> {
         match verb {
-            "put" => self
-                .catalogue
-                .put(Resource::parse(alloc, rest)?, Groups::none(), 1)?
-                .version_text(alloc),
-            "delete" => self.catalogue.delete(rest, 1)?.version_text(alloc),
+            "put" | "delete" => self.change(alloc, verb, rest),
             "take" => self.taken(alloc, "", false, rest, &[]),
             "ack" => self.answered(alloc, false, rest),
             "nack" => self.answered(alloc, true, rest),

@@ -1,4 +1,9 @@
 // Sessions, by scripts of what replica 1 does, and what a client asks of it and is answered.
+ghost use Rattle.std.proofs.Props.{props};
+ghost use Rattle.xds_catalogue.specs.Holdings.{IsCatalogue};
+ghost use Rattle.xds_owed.specs.declared.variant.VariantName.TheVariants as variants;
+ghost use Rattle.xds_ledger.specs.Lists.{SessionFits};
+
 use crate::stories::change;
 use std::alloc::Global;
 use std::test::Fail;
@@ -16,18 +21,29 @@ struct Stream<T: ResourceType> {
     catalogue: Catalogue<T>,
     session: Session<T>,
     nonces: Nonces,
+    ghost named: { IsCatalogue catalogue.entries } by { Prim.hlevel props },
+    ghost fits: { SessionFits variants.StateOfTheWorld T.TYPE catalogue session },
 }
 
 impl<T: ResourceType> Stream<T> {
     fn taken(&mut self, alloc: Global, request: &str) -> Result<String, Refusal> {
         let request = DiscoveryRequest::read(alloc, request.as_bytes())?;
-        let outcome = self.session.take(alloc, &request)?;
-        either(alloc, outcome == Outcome::Taken, "taken", "ignored")
+        let outcome = self.session.take(alloc, &request);
+        outcome_text(alloc, outcome)
+    }
+
+    fn owes(&self) -> bool {
+        self.session.owes(&self.catalogue)
+    }
+
+    fn change(&mut self, alloc: Global, verb: &str, rest: &str) -> Result<String, Refusal> {
+        change(alloc, &mut self.catalogue, verb, rest)
     }
 
     // The client is of another cluster from the start.
     fn is_of(&mut self, alloc: Global, cluster: &str) -> Result<String, Refusal> {
-        self.session = Session::new(alloc, ClusterText::new(alloc, cluster)?);
+        let cluster = ClusterText::new(alloc, cluster)?;
+        self.session = Session::new(alloc, cluster);
         Ok(String::from_str(alloc, "of")?)
     }
 
@@ -54,12 +70,17 @@ impl<T: ResourceType> Script for Stream<T> {
     fn step(&mut self, alloc: Global, verb: &str, rest: &str) -> Result<String, Refusal> {
         match verb {
             "cluster" => self.is_of(alloc, rest),
-            "put" | "putin" | "delete" => change(alloc, &mut self.catalogue, verb, rest),
+            "put" | "putin" | "delete" => self.change(alloc, verb, rest),
             "take" => self.taken(alloc, rest),
             "poll" => self.polled(alloc),
-            _ => either(alloc, self.session.owes(&self.catalogue), "owes", "quiet"),
+            _ => either(alloc, self.owes(), "owes", "quiet"),
         }
     }
+}
+
+fn outcome_text(alloc: Global, outcome: Result<Outcome, Refusal>) -> Result<String, Refusal> {
+    let outcome = outcome?;
+    either(alloc, outcome == Outcome::Taken, "taken", "ignored")
 }
 
 #[test]

@@ -1,4 +1,7 @@
 // Stories as texts, one step a line: what is done, ` => `, and the answer that is wanted.
+ghost use Rattle.xds_catalogue.specs.Holdings.{IsCatalogue};
+ghost use Rattle.xds_owed.specs.Listed.{IsLater};
+
 use std::alloc::Global;
 use std::process::Abort;
 use std::test::Fail;
@@ -46,18 +49,15 @@ pub(crate) fn change<T: ResourceType>(
     catalogue: &mut Catalogue<T>,
     verb: &str,
     rest: &str,
-) -> Result<String, Refusal> {
+) -> Result<String, Refusal>
+    requires { IsCatalogue catalogue.old.entries }
+    ensures { IsCatalogue catalogue.new.entries × IsLater catalogue.old catalogue.new }
+{
     match verb {
         "put" => put(alloc, catalogue, Groups::none(), rest),
-        "putin" => {
-            let (groups, resource) = rest.split_once(' ').ok_or(Refusal::BadScript)?;
-            put(alloc, catalogue, groups_of(alloc, groups)?, resource)
-        }
-        "delete" => catalogue.delete(rest, 1)?.version_text(alloc),
-        _ => {
-            let grown = catalogue.join_write(write_of(alloc, rest)?)?;
-            Ok(format!(in alloc; "{grown}")?)
-        }
+        "putin" => put_in(alloc, catalogue, rest),
+        "delete" => delete(alloc, catalogue, rest),
+        _ => join(alloc, catalogue, rest),
     }
 }
 
@@ -67,9 +67,62 @@ fn put<T: ResourceType>(
     catalogue: &mut Catalogue<T>,
     groups: Groups,
     resource: &str,
-) -> Result<String, Refusal> {
-    let stamp = catalogue.put(Resource::parse(alloc, resource)?, groups, 1)?;
-    stamp.version_text(alloc)
+) -> Result<String, Refusal>
+    requires { IsCatalogue catalogue.old.entries }
+    ensures { IsCatalogue catalogue.new.entries × IsLater catalogue.old catalogue.new }
+{
+    let resource = Resource::parse(alloc, resource)?;
+    let stamp = catalogue.put(resource, groups, 1);
+    version(alloc, stamp)
+}
+
+// Puts a resource, for the clients of the groups that are named before it.
+fn put_in<T: ResourceType>(
+    alloc: Global,
+    catalogue: &mut Catalogue<T>,
+    rest: &str,
+) -> Result<String, Refusal>
+    requires { IsCatalogue catalogue.old.entries }
+    ensures { IsCatalogue catalogue.new.entries × IsLater catalogue.old catalogue.new }
+{
+    let (groups, resource) = rest.split_once(' ').unwrap_or((rest, ""));
+    let groups = groups_of(alloc, groups)?;
+    put(alloc, catalogue, groups, resource)
+}
+
+fn delete<T: ResourceType>(
+    alloc: Global,
+    catalogue: &mut Catalogue<T>,
+    name: &str,
+) -> Result<String, Refusal>
+    requires { IsCatalogue catalogue.old.entries }
+    ensures { IsCatalogue catalogue.new.entries × IsLater catalogue.old catalogue.new }
+{
+    let stamp = catalogue.delete(name, 1);
+    version(alloc, stamp)
+}
+
+// Joins a write.
+fn join<T: ResourceType>(
+    alloc: Global,
+    catalogue: &mut Catalogue<T>,
+    write: &str,
+) -> Result<String, Refusal>
+    requires { IsCatalogue catalogue.old.entries }
+    ensures { IsCatalogue catalogue.new.entries × IsLater catalogue.old catalogue.new }
+{
+    let write = write_of(alloc, write)?;
+    let grown = catalogue.join_write(write);
+    number(alloc, grown)
+}
+
+fn version(alloc: Global, stamp: Result<Stamp, Refusal>) -> Result<String, Refusal> {
+    stamp?.version_text(alloc)
+}
+
+fn number(alloc: Global, grown: Result<u64, Refusal>) -> Result<String, Refusal> {
+    let grown = grown?;
+    Ok(format!(in alloc; "{grown}")?)
 }
 
 // The groups of a text, apart by commas.

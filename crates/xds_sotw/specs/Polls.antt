@@ -1,6 +1,6 @@
 -- What a state-of-the-world session takes and sends. The protocol is that of Envoy's "xDS REST and gRPC protocol"; the
 -- version is this project's own.
-use Rattle.std.specs.Prelude.{ℕ, List, [], ◌++◌, Bool, if◌then◌else◌, Option, is_some, codes, decimal}
+use Rattle.std.specs.Prelude.{ℕ, List, Bool, Option, is_some, decimal}
 use Rattle.std.specs.List.{filter, filter_map}
 use Rattle.std.specs.FinMap as finmap
 use Rattle.xds_resource.specs.declared.types.TypeName.{TypeName}

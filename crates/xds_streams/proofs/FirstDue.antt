@@ -1,5 +1,5 @@
 -- Polls of one type, and of all.
-use Rattle.std.proofs.Common.{◌≡◌, ℕ, [], ◌∷◌, Option, Some, None, Result, Ok, Err, refl, sym, ap, subst, ◌∙◌}
+use Rattle.std.proofs.Common.{◌≡◌, ℕ, [], ◌∷◌, Option, Some, None, Result, Ok, refl, sym, ap, subst, ◌∙◌}
 use Rattle.std.specs.Prelude.{if◌then◌else◌, is_some, IfErr}
 use Rattle.std.specs.Option.{option_map_or}
 use Rattle.xds_resource.specs.declared.types.TypeName.{TypeName}

@@ -1,4 +1,5 @@
 pub mod Polling
 pub mod FirstDue
+pub mod Fitting
 mod Sides
 pub mod Twice

@@ -1,6 +1,6 @@
 -- That a session's poll is what a stream's poll of the type is.
 use Rattle.std.proofs.Common.{◌≡◌, ◌≢◌, ◌⊎◌, inl, inr, ℕ, ◌+◌, ◌<◌, ◌≤◌, ◌==◌, [], ◌∷◌, true, false, Option, Some, None, Result, Ok, Err, refl, sym, ap, subst, ◌∙◌, arith}
-use Rattle.std.specs.Prelude.{if◌then◌else◌, is_some, IfOk, IfErr, IfSome, IsSome, MatchOption, option_map}
+use Rattle.std.specs.Prelude.{if◌then◌else◌, is_some, IfOk, IfErr, IfSome, IsSome, MatchOption}
 use Rattle.std.specs.Option.{option_map_or}
 use Rattle.std.proofs.lemmas.Bool.{ne_eqb}
 use Rattle.xds_resource.specs.declared.types.TypeName.{TypeName}

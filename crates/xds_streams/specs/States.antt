@@ -7,8 +7,8 @@ use Rattle.xds_streams.specs.declared.session.Side.TheVariants as sides
 use Rattle.xds_streams.specs.Talks.{Spoken}
 
 abbrev pub spoken_of : {T : Type 0} → Side T → Spoken
-spoken_of (sides.Sotw session) = record { variant = variants.StateOfTheWorld; session = session }
-spoken_of (sides.Delta session) = record { variant = variants.Delta; session = session }
+spoken_of (sides.Sotw session) = record { variant = variants.StateOfTheWorld; kept = session }
+spoken_of (sides.Delta session) = record { variant = variants.Delta; kept = session }
 
 -- the first of two, where there are two
 abbrev pub firsts : {D E : Type 0} → Result (Option (D × D)) E → Result (Option D) E

@@ -5,7 +5,8 @@ ghost use Rattle.xds_resource.specs.declared.refusal.Refusal.TheVariants.{OutOfM
 ghost use Rattle.xds_owed.specs.Offers.{offer};
 ghost use Rattle.xds_draft.specs.declared.draft.Draft.TheVariants as drafts;
 ghost use Rattle.xds_ledger.specs.Sessions as sessions;
-ghost use Rattle.xds_ledger.specs.Sessions.{unopened, outcome, HasPolled};
+ghost use Rattle.xds_ledger.specs.Sessions.{outcome, HasPolled};
+ghost use Rattle.xds_ledger.specs.Lists.{SessionFits, StaysFit, new_kept};
 ghost use Rattle.xds_streams.specs.Seen.{message_of};
 ghost use Rattle.xds_streams.specs.States.{tagged};
 ghost use Rattle.xds_streams.specs.Streams.{variant_of, nonce_of, session_after};
@@ -46,7 +47,7 @@ impl<T: ResourceType> Model for Session<T> {
 impl<T: ResourceType> Session<T> {
     /// Before the first request, of a client with this cluster text.
     pub(crate) fn new(alloc: Global, variant: VariantName, cluster: ClusterText) -> Session<T>
-        ensures { result ≡ record { variant = variant; session = unopened cluster } }
+        ensures { result ≡ record { variant = variant; kept = new_kept cluster } }
     {
         let side = match variant {
             VariantName::StateOfTheWorld => Side::Sotw(xds_sotw::Session::new(alloc, cluster)),
@@ -59,8 +60,10 @@ impl<T: ResourceType> Session<T> {
     /// taken.
     pub(crate) fn take(&mut self, alloc: Global, request: &Request) -> Result<Outcome, Refusal>
         requires { variant_of (message_of request.now) ≡ self.old.variant }
-        ensures ok { OnOk result (self.new ≡ record self.old { session = session_after T.TYPE self.old.session (message_of request.now) }) }
-        ensures taken { IfOk result (λ o. o ≡ outcome self.old.session (nonce_of (message_of request.now))) }
+        ensures ok { OnOk result (self.new.kept.session ≡ session_after T.TYPE self.old.kept.session (message_of request.now)) }
+        ensures taken { IfOk result (λ o. o ≡ outcome self.old.kept.session (nonce_of (message_of request.now))) }
+        ensures variant { self.new.variant ≡ self.old.variant }
+        ensures fits { OnOk result (StaysFit self.old.variant T.TYPE self.old.kept self.new.kept) }
         ensures err { OnErr result (self.new ≡ self.old) }
         ensures refused { IfErr result (λ e. e ≡ OutOfMemory) }
     {
@@ -73,7 +76,8 @@ impl<T: ResourceType> Session<T> {
 
     /// Whether the client is owed something. It takes no memory.
     pub(crate) fn owes(&self, catalogue: &Catalogue<T>) -> bool
-        ensures { result ≡ sessions.owes self.now.variant T.TYPE self.now.session catalogue.now.entries }
+        requires { SessionFits self.now.variant T.TYPE catalogue.now self.now.kept }
+        ensures { result ≡ sessions.owes self.now.variant T.TYPE self.now.kept.session catalogue.now.entries }
     {
         match &self.side {
             Side::Sotw(session) => session.owes(catalogue),
@@ -83,11 +87,25 @@ impl<T: ResourceType> Session<T> {
 
     /// Whether a response is to be sent. It takes no memory.
     pub(crate) fn sends(&self, catalogue: &Catalogue<T>) -> bool
-        ensures { result ≡ is_some (sessions.sending self.now.variant T.TYPE self.now.session catalogue.now.entries) }
+        requires { SessionFits self.now.variant T.TYPE catalogue.now self.now.kept }
+        ensures { result ≡ is_some (sessions.sending self.now.variant T.TYPE self.now.kept.session catalogue.now.entries) }
     {
         match &self.side {
             Side::Sotw(session) => session.sends(catalogue),
             Side::Delta(session) => session.sends(catalogue),
+        }
+    }
+
+    /// Looks at what changed since, and lets the names go that are owed nothing, as far as there is memory for it.
+    pub(crate) fn tidy(&mut self, alloc: Global, catalogue: &Catalogue<T>)
+        requires { SessionFits self.old.variant T.TYPE catalogue.now self.old.kept }
+        ensures variant { self.new.variant ≡ self.old.variant }
+        ensures same { self.new.kept.session ≡ self.old.kept.session }
+        ensures fits { SessionFits self.old.variant T.TYPE catalogue.now self.new.kept }
+    {
+        match &mut self.side {
+            Side::Sotw(session) => session.tidy(alloc, catalogue),
+            Side::Delta(session) => session.tidy(alloc, catalogue),
         }
     }
 
@@ -100,11 +118,13 @@ impl<T: ResourceType> Session<T> {
         catalogue: &Catalogue<T>,
         nonces: &mut Nonces,
     ) -> Result<Option<Draft>, Refusal>
-        ensures ok { IfOk result (λ answer. HasPolled self.old.variant T.TYPE catalogue.now.entries (drafted replica T.TYPE catalogue.now self.old.session.asked.interest self.old.variant) self.old.session nonces.old answer self.new.session nonces.new) }
+        requires { SessionFits self.old.variant T.TYPE catalogue.now self.old.kept }
+        ensures ok { IfOk result (λ answer. HasPolled self.old.variant T.TYPE catalogue.now.entries (drafted replica T.TYPE catalogue.now self.old.kept.session.asked.interest self.old.variant) self.old.kept.session nonces.old answer self.new.kept.session nonces.new) }
         ensures bound { IfOk result (λ answer. IfSome answer (λ _. nonces.new ≤ max_counter)) }
         ensures variant { self.new.variant ≡ self.old.variant }
-        ensures err { OnErr result ((self.new ≡ self.old) × (nonces.new ≡ nonces.old)) }
-        ensures refused { IfErr result (λ e. IsSome (sessions.sending self.old.variant T.TYPE self.old.session catalogue.now.entries) × (((e ≡ NonceSpent) × (nonces.old ≡ max_counter)) ⊎ ((e ≡ OutOfMemory) × (nonces.old < max_counter)))) }
+        ensures fits { SessionFits self.old.variant T.TYPE catalogue.now self.new.kept }
+        ensures err { OnErr result ((self.new.kept.session ≡ self.old.kept.session) × (nonces.new ≡ nonces.old)) }
+        ensures refused { IfErr result (λ e. IsSome (sessions.sending self.old.variant T.TYPE self.old.kept.session catalogue.now.entries) × (((e ≡ NonceSpent) × (nonces.old ≡ max_counter)) ⊎ ((e ≡ OutOfMemory) × (nonces.old < max_counter)))) }
     {
         match &mut self.side {
             Side::Sotw(session) => sotw_draft(session.poll(alloc, replica, catalogue, nonces)),
@@ -121,8 +141,9 @@ impl<T: ResourceType> Session<T> {
         catalogue: &Catalogue<T>,
         number: u64,
     ) -> Result<(NameMap<Due>, Draft), Refusal>
-        ensures offer { IfOk result (λ p. p.0 ≡ offer self.now.variant T.TYPE self.now.session.asked.interest catalogue.now.entries self.now.session.account.beliefs) }
-        ensures draft { IfOk result (λ p. p.1 ≡ drafted replica T.TYPE catalogue.now self.now.session.asked.interest self.now.variant p.0 number) }
+        requires { SessionFits self.now.variant T.TYPE catalogue.now self.now.kept }
+        ensures offer { IfOk result (λ p. p.0 ≡ offer self.now.variant T.TYPE self.now.kept.session.asked.interest catalogue.now.entries self.now.kept.session.account.beliefs) }
+        ensures draft { IfOk result (λ p. p.1 ≡ drafted replica T.TYPE catalogue.now self.now.kept.session.asked.interest self.now.variant p.0 number) }
         ensures refused { IfErr result (λ e. e ≡ OutOfMemory) }
     {
         match &self.side {
@@ -139,7 +160,7 @@ impl<T: ResourceType> Session<T> {
 
     /// Notes that a response with this offer was sent, as the one of this number. It takes no memory.
     pub(crate) fn send(&mut self, alloc: Global, offer: NameMap<Due>, number: u64)
-        ensures { self.new ≡ record self.old { session = sessions.send self.old.session offer number } }
+        ensures { self.new ≡ record self.old { kept = record self.old.kept { session = sessions.send self.old.kept.session offer number } } }
     {
         match &mut self.side {
             Side::Sotw(session) => session.send(alloc, offer, number),

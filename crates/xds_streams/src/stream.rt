@@ -1,11 +1,12 @@
 // A stream, before its first request and after it.
-ghost use Rattle.std.specs.Prelude.{◌≡◌, false, ◌==◌, [], ◌∷◌, length, is_some, IfSome, IsOk, IfOk, IfErr, OnErr};
+ghost use Rattle.std.specs.Prelude.{◌≡◌, false, ◌==◌, [], ◌∷◌, length, is_some, IfSome, IsOk, IfOk, IfErr, OnOk, OnErr};
 ghost use Rattle.xds_resource.specs.Refusals.{Gives};
 ghost use Rattle.xds_resource.specs.Types.{types};
 ghost use Rattle.xds_resource.specs.declared.refusal.Refusal.TheVariants.{OutOfMemory};
 ghost use Rattle.xds_streams.specs.Streams.{IsToRespond, opening, looked_at, is_foreign, owes_of, owes_some, to_send, first_due, polled, polled_first, requested, url_of};
 ghost use Rattle.xds_streams.specs.Seen.{message_of};
 ghost use Rattle.xds_streams.specs.States.{firsts};
+ghost use Rattle.xds_streams.specs.Talks.{followed_opening, StreamFits, StreamStaysFit};
 
 use crate::request::Request;
 use crate::talk::Talk;
@@ -26,20 +27,19 @@ pub struct Stream {
 }
 
 impl Model for Stream {
-    ghost use Rattle.xds_streams.specs.Streams.{Stream, stream_code};
-    ghost use Rattle.xds_streams.specs.Talks.{stream_of};
+    ghost use Rattle.xds_streams.specs.Talks.{Followed, followed_code, followed_of};
 
-    ghost Value = { Stream };
+    ghost Value = { Followed };
 
-    ghost coded = { stream_code };
+    ghost coded = { followed_code };
 
-    ghost view = { λ s. stream_of s.talk };
+    ghost view = { λ s. followed_of s.talk };
 }
 
 impl Stream {
     /// Before the first request. It takes no memory.
     pub fn opening() -> Stream
-        ensures { result ≡ opening }
+        ensures { result ≡ followed_opening }
     {
         Stream { talk: None }
     }
@@ -48,8 +48,9 @@ impl Stream {
     /// where it names no type, and by `OutOfMemory`, in this order. The first that isn't refused decides the variant and,
     /// by the cluster of its node, which groups the stars of the stream cover.
     pub fn request(&mut self, alloc: Global, request: &Request) -> Result<Outcome, Refusal>
-        ensures answers { Gives (λ o. (o, self.new)) result (requested self.old (message_of request.now)) }
-        ensures memory { IfErr result (λ e. e ≡ OutOfMemory → IsOk (requested self.old (message_of request.now))) }
+        ensures answers { Gives (λ o. (o, self.new.stream)) result (requested self.old.stream (message_of request.now)) }
+        ensures memory { IfErr result (λ e. e ≡ OutOfMemory → IsOk (requested self.old.stream (message_of request.now))) }
+        ensures fits { OnOk result (StreamStaysFit self.old self.new) }
         ensures err { OnErr result (self.new ≡ self.old) }
     {
         if self.is_foreign(request) {
@@ -63,7 +64,7 @@ impl Stream {
 
     // Whether a request is of another variant than the stream.
     fn is_foreign(&self, request: &Request) -> bool
-        ensures { result ≡ is_foreign self.now (message_of request.now) }
+        ensures { result ≡ is_foreign self.now.stream (message_of request.now) }
     {
         match &self.talk {
             Some(talk) => talk.variant().is_delta() != request.variant().is_delta(),
@@ -73,10 +74,11 @@ impl Stream {
 
     // Takes a request of the stream's variant that names a type.
     fn take(&mut self, alloc: Global, request: &Request) -> Result<Outcome, Refusal>
-        requires variant { is_foreign self.old (message_of request.now) ≡ false }
+        requires variant { is_foreign self.old.stream (message_of request.now) ≡ false }
         requires named { (length (url_of (message_of request.now)) == 0) ≡ false }
-        ensures answers { Gives (λ o. (o, self.new)) result (requested self.old (message_of request.now)) }
-        ensures memory { IfErr result (λ e. IsOk (requested self.old (message_of request.now))) }
+        ensures answers { Gives (λ o. (o, self.new.stream)) result (requested self.old.stream (message_of request.now)) }
+        ensures memory { IfErr result (λ e. IsOk (requested self.old.stream (message_of request.now))) }
+        ensures fits { OnOk result (StreamStaysFit self.old self.new) }
         ensures err { OnErr result (self.new ≡ self.old) }
     {
         match &mut self.talk {
@@ -87,9 +89,10 @@ impl Stream {
 
     // Takes the first request.
     fn begin(&mut self, alloc: Global, request: &Request) -> Result<Outcome, Refusal>
-        requires opening { self.old ≡ opening }
+        requires opening { self.old.stream ≡ opening }
         requires named { (length (url_of (message_of request.now)) == 0) ≡ false }
-        ensures answers { Gives (λ o. (o, self.new)) result (requested self.old (message_of request.now)) }
+        ensures answers { Gives (λ o. (o, self.new.stream)) result (requested self.old.stream (message_of request.now)) }
+        ensures fits { OnOk result (StreamStaysFit self.old self.new) }
         ensures err { OnErr result (self.new ≡ self.old) }
         ensures refused { IfErr result (λ e. e ≡ OutOfMemory) }
     {
@@ -109,7 +112,8 @@ impl Stream {
 
     /// Whether the client is owed something, of a type or at all. It takes no memory.
     pub fn owes(&self, held: &Catalogues, which: Option<TypeName>) -> bool
-        ensures { result ≡ owes_some held.now self.now (looked_at which) }
+        requires { StreamFits held.now self.now }
+        ensures { result ≡ owes_some held.now self.now.stream (looked_at which) }
     {
         match which {
             Some(kind) => self.owes_type(held, kind),
@@ -124,7 +128,8 @@ impl Stream {
     }
 
     fn owes_type(&self, held: &Catalogues, kind: TypeName) -> bool
-        ensures { result ≡ owes_of held.now self.now kind }
+        requires { StreamFits held.now self.now }
+        ensures { result ≡ owes_of held.now self.now.stream kind }
     {
         match &self.talk {
             Some(talk) => talk.owes(held, kind),
@@ -141,9 +146,11 @@ impl Stream {
         held: &Catalogues,
         which: Option<TypeName>,
     ) -> Result<Option<Draft>, Refusal>
-        ensures polls { Gives (λ o. (o, self.new)) result (polled_first replica held.now self.old (looked_at which)) }
-        ensures memory { IfErr result (λ e. e ≡ OutOfMemory → IsToRespond held.now self.old (looked_at which)) }
-        ensures err { OnErr result (self.new ≡ self.old) }
+        requires { StreamFits held.now self.old }
+        ensures fits { StreamFits held.now self.new }
+        ensures polls { Gives (λ o. (o, self.new.stream)) result (polled_first replica held.now self.old.stream (looked_at which)) }
+        ensures memory { IfErr result (λ e. e ≡ OutOfMemory → IsToRespond held.now self.old.stream (looked_at which)) }
+        ensures err { OnErr result (self.new.stream ≡ self.old.stream) }
     {
         match which {
             Some(kind) => self.poll_type(alloc, replica, held, kind),
@@ -160,15 +167,29 @@ impl Stream {
         held: &Catalogues,
         which: Option<TypeName>,
     ) -> Result<Option<(Draft, Draft)>, Refusal>
-        ensures polls { Gives (λ o. (o, self.new)) (firsts result) (polled_first replica held.now self.old (looked_at which)) }
+        requires { StreamFits held.now self.old }
+        ensures fits { StreamFits held.now self.new }
+        ensures polls { Gives (λ o. (o, self.new.stream)) (firsts result) (polled_first replica held.now self.old.stream (looked_at which)) }
         ensures twin { IfOk result (λ o. IfSome o (λ p. p.1 ≡ p.0)) }
-        ensures memory { IfErr result (λ e. e ≡ OutOfMemory → IsToRespond held.now self.old (looked_at which)) }
-        ensures err { OnErr result (self.new ≡ self.old) }
+        ensures memory { IfErr result (λ e. e ≡ OutOfMemory → IsToRespond held.now self.old.stream (looked_at which)) }
+        ensures err { OnErr result (self.new.stream ≡ self.old.stream) }
     {
         match which {
             Some(kind) => self.poll_type_twice(alloc, replica, held, kind),
             None => self.poll_any_twice(alloc, replica, held),
         }
+    }
+
+    // Looks at what changed since, and lets the names go that are owed nothing, as far as there is memory for it.
+    fn tidy(&mut self, alloc: Global, held: &Catalogues)
+        requires { StreamFits held.now self.old }
+        ensures same { self.new.stream ≡ self.old.stream }
+        ensures fits { StreamFits held.now self.new }
+    {
+        let Some(talk) = &mut self.talk else {
+            return;
+        };
+        talk.tidy_all(alloc, held);
     }
 
     // The next response of the first type that has one, twice.
@@ -178,10 +199,30 @@ impl Stream {
         replica: u16,
         held: &Catalogues,
     ) -> Result<Option<(Draft, Draft)>, Refusal>
-        ensures polls { Gives (λ o. (o, self.new)) (firsts result) (polled_first replica held.now self.old types) }
+        requires { StreamFits held.now self.old }
+        ensures fits { StreamFits held.now self.new }
+        ensures polls { Gives (λ o. (o, self.new.stream)) (firsts result) (polled_first replica held.now self.old.stream types) }
         ensures twin { IfOk result (λ o. IfSome o (λ p. p.1 ≡ p.0)) }
-        ensures memory { IfErr result (λ e. e ≡ OutOfMemory → IsToRespond held.now self.old types) }
-        ensures err { OnErr result (self.new ≡ self.old) }
+        ensures memory { IfErr result (λ e. e ≡ OutOfMemory → IsToRespond held.now self.old.stream types) }
+        ensures err { OnErr result (self.new.stream ≡ self.old.stream) }
+    {
+        self.tidy(alloc, held);
+        self.poll_any_twice_tidied(alloc, replica, held)
+    }
+
+    // The same from the lists as they are.
+    fn poll_any_twice_tidied(
+        &mut self,
+        alloc: Global,
+        replica: u16,
+        held: &Catalogues,
+    ) -> Result<Option<(Draft, Draft)>, Refusal>
+        requires { StreamFits held.now self.old }
+        ensures fits { StreamFits held.now self.new }
+        ensures polls { Gives (λ o. (o, self.new.stream)) (firsts result) (polled_first replica held.now self.old.stream types) }
+        ensures twin { IfOk result (λ o. IfSome o (λ p. p.1 ≡ p.0)) }
+        ensures memory { IfErr result (λ e. e ≡ OutOfMemory → IsToRespond held.now self.old.stream types) }
+        ensures err { OnErr result (self.new.stream ≡ self.old.stream) }
     {
         match self.first_due(held) {
             Some(kind) => self.poll_type_twice(alloc, replica, held, kind),
@@ -196,10 +237,12 @@ impl Stream {
         held: &Catalogues,
         kind: TypeName,
     ) -> Result<Option<(Draft, Draft)>, Refusal>
-        ensures polls { Gives (λ o. (o, self.new)) (firsts result) (polled replica held.now self.old kind) }
+        requires { StreamFits held.now self.old }
+        ensures fits { StreamFits held.now self.new }
+        ensures polls { Gives (λ o. (o, self.new.stream)) (firsts result) (polled replica held.now self.old.stream kind) }
         ensures twin { IfOk result (λ o. IfSome o (λ p. p.1 ≡ p.0)) }
-        ensures memory { IfErr result (λ e. e ≡ OutOfMemory → IsToRespond held.now self.old (kind ∷ [])) }
-        ensures err { OnErr result (self.new ≡ self.old) }
+        ensures memory { IfErr result (λ e. e ≡ OutOfMemory → IsToRespond held.now self.old.stream (kind ∷ [])) }
+        ensures err { OnErr result (self.new.stream ≡ self.old.stream) }
     {
         match &mut self.talk {
             Some(talk) => talk.poll_twice(alloc, replica, held, kind),
@@ -209,14 +252,16 @@ impl Stream {
 
     /// Whether a response is to be sent, of any type. It takes no memory.
     pub fn sends(&self, held: &Catalogues) -> bool
-        ensures { result ≡ is_some (first_due held.now self.now types) }
+        requires { StreamFits held.now self.now }
+        ensures { result ≡ is_some (first_due held.now self.now.stream types) }
     {
         self.first_due(held).is_some()
     }
 
     // The first type that has a response to send. It takes no memory.
     fn first_due(&self, held: &Catalogues) -> Option<TypeName>
-        ensures { result ≡ first_due held.now self.now types }
+        requires { StreamFits held.now self.now }
+        ensures { result ≡ first_due held.now self.now.stream types }
     {
         if self.sends_type(held, TypeName::Cluster) {
             Some(TypeName::Cluster)
@@ -234,7 +279,8 @@ impl Stream {
     }
 
     fn sends_type(&self, held: &Catalogues, kind: TypeName) -> bool
-        ensures { result ≡ is_some (to_send held.now self.now kind) }
+        requires { StreamFits held.now self.now }
+        ensures { result ≡ is_some (to_send held.now self.now.stream kind) }
     {
         match &self.talk {
             Some(talk) => talk.sends(held, kind),
@@ -249,9 +295,28 @@ impl Stream {
         replica: u16,
         held: &Catalogues,
     ) -> Result<Option<Draft>, Refusal>
-        ensures polls { Gives (λ o. (o, self.new)) result (polled_first replica held.now self.old types) }
-        ensures memory { IfErr result (λ e. e ≡ OutOfMemory → IsToRespond held.now self.old types) }
-        ensures err { OnErr result (self.new ≡ self.old) }
+        requires { StreamFits held.now self.old }
+        ensures fits { StreamFits held.now self.new }
+        ensures polls { Gives (λ o. (o, self.new.stream)) result (polled_first replica held.now self.old.stream types) }
+        ensures memory { IfErr result (λ e. e ≡ OutOfMemory → IsToRespond held.now self.old.stream types) }
+        ensures err { OnErr result (self.new.stream ≡ self.old.stream) }
+    {
+        self.tidy(alloc, held);
+        self.poll_any_tidied(alloc, replica, held)
+    }
+
+    // The same from the lists as they are.
+    fn poll_any_tidied(
+        &mut self,
+        alloc: Global,
+        replica: u16,
+        held: &Catalogues,
+    ) -> Result<Option<Draft>, Refusal>
+        requires { StreamFits held.now self.old }
+        ensures fits { StreamFits held.now self.new }
+        ensures polls { Gives (λ o. (o, self.new.stream)) result (polled_first replica held.now self.old.stream types) }
+        ensures memory { IfErr result (λ e. e ≡ OutOfMemory → IsToRespond held.now self.old.stream types) }
+        ensures err { OnErr result (self.new.stream ≡ self.old.stream) }
     {
         match self.first_due(held) {
             Some(kind) => self.poll_type(alloc, replica, held, kind),
@@ -266,9 +331,11 @@ impl Stream {
         held: &Catalogues,
         kind: TypeName,
     ) -> Result<Option<Draft>, Refusal>
-        ensures polls { Gives (λ o. (o, self.new)) result (polled replica held.now self.old kind) }
-        ensures memory { IfErr result (λ e. e ≡ OutOfMemory → IsToRespond held.now self.old (kind ∷ [])) }
-        ensures err { OnErr result (self.new ≡ self.old) }
+        requires { StreamFits held.now self.old }
+        ensures fits { StreamFits held.now self.new }
+        ensures polls { Gives (λ o. (o, self.new.stream)) result (polled replica held.now self.old.stream kind) }
+        ensures memory { IfErr result (λ e. e ≡ OutOfMemory → IsToRespond held.now self.old.stream (kind ∷ [])) }
+        ensures err { OnErr result (self.new.stream ≡ self.old.stream) }
     {
         match &mut self.talk {
             Some(talk) => talk.poll(alloc, replica, held, kind),

@@ -1,6 +1,7 @@
 // A stream whose variant is decided.
 ghost use Rattle.std.specs.Prelude.{◌≡◌, [], ◌∷◌, is_some, IfSome, IfOk, IfErr, OnOk, OnErr};
-ghost use Rattle.xds_resource.specs.PerType.{at};
+ghost use Rattle.xds_resource.specs.PerType.{at, each};
+ghost use Rattle.xds_owed.specs.Listed.{unlisted};
 ghost use Rattle.xds_resource.specs.Refusals.{Gives};
 ghost use Rattle.xds_resource.specs.declared.refusal.Refusal.TheVariants.{OutOfMemory};
 ghost use Rattle.xds_resource.specs.Types.{type_of_url};
@@ -8,7 +9,7 @@ ghost use Rattle.xds_ledger.specs.Sessions.{outcome};
 ghost use Rattle.xds_streams.specs.Seen.{message_of};
 ghost use Rattle.xds_streams.specs.Streams.{IsToRespond, variant_of, nonce_of, url_of, session_after, answered_by, owes_of, to_send, polled};
 ghost use Rattle.xds_streams.specs.States.{firsts};
-ghost use Rattle.xds_streams.specs.Talks.{begun, drafted, stream_in, offer_at, sent_at, with_session};
+ghost use Rattle.xds_streams.specs.Talks.{begun, drafted, stream_in, offer_at, sent_at, with_session, ListingFits, TalkStaysFit};
 
 use crate::request::Request;
 use crate::session::Session;
@@ -35,14 +36,13 @@ pub(crate) struct Talk {
 
 impl Model for Talk {
     ghost use Rattle.std.specs.Prelude.{◌≡◌};
-    ghost use Rattle.xds_streams.specs.Talks as talks;
-    ghost use Rattle.xds_streams.specs.Talks.{talk_code};
+    ghost use Rattle.xds_streams.specs.Talks.{Listing, listing_code};
 
-    ghost Value = { talks.Talk };
+    ghost Value = { Listing };
 
-    ghost coded = { talk_code };
+    ghost coded = { listing_code };
 
-    ghost view = { λ t. record { variant = t.variant; count = t.nonces; sessions = record { cluster = t.cluster.session; endpoint = t.endpoint.session; listener = t.listener.session; route = t.route.session; secret = t.secret.session } } };
+    ghost view = { λ t. record { talk = record { variant = t.variant; count = t.nonces; sessions = record { cluster = t.cluster.kept.session; endpoint = t.endpoint.kept.session; listener = t.listener.kept.session; route = t.route.kept.session; secret = t.secret.kept.session } }; lists = record { cluster = t.cluster.kept.listed; endpoint = t.endpoint.kept.listed; listener = t.listener.kept.listed; route = t.route.kept.listed; secret = t.secret.kept.listed } } };
 
     ghost invariant = { λ t. record { cluster : t.cluster.variant ≡ t.variant; endpoint : t.endpoint.variant ≡ t.variant; listener : t.listener.variant ≡ t.variant; route : t.route.variant ≡ t.variant; secret : t.secret.variant ≡ t.variant } };
 }
@@ -54,7 +54,7 @@ impl Talk {
         variant: VariantName,
         text: &ClusterText,
     ) -> Result<Talk, Refusal>
-        ensures ok { IfOk result (λ t. t ≡ begun variant text.now) }
+        ensures ok { IfOk result (λ t. t ≡ record { talk = begun variant text.now; lists = each unlisted }) }
         ensures refused { IfErr result (λ e. e ≡ OutOfMemory) }
     {
         let (cluster, endpoint, listener, route, secret) = five(
@@ -76,16 +76,17 @@ impl Talk {
     }
 
     pub(crate) fn variant(&self) -> VariantName
-        ensures { result ≡ self.now.variant }
+        ensures { result ≡ self.now.talk.variant }
     {
         self.variant
     }
 
     /// What becomes of a request of the variant. Refused only by `OutOfMemory`, and then nothing is taken.
     pub(crate) fn request(&mut self, alloc: Global, request: &Request) -> Result<Outcome, Refusal>
-        requires { variant_of (message_of request.now) ≡ self.old.variant }
-        ensures answers { IfOk result (λ o. (o, self.new.sessions) ≡ answered_by self.old.sessions (message_of request.now) (type_of_url (url_of (message_of request.now)))) }
-        ensures stays { (self.new.variant ≡ self.old.variant) × (self.new.count ≡ self.old.count) }
+        requires { variant_of (message_of request.now) ≡ self.old.talk.variant }
+        ensures answers { IfOk result (λ o. (o, self.new.talk.sessions) ≡ answered_by self.old.talk.sessions (message_of request.now) (type_of_url (url_of (message_of request.now)))) }
+        ensures fits { OnOk result (TalkStaysFit self.old self.new) }
+        ensures stays { (self.new.talk.variant ≡ self.old.talk.variant) × (self.new.talk.count ≡ self.old.talk.count) }
         ensures err { OnErr result (self.new ≡ self.old) }
         ensures refused { IfErr result (λ e. e ≡ OutOfMemory) }
     {
@@ -97,9 +98,10 @@ impl Talk {
 
     // Takes a request of a type.
     fn take(&mut self, alloc: Global, kind: TypeName, request: &Request) -> Result<Outcome, Refusal>
-        requires { variant_of (message_of request.now) ≡ self.old.variant }
-        ensures ok { OnOk result (self.new ≡ with_session self.old kind (session_after kind (at self.old.sessions kind) (message_of request.now))) }
-        ensures taken { IfOk result (λ o. o ≡ outcome (at self.old.sessions kind) (nonce_of (message_of request.now))) }
+        requires { variant_of (message_of request.now) ≡ self.old.talk.variant }
+        ensures fits { OnOk result (TalkStaysFit self.old self.new) }
+        ensures ok { OnOk result (self.new.talk ≡ with_session self.old.talk kind (session_after kind (at self.old.talk.sessions kind) (message_of request.now))) }
+        ensures taken { IfOk result (λ o. o ≡ outcome (at self.old.talk.sessions kind) (nonce_of (message_of request.now))) }
         ensures err { OnErr result (self.new ≡ self.old) }
         ensures refused { IfErr result (λ e. e ≡ OutOfMemory) }
     {
@@ -114,7 +116,8 @@ impl Talk {
 
     /// Whether the client is owed something of the type. It takes no memory.
     pub(crate) fn owes(&self, held: &Catalogues, kind: TypeName) -> bool
-        ensures { result ≡ owes_of held.now (stream_in self.now) kind }
+        requires { ListingFits held.now self.now }
+        ensures { result ≡ owes_of held.now (stream_in self.now.talk) kind }
     {
         match kind {
             TypeName::Cluster => self.cluster.owes(&held.cluster),
@@ -127,7 +130,8 @@ impl Talk {
 
     /// Whether a response of the type is to be sent. It takes no memory.
     pub(crate) fn sends(&self, held: &Catalogues, kind: TypeName) -> bool
-        ensures { result ≡ is_some (to_send held.now (stream_in self.now) kind) }
+        requires { ListingFits held.now self.now }
+        ensures { result ≡ is_some (to_send held.now (stream_in self.now.talk) kind) }
     {
         match kind {
             TypeName::Cluster => self.cluster.sends(&held.cluster),
@@ -136,6 +140,34 @@ impl Talk {
             TypeName::Route => self.route.sends(&held.route),
             TypeName::Secret => self.secret.sends(&held.secret),
         }
+    }
+
+    /// Looks at what changed of the type since, and lets the names go that are owed nothing, as far as there is memory.
+    pub(crate) fn tidy(&mut self, alloc: Global, held: &Catalogues, kind: TypeName)
+        requires { ListingFits held.now self.old }
+        ensures same { self.new.talk ≡ self.old.talk }
+        ensures fits { ListingFits held.now self.new }
+    {
+        match kind {
+            TypeName::Cluster => self.cluster.tidy(alloc, &held.cluster),
+            TypeName::Endpoint => self.endpoint.tidy(alloc, &held.endpoint),
+            TypeName::Listener => self.listener.tidy(alloc, &held.listener),
+            TypeName::Route => self.route.tidy(alloc, &held.route),
+            TypeName::Secret => self.secret.tidy(alloc, &held.secret),
+        }
+    }
+
+    /// The same of all types.
+    pub(crate) fn tidy_all(&mut self, alloc: Global, held: &Catalogues)
+        requires { ListingFits held.now self.old }
+        ensures same { self.new.talk ≡ self.old.talk }
+        ensures fits { ListingFits held.now self.new }
+    {
+        self.tidy(alloc, held, TypeName::Cluster);
+        self.tidy(alloc, held, TypeName::Endpoint);
+        self.tidy(alloc, held, TypeName::Listener);
+        self.tidy(alloc, held, TypeName::Route);
+        self.tidy(alloc, held, TypeName::Secret);
     }
 
     /// The next response of the type, if one is to be sent. Refused only where one is: by `NonceSpent` where the stream
@@ -147,9 +179,11 @@ impl Talk {
         held: &Catalogues,
         kind: TypeName,
     ) -> Result<Option<Draft>, Refusal>
-        ensures polls { Gives (λ o. (o, stream_in self.new)) result (polled replica held.now (stream_in self.old) kind) }
-        ensures memory { IfErr result (λ e. e ≡ OutOfMemory → IsToRespond held.now (stream_in self.old) (kind ∷ [])) }
-        ensures err { OnErr result (self.new ≡ self.old) }
+        requires { ListingFits held.now self.old }
+        ensures fits { ListingFits held.now self.new }
+        ensures polls { Gives (λ o. (o, stream_in self.new.talk)) result (polled replica held.now (stream_in self.old.talk) kind) }
+        ensures memory { IfErr result (λ e. e ≡ OutOfMemory → IsToRespond held.now (stream_in self.old.talk) (kind ∷ [])) }
+        ensures err { OnErr result (self.new.talk ≡ self.old.talk) }
     {
         let nonces = &mut self.nonces;
         match kind {
@@ -162,7 +196,7 @@ impl Talk {
     }
 
     fn nonces(&self) -> Nonces
-        ensures { result ≡ self.now.count }
+        ensures { result ≡ self.now.talk.count }
     {
         self.nonces
     }
@@ -176,8 +210,9 @@ impl Talk {
         kind: TypeName,
         number: u64,
     ) -> Result<(NameMap<Due>, Draft), Refusal>
-        ensures offer { IfOk result (λ p. p.0 ≡ offer_at held.now self.now kind) }
-        ensures draft { IfOk result (λ p. p.1 ≡ drafted replica kind (at held.now kind) (at self.now.sessions kind).asked.interest self.now.variant p.0 number) }
+        requires { ListingFits held.now self.now }
+        ensures offer { IfOk result (λ p. p.0 ≡ offer_at held.now self.now.talk kind) }
+        ensures draft { IfOk result (λ p. p.1 ≡ drafted replica kind (at held.now kind) (at self.now.talk.sessions kind).asked.interest self.now.talk.variant p.0 number) }
         ensures refused { IfErr result (λ e. e ≡ OutOfMemory) }
     {
         match kind {
@@ -203,7 +238,8 @@ impl Talk {
         number: u64,
     )
         requires { number ≡ drawn }
-        ensures { self.new ≡ sent_at self.old kind offer number }
+        ensures sent { self.new.talk ≡ sent_at self.old.talk kind offer number }
+        ensures lists { self.new.lists ≡ self.old.lists }
     {
         self.nonces = drawn;
         match kind {
@@ -224,10 +260,31 @@ impl Talk {
         held: &Catalogues,
         kind: TypeName,
     ) -> Result<Option<(Draft, Draft)>, Refusal>
-        ensures polls { Gives (λ o. (o, stream_in self.new)) (firsts result) (polled replica held.now (stream_in self.old) kind) }
+        requires { ListingFits held.now self.old }
+        ensures fits { ListingFits held.now self.new }
+        ensures polls { Gives (λ o. (o, stream_in self.new.talk)) (firsts result) (polled replica held.now (stream_in self.old.talk) kind) }
         ensures twin { IfOk result (λ o. IfSome o (λ p. p.1 ≡ p.0)) }
-        ensures memory { IfErr result (λ e. e ≡ OutOfMemory → IsToRespond held.now (stream_in self.old) (kind ∷ [])) }
-        ensures err { OnErr result (self.new ≡ self.old) }
+        ensures memory { IfErr result (λ e. e ≡ OutOfMemory → IsToRespond held.now (stream_in self.old.talk) (kind ∷ [])) }
+        ensures err { OnErr result (self.new.talk ≡ self.old.talk) }
+    {
+        self.tidy(alloc, held, kind);
+        self.poll_twice_tidied(alloc, replica, held, kind)
+    }
+
+    // The next response and an equal one, from the lists as they are.
+    fn poll_twice_tidied(
+        &mut self,
+        alloc: Global,
+        replica: u16,
+        held: &Catalogues,
+        kind: TypeName,
+    ) -> Result<Option<(Draft, Draft)>, Refusal>
+        requires { ListingFits held.now self.old }
+        ensures fits { ListingFits held.now self.new }
+        ensures polls { Gives (λ o. (o, stream_in self.new.talk)) (firsts result) (polled replica held.now (stream_in self.old.talk) kind) }
+        ensures twin { IfOk result (λ o. IfSome o (λ p. p.1 ≡ p.0)) }
+        ensures memory { IfErr result (λ e. e ≡ OutOfMemory → IsToRespond held.now (stream_in self.old.talk) (kind ∷ [])) }
+        ensures err { OnErr result (self.new.talk ≡ self.old.talk) }
     {
         if !self.sends(held, kind) {
             return Ok(None);

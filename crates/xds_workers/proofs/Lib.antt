@@ -3,3 +3,4 @@ pub mod Writings
 pub mod Readings
 pub mod Tellings
 pub mod Mergings
+pub mod Unpacking

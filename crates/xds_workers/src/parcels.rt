@@ -1,5 +1,7 @@
 // What passes between the threads of two replicas: parcels one way, and receipts the other.
-ghost use Rattle.std.specs.Prelude.{◌≡◌, ◌⊎◌, IfOk, IfErr};
+ghost use Rattle.std.specs.Prelude.{◌≡◌, ◌⊎◌, IfOk, IfErr, List};
+ghost use Rattle.xds_resource.specs.PerType.{PerType};
+ghost use Rattle.xds_resource.specs.Writes.{StampedWrite};
 ghost use Rattle.xds_resource.specs.declared.refusal.Refusal.TheVariants.{OutOfMemory, FrameTooLong, NotJson, BadMessage, WrongVariant};
 ghost use Rattle.xds_frames.specs.Frames.{frame_bytes};
 ghost use Rattle.xds_workers.specs.Parcels.{batch_frame, IsFrameOf};
@@ -50,9 +52,11 @@ impl Parcel {
     }
 
     /// The part in it. Refused where the bytes are no frame of a batch (as a decoder and `Batch::read` tell it;
-    /// `Truncated` where less than a frame is there, `WrongVariant` where it is of another kind).
+    /// `Truncated` where less than a frame is there, `WrongVariant` where it is of another kind). A frame of a batch is
+    /// refused only by `OutOfMemory`.
     pub fn unpack(&self, alloc: Global) -> Result<Batch, Refusal>
         ensures ok { IfOk result (IsFrameOf self.now.0) }
+        ensures refused { IfErr result (λ e. (b : PerType (List StampedWrite)) → IsFrameOf self.now.0 b → e ≡ OutOfMemory) }
     {
         match first_frame(&self.frame) {
             Err(refusal) => Err(refusal),

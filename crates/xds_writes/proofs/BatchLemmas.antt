@@ -1,5 +1,5 @@
 -- Batches: their writes in order and by type, what spells them, and that their objects are shallow and hold no float.
-use Rattle.std.proofs.Common.{◌≡◌, ◌≢◌, ◌⊎◌, ℕ, ◌+◌, ◌<◌, suc, ◌≤◌, List, [], ◌∷◌, ◌++◌, length, map, take, drop, get_or, true, false, Bool, cond, All, Option, Some, None, Result, codes, inl, inr, refl, sym, ap, ◌∙◌, subst, arith, append_assoc}
+use Rattle.std.proofs.Common.{◌≡◌, ◌≢◌, ◌⊎◌, ℕ, ◌+◌, ◌<◌, suc, ◌≤◌, List, [], ◌∷◌, ◌++◌, length, map, take, drop, get_or, true, false, Bool, cond, All, Some, Result, codes, inl, inr, refl, sym, ap, ◌∙◌, subst, arith, append_assoc}
 use Rattle.std.specs.List.{AllZip, filter, flat_map}
 use Rattle.std.proofs.lemmas.List.{append-nil, map-append, take_more, take-append-drop}
 use Rattle.std.proofs.lemmas.List.Elements.{filter-append, All-append, All-map, All-head, All-tail, All-nil}

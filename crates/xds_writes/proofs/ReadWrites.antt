@@ -1,14 +1,17 @@
 -- What is read of a write part by part is the write that the value spells.
-use Rattle.std.proofs.Common.{◌≡◌, ℕ, List, [], true, Option, Some, None, Result, Ok, IsSomeAnd, codes, refl, sym, ap, ◌∙◌, subst}
+use Rattle.std.proofs.Common.{◌≡◌, ◌≢◌, ◌⊎◌, ℕ, List, [], ◌∷◌, true, Option, Some, None, Result, Ok, Err, IsSomeAnd, codes, inl, inr, refl, sym, ap, ◌∙◌, subst, arith}
+use Rattle.std.specs.Prelude.{Contains, IfErr}
 use Rattle.serde_json.specs.Data.{Data, number, string, unsigned}
 use Rattle.serde_json.specs.Find.{get}
 use Rattle.xds_resource.specs.declared.types.TypeName.{TypeName}
 use Rattle.xds_resource.specs.declared.refusal.Refusal.{Refusal}
+use Rattle.xds_resource.specs.declared.refusal.Refusal.TheVariants.{NotJson, BadMessage, OutOfMemory}
 use Rattle.xds_resource.specs.Fields.{first_of}
 use Rattle.xds_resource.specs.Types.{row}
 use Rattle.xds_resource.specs.Stamps.{IsStamp}
 use Rattle.xds_resource.specs.Writes.{StampedWrite}
 use Rattle.xds_resource.specs.Resources.{NamedBody, is_valid_name, from_value, deleted}
+use Rattle.xds_resource.proofs.Refusing.{memory_or_not}
 use Rattle.xds_fields.specs.Spelling.{IsObject, IsOrDefault, Reads, set_value}
 use Rattle.xds_fields.proofs.Lists.{Reads-same}
 use Rattle.xds_writes.specs.StampedWrites.{IsBodyOf, AreGroups, SpellsWrite}
@@ -89,3 +92,12 @@ module _ (d : Data) (t : TypeName) (name : List ℕ) (counter writer : ℕ) (gro
       let bare = sym (AreGroups-unique _ w.groups groups s.groups h.groups) ∙ s.bare none in
       (bare, same_head w s ∙ (λ i. bodied name counter writer (bare i) (none i))))
       reads
+
+refusal_among : (e : Refusal) → (e ≡ OutOfMemory) ⊎ (e ≢ OutOfMemory) → (e ≢ OutOfMemory → e ≡ BadMessage) → Contains (NotJson ∷ BadMessage ∷ OutOfMemory ∷ []) e
+refusal_among e (inl memory) other = (2, omega arith, sym memory)
+refusal_among e (inr is_other) other = (1, omega arith, sym (other is_other))
+
+-- the refusals of who reads a value are among those of who reads its text
+pub refusals_among : {X Y : Type 0} (P : Y → Type 0) (view : X → Y) (r : Result X Refusal) → Reads P view r → IfErr r (λ e. Contains (NotJson ∷ BadMessage ∷ OutOfMemory ∷ []) e)
+refusals_among P view (Ok x) h = tt
+refusals_among P view (Err e) h = refusal_among e (memory_or_not e) (λ is_other. (h is_other).0)

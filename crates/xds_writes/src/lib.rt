@@ -2,8 +2,9 @@
 #![tactic(auto)]
 
 pub mod batch;
+mod in_order;
 pub mod laws;
 pub mod writes;
 
 pub use batch::Batch;
-pub use writes::{read_write, write_object};
+pub use writes::{WriteReader, read_write, write_object};

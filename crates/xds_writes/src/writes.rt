@@ -17,6 +17,8 @@ ghost use Rattle.xds_fields.specs.Spelling.{IsJson, IsObject, Reads};
 ghost use Rattle.xds_writes.specs.Batches.{IsSound};
 ghost use Rattle.xds_writes.specs.StampedWrites.{IsBodyOf, AreGroups, SpellsWrite, IsSpelledBy, write_object as object_of};
 
+use crate::in_order::write_in_order;
+use json::Scratch;
 use serde_json::{Map, Value, put};
 use std::alloc::Global;
 use std::sync::ArcStr;
@@ -35,8 +37,38 @@ pub fn read_write(alloc: Global, bytes: &[u8]) -> Result<AnyWrite, Refusal>
         × ((t : TypeName) (w : StampedWrite) → SpellsWrite d t w → ⊥) }
     ensures refused { IfErr result (λ e. Contains (NotJson ∷ BadMessage ∷ OutOfMemory ∷ []) e) }
 {
-    let value = read_json(alloc, bytes)?;
-    any_write_of(alloc, &value)
+    let mut reader = WriteReader::new(alloc);
+    reader.read(alloc, bytes)
+}
+
+/// Reads writes one after another. The memory that reading takes is kept from one to the next.
+#[derive(Drop)]
+pub struct WriteReader {
+    scratch: Scratch,
+}
+
+impl WriteReader {
+    pub fn new(alloc: Global) -> WriteReader {
+        WriteReader {
+            scratch: Scratch::new(alloc),
+        }
+    }
+
+    /// The write that the bytes spell, as [`read_write`] has it.
+    pub fn read(&mut self, alloc: Global, bytes: &[u8]) -> Result<AnyWrite, Refusal>
+        ensures ok { IfOk result (λ w. (d : Data) × IsJson bytes.now d
+            × SpellsWrite d (write_type w) (stamped_write w)) }
+        ensures not_json { result ≡ Err NotJson → (d : Data) → IsJson bytes.now d → ⊥ }
+        ensures bad { result ≡ Err BadMessage → (d : Data) × IsJson bytes.now d
+            × ((t : TypeName) (w : StampedWrite) → SpellsWrite d t w → ⊥) }
+        ensures refused { IfErr result (λ e. Contains (NotJson ∷ BadMessage ∷ OutOfMemory ∷ []) e) }
+    {
+        if let Some(write) = write_in_order(alloc, &mut self.scratch, bytes) {
+            return Ok(write);
+        }
+        let value = read_json(alloc, bytes)?;
+        any_write_of(alloc, &value)
+    }
 }
 
 /// The object of a write: its type, name and stamp, the body that it puts, and its groups, ascending, if it has any. Refused only by `OutOfMemory`.
@@ -189,7 +221,7 @@ fn groups_field(alloc: Global, value: &Value) -> Result<Groups, Refusal>
 }
 
 // The groups that the texts come to.
-fn groups_from(alloc: Global, texts: &[String]) -> Result<Groups, Refusal>
+pub(crate) fn groups_from(alloc: Global, texts: &[String]) -> Result<Groups, Refusal>
     ensures { Reads (λ groups. groups_of (map string_bytes texts.now) ≡ Ok groups) (λ g. g) result }
 {
     match Groups::new(alloc, texts) {

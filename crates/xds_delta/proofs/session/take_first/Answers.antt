@@ -20,8 +20,11 @@ returns-clause-ok g c =
     let held = c.args.request.now.initial_resource_versions in
     let pairs : List (List ℕ × List ℕ) = map (λ p. (p.0.now, p.1.now)) c.deref.result.now in
     let are : pairs ≡ finmap.entries held = ap (map (λ p. (p.0.now, p.1.now))) c.deref.ensures.value ∙ c.in_ok-held.ensures.ok ∙ ap (λ (m : DeltaRequest). finmap.entries m.initial_resource_versions) c.request.view_is in
-    subst (λ (a : Account). OnOk c.take.result (c.take.new.self ≡ a))
-    (taken_first g.T.ResourceType.TYPE c.args.ledger.now c.args.request.now c.args.interest.now c.args.touched (set.from_list (map string_bytes c.names.result)) c.as_str-nonce.result.now c.is_some-rejects.result
+    subst (λ (a : Account). OnOk c.take.result (c.take.new.self.account ≡ a))
+    (taken_first g.T.ResourceType.TYPE c.args.ledger.now.account c.args.request.now c.args.interest.now c.args.touched (set.from_list (map string_bytes c.names.result)) c.as_str-nonce.result.now c.is_some-rejects.result
     (versions_of pairs) (c.as_str-nonce.ensures.value ∙ ap (λ (m : DeltaRequest). m.response_nonce) c.request.view_is) (c.is_some-rejects.ensures ∙ ap (λ (m : DeltaRequest). is_some m.error_detail) c.request.view_is)
     c.names.ensures.names (versions_of_entries pairs held are))
     c.take.ensures.ok
+
+pub returns-clause-fits : goal.returns-clause-fits
+returns-clause-fits g c = c.take.ensures.fits

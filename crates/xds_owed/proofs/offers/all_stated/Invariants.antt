@@ -5,4 +5,4 @@ use Rattle.xds_owed.proofs.offers.all_stated.Given as goal
 
 -- what is left decides
 abbrev pub invariant-loop-write : goal.invariant-loop-write
-invariant-loop-write g l = put_writes (stated l.whole l.beliefs) l.said (map (λ w. w.now) (drop l.write-index l.writes)) ≡ put_writes (stated l.whole l.beliefs) finmap.empty (map (λ w. w.now) l.writes)
+invariant-loop-write g l = put_writes stated l.said (map (λ w. w.now) (drop l.write-index l.writes)) ≡ put_writes stated finmap.empty (map (λ w. w.now) l.writes)

@@ -1,37 +1,12 @@
-use Rattle.std.proofs.Common.{◌≡◌, ◌+◌, List, ℕ, ap, sym, subst, ◌∙◌, arith}
-use Rattle.xds_resource.specs.declared.types.TypeName.{TypeName}
-use Rattle.xds_resource.specs.PerType.{PerType, at}
-use Rattle.xds_resource.proofs.TypesApart.{at-each}
-use Rattle.xds_catalogue.specs.Holdings.{Holdings, nothing_held}
-use Rattle.xds_program.proofs.Reading.{IsReadTo, held_named, read_none, read_more, read_all, read_bad_write, read_bad_request}
+use Rattle.std.proofs.lemmas.Result.{IfOk-weaker, IfErr-weaker}
+use Rattle.xds_program.proofs.Reading.{no_memory_at}
 use Rattle.xds_program.proofs.answer.answer_lines.Goals as goal
 
-pub loop-bytes-init : goal.loop-bytes-init
-loop-bytes-init c =
-    let empty : (t : TypeName) → at c.new-catalogues.result t ≡ nothing_held = λ t. ap (λ (p : PerType Holdings). at p t) c.new-catalogues.ensures ∙ at-each nothing_held t in
-    subst (λ (rest : List ℕ). IsReadTo c.args.input.now rest 1 (at c.new-catalogues.result)) (sym c.without_last_feed-rest.ensures) (read_none c.args.input.now c.new-catalogues.result empty)
-
-pub returns-in-Err-clause-refused : goal.returns-in-Err-clause-refused
-returns-in-Err-clause-refused c =
-    read_bad_write c.args.input.now c.loop-bytes.rest.now c.in-Some.following.now c.in-Some.bytes.now c.loop-bytes.line c.loop-bytes.catalogues _ c.loop-bytes.invariant c.in-Some.ensures.split c.in-Err.ensures.refused
-
-pub overflow_add-line : goal.overflow_add-line
-overflow_add-line c = let so_far = c.loop-bytes.invariant in omega (arith, so_far.number_is, so_far.short, c.in-Some.ensures.shorter)
-
-pub loop-bytes-preserved : goal.loop-bytes-preserved
-loop-bytes-preserved c =
-    let taken = c.in_default-take_write.ensures.taken in
-    subst (λ (p : PerType Holdings). IsReadTo c.args.input.now c.in-Some.following.now (c.loop-bytes.line + 1) (at p)) (sym taken.2)
-    (read_more c.args.input.now c.loop-bytes.rest.now c.in-Some.following.now c.in-Some.bytes.now c.loop-bytes.line c.loop-bytes.catalogues taken.0 c.loop-bytes.invariant c.in-Some.ensures.split c.in-Some.ensures.shorter taken.1)
+pub answer_gathered-requires : goal.answer_gathered-requires
+answer_gathered-requires c = c.in-Ok.ensures.named
 
 pub returns-in-Ok-clause-answered : goal.returns-in-Ok-clause-answered
-returns-in-Ok-clause-answered c =
-    let told = c.in-Ok.ensures.answered in
-    read_all c.args.replica c.args.input.now c.loop-bytes.rest.now c.in-Ok.output.items c.loop-bytes.line c.loop-bytes.catalogues told.0 c.loop-bytes.invariant c.in_default.ensures.last told.1 told.2
+returns-in-Ok-clause-answered c = IfOk-weaker c.answer_gathered.result _ _ (λ output told. c.in-Ok.ensures.answers c.args.replica output.items told) c.answer_gathered.ensures.answered
 
-pub returns-clause-refused : goal.returns-clause-refused
-returns-clause-refused c =
-    read_bad_request c.args.input.now c.loop-bytes.rest.now c.loop-bytes.line c.loop-bytes.catalogues _ c.loop-bytes.invariant c.in_default.ensures.last c.in-Err-answer_request.ensures.refused
-
-pub answer_request-requires : goal.answer_request-requires
-answer_request-requires c = held_named c.args.input.now c.loop-bytes.rest.now c.loop-bytes.line (at c.loop-bytes.catalogues) c.loop-bytes.invariant
+pub returns-in-Ok-clause-refused : goal.returns-in-Ok-clause-refused
+returns-in-Ok-clause-refused c = IfErr-weaker c.answer_gathered.result _ _ (λ fault h. no_memory_at c.args.input.now c.in-Ok.gathered.line fault.line fault.refusal c.in-Ok.ensures.fails h.0 h.1) c.answer_gathered.ensures.refused

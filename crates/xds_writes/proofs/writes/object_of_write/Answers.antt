@@ -1,7 +1,6 @@
 use Rattle.std.proofs.Common.{◌≡◌, ◌≤◌, suc, false, sym, subst}
 use Rattle.std.proofs.lemmas.Result.{IfOk-weaker}
 use Rattle.serde_json.specs.Data.{depth}
-use Rattle.serde_json.specs.View.{view}
 use Rattle.serde_json.specs.Written.{has_float}
 use Rattle.xds_resource.specs.Resources.{max_nesting}
 use Rattle.xds_writes.proofs.StampedWriteLemmas.{has_float-write_object, depth-write_object}

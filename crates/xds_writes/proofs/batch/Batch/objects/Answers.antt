@@ -1,5 +1,3 @@
-use Rattle.std.proofs.Common.{ap, ◌∙◌}
-use Rattle.serde_json.specs.View.{view}
 use Rattle.xds_resource.specs.TypedWrites.{TypedWrite}
 use Rattle.xds_writes.specs.Batches.{IsSound}
 use Rattle.xds_writes.specs.StampedWrites.{write_object}

@@ -1,0 +1,4 @@
+pub mod Meanings
+mod Grammars
+mod Places
+mod Members

@@ -1,0 +1,133 @@
+-- When the list of a session suffices: from the start, after a request of either variant, after a look at what changed, and once
+-- writes came.
+use Rattle.std.proofs.Common.{◌≡◌, ℕ, List, Bool, true, false, Option, Some, None, Result, Ok, Err, refl, sym, ap, subst, ◌∙◌}
+use Rattle.std.specs.Prelude.{if◌then◌else◌, OnOk, OnErr}
+use Rattle.std.specs.Option.{option_and_then}
+use Rattle.std.specs.FinMap as finmap
+use Rattle.xds_resource.specs.declared.refusal.Refusal.{Refusal}
+use Rattle.xds_resource.specs.declared.types.TypeName.{TypeName}
+use Rattle.xds_resource.specs.Writes.{StampedWrite}
+use Rattle.xds_interest.specs.Interests.{Selection, covers}
+use Rattle.xds_interest.specs.Asked.{Asked, unasked, sotw_asked, delta_asked, IsStarOfComplete}
+use Rattle.xds_interest.specs.Delta.{Mention}
+use Rattle.xds_interest.specs.Touches.{Touch, touches, sotw_touch, delta_touch}
+use Rattle.xds_interest.proofs.AskedLaws.{kept_star_is_of_complete, untouched_keeps_cover_of_kept, untouched_keeps_cover_of_kept_in_delta}
+use Rattle.xds_catalogue.specs.Holdings.{Holdings}
+use Rattle.xds_owed.specs.declared.variant.VariantName.{VariantName}
+use Rattle.xds_owed.specs.Owed.{live_version, version_shown}
+use Rattle.xds_owed.specs.Listed as lists
+use Rattle.xds_owed.specs.Listed.{Listed, IsPast, IsLater, StaysSufficient}
+use Rattle.xds_owed.proofs.ByName.{present_absent}
+use Rattle.xds_owed.proofs.Fitting.{new_list_fits, none_at_first, later_holdings_fit}
+use Rattle.xds_ledger.specs.Ledgers as ledgers
+use Rattle.xds_ledger.specs.Ledgers.{Account}
+use Rattle.xds_ledger.specs.Sessions.{Session, send}
+use Rattle.xds_owed.specs.Offers.{Offer}
+use Rattle.xds_ledger.specs.Lists.{Books, Kept, Fits, new_kept, FitsNext, StaysPresent, SessionFits, StaysFit}
+
+-- before the first request every list suffices
+pub new_kept_fits : (v : VariantName) (t : TypeName) (cluster : List ℕ) (h : Holdings) → SessionFits v t h (new_kept cluster)
+new_kept_fits v t cluster h = record { list = new_list_fits v t (unasked cluster).interest h; unbegun = λ _. refl; star = (kept_star_is_of_complete t).0 cluster }
+
+-- once writes came
+pub later_session_fits : (v : VariantName) (t : TypeName) (h later : Holdings) (k : Kept) → IsLater h later → SessionFits v t h k → SessionFits v t later k
+later_session_fits v t h later k is fits = record {
+  list = later_holdings_fit v t k.session.asked.interest h later k.session.account.beliefs k.listed is fits.list;
+  unbegun = fits.unbegun;
+  star = fits.star;
+}
+
+shown_alike : (s next : Selection) (name : List ℕ) (w : StampedWrite) → covers s name w.groups ≡ covers next name w.groups → version_shown s name w ≡ version_shown next name w
+shown_alike s next name w same = ap (λ b. if b then live_version w else None) same
+
+present_alike : (s next : Selection) (name : List ℕ) (o : Option StampedWrite) → ((groups : List (List ℕ)) → covers s name groups ≡ covers next name groups) → option_and_then (version_shown s name) o ≡ option_and_then (version_shown next name) o
+present_alike s next name None same = refl
+present_alike s next name (Some w) same = shown_alike s next name w (same w.groups)
+
+never_both : {X : Type 0} (b : Bool) → b ≡ true → b ≡ false → X
+never_both b yes_it_is not_it = let never : true ≡ false = sym yes_it_is ∙ not_it in absurd cc
+
+-- state of the world: after a request that is taken
+pub list_stays_fit : (v : VariantName) (t : TypeName) (before : Kept) (names : List (List ℕ)) (asked : Asked) (touched : Touch) (new : Books) → asked ≡ sotw_asked t before.session.asked names
+    → touched ≡ sotw_touch before.session.asked.interest asked.interest → FitsNext v t touched (record { account = before.session.account; listed = before.listed }) new
+    → StaysFit v t before (record { session = record { asked = asked; account = new.account }; listed = new.listed })
+list_stays_fit v t before names asked touched new is touches_it next h fits =
+    let old : Selection = before.session.asked.interest in
+    let stays : StaysPresent old asked.interest h before.listed.mark touched =
+    λ name out past. present_alike old asked.interest name (finmap.get h.entries name)
+    (λ groups. sym (untouched_keeps_cover_of_kept t before.session.asked names name groups (ap (λ i. touches (sotw_touch old i) name) (sym (ap (λ (a : Asked). a.interest) is)) ∙ ap (λ x. touches x name) (sym touches_it) ∙ out))
+    ∙ ap (λ (a : Asked). covers a.interest name groups) (sym is)) in
+    record {
+      list = next old asked.interest h fits.list stays;
+      unbegun = λ not_it. never_both asked.begun (ap (λ (a : Asked). a.begun) is) not_it;
+      star = λ incomplete. ap (λ (a : Asked). a.interest.star) is ∙ (kept_star_is_of_complete t).1 before.session.asked names incomplete;
+    }
+
+stays_at : (t : TypeName) (old asked : Asked) (m : Mention) (touched : Touch) (h : Holdings) (mark : ℕ) (begun : Bool) → old.begun ≡ begun → asked ≡ delta_asked t old m → touched ≡ delta_touch t m → (old.begun ≡ false → mark ≡ 0)
+    → IsStarOfComplete t old → StaysPresent old.interest asked.interest h mark touched
+stays_at t old asked m touched h mark true begun is touches_it unbegun star name out past =
+    present_alike old.interest asked.interest name (finmap.get h.entries name)
+    (λ groups. sym (untouched_keeps_cover_of_kept_in_delta t old m name groups begun star (ap (λ x. touches x name) (sym touches_it) ∙ out)) ∙ ap (λ (a : Asked). covers a.interest name groups) (sym is))
+stays_at t old asked m touched h mark false begun is touches_it unbegun star name out past =
+    let none : finmap.get h.entries name ≡ None = none_at_first h name (subst (λ n. IsPast h n name) (unbegun begun) past) in
+    present_absent old.interest h.entries name none ∙ sym (present_absent asked.interest h.entries name none)
+
+-- delta: after a request that is taken, the first or a later one
+pub mention_stays_fit : (v : VariantName) (t : TypeName) (before : Kept) (m : Mention) (asked : Asked) (touched : Touch) (new : Books) → asked ≡ delta_asked t before.session.asked m → touched ≡ delta_touch t m
+    → FitsNext v t touched (record { account = before.session.account; listed = before.listed }) new
+    → StaysFit v t before (record { session = record { asked = asked; account = new.account }; listed = new.listed })
+mention_stays_fit v t before m asked touched new is touches_it next h fits =
+    let old : Asked = before.session.asked in
+    record {
+      list = next old.interest asked.interest h fits.list (stays_at t old asked m touched h before.listed.mark old.begun refl is touches_it fits.unbegun fits.star);
+      unbegun = λ not_it. never_both asked.begun (ap (λ (a : Asked). a.begun) is) not_it;
+      star = λ incomplete. ap (λ (a : Asked). a.interest.star) is ∙ (kept_star_is_of_complete t).2 old m incomplete;
+    }
+
+-- a session that has begun, once its list changed and suffices
+pub session_fits_with : (v : VariantName) (t : TypeName) (h : Holdings) (k new : Kept) → new.session ≡ k.session → k.session.asked.begun ≡ true → SessionFits v t h k
+    → lists.Fits v t k.session.asked.interest h k.session.account.beliefs new.listed → SessionFits v t h new
+session_fits_with v t h k new same begun fits list = record {
+  list = subst (λ (s : Session). lists.Fits v t s.asked.interest h s.account.beliefs new.listed) (sym same) list;
+  unbegun = λ not_it. never_both new.session.asked.begun (ap (λ (s : Session). s.asked.begun) same ∙ begun) not_it;
+  star = subst (λ (s : Session). IsStarOfComplete t s.asked) (sym same) fits.star;
+}
+
+-- a response that is sent leaves what is believed
+pub sent_fits : (v : VariantName) (t : TypeName) (h : Holdings) (k : Kept) (o : Offer) (n : ℕ) → SessionFits v t h k → SessionFits v t h (record k { session = send k.session o n })
+sent_fits v t h k o n fits = record { list = fits.list; unbegun = fits.unbegun; star = fits.star }
+
+-- the list of the ledger of a session, as a method sees it that opened the session
+pub ledger_fits : (v : VariantName) (t : TypeName) (h : Holdings) (asked : Asked) (b : Books) (now : Kept) (interest : Selection) → ◌≡◌ {A = Kept} (record { session = record { asked = asked; account = b.account }; listed = b.listed }) now
+    → interest ≡ asked.interest → SessionFits v t h now → Fits v t interest h b
+ledger_fits v t h asked b now interest same is fits =
+    subst (λ i. Fits v t i h b) (sym is) (subst (λ (k : Kept). lists.Fits v t k.session.asked.interest h k.session.account.beliefs k.listed) (sym same) fits.list)
+
+-- and of the session once the ledger's list changed and suffices
+pub session_fits_back : (v : VariantName) (t : TypeName) (h : Holdings) (asked : Asked) (b new : Books) (now : Kept) (interest : Selection) → ◌≡◌ {A = Kept} (record { session = record { asked = asked; account = b.account }; listed = b.listed }) now
+    → interest ≡ asked.interest → new.account ≡ b.account → asked.begun ≡ true → Fits v t interest h new → SessionFits v t h now → SessionFits v t h (record { session = record { asked = asked; account = new.account }; listed = new.listed })
+session_fits_back v t h asked b new now interest same is kept begun list fits = record {
+  list = subst (λ i. Fits v t i h new) is list;
+  unbegun = λ not_it. never_both asked.begun begun not_it;
+  star = subst (λ (k : Kept). IsStarOfComplete t k.session.asked) (sym same) fits.star;
+}
+
+-- and once what changed was looked at
+pub refreshed_session_fits : (v : VariantName) (t : TypeName) (h : Holdings) (asked : Asked) (b new : Books) (now : Kept) → ◌≡◌ {A = Kept} (record { session = record { asked = asked; account = b.account }; listed = b.listed }) now
+    → new.account ≡ b.account → asked.begun ≡ true → StaysSufficient h b.listed new.listed → SessionFits v t h now → SessionFits v t h (record { session = record { asked = asked; account = new.account }; listed = new.listed })
+refreshed_session_fits v t h asked b new now same kept begun stays fits =
+    let list : lists.Fits v t asked.interest h new.account.beliefs new.listed =
+    subst (λ (a : Account). lists.Fits v t asked.interest h a.beliefs new.listed) (sym kept) (stays v t asked.interest b.account.beliefs (ledger_fits v t h asked b now asked.interest same refl fits)) in
+    session_fits_back v t h asked b new now asked.interest same refl kept begun list fits
+
+-- what is kept of the list, whatever became of a look
+pub suffices_or : {X : Type 0} (h : Holdings) (old new : Listed) (r : Result X Refusal) → OnOk r (StaysSufficient h old new) → OnErr r (new ≡ old) → StaysSufficient h old new
+suffices_or h old new (Ok x) stays same = stays
+suffices_or h old new (Err e) stays same = λ v t s b fits. subst (lists.Fits v t s h b) (sym same) fits
+
+-- and once a response was sent
+pub sent_session_fits : (v : VariantName) (t : TypeName) (h : Holdings) (asked : Asked) (b new : Books) (now : Kept) (o : Offer) (n : ℕ) → ◌≡◌ {A = Kept} (record { session = record { asked = asked; account = b.account }; listed = b.listed }) now
+    → new ≡ record b { account = ledgers.send b.account o n } → SessionFits v t h now → SessionFits v t h (record { session = record { asked = asked; account = new.account }; listed = new.listed })
+sent_session_fits v t h asked b new now o n same is fits =
+    let before : Kept = record { session = record { asked = asked; account = b.account }; listed = b.listed } in
+    subst (λ (x : Books). SessionFits v t h (record { session = record { asked = asked; account = x.account }; listed = x.listed })) (sym is) (sent_fits v t h before o n (subst (SessionFits v t h) (sym same) fits))

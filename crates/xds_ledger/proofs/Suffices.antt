@@ -1,0 +1,304 @@
+-- That all of which a request may change what is owed is listed, and that the list then suffices.
+use Rattle.std.proofs.Common.{◌≡◌, ℕ, ◌≤◌, List, [], ◌∷◌, map, Bool, true, false, cond, ◌&&◌, ◌||◌, not, Option, Some, None, refl, sym, ap, subst, ◌∙◌, arith}
+use Rattle.std.specs.Prelude.{T, bytes_eq, is_some, option_map, if◌then◌else◌, IfSome}
+use Rattle.std.specs.Option.{option_or, option_map_or}
+use Rattle.std.specs.Ordering.{eq_by_cmp}
+use Rattle.std.specs.FinMap as finmap
+use Rattle.std.specs.FinSet as set
+use Rattle.std.proofs.lemmas.Map.Text.{is_eq-slice_cmp}
+use Rattle.xds_resource.specs.declared.types.TypeName.{TypeName}
+use Rattle.xds_resource.specs.Writes.{text_cmp}
+use Rattle.xds_resource.proofs.NameMaps.{has_text, has_text-keys, get-insert, bytes_eq_swap, none_by_is_some}
+use Rattle.xds_interest.specs.Interests.{Selection, reaches}
+use Rattle.xds_interest.specs.Touches.{Touch}
+use Rattle.xds_interest.proofs.Texts.{contains-from_texts}
+use Rattle.xds_catalogue.specs.Holdings.{Holdings, Entries}
+use Rattle.xds_owed.specs.declared.variant.VariantName.{VariantName}
+use Rattle.xds_owed.specs.declared.entry.Entry.{Entry}
+use Rattle.xds_owed.specs.declared.entry.Entry.TheVariants.{Told, Unsure}
+use Rattle.xds_owed.specs.declared.entry.Due.{Due}
+use Rattle.xds_owed.specs.Variants.{is_whole}
+use Rattle.xds_owed.specs.Owed.{Beliefs, is_owed}
+use Rattle.xds_owed.specs.Offers.{Offer, offer, same_offer}
+use Rattle.xds_owed.specs.Listed as lists
+use Rattle.xds_owed.specs.Listed.{Listed, is_listed, with_name, without_mark, IsPast, IsWider}
+use Rattle.xds_owed.proofs.Fitting.{none_at_first, unowed, same_owed}
+use Rattle.xds_owed.proofs.Later.{past_more}
+use Rattle.xds_beliefs.proofs.ByName.{accepted_by_name, taken_by_name}
+use Rattle.xds_beliefs.proofs.Made.{resumed_by_name}
+use Rattle.xds_ledger.specs.Ledgers.{Sent, Account, was_touched, believed_accepted, believed_touched, beliefs_taken, is_refused, answers, answered, settled, touch, resume, versions_of}
+use Rattle.xds_ledger.specs.Laws.{RequestKeepsFitting}
+use Rattle.xds_ledger.specs.Lists.{Books, Fits, FitsNext, accepts, StaysPresent, IsPassedOver, ListsRequest, with_names, with_offer, with_all, with_changes, listed_after}
+
+-- ---- what is listed
+
+not_first : (a b : Bool) → (a || b) ≡ false → a ≡ false
+not_first true b e = absurd cc
+not_first false b e = refl
+
+not_second : (a b : Bool) → (a || b) ≡ false → b ≡ false
+not_second true b e = absurd cc
+not_second false b e = e
+
+put_there : (b : Bool) (o : Option ℕ) → is_some (cond b (Some 0) o) ≡ (b || is_some o)
+put_there true o = refl
+put_there false o = refl
+
+-- with one name more
+listed_one : (l : Listed) (n q : List ℕ) → is_listed (with_name l n) q ≡ (bytes_eq q n || is_listed l q)
+listed_one l n q = ap is_some (get-insert l.names n 0 q) ∙ put_there (bytes_eq n q) (finmap.get l.names q) ∙ ap (λ b. b || is_listed l q) (bytes_eq_swap n q)
+
+swapped : (a b c : Bool) → (a || (b || c)) ≡ ((b || a) || c)
+swapped true true c = refl
+swapped true false c = refl
+swapped false true c = refl
+swapped false false c = refl
+
+pub listed_with : (l : Listed) (ns : List (List ℕ)) (q : List ℕ) → is_listed (with_names l ns) q ≡ (has_text ns q || is_listed l q)
+listed_with l [] q = refl
+listed_with l (n ∷ ns) q = listed_with (with_name l n) ns q ∙ ap (λ b. has_text ns q || b) (listed_one l n q) ∙ swapped (has_text ns q) (bytes_eq q n) (is_listed l q)
+
+-- a name that is listed by none of them
+out_of : (l : Listed) (ns : List (List ℕ)) (q : List ℕ) → is_listed (with_names l ns) q ≡ false → (has_text ns q ≡ false) × (is_listed l q ≡ false)
+out_of l ns q out =
+    let neither : (has_text ns q || is_listed l q) ≡ false = sym (listed_with l ns q) ∙ out in
+    (not_first (has_text ns q) (is_listed l q) neither, not_second (has_text ns q) (is_listed l q) neither)
+
+mark_with : (l : Listed) (ns : List (List ℕ)) → (with_names l ns).mark ≡ l.mark
+mark_with l [] = refl
+mark_with l (n ∷ ns) = mark_with (with_name l n) ns
+
+no_key : {X : Type 0} (m : finmap.FinMap text_cmp X) (q : List ℕ) → has_text (finmap.keys m) q ≡ false → finmap.get m q ≡ None
+no_key m q out = none_by_is_some (finmap.get m q) (sym (has_text-keys m q) ∙ out)
+
+out_of_offer : (a : Account) (accepting : Bool) (l : Listed) (q : List ℕ) (o : Option Sent) → a.sent ≡ o → is_listed (if accepting then option_map_or (λ sent. with_names l (finmap.keys sent.offer)) o l else l) q ≡ false
+    → (accepting ≡ true → IfSome o (λ sent. finmap.get sent.offer q ≡ None)) × (is_listed l q ≡ false)
+out_of_offer a false l q o is out = (λ never. absurd cc, out)
+out_of_offer a true l q None is out = (λ _. tt, out)
+out_of_offer a true l q (Some sent) is out =
+    let parts = out_of l (finmap.keys sent.offer) q out in
+    (λ _. no_key sent.offer q parts.0, parts.1)
+
+mark_offer : (accepting : Bool) (l : Listed) (o : Option Sent) → (if accepting then option_map_or (λ sent. with_names l (finmap.keys sent.offer)) o l else l).mark ≡ l.mark
+mark_offer false l o = refl
+mark_offer true l None = refl
+mark_offer true l (Some sent) = mark_with l (finmap.keys sent.offer)
+
+out_of_all : (a : Account) (all : Bool) (mentioned : List (List ℕ)) (l : Listed) (q : List ℕ) → is_listed (with_all a all mentioned l) q ≡ false
+    → (all ≡ true → finmap.get a.beliefs q ≡ None) × (all ≡ true → has_text mentioned q ≡ false) × (is_listed l q ≡ false)
+out_of_all a false mentioned l q out = (λ never. absurd cc, λ never. absurd cc, out)
+out_of_all a true mentioned l q out =
+    let second = out_of (with_names l (finmap.keys a.beliefs)) mentioned q out in
+    let first = out_of l (finmap.keys a.beliefs) q second.1 in
+    (λ _. no_key a.beliefs q first.0, λ _. second.0, first.1)
+
+mark_all : (a : Account) (all : Bool) (mentioned : List (List ℕ)) (l : Listed) → (with_all a all mentioned l).mark ≡ l.mark
+mark_all a false mentioned l = refl
+mark_all a true mentioned l = mark_with (with_names l (finmap.keys a.beliefs)) mentioned ∙ mark_with l (finmap.keys a.beliefs)
+
+out_of_changes : (all : Bool) (l : Listed) (q : List ℕ) → is_listed (with_changes all l) q ≡ false → is_listed l q ≡ false
+out_of_changes true l q out = out
+out_of_changes false l q out = out
+
+from_zero : (n : ℕ) → 0 ≤ n
+from_zero n = omega arith
+
+itself : (n : ℕ) → n ≤ n
+itself n = omega arith
+
+mark_changes : (all : Bool) (l : Listed) (n : ℕ) → l.mark ≡ n → (with_changes all l).mark ≤ n
+mark_changes true l n is = from_zero n
+mark_changes false l n is = subst (λ m. m ≤ n) (sym is) (itself n)
+
+no_mark : (all : Bool) (l : Listed) → all ≡ true → (with_changes all l).mark ≡ 0
+no_mark true l is = refl
+no_mark false l is = absurd cc
+
+unsaid_at : (pairs : List (List ℕ × List ℕ)) (q : List ℕ) (b : Bool) (k : List ℕ) (x : List ℕ) (rest : Option (List ℕ)) → eq_by_cmp text_cmp q k ≡ b → (bytes_eq q k || has_text (map (λ p. p.0) pairs) q) ≡ false
+    → (has_text (map (λ p. p.0) pairs) q ≡ false → rest ≡ None) → cond b (Some x) rest ≡ None
+unsaid_at pairs q true k x rest is out later = let never : true ≡ false = sym is ∙ is_eq-slice_cmp q k ∙ not_first (bytes_eq q k) _ out in absurd cc
+unsaid_at pairs q false k x rest is out later = later (not_second (bytes_eq q k) (has_text (map (λ p. p.0) pairs) q) out)
+
+not_found : (pairs : List (List ℕ × List ℕ)) (q : List ℕ) → has_text (map (λ p. p.0) pairs) q ≡ false → finmap.find text_cmp q pairs ≡ None
+not_found [] q out = refl
+not_found (p ∷ ps) q out = unsaid_at ps q (eq_by_cmp text_cmp q p.0) p.0 p.1 (finmap.find text_cmp q ps) refl out (not_found ps q)
+
+-- all that a request may change is listed
+module _ (a : Account) (accepting whole : Bool) (touched : Touch) (names mentioned : List (List ℕ)) (pairs : List (List ℕ × List ℕ)) (l : Listed) where
+  abbrev all : Bool
+  all = touched.all || (accepting && whole)
+
+  abbrev said : List (List ℕ)
+  said = map (λ p. p.0) pairs
+
+  abbrev third : Listed
+  third = with_offer a accepting (with_names (with_names l names) said)
+
+  abbrev last : Listed
+  last = with_all a all mentioned third
+
+  parts : (q : List ℕ) → is_listed (listed_after a accepting whole touched.all names mentioned said l) q ≡ false
+      → ((all ≡ true → finmap.get a.beliefs q ≡ None) × (all ≡ true → has_text mentioned q ≡ false))
+      × (accepting ≡ true → IfSome a.sent (λ sent. finmap.get sent.offer q ≡ None)) × (has_text said q ≡ false) × (has_text names q ≡ false) × (is_listed l q ≡ false)
+  parts q out =
+      let fourth = out_of_all a all mentioned third q (out_of_changes touched.all last q out) in
+      let offer = out_of_offer a accepting (with_names (with_names l names) said) q a.sent refl fourth.2 in
+      let second = out_of (with_names l names) said q offer.1 in
+      let first = out_of l names q second.1 in
+      ((fourth.0, fourth.1), offer.0, second.0, first.0, first.1)
+
+  pub after_is_wider : IsWider l (listed_after a accepting whole touched.all names mentioned said l)
+  after_is_wider = record {
+    mark = mark_changes touched.all last l.mark (mark_all a all mentioned third ∙ mark_offer accepting (with_names (with_names l names) said) a.sent ∙ mark_with (with_names l names) said ∙ mark_with l names);
+    names = λ q out. (parts q out).4;
+  }
+
+  pub after_lists_request : T (finmap.is_sorted text_cmp pairs) → set.from_list names ≡ touched.names
+      → ListsRequest a accepting whole touched (set.from_list mentioned) (versions_of pairs) (listed_after a accepting whole touched.all names mentioned said l)
+  after_lists_request sorted are = record {
+    mark = no_mark touched.all last;
+    others = λ q out.
+        let p = parts q out in
+        record {
+          untouched = ap (λ s. set.contains s q) (sym are) ∙ contains-from_texts names q ∙ p.3;
+          unsaid = finmap.get-from_sorted text_cmp pairs q sorted ∙ not_found pairs q p.2;
+          unoffered = p.1;
+          unbelieved = p.0.0;
+          unmentioned = λ is. contains-from_texts mentioned q ∙ p.0.1 is;
+        };
+  }
+
+-- ---- what is believed of a name that a request passes over
+
+kept_by : (whole touched : Bool) (offer : Option Due) (before : Option Entry) → offer ≡ None → (whole ≡ true → before ≡ None) → believed_accepted whole touched offer before ≡ before
+kept_by whole touched (Some d) before is none = absurd cc
+kept_by true true None before is none = refl
+kept_by true false None before is none = sym (none refl)
+kept_by false touched None before is none = refl
+
+settled_at : (v : VariantName) (t : TypeName) (a : Account) (name : List ℕ) (rejects ans : Bool) (o : Option Sent) → ((not rejects && ans) ≡ true → IfSome o (λ sent. finmap.get sent.offer name ≡ None))
+    → (((not rejects && ans) && is_whole v t) ≡ true → finmap.get a.beliefs name ≡ None)
+    → finmap.get (if ans then option_map_or (λ sent. answered v t a sent rejects) o a else a).beliefs name ≡ finmap.get a.beliefs name
+settled_at v t a name rejects false o unoffered unbelieved = refl
+settled_at v t a name rejects true None unoffered unbelieved = refl
+settled_at v t a name true true (Some sent) unoffered unbelieved = refl
+settled_at v t a name false true (Some sent) unoffered unbelieved =
+    accepted_by_name (is_whole v t) sent a.beliefs name
+    ∙ kept_by (is_whole v t) (was_touched sent name) (finmap.get sent.offer name) (finmap.get a.beliefs name) (unoffered refl) unbelieved
+
+or_right : (a b : Bool) → b ≡ true → (a || b) ≡ true
+or_right true b is = refl
+or_right false b is = is
+
+resumed_at : (o : Option (List ℕ)) (e : Option Entry) → o ≡ None → option_or (option_map Told o) e ≡ e
+resumed_at o e is = ap (λ o. option_or (option_map Told o) e) is
+
+unmentioned_at : (reached mentioned : Bool) (before : Option Entry) → mentioned ≡ false → before ≡ None → believed_touched reached mentioned before ≡ None
+unmentioned_at true true before is none = absurd cc
+unmentioned_at true false before is none = ap (λ e. if is_some e then Some Unsure else None) none
+unmentioned_at false mentioned before is none = refl
+
+module _ (v : VariantName) (t : TypeName) (a : Account) (nonce : List ℕ) (rejects : Bool) (s : Selection) (touched : Touch) (mentioned : set.FinSet text_cmp) (versions : finmap.FinMap text_cmp (List ℕ)) where
+  abbrev once : Account
+  once = settled v t a nonce rejects
+
+  abbrev after : Account
+  after = resume (touch once s touched mentioned) versions
+
+  over_settled : (name : List ℕ) → IsPassedOver a (accepts a nonce rejects) (is_whole v t) touched mentioned versions name → finmap.get once.beliefs name ≡ finmap.get a.beliefs name
+  over_settled name over =
+      settled_at v t a name rejects (answers a nonce) a.sent over.unoffered (λ is. over.unbelieved (or_right touched.all (accepts a nonce rejects && is_whole v t) is))
+
+  -- a request that doesn't touch every name leaves what is believed of it
+  over_some : (name : List ℕ) → touched.all ≡ false → IsPassedOver a (accepts a nonce rejects) (is_whole v t) touched mentioned versions name → finmap.get after.beliefs name ≡ finmap.get a.beliefs name
+  over_some name some over =
+      resumed_by_name versions (beliefs_taken s touched mentioned once.beliefs) name
+      ∙ resumed_at (finmap.get versions name) (finmap.get (beliefs_taken s touched mentioned once.beliefs) name) over.unsaid
+      ∙ taken_by_name s touched mentioned once.beliefs name
+      ∙ (λ i. if (some i || over.untouched i) then believed_touched (reaches s name) (set.contains mentioned name) (finmap.get once.beliefs name) else finmap.get once.beliefs name)
+      ∙ over_settled name over
+
+  -- and one that does leaves nothing
+  over_every : (name : List ℕ) → touched.all ≡ true → IsPassedOver a (accepts a nonce rejects) (is_whole v t) touched mentioned versions name → finmap.get after.beliefs name ≡ None
+  over_every name every over =
+      let no_entry : finmap.get a.beliefs name ≡ None = over.unbelieved (ap (λ b. b || (accepts a nonce rejects && is_whole v t)) every) in
+      resumed_by_name versions (beliefs_taken s touched mentioned once.beliefs) name
+      ∙ resumed_at (finmap.get versions name) (finmap.get (beliefs_taken s touched mentioned once.beliefs) name) over.unsaid
+      ∙ taken_by_name s touched mentioned once.beliefs name
+      ∙ (λ i. if (every i || set.contains touched.names name) then believed_touched (reaches s name) (set.contains mentioned name) (finmap.get once.beliefs name) else finmap.get once.beliefs name)
+      ∙ unmentioned_at (reaches s name) (set.contains mentioned name) (finmap.get once.beliefs name) (over.unmentioned (ap (λ b. b || (accepts a nonce rejects && is_whole v t)) every)) (over_settled name over ∙ no_entry)
+
+  module _ (old next : Selection) (h : Holdings) (l wide : Listed) (wider : IsWider l wide) (lists_it : ListsRequest a (accepts a nonce rejects) (is_whole v t) touched mentioned versions wide)
+      (fits : lists.Fits v t old h a.beliefs l) (stays : StaysPresent old next h l.mark touched) where
+    owed_at : (every : Bool) → touched.all ≡ every → (name : List ℕ) → is_listed wide name ≡ false → IsPast h wide.mark name → is_owed v t next h.entries after.beliefs name ≡ false
+    owed_at true every name out past =
+        unowed v t next h after.beliefs name (over_every name every (lists_it.others name out)) (none_at_first h name (subst (λ m. IsPast h m name) (lists_it.mark every) past))
+    owed_at false some name out past =
+        let over = lists_it.others name out in
+        let before : IsPast h l.mark name = past_more h wide.mark l.mark name wider.mark past in
+        same_owed v t old next h h a.beliefs after.beliefs name (over_some name some over) (sym (stays name (λ i. some i || over.untouched i) before)) ∙ fits.others name (wider.names name out) before
+
+    -- the list suffices once the request is taken
+    pub taken_list_fits : lists.Fits v t next h after.beliefs wide
+    taken_list_fits = record { counted = below wide.mark l.mark h.changes wider.mark fits.counted; others = owed_at touched.all refl }
+      where
+        below : (x y z : ℕ) → x ≤ y → y ≤ z → x ≤ z
+        below x y z first second = omega arith
+
+-- the same of books that the calls leave
+pub taken_books_fit : (v : VariantName) (t : TypeName) (old new : Books) (nonce : List ℕ) (rejects : Bool) (s : Selection) (touched : Touch) (names mentioned firsts : List (List ℕ)) (pairs : List (List ℕ × List ℕ)) (wide : Listed)
+    → T (finmap.is_sorted text_cmp pairs) → firsts ≡ map (λ p. p.0) pairs → set.from_list names ≡ touched.names
+    → wide ≡ listed_after old.account (accepts old.account nonce rejects) (is_whole v t) touched.all names mentioned firsts old.listed
+    → new.account ≡ resume (touch (settled v t old.account nonce rejects) s touched (set.from_list mentioned)) (versions_of pairs) → new.listed ≡ wide → FitsNext v t touched old new
+taken_books_fit v t old new nonce rejects s touched names mentioned firsts pairs wide sorted says are made left stored from next h fits stays =
+    let acc : Bool = accepts old.account nonce rejects in
+    let list : Listed = listed_after old.account acc (is_whole v t) touched.all names mentioned (map (λ p. p.0) pairs) old.listed in
+    let is : list ≡ new.listed = sym (stored ∙ made ∙ ap (λ n. listed_after old.account acc (is_whole v t) touched.all names mentioned n old.listed) says) in
+    subst (λ x. lists.Fits v t next h new.account.beliefs x) is
+    (subst (λ (x : Account). lists.Fits v t next h x.beliefs list) (sym left)
+    (taken_list_fits v t old.account nonce rejects s touched (set.from_list mentioned) (versions_of pairs) from next h old.listed list
+    (after_is_wider old.account acc (is_whole v t) touched names mentioned pairs old.listed)
+    (after_lists_request old.account acc (is_whole v t) touched names mentioned pairs old.listed sorted are) fits stays))
+
+pub request_keeps_fitting : RequestKeepsFitting
+request_keeps_fitting v t old wide nonce rejects s touched mentioned versions wider lists_it from next h fits stays =
+    taken_list_fits v t old.account nonce rejects s touched mentioned versions from next h old.listed wide wider lists_it fits stays
+
+-- a list that suffices, as a method sees it that opened the ledger
+pub fits_inside : (v name : VariantName) (t : TypeName) (s : Selection) (h : Holdings) (inside now : Books) (beliefs : Beliefs) → name ≡ v → inside ≡ now → beliefs ≡ inside.account.beliefs → Fits v t s h now
+    → lists.Fits name t s h beliefs inside.listed
+fits_inside v name t s h inside now beliefs named same held fits =
+    subst (λ w. lists.Fits w t s h beliefs inside.listed) (sym named)
+    (subst (λ b. lists.Fits v t s h b inside.listed) (sym held) (subst (λ (k : Books). lists.Fits v t s h k.account.beliefs k.listed) (sym same) fits))
+
+-- and back
+pub fits_outside : (v name : VariantName) (t : TypeName) (s : Selection) (h : Holdings) (inside after : Books) (beliefs : Beliefs) → name ≡ v → beliefs ≡ inside.account.beliefs → after.account ≡ inside.account
+    → lists.Fits name t s h beliefs after.listed → Fits v t s h after
+fits_outside v name t s h inside after beliefs named held same fits =
+    subst (λ (a : Account). lists.Fits v t s h a.beliefs after.listed) (sym same)
+    (subst (λ b. lists.Fits v t s h b after.listed) held (subst (λ w. lists.Fits w t s h beliefs after.listed) named fits))
+
+-- the offer that is compared with the one that was refused last, as such a method sees both
+pub refused_inside : (v name : VariantName) (t : TypeName) (s : Selection) (m : Entries) (inside now : Books) (beliefs : Beliefs) (refused : Offer) (result : Bool) → name ≡ v → inside ≡ now → beliefs ≡ inside.account.beliefs
+    → inside.account.refused ≡ Some refused → result ≡ same_offer (offer name t s m beliefs) refused → result ≡ is_refused now.account (offer v t s m now.account.beliefs)
+refused_inside v name t s m inside now beliefs refused result named same held is compared =
+    compared ∙ (λ i. same_offer (offer (named i) t s m (held i)) refused) ∙ (λ i. option_map_or (same_offer (offer v t s m inside.account.beliefs)) (sym is i) false)
+    ∙ ap (λ (b : Books). is_refused b.account (offer v t s m b.account.beliefs)) same
+
+pub none_refused : (inside now : Books) (o : Offer) → inside ≡ now → inside.account.refused ≡ None → false ≡ is_refused now.account o
+none_refused inside now o same none = (λ i. option_map_or (same_offer o) (sym none i) false) ∙ ap (λ (b : Books). is_refused b.account o) same
+
+-- the list that is made step by step
+pub made_in_steps : (a : Account) (l start named told_of told held made : Listed) (acc accepting whole every touched every_entry : Bool) (names mentioned said : List (List ℕ))
+    → start ≡ l → named ≡ with_names start names → told_of ≡ with_names named said → accepting ≡ acc → told ≡ with_offer a accepting told_of → every_entry ≡ (every || (accepting && whole)) → held ≡ with_all a every_entry mentioned told
+    → touched ≡ every → made ≡ (if touched then without_mark held else held) → made ≡ listed_after a acc whole every names mentioned said l
+made_in_steps a l start named told_of told held made acc accepting whole every touched every_entry names mentioned said starts names_it says accepts_it tells all_is holds touches_it ends =
+    ends ∙ (λ i. with_changes (touches_it i) (holds i)) ∙ (λ i. with_changes every (with_all a (all_is i) mentioned (tells i)))
+    ∙ (λ i. with_changes every (with_all a (every || (accepts_it i && whole)) mentioned (with_offer a (accepts_it i) (says i))))
+    ∙ (λ i. with_changes every (with_all a (every || (acc && whole)) mentioned (with_offer a acc (with_names (names_it i) said))))
+    ∙ (λ i. with_changes every (with_all a (every || (acc && whole)) mentioned (with_offer a acc (with_names (with_names (starts i) names) said))))
+
+-- the names of pairs that are made of some values
+pub firsts_of : {X : Type 0} (f g : X → List ℕ) (xs : List X) → map f xs ≡ map (λ (p : List ℕ × List ℕ). p.0) (map (λ x. (f x, g x)) xs)
+firsts_of f g [] = refl
+firsts_of f g (x ∷ xs) = ap (λ ns. f x ∷ ns) (firsts_of f g xs)

@@ -1,0 +1,116 @@
+-- What a server keeps of one type on one stream, with the list of what it may owe: when the list suffices, what it takes from a
+-- request, and what a session with such a list is. This project's own.
+use Rattle.std.specs.Prelude.{◌≡◌, ℕ, List, [], ◌∷◌, Bool, true, false, ◌&&◌, ◌||◌, not, if◌then◌else◌, None, IfSome, refl}
+use Rattle.std.specs.Option.{option_map_or}
+use Rattle.std.specs.FinMap as finmap
+use Rattle.std.specs.FinSet as set
+use Rattle.std.specs.Coded.{Coded, code_by, coded×}
+use Rattle.xds_resource.specs.declared.types.TypeName.{TypeName}
+use Rattle.xds_resource.specs.Writes.{text_cmp}
+use Rattle.xds_interest.specs.Interests.{Selection}
+use Rattle.xds_interest.specs.Asked.{IsStarOfComplete}
+use Rattle.xds_interest.specs.Touches.{Touch, touches}
+use Rattle.xds_catalogue.specs.Holdings.{Holdings}
+use Rattle.xds_owed.specs.declared.variant.VariantName.{VariantName}
+use Rattle.xds_owed.specs.Owed.{present}
+use Rattle.xds_owed.specs.Listed as lists
+use Rattle.xds_owed.specs.Listed.{Listed, listed_code, unlisted, is_listed, IsPast, IsWider}
+use Rattle.xds_ledger.specs.Ledgers.{Account, account_code, untold, answers}
+use Rattle.xds_ledger.specs.Sessions.{Session, session_code, unopened}
+
+-- an account, with the list of what may be owed
+pub record Books : Type 0 where
+  pub account : Account
+  pub listed : Listed
+
+abbrev pub books_code : Coded Books
+books_code = code_by (Account × Listed) (coded× account_code listed_code) (λ b. (b.account, b.listed)) (λ p. record { account = p.0; listed = p.1 }) (λ _. refl)
+
+-- before the first request
+abbrev pub new_books : Books
+new_books = record { account = untold; listed = unlisted }
+
+-- the list suffices for a client of this interest, at a catalogue of these holdings
+abbrev pub Fits : VariantName → TypeName → Selection → Holdings → Books → Type 0
+Fits v t s h b = lists.Fits v t s h b.account.beliefs b.listed
+
+-- once the changes above the mark were looked at
+abbrev pub refreshed : Holdings → Books → Books
+refreshed h b = record b { listed = lists.refreshed h b.listed }
+
+-- ---- requests
+
+-- whether a request with this nonce accepts the unanswered response
+abbrev pub accepts : Account → List ℕ → Bool → Bool
+accepts a nonce rejects = not rejects && answers a nonce
+
+-- From one interest to another: an untouched name whose latest change isn't above the mark stays present at its version, or absent.
+abbrev pub StaysPresent : Selection → Selection → Holdings → ℕ → Touch → Type 0
+StaysPresent old new h mark touched = (name : List ℕ) → touches touched name ≡ false → IsPast h mark name → present old h.entries name ≡ present new h.entries name
+
+-- What a request, and the response that it accepts, say nothing of: a name that isn't touched by itself, that isn't among the
+-- versions or in the accepted offer; and, where all that is believed may change, one that isn't believed held and isn't mentioned.
+pub record IsPassedOver (a : Account) (accepting whole : Bool) (touched : Touch) (mentioned : set.FinSet text_cmp) (versions : finmap.FinMap text_cmp (List ℕ)) (name : List ℕ) : Type 0 where
+  pub untouched : set.contains touched.names name ≡ false
+  pub unsaid : finmap.get versions name ≡ None
+  pub unoffered : accepting ≡ true → IfSome a.sent (λ sent. finmap.get sent.offer name ≡ None)
+  pub unbelieved : (touched.all || (accepting && whole)) ≡ true → finmap.get a.beliefs name ≡ None
+  pub unmentioned : (touched.all || (accepting && whole)) ≡ true → set.contains mentioned name ≡ false
+
+-- All of which a request may change what is owed is listed; where it touches every name, all changes are to be looked at again.
+pub record ListsRequest (a : Account) (accepting whole : Bool) (touched : Touch) (mentioned : set.FinSet text_cmp) (versions : finmap.FinMap text_cmp (List ℕ)) (l : Listed) : Type 0 where
+  pub mark : touched.all ≡ true → l.mark ≡ 0
+  pub others : (name : List ℕ) → is_listed l name ≡ false → IsPassedOver a accepting whole touched mentioned versions name
+
+-- What a request that is taken leaves: wherever the list sufficed, it suffices for each interest that leaves the untouched names alone.
+abbrev pub FitsNext : VariantName → TypeName → Touch → Books → Books → Type 0
+FitsNext v t touched old new = (s next : Selection) (h : Holdings) → Fits v t s h old → StaysPresent s next h old.listed.mark touched → Fits v t next h new
+
+-- ---- how the list is made
+
+-- with some names
+abbrev pub with_names : Listed → List (List ℕ) → Listed
+with_names l [] = l
+with_names l (n ∷ ns) = with_names (lists.with_name l n) ns
+
+-- with the names of the unanswered response, where it is accepted
+abbrev pub with_offer : Account → Bool → Listed → Listed
+with_offer a accepting l = if accepting then option_map_or (λ sent. with_names l (finmap.keys sent.offer)) a.sent l else l
+
+-- with the names that are believed held and those that a request mentions, where these may all change
+abbrev pub with_all : Account → Bool → List (List ℕ) → Listed → Listed
+with_all a all mentioned l = if all then with_names (with_names l (finmap.keys a.beliefs)) mentioned else l
+
+-- with every change to be looked at again, where every name is touched
+abbrev pub with_changes : Bool → Listed → Listed
+with_changes all l = if all then lists.without_mark l else l
+
+-- with all of which a request may change what is owed
+abbrev pub listed_after : Account → Bool → Bool → Bool → List (List ℕ) → List (List ℕ) → List (List ℕ) → Listed → Listed
+listed_after a accepting whole all touched mentioned said l =
+    with_changes all (with_all a (all || (accepting && whole)) mentioned (with_offer a accepting (with_names (with_names l touched) said)))
+
+-- ---- sessions
+
+-- a session, with the list of what may be owed
+pub record Kept : Type 0 where
+  pub session : Session
+  pub listed : Listed
+
+abbrev pub kept_code : Coded Kept
+kept_code = code_by (Session × Listed) (coded× session_code listed_code) (λ k. (k.session, k.listed)) (λ p. record { session = p.0; listed = p.1 }) (λ _. refl)
+
+-- before the first request, of a client with this cluster text
+abbrev pub new_kept : List ℕ → Kept
+new_kept cluster = record { session = unopened cluster; listed = unlisted }
+
+-- The list of a session suffices, at a catalogue of these holdings. Before its first request every change is still to be looked
+-- at, and the star is asked for of a complete type alone.
+pub record SessionFits (v : VariantName) (t : TypeName) (h : Holdings) (k : Kept) : Type 0 where
+  pub list : lists.Fits v t k.session.asked.interest h k.session.account.beliefs k.listed
+  pub unbegun : k.session.asked.begun ≡ false → k.listed.mark ≡ 0
+  pub star : IsStarOfComplete t k.session.asked
+
+-- wherever the list of a session sufficed, it suffices
+abbrev pub StaysFit : VariantName → TypeName → Kept → Kept → Type 0
+StaysFit v t old new = (h : Holdings) → SessionFits v t h old → SessionFits v t h new

@@ -1,0 +1,150 @@
+// What a request puts into a ledger's list: all names of which it may change what is owed. The list is made anew, so that a
+// refusal leaves what was.
+ghost use Rattle.std.specs.Prelude.{◌≡◌, ◌&&◌, ◌||◌, ℕ, List, map, string_bytes, if◌then◌else◌, IfOk, IfErr};
+ghost use Rattle.std.specs.FinMap as finmap;
+ghost use Rattle.std.specs.FinSet as set;
+ghost use Rattle.xds_resource.specs.declared.refusal.Refusal.TheVariants.{OutOfMemory};
+ghost use Rattle.xds_owed.specs.Listed.{without_mark};
+ghost use Rattle.xds_owed.specs.Variants.{is_whole};
+ghost use Rattle.xds_ledger.specs.Lists.{accepts, with_names, with_offer, with_all, listed_after};
+
+use crate::ledger::Ledger;
+use std::alloc::Global;
+use std::collections::btree_set::Iter;
+use xds_interest::Touched;
+use xds_owed::{Beliefs, Due, Listed, Variant};
+use xds_resource::{NameMap, Refusal, ResourceType};
+
+// With some names.
+fn list_names(alloc: Global, listed: Listed, names: Iter<'_, String>) -> Result<Listed, Refusal>
+    ensures ok { IfOk result (λ l. l ≡ with_names listed (map string_bytes names.entry)) }
+    ensures refused { IfErr result (λ e. e ≡ OutOfMemory) }
+{
+    let mut all = listed;
+    for name in names {
+        all.put(alloc, name)?;
+    }
+    Ok(all)
+}
+
+// With the names of which a client says that it holds a version.
+fn list_versions(
+    alloc: Global,
+    listed: Listed,
+    versions: &[(&str, &str)],
+) -> Result<Listed, Refusal>
+    ensures ok { IfOk result (λ l. l ≡ with_names listed (map (λ p. p.0.now) versions.now)) }
+    ensures refused { IfErr result (λ e. e ≡ OutOfMemory) }
+{
+    let mut all = listed;
+    for (name, _version) in versions {
+        all.put(alloc, name)?;
+    }
+    Ok(all)
+}
+
+// With the names of which an offer speaks.
+fn list_offer(alloc: Global, listed: Listed, offer: &NameMap<Due>) -> Result<Listed, Refusal>
+    ensures ok { IfOk result (λ l. l ≡ with_names listed (finmap.keys offer.now)) }
+    ensures refused { IfErr result (λ e. e ≡ OutOfMemory) }
+{
+    let mut all = listed;
+    for (name, _due) in offer.iter() {
+        all.put(alloc, name)?;
+    }
+    Ok(all)
+}
+
+// With the names of which something is believed.
+fn list_believed(alloc: Global, listed: Listed, beliefs: &Beliefs) -> Result<Listed, Refusal>
+    ensures ok { IfOk result (λ l. l ≡ with_names listed (finmap.keys beliefs.now)) }
+    ensures refused { IfErr result (λ e. e ≡ OutOfMemory) }
+{
+    let mut all = listed;
+    for (name, _entry) in beliefs.iter() {
+        all.put(alloc, name)?;
+    }
+    Ok(all)
+}
+
+// With every change to be looked at again, where every name is touched.
+fn list_changes(listed: Listed, all: bool) -> Listed
+    ensures { result ≡ (if all then without_mark listed else listed) }
+{
+    let mut next = listed;
+    if all {
+        next.forget_mark();
+    }
+    next
+}
+
+impl<T: ResourceType, V: Variant> Ledger<T, V> {
+    // The list once this request, which answers a response or doesn't, is taken.
+    pub(crate) fn listed_after(
+        &self,
+        alloc: Global,
+        nonce: &str,
+        rejects: bool,
+        touched: &Touched,
+        mentioned: Iter<'_, String>,
+        versions: &[(&str, &str)],
+    ) -> Result<Listed, Refusal>
+        ensures ok { IfOk result (λ l. (names : List (List ℕ)) × (set.from_list names ≡ touched.now.names) × (l ≡ listed_after self.now.account (accepts self.now.account nonce.now rejects) (is_whole V.NAME T.TYPE) touched.now.all names (map string_bytes mentioned.entry) (map (λ p. p.0.now) versions.now) self.now.listed)) }
+        ensures refused { IfErr result (λ e. e ≡ OutOfMemory) }
+    {
+        let accepts = self.accepts(nonce, rejects);
+        let all = Ledger::<T, V>::changes_all(touched, accepts);
+        let start = self.listed.try_copy(alloc)?;
+        let named = list_names(alloc, start, touched.names())?;
+        let said = list_versions(alloc, named, versions)?;
+        let told = self.list_sent(alloc, accepts, said)?;
+        let held = self.list_all(alloc, all, told, mentioned)?;
+        Ok(list_changes(held, touched.all()))
+    }
+
+    // Whether a request with this nonce accepts the unanswered response.
+    fn accepts(&self, nonce: &str, rejects: bool) -> bool
+        ensures { result ≡ accepts self.now.account nonce.now rejects }
+    {
+        !rejects && self.answers(nonce)
+    }
+
+    // Whether all that is believed may change.
+    fn changes_all(touched: &Touched, accepts: bool) -> bool
+        ensures { result ≡ (touched.now.all || (accepts && is_whole V.NAME T.TYPE)) }
+    {
+        touched.all() || (accepts && V::NAME.is_whole(T::TYPE))
+    }
+
+    // With the names of the unanswered response, where it is accepted.
+    fn list_sent(&self, alloc: Global, accepts: bool, listed: Listed) -> Result<Listed, Refusal>
+        ensures ok { IfOk result (λ l. l ≡ with_offer self.now.account accepts listed) }
+        ensures refused { IfErr result (λ e. e ≡ OutOfMemory) }
+    {
+        if !accepts {
+            return Ok(listed);
+        }
+        match self.account.sent() {
+            Some(sent) => list_offer(alloc, listed, &sent.offer),
+            None => Ok(listed),
+        }
+    }
+
+    // With the names of which something is believed, and those that a request mentions, where these may all change.
+    fn list_all(
+        &self,
+        alloc: Global,
+        all: bool,
+        listed: Listed,
+        mentioned: Iter<'_, String>,
+    ) -> Result<Listed, Refusal>
+        ensures ok { IfOk result (λ l. l ≡ with_all self.now.account all (map string_bytes mentioned.entry) listed) }
+        ensures refused { IfErr result (λ e. e ≡ OutOfMemory) }
+    {
+        if !all {
+            return Ok(listed);
+        }
+        let held = list_believed(alloc, listed, self.account.beliefs())?;
+        list_names(alloc, held, mentioned)
+    }
+}

@@ -1,0 +1,16 @@
+use Rattle.std.proofs.Common.{subst}
+use Rattle.std.proofs.lemmas.Result.{IfOk-weaker, IfErr-weaker}
+use Rattle.xds_program.specs.Faults.{IsAnswer, IsFault}
+use Rattle.xds_program.proofs.Reading.{no_memory_at}
+use Rattle.xds_program.proofs.answer.answer_input.Goals as goal
+
+pub answer_gathered-requires : goal.answer_gathered-requires
+answer_gathered-requires c = c.in-Ok.ensures.named
+
+pub returns-in-Ok-clause-answered : goal.returns-in-Ok-clause-answered
+returns-in-Ok-clause-answered c =
+    IfOk-weaker c.answer_gathered.result _ _ (λ output told. subst (λ bytes. IsAnswer c.args.replica bytes output.items) c.as_slice.ensures.value (c.in-Ok.ensures.answers c.args.replica output.items told)) c.answer_gathered.ensures.answered
+
+pub returns-in-Ok-clause-refused : goal.returns-in-Ok-clause-refused
+returns-in-Ok-clause-refused c =
+    IfErr-weaker c.answer_gathered.result _ _ (λ fault h. subst (λ bytes. IsFault bytes fault.line fault.refusal) c.as_slice.ensures.value (no_memory_at c.as_slice.result.now c.in-Ok.gathered.line fault.line fault.refusal c.in-Ok.ensures.fails h.0 h.1)) c.answer_gathered.ensures.refused
