@@ -2,12 +2,12 @@
 use Rattle.std.proofs.Common.{◌≡◌, ℕ, zero, suc, ◌+◌, ◌<◌, ◌≤◌, List, [], ◌∷◌, ◌++◌, length, drop, get_or, map, Bool, true, false, ◌&&◌, Option, Some, None, Ordering, Less, Equal, Greater, is_lt, refl, sym, ap, ◌∙◌, append_assoc, arith}
 use Rattle.std.specs.Prelude.{T}
 use Rattle.std.specs.Ordering.{match_ordering}
-use Rattle.serde_json.specs.Data.{Data, Members, member, put}
+use Rattle.serde_json.specs.Data.{Data, string, array, Members, member, put}
 use Rattle.serde_json.specs.View.{items_of}
 use Rattle.serde_json.specs.Written.{compact_text, items_text, members_text, comma_if}
 use Rattle.xds_resource.specs.Writes.{text_cmp}
-use Rattle.xds_message.specs.Written.{Fields, put_set, members_set, object_set}
-use Rattle.xds_draft.specs.Joined.{with_first, members_in_order, text_with}
+use Rattle.xds_message.specs.Written.{Fields, list_data, put_set, members_set, object_set}
+use Rattle.xds_draft.specs.Joined.{JoinsMember, with_first, members_in_order, text_with, behind_commas, with_commas}
 
 -- ---- fields in the order of their names
 
@@ -88,3 +88,47 @@ pub object_joined : (old opened last closed : List ℕ) (later : Bool) (fs : Fie
 object_joined old opened last closed later fs begins members ends rising =
     ends ∙ members ∙ ap (λ s. s ++ members_text false (members_in_order fs)) begins ∙ append_assoc old (123 ∷ []) (members_text false (members_in_order fs))
     ∙ ap (λ ms. old ++ 123 ∷ members_text false ms) (sym (members_set-ascending fs rising))
+
+-- ---- items that stand between two texts
+
+behind_joined : {A : Type 0} (json : A → Data) (xs : List A) → items_text true (items_of (map json xs)) ≡ behind_commas (map (λ x. compact_text (json x)) xs) ++ 93 ∷ []
+behind_joined json [] = refl
+behind_joined json (x ∷ xs) =
+    ap (λ (rest : List ℕ). 44 ∷ compact_text (json x) ++ rest) (behind_joined json xs)
+    ∙ ap (λ (rest : List ℕ). 44 ∷ rest) (sym (append_assoc (compact_text (json x)) (behind_commas (map (λ x. compact_text (json x)) xs)) (93 ∷ [])))
+
+between_joined : {A : Type 0} (json : A → Data) (x : A) (xs : List A) → items_text false (items_of (map json (x ∷ xs))) ≡ with_commas (map (λ x. compact_text (json x)) (x ∷ xs)) ++ 93 ∷ []
+between_joined json x xs =
+    ap (λ (rest : List ℕ). compact_text (json x) ++ rest) (behind_joined json xs)
+    ∙ sym (append_assoc (compact_text (json x)) (behind_commas (map (λ x. compact_text (json x)) xs)) (93 ∷ []))
+
+list_around : (old comma key items rest : List ℕ) → (((old ++ (comma ++ (key ++ 58 ∷ []))) ++ 91 ∷ []) ++ (items ++ 93 ∷ [])) ++ rest ≡ old ++ (comma ++ (key ++ 58 ∷ ((91 ∷ (items ++ 93 ∷ [])) ++ rest)))
+list_around old comma key items rest = simp append_assoc
+
+-- a list, but for its items, is put around them
+pub list_joined_around : {A : Type 0} (json : A → Data) (xs : List A) (old keyed head before tail : List ℕ) (later : Bool) (key : List ℕ) → 0 < length xs → before ≡ []
+    → keyed ≡ old ++ (comma_if later ++ (compact_text (string key) ++ 58 ∷ [])) → head ≡ keyed ++ 91 ∷ [] → tail ≡ before ++ 93 ∷ []
+    → JoinsMember old later (key, list_data (map json xs)) (head ++ (with_commas (map (λ x. compact_text (json x)) xs) ++ tail)) true
+list_joined_around json [] old keyed head before tail later key some empty with_key opened closed fs = absurd (omega (arith, some))
+list_joined_around json (x ∷ xs) old keyed head before tail later key some empty with_key opened closed fs =
+    let items = with_commas (map (λ x. compact_text (json x)) (x ∷ xs)) in
+    let rest = members_text true (members_in_order fs) in
+    let head_is : head ≡ (old ++ (comma_if later ++ (compact_text (string key) ++ 58 ∷ []))) ++ 91 ∷ [] = opened ∙ ap (λ (t : List ℕ). t ++ 91 ∷ []) with_key in
+    let tail_is : tail ≡ 93 ∷ [] = closed ∙ ap (λ (t : List ℕ). t ++ 93 ∷ []) empty in
+    ap (λ (h : List ℕ). (h ++ (items ++ tail)) ++ rest) head_is
+    ∙ ap (λ (t : List ℕ). (((old ++ (comma_if later ++ (compact_text (string key) ++ 58 ∷ []))) ++ 91 ∷ []) ++ (items ++ t)) ++ rest) tail_is
+    ∙ list_around old (comma_if later) (compact_text (string key)) items rest
+    ∙ ap (λ (is : List ℕ). old ++ (comma_if later ++ (compact_text (string key) ++ 58 ∷ ((91 ∷ is) ++ rest)))) (sym (between_joined json x xs))
+
+behind_two : (p q text rest : List ℕ) → (p ++ (q ++ text)) ++ rest ≡ p ++ (q ++ (text ++ rest))
+behind_two p q text rest = simp append_assoc
+
+-- a member that joins a text joins one behind others
+pub joined_behind : (p q old new : List ℕ) (later : Bool) (f : List ℕ × Option Data) (then : Bool) → JoinsMember old later f new then → JoinsMember (p ++ (q ++ old)) later f (p ++ (q ++ new)) then
+joined_behind p q old new later f then joins fs =
+    behind_two p q new (members_text then (members_in_order fs))
+    ∙ ap (λ (t : List ℕ). p ++ (q ++ t)) (joins fs)
+    ∙ sym (behind_two p q old (members_text later (members_in_order (f ∷ fs))))
+
+pub closed_behind : (p q last closed : List ℕ) → closed ≡ last ++ 125 ∷ [] → p ++ (q ++ closed) ≡ (p ++ (q ++ last)) ++ 125 ∷ []
+closed_behind p q last closed ends = ap (λ (t : List ℕ). p ++ (q ++ t)) ends ∙ sym (behind_two p q last (125 ∷ []))

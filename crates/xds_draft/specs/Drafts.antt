@@ -19,6 +19,10 @@ pub record IsBodyText (body : List ℕ) : Type 0 where
   pub shallow : depth (value_of body) ≤ max_nesting
   pub is_object : IsObject (value_of body)
 
+-- the compact text of the object that a stored text says: the same text again
+abbrev pub body_text : List ℕ → List ℕ
+body_text body = compact_text (value_of body)
+
 -- a DiscoveryResponse before it is written
 pub record Drafted : Type 0 where
   pub kind : TypeName

@@ -20,3 +20,13 @@ text_with text later fs = text ++ members_text later (members_in_order fs)
 -- What is left to be written after a member was, whatever follows.
 abbrev pub JoinsMember : List ℕ → Bool → List ℕ × Option Data → List ℕ → Bool → Type 0
 JoinsMember old old_later f new new_later = (fs : Fields) → text_with new new_later fs ≡ text_with old old_later (f ∷ fs)
+
+-- texts that stand behind others, each with a comma before it
+abbrev pub behind_commas : List (List ℕ) → List ℕ
+behind_commas [] = []
+behind_commas (text ∷ texts) = 44 ∷ text ++ behind_commas texts
+
+-- texts with commas between them
+abbrev pub with_commas : List (List ℕ) → List ℕ
+with_commas [] = []
+with_commas (text ∷ texts) = text ++ behind_commas texts

@@ -4,7 +4,7 @@ ghost use Rattle.std.specs.Arc.{arc_str_bytes};
 ghost use Rattle.serde_json.specs.View.{view};
 ghost use Rattle.xds_resource.specs.Resources.{value_of};
 ghost use Rattle.xds_resource.specs.declared.refusal.Refusal.TheVariants.{OutOfMemory};
-ghost use Rattle.xds_draft.specs.Drafts.{IsBodyText};
+ghost use Rattle.xds_draft.specs.Drafts.{IsBodyText, body_text};
 
 use crate::joining::Join;
 use serde_json::Value;
@@ -15,7 +15,7 @@ use xds_resource::Refusal;
 
 /// The compact text of a resource's object, shared with the write that it stands in.
 #[derive(Drop)]
-pub(crate) struct Body {
+pub struct Body {
     text: ArcStr<Global>,
 }
 
@@ -49,6 +49,14 @@ impl Body {
         ensures { result ≡ arc_str_bytes text }
     {
         Body { text }
+    }
+
+    /// The text.
+    pub fn text(&self) -> &str
+        ensures now { result.now ≡ self.now }
+        ensures compact { result.now ≡ body_text self.now }
+    {
+        self.text.as_str()
     }
 
     /// The same text with one owner more: no bytes are copied.

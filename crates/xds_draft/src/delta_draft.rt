@@ -1,5 +1,5 @@
 // Responses of the incremental variant before they are written.
-ghost use Rattle.std.specs.Prelude.{◌≡◌, [], map, string_bytes, IfOk, IfErr, OnOk, OnErr, All};
+ghost use Rattle.std.specs.Prelude.{◌≡◌, [], length, map, string_bytes, IfOk, IfErr, OnOk, OnErr, All};
 ghost use Rattle.serde_json.specs.Written.{compact_text};
 ghost use Rattle.xds_resource.specs.declared.refusal.Refusal.TheVariants.{OutOfMemory};
 ghost use Rattle.xds_message.specs.DeltaWritten.{resource_object, delta_response_object};
@@ -133,6 +133,20 @@ impl DeltaDraft {
         ensures { result.now ≡ self.now.nonce }
     {
         self.nonce.as_str()
+    }
+
+    /// How many resources it states.
+    pub fn stated(&self) -> usize
+        ensures { result ≡ length self.now.resources }
+    {
+        self.resources.len()
+    }
+
+    /// The names that the client is to drop.
+    pub fn removed(&self) -> &[String]
+        ensures { map string_bytes result.now ≡ self.now.removed_resources }
+    {
+        self.removed.as_slice()
     }
 
     /// Adds the resource that a write puts, under its name and with its version, behind the others. A deletion adds

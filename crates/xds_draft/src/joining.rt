@@ -5,7 +5,7 @@ ghost use Rattle.serde_json.specs.View.{items_of};
 ghost use Rattle.serde_json.specs.Written.{compact_text, comma_if};
 ghost use Rattle.xds_resource.specs.declared.refusal.Refusal.TheVariants.{OutOfMemory};
 ghost use Rattle.xds_message.specs.Written.{text_data, list_data};
-ghost use Rattle.xds_draft.specs.Joined.{JoinsMember};
+ghost use Rattle.xds_draft.specs.Joined.{JoinsMember, with_commas};
 
 use serde_json::Value;
 use std::alloc::Global;
@@ -121,6 +121,31 @@ pub(crate) fn join_list<I: Join>(
     out.reserve(room_for(items))?;
     join_key(alloc, out, later, key)?;
     join_items(alloc, out, items)?;
+    Ok(true)
+}
+
+/// Appends a member that is a list, unless the list is empty, but for the items, which stand between the two texts with
+/// commas between them; and answers whether a member stands there.
+pub(crate) fn join_list_ends<I: Join>(
+    alloc: Global,
+    head: &mut String,
+    tail: &mut String,
+    later: bool,
+    key: &str,
+    items: &Vec<I>,
+) -> Result<bool, Refusal>
+    requires { string_bytes tail.old ≡ [] }
+    ensures ok { IfOk result
+        (λ l. JoinsMember (string_bytes head.old) later (key.now, list_data (map I.json items.now.items))
+        (string_bytes head.new ++ (with_commas (map (λ x. compact_text (I.json x)) items.now.items) ++ string_bytes tail.new)) l) }
+    ensures refused { IfErr result (λ e. e ≡ OutOfMemory) }
+{
+    if items.is_empty() {
+        return Ok(later);
+    }
+    join_key(alloc, head, later, key)?;
+    head.push_str("[")?;
+    tail.push_str("]")?;
     Ok(true)
 }
 

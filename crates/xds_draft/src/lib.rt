@@ -7,6 +7,7 @@ pub mod draft;
 mod joining;
 pub mod sotw_draft;
 
+pub use body::Body;
 pub use delta_draft::DeltaDraft;
 pub use draft::{Draft, Response};
-pub use sotw_draft::SotwDraft;
+pub use sotw_draft::{Ends, SotwDraft};

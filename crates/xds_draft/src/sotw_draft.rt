@@ -1,15 +1,16 @@
 // State-of-the-world responses before they are written.
-ghost use Rattle.std.specs.Prelude.{◌≡◌, [], map, string_bytes, IfOk, IfErr, OnOk, OnErr, All};
+ghost use Rattle.std.specs.Prelude.{◌≡◌, [], ◌++◌, map, string_bytes, IfOk, IfErr, OnOk, OnErr, All};
 ghost use Rattle.serde_json.specs.View.{view};
 ghost use Rattle.serde_json.specs.Written.{compact_text};
 ghost use Rattle.xds_resource.specs.Resources.{value_of};
 ghost use Rattle.xds_resource.specs.declared.refusal.Refusal.TheVariants.{OutOfMemory};
-ghost use Rattle.xds_draft.specs.Drafts.{message_of, with_body, IsBodyText, IsSoundResponse};
+ghost use Rattle.xds_draft.specs.Drafts.{message_of, with_body, body_text, IsBodyText, IsSoundResponse};
+ghost use Rattle.xds_draft.specs.Joined.{with_commas};
 ghost use Rattle.xds_message.specs.Responses.{response_of};
 ghost use Rattle.xds_message.specs.Written.{response_object};
 
 use crate::body::Body;
-use crate::joining::{join_list, join_text};
+use crate::joining::{join_list, join_list_ends, join_text};
 use serde_json::Value;
 use std::alloc::Global;
 use std::marker::Model;
@@ -23,6 +24,13 @@ pub struct SotwDraft {
     version: String,
     nonce: String,
     bodies: Vec<Body>,
+}
+
+/// The text of a response but for its resources: what stands before them, and what stands behind them.
+#[derive(Drop)]
+pub struct Ends {
+    pub head: String,
+    pub tail: String,
 }
 
 impl Model for SotwDraft {
@@ -109,6 +117,43 @@ impl SotwDraft {
         join_text(alloc, &mut out, later, "versionInfo", self.version.as_str())?;
         out.push_str("}")?;
         Ok(out)
+    }
+
+    /// The same text but for the bodies, which stand between its ends with commas between them. So it can be written with
+    /// no copy of a body, and with no memory once this is made.
+    pub fn ends(&self, alloc: Global) -> Result<Ends, Refusal>
+        ensures text { IfOk result (λ e. string_bytes e.head ++ (with_commas (map body_text self.now.bodies) ++ string_bytes e.tail)
+            ≡ compact_text (response_object (message_of self.now))) }
+        ensures refused { IfErr result (λ e. e ≡ OutOfMemory) }
+    {
+        let mut head = String::from_str(alloc, "{")?;
+        let mut tail = String::new(alloc);
+        let later = join_text(alloc, &mut head, false, "nonce", self.nonce.as_str())?;
+        let later = join_list_ends(
+            alloc,
+            &mut head,
+            &mut tail,
+            later,
+            "resources",
+            &self.bodies,
+        )?;
+        let later = join_text(alloc, &mut tail, later, "typeUrl", self.kind.url())?;
+        join_text(
+            alloc,
+            &mut tail,
+            later,
+            "versionInfo",
+            self.version.as_str(),
+        )?;
+        tail.push_str("}")?;
+        Ok(Ends { head, tail })
+    }
+
+    /// The stored texts of the resources.
+    pub fn bodies(&self) -> &[Body]
+        ensures { result.now ≡ self.now.bodies }
+    {
+        self.bodies.as_slice()
     }
 
     /// An equal draft. No body is copied.

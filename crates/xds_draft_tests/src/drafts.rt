@@ -50,15 +50,31 @@ fn push(alloc: Global, draft: &mut SotwDraft, stamp: Stamp) -> Result<(), Refusa
     pushed
 }
 
-// What an empty draft is written as, its type and version, and what a copy of it shows once a cluster stands in it twice.
+// The ends of a draft's text, with its bodies and commas between them.
+fn put_together(alloc: Global, draft: &SotwDraft) -> Result<String, Refusal> {
+    let ends = draft.ends(alloc)?;
+    let mut text = ends.head;
+    for (index, body) in draft.bodies().iter().enumerate() {
+        if index > 0 {
+            text.push_str(",")?;
+        }
+        text.push_str(body.text())?;
+    }
+    text.push_str(ends.tail.as_str())?;
+    Ok(text)
+}
+
+// What an empty draft is put together as, its type and version, and what it is put together as, and what a copy of it shows, once a
+// cluster stands in it twice.
 fn filled(alloc: Global, draft: &mut SotwDraft) -> Result<String, Refusal> {
-    let empty = draft.write(alloc)?;
+    let empty = put_together(alloc, draft)?;
     push(alloc, draft, Stamp::new(1, 1))?;
     push(alloc, draft, Stamp::new(2, 1))?;
+    let together = put_together(alloc, draft)?;
     let copy = draft.try_copy(alloc)?;
     let shown = copy_shown(alloc, Draft::Sotw(copy))?;
     let (word, version) = (draft.kind().word(), draft.version());
-    Ok(format!(in alloc; "{empty} {word} {version} {shown}")?)
+    Ok(format!(in alloc; "{empty} {word} {version} {together} {shown}")?)
 }
 
 #[test]
@@ -75,7 +91,7 @@ fn state_of_the_world_drafts_are_joined(rt: HostRuntime) -> Result<(), Fail> {
     )?;
     let empty =
         "{\"nonce\":\"1\",\"typeUrl\":\"type.googleapis.com/envoy.config.cluster.v3.Cluster\",\"versionInfo\":\"1.2\"}";
-    let all = format!(in alloc; "{empty} cluster 1.2 cluster 1 {want} {want}")?;
+    let all = format!(in alloc; "{empty} cluster 1.2 {want} cluster 1 {want} {want}")?;
     assert_eq!(rt; told.as_str(), all.as_str());
     Ok(())
 }
@@ -91,7 +107,7 @@ fn push_both(alloc: Global, draft: &mut DeltaDraft) -> Result<(), Refusal> {
     pushed
 }
 
-// The version and the nonce of a draft, and what a copy of it shows once it has a cluster, a deletion, which adds nothing, and two
+// The version and the nonce of a draft, how many it states and removes, and what a copy of it shows once it has a cluster, a deletion, which adds nothing, and two
 // removals.
 fn delta_filled(alloc: Global, draft: &mut DeltaDraft) -> Result<String, Refusal> {
     push_both(alloc, draft)?;
@@ -100,7 +116,8 @@ fn delta_filled(alloc: Global, draft: &mut DeltaDraft) -> Result<String, Refusal
     let copy = draft.try_copy(alloc)?;
     let shown = copy_shown(alloc, Draft::Delta(copy))?;
     let (version, nonce) = (draft.version(), draft.nonce());
-    Ok(format!(in alloc; "{version} {nonce} {shown}")?)
+    let (stated, removed) = (draft.stated(), draft.removed().len());
+    Ok(format!(in alloc; "{version} {nonce} {stated} {removed} {shown}")?)
 }
 
 #[test]
@@ -115,7 +132,7 @@ fn delta_drafts_are_joined(rt: HostRuntime) -> Result<(), Fail> {
     let want = format!(in alloc;
         "{{\"nonce\":\"1\",\"removedResources\":[\"r\\t\u{1f600}\",\"s\"],\"resources\":[{{\"name\":\"q\\\"\\\\\\u0001é\",\"resource\":{BODY},\"version\":\"2-1\"}}],\"systemVersionInfo\":\"1.2\",\"typeUrl\":\"type.googleapis.com/envoy.config.cluster.v3.Cluster\"}}"
     )?;
-    let all = format!(in alloc; "1.2 1 cluster 1 {want} {want}")?;
+    let all = format!(in alloc; "1.2 1 1 2 cluster 1 {want} {want}")?;
     assert_eq!(rt; told.as_str(), all.as_str());
     Ok(())
 }

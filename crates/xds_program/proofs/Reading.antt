@@ -1,8 +1,11 @@
 -- How far an input was read: the lines so far are writes, and the catalogues hold what those writes leave.
-use Rattle.std.proofs.Common.{◌≡◌, ◌<◌, ◌≤◌, ◌+◌, ◌-◌, inl, inr, ℕ, List, [], ◌∷◌, ◌++◌, length, take, Bool, true, false, cond, refl, ap, sym, ◌∙◌, subst, arith, append_assoc, append-nil, length-append, length-take}
+use Rattle.std.proofs.Common.{◌≡◌, ◌<◌, ◌≤◌, ◌+◌, ◌-◌, inl, inr, ℕ, List, [], ◌∷◌, ◌++◌, length, take, drop, take-append-drop, Bool, true, false, cond, refl, ap, sym, ◌∙◌, subst, arith, append_assoc, append-nil, length-append, length-take, length-drop}
 use Rattle.std.specs.Prelude.{map, slice_index, ◌==◌}
 use Rattle.std.proofs.lemmas.List.{map-append}
-use Rattle.std.proofs.lemmas.List.Splits.{length-slice_split}
+use Rattle.std.proofs.lemmas.List.Splits.{length-slice_split, join_with_byte-slice_split}
+use Rattle.std.proofs.Math.Seq.{drop-append_seam, take-append_seam}
+use Rattle.std.proofs.lemmas.List.{take_all}
+use Rattle.std.specs.List.{join_with_byte}
 use Rattle.std.proofs.lemmas.List.Elements.{filter-append}
 use Rattle.std.specs.List.{filter}
 use Rattle.std.specs.FinMap as finmap
@@ -12,17 +15,18 @@ use Rattle.xds_resource.specs.declared.refusal.Refusal.TheVariants.{OutOfMemory}
 use Rattle.xds_resource.specs.Types.{is_same_type}
 use Rattle.xds_resource.specs.Writes.{StampedWrite}
 use Rattle.xds_resource.specs.TypedWrites.{TypedWrite, writes_of}
-use Rattle.xds_resource.specs.PerType.{PerType, at, with_at}
-use Rattle.xds_resource.proofs.TypesApart.{same_type, at-with_at, at-with_at_other}
+use Rattle.xds_resource.specs.PerType.{PerType, at, with_at, each}
+use Rattle.xds_resource.proofs.TypesApart.{same_type, at-with_at, at-with_at_other, at-each}
 use Rattle.xds_catalogue.specs.Holdings.{Holdings, nothing_held, IsCatalogue}
 use Rattle.xds_catalogue.specs.Joins.{joined}
 use Rattle.xds_catalogue.proofs.Catalogues.{catalogue_of-IsCatalogue}
 use Rattle.xds_catalogue.proofs.Joining.{joined_again}
 use Rattle.xds_catalogue.proofs.OneWrite.{joined-nothing}
 use Rattle.xds_message.specs.Messages.{Request}
-use Rattle.xds_script.specs.Lines.{feed, lines, pieces, without_last_feed}
+use Rattle.xds_script.specs.Lines.{feed, pieces, without_last_feed}
 use Rattle.xds_program.specs.Answers.{held_of, response_by, answer_text}
 use Rattle.xds_program.specs.Faults.{IsWriteLine, IsRequestLine, AreWriteLines, RefusesWrite, RefusesRequest, IsAnswer, IsFault}
+use Rattle.xds_program.specs.Gathered.{IsReadTo, IsGathered, WhereReadTo}
 use Rattle.xds_program.proofs.Responding.{response_by-same}
 
 -- ---- lists that grow by one
@@ -65,15 +69,6 @@ held_of-push p xs x agree t =
     ]
 
 -- ---- how far an input was read
-
-pub record IsReadTo (input rest : List ℕ) (line : ℕ) (held : TypeName → Holdings) : Type 0 where
-  pub before : List (List ℕ)
-  pub writes : List TypedWrite
-  pub lines_are : lines input ≡ before ++ pieces feed rest
-  pub writes_are : AreWriteLines before writes
-  pub held_are : (t : TypeName) → held t ≡ held_of writes t
-  pub number_is : line ≡ length before + 1
-  pub short : length before + length rest ≤ length input
 
 shorter_if : (b : Bool) (n : ℕ) (bs : List ℕ) → length (cond b (take n bs) bs) ≤ length bs
 shorter_if true n bs = omega (arith, length-take n bs)
@@ -157,6 +152,74 @@ read_bad_request input rest line p e r last refused = record {
   writes_are = r.writes_are;
   refused = refused;
 }
+
+-- ---- lines that are taken from what is left
+
+-- what follows the first line stands behind it and its line feed
+line_cut : (left next bytes : List ℕ) → pieces feed left ≡ bytes ∷ pieces feed next → left ≡ (bytes ++ feed ∷ []) ++ next
+line_cut left next bytes split =
+    let more = pieces-cons next in
+    sym (join_with_byte-slice_split feed left)
+    ∙ ap (join_with_byte feed) (split ∙ ap (λ (ps : List (List ℕ)). bytes ∷ ps) more.2)
+    ∙ ap (λ (l : List ℕ). bytes ++ feed ∷ l) (ap (join_with_byte feed) (sym more.2) ∙ join_with_byte-slice_split feed next)
+    ∙ sym (append_assoc bytes (feed ∷ []) next)
+
+-- some lines were taken from the front of what was left
+pub record AreTaken (rest left : List ℕ) (first line : ℕ) (before held : PerType Holdings) : Type 0 where
+  pub front : List ℕ
+  pub rest_is : rest ≡ front ++ left
+  pub fewer : line + length left ≤ first + length rest
+  pub goes_on : WhereReadTo rest first (at before) (λ input. IsReadTo input left line (at held))
+
+pub taken_none : (rest : List ℕ) (line : ℕ) (p : PerType Holdings) → AreTaken rest rest line line p p
+taken_none rest line p = record { front = []; rest_is = refl; fewer = omega arith; goes_on = λ input r. r }
+
+pub taken_more : (rest left next bytes : List ℕ) (first line : ℕ) (before held after : PerType Holdings) (x : TypedWrite) → AreTaken rest left first line before held
+    → pieces feed left ≡ bytes ∷ pieces feed next → length next < length left → IsWriteLine bytes x → after ≡ with_at held x.0 (joined (at held x.0) (x.1 ∷ []))
+    → AreTaken rest next first (line + 1) before after
+taken_more rest left next bytes first line before held after x t split shorter is leaves = record {
+  front = t.front ++ (bytes ++ feed ∷ []);
+  rest_is = t.rest_is ∙ ap (λ (l : List ℕ). t.front ++ l) (line_cut left next bytes split) ∙ sym (append_assoc t.front (bytes ++ feed ∷ []) next);
+  fewer = omega (arith, t.fewer, shorter);
+  goes_on = λ input r.
+      subst (λ (p : PerType Holdings). IsReadTo input next (line + 1) (at p)) (sym leaves) (read_more input left next bytes line held x (t.goes_on input r) split shorter is);
+}
+
+pub taken_bounded : (rest left : List ℕ) (first line : ℕ) (before held : PerType Holdings) → AreTaken rest left first line before held → length left ≤ length rest
+taken_bounded rest left first line before held t = omega (arith, ap (λ (l : List ℕ). length l) t.rest_is, length-append t.front left)
+
+-- so many bytes were taken
+pub taken_left : (rest left : List ℕ) (first line : ℕ) (before held : PerType Holdings) → AreTaken rest left first line before held → drop (length rest - length left) rest ≡ left
+taken_left rest left first line before held t =
+    let count : length rest - length left ≡ length t.front = omega (arith, ap (λ (l : List ℕ). length l) t.rest_is, length-append t.front left) in
+    ap (λ n. drop n rest) count ∙ ap (drop (length t.front)) t.rest_is ∙ drop-append_seam t.front left
+
+-- what stands behind so many bytes, as two looks at the same show it
+pub behind_again : (rest one two : List ℕ) (n : ℕ) → one ≡ rest → two ≡ rest → drop n one ≡ take (length two - n) (drop n two)
+behind_again rest one two n first second = ap (drop n) (first ∙ sym second) ∙ sym (take_all (length two - n) (drop n two) (omega (arith, length-drop n two)))
+
+-- ---- what was gathered
+
+pub gathered : (input rest : List ℕ) (line : ℕ) (p : PerType Holdings) (m : Request) → IsReadTo input rest line (at p) → pieces feed rest ≡ rest ∷ [] → IsRequestLine rest m → IsGathered input line (at p) m
+gathered input rest line p m r last is = record {
+  named = held_named input rest line (at p) r;
+  answers = λ replica output told. read_all replica input rest output line p m r last is told;
+  fails = read_bad_request input rest line p OutOfMemory r last tt;
+}
+
+-- nothing was read
+pub begun : (input rest : List ℕ) (line : ℕ) (p : PerType Holdings) → rest ≡ without_last_feed input → line ≡ 1 → p ≡ each nothing_held → IsReadTo input rest line (at p)
+begun input rest line p all first empty =
+    let of_none : (t : TypeName) → at p t ≡ nothing_held = λ t. ap (λ (q : PerType Holdings). at q t) empty ∙ at-each nothing_held t in
+    subst (λ l. IsReadTo input l line (at p)) (sym all) (subst (λ n. IsReadTo input (without_last_feed input) n (at p)) (sym first) (read_none input p of_none))
+
+-- as many bytes as there are without the last line feed
+pub without_feed : (bytes : List ℕ) → take (length (without_last_feed bytes)) bytes ≡ without_last_feed bytes
+without_feed bytes = taken_if (slice_index bytes (length bytes - 1) == feed) (length bytes - 1) bytes
+  where
+    taken_if : (b : Bool) (n : ℕ) (bs : List ℕ) → take (length (cond b (take n bs) bs)) bs ≡ cond b (take n bs) bs
+    taken_if true n bs = ap (λ (l : List ℕ). take (length (take n bs)) l) (sym (take-append-drop n bs)) ∙ take-append_seam (take n bs) (drop n bs)
+    taken_if false n bs = take_all (length bs) bs (omega arith)
 
 -- at the line at which memory was lacking
 pub no_memory_at : (input : List ℕ) (line number : ℕ) (e : Refusal) → IsFault input line OutOfMemory → number ≡ line → e ≡ OutOfMemory → IsFault input number e

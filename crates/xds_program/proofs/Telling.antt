@@ -93,6 +93,13 @@ module _ (Is : List ℕ → List ℕ → Type 0) (Refuses : List ℕ → ℕ →
       let part = subst (λ (t : List ℕ). (refusal ≡ DeviceRefusal) × WrotePart output t) all failed in
       inr (part_written _ input output errors text refusal status of_bytes part told one)
 
+  -- what the bytes that were read call for, of which nothing is written for want of memory, or a part
+  pub text_unwritten : (bytes given text written : List ℕ) (refusal : Refusal) (status : ℕ) → IfSome input.before (λ all. bytes ≡ all)
+      → given ≡ bytes → Is given text → written ≡ text → ((refusal ≡ OutOfMemory) × Stays output) ⊎ ((refusal ≡ DeviceRefusal) × WrotePart output written)
+      → Tells errors (refusal_line refusal) → status ≡ 1 → RunsTask Is Refuses status (record { input = input; output = output; errors = errors })
+  text_unwritten bytes given text written refusal status same lent is all (inl memory) told one = no_room status memory.1 (subst (λ (e : Refusal). Tells errors (refusal_line e)) memory.0 told) one
+  text_unwritten bytes given text written refusal status same lent is all (inr failed) told one = text_begun bytes given text written refusal status same lent is all failed told one
+
   -- the first line that is refused, told, or no memory to tell it
   pub fault_told : (bytes given : List ℕ) (line : ℕ) (refusal : Refusal) (status : ℕ)
       → IfSome input.before (λ all. bytes ≡ all) → given ≡ bytes → Refuses given line refusal → Tells errors (fault_line line refusal) ⊎ Tells errors (refusal_line OutOfMemory) → Stays output → status ≡ 1

@@ -1,5 +1,7 @@
 pub mod Answers
+pub mod Blocks
 pub mod Faults
+pub mod Gathered
 pub mod Tasks
 pub mod CommandLine
 pub mod Words

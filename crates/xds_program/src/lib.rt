@@ -3,13 +3,16 @@
 
 pub mod answer;
 mod command_line;
+mod gathering;
 pub mod judge;
 pub mod laws;
 mod option_values;
+pub mod output;
 pub mod run;
 pub mod tasks;
 pub mod words;
 
-pub use answer::{LineFault, answer_input, answer_lines};
+pub use answer::{answer_lines, draft_answer};
+pub use gathering::LineFault;
 pub use tasks::{ClientTask, PollTask, ServeTask, StreamVariant, Task};
 pub use words::task_of;

@@ -5,8 +5,10 @@ ghost use Rattle.xds_frames.specs.Devices.{Device, Tells, seen};
 ghost use Rattle.xds_play.specs.Played.{IsUnplayed};
 ghost use Rattle.xds_program.specs.Outcomes.{HasRun, IsPlayedFor, IsShown, IsUnable, Prints, Runs, RunsAnswer, RunsCheck, RunsPlay, fault_line, refusal_line};
 
-use crate::answer::{LineFault, answer_input};
+use crate::answer::draft_answer;
+use crate::gathering::LineFault;
 use crate::judge::{Unjudged, judge};
+use crate::output::write_answer;
 use crate::tasks::{ClientTask, PollTask, ServeTask, Task};
 use crate::words::task_of;
 use clap::error::ErrorKind;
@@ -84,7 +86,8 @@ fn run_task<I: Read, O: Write, E: Write>(
     }
 }
 
-/// Runs `xds answer`: what [`answer_input`] gives goes to the output, and the line that it refuses to the error output.
+/// Runs `xds answer`: the answer of [`draft_answer`] goes to the output, and the line that it refuses to the
+/// error output.
 pub fn answer<I: Read, O: Write, E: Write>(
     alloc: Global,
     replica: u16,
@@ -102,8 +105,8 @@ pub fn answer<I: Read, O: Write, E: Write>(
         Ok(bytes) => bytes,
         Err(refusal) => return tell(refusal, errors),
     };
-    match answer_input(alloc, replica, bytes) {
-        Ok(text) => match write_whole(output, text.as_slice()) {
+    match draft_answer(alloc, replica, bytes) {
+        Ok(draft) => match write_answer(alloc, &draft, output) {
             Ok(()) => DONE,
             Err(refusal) => tell(refusal, errors),
         },

@@ -12,6 +12,8 @@ pub mod server;
 mod starting;
 pub mod streams;
 mod telling;
+pub mod weighed;
+mod weights;
 pub mod wires;
 
 pub use change::{Change, read_change};
@@ -21,3 +23,4 @@ pub use held::{Held, Taken};
 pub use input::take_input;
 pub use served::Served;
 pub use server::{Serving, serve};
+pub use weighed::{MOST_BYTES, Weighed};

@@ -5,6 +5,7 @@ use crate::ending::{End, Ending};
 use crate::input::take_input;
 use crate::replica::{Replica, run_replica};
 use crate::served::Served;
+use crate::weighed::Weighed;
 use crate::wires::started;
 use crossbeam_channel::Sender;
 use std::alloc::{AllocGlobal, Global};
@@ -90,11 +91,12 @@ fn shared<N: NodeName>(
     alloc: Global,
     opened: Opened<Line>,
     number: u16,
-) -> Result<Arc<Node<N>>, Refusal>
+) -> Result<Arc<Weighed<Node<N>>>, Refusal>
     requires name { opened ≡ N.id }
     requires first { 1 ≤ number }
 {
-    Ok(Arc::new(alloc, Node::<N>::new(alloc, opened, number)?)?)
+    let node = Node::<N>::new(alloc, opened, number)?;
+    Ok(Arc::new(alloc, Weighed::new(alloc, node))?)
 }
 
 // Starts the thread of a replica.

@@ -1,4 +1,4 @@
-// Tests of the server as a whole, over sockets. Nothing else stands here.
+// Tests of the server as a whole, over sockets, and of a journal that is cut by its weight. Nothing else stands here.
 #![tactic(auto)]
 
 #[cfg(test)]
@@ -11,3 +11,5 @@ mod inputs;
 mod servers;
 #[cfg(test)]
 mod streams;
+#[cfg(test)]
+mod weights;

@@ -2,7 +2,7 @@ use Rattle.std.proofs.lemmas.Result.{on_ok_weaker, MatchResult-weaker}
 use Rattle.xds_resource.specs.Any.{write_type, stamped_write}
 use Rattle.xds_resource.specs.PerType.{at}
 use Rattle.xds_program.proofs.Taking.{after_ok, after_err, RefusesWrite-joining}
-use Rattle.xds_program.proofs.answer.take_write.Goals as goal
+use Rattle.xds_program.proofs.gathering.take_write.Goals as goal
 
 pub returns-clause-taken : goal.returns-clause-taken
 returns-clause-taken c =

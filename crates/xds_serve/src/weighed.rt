@@ -1,0 +1,109 @@
+// A node whose journal is cut by its weight, too.
+use crate::served::Served;
+use crate::weights::{answer_weight, event_weight};
+use std::alloc::Global;
+use std::sync::{Mutex, Wait};
+use xds_core::{Event, Marks, Reply};
+use xds_http::Replies;
+use xds_node::{Due, Unrecorded};
+use xds_resource::Refusal;
+use xds_rest::HttpReply;
+use xds_workers::Host;
+
+/// About how many bytes the records of a journal may take: 256 MiB. A journal with more of them is cut, whatever its length.
+pub const MOST_BYTES: u64 = 268_435_456;
+
+/// A replica whose journal is cut once its records take about [`MOST_BYTES`], and what was cut is dropped. So requests as long
+/// as a frame may be, or responses that state very much, take no more memory than that, beside what the replica holds.
+#[derive(Drop)]
+pub struct Weighed<A> {
+    node: A,
+    alloc: Global,
+    // What the journal takes since it was cut for that, about.
+    weight: Mutex<u64>,
+}
+
+impl<A: Served> Weighed<A> {
+    /// A replica whose journal has no record.
+    pub fn new(alloc: Global, node: A) -> Weighed<A> {
+        Weighed {
+            node,
+            alloc,
+            weight: Mutex::new(0),
+        }
+    }
+
+    // Counts what a record takes, and cuts the journal where that is too much. A cut that finds no memory is tried again once
+    // as much came again.
+    fn count<R: Wait>(&self, rt: &R, bytes: u64) {
+        let mut weight = self.weight.lock(rt);
+        let sum = (*weight).saturating_add(bytes);
+        let is_heavy = sum > MOST_BYTES;
+        *weight = if is_heavy { 0 } else { sum };
+        drop(weight);
+        if is_heavy {
+            let _ = self.node.cut(rt);
+        }
+    }
+}
+
+impl<A: Served> Host for Weighed<A> {
+    type Seat = A::Seat;
+
+    type Segment = A::Segment;
+
+    ghost told = { A.told };
+
+    fn call<R: Wait>(
+        &self,
+        rt: &R,
+        seat: &mut A::Seat,
+        event: Event,
+    ) -> Result<Result<Reply, Refusal>, Unrecorded> {
+        let asked = event_weight(self.alloc, &event);
+        let answer = self.node.call(rt, seat, event);
+        if let Ok(answer) = &answer {
+            self.count(rt, asked.saturating_add(answer_weight(answer)));
+        }
+        answer
+    }
+
+    fn cut<R: Wait>(&self, rt: &R) -> Result<A::Segment, Refusal> {
+        self.node.cut(rt)
+    }
+
+    fn wait_due<R: Wait>(&self, rt: &R, stream: u64) -> Due {
+        self.node.wait_due(rt, stream)
+    }
+
+    fn wait_changed<R: Wait>(&self, rt: &R, seen: Marks) -> Option<Marks> {
+        self.node.wait_changed(rt, seen)
+    }
+}
+
+// What a name of one letter takes in memory, at most, for each byte of the text that it came in.
+const NAMES: u64 = 16;
+
+// The record of a poll isn't seen here, so it counts by its texts.
+fn poll_weight(body: &[u8], reply: &HttpReply) -> u64 {
+    let asked = (body.len() as u64).saturating_mul(NAMES);
+    let stated = match &reply.body {
+        Some(text) => text.as_str().len() as u64,
+        None => 0,
+    };
+    asked.saturating_add(stated / 4).saturating_add(NAMES)
+}
+
+impl<A: Served> Replies for Weighed<A> {
+    fn reply<R: Wait>(&self, rt: &R, alloc: Global, path: &str, body: &[u8]) -> HttpReply {
+        let reply = self.node.reply(rt, alloc, path, body);
+        self.count(rt, poll_weight(body, &reply));
+        reply
+    }
+}
+
+impl<A: Served> Served for Weighed<A> {
+    fn seat<R: Wait>(&self, rt: &R) -> Result<A::Seat, Refusal> {
+        self.node.seat(rt)
+    }
+}
