@@ -18,14 +18,13 @@ from fail_alloc import SHIM
 
 TOP = os.path.dirname(os.path.dirname(os.path.abspath(__file__)))
 TESTS = {
-    "xds_cache_tests": [
-        "memory::state_of_the_world_without_memory",
-        "memory::delta_without_memory",
-        "memory::polling_without_memory",
-        "memory::changing_what_is_polled_without_memory",
+    "xds_client_tests": [
+        "caches::memory::state_of_the_world_without_memory",
+        "caches::memory::delta_without_memory",
+        "caches::memory::polling_without_memory",
+        "caches::memory::changing_what_is_polled_without_memory",
     ],
-    "xds_stream_tests": ["memory::a_stream_without_memory"],
-    "xds_exchange_tests": ["memory::rounds_without_memory"],
+    "xds_stream_tests": ["memory::a_stream_without_memory", "exchanges::memory::rounds_without_memory"],
 }
 WENT_ON = b"refused, and went on\n"
 # The last is what the tests of streams say of their own input, where there was no memory to decode it.

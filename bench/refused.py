@@ -10,7 +10,7 @@ time its answer was 8 and what it left was as promised, as the test says of itse
 other allocations of the test every answer was the ordinary one, or the test ended with `OutOfMemory` before or behind that call; any
 third outcome is printed, and so is a call that was never refused though it takes memory, or was though it takes none.
 
-In the second form it does so with every test of the crates that have no threads (those of calls that change nothing among them, as of
+In the second form it does so with every test that has no threads (those of calls that change nothing among them, as of
 readers and writers): each run must pass or end with `OutOfMemory`. Printed are a line a test and, of each crate, the calls
 with an allocator that stand in it. Left out are tests that tell of a difference without what was answered.
 
@@ -31,11 +31,11 @@ from fail_each import GAVE_UP, TOP
 WENT_ON = re.compile(rb"refused, and went on(?:: (\w+))?\n")
 # Of each test: its calls, by their words.
 LOOKED_AT = {
-    "xds_frames_tests": {
-        "memory::feeding_without_memory": {"feed": "Decoder::feed"},
-        "memory::framing_without_memory": {"push_frame": "push_frame"},
+    "xds_message_tests": {
+        "framing::memory::feeding_without_memory": {"feed": "Decoder::feed"},
+        "framing::memory::framing_without_memory": {"push_frame": "push_frame"},
     },
-    "xds_catalogue_tests": {
+    "xds_session_tests": {
         "many_writes::each_change_without_memory": {
             "put": "Catalogue::put",
             "delete": "Catalogue::delete",
@@ -60,38 +60,38 @@ LOOKED_AT = {
             "owes": None,
             "close": None,
         },
+        "rest::memory::a_poll_without_memory": {"": "answer of xds_rest"},
     },
-    "xds_cache_tests": {
-        "memory::connecting_in_state_of_the_world_without_memory": {"": "SotwClient::connect"},
-        "memory::changing_in_state_of_the_world_without_memory": {"": "SotwClient::change"},
-        "memory::state_of_the_world_without_memory": {"": "SotwClient::receive"},
-        "memory::connecting_in_delta_without_memory": {"": "DeltaClient::connect"},
-        "memory::changing_in_delta_without_memory": {"": "DeltaClient::change"},
-        "memory::delta_without_memory": {"": "DeltaClient::receive"},
-        "memory::changing_what_is_polled_without_memory": {"": "RestClient::change"},
-        "memory::polling_without_memory": {"": "RestClient::receive"},
+    "xds_client_tests": {
+        "caches::memory::connecting_in_state_of_the_world_without_memory": {"": "SotwClient::connect"},
+        "caches::memory::changing_in_state_of_the_world_without_memory": {"": "SotwClient::change"},
+        "caches::memory::state_of_the_world_without_memory": {"": "SotwClient::receive"},
+        "caches::memory::connecting_in_delta_without_memory": {"": "DeltaClient::connect"},
+        "caches::memory::changing_in_delta_without_memory": {"": "DeltaClient::change"},
+        "caches::memory::delta_without_memory": {"": "DeltaClient::receive"},
+        "caches::memory::changing_what_is_polled_without_memory": {"": "RestClient::change"},
+        "caches::memory::polling_without_memory": {"": "RestClient::receive"},
     },
-    "xds_stream_tests": {"memory::a_stream_without_memory": {"": "run_stream"}},
-    "xds_exchange_tests": {
-        "memory::rounds_without_memory": {"": "round"},
-        "memory::parts_without_memory": {"fill": "Outbox::fill", "next_part": "Outbox::next_part"},
+    "xds_stream_tests": {
+        "memory::a_stream_without_memory": {"": "run_stream"},
+        "exchanges::memory::rounds_without_memory": {"": "round"},
+        "exchanges::memory::parts_without_memory": {"fill": "Outbox::fill", "next_part": "Outbox::next_part"},
     },
-    "xds_rest_tests": {"memory::a_poll_without_memory": {"": "answer of xds_rest"}},
     "xds_node_tests": {"memory::a_node_without_memory": {"call": "Node::call", "cut": "Node::cut"}},
     "xds_http_tests": {"memory::a_poll_without_memory": {"": "answer_at of xds_posts"}},
 }
 # Calls that take no memory as these tests make them: there is room for one entry more in a row of a map.
 NONE_TAKEN = {"Core::step, Put for groups", "Core::step, Delete", "Core::step, Open", "Catalogue::delete"}
-# Crates whose tests run in threads: one that gives up may leave another waiting.
-THREADED = {"xds_link_tests", "xds_node_tests", "xds_workers_tests", "xds_histories_tests", "xds_http_tests", "xds_serve_tests", "xds_client_tests", "xds_commands_tests"}
+# Crates whose tests run in threads: one that gives up may leave another waiting. With each the modules of those that don't.
+THREADED = {"xds_node_tests": (), "xds_workers_tests": (), "xds_http_tests": (), "xds_commands_tests": (), "xds_client_tests": ("caches::",)}
 # Tests that tell of a difference without what was answered.
 SILENT = {"cases::streams_are_served", "faults::input_is_served_wherever_it_ends", "faults::each_read_may_fail", "faults::each_write_may_fail",
-          "counted::one_call_fails_and_is_counted", "counted::calls_after_the_last_fail"}
+          "framing::counted::one_call_fails_and_is_counted", "framing::counted::calls_after_the_last_fail"}
 # What an allocation that failed makes of an answer that is compared with another, or of a test.
 SHORT = [*GAVE_UP, b"OutOfMemory", b"AllocError", b"AllocFailed", b"out of memory"]
-# How tests of some crates say that there was no memory: for what they were to give to a call, or for a reply, in whose place
+# How tests of some modules say that there was no memory: for what they were to give to a call, or for a reply, in whose place
 # `reply_at` sends a 503.
-OWN = {"xds_frames_tests": [b"21 BadScript", b'"a text is none"'], "xds_http_tests": [b"503 and not 200"]}
+OWN = {("xds_message_tests", "framing"): [b"21 BadScript", b'"a text is none"'], ("xds_http_tests", "memory"): [b"503 and not 200"]}
 PATIENCE = 120
 
 
@@ -163,22 +163,33 @@ def looked_at(shim, program, test, calls, words, most):
     return sum(refused.values()) + passed + ended, len(wrong)
 
 
-def tests_of(crate):
-    """The tests of a crate, by their modules."""
+def words_of(crate, test):
+    """What a test prints where there was no memory."""
+    return SHORT + OWN.get((crate, test.split("::")[0]), [])
+
+
+def sources(crate):
+    """The files of a crate, from its folder src on."""
     folder = os.path.join(TOP, "crates", crate, "src")
-    for name in sorted(os.listdir(folder)):
-        with open(os.path.join(folder, name), encoding="utf-8") as file:
+    return sorted(os.path.relpath(os.path.join(at, name), folder) for at, _, names in os.walk(folder) for name in names)
+
+
+def tests_of(crate):
+    """The tests of a crate, by their modules, but for those with threads."""
+    for name in sources(crate):
+        with open(os.path.join(TOP, "crates", crate, "src", name), encoding="utf-8") as file:
             for test in re.findall(r"#\[test\]\s+fn (\w+)\(", file.read()):
-                yield f"{name[: -len('.rt')]}::{test}"
+                test = f"{name[: -len('.rt')].replace(os.sep, '::')}::{test}"
+                if crate not in THREADED or test.startswith(THREADED[crate]):
+                    yield test
 
 
 def calls_in(crate):
     """The calls of a crate of tests that are given an allocator, but for its own, and those of catalogues, replicas and the like."""
     text = ""
     for name in (crate, "xds_cases"):
-        folder = os.path.join(TOP, "crates", name, "src")
-        for file in sorted(os.listdir(folder)):
-            with open(os.path.join(folder, file), encoding="utf-8") as it:
+        for file in sources(name):
+            with open(os.path.join(TOP, "crates", name, "src", file), encoding="utf-8") as it:
                 text += re.sub(r"//.*", "", it.read())
     own = set(re.findall(r"fn (\w+)", text))
     found = re.findall(r"([A-Z]\w+(?:::<\w+>)?::\w+)\((?:rt\.)?alloc\b", text) + re.findall(r"(\.\w+)\(\s*(?:rt\.)?alloc\b", text)
@@ -212,7 +223,7 @@ def main():
     parser.add_argument("--most", type=int, default=10**9)
     parser.add_argument("crates", nargs="*")
     given = parser.parse_args()
-    chosen = given.crates or (sorted(it for it in os.listdir(os.path.join(TOP, "crates")) if it.endswith("_tests") and it not in THREADED) if given.tests else LOOKED_AT)
+    chosen = given.crates or (sorted(it for it in os.listdir(os.path.join(TOP, "crates")) if it.endswith("_tests") and THREADED.get(it, True)) if given.tests else LOOKED_AT)
     right, wrong = 0, 0
     with tempfile.TemporaryDirectory(prefix="refused-") as folder:
         shim = Shim(folder)
@@ -222,9 +233,8 @@ def main():
                 print(f"{crate} isn't built: run `rt test` there")
                 wrong += bool(given.crates)
                 continue
-            words = SHORT + OWN.get(crate, [])
-            looked = [(test, looked_at, (calls, words)) for test, calls in LOOKED_AT[crate].items()] if crate in LOOKED_AT else []
-            tests = [(test, every, (words,)) for test in tests_of(crate) if test not in SILENT] if given.tests else looked
+            looked = [(test, looked_at, (calls, words_of(crate, test))) for test, calls in LOOKED_AT.get(crate, {}).items()]
+            tests = [(test, every, (words_of(crate, test),)) for test in tests_of(crate) if test not in SILENT] if given.tests else looked
             if given.tests:
                 print(f"{crate}, with the calls {', '.join(calls_in(crate))}", flush=True)
             for test, look, more in tests:

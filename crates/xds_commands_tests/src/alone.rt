@@ -33,14 +33,14 @@ fn words_are_looked_at_first(rt: HostRuntime) -> Result<(), Fail> {
 
 #[test]
 fn a_poll_of_nobody_is_refused(rt: HostRuntime) -> Result<(), Fail> {
-    let words = "xds poll --addr 127.0.0.1:18500 --type cluster";
+    let words = "xds poll --addr 127.0.0.1:18600 --type cluster";
     let polled = ran(&rt, words, b"".as_slice())?;
     is_told(rt.alloc(), polled.as_str(), "1 19 Device~")
 }
 
 #[test]
 fn a_client_of_nobody_is_refused(rt: HostRuntime) -> Result<(), Fail> {
-    let words = "xds client --addr 127.0.0.1:18501 --variant sotw --type cluster --responses 1 *";
+    let words = "xds client --addr 127.0.0.1:18601 --variant sotw --type cluster --responses 1 *";
     let watched = ran(&rt, words, b"".as_slice())?;
     is_told(rt.alloc(), watched.as_str(), "1 19 Device~")
 }

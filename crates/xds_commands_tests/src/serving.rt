@@ -88,16 +88,16 @@ where
 fn a_client_hears_of_what_the_other_replica_took(rt: HostRuntime) -> Result<(), Fail> {
     let server = started(
         &rt,
-        "xds serve --replicas 2 --port 18510 --rest-port 18520 --streams 2",
+        "xds serve --replicas 2 --port 18610 --rest-port 18620 --streams 2",
         A_ROUTE,
     )?;
     let whole = once_served(
         &rt,
-        "xds client --addr 127.0.0.1:18511 --variant sotw --type route --responses 1 q",
+        "xds client --addr 127.0.0.1:18611 --variant sotw --type route --responses 1 q",
     )?;
     let step = once_served(
         &rt,
-        "xds client --addr 127.0.0.1:18511 --variant delta --type route --responses 1 q",
+        "xds client --addr 127.0.0.1:18611 --variant delta --type route --responses 1 q",
     )?;
     let ended = server.join(&rt)?;
     is_told(
@@ -121,14 +121,14 @@ fn a_client_hears_of_what_the_other_replica_took(rt: HostRuntime) -> Result<(), 
 fn a_half_frame_holds_up_no_other_stream(rt: HostRuntime) -> Result<(), Fail> {
     let server = started(
         &rt,
-        "xds serve --replicas 1 --port 18530 --rest-port 18540 --streams 2",
+        "xds serve --replicas 1 --port 18630 --rest-port 18640 --streams 2",
         NO_INPUT,
     )?;
-    let mut held = connected(&rt, 18530)?;
+    let mut held = connected(&rt, 18630)?;
     held.write_all(b"\x00\x00\x00\x40\x01")?;
     let told = once_served(
         &rt,
-        "xds client --addr 127.0.0.1:18530 --variant sotw --type cluster --responses 1 *",
+        "xds client --addr 127.0.0.1:18630 --variant sotw --type cluster --responses 1 *",
     )?;
     drop(held);
     let ended = server.join(&rt)?;
@@ -144,21 +144,21 @@ fn a_half_frame_holds_up_no_other_stream(rt: HostRuntime) -> Result<(), Fail> {
 fn a_server_is_polled(rt: HostRuntime) -> Result<(), Fail> {
     let server = started(
         &rt,
-        "xds serve --replicas 1 --port 18550 --rest-port 18560 --streams 1",
+        "xds serve --replicas 1 --port 18650 --rest-port 18660 --streams 1",
         A_CLUSTER,
     )?;
-    let mut told = once_served(&rt, "xds poll --addr 127.0.0.1:18560 --type cluster a")?;
+    let mut told = once_served(&rt, "xds poll --addr 127.0.0.1:18660 --type cluster a")?;
     for _ in 0..MOST_TURNS {
         if told.as_str().contains("\"1.1.named\"") {
             break;
         }
-        told = once_served(&rt, "xds poll --addr 127.0.0.1:18560 --type cluster a")?;
+        told = once_served(&rt, "xds poll --addr 127.0.0.1:18660 --type cluster a")?;
     }
     let kept = once_served(
         &rt,
-        "xds poll --addr 127.0.0.1:18560 --type cluster --version 1.1",
+        "xds poll --addr 127.0.0.1:18660 --type cluster --version 1.1",
     )?;
-    drop(connected(&rt, 18550)?);
+    drop(connected(&rt, 18650)?);
     let ended = server.join(&rt)?;
     is_told(rt.alloc(), kept.as_str(), "0 304~")?;
     is_told(
@@ -201,11 +201,11 @@ where
 fn a_peer_that_ends_is_told(rt: HostRuntime) -> Result<(), Fail> {
     let watched = hung_up(
         &rt,
-        18590,
-        "xds client --addr 127.0.0.1:18590 --variant sotw --type cluster --responses 1 *",
+        18690,
+        "xds client --addr 127.0.0.1:18690 --variant sotw --type cluster --responses 1 *",
     )?;
     is_told(rt.alloc(), watched.as_str(), "1 18 Truncated~")?;
-    let polled = hung_up(&rt, 18591, "xds poll --addr 127.0.0.1:18591 --type cluster")?;
+    let polled = hung_up(&rt, 18691, "xds poll --addr 127.0.0.1:18691 --type cluster")?;
     is_told(rt.alloc(), polled.as_str(), "1 19 Device~")
 }
 
@@ -213,7 +213,7 @@ fn a_peer_that_ends_is_told(rt: HostRuntime) -> Result<(), Fail> {
 fn a_bad_line_ends_a_server(rt: HostRuntime) -> Result<(), Fail> {
     let server = started(
         &rt,
-        "xds serve --replicas 1 --port 18570 --rest-port 18580",
+        "xds serve --replicas 1 --port 18670 --rest-port 18680",
         b"# none\nreplica 1\n",
     )?;
     let ended = server.join(&rt)?;

@@ -1,5 +1,5 @@
-// Tests of a replica's step: stories of streams and writes, with the replies as the protocol has them. Nothing else
-// stands here.
+// Tests of a replica's step and of its replies to polls: stories of streams and writes, with the replies as the protocol has
+// them. Nothing else stands here.
 #![tactic(auto)]
 
 #[cfg(test)]
@@ -20,6 +20,8 @@ mod parts;
 mod polled;
 #[cfg(test)]
 mod replies;
+#[cfg(test)]
+mod rest;
 #[cfg(test)]
 mod script;
 #[cfg(test)]

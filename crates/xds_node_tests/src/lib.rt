@@ -1,4 +1,5 @@
-// Tests of a node that threads share: what their seats are told, and what is left of it. Nothing else stands here.
+// Tests of a node that threads share: what their seats are told, what is left of it, and the traces of that; and of the channel
+// between two threads. Nothing else stands here.
 #![tactic(auto)]
 
 #[cfg(test)]
@@ -7,6 +8,10 @@ mod calls;
 mod ends;
 #[cfg(test)]
 mod full;
+#[cfg(test)]
+mod histories;
+#[cfg(test)]
+mod link;
 #[cfg(test)]
 mod memory;
 #[cfg(test)]

@@ -1,4 +1,5 @@
-// Tests of the programs, over readers and writers in memory. Nothing else stands here.
+// Tests of the programs, over readers and writers in memory, and of the worlds that scripts are played in. Nothing else stands
+// here.
 #![tactic(auto)]
 
 #[cfg(test)]
@@ -11,3 +12,5 @@ mod program;
 mod trace;
 #[cfg(test)]
 mod words;
+#[cfg(test)]
+mod worlds;

@@ -1,9 +1,10 @@
-// Tests of a stream on one thread: worked examples in bytes, and that calls succeed where memory is ample. Nothing else
-// stands here.
+// Tests of a stream on one thread, with worked examples in bytes, and of what replicas tell each other. Nothing else stands here.
 #![tactic(auto)]
 
 #[cfg(test)]
 mod cases;
+#[cfg(test)]
+mod exchanges;
 #[cfg(test)]
 mod faults;
 #[cfg(test)]

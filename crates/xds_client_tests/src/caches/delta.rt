@@ -1,0 +1,75 @@
+// A delta client that plays a script. Its changes name what is subscribed, then `-` and what is unsubscribed.
+use crate::caches::script::{NO_MEMORY, Player, answered, joined, perhaps_answered, words_of};
+use std::alloc::Global;
+use xds_cache::{DeltaClient, Down, Holding, Marked, Up};
+use xds_message::DeltaDiscoveryResponse;
+use xds_resource::{NameMap, Refusal, TypeName};
+
+/// A client whose node id is `7`, and which refuses resources that are marked: one of both is there.
+#[derive(Drop)]
+pub struct Delta {
+    down: Option<DeltaClient<Marked, Down>>,
+    up: Option<DeltaClient<Marked, Up>>,
+}
+
+impl Player for Delta {
+    fn new(alloc: Global, cluster: &str) -> Result<Delta, Refusal> {
+        let node_id = String::from_str(alloc, "7")?;
+        let cluster = String::from_str(alloc, cluster)?;
+        let client = DeltaClient::new(alloc, node_id, cluster);
+        Ok(Delta {
+            down: Some(client),
+            up: None,
+        })
+    }
+
+    fn connect(&mut self, alloc: Global) -> Result<String, Refusal> {
+        let client = self.down.take().ok_or(Refusal::NotFound)?;
+        match client.connect(alloc) {
+            Ok((up, requests)) => {
+                self.up = Some(up);
+                joined(alloc, requests.as_slice())
+            }
+            Err(down) => {
+                self.down = Some(down);
+                Ok(String::from_str(alloc, NO_MEMORY)?)
+            }
+        }
+    }
+
+    fn lose(&mut self) -> Result<(), Refusal> {
+        let client = self.up.take().ok_or(Refusal::NotFound)?;
+        self.down = Some(client.lose());
+        Ok(())
+    }
+
+    fn poll(&self, _alloc: Global, _kind: TypeName) -> Result<String, Refusal> {
+        Err(Refusal::NotFound)
+    }
+
+    fn change(&mut self, alloc: Global, kind: TypeName, words: &str) -> Result<String, Refusal> {
+        let (subscribe, unsubscribe) = words.split_once('-').unwrap_or((words, ""));
+        let subscribe = words_of(alloc, subscribe)?;
+        let unsubscribe = words_of(alloc, unsubscribe)?;
+        let (added, gone) = (subscribe.as_slice(), unsubscribe.as_slice());
+        if let Some(client) = self.down.as_mut() {
+            return perhaps_answered(alloc, client.change(alloc, kind, added, gone));
+        }
+        let client = self.up.as_mut().ok_or(Refusal::NotFound)?;
+        perhaps_answered(alloc, client.change(alloc, kind, added, gone))
+    }
+
+    fn receive(&mut self, alloc: Global, message: &str) -> Result<String, Refusal> {
+        let response = DeltaDiscoveryResponse::read(alloc, message.as_bytes())?;
+        let client = self.up.as_mut().ok_or(Refusal::NotFound)?;
+        answered(alloc, client.receive(alloc, &response))
+    }
+
+    fn view(&self, kind: TypeName) -> Result<&NameMap<Holding>, Refusal> {
+        if let Some(client) = self.down.as_ref() {
+            return Ok(client.view(kind));
+        }
+        let client = self.up.as_ref().ok_or(Refusal::NotFound)?;
+        Ok(client.view(kind))
+    }
+}

@@ -1,0 +1,8 @@
+// Tests of the server as a whole, over sockets, and of a journal that is cut by its weight.
+
+mod clients;
+mod endings;
+mod inputs;
+mod servers;
+mod streams;
+mod weights;

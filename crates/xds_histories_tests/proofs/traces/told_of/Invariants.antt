@@ -1,5 +1,0 @@
-use Rattle.xds_histories_tests.proofs.traces.told_of.Given as goal
-
--- the node has the name of the tokens that were just made
-abbrev pub ghosts-told : goal.ghosts-told
-ghosts-told g a = record { id = a.opened }

@@ -1,0 +1,167 @@
+// The trace of all records of a node, and what is told where some are missing.
+ghost use Rattle.std.specs.Prelude.{◌≡◌};
+
+use crate::histories::story::{DELTA_TRACE, SOTW_TRACE, Story, left};
+use std::alloc::{AllocGlobal, Global};
+use std::marker::Brand;
+use std::sync::Wait;
+use std::test::Fail;
+use xds_check::check;
+use xds_histories::{of_audited, of_history};
+use xds_node::{Line, NodeName, Opened, Segment};
+use xds_resource::Refusal;
+use xds_rules::Trace;
+
+// How the segments are handed in.
+#[derive(Clone, Copy)]
+enum Order {
+    NothingCut,
+    AsCut,
+    WithoutTheLast,
+    WithoutTheFirst,
+    Backwards,
+    NoneOfThem,
+}
+
+impl Order {
+    fn is_cut(self) -> bool {
+        match self {
+            Order::NothingCut => false,
+            _ => true,
+        }
+    }
+}
+
+fn arrange<N: NodeName>(segments: &mut Vec<Segment<N>>, order: Order) {
+    match order {
+        Order::WithoutTheLast => drop(segments.pop()),
+        Order::WithoutTheFirst => {
+            segments.as_mut_slice().reverse();
+            drop(segments.pop());
+            segments.as_mut_slice().reverse();
+        }
+        Order::Backwards => segments.as_mut_slice().reverse(),
+        Order::NoneOfThem => segments.clear(),
+        Order::AsCut | Order::NothingCut => {}
+    }
+}
+
+// A trace as a text, if it breaks no rule; or the name of what was refused.
+fn text_of(alloc: Global, told: Result<Trace, Refusal>) -> Result<String, Refusal> {
+    match told {
+        Ok(trace) => match check(alloc, trace.lines())? {
+            Some(_) => Ok(String::from_str(alloc, "broken")?),
+            None => trace.write(alloc),
+        },
+        Err(refusal) => Ok(String::from_str(alloc, refusal.name())?),
+    }
+}
+
+// What is told of the node that the story happened at, by its segments in an order.
+fn told<N: NodeName, R: Wait>(
+    rt: &R,
+    alloc: Global,
+    opened: Opened<Line>,
+    story: Story,
+    order: Order,
+    is_audited: bool,
+) -> Result<String, Refusal>
+    requires { opened ≡ N.id }
+{
+    let mut segments: Vec<Segment<N>> = Vec::new(alloc);
+    let history = left(
+        rt,
+        alloc,
+        opened,
+        story.text(),
+        order.is_cut(),
+        &mut segments,
+    )?;
+    arrange(&mut segments, order);
+    if is_audited {
+        return text_of(alloc, of_audited(alloc, segments, history));
+    }
+    let told = of_history(alloc, segments.as_slice(), &history);
+    drop(history);
+    drop(segments);
+    text_of(alloc, told)
+}
+
+// What is told of a new node.
+fn told_of<R: Wait + AllocGlobal>(
+    rt: &R,
+    story: Story,
+    order: Order,
+    is_audited: bool,
+) -> Result<String, Refusal> {
+    let alloc = rt.alloc();
+    let opened = Opened::<Line>::new(alloc)?;
+    told::<Brand, R>(rt, alloc, opened, story, order, is_audited)
+}
+
+// That this is told of it, audited and not.
+fn is_told<R: Wait + AllocGlobal>(
+    rt: &R,
+    story: Story,
+    order: Order,
+    wanted: &str,
+) -> Result<(), Fail> {
+    let found = told_of(rt, story, order, false)?;
+    same(found.as_str(), wanted)?;
+    let found = told_of(rt, story, order, true)?;
+    same(found.as_str(), wanted)
+}
+
+fn same(found: &str, wanted: &str) -> Result<(), Fail> {
+    if found == wanted {
+        Ok(())
+    } else {
+        Err(Fail::new(format_args!("{found} and not {wanted}")))
+    }
+}
+
+#[test]
+fn all_records_make_the_trace(rt: HostRuntime) -> Result<(), Fail> {
+    is_told(&rt, Story::Delta, Order::AsCut, DELTA_TRACE)
+}
+
+#[test]
+fn so_do_those_of_a_node_that_was_not_cut(rt: HostRuntime) -> Result<(), Fail> {
+    is_told(&rt, Story::Delta, Order::NothingCut, DELTA_TRACE)
+}
+
+#[test]
+fn so_do_those_that_were_all_cut(rt: HostRuntime) -> Result<(), Fail> {
+    is_told(&rt, Story::Sotw, Order::AsCut, SOTW_TRACE)?;
+    is_told(&rt, Story::Sotw, Order::NothingCut, SOTW_TRACE)
+}
+
+#[test]
+fn of_nothing_there_is_no_line(rt: HostRuntime) -> Result<(), Fail> {
+    is_told(&rt, Story::Nothing, Order::NothingCut, "")?;
+    is_told(&rt, Story::Cut, Order::AsCut, "")
+}
+
+#[test]
+fn a_segment_that_is_missing_is_a_gap(rt: HostRuntime) -> Result<(), Fail> {
+    is_told(&rt, Story::Delta, Order::WithoutTheLast, "Gap")?;
+    is_told(&rt, Story::Sotw, Order::WithoutTheLast, "Gap")
+}
+
+#[test]
+fn so_is_the_first(rt: HostRuntime) -> Result<(), Fail> {
+    is_told(&rt, Story::Delta, Order::WithoutTheFirst, "Gap")?;
+    is_told(&rt, Story::Sotw, Order::WithoutTheFirst, "Gap")
+}
+
+#[test]
+fn so_are_all(rt: HostRuntime) -> Result<(), Fail> {
+    is_told(&rt, Story::Delta, Order::NoneOfThem, "Gap")?;
+    is_told(&rt, Story::Sotw, Order::NoneOfThem, "Gap")
+}
+
+#[test]
+fn segments_in_another_order_are_a_gap(rt: HostRuntime) -> Result<(), Fail> {
+    is_told(&rt, Story::Delta, Order::Backwards, "Gap")?;
+    is_told(&rt, Story::Sotw, Order::Backwards, "Gap")
+}
