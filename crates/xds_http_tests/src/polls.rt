@@ -1,10 +1,7 @@
 // The client of polls, at a server.
-ghost use Rattle.std.specs.Prelude.{◌≡◌};
-
 use crate::server::{same, started};
 use std::alloc::{AllocGlobal, Global};
 use std::io::{Read, Write};
-use std::marker::Brand;
 use std::net::{Ipv4Addr, Net, Shutdown, SocketAddr, TcpListener, TcpStream};
 use std::random::RandomSource;
 use std::sync::Wait;
@@ -13,7 +10,6 @@ use std::thread;
 use std::thread::Threads;
 use std::time::Clock;
 use xds_cases::cases::written_out;
-use xds_node::{Line, Opened};
 use xds_poll::{Question, Told, poll};
 use xds_resource::{Refusal, TypeName};
 
@@ -45,8 +41,7 @@ where
 
 #[test]
 fn a_poll_shows_status_and_body(rt: HostRuntime) -> Result<(), Fail> {
-    let opened = Opened::<Line>::new(rt.alloc())?;
-    let server = started::<Brand, _>(&rt, opened)?;
+    let server = started(&rt)?;
     let has_a =
         "200\n{\"resources\":[{\"@type\":\"CDS\",\"name\":\"a\"}],\"typeUrl\":\"CDS\",\"versionInfo\":\"1.1";
     let all = format!(in rt.alloc(); "{has_a}\"}}\n")?;

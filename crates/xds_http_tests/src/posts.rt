@@ -1,13 +1,9 @@
 // Requests over a socket, each over a connection of its own.
-ghost use Rattle.std.specs.Prelude.{◌≡◌};
-
 use crate::server::{begun, same, started, told, written};
 use std::alloc::AllocGlobal;
-use std::marker::Brand;
 use std::net::{Net, SocketAddr, TcpListener, TcpStream};
 use std::test::Fail;
 use xds_cases::cases::written_out;
-use xds_node::{Line, Opened};
 
 // Sends each request, and compares its reply with what is wanted.
 pub(crate) fn hold<R>(rt: &R, server: SocketAddr, cases: &str) -> Result<(), Fail>
@@ -46,7 +42,6 @@ POST /v3/discovery:secrets {} => 200 {"typeUrl":"SDS","versionInfo":"1.0.named"}
 
 #[test]
 fn posts_are_answered_over_a_socket(rt: HostRuntime) -> Result<(), Fail> {
-    let opened = Opened::<Line>::new(rt.alloc())?;
-    let server = started::<Brand, _>(&rt, opened)?;
+    let server = started(&rt)?;
     hold(&rt, server, POSTS)
 }

@@ -3,6 +3,7 @@ ghost use Rattle.std.specs.Prelude.{◌≡◌};
 
 use std::alloc::{AllocGlobal, Global};
 use std::io::{Read, Write};
+use std::marker::Brand;
 use std::net::{Ipv4Addr, Net, SocketAddr, TcpListener, TcpStream};
 use std::random::RandomSource;
 use std::sync::{Arc, Wait};
@@ -98,8 +99,8 @@ where
     Ok(())
 }
 
-/// Serves such a node in a thread of its own, at a port that the system picks, until the process ends.
-pub(crate) fn started<N, R>(rt: &R, opened: Opened<Line>) -> Result<SocketAddr, Fail>
+// Serves such a node in a thread of its own, at a port that the system picks, until the process ends.
+fn begin<N, R>(rt: &R, opened: Opened<Line>) -> Result<SocketAddr, Fail>
 where
     N: NodeName + Send + Sync + 'static,
     R: Wait
@@ -120,6 +121,25 @@ where
     let node = node_with_a::<N, R>(rt, rt.alloc(), opened)?;
     serve_in_thread(rt, listener, node)?;
     Ok(server)
+}
+
+/// Serves a new node of replica 1, at which the cluster `a` was put, until the process ends, and answers where.
+pub(crate) fn started<R>(rt: &R) -> Result<SocketAddr, Fail>
+where
+    R: Wait
+        + Threads
+        + Clock
+        + RandomSource
+        + AllocGlobal
+        + Copy
+        + Drop
+        + Send
+        + Sync
+        + Net<Listener = TcpListener, Stream = TcpStream>
+        + 'static,
+{
+    let opened = Opened::<Line>::new(rt.alloc())?;
+    begin::<Brand, R>(rt, opened)
 }
 
 /// Connects, writes these bytes, and leaves the connection open.

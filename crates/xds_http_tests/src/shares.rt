@@ -1,14 +1,10 @@
 // Several requests of one connection, several connections at once, and what stands in heads.
-ghost use Rattle.std.specs.Prelude.{◌≡◌};
-
 use crate::posts::hold;
 use crate::server::{begun, same, started, told, written};
 use std::alloc::{AllocGlobal, Global};
 use std::io::Read;
-use std::marker::Brand;
 use std::net::{Net, Shutdown, SocketAddr, TcpListener, TcpStream};
 use std::test::Fail;
-use xds_node::{Line, Opened};
 
 // Three requests as one text.
 fn three(alloc: Global) -> Result<String, Fail> {
@@ -40,8 +36,7 @@ where
 
 #[test]
 fn three_requests_in_one_go_are_answered_in_order(rt: HostRuntime) -> Result<(), Fail> {
-    let opened = Opened::<Line>::new(rt.alloc())?;
-    let server = started::<Brand, _>(&rt, opened)?;
+    let server = started(&rt)?;
     in_one_go(&rt, server)
 }
 
@@ -74,8 +69,7 @@ where
 
 #[test]
 fn half_a_request_holds_up_no_other(rt: HostRuntime) -> Result<(), Fail> {
-    let opened = Opened::<Line>::new(rt.alloc())?;
-    let server = started::<Brand, _>(&rt, opened)?;
+    let server = started(&rt)?;
     beside_halves(&rt, server)
 }
 
@@ -87,8 +81,7 @@ const CHUNKED: &[u8] =
 
 #[test]
 fn no_coding_but_chunks_is_taken(rt: HostRuntime) -> Result<(), Fail> {
-    let opened = Opened::<Line>::new(rt.alloc())?;
-    let server = started::<Brand, _>(&rt, opened)?;
+    let server = started(&rt)?;
     let coded = told(rt.alloc(), begun(&rt, server, CODED)?)?;
     same(coded.as_str(), "501", "gzip")?;
     let chunked = told(rt.alloc(), begun(&rt, server, CHUNKED)?)?;
@@ -111,8 +104,7 @@ where
 
 #[test]
 fn heads_say_what_a_body_is_and_which_method_there_is(rt: HostRuntime) -> Result<(), Fail> {
-    let opened = Opened::<Line>::new(rt.alloc())?;
-    let server = started::<Brand, _>(&rt, opened)?;
+    let server = started(&rt)?;
     let json = "content-type: application/json\r\n";
     let allow = "allow: POST\r\n";
     assert!(rt; says(&rt, server, "POST /v3/discovery:secrets {}", json)?);
@@ -129,8 +121,7 @@ const NO_HEAD: &[u8] = b"no head\r\n\r\n";
 
 #[test]
 fn no_head_and_no_whole_body_ends_the_connection(rt: HostRuntime) -> Result<(), Fail> {
-    let opened = Opened::<Line>::new(rt.alloc())?;
-    let server = started::<Brand, _>(&rt, opened)?;
+    let server = started(&rt)?;
     let no_host = told(rt.alloc(), begun(&rt, server, NO_HOST)?)?;
     same(no_host.as_str(), "400", "no host")?;
     let no_head = told(rt.alloc(), begun(&rt, server, NO_HEAD)?)?;

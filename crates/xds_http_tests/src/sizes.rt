@@ -1,13 +1,9 @@
 // Bodies as long as may be, and longer.
-ghost use Rattle.std.specs.Prelude.{◌≡◌};
-
 use crate::server::{begun, same, started, told};
 use std::alloc::{AllocGlobal, Global};
 use std::io::Write;
-use std::marker::Brand;
 use std::net::{Net, SocketAddr, TcpListener, TcpStream};
 use std::test::Fail;
-use xds_node::{Line, Opened};
 
 // A sixty-fourth of a body that is as long as may be. It is no JSON.
 fn block(alloc: Global) -> Result<Vec<u8>, Fail> {
@@ -51,16 +47,14 @@ const NOT_JSON: &str = "400 {\"code\":1,\"name\":\"NotJson\"}";
 
 #[test]
 fn a_length_may_be_as_many_bytes(rt: HostRuntime) -> Result<(), Fail> {
-    let opened = Opened::<Line>::new(rt.alloc())?;
-    let server = started::<Brand, _>(&rt, opened)?;
+    let server = started(&rt)?;
     sent(&rt, server, AS_LONG, "", NOT_JSON)?;
     sent(&rt, server, LONGER, "x", "413")
 }
 
 #[test]
 fn chunks_may_have_as_many_bytes(rt: HostRuntime) -> Result<(), Fail> {
-    let opened = Opened::<Line>::new(rt.alloc())?;
-    let server = started::<Brand, _>(&rt, opened)?;
+    let server = started(&rt)?;
     sent(&rt, server, CHUNKS, "\r\n0\r\n\r\n", NOT_JSON)?;
     sent(&rt, server, CHUNKS, "\r\n1\r\nx\r\n0\r\n\r\n", "413")
 }
