@@ -1,11 +1,11 @@
 // Clients from what they ask for and the bytes that come to what they say and print.
-use crate::ran::{Pieces, bytes_of, run};
+use crate::ran::{Device, Ends, WELL, bytes_of, run};
 use std::alloc::Global;
 use std::str;
 use std::test::Fail;
 use xds_cases::cases::{Outcome, hold, replaced, told, words_of};
 use xds_client::{StreamVariant, Subscription};
-use xds_frames::Decoder;
+use xds_frames::{Decoder, Frame};
 use xds_resource::{Refusal, TypeName};
 
 // Sizes of the pieces that the input comes in.
@@ -22,13 +22,31 @@ impl Outcome for Client {
         let input = bytes_of(alloc, items)?;
         let whole = came_to(alloc, asked.as_slice(), input.as_slice(), usize::MAX)?;
         for size in SIZES {
-            let cut = came_to(alloc, asked.as_slice(), input.as_slice(), size)?;
-            if cut.as_str() != whole.as_str() {
-                return Err(Fail::new(format_args!("another answer in pieces of {size}")));
-            }
+            comes_again(
+                alloc,
+                asked.as_slice(),
+                input.as_slice(),
+                size,
+                whole.as_str(),
+            )?;
         }
         Ok(whole)
     }
+}
+
+// Fails unless pieces of this size come to the same.
+fn comes_again(
+    alloc: Global,
+    words: &[String],
+    input: &[u8],
+    size: usize,
+    whole: &str,
+) -> Result<(), Fail> {
+    let cut = came_to(alloc, words, input, size)?;
+    if cut.as_str() == whole {
+        return Ok(());
+    }
+    Err(Fail::new(format_args!("{cut} and not {whole}, in pieces of {size}")))
 }
 
 // What the words of a case ask for.
@@ -49,34 +67,59 @@ fn wish_of(words: &[String]) -> Option<Subscription<'_>> {
 
 fn came_to(alloc: Global, words: &[String], input: &[u8], size: usize) -> Result<String, Fail> {
     let wish = wish_of(words).ok_or("a case asks for nothing")?;
-    let reader = Pieces::new(input, size);
-    let ran = run(alloc, &wish, reader, Vec::new(alloc), Vec::new(alloc));
-    let answer = match ran.answer {
-        Ok(()) => Ok(String::from_str(alloc, "ok")?),
-        Err(refusal) => Err(refusal),
-    };
-    let mut text = told(alloc, answer)?;
-    push_frames(alloc, ran.server.as_slice(), &mut text)?;
-    let lines = str::from_utf8(ran.output.as_slice())
-        .ok()
-        .ok_or(Refusal::NotJson)?;
-    let lines = replaced(alloc, lines, "\n", "|")?;
-    text.push_str(" / ")?;
-    text.push_str(lines.as_str())?;
+    let reader = Device { size, failing: 0 };
+    let mut ends = Ends::new(alloc, input, reader, WELL, WELL);
+    let answer = run(alloc, &wish, &mut ends);
+    told_of(alloc, answer, ends.said(), ends.printed())
+}
+
+fn told_of(
+    alloc: Global,
+    answer: Result<(), Refusal>,
+    said: &[u8],
+    printed: &[u8],
+) -> Result<String, Fail> {
+    let mut text = told(alloc, ok_or(alloc, answer))?;
+    push_frames(alloc, said, &mut text)?;
+    push_lines(alloc, printed, &mut text)?;
     Ok(text)
+}
+
+// `ok`, or the refusal.
+fn ok_or(alloc: Global, answer: Result<(), Refusal>) -> Result<String, Refusal> {
+    answer?;
+    Ok(String::from_str(alloc, "ok")?)
 }
 
 fn push_frames(alloc: Global, bytes: &[u8], text: &mut String) -> Result<(), Refusal> {
     let mut decoder = Decoder::new(alloc);
     decoder.feed(bytes)?;
+    push_each(alloc, &mut decoder, text)
+}
+
+fn push_each(alloc: Global, decoder: &mut Decoder, text: &mut String) -> Result<(), Refusal> {
     for _ in 0..u64::MAX {
-        let Some(frame) = decoder.next()? else {
-            return decoder.finish();
-        };
-        let number = frame.kind.number();
-        let body = str::from_utf8(frame.text).ok().ok_or(Refusal::NotJson)?;
-        text.push_str(format!(in alloc; "; {number} {body}")?.as_str())?;
+        match decoder.next()? {
+            Some(frame) => push_frame(alloc, frame, text)?,
+            None => return decoder.finish(),
+        }
     }
+    Ok(())
+}
+
+fn push_frame(alloc: Global, frame: Frame<'_>, text: &mut String) -> Result<(), Refusal> {
+    let number = frame.kind.number();
+    let body = str::from_utf8(frame.text).ok().ok_or(Refusal::NotJson)?;
+    text.push_str(format!(in alloc; "; {number} {body}")?.as_str())?;
+    Ok(())
+}
+
+// Adds the lines, with `|` at the end of each.
+fn push_lines(alloc: Global, printed: &[u8], text: &mut String) -> Result<(), Refusal> {
+    let lines = str::from_utf8(printed).ok().ok_or(Refusal::NotJson)?;
+    let lines = replaced(alloc, lines, "\n", "|")?;
+    text.push_str(" / ")?;
+    text.push_str(lines.as_str())?;
     Ok(())
 }
 

@@ -1,11 +1,11 @@
-// A client that is run over readers and writers in memory, and what it came to.
+// A client that is run over readers and writers in memory.
 use std::alloc::Global;
 use std::io;
 use std::io::{ErrorKind, Read, Write};
 use std::test::Fail;
 use xds_cases::cases::written_out;
 use xds_client::{Subscription, run_client};
-use xds_frames::{Counted, FrameKind, push_frame};
+use xds_frames::{Counted, Faulty, FrameKind, push_frame};
 use xds_resource::Refusal;
 
 /// A reader that gives its bytes in pieces of one size.
@@ -13,12 +13,6 @@ use xds_resource::Refusal;
 pub(crate) struct Pieces<'a> {
     bytes: &'a [u8],
     size: usize,
-}
-
-impl<'a> Pieces<'a> {
-    pub(crate) fn new(bytes: &'a [u8], size: usize) -> Pieces<'a> {
-        Pieces { bytes, size }
-    }
 }
 
 impl Read for Pieces<'_> {
@@ -31,21 +25,20 @@ impl Read for Pieces<'_> {
     }
 }
 
-/// A writer that takes one byte a call.
+/// A writer that takes at most so many bytes a call.
 #[derive(Drop)]
-pub(crate) struct Dripping {
-    pub(crate) taken: Vec<u8>,
+pub(crate) struct Taking {
+    taken: Vec<u8>,
+    size: usize,
 }
 
-impl Write for Dripping {
+impl Write for Taking {
     fn write(&mut self, buf: &[u8]) -> io::Result<usize> {
-        let Some(&byte) = buf.first() else {
-            return Ok(0);
-        };
-        if self.taken.push(byte).is_err() {
+        let count = self.size.min(buf.len());
+        if self.taken.extend_from_slice(&buf[..count]).is_err() {
             return Err(io::Error::from(ErrorKind::OutOfMemory));
         }
-        Ok(1)
+        Ok(count)
     }
 
     fn flush(&mut self) -> io::Result<()> {
@@ -53,33 +46,82 @@ impl Write for Dripping {
     }
 }
 
-/// What a client came to.
-#[derive(Drop)]
-pub(crate) struct Ran<W: Drop, O: Drop> {
-    pub(crate) answer: Result<(), Refusal>,
-    pub(crate) server: W,
-    pub(crate) output: O,
-    /// How many calls of the reader were made.
-    pub(crate) reads: u64,
+/// How many bytes a reader or a writer passes at most in a call, and which call of it fails, where any does.
+#[derive(Clone, Copy)]
+pub(crate) struct Device {
+    pub(crate) size: usize,
+    pub(crate) failing: u64,
 }
 
-pub(crate) fn run<R: Read + Drop, W: Write + Drop, O: Write + Drop>(
+/// A device that passes all bytes at once, and never fails.
+pub(crate) const WELL: Device = Device {
+    size: usize::MAX,
+    failing: 0,
+};
+
+fn writer(alloc: Global, device: Device) -> Counted<Faulty<Taking>> {
+    let taking = Taking {
+        taken: Vec::new(alloc),
+        size: device.size,
+    };
+    Counted::new(Faulty::new(taking, device.failing))
+}
+
+/// What a client reads, and what it has written.
+#[derive(Drop)]
+pub(crate) struct Ends<'a> {
+    reader: Counted<Faulty<Pieces<'a>>>,
+    server: Counted<Faulty<Taking>>,
+    output: Counted<Faulty<Taking>>,
+}
+
+impl<'a> Ends<'a> {
+    pub(crate) fn new(
+        alloc: Global,
+        bytes: &'a [u8],
+        reader: Device,
+        server: Device,
+        output: Device,
+    ) -> Ends<'a> {
+        let pieces = Pieces {
+            bytes,
+            size: reader.size,
+        };
+        Ends {
+            reader: Counted::new(Faulty::new(pieces, reader.failing)),
+            server: writer(alloc, server),
+            output: writer(alloc, output),
+        }
+    }
+
+    /// What was said to the server.
+    pub(crate) fn said(&self) -> &[u8] {
+        self.server.inner.inner.taken.as_slice()
+    }
+
+    /// What was printed.
+    pub(crate) fn printed(&self) -> &[u8] {
+        self.output.inner.inner.taken.as_slice()
+    }
+
+    /// How many calls of the reader were made.
+    pub(crate) fn reads(&self) -> u64 {
+        self.reader.calls
+    }
+}
+
+pub(crate) fn run(
     alloc: Global,
     wish: &Subscription<'_>,
-    reader: R,
-    server: W,
-    output: O,
-) -> Ran<W, O> {
-    let mut reader = Counted::new(reader);
-    let mut server = Counted::new(server);
-    let mut output = Counted::new(output);
-    let answer = run_client(alloc, wish, &mut reader, &mut server, &mut output);
-    Ran {
-        answer,
-        server: server.inner,
-        output: output.inner,
-        reads: reader.calls,
-    }
+    ends: &mut Ends<'_>,
+) -> Result<(), Refusal> {
+    run_client(
+        alloc,
+        wish,
+        &mut ends.reader,
+        &mut ends.server,
+        &mut ends.output,
+    )
 }
 
 /// The bytes of items that stand apart by `; `: the number of a kind and a text, which are a frame, or hex digits.

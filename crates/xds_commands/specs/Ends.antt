@@ -2,8 +2,8 @@
 use Rattle.std.specs.Prelude.{◌≡◌, ◌⊎◌, ℕ, List}
 use Rattle.xds_frames.specs.Devices.{Device, Stays, Tells}
 use Rattle.xds_resource.specs.declared.refusal.Refusal.{Refusal}
-use Rattle.xds_poll.specs.Questions.{shown}
-use Rattle.xds_poll.specs.Sent.{TellsNothing}
+use Rattle.xds_http.specs.Questions.{shown}
+use Rattle.xds_http.specs.Sent.{TellsNothing}
 use Rattle.xds_client.specs.declared.subscription.StreamVariant as streams
 use Rattle.xds_client.specs.declared.subscription.StreamVariant.TheVariants as variants
 use Rattle.xds_program.specs.declared.tasks.StreamVariant.{StreamVariant}

@@ -9,7 +9,7 @@ use std::random::RandomSource;
 use std::sync::Wait;
 use std::time::Clock;
 use xds_frames::Counted;
-use xds_poll::{Question, Told, poll};
+use xds_http::{Question, Told, poll};
 use xds_program::PollTask;
 use xds_program::run::{DONE, print, tell};
 

@@ -1,6 +1,5 @@
 // A run of the program, over an input in memory.
 use std::alloc::{AllocGlobal, Global};
-use std::io::Read;
 use std::net::{Net, TcpListener, TcpStream};
 use std::random::RandomSource;
 use std::sync::Wait;
@@ -12,22 +11,29 @@ use xds_commands::run;
 use xds_frames::Counted;
 use xds_resource::Refusal;
 
-/// The status of a run over these words and this input, its output and its error output, with `~` for a line feed.
-pub(crate) fn ran<R, I>(rt: &R, line: &str, input: I) -> Result<String, Refusal>
+/// What a runtime has that a run, or a server, takes, beside the network.
+pub(crate) trait Machine: Wait
+    + Threads
+    + Clock
+    + RandomSource
+    + AllocGlobal
+    + Copy
+    + Drop
+    + Send
+    + Sync
+    + 'static {}
+
+impl<R> Machine for R
 where
-    R: Wait
-        + Threads
-        + Clock
-        + Net<Listener = TcpListener, Stream = TcpStream>
-        + RandomSource
-        + AllocGlobal
-        + Copy
-        + Drop
-        + Send
-        + Sync
-        + 'static,
-    I: Read + Drop + Send + 'static,
-{
+    R: Wait + Threads + Clock + RandomSource + AllocGlobal + Copy + Drop + Send + Sync + 'static,
+{}
+
+/// The status of a run over these words and this input, its output and its error output, with `~` for a line feed.
+pub(crate) fn ran<R: Machine + Net<Listener = TcpListener, Stream = TcpStream>>(
+    rt: &R,
+    line: &str,
+    input: &'static [u8],
+) -> Result<String, Refusal> {
     let alloc = rt.alloc();
     let words = words_of(alloc, line)?;
     let mut output = Counted::new(Vec::new(alloc));
@@ -57,5 +63,25 @@ pub(crate) fn is_told(alloc: Global, found: &str, wanted: &str) -> Result<(), Fa
         Ok(())
     } else {
         Err(Fail::new(format_args!("{found} and not {wanted}")))
+    }
+}
+
+/// That a run over these words and this input tells what is wanted.
+pub(crate) fn tells<R: Machine + Net<Listener = TcpListener, Stream = TcpStream>>(
+    rt: &R,
+    line: &str,
+    input: &'static [u8],
+    wanted: &str,
+) -> Result<(), Fail> {
+    let found = ran(rt, line, input)?;
+    is_told(rt.alloc(), found.as_str(), wanted)
+}
+
+/// That what a run told begins so.
+pub(crate) fn begins(found: &str, wanted: &str) -> Result<(), Fail> {
+    if found.starts_with(wanted) {
+        Ok(())
+    } else {
+        Err(Fail::new(format_args!("{found} and not {wanted}..")))
     }
 }

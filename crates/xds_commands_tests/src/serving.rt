@@ -1,14 +1,12 @@
 // A server, a client and a poll in one process.
-use crate::running::{is_told, ran};
-use std::alloc::AllocGlobal;
+use crate::running::{Machine, begins, is_told, ran};
+use std::alloc::Global;
 use std::io::{Read, Write};
 use std::net::{Ipv4Addr, Net, Shutdown, SocketAddrV4, TcpListener, TcpStream};
-use std::random::RandomSource;
-use std::sync::Wait;
 use std::test::Fail;
 use std::thread;
-use std::thread::{JoinHandle, Threads};
-use std::time::{Clock, Duration};
+use std::thread::JoinHandle;
+use std::time::Duration;
 use xds_resource::Refusal;
 
 // How often something is tried that can't be done until the server has begun.
@@ -22,44 +20,34 @@ const A_ROUTE: &[u8] =
 const A_CLUSTER: &[u8] =
     b"put 1 {\"@type\":\"type.googleapis.com/envoy.config.cluster.v3.Cluster\",\"name\":\"a\"}\n";
 
+// A run in a thread of its own.
+type Run = JoinHandle<Result<String, Refusal>>;
+
 // Starts a server in a thread of its own.
-fn started<R>(
+fn started<R: Machine + Net<Listener = TcpListener, Stream = TcpStream>>(
     rt: &R,
     line: &'static str,
     input: &'static [u8],
-) -> Result<JoinHandle<Result<String, Refusal>>, Fail>
-where
-    R: Wait
-        + Threads
-        + Clock
-        + Net<Listener = TcpListener, Stream = TcpStream>
-        + RandomSource
-        + AllocGlobal
-        + Copy
-        + Drop
-        + Send
-        + Sync
-        + 'static,
-{
+) -> Result<Run, Fail> {
     let host = *rt;
     Ok(thread::spawn(rt, move || ran(&host, line, input))?)
 }
 
+// That a server ends with this status.
+fn ends<R: Machine + Net<Listener = TcpListener, Stream = TcpStream>>(
+    rt: &R,
+    server: Run,
+    status: &str,
+) -> Result<(), Fail> {
+    let told = server.join(rt)?;
+    begins(told.as_str(), status)
+}
+
 // What a run tells, tried again while it is refused for want of a server.
-fn once_served<R>(rt: &R, line: &str) -> Result<String, Refusal>
-where
-    R: Wait
-        + Threads
-        + Clock
-        + Net<Listener = TcpListener, Stream = TcpStream>
-        + RandomSource
-        + AllocGlobal
-        + Copy
-        + Drop
-        + Send
-        + Sync
-        + 'static,
-{
+fn once_served<R: Machine + Net<Listener = TcpListener, Stream = TcpStream>>(
+    rt: &R,
+    line: &str,
+) -> Result<String, Refusal> {
     for _ in 0..MOST_TURNS {
         let told = ran(rt, line, NO_INPUT)?;
         if told.as_str() != "1 19 Device~" {
@@ -70,11 +58,21 @@ where
     Err(Refusal::Device)
 }
 
+// That a run tells what is wanted, once there is a server.
+fn tells_once_served<R: Machine + Net<Listener = TcpListener, Stream = TcpStream>>(
+    rt: &R,
+    line: &str,
+    wanted: &str,
+) -> Result<(), Fail> {
+    let told = once_served(rt, line)?;
+    is_told(rt.alloc(), told.as_str(), wanted)
+}
+
 // A connection to a port of this machine, tried again while there is none.
-fn connected<R>(rt: &R, port: u16) -> Result<TcpStream, Refusal>
-where
-    R: Net<Listener = TcpListener, Stream = TcpStream> + Clock,
-{
+fn connected<R: Machine + Net<Listener = TcpListener, Stream = TcpStream>>(
+    rt: &R,
+    port: u16,
+) -> Result<TcpStream, Refusal> {
     for _ in 0..MOST_TURNS {
         if let Ok(stream) = TcpStream::connect(rt, SocketAddrV4::new(Ipv4Addr::LOCALHOST, port)) {
             return Ok(stream);
@@ -84,6 +82,7 @@ where
     Err(Refusal::Device)
 }
 
+// The server ends with both streams.
 #[test]
 fn a_client_hears_of_what_the_other_replica_took(rt: HostRuntime) -> Result<(), Fail> {
     let server = started(
@@ -91,32 +90,33 @@ fn a_client_hears_of_what_the_other_replica_took(rt: HostRuntime) -> Result<(), 
         "xds serve --replicas 2 --port 18610 --rest-port 18620 --streams 2",
         A_ROUTE,
     )?;
-    let whole = once_served(
+    tells_once_served(
         &rt,
         "xds client --addr 127.0.0.1:18611 --variant sotw --type route --responses 1 q",
-    )?;
-    let step = once_served(
-        &rt,
-        "xds client --addr 127.0.0.1:18611 --variant delta --type route --responses 1 q",
-    )?;
-    let ended = server.join(&rt)?;
-    is_told(
-        rt.alloc(),
-        whole.as_str(),
         "0 taken 1~{\"@type\":\"RDS\",\"name\":\"q\"}~",
     )?;
-    is_told(
-        rt.alloc(),
-        step.as_str(),
+    tells_once_served(
+        &rt,
+        "xds client --addr 127.0.0.1:18611 --variant delta --type route --responses 1 q",
         "0 taken 1~1-1 {\"@type\":\"RDS\",\"name\":\"q\"}~",
     )?;
-    assert!(rt;
-        ended.as_str().starts_with("0 "),
-        "the server ends with both streams"
-    );
-    Ok(())
+    ends(&rt, server, "0 ")
 }
 
+// While a connection holds half a frame, a client hears of what there is.
+fn beside_half_a_frame<R: Machine + Net<Listener = TcpListener, Stream = TcpStream>>(
+    rt: &R,
+) -> Result<(), Fail> {
+    let mut held = connected(rt, 18630)?;
+    held.write_all(b"\x00\x00\x00\x40\x01")?;
+    tells_once_served(
+        rt,
+        "xds client --addr 127.0.0.1:18630 --variant sotw --type cluster --responses 1 *",
+        "0 taken 1~",
+    )
+}
+
+// The server ends with both streams.
 #[test]
 fn a_half_frame_holds_up_no_other_stream(rt: HostRuntime) -> Result<(), Fail> {
     let server = started(
@@ -124,22 +124,39 @@ fn a_half_frame_holds_up_no_other_stream(rt: HostRuntime) -> Result<(), Fail> {
         "xds serve --replicas 1 --port 18630 --rest-port 18640 --streams 2",
         NO_INPUT,
     )?;
-    let mut held = connected(&rt, 18630)?;
-    held.write_all(b"\x00\x00\x00\x40\x01")?;
-    let told = once_served(
-        &rt,
-        "xds client --addr 127.0.0.1:18630 --variant sotw --type cluster --responses 1 *",
-    )?;
-    drop(held);
-    let ended = server.join(&rt)?;
-    is_told(rt.alloc(), told.as_str(), "0 taken 1~")?;
-    assert!(rt;
-        ended.as_str().starts_with("0 "),
-        "the server ends with both streams"
-    );
-    Ok(())
+    beside_half_a_frame(&rt)?;
+    ends(&rt, server, "0 ")
 }
 
+// What a poll tells once this part is told, and in the end whatever it tells.
+fn once_told<R: Machine + Net<Listener = TcpListener, Stream = TcpStream>>(
+    rt: &R,
+    line: &str,
+    part: &str,
+) -> Result<String, Refusal> {
+    for _ in 0..MOST_TURNS {
+        let told = once_served(rt, line)?;
+        if told.as_str().contains(part) {
+            return Ok(told);
+        }
+    }
+    once_served(rt, line)
+}
+
+// Polls until the cluster `a` is told.
+fn is_polled<R: Machine + Net<Listener = TcpListener, Stream = TcpStream>>(
+    rt: &R,
+) -> Result<(), Fail> {
+    let line = "xds poll --addr 127.0.0.1:18660 --type cluster a";
+    let told = once_told(rt, line, "\"1.1.named\"")?;
+    is_told(
+        rt.alloc(),
+        told.as_str(),
+        "0 200~{\"resources\":[{\"@type\":\"CDS\",\"name\":\"a\"}],\"typeUrl\":\"CDS\",\"versionInfo\":\"1.1.named\"}~",
+    )
+}
+
+// The server ends with the stream.
 #[test]
 fn a_server_is_polled(rt: HostRuntime) -> Result<(), Fail> {
     let server = started(
@@ -147,66 +164,53 @@ fn a_server_is_polled(rt: HostRuntime) -> Result<(), Fail> {
         "xds serve --replicas 1 --port 18650 --rest-port 18660 --streams 1",
         A_CLUSTER,
     )?;
-    let mut told = once_served(&rt, "xds poll --addr 127.0.0.1:18660 --type cluster a")?;
-    for _ in 0..MOST_TURNS {
-        if told.as_str().contains("\"1.1.named\"") {
-            break;
-        }
-        told = once_served(&rt, "xds poll --addr 127.0.0.1:18660 --type cluster a")?;
-    }
-    let kept = once_served(
+    is_polled(&rt)?;
+    tells_once_served(
         &rt,
         "xds poll --addr 127.0.0.1:18660 --type cluster --version 1.1",
+        "0 304~",
     )?;
     drop(connected(&rt, 18650)?);
-    let ended = server.join(&rt)?;
-    is_told(rt.alloc(), kept.as_str(), "0 304~")?;
-    is_told(
-        rt.alloc(),
-        told.as_str(),
-        "0 200~{\"resources\":[{\"@type\":\"CDS\",\"name\":\"a\"}],\"typeUrl\":\"CDS\",\"versionInfo\":\"1.1.named\"}~",
-    )?;
-    assert!(rt;
-        ended.as_str().starts_with("0 "),
-        "the server ends with the stream"
-    );
+    ends(&rt, server, "0 ")
+}
+
+// Takes a connection, says nothing, ends it, and waits for the end of the peer.
+fn hangs_up(alloc: Global, listener: &TcpListener) -> Result<(), Fail> {
+    let (mut stream, _) = listener.accept()?;
+    stream.shutdown(Shutdown::Write)?;
+    let mut said = Vec::new(alloc);
+    stream.read_to_end(&mut said)?;
     Ok(())
 }
 
-// What a run tells of a peer that says nothing and ends the connection.
-fn hung_up<R>(rt: &R, port: u16, line: &'static str) -> Result<String, Fail>
-where
-    R: Wait
-        + Threads
-        + Clock
-        + Net<Listener = TcpListener, Stream = TcpStream>
-        + RandomSource
-        + AllocGlobal
-        + Copy
-        + Drop
-        + Send
-        + Sync
-        + 'static,
-{
+// What a run tells of such a peer.
+fn hung_up<R: Machine + Net<Listener = TcpListener, Stream = TcpStream>>(
+    rt: &R,
+    port: u16,
+    line: &'static str,
+    wanted: &str,
+) -> Result<(), Fail> {
     let listener = TcpListener::bind(rt, SocketAddrV4::new(Ipv4Addr::LOCALHOST, port))?;
     let run = started(rt, line, NO_INPUT)?;
-    let (mut stream, _) = listener.accept()?;
-    stream.shutdown(Shutdown::Write)?;
-    let mut said = Vec::new(rt.alloc());
-    stream.read_to_end(&mut said)?;
-    Ok(run.join(rt)?)
+    hangs_up(rt.alloc(), &listener)?;
+    let told = run.join(rt)?;
+    is_told(rt.alloc(), told.as_str(), wanted)
 }
 
 #[test]
 fn a_peer_that_ends_is_told(rt: HostRuntime) -> Result<(), Fail> {
-    let watched = hung_up(
+    hung_up(
         &rt,
         18690,
         "xds client --addr 127.0.0.1:18690 --variant sotw --type cluster --responses 1 *",
+        "1 18 Truncated~",
     )?;
-    is_told(rt.alloc(), watched.as_str(), "1 18 Truncated~")?;
-    let polled = hung_up(&rt, 18691, "xds poll --addr 127.0.0.1:18691 --type cluster")?;
-    is_told(rt.alloc(), polled.as_str(), "1 19 Device~")
+    hung_up(
+        &rt,
+        18691,
+        "xds poll --addr 127.0.0.1:18691 --type cluster",
+        "1 19 Device~",
+    )
 }
 
 #[test]
@@ -221,6 +225,5 @@ fn a_bad_line_ends_a_server(rt: HostRuntime) -> Result<(), Fail> {
         ended.as_str().ends_with("line 2: 21 BadScript~"),
         "the line is told"
     );
-    assert!(rt; ended.as_str().starts_with("1 "), "the server is refused");
-    Ok(())
+    begins(ended.as_str(), "1 ")
 }

@@ -2,6 +2,7 @@
 use crate::script::parted;
 use crate::writes::batch_of;
 use std::alloc::Global;
+use xds_cases::cases::words_of;
 use xds_core::{Event, Marks, Request};
 use xds_message::{DeltaDiscoveryRequest, DiscoveryRequest};
 use xds_resource::{AnyResource, Groups, Refusal, TypeName};
@@ -109,14 +110,6 @@ fn rest_of(alloc: Global, text: &str) -> Result<Event, Refusal> {
 fn text_or_empty(alloc: Global, word: &str) -> Result<String, Refusal> {
     let text = if word == "-" { "" } else { word };
     Ok(String::from_str(alloc, text)?)
-}
-
-fn words_of(alloc: Global, text: &str) -> Result<Vec<String>, Refusal> {
-    let mut words = Vec::new(alloc);
-    for word in text.split_whitespace() {
-        words.push(String::from_str(alloc, word)?)?;
-    }
-    Ok(words)
 }
 
 fn since(text: &str) -> Result<Event, Refusal> {

@@ -1,8 +1,9 @@
 // Events for which no memory is found. With ample memory each is taken at once; `bench/refused.py` refuses one allocation after
 // another. An event that was refused has changed nothing, and is taken when it comes again.
-use crate::script::{Actor, parted, play_line, play_on, written_out};
+use crate::script::{Actor, parted, play_line, play_on};
 use std::alloc::Global;
 use std::test::Fail;
+use xds_cases::cases::written_out;
 use xds_core::Core;
 use xds_resource::Refusal;
 

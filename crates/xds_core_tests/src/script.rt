@@ -1,7 +1,8 @@
 // Stories as texts, one step a line: what happens, ` => `, and what is answered.
-use std::alloc::{AllocError, Global};
+use std::alloc::Global;
 use std::test::Fail;
-use xds_resource::{Refusal, TypeName};
+use xds_cases::cases::written_out;
+use xds_resource::Refusal;
 
 /// To whom stories happen. Of a type parameter, a drop is one step to the proof, and of a replica it is many, on each way
 /// out: so only functions over a type parameter hold one.
@@ -55,13 +56,4 @@ fn compare(answer: &str, wanted: &str, step: &str) -> Result<(), Fail> {
 /// The text before and after the first space.
 pub(crate) fn parted(text: &str) -> (&str, &str) {
     text.split_once(' ').unwrap_or((text, ""))
-}
-
-/// The text, with the types' URLs in place of their abbreviations.
-pub(crate) fn written_out(alloc: Global, text: &str) -> Result<String, AllocError> {
-    let text = text.replace(alloc, "CDS", TypeName::Cluster.url())?;
-    let text = text.replace(alloc, "EDS", TypeName::Endpoint.url())?;
-    let text = text.replace(alloc, "LDS", TypeName::Listener.url())?;
-    let text = text.replace(alloc, "RDS", TypeName::Route.url())?;
-    text.replace(alloc, "SDS", TypeName::Secret.url())
 }

@@ -20,23 +20,9 @@ fn after<V: Drop>(done: Result<(), Refusal>, value: V) -> Result<V, Refusal> {
 
 fn read_onto(alloc: Global, batch: &mut Batch, text: &str) -> Result<(), Refusal> {
     for part in text.split_whitespace() {
-        push(batch, read_write(alloc, part.as_bytes())?)?;
+        batch.push(read_write(alloc, part.as_bytes())?)?;
     }
     Ok(())
-}
-
-fn push(batch: &mut Batch, write: AnyWrite) -> Result<(), Refusal> {
-    match write {
-        AnyWrite::Cluster(write) => push_one(&mut batch.cluster, write),
-        AnyWrite::Endpoint(write) => push_one(&mut batch.endpoint, write),
-        AnyWrite::Listener(write) => push_one(&mut batch.listener, write),
-        AnyWrite::Route(write) => push_one(&mut batch.route, write),
-        AnyWrite::Secret(write) => push_one(&mut batch.secret, write),
-    }
-}
-
-fn push_one<V: Drop>(all: &mut Vec<V>, value: V) -> Result<(), Refusal> {
-    Ok(all.push(value)?)
 }
 
 impl Told for Write<Cluster> {

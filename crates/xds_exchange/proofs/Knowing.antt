@@ -1,5 +1,5 @@
 -- What a peer knows: the changes above its marks come to the same as all, and all is known afterwards.
-use Rattle.std.proofs.Common.{◌≡◌, ◌≢◌, ℕ, ◌≤◌, List, [], ◌++◌, Bool, true, false, not, cond, Option, Some, None, is_some, refl, sym, ap, subst, ◌∙◌, arith}
+use Rattle.std.proofs.Common.{◌≡◌, ◌≢◌, ℕ, ◌≤◌, List, ◌++◌, Bool, true, false, not, cond, Option, Some, None, is_some, refl, sym, ap, subst, ◌∙◌, arith}
 use Rattle.std.specs.Prelude.{IfSome, IsSomeAnd, nat_lt}
 use Rattle.std.specs.declared.cmp.Ordering.TheVariants.{Greater}
 use Rattle.std.specs.FinMap as finmap
@@ -15,12 +15,12 @@ use Rattle.xds_resource.proofs.BestWrites.{best_of_both, not_Greater}
 use Rattle.xds_resource.proofs.TypesApart.{same_at_each_type, at-each}
 use Rattle.xds_catalogue.specs.Holdings.{Entries, Holdings, IsCatalogue, IsNumbered}
 use Rattle.xds_catalogue.specs.Changes.{surpasses}
-use Rattle.xds_catalogue.specs.Joins.{join, joined, changes_by, IsAbove}
+use Rattle.xds_catalogue.specs.Joins.{join, joined, IsAbove}
 use Rattle.xds_catalogue.proofs.Catalogues.{get-catalogue_of, best-values}
 use Rattle.xds_catalogue.proofs.JoinLaws.{join_is_above}
 use Rattle.xds_writes.proofs.BatchLemmas.{at-per_type}
 use Rattle.xds_store.specs.Since.{is_above, changed_after, changed_since}
-use Rattle.xds_store.specs.Stores.{Store, Batch, merged, grown, all_entries}
+use Rattle.xds_store.specs.Stores.{Store, merged, all_entries}
 use Rattle.xds_exchange.specs.Laws.{ChangesAreAll, AllIsKnown, ZerosKnowNothing, MergesKeepKnowing}
 use Rattle.xds_exchange.specs.Rounds.{unchanged_after, Knows, IsKept}
 use Rattle.xds_exchange.proofs.OneMerge.{at-merged}

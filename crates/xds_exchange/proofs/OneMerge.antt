@@ -1,14 +1,13 @@
 -- Merges one after another, against one merge of all.
-use Rattle.std.proofs.Common.{◌≡◌, ℕ, ◌+◌, ◌≤◌, List, [], ◌∷◌, ◌++◌, length, refl, sym, ap, subst, ◌∙◌, arith}
+use Rattle.std.proofs.Common.{◌≡◌, ℕ, ◌+◌, List, [], ◌∷◌, ◌++◌, refl, sym, ap, subst, ◌∙◌, arith}
 use Rattle.std.specs.List.{sum_by, flat_map}
 use Rattle.std.specs.FinMap as finmap
 use Rattle.xds_resource.specs.declared.types.TypeName.{TypeName}
 use Rattle.xds_resource.specs.declared.types.TypeName.TheVariants.{Cluster, Endpoint, Listener, Route, Secret}
-use Rattle.xds_resource.specs.PerType.{PerType, at, per_type, each}
+use Rattle.xds_resource.specs.PerType.{at, each}
 use Rattle.xds_resource.specs.TypedWrites.{TypedWrite, writes_of}
 use Rattle.xds_resource.specs.Types.{types}
-use Rattle.xds_resource.specs.Writes.{StampedWrite}
-use Rattle.xds_resource.proofs.TypesApart.{same_at_each_type, at-each}
+use Rattle.xds_resource.proofs.TypesApart.{same_at_each_type}
 use Rattle.xds_catalogue.specs.Holdings.{IsCatalogue}
 use Rattle.xds_catalogue.specs.Joins.{joined, changes_by}
 use Rattle.xds_catalogue.proofs.Catalogues.{catalogue_of-IsCatalogue}

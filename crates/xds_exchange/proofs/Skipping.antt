@@ -1,9 +1,8 @@
 -- Writes that are no greater than what stands change nothing, so that they may be left out.
 use Rattle.std.proofs.Common.{◌≡◌, ◌≢◌, ℕ, ◌+◌, List, [], ◌∷◌, ◌++◌, map, Bool, true, false, not, cond, ◌&&◌, Option, Some, None, All, refl, sym, ap, subst, ◌∙◌, arith}
 use Rattle.std.specs.Prelude.{T, IfSome, IsSomeAnd}
-use Rattle.std.specs.declared.cmp.Ordering.{Ordering}
-use Rattle.std.specs.declared.cmp.Ordering.TheVariants.{Less, Equal, Greater}
-use Rattle.std.specs.Ordering.{eq_by_cmp, is_gt}
+use Rattle.std.specs.declared.cmp.Ordering.TheVariants.{Equal, Greater}
+use Rattle.std.specs.Ordering.{eq_by_cmp}
 use Rattle.std.specs.FinMap as finmap
 use Rattle.std.specs.FinMap.Entries.{where_key, find, is_sorted, below_all, is_sorted-where_key, find-where_key}
 use Rattle.std.proofs.lemmas.List.Elements.{All-nil, All-cons, All-head, All-tail}
@@ -12,7 +11,7 @@ use Rattle.xds_resource.specs.Best.{greater, best}
 use Rattle.xds_resource.proofs.BestWrites.{best_of_both, not_gt}
 use Rattle.xds_resource.proofs.NameMaps.{bytes_eq_same}
 use Rattle.xds_resource.proofs.WriteTies.{text_cmp-IsAntisymmetric}
-use Rattle.xds_catalogue.specs.Holdings.{Entries, Holdings, IsCatalogue, catalogue_of}
+use Rattle.xds_catalogue.specs.Holdings.{Entries, Holdings, IsCatalogue}
 use Rattle.xds_catalogue.specs.Changes.{surpasses}
 use Rattle.xds_catalogue.specs.Joins.{joined, changes_by, IsAbove}
 use Rattle.xds_catalogue.proofs.Catalogues.{tie-bytes_eq, get-catalogue_of, best-values, none_tied, same_entries, catalogue_of-IsCatalogue}

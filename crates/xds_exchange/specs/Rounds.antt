@@ -1,5 +1,5 @@
 -- What one replica tells another since the last time, by marks. This project's own.
-use Rattle.std.specs.Prelude.{◌≡◌, ℕ, List, length, not}
+use Rattle.std.specs.Prelude.{◌≡◌, ℕ, List, not}
 use Rattle.std.specs.FinMap as finmap
 use Rattle.xds_resource.specs.declared.types.TypeName.{TypeName}
 use Rattle.xds_resource.specs.PerType.{PerType, at}
@@ -8,7 +8,7 @@ use Rattle.xds_writes.specs.Batches.{in_order}
 use Rattle.xds_catalogue.specs.Holdings.{Entries, Holdings, IsCatalogue, IsNumbered}
 use Rattle.xds_catalogue.specs.Joins.{join, IsAbove}
 use Rattle.xds_store.specs.Since.{is_above, changed_since}
-use Rattle.xds_store.specs.Stores.{Store, grown, merged, all_entries}
+use Rattle.xds_store.specs.Stores.{Store, merged, all_entries}
 
 -- the entries whose latest change isn't above this number
 abbrev pub unchanged_after : Holdings → ℕ → Entries

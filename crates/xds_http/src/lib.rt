@@ -1,11 +1,17 @@
-// The server of polls over HTTP, at a node that threads share.
+// REST over HTTP: the server of polls, at a node that threads share, and one poll of a server.
 #![tactic(auto)]
 
 pub mod accept;
+pub mod polling;
+pub mod question;
 pub mod replies;
 pub mod response;
 pub mod serve;
 pub mod service;
+pub mod told;
 
+pub use polling::poll;
+pub use question::Question;
 pub use replies::Replies;
 pub use serve::{serve_http, serve_on};
+pub use told::Told;

@@ -51,6 +51,11 @@ POST /v3/discovery:clusters {"versionInfo":"1.1"} => 304
 GET /v3/discovery:clusters {} => 405
 POST /v3/discovery:clusters => 400 {"code":1,"name":"NotJson"}"#;
 
+// That this is told.
+fn is_told(found: Result<String, Fail>, wanted: &str, given: &str) -> Result<(), Fail> {
+    same(found?.as_str(), wanted, given)
+}
+
 // Compares the replies to a request, by a seat and by the node, with what is wanted.
 fn answers<N: NodeName, R: Wait>(
     rt: &R,
@@ -61,10 +66,8 @@ fn answers<N: NodeName, R: Wait>(
 ) -> Result<(), Fail> {
     let case = written_out(alloc, case)?;
     let (given, wanted) = case.as_str().split_once(" => ").ok_or("no outcome")?;
-    let found = by_seat(rt, alloc, node, seat, given)?;
-    same(found.as_str(), wanted, given)?;
-    let found = by_node(rt, alloc, node, given)?;
-    same(found.as_str(), wanted, given)
+    is_told(by_seat(rt, alloc, node, seat, given), wanted, given)?;
+    is_told(by_node(rt, alloc, node, given), wanted, given)
 }
 
 // Goes over the cases.
@@ -89,7 +92,9 @@ pub(crate) fn standing<N: NodeName, R: Wait>(rt: &R, node: &Node<N>) -> Result<u
 // The records after the cases: those that ask the node leave one each, by the seat and without one.
 fn recorded_at<N: NodeName, R: Wait>(rt: &R, alloc: Global, node: &Node<N>) -> Result<usize, Fail> {
     let mut seat = node.seat(rt)?;
-    hold(rt, alloc, node, &mut seat)?;
+    let held = hold(rt, alloc, node, &mut seat);
+    drop(seat);
+    held?;
     Ok(standing(rt, node)?)
 }
 

@@ -27,16 +27,27 @@ fn fill<N: NodeName, R: Wait>(rt: &R, node: &Node<N>, seat: &mut Seat<N>) -> Res
     Ok(())
 }
 
-// Why a poll at a full journal has no reply by a seat, if it has none.
+// Why a poll at a journal that is filled has no reply by a seat, if it has none.
+fn refused_by<N: NodeName, R: Wait>(
+    rt: &R,
+    alloc: Global,
+    node: &Node<N>,
+    seat: &mut Seat<N>,
+) -> Result<Option<Refusal>, Refusal> {
+    fill(rt, node, seat)?;
+    let path = "/v3/discovery:secrets";
+    Ok(answer_at(rt, alloc, node, seat, "POST", path, b"{}").err())
+}
+
 fn refused<N: NodeName, R: Wait>(
     rt: &R,
     alloc: Global,
     node: &Node<N>,
 ) -> Result<Option<Refusal>, Refusal> {
     let mut seat = node.seat(rt)?;
-    fill(rt, node, &mut seat)?;
-    let path = "/v3/discovery:secrets";
-    Ok(answer_at(rt, alloc, node, &mut seat, "POST", path, b"{}").err())
+    let refused = refused_by(rt, alloc, node, &mut seat);
+    drop(seat);
+    refused
 }
 
 // How many records stand once the node was asked at a full journal, after a call alone found no room there.

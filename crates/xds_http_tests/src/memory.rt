@@ -8,24 +8,43 @@ use std::alloc::Global;
 use std::marker::Brand;
 use std::sync::Wait;
 use std::test::Fail;
-use xds_node::{Line, Node, NodeName, Opened};
+use xds_node::{Line, Node, NodeName, Opened, Seat};
 use xds_posts::{answer_at, reply_at};
 use xds_resource::Refusal;
+use xds_rest::HttpReply;
 
 const PATH: &str = "/v3/discovery:secrets";
 
 const NONE_HELD: &str =
     "200 {\"typeUrl\":\"type.googleapis.com/envoy.extensions.transport_sockets.tls.v3.Secret\",\"versionInfo\":\"1.0.named\"}";
 
+// That a reply tells that there are no secrets.
+fn tells_none(alloc: Global, reply: HttpReply) -> Result<(), Fail> {
+    same(shown(alloc, reply)?.as_str(), NONE_HELD, PATH)
+}
+
 // Whether the first poll by a seat was refused. The second is answered.
-fn by_seat<N: NodeName, R: Wait>(rt: &R, alloc: Global, node: &Node<N>) -> Result<bool, Fail> {
-    let mut seat = node.seat(rt)?;
-    let first = answer_at(rt, alloc, node, &mut seat, "POST", PATH, b"{}");
+fn twice<N: NodeName, R: Wait>(
+    rt: &R,
+    alloc: Global,
+    node: &Node<N>,
+    seat: &mut Seat<N>,
+) -> Result<bool, Fail> {
+    let first = answer_at(rt, alloc, node, seat, "POST", PATH, b"{}");
     let refused = matches!(first, Err(Refusal::OutOfMemory));
     drop(first);
-    let again = answer_at(rt, alloc, node, &mut seat, "POST", PATH, b"{}")?;
-    same(shown(alloc, again)?.as_str(), NONE_HELD, PATH)?;
+    tells_none(
+        alloc,
+        answer_at(rt, alloc, node, seat, "POST", PATH, b"{}")?,
+    )?;
     Ok(refused)
+}
+
+fn by_seat<N: NodeName, R: Wait>(rt: &R, alloc: Global, node: &Node<N>) -> Result<bool, Fail> {
+    let mut seat = node.seat(rt)?;
+    let refused = twice(rt, alloc, node, &mut seat);
+    drop(seat);
+    refused
 }
 
 // The same by the node alone.
@@ -33,8 +52,7 @@ fn by_node<N: NodeName, R: Wait>(rt: &R, alloc: Global, node: &Node<N>) -> Resul
     let first = reply_at(rt, alloc, node, "POST", PATH, b"{}");
     let unavailable = first.status == 503;
     drop(first);
-    let again = reply_at(rt, alloc, node, "POST", PATH, b"{}");
-    same(shown(alloc, again)?.as_str(), NONE_HELD, PATH)?;
+    tells_none(alloc, reply_at(rt, alloc, node, "POST", PATH, b"{}"))?;
     Ok(unavailable)
 }
 

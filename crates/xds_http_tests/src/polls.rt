@@ -9,8 +9,7 @@ use std::test::Fail;
 use std::thread;
 use std::thread::Threads;
 use std::time::Clock;
-use xds_cases::cases::written_out;
-use xds_poll::{Question, Told, poll};
+use xds_http::{Question, Told, poll};
 use xds_resource::{Refusal, TypeName};
 
 // A poll for clusters, for these names if any, with this version and this cluster.
@@ -27,38 +26,57 @@ fn question(alloc: Global, name: &str, version: &str, cluster: &str) -> Result<Q
     })
 }
 
-// Compares what is shown of a poll.
+// What is shown of a poll.
+fn shown<R>(rt: &R, server: SocketAddr, question: Question) -> Result<Vec<u8>, Refusal>
+where
+    R: Wait + Clock + Net + RandomSource + AllocGlobal,
+{
+    let told = poll(rt, server, question)?;
+    let text = told.text(rt.alloc());
+    drop(told);
+    text
+}
+
+// Compares what is shown of a poll, which is asked by a name, a version and a cluster.
 fn shows<R>(rt: &R, server: SocketAddr, asked: (&str, &str, &str), wanted: &str) -> Result<(), Fail>
 where
     R: Wait + Clock + Net + RandomSource + AllocGlobal,
 {
     let (name, version, cluster) = asked;
-    let told = poll(rt, server, question(rt.alloc(), name, version, cluster)?)?;
-    let text = told.text(rt.alloc())?;
-    let found = std::str::from_utf8(text.as_slice()).map_err(|_| "it is no text")?;
-    same(found, written_out(rt.alloc(), wanted)?.as_str(), version)
+    let text = shown(rt, server, question(rt.alloc(), name, version, cluster)?)?;
+    let found = std::str::from_utf8(text.as_slice()).unwrap_or("it is no text");
+    same(found, wanted, version)
+}
+
+// The same where the cluster `a` is shown, of this version.
+fn shows_a<R>(
+    rt: &R,
+    server: SocketAddr,
+    asked: (&str, &str, &str),
+    version: &str,
+) -> Result<(), Fail>
+where
+    R: Wait + Clock + Net + RandomSource + AllocGlobal,
+{
+    let url = TypeName::Cluster.url();
+    let wanted = format!(in rt.alloc();
+        "200\n{{\"resources\":[{{\"@type\":\"{url}\",\"name\":\"a\"}}],\"typeUrl\":\"{url}\",\"versionInfo\":\"{version}\"}}\n"
+    )?;
+    shows(rt, server, asked, wanted.as_str())
 }
 
 #[test]
 fn a_poll_shows_status_and_body(rt: HostRuntime) -> Result<(), Fail> {
     let server = started(&rt)?;
-    let has_a =
-        "200\n{\"resources\":[{\"@type\":\"CDS\",\"name\":\"a\"}],\"typeUrl\":\"CDS\",\"versionInfo\":\"1.1";
-    let all = format!(in rt.alloc(); "{has_a}\"}}\n")?;
-    shows(&rt, server, ("", "", ""), all.as_str())?;
+    shows_a(&rt, server, ("", "", ""), "1.1")?;
     shows(&rt, server, ("", "1.1", ""), "304\n")?;
-    let named = format!(in rt.alloc(); "{has_a}.named\"}}\n")?;
-    shows(&rt, server, ("a", "1.1", ""), named.as_str())?;
-    let of_cluster = format!(in rt.alloc(); "{has_a}@g1\"}}\n")?;
-    shows(&rt, server, ("", "1.1", "g1"), of_cluster.as_str())?;
+    shows_a(&rt, server, ("a", "1.1", ""), "1.1.named")?;
+    shows_a(&rt, server, ("", "1.1", "g1"), "1.1@g1")?;
     shows(&rt, server, ("", "1.1@g1", "g1"), "304\n")
 }
 
 // A port at which nobody listens.
-fn unused<R>(rt: &R) -> Result<SocketAddr, Fail>
-where
-    R: Net<Listener = TcpListener, Stream = TcpStream>,
-{
+fn unused(rt: &HostRuntime) -> Result<SocketAddr, Fail> {
     let listener = TcpListener::bind(rt, SocketAddr::from((Ipv4Addr::LOCALHOST, 0)))?;
     Ok(listener.local_addr()?)
 }
@@ -104,19 +122,47 @@ where
     Ok(poll(rt, server, question(alloc, "", "", "")?))
 }
 
+// What is shown where a server answers so.
+fn shown_by<R>(rt: &R, reply: &'static str) -> Result<Vec<u8>, Fail>
+where
+    R: Wait
+        + Threads
+        + Clock
+        + Net<Listener = TcpListener, Stream = TcpStream>
+        + RandomSource
+        + AllocGlobal,
+{
+    let told = told_by(rt, reply)??;
+    let text = told.text(rt.alloc());
+    drop(told);
+    Ok(text?)
+}
+
+// Whether a poll is refused where a server answers so.
+fn is_refused<R>(rt: &R, reply: &'static str) -> Result<bool, Fail>
+where
+    R: Wait
+        + Threads
+        + Clock
+        + Net<Listener = TcpListener, Stream = TcpStream>
+        + RandomSource
+        + AllocGlobal,
+{
+    let told = told_by(rt, reply)?;
+    let refused = matches!(told, Err(Refusal::Device));
+    drop(told);
+    Ok(refused)
+}
+
 #[test]
 fn a_reply_that_is_not_whole_is_refused(rt: HostRuntime) -> Result<(), Fail> {
-    let whole = told_by(&rt, "HTTP/1.1 200 OK\r\ncontent-length: 2\r\n\r\nab")??;
-    let text = whole.text(rt.alloc())?;
-    assert!(rt;
-        text.as_slice() == b"200\nab\n".as_slice(),
-        "a whole reply is told"
-    );
-    let short = told_by(&rt, "HTTP/1.1 200 OK\r\ncontent-length: 3\r\n\r\nab")?;
-    assert!(rt; matches!(short, Err(Refusal::Device)), "it breaks off");
-    let other = told_by(&rt, "200 OK\r\n\r\nab")?;
-    assert!(rt; matches!(other, Err(Refusal::Device)), "it is no HTTP");
-    let silent = told_by(&rt, "")?;
-    assert!(rt; matches!(silent, Err(Refusal::Device)), "nothing comes");
+    let text = shown_by(&rt, "HTTP/1.1 200 OK\r\ncontent-length: 2\r\n\r\nab")?;
+    let is_whole = text.as_slice() == b"200\nab\n".as_slice();
+    drop(text);
+    assert!(rt; is_whole, "a whole reply is told");
+    let short = is_refused(&rt, "HTTP/1.1 200 OK\r\ncontent-length: 3\r\n\r\nab")?;
+    assert!(rt; short, "it breaks off");
+    assert!(rt; is_refused(&rt, "200 OK\r\n\r\nab")?, "it is no HTTP");
+    assert!(rt; is_refused(&rt, "")?, "nothing comes");
     Ok(())
 }

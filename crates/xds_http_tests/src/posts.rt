@@ -1,23 +1,22 @@
 // Requests over a socket, each over a connection of its own.
-use crate::server::{begun, same, started, told, written};
-use std::alloc::AllocGlobal;
-use std::net::{Net, SocketAddr, TcpListener, TcpStream};
+use crate::server::{answers, started, written};
+use std::net::SocketAddr;
 use std::test::Fail;
 use xds_cases::cases::written_out;
 
 // Sends each request, and compares its reply with what is wanted.
-pub(crate) fn hold<R>(rt: &R, server: SocketAddr, cases: &str) -> Result<(), Fail>
-where
-    R: Net<Listener = TcpListener, Stream = TcpStream> + AllocGlobal,
-{
+pub(crate) fn hold(rt: &HostRuntime, server: SocketAddr, cases: &str) -> Result<(), Fail> {
     for case in cases.lines() {
-        let case = written_out(rt.alloc(), case)?;
-        let (given, wanted) = case.as_str().split_once(" => ").ok_or("no outcome")?;
-        let sent = written(rt.alloc(), given, true)?;
-        let found = told(rt.alloc(), begun(rt, server, sent.as_str().as_bytes())?)?;
-        same(found.as_str(), wanted, given)?;
+        hold_one(rt, server, case)?;
     }
     Ok(())
+}
+
+fn hold_one(rt: &HostRuntime, server: SocketAddr, case: &str) -> Result<(), Fail> {
+    let case = written_out(rt.alloc(), case)?;
+    let (given, wanted) = case.as_str().split_once(" => ").ok_or("no outcome")?;
+    let sent = written(rt.alloc(), given, true)?;
+    answers(rt, server, sent.as_str().as_bytes(), wanted, given)
 }
 
 // Replica 1 holds the cluster `a`, put once.

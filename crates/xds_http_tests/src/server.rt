@@ -143,21 +143,23 @@ where
 }
 
 /// Connects, writes these bytes, and leaves the connection open.
-pub(crate) fn begun<R>(rt: &R, server: SocketAddr, sent: &[u8]) -> Result<TcpStream, Fail>
-where
-    R: Net<Listener = TcpListener, Stream = TcpStream>,
-{
+pub(crate) fn begun(rt: &HostRuntime, server: SocketAddr, sent: &[u8]) -> Result<TcpStream, Fail> {
     let mut socket = TcpStream::connect(rt, server)?;
     socket.write_all(sent)?;
     Ok(socket)
 }
 
-/// All that comes over a connection until the other side closes it: each response's status, and its body behind a space where it
-/// has one.
-pub(crate) fn told(alloc: Global, mut socket: TcpStream) -> Result<String, Fail> {
+/// All that comes over a connection until the other side closes it.
+pub(crate) fn read_all(alloc: Global, socket: TcpStream) -> Result<Vec<u8>, Fail> {
+    let mut socket = socket;
     let mut got = Vec::new(alloc);
     socket.read_to_end(&mut got)?;
-    let text = std::str::from_utf8(got.as_slice()).map_err(|_| "it is no text")?;
+    Ok(got)
+}
+
+// Each response's status, and its body behind a space where it has one.
+fn responses(alloc: Global, got: &[u8]) -> Result<String, Fail> {
+    let text = std::str::from_utf8(got).ok().ok_or("it is no text")?;
     let mut all = String::new(alloc);
     for response in text.split("HTTP/1.1 ") {
         if let Some((head, body)) = response.split_once("\r\n\r\n") {
@@ -165,6 +167,29 @@ pub(crate) fn told(alloc: Global, mut socket: TcpStream) -> Result<String, Fail>
         }
     }
     Ok(all)
+}
+
+/// That these responses come over a connection until the other side closes it.
+pub(crate) fn tells(
+    alloc: Global,
+    socket: TcpStream,
+    wanted: &str,
+    given: &str,
+) -> Result<(), Fail> {
+    let got = read_all(alloc, socket)?;
+    let found = responses(alloc, got.as_slice())?;
+    same(found.as_str(), wanted, given)
+}
+
+/// That these responses come for these bytes over a connection of their own.
+pub(crate) fn answers(
+    rt: &HostRuntime,
+    server: SocketAddr,
+    sent: &[u8],
+    wanted: &str,
+    given: &str,
+) -> Result<(), Fail> {
+    tells(rt.alloc(), begun(rt, server, sent)?, wanted, given)
 }
 
 // Adds a response.

@@ -1,37 +1,41 @@
 // Several requests of one connection, several connections at once, and what stands in heads.
 use crate::posts::hold;
-use crate::server::{begun, same, started, told, written};
-use std::alloc::{AllocGlobal, Global};
-use std::io::Read;
-use std::net::{Net, Shutdown, SocketAddr, TcpListener, TcpStream};
+use crate::server::{answers, begun, read_all, started, tells, written};
+use std::alloc::Global;
+use std::net::{Shutdown, SocketAddr, TcpStream};
 use std::test::Fail;
+
+// Adds a request.
+fn push(alloc: Global, all: &mut String, request: &str, last: bool) -> Result<(), Fail> {
+    let text = written(alloc, request, last)?;
+    Ok(all.push_str(text.as_str())?)
+}
 
 // Three requests as one text.
 fn three(alloc: Global) -> Result<String, Fail> {
-    let path = "/v3/discovery:secrets";
-    let mut all = written(
+    let mut all = String::new(alloc);
+    push(alloc, &mut all, "POST /v3/discovery:secrets {}", false)?;
+    push(alloc, &mut all, "GET /", false)?;
+    push(
         alloc,
-        format!(in alloc; "POST {path} {{}}")?.as_str(),
-        false,
+        &mut all,
+        "POST /v3/discovery:secrets {\"typeUrl\":\"x\"}",
+        true,
     )?;
-    all.push_str(written(alloc, "GET /", false)?.as_str())?;
-    let last = format!(in alloc; "POST {path} {{\"typeUrl\":\"x\"}}")?;
-    all.push_str(written(alloc, last.as_str(), true)?.as_str())?;
     Ok(all)
 }
 
+// What a poll for secrets is told.
 const SECRETS: &str =
-    "{\"typeUrl\":\"type.googleapis.com/envoy.extensions.transport_sockets.tls.v3.Secret\",\"versionInfo\":\"1.0.named\"}";
+    "200 {\"typeUrl\":\"type.googleapis.com/envoy.extensions.transport_sockets.tls.v3.Secret\",\"versionInfo\":\"1.0.named\"}";
 
-fn in_one_go<R>(rt: &R, server: SocketAddr) -> Result<(), Fail>
-where
-    R: Net<Listener = TcpListener, Stream = TcpStream> + AllocGlobal,
-{
-    let alloc = rt.alloc();
-    let sent = three(alloc)?;
-    let found = told(alloc, begun(rt, server, sent.as_str().as_bytes())?)?;
-    let wanted = format!(in alloc; "200 {SECRETS} 404 400 {{\"code\":7,\"name\":\"BadMessage\"}}")?;
-    same(found.as_str(), wanted.as_str(), sent.as_str())
+fn in_one_go(rt: &HostRuntime, server: SocketAddr) -> Result<(), Fail> {
+    let sent = three(rt.alloc())?;
+    let wanted = format!(in rt.alloc();
+        "{SECRETS} 404 400 {{\"code\":7,\"name\":\"BadMessage\"}}"
+    )?;
+    let sent = sent.as_str();
+    answers(rt, server, sent.as_bytes(), wanted.as_str(), sent)
 }
 
 #[test]
@@ -45,16 +49,18 @@ const HALF_A_HEAD: &[u8] = b"POST /v3/discovery:secrets HTTP/1.1\r\nhost: h\r\nc
 const HALF_A_BODY: &[u8] =
     b"POST /v3/discovery:secrets HTTP/1.1\r\nhost: h\r\nconnection: close\r\ncontent-length: 2\r\n\r\n{";
 
-// While others stand half sent, requests are answered; and then the half body is, once its rest has come.
-fn beside_halves<R>(rt: &R, server: SocketAddr) -> Result<(), Fail>
-where
-    R: Net<Listener = TcpListener, Stream = TcpStream> + AllocGlobal,
-{
+// Eight connections with half a head, and eight with half a body.
+fn halves(rt: &HostRuntime, server: SocketAddr) -> Result<Vec<TcpStream>, Fail> {
     let mut held = Vec::new(rt.alloc());
     for _ in 0..8 {
         held.push(begun(rt, server, HALF_A_HEAD)?)?;
         held.push(begun(rt, server, HALF_A_BODY)?)?;
     }
+    Ok(held)
+}
+
+// While half a body stands, requests are answered; and then it is, once its rest has come.
+fn beside_half(rt: &HostRuntime, server: SocketAddr) -> Result<(), Fail> {
     let mut waiting = begun(rt, server, HALF_A_BODY)?;
     hold(
         rt,
@@ -62,15 +68,16 @@ where
         "GET / => 404\nPOST /v3/discovery:secrets {} => 200 {\"typeUrl\":\"SDS\",\"versionInfo\":\"1.0.named\"}",
     )?;
     std::io::Write::write_all(&mut waiting, b"}")?;
-    let found = told(rt.alloc(), waiting)?;
-    let wanted = format!(in rt.alloc(); "200 {SECRETS}")?;
-    same(found.as_str(), wanted.as_str(), "the rest of a body")
+    tells(rt.alloc(), waiting, SECRETS, "the rest of a body")
 }
 
 #[test]
 fn half_a_request_holds_up_no_other(rt: HostRuntime) -> Result<(), Fail> {
     let server = started(&rt)?;
-    beside_halves(&rt, server)
+    let held = halves(&rt, server)?;
+    let done = beside_half(&rt, server);
+    drop(held);
+    done
 }
 
 const CODED: &[u8] =
@@ -82,24 +89,32 @@ const CHUNKED: &[u8] =
 #[test]
 fn no_coding_but_chunks_is_taken(rt: HostRuntime) -> Result<(), Fail> {
     let server = started(&rt)?;
-    let coded = told(rt.alloc(), begun(&rt, server, CODED)?)?;
-    same(coded.as_str(), "501", "gzip")?;
-    let chunked = told(rt.alloc(), begun(&rt, server, CHUNKED)?)?;
-    let wanted = format!(in rt.alloc(); "200 {SECRETS}")?;
-    same(chunked.as_str(), wanted.as_str(), "chunks")
+    answers(&rt, server, CODED, "501", "gzip")?;
+    answers(&rt, server, CHUNKED, SECRETS, "chunks")
 }
 
-// Whether a text stands in the head of the reply to a request.
-fn says<R>(rt: &R, server: SocketAddr, request: &str, field: &str) -> Result<bool, Fail>
-where
-    R: Net<Listener = TcpListener, Stream = TcpStream> + AllocGlobal,
-{
+// All that comes for a request over a connection of its own.
+fn replied(rt: &HostRuntime, server: SocketAddr, request: &str) -> Result<Vec<u8>, Fail> {
     let sent = written(rt.alloc(), request, true)?;
-    let mut socket = begun(rt, server, sent.as_str().as_bytes())?;
-    let mut got = Vec::new(rt.alloc());
-    socket.read_to_end(&mut got)?;
-    let text = std::str::from_utf8(got.as_slice()).map_err(|_| "it is no text")?;
-    Ok(text.contains(field))
+    read_all(rt.alloc(), begun(rt, server, sent.as_str().as_bytes())?)
+}
+
+// That a text stands in the head of the reply to a request, or that it doesn't.
+fn says(
+    rt: &HostRuntime,
+    server: SocketAddr,
+    request: &str,
+    field: &str,
+    wanted: bool,
+) -> Result<(), Fail> {
+    let got = replied(rt, server, request)?;
+    let text = std::str::from_utf8(got.as_slice())
+        .ok()
+        .ok_or("it is no text")?;
+    if text.contains(field) == wanted {
+        return Ok(());
+    }
+    Err(Fail::new(format_args!("{text}, for {request}")))
 }
 
 #[test]
@@ -107,28 +122,29 @@ fn heads_say_what_a_body_is_and_which_method_there_is(rt: HostRuntime) -> Result
     let server = started(&rt)?;
     let json = "content-type: application/json\r\n";
     let allow = "allow: POST\r\n";
-    assert!(rt; says(&rt, server, "POST /v3/discovery:secrets {}", json)?);
-    assert!(rt; says(&rt, server, "POST /v3/discovery:secrets {", json)?);
-    assert!(rt; says(&rt, server, "GET /v3/discovery:secrets", allow)?);
-    assert!(rt; !says(&rt, server, "GET /v3/discovery:secrets", json)?);
-    assert!(rt; !says(&rt, server, "GET /", allow)?);
-    Ok(())
+    says(&rt, server, "POST /v3/discovery:secrets {}", json, true)?;
+    says(&rt, server, "POST /v3/discovery:secrets {", json, true)?;
+    says(&rt, server, "GET /v3/discovery:secrets", allow, true)?;
+    says(&rt, server, "GET /v3/discovery:secrets", json, false)?;
+    says(&rt, server, "GET /", allow, false)
 }
 
 const NO_HOST: &[u8] = b"POST /v3/discovery:secrets HTTP/1.1\r\ncontent-length: 0\r\n\r\n";
 
 const NO_HEAD: &[u8] = b"no head\r\n\r\n";
 
+// Nothing comes where a body breaks off.
+fn breaks_off(rt: &HostRuntime, server: SocketAddr) -> Result<(), Fail> {
+    let socket = begun(rt, server, HALF_A_BODY)?;
+    socket.shutdown(Shutdown::Write)?;
+    tells(rt.alloc(), socket, "", "half a body")
+}
+
 #[test]
 fn no_head_and_no_whole_body_ends_the_connection(rt: HostRuntime) -> Result<(), Fail> {
     let server = started(&rt)?;
-    let no_host = told(rt.alloc(), begun(&rt, server, NO_HOST)?)?;
-    same(no_host.as_str(), "400", "no host")?;
-    let no_head = told(rt.alloc(), begun(&rt, server, NO_HEAD)?)?;
-    same(no_head.as_str(), "400", "no head")?;
-    let socket = begun(&rt, server, HALF_A_BODY)?;
-    socket.shutdown(Shutdown::Write)?;
-    let broken_off = told(rt.alloc(), socket)?;
-    same(broken_off.as_str(), "", "half a body")?;
+    answers(&rt, server, NO_HOST, "400", "no host")?;
+    answers(&rt, server, NO_HEAD, "400", "no head")?;
+    breaks_off(&rt, server)?;
     hold(&rt, server, "GET / => 404")
 }

@@ -1,8 +1,8 @@
 // Bodies as long as may be, and longer.
-use crate::server::{begun, same, started, told};
-use std::alloc::{AllocGlobal, Global};
+use crate::server::{begun, started, tells};
+use std::alloc::Global;
 use std::io::Write;
-use std::net::{Net, SocketAddr, TcpListener, TcpStream};
+use std::net::{SocketAddr, TcpStream};
 use std::test::Fail;
 
 // A sixty-fourth of a body that is as long as may be. It is no JSON.
@@ -22,15 +22,17 @@ fn write_body(alloc: Global, socket: &mut TcpStream) -> Result<(), Fail> {
 }
 
 // Sends this head, as many bytes as a body may have, and this, and compares what is told with what is wanted.
-fn sent<R>(rt: &R, server: SocketAddr, head: &str, behind: &str, wanted: &str) -> Result<(), Fail>
-where
-    R: Net<Listener = TcpListener, Stream = TcpStream> + AllocGlobal,
-{
+fn sent(
+    rt: &HostRuntime,
+    server: SocketAddr,
+    head: &str,
+    behind: &str,
+    wanted: &str,
+) -> Result<(), Fail> {
     let mut socket = begun(rt, server, head.as_bytes())?;
     write_body(rt.alloc(), &mut socket)?;
     socket.write_all(behind.as_bytes())?;
-    let found = told(rt.alloc(), socket)?;
-    same(found.as_str(), wanted, behind)
+    tells(rt.alloc(), socket, wanted, behind)
 }
 
 const AS_LONG: &str =

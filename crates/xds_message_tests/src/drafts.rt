@@ -107,12 +107,16 @@ fn push_both(alloc: Global, draft: &mut DeltaDraft) -> Result<(), Refusal> {
     pushed
 }
 
+fn remove_both(alloc: Global, draft: &mut DeltaDraft) -> Result<(), Refusal> {
+    draft.remove(alloc, "r\t\u{1f600}")?;
+    draft.remove(alloc, "s")
+}
+
 // The version and the nonce of a draft, how many it states and removes, and what a copy of it shows once it has a cluster, a deletion, which adds nothing, and two
 // removals.
 fn delta_filled(alloc: Global, draft: &mut DeltaDraft) -> Result<String, Refusal> {
     push_both(alloc, draft)?;
-    draft.remove(alloc, "r\t\u{1f600}")?;
-    draft.remove(alloc, "s")?;
+    remove_both(alloc, draft)?;
     let copy = draft.try_copy(alloc)?;
     let shown = copy_shown(alloc, Draft::Delta(copy))?;
     let (version, nonce) = (draft.version(), draft.nonce());

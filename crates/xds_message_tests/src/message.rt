@@ -16,9 +16,13 @@ impl Outcome for RequestAgain {
 }
 
 fn rewritten(alloc: Global, bytes: &[u8]) -> Result<String, Refusal> {
-    DiscoveryRequest::read(alloc, bytes)?
-        .try_copy(alloc)?
-        .write(alloc)
+    let request = DiscoveryRequest::read(alloc, bytes)?;
+    let copy = request.try_copy(alloc);
+    drop(request);
+    let copy = copy?;
+    let text = copy.write(alloc);
+    drop(copy);
+    text
 }
 
 #[test]
@@ -111,53 +115,38 @@ fn responses_are_written(rt: HostRuntime) -> Result<(), Fail> {
 }
 
 // What is written of the response that the text spells.
+struct ResponseAgain;
+
+impl Outcome for ResponseAgain {
+    fn of(alloc: Global, given: &str) -> Result<String, Fail> {
+        Ok(told(alloc, response_rewritten(alloc, given))?)
+    }
+}
+
 fn response_rewritten(alloc: Global, text: &str) -> Result<String, Refusal> {
     DiscoveryResponse::read(alloc, text.as_bytes())?.write(alloc)
 }
 
 #[test]
 fn reads_responses(rt: HostRuntime) -> Result<(), Fail> {
-    let whole =
-        "{\"nonce\":\"1\",\"resources\":[{\"@type\":\"t\",\"x\":null},{}],\"typeUrl\":\"t\",\"versionInfo\":\"1.2\"}";
-    for (text, want) in [
-        (
-            "{\"versionInfo\":\"1.2\",\"resources\":[{\"x\":null,\"@type\":\"t\"},{}],\"canary\":true,\"typeUrl\":\"t\",\"nonce\":\"1\"}",
-            whole,
-        ),
-        (
-            "{\"version_info\":\"1.2\",\"resources\":[{\"@type\":\"t\",\"x\":null},{}],\"type_url\":\"t\",\"nonce\":\"1\"}",
-            whole,
-        ),
-        (
-            "{\"versionInfo\":null,\"version_info\":\"1\",\"resources\":null,\"typeUrl\":null,\"nonce\":null}",
-            "{}",
-        ),
-    ] {
-        assert_eq!(rt;
-            response_rewritten(rt.alloc(), text)?.as_str(),
-            want,
-            "at {text}"
-        );
-    }
-    Ok(())
+    hold::<ResponseAgain, HostRuntime>(
+        &rt,
+        r#"{"versionInfo":"1.2","resources":[{"x":null,"@type":"t"},{}],"canary":true,"typeUrl":"t","nonce":"1"} => {"nonce":"1","resources":[{"@type":"t","x":null},{}],"typeUrl":"t","versionInfo":"1.2"}
+{"version_info":"1.2","resources":[{"@type":"t","x":null},{}],"type_url":"t","nonce":"1"} => {"nonce":"1","resources":[{"@type":"t","x":null},{}],"typeUrl":"t","versionInfo":"1.2"}
+{"versionInfo":null,"version_info":"1","resources":null,"typeUrl":null,"nonce":null} => {}"#,
+    )
 }
 
 #[test]
 fn refuses_what_is_no_response(rt: HostRuntime) -> Result<(), Fail> {
-    for (text, want) in [
-        ("", Refusal::NotJson),
-        ("[]", Refusal::BadMessage),
-        ("{\"resources\":{}}", Refusal::BadMessage),
-        ("{\"resources\":[{},null]}", Refusal::BadMessage),
-        ("{\"resources\":[\"a\"]}", Refusal::BadMessage),
-        ("{\"version_info\":1}", Refusal::BadMessage),
-        ("{\"nonce\":1}", Refusal::BadMessage),
-    ] {
-        assert_eq!(rt;
-            response_rewritten(rt.alloc(), text).err(),
-            Some(want),
-            "at {text}"
-        );
-    }
-    Ok(())
+    hold::<ResponseAgain, HostRuntime>(
+        &rt,
+        r#" => 1 NotJson
+[] => 7 BadMessage
+{"resources":{}} => 7 BadMessage
+{"resources":[{},null]} => 7 BadMessage
+{"resources":["a"]} => 7 BadMessage
+{"version_info":1} => 7 BadMessage
+{"nonce":1} => 7 BadMessage"#,
+    )
 }

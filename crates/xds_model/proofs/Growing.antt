@@ -1,6 +1,6 @@
 -- What a replica holds of a type grows: its count of changes never falls, stays within its range, and where it is the same the entries
 -- are. Version texts tell replica and count.
-use Rattle.std.proofs.Common.{◌≡◌, ◌≢◌, ◌⊎◌, inl, inr, ℕ, zero, suc, ◌+◌, ◌<◌, ◌≤◌, ◌^◌, List, [], ◌∷◌, ◌++◌, length, get_or, Bool, true, false, Option, Some, None, Ok, refl, sym, ap, subst, ◌∙◌, arith, decimal}
+use Rattle.std.proofs.Common.{◌≡◌, ◌≢◌, ◌⊎◌, inl, inr, ℕ, suc, ◌+◌, ◌<◌, ◌≤◌, ◌^◌, List, [], ◌∷◌, ◌++◌, length, get_or, Bool, true, false, Option, Some, Ok, refl, sym, ap, subst, ◌∙◌, arith, decimal}
 use Rattle.std.specs.Prelude.{◌==◌, not, nat_lt, if◌then◌else◌}
 use Rattle.std.specs.List.{list_any}
 use Rattle.std.specs.Ordering.{nat_cmp}
@@ -17,15 +17,15 @@ use Rattle.xds_resource.specs.declared.types.TypeName.{TypeName}
 use Rattle.xds_resource.specs.declared.types.TypeName.TheVariants.{Cluster, Endpoint, Listener, Route, Secret}
 use Rattle.xds_resource.specs.declared.refusal.Refusal.TheVariants.{NotFound, CounterSpent}
 use Rattle.xds_resource.specs.Types.{is_same_type}
-use Rattle.xds_resource.specs.PerType.{at, with_at, each}
+use Rattle.xds_resource.specs.PerType.{at, with_at}
 use Rattle.xds_resource.specs.Refusals.{unless_refused}
 use Rattle.xds_resource.specs.Resources.{NamedBody, written, deleted}
 use Rattle.xds_resource.specs.Stamps.{max_counter, max_writer}
 use Rattle.xds_resource.specs.Writes.{StampedWrite}
 use Rattle.xds_resource.proofs.TypesApart.{same_type, at-with_at, at-with_at_other, at-each}
 use Rattle.xds_interest.specs.Interests.{Selection}
-use Rattle.xds_catalogue.specs.Holdings.{Holdings, nothing_held, IsCatalogue, catalogue_of}
-use Rattle.xds_catalogue.specs.Changes.{is_news, changes_after}
+use Rattle.xds_catalogue.specs.Holdings.{Holdings, nothing_held, IsCatalogue}
+use Rattle.xds_catalogue.specs.Changes.{is_news}
 use Rattle.xds_catalogue.specs.Joins.{joined, changes_by}
 use Rattle.xds_catalogue.specs.Local.{greatest_counter, next_counter, has_live, putting, deleting}
 use Rattle.xds_catalogue.proofs.JoinLaws.{made_of_its_writes, no_change_keeps_all}

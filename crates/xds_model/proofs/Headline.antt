@@ -12,8 +12,8 @@ use Rattle.xds_shelf.specs.Shelves.{interest, is_wanted}
 use Rattle.xds_cache.specs.Clients.{shelf}
 use Rattle.xds_shelf.specs.Faults.{Test}
 use Rattle.xds_model.specs.Happenings.{Happening}
-use Rattle.xds_model.specs.Worlds.{Site, Link, Peer, World, empty_world, happens, after, world}
-use Rattle.xds_model.specs.Knows.{TypedWrite, Knowledge, nothing_known, learned, known_after, knows, made_now, made_after, wants, cluster as cluster_of, link}
+use Rattle.xds_model.specs.Worlds.{Site, Link, Peer, World, empty_world, world}
+use Rattle.xds_model.specs.Knows.{TypedWrite, Knowledge, nothing_known, known_after, knows, made_after, wants, cluster as cluster_of, link}
 use Rattle.xds_model.specs.Claims.{writes_of, shown_of, content_at, PutResources, PutsAResource, SettledIsExact, SettledAgrees, Headline, is_quiet, owes_nothing, is_settled_on, is_settled}
 use Rattle.xds_model.proofs.Replicas.{both_parts, holds_what_it_knows, same_knowledge, some_is}
 use Rattle.xds_model.proofs.Origins.{one_write_a_stamp}

@@ -1,6 +1,6 @@
 -- What a client that polled shows: after an answer that it didn't reject, what its replica knew then; after one that was lost or
 -- rejected, what it showed before.
-use Rattle.std.proofs.Common.{◌≡◌, ◌⊎◌, inl, inr, ℕ, ◌≤◌, List, [], ◌∷◌, ◌++◌, Bool, true, false, ◌&&◌, Option, Some, None, Ok, Err, refl, sym, ap, subst, ◌∙◌, arith}
+use Rattle.std.proofs.Common.{◌≡◌, ◌⊎◌, inl, inr, ℕ, ◌≤◌, List, [], ◌∷◌, ◌++◌, Bool, true, false, ◌&&◌, Option, Some, None, Ok, Err, refl, sym, ap, subst, ◌∙◌}
 use Rattle.std.specs.Prelude.{bytes_eq, if◌then◌else◌, is_some, IsSome, option_map}
 use Rattle.std.specs.Option.{option_and_then, option_map_or}
 use Rattle.std.specs.FinMap as finmap
@@ -16,18 +16,17 @@ use Rattle.xds_resource.proofs.TypesApart.{at-with_at}
 use Rattle.xds_interest.specs.Interests.{Selection}
 use Rattle.xds_catalogue.specs.Holdings.{Holdings, Entries}
 use Rattle.xds_catalogue.proofs.Catalogues.{get-catalogue_of}
-use Rattle.xds_sotw.specs.Rest.{whole, is_present, unless_present, asked_once}
+use Rattle.xds_sotw.specs.Rest.{whole, asked_once}
 use Rattle.xds_draft.specs.Drafts.{Drafted, message_of}
 use Rattle.xds_message.specs.Messages.{Request}
 use Rattle.xds_core.specs.Events as events
 use Rattle.xds_core.specs.Events.{Event, Reply}
 use Rattle.xds_core.specs.Steps.{step}
-use Rattle.xds_shelf.specs.Shelves.{Wants, Holding, Shelf, interest, is_wanted, wants_some, texts}
+use Rattle.xds_shelf.specs.Shelves.{Wants, Shelf, interest, is_wanted, wants_some, texts}
 use Rattle.xds_shelf.specs.Faults.{Test}
 use Rattle.xds_shelf.specs.Deliveries.{Delivery, sotw_delivery, fault_in}
 use Rattle.xds_cache.specs.Clients.{Client, shelf, with_shelf, view}
-use Rattle.xds_cache.specs.Receives.{Outcome}
-use Rattle.xds_cache.specs.Rest.{rest_asking, rest_request, rest_taking, rest_delivered, rest_answered, answers_poll, rest_receive}
+use Rattle.xds_cache.specs.Rest.{rest_asking, rest_taking, rest_delivered, rest_answered, answers_poll, rest_receive}
 use Rattle.xds_model.specs.declared.event.Answer.{Answer}
 use Rattle.xds_model.specs.declared.event.Answer.TheVariants.{Arrives, Lost}
 use Rattle.xds_model.specs.declared.event.ClientKind.{ClientKind}
@@ -35,8 +34,8 @@ use Rattle.xds_model.specs.declared.event.ClientKind.TheVariants.{Sotw, Delta, R
 use Rattle.xds_model.specs.Happenings.{Happening, RestPoll}
 use Rattle.xds_model.specs.Worlds.{Site, Link, Peer, World, empty_world, world, with_peer, recorded, answered_at, at_site, asked_by, poll_of, poll_event, client_in, answer_taken, rested, rest_polled, happens}
 use Rattle.xds_model.specs.Knows.{TypedWrite, Knowledge, nothing_known, known_after, knows, made_after, wants, cluster as cluster_of}
-use Rattle.xds_model.specs.Claims.{writes_of, shown_of, content_at, Shows as ShowsWrites, TakesAll, PutResources, IsPoll, is_rejected, is_rejected_by, rejects, PolledIsExact, PolledIsTaken, LostLeavesTheView, PollsArePossible, PollersHaveNoStream}
-use Rattle.xds_model.proofs.Replicas.{some_is, never, IsRestPoll, rest_poll_is}
+use Rattle.xds_model.specs.Claims.{writes_of, shown_of, content_at, Shows as ShowsWrites, PutResources, IsPoll, is_rejected, is_rejected_by, rejects, PolledIsExact, PolledIsTaken, LostLeavesTheView, PollsArePossible, PollersHaveNoStream}
+use Rattle.xds_model.proofs.Replicas.{some_is, IsRestPoll, rest_poll_is}
 use Rattle.xds_model.proofs.Ranges.{sites_known}
 use Rattle.xds_model.proofs.Delivering.{AllKnown, shown_in}
 use Rattle.xds_model.proofs.SotwSettled.{Shows}
@@ -44,7 +43,7 @@ use Rattle.xds_model.proofs.SettlingSessions.{never_both}
 use Rattle.xds_model.proofs.RestShelves.{each_shelf, left_if, answers_stay}
 use Rattle.xds_model.proofs.EveryEvent.{get_put, polls_as, linked_never}
 use Rattle.xds_model.proofs.Followed.{placed_of, wanted_of, cluster_is, wants_are}
-use Rattle.xds_model.proofs.RestAnswers.{TakesShown, asked_is_interest, answers_whole, answers_none, taken_shows, whole_is_taken}
+use Rattle.xds_model.proofs.RestAnswers.{TakesShown, answers_whole, answers_none, taken_shows, whole_is_taken}
 use Rattle.xds_model.proofs.RestPolls.{IsPresent, IsAnswered, poll_answered, poll_reply}
 use Rattle.xds_model.proofs.Sure.{Sure, sure}
 

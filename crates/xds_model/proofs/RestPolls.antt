@@ -1,6 +1,6 @@
 -- What is kept of clients that poll, whatever happens: a version that one keeps is of what it shows, wherever its replica still is at
 -- that count of changes.
-use Rattle.std.proofs.Common.{◌≡◌, ◌≢◌, ◌⊎◌, inl, inr, ℕ, ◌≤◌, List, [], ◌∷◌, ◌++◌, Bool, true, false, ◌&&◌, Option, Some, None, Ok, refl, sym, ap, subst, ◌∙◌, arith}
+use Rattle.std.proofs.Common.{◌≡◌, ◌⊎◌, inl, inr, ℕ, ◌≤◌, List, [], Bool, true, false, Option, Some, None, refl, sym, ap, subst, ◌∙◌, arith}
 use Rattle.std.specs.Prelude.{if◌then◌else◌, is_none, is_some, option_map}
 use Rattle.std.specs.Option.{option_and_then, option_map_or}
 use Rattle.std.specs.Ordering.{nat_cmp}
@@ -11,31 +11,29 @@ use Rattle.xds_resource.specs.declared.types.TypeName.{TypeName}
 use Rattle.xds_resource.specs.PerType.{at}
 use Rattle.xds_resource.specs.Stamps.{max_counter, max_writer}
 use Rattle.xds_resource.proofs.TypesApart.{at-each}
-use Rattle.xds_catalogue.specs.Holdings.{Holdings, IsCatalogue, catalogue_of}
+use Rattle.xds_catalogue.specs.Holdings.{Holdings, IsCatalogue}
 use Rattle.xds_catalogue.proofs.Catalogues.{catalogue_of-IsCatalogue}
 use Rattle.xds_catalogue.proofs.Lookups.{get-inserted}
 use Rattle.xds_ledger.specs.Texts.{interest_version}
 use Rattle.xds_sotw.specs.Rest.{asked_once, whole, unless_present}
-use Rattle.xds_draft.specs.declared.draft.Draft.{Draft}
 use Rattle.xds_draft.specs.Drafts.{Drafted, message_of}
 use Rattle.xds_message.specs.Messages.{Request}
-use Rattle.xds_core.specs.Stores.{Store}
 use Rattle.xds_core.specs.Streams.{Message, cluster_in}
 use Rattle.xds_core.specs.Events as events
 use Rattle.xds_core.specs.Events.{Event, Reply}
-use Rattle.xds_core.specs.Steps.{Core, step, rested as core_rested}
-use Rattle.xds_shelf.specs.Shelves.{Wants, Shelf, bare, interest, wants_some}
+use Rattle.xds_core.specs.Steps.{Core, rested as core_rested}
+use Rattle.xds_shelf.specs.Shelves.{Shelf, bare, interest, wants_some}
 use Rattle.xds_shelf.specs.Faults.{Test}
 use Rattle.xds_shelf.specs.Deliveries.{sotw_delivery, fault_in}
 use Rattle.xds_cache.specs.Clients.{Client, shelf, with_shelf, unlinked}
-use Rattle.xds_cache.specs.Rest.{rest_asking, rest_request, forgetting, rest_changed, rest_taking, rest_delivered}
+use Rattle.xds_cache.specs.Rest.{rest_asking, forgetting, rest_taking, rest_delivered}
 use Rattle.xds_model.specs.declared.event.Answer.{Answer}
-use Rattle.xds_model.specs.declared.event.Answer.TheVariants.{Arrives, Lost}
+use Rattle.xds_model.specs.declared.event.Answer.TheVariants.{Arrives}
 use Rattle.xds_model.specs.declared.event.ClientKind.{ClientKind}
 use Rattle.xds_model.specs.declared.event.ClientKind.TheVariants.{Sotw, Delta, Rest}
 use Rattle.xds_model.specs.Happenings.{Happening, Wish, AddReplica, AddClient, Put, Delete, Snapshot, Merge, Connect, Change, Up, Poll, Down, Lose, RestPoll}
-use Rattle.xds_model.specs.Worlds.{Site, Link, Peer, World, empty_world, at_site, happened_at, placed, pooled, with_peer, new_peer, opened, changed, wish_taken, wish_of, polled, up_taken, down_taken, has_streams, is_to_connect, asked_by, poll_event, answer_taken, happens}
-use Rattle.xds_model.specs.Knows.{TypedWrite, Knowledge, learned}
+use Rattle.xds_model.specs.Worlds.{Site, Link, Peer, World, empty_world, at_site, with_peer, new_peer, opened, changed, wish_taken, wish_of, polled, up_taken, down_taken, has_streams, is_to_connect, asked_by, poll_event, answer_taken, happens}
+use Rattle.xds_model.specs.Knows.{TypedWrite, Knowledge}
 use Rattle.xds_model.specs.Journal.{event_at}
 use Rattle.xds_model.proofs.Replicas.{Kept, IsRestPoll, rest_poll_is, some_is, ok_is, never, bound_some, mapped_some, if_some, if_both, both_parts}
 use Rattle.xds_model.proofs.Origins.{Stamped, sites_come}
@@ -44,10 +42,10 @@ use Rattle.xds_model.proofs.Delivering.{AllKnown}
 use Rattle.xds_model.proofs.SotwSettled.{Shows}
 use Rattle.xds_model.proofs.ByKind.{rest_wished}
 use Rattle.xds_model.proofs.RestShelves.{each_shelf, answer_leaves}
-use Rattle.xds_model.proofs.Everyone.{AtSite, at_site_is, Fine}
-use Rattle.xds_model.proofs.EveryEvent.{AllSitesKnown, link_there, same_peers, polls_as, linked_never}
+use Rattle.xds_model.proofs.Everyone.{at_site_is, Fine}
+use Rattle.xds_model.proofs.EveryEvent.{AllSitesKnown, link_there, same_peers, linked_never}
 use Rattle.xds_model.proofs.Followed.{Stays, added_peers, written_peers, pooled_peers, merged_peers, joined_is, connected_comes, lost_comes, up_of, poll_of, down_of}
-use Rattle.xds_model.proofs.Growing.{version_tells, version_is_there, Grows, GrowsAll, SitesGrow, sites_grow, AllWithin, within_come}
+use Rattle.xds_model.proofs.Growing.{version_tells, version_is_there, SitesGrow, sites_grow, AllWithin, within_come}
 use Rattle.xds_model.proofs.RestAnswers.{asked_is_interest, answers_whole, taken_shows}
 
 -- ---- a version that is kept

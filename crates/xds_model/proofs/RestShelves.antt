@@ -1,6 +1,6 @@
 -- What a client that polls keeps of each type: what a change and an answer leave of it.
-use Rattle.std.proofs.Common.{◌≡◌, ◌≢◌, ◌⊎◌, inl, inr, ℕ, List, [], Bool, true, false, Option, Some, None, Ok, Err, refl, sym, ap, subst, ◌∙◌}
-use Rattle.std.specs.Prelude.{if◌then◌else◌, option_map}
+use Rattle.std.proofs.Common.{◌≡◌, ◌≢◌, ◌⊎◌, inl, inr, ℕ, List, Bool, true, false, Option, Some, None, Ok, Err, refl, sym, ap, subst, ◌∙◌}
+use Rattle.std.specs.Prelude.{if◌then◌else◌}
 use Rattle.std.specs.Option.{option_map_or}
 use Rattle.std.specs.FinMap as finmap
 use Rattle.xds_resource.specs.declared.types.TypeName.{TypeName}
@@ -13,7 +13,6 @@ use Rattle.xds_shelf.specs.Shelves.{Wants, Shelf}
 use Rattle.xds_shelf.specs.Faults.{Test}
 use Rattle.xds_shelf.specs.Deliveries.{Delivery, sotw_delivery, fault_in, statements}
 use Rattle.xds_cache.specs.Clients.{Client, shelf, with_shelf}
-use Rattle.xds_cache.specs.Receives.{Outcome}
 use Rattle.xds_cache.specs.Rest.{forgetting, rest_changed, rest_taking, rest_delivered, rest_answered}
 use Rattle.xds_cache.proofs.Interests.{holds_what_is_wanted}
 use Rattle.xds_model.specs.declared.event.Answer.{Answer}

@@ -9,7 +9,7 @@ use Rattle.xds_draft.specs.declared.draft.Draft.{Draft}
 use Rattle.xds_ledger.specs.declared.outcome.Outcome.{Outcome}
 use Rattle.xds_owed.specs.declared.variant.VariantName.{VariantName}
 use Rattle.xds_ledger.specs.Sessions as sessions
-use Rattle.xds_ledger.specs.Sessions.{Session, unopened}
+use Rattle.xds_ledger.specs.Sessions.{unopened}
 use Rattle.xds_core.specs.Stores.{Store, if_done}
 use Rattle.xds_core.specs.Streams.{Stream, Message, variant_of, cluster_of, is_foreign, sessions_for, answered, requested, owes_of, polled, first_due, polled_first}
 use Rattle.xds_shelf.specs.Shelves.{wants_some}

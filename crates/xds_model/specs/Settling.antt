@@ -5,18 +5,15 @@ use Rattle.std.specs.Option.{option_and_then, option_map_or}
 use Rattle.std.specs.List.{list_any}
 use Rattle.std.specs.FinMap as finmap
 use Rattle.xds_resource.specs.declared.types.TypeName.{TypeName}
-use Rattle.xds_resource.specs.Types.{row, is_same_type}
+use Rattle.xds_resource.specs.Types.{is_same_type}
 use Rattle.xds_resource.specs.PerType.{at}
-use Rattle.xds_resource.specs.Resources.{value_of}
 use Rattle.xds_resource.specs.Stamps.{max_counter}
-use Rattle.xds_resource.specs.Writes.{StampedWrite}
 use Rattle.xds_draft.specs.declared.draft.Draft.{Draft}
 use Rattle.xds_draft.specs.DraftTexts.{kind_of}
 use Rattle.xds_owed.specs.Offers.{offer}
 use Rattle.xds_ledger.specs.Ledgers.{is_refused}
 use Rattle.xds_core.specs.Stores.{Store}
 use Rattle.xds_core.specs.Streams.{Stream, Message, to_send}
-use Rattle.xds_shelf.specs.Shelves.{Holding, Wants}
 use Rattle.xds_shelf.specs.Faults.{Test}
 use Rattle.xds_model.specs.Happenings.{Happening, Up, Poll, Down}
 use Rattle.xds_model.specs.Worlds.{World, Site, Link, world, after, happens}

@@ -1,7 +1,6 @@
 -- What a node leaves: its history, and segments beside it.
-use Rattle.std.proofs.Common.{◌≡◌, ◌≢◌, ℕ, ◌+◌, ◌<◌, List, [], ◌∷◌, ◌++◌, length, Bool, true, refl, sym, ap, subst, ◌∙◌, arith, append-nil, length-append, nat_eq}
+use Rattle.std.proofs.Common.{◌≡◌, ℕ, ◌+◌, List, ◌++◌, length, Bool, true, sym, ap, subst, ◌∙◌, nat_eq}
 use Rattle.std.specs.Prelude.{All, Contains, IsPermutation}
-use Rattle.std.specs.List.{flat_map}
 use Rattle.std.proofs.lemmas.Bool.{eqb-true}
 use Rattle.xds_core.specs.Steps.{Core, fresh}
 use Rattle.xds_core.specs.Legal.{Record, replayed, IsLegal}
@@ -9,7 +8,6 @@ use Rattle.xds_tokens.specs.declared.holding.Holding.{Holding}
 use Rattle.xds_tokens.specs.Entries.{numbered, records_of, Counted}
 use Rattle.xds_tokens.specs.Holdings.{with_seats, with_shares}
 use Rattle.xds_tokens.specs.Tally.{Known}
-use Rattle.xds_tokens.proofs.Numbers.{length_numbered, counted_append, counted_first, counted_rest, counted_numbered}
 use Rattle.xds_tokens.proofs.Steps.{keeper_closes, all_shares, cut_in_order, audited}
 use Rattle.xds_node.specs.Books.{IsKept}
 use Rattle.xds_node.specs.Pieces.{Piece, piece_entries, pieces_entries, Story, last_entries, IsStory}

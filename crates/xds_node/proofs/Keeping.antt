@@ -1,15 +1,15 @@
 -- What a node keeps under its lock, from call to call.
-use Rattle.std.proofs.Common.{◌≡◌, ◌≢◌, ℕ, ◌+◌, ◌≤◌, List, [], ◌∷◌, ◌++◌, length, refl, sym, ap, subst, ◌∙◌, arith, append-nil, length-append}
+use Rattle.std.proofs.Common.{◌≡◌, ◌≢◌, ℕ, ◌+◌, List, [], ◌∷◌, ◌++◌, length, refl, sym, ap, subst, ◌∙◌, arith, length-append}
 use Rattle.xds_resource.specs.Stamps.{max_counter}
 use Rattle.xds_core.specs.Events.{Event}
 use Rattle.xds_core.specs.Steps.{Core, fresh, step}
 use Rattle.xds_core.specs.Legal.{Record, answer_of, after, replayed, IsLegal}
 use Rattle.xds_core.proofs.StepLaws.{number_stays}
 use Rattle.xds_tokens.specs.declared.holding.Holding.{Holding}
-use Rattle.xds_tokens.specs.Entries.{numbered, records_of, AllBelow}
+use Rattle.xds_tokens.specs.Entries.{numbered, records_of}
 use Rattle.xds_tokens.specs.Holdings.{keeper, recorded, IsKeeperOf}
 use Rattle.xds_tokens.proofs.Numbers.{records_append, records_numbered}
-use Rattle.xds_tokens.proofs.Steps.{keeper_begins, keeper_seat, keeper_tell, keeper_share, recorded_is, cut_many}
+use Rattle.xds_tokens.proofs.Steps.{keeper_tell, keeper_share, recorded_is, cut_many}
 use Rattle.xds_node.specs.Books.{Books, most_records, base_of, present, after_cut, IsKept}
 use Rattle.xds_node.specs.Pieces.{piece_of}
 

@@ -9,22 +9,34 @@ use std::test::Fail;
 use xds_node::{Line, Node, NodeName, Opened};
 use xds_resource::Refusal;
 
-// Cuts a node twice, and once where nothing is left to cut, and answers what was cut.
+// Puts clusters of these names, and cuts the node.
+fn put_and_cut<A: Site, R: Wait>(
+    rt: &R,
+    alloc: Global,
+    node: &A,
+    seat: &mut A::Seat,
+    names: &str,
+    segments: &mut Vec<A::Segment>,
+) -> Result<(), Refusal> {
+    for name in names.split_whitespace() {
+        put(rt, alloc, node, seat, name)?;
+    }
+    Ok(segments.push(node.cut(rt)?)?)
+}
+
+// Cuts a node twice, and once where nothing is left to cut; what was cut is put to the segments.
 fn cut_twice<A: Site, R: Wait>(
     rt: &R,
     alloc: Global,
     node: &A,
     seat: &mut A::Seat,
-) -> Result<Vec<A::Segment>, Refusal> {
-    let mut segments = Vec::new(alloc);
-    put(rt, alloc, node, seat, "a")?;
-    put(rt, alloc, node, seat, "b")?;
-    segments.push(node.cut(rt)?)?;
-    segments.push(node.cut(rt)?)?;
-    put(rt, alloc, node, seat, "c")?;
-    segments.push(node.cut(rt)?)?;
+    segments: &mut Vec<A::Segment>,
+) -> Result<(), Refusal> {
+    put_and_cut(rt, alloc, node, seat, "a b", segments)?;
+    put_and_cut(rt, alloc, node, seat, "", segments)?;
+    put_and_cut(rt, alloc, node, seat, "c", segments)?;
     put(rt, alloc, node, seat, "d")?;
-    Ok(segments)
+    Ok(())
 }
 
 // How the segments are handed in.
@@ -52,7 +64,8 @@ fn audited<A: Site, R: Wait>(
 ) -> Result<bool, Refusal> {
     let node = node?;
     let mut seat = node.seat(rt)?;
-    let mut segments = cut_twice(rt, alloc, &node, &mut seat)?;
+    let mut segments = Vec::new(alloc);
+    cut_twice(rt, alloc, &node, &mut seat, &mut segments)?;
     ordered(&mut segments, order);
     let seats = alone(alloc, seat)?;
     match node.close(seats).audit(segments) {

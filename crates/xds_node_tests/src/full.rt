@@ -47,7 +47,7 @@ fn full_and_cut<A: Site, R: Wait>(
 }
 
 // What is left of a node whose journal was full once.
-#[derive(Drop)]
+#[derive(Clone, Copy)]
 struct Outcome {
     // The records that were cut, the number of the first of them, and how many the history has.
     cut: usize,

@@ -60,12 +60,17 @@ fn an_end_that_left_is_told(rt: HostRuntime) {
     let Ok((mut outgoing, mut incoming)) = link::<u64>(rt.alloc()) else {
         panic!(rt; "no memory");
     };
-    assert_eq!(rt; outgoing.put(&rt, 7), Ok(()));
-    assert_eq!(rt; incoming.take(&rt), Some(7));
+    let put = outgoing.put(&rt, 7);
+    let taken = incoming.take(&rt);
     outgoing.end(&rt);
-    assert_eq!(rt; incoming.take(&rt), None);
-    let _taken = incoming.leave();
-    assert_eq!(rt; outgoing.put(&rt, 8), Err(Unlinked));
+    let after = incoming.take(&rt);
+    drop(incoming.leave());
+    let late = outgoing.put(&rt, 8);
+    drop(outgoing);
+    assert_eq!(rt; put, Ok(()));
+    assert_eq!(rt; taken, Some(7));
+    assert_eq!(rt; after, None);
+    assert_eq!(rt; late, Err(Unlinked));
 }
 
 #[test]
@@ -73,8 +78,12 @@ fn an_end_that_is_gone_ends_what_comes(rt: HostRuntime) {
     let Ok((mut outgoing, mut incoming)) = link::<u64>(rt.alloc()) else {
         panic!(rt; "no memory");
     };
-    assert_eq!(rt; outgoing.put(&rt, 7), Ok(()));
+    let put = outgoing.put(&rt, 7);
     drop(outgoing);
-    assert_eq!(rt; incoming.take(&rt), Some(7));
-    assert_eq!(rt; incoming.take(&rt), None);
+    let taken = incoming.take(&rt);
+    let after = incoming.take(&rt);
+    drop(incoming);
+    assert_eq!(rt; put, Ok(()));
+    assert_eq!(rt; taken, Some(7));
+    assert_eq!(rt; after, None);
 }

@@ -51,6 +51,23 @@ fn ended<L: Left>(alloc: Global, left: L, segment: L::Segment) -> Result<(), Ref
     left.audit(alone(alloc, segment)?)
 }
 
+// A call, a cut, and another call. What was cut, and what was refused at first.
+fn called_and_cut<A: Site, R: Wait>(
+    rt: &R,
+    alloc: Global,
+    node: &A,
+    seat: &mut A::Seat,
+) -> Result<(A::Segment, Refused), Refusal> {
+    let event = A::Event::put(alloc, "a")?;
+    let (first, call) = called_again(rt, node, seat, event)?;
+    let (segment, cut) = cut_again(rt, node)?;
+    let second = put(rt, alloc, node, seat, "b")?;
+    if first != 1 || second != 2 {
+        return Err(Refusal::BadStamp);
+    }
+    Ok((segment, Refused { call, cut }))
+}
+
 fn short<A: Site, R: Wait>(
     rt: &R,
     alloc: Global,
@@ -58,16 +75,10 @@ fn short<A: Site, R: Wait>(
 ) -> Result<Refused, Refusal> {
     let node = node?;
     let mut seat = node.seat(rt)?;
-    let event = A::Event::put(alloc, "a")?;
-    let (first, call) = called_again(rt, &node, &mut seat, event)?;
-    let (segment, cut) = cut_again(rt, &node)?;
-    let second = put(rt, alloc, &node, &mut seat, "b")?;
-    if first != 1 || second != 2 {
-        return Err(Refusal::BadStamp);
-    }
+    let (segment, refused) = called_and_cut(rt, alloc, &node, &mut seat)?;
     let seats = alone(alloc, seat)?;
     ended(alloc, node.close(seats), segment)?;
-    Ok(Refused { call, cut })
+    Ok(refused)
 }
 
 fn refused_of<N: NodeName, R: Wait>(

@@ -77,7 +77,7 @@ fn puts<A: Site, R: Wait>(
 }
 
 // What four threads were told.
-#[derive(Drop)]
+#[derive(Clone, Copy)]
 struct Outcome {
     // How many counters from 1 to 4,000 were told, and how many others, or again.
     told: usize,
@@ -99,6 +99,25 @@ fn count(outcome: &mut Outcome, seen: &mut Vec<bool>, counters: &Vec<u64>) {
     }
 }
 
+// The same of a worker that is done, whose seat is put to the others.
+fn collect<S: Drop>(
+    outcome: &mut Outcome,
+    seen: &mut Vec<bool>,
+    seats: &mut Vec<S>,
+    worker: Worker<S>,
+) -> Result<(), Refusal> {
+    let Worker {
+        seat,
+        counters,
+        done,
+        ..
+    } = worker;
+    count(outcome, seen, &counters);
+    drop(counters);
+    seats.push(seat)?;
+    done
+}
+
 // Counts what all workers were told, and gives back their seats.
 fn counted<S: Drop>(
     alloc: Global,
@@ -109,9 +128,7 @@ fn counted<S: Drop>(
     seen.resize(SEATS * PUTS, false)?;
     let mut seats = Vec::new(alloc);
     for worker in workers {
-        worker.done?;
-        count(outcome, &mut seen, &worker.counters);
-        seats.push(worker.seat)?;
+        collect(outcome, &mut seen, &mut seats, worker)?;
     }
     Ok(seats)
 }

@@ -18,7 +18,7 @@ const WANTS_ALL: &[u8] =
     b"{\"node\":{\"id\":\"c\"},\"resourceNamesSubscribe\":[\"*\"],\"typeUrl\":\"type.googleapis.com/envoy.config.cluster.v3.Cluster\"}";
 
 // What the waiting threads saw.
-#[derive(Drop)]
+#[derive(Clone, Copy)]
 struct Outcome {
     first: Due,
     last: Due,

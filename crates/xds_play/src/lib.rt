@@ -1,7 +1,10 @@
-// Playing scripts of worlds, and what that prints.
+// Playing scripts of worlds: what that prints, and the traces of what happened.
 #![tactic(auto)]
 
 pub mod play;
 pub mod show;
+pub mod tracing;
 
 pub use play::{Play, Unplayed, play_all, play_commands, play_script};
+pub use tracing::script::{trace_commands, trace_script};
+pub use tracing::world::of_world;

@@ -11,7 +11,7 @@ use Rattle.xds_frames.specs.Devices.{Device, HasFailed, Stays, Tells, WrotePart,
 use Rattle.xds_play.specs.declared.play.Unplayed.TheVariants as unplayed
 use Rattle.xds_play.specs.Played.{IsPlayed, IsUnplayed}
 use Rattle.xds_rules.specs.Texts.{IsFirstBad}
-use Rattle.xds_tracing.specs.Traced.{IsTraced}
+use Rattle.xds_play.specs.Traced.{IsTraced}
 use Rattle.xds_program.specs.Judged.{TellsVerdict}
 use Rattle.xds_program.specs.declared.tasks.Task.{Task}
 use Rattle.xds_program.specs.declared.tasks.Task.TheVariants.{Answer, Play, Check, Serve, Client, Poll}

@@ -15,9 +15,8 @@ use clap::error::ErrorKind;
 use std::alloc::Global;
 use std::io::{Read, Write};
 use xds_frames::{Counted, read_whole, write_whole};
-use xds_play::{Unplayed, play_script};
+use xds_play::{Unplayed, play_script, trace_script};
 use xds_resource::Refusal;
-use xds_tracing::trace_script;
 
 /// The status of a run that did what it was asked.
 pub const DONE: u8 = 0;

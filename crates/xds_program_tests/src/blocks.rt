@@ -1,5 +1,5 @@
 // Answers that are longer than what is written at once, over inputs that are let go of as they are read.
-use crate::program::{told, words};
+use crate::program::{end_over, told};
 use std::alloc::Global;
 use std::io;
 use std::io::{ErrorKind, Write};
@@ -7,20 +7,29 @@ use std::test::Fail;
 use xds_cases::cases::{Outcome, hold, replaced};
 use xds_frames::Counted;
 use xds_program::answer_lines;
-use xds_program::run::{Ran, run};
 
-// So many lines, each of which puts a cluster with a text of so many bytes, and a request for all of them.
-fn input_of(alloc: Global, lines: usize, bytes: usize) -> Result<String, Fail> {
+fn filler_of(alloc: Global, bytes: usize) -> Result<String, Fail> {
     let mut filler = String::new(alloc);
     for _ in 0..bytes {
         filler.push_str("y")?;
     }
+    Ok(filler)
+}
+
+// Adds a line that puts a cluster with this number and a text.
+fn push_line(alloc: Global, input: &mut String, line: usize, filler: &str) -> Result<(), Fail> {
+    let text = format!(in alloc;
+        "{{\"body\":{{\"@type\":\"type.googleapis.com/envoy.config.cluster.v3.Cluster\",\"name\":\"n{line}\",\"x\":\"{filler}\"}},\"counter\":{line},\"name\":\"n{line}\",\"typeUrl\":\"type.googleapis.com/envoy.config.cluster.v3.Cluster\",\"writer\":1}}\n"
+    )?;
+    Ok(input.push_str(text.as_str())?)
+}
+
+// So many lines, each of which puts a cluster with a text of so many bytes, and a request for all of them.
+fn input_of(alloc: Global, lines: usize, bytes: usize) -> Result<String, Fail> {
+    let filler = filler_of(alloc, bytes)?;
     let mut input = String::new(alloc);
     for line in 1..=lines {
-        let text = format!(in alloc;
-            "{{\"body\":{{\"@type\":\"type.googleapis.com/envoy.config.cluster.v3.Cluster\",\"name\":\"n{line}\",\"x\":\"{filler}\"}},\"counter\":{line},\"name\":\"n{line}\",\"typeUrl\":\"type.googleapis.com/envoy.config.cluster.v3.Cluster\",\"writer\":1}}\n"
-        )?;
-        input.push_str(text.as_str())?;
+        push_line(alloc, &mut input, line, filler.as_str())?;
     }
     input.push_str("{\"typeUrl\":\"type.googleapis.com/envoy.config.cluster.v3.Cluster\"}\n")?;
     Ok(input)
@@ -113,29 +122,32 @@ impl Outcome for Cut {
 }
 
 fn cut_after(alloc: Global, calls: usize, input: &[u8]) -> Result<String, Fail> {
-    let words = words(alloc, "answer")?;
     let mut output = Counted::new(Calls {
         taken: Vec::new(alloc),
         left: calls,
     });
+    let told = told_of_calls(alloc, input, &mut output);
+    drop(output);
+    told
+}
+
+fn told_of_calls(alloc: Global, input: &[u8], output: &mut Counted<Calls>) -> Result<String, Fail> {
     let mut errors = Counted::new(Vec::new(alloc));
-    let ran = run(
+    let end = end_over(
         alloc,
-        words.as_slice(),
+        "answer",
         &mut Counted::new(input),
-        &mut output,
+        output,
         &mut errors,
     );
-    let status = match ran {
-        Ran::Done(status) => status,
-        _ => 9,
-    };
+    drop(errors);
+    let end = end?;
     let Ok(whole) = answer_lines(alloc, 1, input) else {
         return Ok(String::from_str(alloc, "refused")?);
     };
     let taken = output.inner.taken.as_slice();
     let (length, begins) = (taken.len(), whole.as_slice().starts_with(taken));
-    Ok(format!(in alloc; "{status} {length} {begins}")?)
+    Ok(format!(in alloc; "{end} {length} {begins}")?)
 }
 
 #[test]

@@ -16,22 +16,30 @@ pub(crate) fn words(alloc: Global, given: &str) -> Result<Vec<String>, Fail> {
     Ok(words_of(alloc, line.as_str())?)
 }
 
-// The status of a run that is done. There is none where its task is handed to the caller.
-fn status_of(ran: Ran) -> Option<u8> {
-    match ran {
-        Ran::Done(status) => Some(status),
-        _ => None,
-    }
+// The status of a run in words, or which task is handed to the caller.
+fn end_of(alloc: Global, ran: &Ran) -> Result<String, Fail> {
+    let task = match ran {
+        Ran::Done(status) => return Ok(format!(in alloc; "{status}")?),
+        Ran::Serve(_) => "serve",
+        Ran::Client(_) => "client",
+        Ran::Poll(_) => "poll",
+    };
+    Ok(String::from_str(alloc, task)?)
 }
 
-// The status of a run in words, or which task is handed to the caller.
-fn end_of(alloc: Global, ran: Ran) -> Result<String, Fail> {
-    match ran {
-        Ran::Done(status) => Ok(format!(in alloc; "{status}")?),
-        Ran::Serve(_) => Ok(String::from_str(alloc, "serve")?),
-        Ran::Client(_) => Ok(String::from_str(alloc, "client")?),
-        Ran::Poll(_) => Ok(String::from_str(alloc, "poll")?),
-    }
+/// The end of a run over words and these devices.
+pub(crate) fn end_over<I: Read, O: Write, E: Write>(
+    alloc: Global,
+    given: &str,
+    input: &mut Counted<I>,
+    output: &mut Counted<O>,
+    errors: &mut Counted<E>,
+) -> Result<String, Fail> {
+    let words = words(alloc, given)?;
+    let ran = run(alloc, words.as_slice(), input, output, errors);
+    let end = end_of(alloc, &ran);
+    drop(ran);
+    end
 }
 
 // The status of a run over words and the input after a `|`, its output and its error output. `~` is a line feed, and
@@ -51,24 +59,33 @@ impl Outcome for Run {
     }
 }
 
-// The status of a run over words and an input, its output and its error output, with `~` for a line feed.
-pub(crate) fn told(alloc: Global, given: &str, input: &[u8]) -> Result<String, Fail> {
-    let words = words(alloc, given)?;
-    let mut input = Counted::new(input);
-    let mut output = Counted::new(Vec::new(alloc));
-    let mut errors = Counted::new(Vec::new(alloc));
-    let ran = run(
-        alloc,
-        words.as_slice(),
-        &mut input,
-        &mut output,
-        &mut errors,
-    );
-    let end = end_of(alloc, ran)?;
-    let output = String::from_utf8(output.inner).ok().ok_or("output")?;
-    let errors = String::from_utf8(errors.inner).ok().ok_or("errors")?;
+fn text(bytes: &[u8]) -> Result<&str, Fail> {
+    Ok(str::from_utf8(bytes).ok().ok_or("no text")?)
+}
+
+// What a run tells over these devices, with `~` for a line feed.
+fn told_over(
+    alloc: Global,
+    given: &str,
+    input: &[u8],
+    output: &mut Counted<Vec<u8>>,
+    errors: &mut Counted<Vec<u8>>,
+) -> Result<String, Fail> {
+    let end = end_over(alloc, given, &mut Counted::new(input), output, errors)?;
+    let output = text(output.inner.as_slice())?;
+    let errors = text(errors.inner.as_slice())?;
     let told = format!(in alloc; "{end} {output}{errors}")?;
     Ok(replaced(alloc, told.as_str(), "\n", "~")?)
+}
+
+// The status of a run over words and an input, its output and its error output, with `~` for a line feed.
+pub(crate) fn told(alloc: Global, given: &str, input: &[u8]) -> Result<String, Fail> {
+    let mut output = Counted::new(Vec::new(alloc));
+    let mut errors = Counted::new(Vec::new(alloc));
+    let told = told_over(alloc, given, input, &mut output, &mut errors);
+    drop(output);
+    drop(errors);
+    told
 }
 
 const A: &str =
@@ -186,28 +203,32 @@ struct Aside;
 
 impl Outcome for Aside {
     fn of(alloc: Global, given: &str) -> Result<String, Fail> {
-        let words = words(alloc, given)?;
-        let mut input = Counted::new(b"{}".as_slice());
         let mut output = Counted::new(Vec::new(alloc));
         let mut errors = Counted::new(Vec::new(alloc));
-        let ran = run(
-            alloc,
-            words.as_slice(),
-            &mut input,
-            &mut output,
-            &mut errors,
-        );
-        let end = end_of(alloc, ran)?;
-        let output = String::from_utf8(output.inner).ok().ok_or("output")?;
-        let shown = if output.as_str().contains("Usage: ") {
-            "help"
-        } else {
-            output.as_str()
-        };
-        let told = if errors.inner.is_empty() { "" } else { "fault" };
-        let left = input.inner.len();
-        Ok(format!(in alloc; "{shown}{told} {end} {left}")?)
+        let told = told_aside(alloc, given, &mut output, &mut errors);
+        drop(output);
+        drop(errors);
+        told
     }
+}
+
+fn told_aside(
+    alloc: Global,
+    given: &str,
+    output: &mut Counted<Vec<u8>>,
+    errors: &mut Counted<Vec<u8>>,
+) -> Result<String, Fail> {
+    let mut input = Counted::new(b"{}".as_slice());
+    let end = end_over(alloc, given, &mut input, output, errors)?;
+    let output = text(output.inner.as_slice())?;
+    let shown = if output.contains("Usage: ") {
+        "help"
+    } else {
+        output
+    };
+    let told = if errors.inner.is_empty() { "" } else { "fault" };
+    let left = input.inner.len();
+    Ok(format!(in alloc; "{shown}{told} {end} {left}")?)
 }
 
 #[test]
@@ -310,50 +331,94 @@ impl Write for Faulty {
     }
 }
 
-fn failing_after(alloc: Global, most: usize) -> Counted<Faulty> {
-    Counted::new(Faulty {
+fn failing_after(alloc: Global, most: usize) -> Faulty {
+    Faulty {
         taken: Vec::new(alloc),
         most,
-    })
+    }
+}
+
+// A writer that tells what it took, if it kept it.
+trait Sink: Write + Drop {
+    fn taken(&self) -> &[u8];
+}
+
+impl Sink for Vec<u8> {
+    fn taken(&self) -> &[u8] {
+        self.as_slice()
+    }
+}
+
+impl Sink for Faulty {
+    fn taken(&self) -> &[u8] {
+        self.taken.as_slice()
+    }
+}
+
+impl Sink for Stuck {
+    fn taken(&self) -> &[u8] {
+        b"".as_slice()
+    }
+}
+
+// What a run tells over these devices: its end, what was written to the two, and how many calls of each failed.
+fn told_of<I: Read, O: Sink, E: Sink>(
+    alloc: Global,
+    input: &mut Counted<I>,
+    output: &mut Counted<O>,
+    errors: &mut Counted<E>,
+) -> Result<String, Fail> {
+    let end = end_over(alloc, "answer", input, output, errors)?;
+    let (unread, unwritten, untold) = (input.failed, output.failed, errors.failed);
+    let output = text(output.inner.taken())?;
+    let errors = text(errors.inner.taken())?;
+    let told = format!(in alloc; "{end} ({output}) ({errors}) {unread} {unwritten} {untold}")?;
+    Ok(replaced(alloc, told.as_str(), "\n", "~")?)
+}
+
+// The same, over new ones.
+fn told_of_new<I: Read + Drop, O: Sink, E: Sink>(
+    alloc: Global,
+    input: I,
+    output: O,
+    errors: E,
+) -> Result<String, Fail> {
+    let mut input = Counted::new(input);
+    let mut output = Counted::new(output);
+    let mut errors = Counted::new(errors);
+    let told = told_of(alloc, &mut input, &mut output, &mut errors);
+    drop(input);
+    drop(output);
+    drop(errors);
+    told
+}
+
+const REQUEST: &[u8] = b"{\"typeUrl\":\"type.googleapis.com/envoy.config.cluster.v3.Cluster\"}\n";
+
+// Which device fails: the reader, the output after some bytes, the output where it is flushed, or the error output.
+struct Failing;
+
+impl Outcome for Failing {
+    fn of(alloc: Global, given: &str) -> Result<String, Fail> {
+        let kept = Vec::new(alloc);
+        match given {
+            "reader" => told_of_new(alloc, failing_after(alloc, 0), Vec::new(alloc), kept),
+            "writer" => told_of_new(alloc, REQUEST, failing_after(alloc, 8), kept),
+            "flush" => told_of_new(alloc, REQUEST, Stuck, kept),
+            _ => told_of_new(alloc, b"".as_slice(), kept, failing_after(alloc, 4)),
+        }
+    }
 }
 
 #[test]
 fn failing_devices_are_told(rt: HostRuntime) -> Result<(), Fail> {
-    let alloc = rt.alloc();
-    let words = words(alloc, "answer")?;
-    let words = words.as_slice();
-    let mut reader = failing_after(alloc, 0);
-    let mut output = Counted::new(Vec::new(alloc));
-    let mut errors = Counted::new(Vec::new(alloc));
-    let status = status_of(run(alloc, words, &mut reader, &mut output, &mut errors));
-    assert_eq!(rt; status, Some(1));
-    assert_eq!(rt; errors.inner.as_slice(), b"19 Device\n".as_slice());
-    assert_eq!(rt; reader.failed, 1);
-    assert!(rt; output.inner.is_empty());
-    let input = written_out(alloc, "{\"typeUrl\":\"CDS\"}\n")?;
-    let mut reader = Counted::new(input.as_bytes());
-    let mut output = failing_after(alloc, 8);
-    let mut errors = Counted::new(Vec::new(alloc));
-    let status = status_of(run(alloc, words, &mut reader, &mut output, &mut errors));
-    assert_eq!(rt; status, Some(1));
-    assert_eq!(rt; errors.inner.as_slice(), b"19 Device\n".as_slice());
-    assert_eq!(rt; output.inner.taken.as_slice(), b"{\"nonce\"".as_slice());
-    assert_eq!(rt; (reader.failed, output.failed, errors.failed), (0, 1, 0));
-    let mut reader = Counted::new(input.as_bytes());
-    let mut output = Counted::new(Stuck);
-    let mut errors = Counted::new(Vec::new(alloc));
-    let status = status_of(run(alloc, words, &mut reader, &mut output, &mut errors));
-    assert_eq!(rt; status, Some(1));
-    assert_eq!(rt; errors.inner.as_slice(), b"19 Device\n".as_slice());
-    assert_eq!(rt; output.failed, 1);
-    let mut reader = Counted::new(b"".as_slice());
-    let mut output = Counted::new(Vec::new(alloc));
-    let mut errors = failing_after(alloc, 4);
-    let status = status_of(run(alloc, words, &mut reader, &mut output, &mut errors));
-    assert_eq!(rt; status, Some(1));
-    assert_eq!(rt; errors.inner.taken.as_slice(), b"line".as_slice());
-    assert!(rt; output.inner.is_empty());
-    Ok(())
+    hold::<Failing, HostRuntime>(
+        &rt,
+        r#"reader => 1 () (19 Device~) 1 0 0
+writer => 1 ({"nonce") (19 Device~) 0 1 0
+flush => 1 () (19 Device~) 0 1 0
+errors => 1 () (line) 0 0 1"#,
+    )
 }
 
 // A writer that takes nothing.

@@ -12,24 +12,37 @@ impl Outcome for Asked {
     fn of(alloc: Global, given: &str) -> Result<String, Fail> {
         let words = words(alloc, given)?;
         match task_of(alloc, words.as_slice()) {
-            Ok(task) => told(alloc, &task),
-            Err(error) => Ok(String::from_str(
-                alloc,
-                if error.use_stderr() { "wrong" } else { "help" },
-            )?),
+            Ok(task) => {
+                let told = told(alloc, &task);
+                drop(task);
+                told
+            }
+            Err(error) => {
+                let word = if error.use_stderr() { "wrong" } else { "help" };
+                drop(error);
+                Ok(String::from_str(alloc, word)?)
+            }
         }
     }
 }
 
 fn told(alloc: Global, task: &Task) -> Result<String, Fail> {
     match task {
-        Task::Answer { replica } => Ok(format!(in alloc; "answer {replica}")?),
-        Task::Play { trace } => Ok(format!(in alloc; "play {trace:?}")?),
+        Task::Answer { replica } => told_answer(alloc, *replica),
+        Task::Play { trace } => told_play(alloc, *trace),
         Task::Check => Ok(String::from_str(alloc, "check")?),
         Task::Serve(serve) => told_serve(alloc, *serve),
         Task::Client(client) => told_client(alloc, client),
         Task::Poll(poll) => told_poll(alloc, poll),
     }
+}
+
+fn told_answer(alloc: Global, replica: u16) -> Result<String, Fail> {
+    Ok(format!(in alloc; "answer {replica}")?)
+}
+
+fn told_play(alloc: Global, trace: Option<u16>) -> Result<String, Fail> {
+    Ok(format!(in alloc; "play {trace:?}")?)
 }
 
 fn told_serve(alloc: Global, serve: ServeTask) -> Result<String, Fail> {

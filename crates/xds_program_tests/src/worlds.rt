@@ -16,15 +16,21 @@ fn wants_all(alloc: Global) -> Result<Wish, Refusal> {
     Ok(Wish::Edits(texts, Vec::new(alloc)))
 }
 
+fn put(alloc: Global) -> Result<WorldEvent, Refusal> {
+    Ok(WorldEvent::Put(1, AnyResource::parse(alloc, CLUSTER)?, Groups::none()))
+}
+
+fn change(alloc: Global) -> Result<WorldEvent, Refusal> {
+    Ok(WorldEvent::Change(7, TypeName::Cluster, wants_all(alloc)?))
+}
+
 // The client has no stream yet, and wants nothing of replica 2, which isn't there.
 fn begun(alloc: Global) -> Result<World<AcceptAll>, Refusal> {
-    let resource = AnyResource::parse(alloc, CLUSTER)?;
-    let wish = wants_all(alloc)?;
     let mut events = Vec::new(alloc);
     events.push(WorldEvent::AddReplica(1))?;
-    events.push(WorldEvent::Put(1, resource, Groups::none()))?;
+    events.push(put(alloc)?)?;
     events.push(WorldEvent::AddClient(7, ClientKind::Delta, String::new(alloc)))?;
-    events.push(WorldEvent::Change(7, TypeName::Cluster, wish))?;
+    events.push(change(alloc)?)?;
     events.push(WorldEvent::Connect(7, 2))?;
     play(alloc, events.as_slice())
 }
@@ -48,17 +54,29 @@ fn shows(world: &World<AcceptAll>) -> bool {
     }
 }
 
+// That a client wasn't settled is no answer where memory was missing.
+fn unsettled(failed: Unsettled<AcceptAll>) -> Result<bool, Refusal> {
+    let is_short = matches!(&failed, Unsettled::OutOfMemory);
+    drop(failed);
+    if is_short {
+        Err(Refusal::OutOfMemory)
+    } else {
+        Ok(false)
+    }
+}
+
 // Whether settling the client of clusters needs one response, and these many events are kept then.
 fn settles(alloc: Global, world: World<AcceptAll>, events: usize) -> Result<bool, Refusal> {
     match settle(alloc, world, 7, TypeName::Cluster) {
-        Ok(settlement) => Ok(
-            settlement.settled
+        Ok(settlement) => {
+            let is_right = settlement.settled
                 && settlement.responses == 1
                 && shows(&settlement.world)
-                && settlement.world.events().len() == events,
-        ),
-        Err(Unsettled::OutOfMemory) => Err(Refusal::OutOfMemory),
-        Err(_) => Ok(false),
+                && settlement.world.events().len() == events;
+            drop(settlement);
+            Ok(is_right)
+        }
+        Err(failed) => unsettled(failed),
     }
 }
 
@@ -66,35 +84,38 @@ fn settles(alloc: Global, world: World<AcceptAll>, events: usize) -> Result<bool
 fn has_no_stream(alloc: Global, world: World<AcceptAll>, client: u32) -> Result<bool, Refusal> {
     let before = world.events().len();
     match settle(alloc, world, client, TypeName::Cluster) {
-        Err(Unsettled::NoStream(world)) => Ok(world.events().len() == before),
-        Err(Unsettled::OutOfMemory) => Err(Refusal::OutOfMemory),
-        _ => Ok(false),
+        Ok(settlement) => {
+            drop(settlement);
+            Ok(false)
+        }
+        Err(Unsettled::NoStream(world)) => {
+            let after = world.events().len();
+            drop(world);
+            Ok(after == before)
+        }
+        Err(failed) => unsettled(failed),
     }
 }
 
 #[test]
 fn a_journal_tells_what_was_possible(rt: HostRuntime) -> Result<(), Fail> {
     let world = connected(rt.alloc())?;
-    assert!(rt;
-        records(&world, 1) == Some(2),
-        "a resource was put, and a stream opened"
-    );
-    assert!(rt; records(&world, 2).is_none(), "there is no replica 2");
-    assert!(rt; world.events().len() == 6, "all that was to happen is kept");
+    let (put, none) = (records(&world, 1), records(&world, 2));
+    let kept = world.events().len();
+    drop(world);
+    assert!(rt; put == Some(2), "a resource was put, and a stream opened");
+    assert!(rt; none.is_none(), "there is no replica 2");
+    assert!(rt; kept == 6, "all that was to happen is kept");
     Ok(())
 }
 
 #[test]
 fn a_client_is_settled_by_one_response(rt: HostRuntime) -> Result<(), Fail> {
     let world = connected(rt.alloc())?;
-    assert!(rt;
-        world.settled(7, TypeName::Cluster) == Some(false),
-        "its request is under way"
-    );
-    assert!(rt;
-        settles(rt.alloc(), world, 10)?,
-        "up, poll, down and up come to the six"
-    );
+    let settled = world.settled(7, TypeName::Cluster);
+    let settles = settles(rt.alloc(), world, 10)?;
+    assert!(rt; settled == Some(false), "its request is under way");
+    assert!(rt; settles, "up, poll, down and up come to the six");
     Ok(())
 }
 

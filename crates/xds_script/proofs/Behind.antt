@@ -1,5 +1,5 @@
 -- What stands behind the first word is refused, and so is the whole.
-use Rattle.std.proofs.Common.{◌≡◌, List, Option, Some, None, Ok, Err, refl, ap, ◌∙◌}
+use Rattle.std.proofs.Common.{◌≡◌, List, Option, Some, None, Ok, Err, ap, ◌∙◌}
 use Rattle.std.specs.Option.{option_map, option_and_then, ok_or}
 use Rattle.xds_resource.specs.declared.refusal.Refusal.{Refusal}
 use Rattle.xds_resource.specs.declared.refusal.Refusal.TheVariants.{BadScript}

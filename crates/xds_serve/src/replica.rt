@@ -269,7 +269,7 @@ where
 {
     let mut seat = node.seat(rt)?;
     for event in changes.iter(rt) {
-        let _ = called(rt, node, &NoGate, &mut seat, event);
+        drop(called(rt, node, &NoGate, &mut seat, event));
     }
     Ok(())
 }

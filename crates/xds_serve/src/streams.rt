@@ -10,6 +10,7 @@ use std::thread::Threads;
 use std::time::{Clock, Duration};
 use xds_core::{Event, Reply};
 use xds_frames::Counted;
+use xds_resource::Refusal;
 use xds_workers::{called, serve_reader, serve_writer};
 
 /// Takes connections for as long as the process runs, each into a thread of its own. Where the system gives no connection,
@@ -67,24 +68,57 @@ where
         return;
     };
     thread::scope(thread::scope_env(), rt, |scope| {
-        let writer = scope.spawn(move || {
-            let mut to = Counted::new(socket);
-            let _ = serve_writer(rt, alloc, node, &mut writing, stream, &mut to, &NoGate);
-            let _ = socket.shutdown(Shutdown::Both);
-        });
+        let writer = scope.spawn(move || write_all(rt, alloc, socket, node, &mut writing, stream));
         if writer.is_ok() {
-            let mut from = Counted::new(socket);
-            let _ = serve_reader(rt, alloc, node, &mut reading, stream, &mut from, &NoGate);
+            read_all(rt, alloc, socket, node, &mut reading, stream);
         } else {
-            let _ = called(rt, node, &NoGate, &mut reading, Event::Close(stream));
+            close(rt, node, &mut reading, stream);
         }
     });
 }
 
+// Writes what a stream is due until it is over. Then its connection has ended, too.
+fn write_all<R: Wait, A: Served>(
+    rt: &R,
+    alloc: Global,
+    socket: &TcpStream,
+    node: &A,
+    seat: &mut A::Seat,
+    stream: u64,
+) {
+    let mut to = Counted::new(socket);
+    let _ = serve_writer(rt, alloc, node, seat, stream, &mut to, &NoGate);
+    let _ = socket.shutdown(Shutdown::Both);
+}
+
+// Reads what a stream is asked until it is over.
+fn read_all<R: Wait, A: Served>(
+    rt: &R,
+    alloc: Global,
+    socket: &TcpStream,
+    node: &A,
+    seat: &mut A::Seat,
+    stream: u64,
+) {
+    let mut from = Counted::new(socket);
+    let _ = serve_reader(rt, alloc, node, seat, stream, &mut from, &NoGate);
+}
+
+fn close<R: Wait, A: Served>(rt: &R, node: &A, seat: &mut A::Seat, stream: u64) {
+    drop(called(rt, node, &NoGate, seat, Event::Close(stream)));
+}
+
 // The number of a new stream.
 fn opened<R: Wait, A: Served>(rt: &R, node: &A, seat: &mut A::Seat) -> Option<u64> {
-    match called(rt, node, &NoGate, seat, Event::Open) {
-        Ok(Ok(Reply::Opened(stream))) => Some(stream),
+    let answer = called(rt, node, &NoGate, seat, Event::Open);
+    let stream = number_in(&answer);
+    drop(answer);
+    stream
+}
+
+fn number_in(answer: &Result<Result<Reply, Refusal>, Refusal>) -> Option<u64> {
+    match answer {
+        Ok(Ok(Reply::Opened(stream))) => Some(*stream),
         _ => None,
     }
 }

@@ -19,8 +19,8 @@ use Rattle.xds_catalogue.specs.Joins.{joined, joining, changes_by}
 use Rattle.xds_catalogue.specs.Local.{greatest_counter, next_counter, putting, deleting, has_live}
 use Rattle.xds_catalogue.proofs.Catalogues.{catalogue_of-IsCatalogue}
 use Rattle.xds_owed.specs.declared.variant.VariantName.{VariantName}
-use Rattle.xds_owed.specs.Owed.{present, live_version, version_shown}
-use Rattle.xds_owed.specs.Listed.{IsLater, IsPast}
+use Rattle.xds_owed.specs.Owed.{live_version, version_shown}
+use Rattle.xds_owed.specs.Listed.{IsLater}
 use Rattle.xds_owed.proofs.Fitting.{new_list_fits, later_holdings_fit}
 use Rattle.xds_owed.proofs.Later.{later_itself, joined_is_later}
 use Rattle.xds_ledger.specs.Lists.{Books, new_books, Fits, FitsNext, Kept, SessionFits, StaysFit, StaysPresent}

@@ -1,126 +1,117 @@
 // What one replica holds, by scripts whose steps are apart by `; `, and what two replicas tell each other.
+ghost use Rattle.std.specs.Prelude.{◌≤◌};
+
 use std::alloc::Global;
 use std::sync::ArcStr;
 use std::test::Fail;
-use xds_cases::cases::{Outcome, first_word, hold, told, words_of};
+use xds_cases::cases::{Outcome, hold, words_of};
+use xds_cases::scripts::{Script, follow};
 use xds_catalogue::Catalogue;
 use xds_interest::{ClusterText, Interest};
 use xds_resource::{Cluster, Groups, Refusal, Resource, ResourceType, Route, Secret, Stamp, Write};
 
-// The answers to the steps of a script over a new catalogue of clusters, a space before each.
-struct Answers;
+// What a new replica holds of a type.
+#[derive(Drop)]
+struct Replica<T: ResourceType> {
+    catalogue: Catalogue<T>,
+}
 
-impl Outcome for Answers {
-    fn of(alloc: Global, given: &str) -> Result<String, Fail> {
-        answers_of::<Cluster>(alloc, given)
+impl<T: ResourceType> Script for Replica<T> {
+    fn begin(alloc: Global) -> Replica<T> {
+        Replica {
+            catalogue: Catalogue::new(alloc),
+        }
+    }
+
+    fn step(&mut self, alloc: Global, verb: &str, rest: &str) -> Result<String, Refusal> {
+        let (first, others) = rest.split_once(' ').unwrap_or((rest, ""));
+        match verb {
+            "put" => put_text(alloc, &mut self.catalogue, "", rest),
+            "putin" => put_text(alloc, &mut self.catalogue, first, others),
+            "delete" => delete_text(alloc, &mut self.catalogue, rest),
+            "join" => join_text(alloc, &mut self.catalogue, "", rest),
+            "joinin" => join_text(alloc, &mut self.catalogue, first, others),
+            "want" => shown(alloc, &self.catalogue, "", rest),
+            "wantin" => shown(alloc, &self.catalogue, first, others),
+            _ => looked_at(alloc, &self.catalogue, verb, rest),
+        }
     }
 }
 
-// The same over a new catalogue of secrets.
-struct SecretAnswers;
-
-impl Outcome for SecretAnswers {
-    fn of(alloc: Global, given: &str) -> Result<String, Fail> {
-        answers_of::<Secret>(alloc, given)
-    }
-}
-
-// The same over a new catalogue of routes.
-struct RouteAnswers;
-
-impl Outcome for RouteAnswers {
-    fn of(alloc: Global, given: &str) -> Result<String, Fail> {
-        answers_of::<Route>(alloc, given)
-    }
-}
-
-fn answers_of<T: ResourceType>(alloc: Global, script: &str) -> Result<String, Fail> {
-    let mut catalogue = Catalogue::<T>::new(alloc);
-    let answers = answers_over(alloc, &mut catalogue, script);
-    drop(catalogue);
-    answers
-}
-
-fn answers_over<T: ResourceType>(
+// What another look at a catalogue tells.
+fn looked_at<T: ResourceType>(
     alloc: Global,
-    catalogue: &mut Catalogue<T>,
-    script: &str,
-) -> Result<String, Fail> {
-    let mut answers = String::new(alloc);
-    for step in script.split("; ") {
-        let (verb, rest) = first_word(step)?;
-        let answer = answer_to(alloc, catalogue, verb, rest);
-        answers.push_str(" ")?;
-        answers.push_str(told(alloc, answer)?.as_str())?;
-    }
-    Ok(answers)
-}
-
-fn answer_to<T: ResourceType>(
-    alloc: Global,
-    catalogue: &mut Catalogue<T>,
+    catalogue: &Catalogue<T>,
     verb: &str,
     rest: &str,
 ) -> Result<String, Refusal> {
     match verb {
-        "put" => put_text(alloc, catalogue, Groups::none(), rest),
-        "putin" => {
-            let (groups, rest) = groups_among(alloc, rest)?;
-            put_text(alloc, catalogue, groups, rest)
-        }
-        "delete" => catalogue.delete(rest, 1)?.version_text(alloc),
-        "join" => join_text(alloc, catalogue, Groups::none(), rest),
-        "joinin" => {
-            let (groups, rest) = groups_among(alloc, rest)?;
-            join_text(alloc, catalogue, groups, rest)
-        }
         "get" => held_text(alloc, catalogue, rest),
         "groups" => groups_text(alloc, catalogue, rest),
-        "copy" => held_text(alloc, &catalogue.try_copy(alloc)?, rest),
-        "want" => shown(alloc, catalogue, "", rest),
-        "wantin" => {
-            let (cluster, names) = rest.split_once(' ').unwrap_or((rest, ""));
-            shown(alloc, catalogue, cluster, names)
-        }
+        "copy" => copied_text(alloc, catalogue, rest),
         "next" => next_text(alloc, catalogue, rest),
         _ => count_text(alloc, catalogue.changes()),
     }
 }
 
-// The groups that stand before a space, apart by commas, and what stands behind it.
-fn groups_among<'a>(alloc: Global, given: &'a str) -> Result<(Groups, &'a str), Refusal> {
-    let (listed, rest) = given.split_once(' ').ok_or(Refusal::BadMessage)?;
+// The groups of a list, apart by commas.
+fn groups_of(alloc: Global, listed: &str) -> Result<Groups, Refusal> {
+    if listed.is_empty() {
+        return Ok(Groups::none());
+    }
     let mut texts = Vec::new(alloc);
     for group in listed.split(",") {
         texts.push(String::from_str(alloc, group)?)?;
     }
-    Ok((Groups::new(alloc, &texts)?, rest))
+    Groups::new(alloc, &texts)
+}
+
+fn delete_text<T: ResourceType>(
+    alloc: Global,
+    catalogue: &mut Catalogue<T>,
+    name: &str,
+) -> Result<String, Refusal> {
+    catalogue.delete(name, 1)?.version_text(alloc)
+}
+
+// Has a replica of this number put a body with the groups of a list.
+fn put_by<T: ResourceType>(
+    alloc: Global,
+    catalogue: &mut Catalogue<T>,
+    writer: u16,
+    listed: &str,
+    body: &str,
+) -> Result<Stamp, Refusal>
+    requires { 1 ≤ writer }
+{
+    let groups = groups_of(alloc, listed)?;
+    catalogue.put(Resource::parse(alloc, body)?, groups, writer)
 }
 
 fn put_text<T: ResourceType>(
     alloc: Global,
     catalogue: &mut Catalogue<T>,
-    groups: Groups,
+    listed: &str,
     body: &str,
 ) -> Result<String, Refusal> {
-    let resource = Resource::parse(alloc, body)?;
-    catalogue.put(resource, groups, 1)?.version_text(alloc)
+    put_by(alloc, catalogue, 1, listed, body)?.version_text(alloc)
 }
 
 fn join_text<T: ResourceType>(
     alloc: Global,
     catalogue: &mut Catalogue<T>,
-    groups: Groups,
+    listed: &str,
     given: &str,
 ) -> Result<String, Refusal> {
-    let write = write_of(alloc, groups, given)?;
+    let write = write_of(alloc, listed, given)?;
     count_text(alloc, catalogue.join_write(write)?)
 }
 
-// The write of a version that puts a body with these groups, or that deletes `a` where `-` stands in the body's place.
+// The write of a version that puts a body with the groups of a list, or that deletes `a` where `-` stands in the body's
+// place.
 fn write_of<T: ResourceType>(
     alloc: Global,
-    groups: Groups,
+    listed: &str,
     given: &str,
 ) -> Result<Write<T>, Refusal> {
     let (version, body) = given.split_once(' ').ok_or(Refusal::BadMessage)?;
@@ -128,6 +119,7 @@ fn write_of<T: ResourceType>(
     if body == "-" {
         return Ok(Write::deletion(stamp, ArcStr::from_str(alloc, "a")?));
     }
+    let groups = groups_of(alloc, listed)?;
     Ok(Write::put(stamp, Resource::parse(alloc, body)?, groups))
 }
 
@@ -147,6 +139,18 @@ fn held_text<T: ResourceType>(
     let mut text = write.stamp().version_text(alloc)?;
     text.push_str(write.body().unwrap_or("-"))?;
     Ok(text)
+}
+
+// The same of a copy of the catalogue.
+fn copied_text<T: ResourceType>(
+    alloc: Global,
+    catalogue: &Catalogue<T>,
+    name: &str,
+) -> Result<String, Refusal> {
+    let copy = catalogue.try_copy(alloc)?;
+    let text = held_text(alloc, &copy, name);
+    drop(copy);
+    text
 }
 
 // The groups of what stands under a name, each with a comma behind it.
@@ -170,7 +174,7 @@ fn next_text<T: ResourceType>(
     catalogue: &Catalogue<T>,
     after: &str,
 ) -> Result<String, Refusal> {
-    let after = after.parse::<u64>().map_err(|_| Refusal::BadStamp)?;
+    let after = after.parse::<u64>().ok().ok_or(Refusal::BadStamp)?;
     let Some((number, write)) = catalogue.next_change(after) else {
         return Ok(String::from_str(alloc, "none")?);
     };
@@ -207,18 +211,18 @@ fn names_shown<T: ResourceType>(
 
 #[test]
 fn a_replica_keeps_the_greatest_write(rt: HostRuntime) -> Result<(), Fail> {
-    hold::<Answers, HostRuntime>(
+    follow::<Replica<Cluster>, HostRuntime>(
         &rt,
-        r#"put {"@type":"CDS","name":"a"}; delete a; join 1-1 {"@type":"CDS","name":"a"}; join 1-1 {"@type":"CDS","name":"a"}; get a; want ; delete a; delete b =>  1-1 2-1 0 0 2-1-  9 NotFound 9 NotFound
-put {"@type":"CDS","name":"a"}; delete a; put {"@type":"CDS","name":"a"}; put {"@type":"CDS","name":"a"}; copy a; changes  =>  1-1 2-1 3-1 4-1 4-1{"@type":"CDS","name":"a"} 4
-join 9223372036854775807-9 {"@type":"CDS","name":"a"}; put {"@type":"CDS","name":"b"}; delete a; delete b; get a; get b; changes  =>  1 10 CounterSpent 10 CounterSpent 9 NotFound 9223372036854775807-9{"@type":"CDS","name":"a"} none 1
-join 1-1 {"@type":"CDS","name":"a"}; join 1-2 {"@type":"CDS","name":"a"}; join 2-1 -; join 2-1 {"@type":"CDS","name":"a","x":1}; get a; changes  =>  1 1 1 1 2-1{"@type":"CDS","name":"a","x":1} 4
-join 2-1 {"@type":"CDS","name":"a","x":1}; join 2-1 -; join 1-2 {"@type":"CDS","name":"a"}; join 1-1 {"@type":"CDS","name":"a"}; get a; changes  =>  1 0 0 0 2-1{"@type":"CDS","name":"a","x":1} 1
-join 1-2 {"@type":"CDS","name":"a"}; join 2-1 {"@type":"CDS","name":"a","x":1}; join 1-1 {"@type":"CDS","name":"a"}; join 2-1 -; get a; changes  =>  1 1 0 0 2-1{"@type":"CDS","name":"a","x":1} 2
-join 2-1 -; join 2-1 -; join 1-1 {"@type":"CDS","name":"a"}; join 2-1 {"@type":"CDS","name":"a","x":1}; get a; want a =>  1 0 0 1 2-1{"@type":"CDS","name":"a","x":1} a
-put {"@type":"CDS","name":"b"}; put {"@type":"CDS","name":"a"}; want ; want * c; want b c; want c =>  1-1 2-1 ab ab b 
-next 0; put {"@type":"CDS","name":"b"}; put {"@type":"CDS","name":"a"}; next 0; next 1; put {"@type":"CDS","name":"b"}; join 1-1 -; next 0; next 2; next 3; next 18446744073709551615 =>  none 1-1 2-1 1b 2a 3-1 0 2a 3b none none
-delete a; put {"@type":"CDS","name":"a"}; delete a; next 0; next 1; next 2; copy a; want a =>  9 NotFound 1-1 2-1 2a 2a none 2-1- "#,
+        r#"put {"@type":"CDS","name":"a"}; delete a; join 1-1 {"@type":"CDS","name":"a"}; join 1-1 {"@type":"CDS","name":"a"}; get a; want ; delete a; delete b => 1-1 2-1 0 0 2-1-  9 NotFound 9 NotFound
+put {"@type":"CDS","name":"a"}; delete a; put {"@type":"CDS","name":"a"}; put {"@type":"CDS","name":"a"}; copy a; changes  => 1-1 2-1 3-1 4-1 4-1{"@type":"CDS","name":"a"} 4
+join 9223372036854775807-9 {"@type":"CDS","name":"a"}; put {"@type":"CDS","name":"b"}; delete a; delete b; get a; get b; changes  => 1 10 CounterSpent 10 CounterSpent 9 NotFound 9223372036854775807-9{"@type":"CDS","name":"a"} none 1
+join 1-1 {"@type":"CDS","name":"a"}; join 1-2 {"@type":"CDS","name":"a"}; join 2-1 -; join 2-1 {"@type":"CDS","name":"a","x":1}; get a; changes  => 1 1 1 1 2-1{"@type":"CDS","name":"a","x":1} 4
+join 2-1 {"@type":"CDS","name":"a","x":1}; join 2-1 -; join 1-2 {"@type":"CDS","name":"a"}; join 1-1 {"@type":"CDS","name":"a"}; get a; changes  => 1 0 0 0 2-1{"@type":"CDS","name":"a","x":1} 1
+join 1-2 {"@type":"CDS","name":"a"}; join 2-1 {"@type":"CDS","name":"a","x":1}; join 1-1 {"@type":"CDS","name":"a"}; join 2-1 -; get a; changes  => 1 1 0 0 2-1{"@type":"CDS","name":"a","x":1} 2
+join 2-1 -; join 2-1 -; join 1-1 {"@type":"CDS","name":"a"}; join 2-1 {"@type":"CDS","name":"a","x":1}; get a; want a => 1 0 0 1 2-1{"@type":"CDS","name":"a","x":1} a
+put {"@type":"CDS","name":"b"}; put {"@type":"CDS","name":"a"}; want ; want * c; want b c; want c => 1-1 2-1 ab ab b 
+next 0; put {"@type":"CDS","name":"b"}; put {"@type":"CDS","name":"a"}; next 0; next 1; put {"@type":"CDS","name":"b"}; join 1-1 -; next 0; next 2; next 3; next 18446744073709551615 => none 1-1 2-1 1b 2a 3-1 0 2a 3b none none
+delete a; put {"@type":"CDS","name":"a"}; delete a; next 0; next 1; next 2; copy a; want a => 9 NotFound 1-1 2-1 2a 2a none 2-1- "#,
     )
 }
 
@@ -250,8 +254,8 @@ fn told_of_exchange(
     one: &str,
     two: &str,
 ) -> Result<String, Refusal> {
-    first.put(Resource::parse(alloc, one)?, Groups::none(), 1)?;
-    second.put(Resource::parse(alloc, two)?, Groups::none(), 2)?;
+    put_by(alloc, first, 1, "", one)?;
+    put_by(alloc, second, 2, "", two)?;
     let (gained, second_gained) = exchanged(alloc, first, second)?;
     let again = first.join_all(sent(alloc, second)?)?;
     let held = held_text(alloc, first, "a")?;
@@ -284,29 +288,29 @@ fn two_replicas_agree(rt: HostRuntime) -> Result<(), Fail> {
 
 #[test]
 fn groups_narrow_the_star_alone(rt: HostRuntime) -> Result<(), Fail> {
-    hold::<Answers, HostRuntime>(
+    follow::<Replica<Cluster>, HostRuntime>(
         &rt,
-        r#"putin g1 {"@type":"CDS","name":"a"}; put {"@type":"CDS","name":"b"}; putin g2 {"@type":"CDS","name":"c"}; wantin g1; want ; wantin g2; wantin g1 c; wantin g1 * c; want c; wantin g =>  1-1 2-1 3-1 ab b bc c abc c b
-putin g1 {"@type":"CDS","name":"a"}; putin g2 {"@type":"CDS","name":"a"}; wantin g1; wantin g2; groups a; put {"@type":"CDS","name":"a"}; wantin g1; groups a; changes  =>  1-1 2-1  a g2, 3-1 a  3
-putin g2,g1,g2 {"@type":"CDS","name":"a"}; groups a; delete a; groups a; wantin g1; put {"@type":"CDS","name":"a"}; want  =>  1-1 g1,g2, 2-1   3-1 a
-putin g1,, {"@type":"CDS","name":"a"}; groups a; changes  =>  24 BadGroup 9 NotFound 0
-join 1-1 {"@type":"CDS","name":"a"}; joinin g2 1-1 {"@type":"CDS","name":"a"}; joinin g1 1-1 {"@type":"CDS","name":"a"}; joinin g1,g3 1-1 {"@type":"CDS","name":"a"}; groups a; joinin g2,g1 1-1 {"@type":"CDS","name":"a"}; joinin g3 1-1 {"@type":"CDS","name":"a"}; groups a; changes  =>  1 1 0 0 g2, 0 1 g3, 3
-joinin g9 1-1 {"@type":"CDS","name":"a","x":1}; join 1-1 {"@type":"CDS","name":"a"}; groups a; joinin g1 1-1 -; want  =>  1 1  0 a"#,
+        r#"putin g1 {"@type":"CDS","name":"a"}; put {"@type":"CDS","name":"b"}; putin g2 {"@type":"CDS","name":"c"}; wantin g1; want ; wantin g2; wantin g1 c; wantin g1 * c; want c; wantin g => 1-1 2-1 3-1 ab b bc c abc c b
+putin g1 {"@type":"CDS","name":"a"}; putin g2 {"@type":"CDS","name":"a"}; wantin g1; wantin g2; groups a; put {"@type":"CDS","name":"a"}; wantin g1; groups a; changes  => 1-1 2-1  a g2, 3-1 a  3
+putin g2,g1,g2 {"@type":"CDS","name":"a"}; groups a; delete a; groups a; wantin g1; put {"@type":"CDS","name":"a"}; want  => 1-1 g1,g2, 2-1   3-1 a
+putin g1,, {"@type":"CDS","name":"a"}; groups a; changes  => 24 BadGroup 9 NotFound 0
+join 1-1 {"@type":"CDS","name":"a"}; joinin g2 1-1 {"@type":"CDS","name":"a"}; joinin g1 1-1 {"@type":"CDS","name":"a"}; joinin g1,g3 1-1 {"@type":"CDS","name":"a"}; groups a; joinin g2,g1 1-1 {"@type":"CDS","name":"a"}; joinin g3 1-1 {"@type":"CDS","name":"a"}; groups a; changes  => 1 1 0 0 g2, 0 1 g3, 3
+joinin g9 1-1 {"@type":"CDS","name":"a","x":1}; join 1-1 {"@type":"CDS","name":"a"}; groups a; joinin g1 1-1 -; want  => 1 1  0 a"#,
     )
 }
 
 #[test]
 fn secrets_are_seen_by_name_alone(rt: HostRuntime) -> Result<(), Fail> {
-    hold::<SecretAnswers, HostRuntime>(
+    follow::<Replica<Secret>, HostRuntime>(
         &rt,
-        r#"putin g1 {"@type":"SDS","name":"s"}; want ; wantin g1 *; want s; put {"@type":"RDS","name":"s"} =>  1-1   s 4 BadResource"#,
+        r#"putin g1 {"@type":"SDS","name":"s"}; want ; wantin g1 *; want s; put {"@type":"RDS","name":"s"} => 1-1   s 4 BadResource"#,
     )
 }
 
 #[test]
 fn routes_are_seen_by_name_alone(rt: HostRuntime) -> Result<(), Fail> {
-    hold::<RouteAnswers, HostRuntime>(
+    follow::<Replica<Route>, HostRuntime>(
         &rt,
-        r#"put {"@type":"RDS","name":"r"}; want ; want *; want r =>  1-1   r"#,
+        r#"put {"@type":"RDS","name":"r"}; want ; want *; want r => 1-1   r"#,
     )
 }

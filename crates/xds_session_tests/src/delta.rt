@@ -4,10 +4,9 @@ ghost use Rattle.xds_catalogue.specs.Holdings.{IsCatalogue};
 ghost use Rattle.xds_owed.specs.declared.variant.VariantName.TheVariants as variants;
 ghost use Rattle.xds_ledger.specs.Lists.{SessionFits};
 
-use crate::stories::{Actor, change, hold, text};
+use crate::stories::{Actor, change, hold, keep, text};
 use std::alloc::Global;
 use std::test::Fail;
-use xds_cases::cases::replaced;
 use xds_catalogue::Catalogue;
 use xds_delta::Session;
 use xds_interest::ClusterText;
@@ -54,7 +53,7 @@ impl<T: ResourceType> Server<T> {
     // A copy of the session stands for it.
     fn stand_in(&mut self, alloc: Global) -> Result<(), Refusal> {
         let session = self.session.try_copy(alloc)?;
-        self.session = session;
+        keep(&mut self.session, session);
         Ok(())
     }
 
@@ -69,13 +68,14 @@ impl<T: ResourceType> Server<T> {
     fn take(&mut self, alloc: Global, request: &str) -> Result<String, Refusal> {
         let request = DeltaDiscoveryRequest::read(alloc, request.as_bytes())?;
         let outcome = self.session.take(alloc, &request);
+        drop(request);
         outcome_text(alloc, outcome)
     }
 
     // The client is of another cluster from the start.
     fn is_of(&mut self, alloc: Global, cluster: &str) -> Result<String, Refusal> {
         let cluster = ClusterText::new(alloc, cluster)?;
-        self.session = Session::new(alloc, cluster);
+        keep(&mut self.session, Session::new(alloc, cluster));
         text(alloc, "of")
     }
 
@@ -84,7 +84,9 @@ impl<T: ResourceType> Server<T> {
         let response = self
             .session
             .poll(alloc, self.replica, &self.catalogue, &mut self.nonces)?;
-        text(alloc, if response.is_some() { "some" } else { "none" })
+        let is_some = response.is_some();
+        drop(response);
+        text(alloc, if is_some { "some" } else { "none" })
     }
 
     // How many names changed since the session was refreshed.
@@ -93,16 +95,15 @@ impl<T: ResourceType> Server<T> {
         Ok(format!(in alloc; "{names}")?)
     }
 
-    fn put_one(&mut self, alloc: Global, number: u64) -> Result<String, Refusal> {
-        let name = format!(in alloc; "{number}")?;
-        let named = replaced(alloc, r#"{"@type":"URL","name":"N"}"#, "N", name.as_str())?;
-        let resource = replaced(alloc, named.as_str(), "URL", T::TYPE.url())?;
-        self.change(alloc, "put", resource.as_str())
+    fn put_one(&mut self, alloc: Global, number: u64) -> Result<(), Refusal> {
+        let resource = resource_text(alloc, T::TYPE.url(), number)?;
+        drop(self.change(alloc, "put", resource.as_str())?);
+        Ok(())
     }
 
     // Puts a resource under each number below this one.
     fn put_many(&mut self, alloc: Global, count: &str) -> Result<String, Refusal> {
-        let count = count.parse::<u64>().map_err(|_| Refusal::BadScript)?;
+        let count = count.parse::<u64>().ok().ok_or(Refusal::BadScript)?;
         for number in 0..count {
             self.put_one(alloc, number)?;
         }
@@ -115,10 +116,19 @@ impl<T: ResourceType> Server<T> {
             .session
             .poll(alloc, self.replica, &self.catalogue, &mut self.nonces)?;
         match response {
-            Some(draft) => draft.write(alloc),
+            Some(draft) => {
+                let text = draft.write(alloc);
+                drop(draft);
+                text
+            }
             None => text(alloc, "none"),
         }
     }
+}
+
+// A resource whose name is a number.
+fn resource_text(alloc: Global, url: &str, number: u64) -> Result<String, Refusal> {
+    Ok(format!(in alloc; "{{\"@type\":\"{url}\",\"name\":\"{number}\"}}")?)
 }
 
 fn outcome_text(alloc: Global, outcome: Result<Outcome, Refusal>) -> Result<String, Refusal> {
@@ -130,8 +140,8 @@ fn outcome_text(alloc: Global, outcome: Result<Outcome, Refusal>) -> Result<Stri
 
 #[test]
 fn an_unknown_name_is_removed(rt: HostRuntime) -> Result<(), Fail> {
-    hold::<Server<Cluster>, HostRuntime>(
-        &rt,
+    hold::<Server<Cluster>>(
+        rt.alloc(),
         1,
         r#"owes => no
 poll => none
@@ -149,8 +159,8 @@ owes => no"#,
 
 #[test]
 fn interests_change_by_what_requests_mention(rt: HostRuntime) -> Result<(), Fail> {
-    hold::<Server<Cluster>, HostRuntime>(
-        &rt,
+    hold::<Server<Cluster>>(
+        rt.alloc(),
         1,
         r#"put {"@type":"CDS","name":"A"} => 1-1
 put {"@type":"CDS","name":"B"} => 2-1
@@ -178,8 +188,8 @@ owes => no"#,
 
 #[test]
 fn a_name_touched_meanwhile_is_told_again(rt: HostRuntime) -> Result<(), Fail> {
-    hold::<Server<Cluster>, HostRuntime>(
-        &rt,
+    hold::<Server<Cluster>>(
+        rt.alloc(),
         1,
         r#"put {"@type":"CDS","name":"n"} => 1-1
 take {"resourceNamesSubscribe":["*"],"typeUrl":"CDS"} => taken
@@ -196,8 +206,8 @@ owes => no"#,
 
 #[test]
 fn a_refused_offer_waits_until_it_differs(rt: HostRuntime) -> Result<(), Fail> {
-    hold::<Server<Cluster>, HostRuntime>(
-        &rt,
+    hold::<Server<Cluster>>(
+        rt.alloc(),
         1,
         r#"put {"@type":"CDS","name":"B"} => 1-1
 take {"resourceNamesSubscribe":["*"],"typeUrl":"CDS"} => taken
@@ -218,8 +228,8 @@ owes => no"#,
 
 #[test]
 fn a_client_resumes_at_a_replica_that_lags(rt: HostRuntime) -> Result<(), Fail> {
-    hold::<Server<Cluster>, HostRuntime>(
-        &rt,
+    hold::<Server<Cluster>>(
+        rt.alloc(),
         2,
         r#"join 2-1 {"@type":"CDS","name":"A"} => 1
 take {"initialResourceVersions":{"A":"5-1","B":"6-1"},"resourceNamesSubscribe":["*"],"typeUrl":"CDS"} => taken
@@ -232,8 +242,8 @@ poll => none"#,
 
 #[test]
 fn what_a_client_holds_is_not_sent_again(rt: HostRuntime) -> Result<(), Fail> {
-    hold::<Server<Route>, HostRuntime>(
-        &rt,
+    hold::<Server<Route>>(
+        rt.alloc(),
         1,
         r#"put {"@type":"RDS","name":"q"} => 1-1
 put {"@type":"RDS","name":"r"} => 2-1
@@ -248,8 +258,8 @@ owes => no"#,
 
 #[test]
 fn what_leaves_the_group_is_removed(rt: HostRuntime) -> Result<(), Fail> {
-    hold::<Server<Cluster>, HostRuntime>(
-        &rt,
+    hold::<Server<Cluster>>(
+        rt.alloc(),
         1,
         r#"cluster g1 => of
 putin g1 {"@type":"CDS","name":"a"} => 1-1
@@ -274,8 +284,8 @@ owes => no"#,
 
 #[test]
 fn a_settled_client_costs_what_changes(rt: HostRuntime) -> Result<(), Fail> {
-    hold::<Server<Cluster>, HostRuntime>(
-        &rt,
+    hold::<Server<Cluster>>(
+        rt.alloc(),
         1,
         r#"many 1000 => 1000
 refresh => 0

@@ -6,10 +6,10 @@ ghost use Rattle.xds_catalogue.specs.Holdings.{IsCatalogue};
 ghost use Rattle.xds_ledger.specs.Ledgers.{AreInOrder};
 ghost use Rattle.xds_ledger.specs.Lists.{Fits};
 
-use crate::stories::change;
+use crate::stories::{change, keep};
 use std::alloc::Global;
 use std::test::Fail;
-use xds_cases::cases::words_of;
+use xds_cases::cases::{Outcome, first_word, hold, words_of};
 use xds_cases::scripts::{Script, either, follow};
 use xds_catalogue::Catalogue;
 use xds_interest::{ClusterText, Interest};
@@ -74,7 +74,7 @@ impl<V: Variant> Client<V> {
             next.names(),
             versions,
         )?;
-        self.interest = next;
+        keep(&mut self.interest, next);
         Ok(String::from_str(alloc, "taken")?)
     }
 
@@ -97,8 +97,8 @@ impl<V: Variant> Client<V> {
     }
 
     fn sent(&mut self, alloc: Global, number: &str) -> Result<String, Refusal> {
+        let number = number.parse::<u64>().ok().ok_or(Refusal::BadStamp)?;
         let offer = self.offered(alloc)?;
-        let number = number.parse::<u64>().map_err(|_| Refusal::BadStamp)?;
         self.ledger.send(alloc, offer, number);
         Ok(String::from_str(alloc, "sent")?)
     }
@@ -176,39 +176,88 @@ fn nonces_are_numbers_from_one(rt: HostRuntime) -> Result<(), Fail> {
     Ok(())
 }
 
+// What a version tells: its text, and whether it is of the stamps 5-2 and 6-2.
+fn version_text(alloc: Global, version: &Version) -> Result<String, Refusal> {
+    let text = version.as_str();
+    let is_of = version.is_of(Stamp::new(5, 2));
+    let is_of_later = version.is_of(Stamp::new(6, 2));
+    Ok(format!(in alloc; "{text} {is_of} {is_of_later}")?)
+}
+
+// The same of a copy.
+fn copy_text(alloc: Global, version: Version) -> Result<String, Refusal> {
+    let copy = version.try_copy(alloc)?;
+    drop(version);
+    let text = version_text(alloc, &copy);
+    drop(copy);
+    text
+}
+
 #[test]
 fn versions_are_texts(rt: HostRuntime) -> Result<(), Fail> {
     let alloc = rt.alloc();
-    let (stamp, later) = (Stamp::new(5, 2), Stamp::new(6, 2));
-    let version = Version::of_stamp(alloc, stamp)?.try_copy(alloc)?;
-    assert_eq!(rt; version.as_str(), "5-2");
-    assert!(rt; version.is_of(stamp) && !version.is_of(later));
-    let other = Version::from_text(alloc, "05-2")?;
-    assert_eq!(rt; other.as_str(), "05-2");
-    assert!(rt; !other.is_of(stamp));
+    let stamped = copy_text(alloc, Version::of_stamp(alloc, Stamp::new(5, 2))?)?;
+    assert_eq!(rt; stamped.as_str(), "5-2 true false");
+    let other = copy_text(alloc, Version::from_text(alloc, "05-2")?)?;
+    assert_eq!(rt; other.as_str(), "05-2 false false");
     Ok(())
 }
 
-// The version that an entry has.
-fn told(entry: &Entry) -> &str {
-    match entry {
-        Entry::Told(version) => version.as_str(),
-        Entry::Unsure => "unsure",
+// The version that the copy of an entry has.
+fn entry_text(alloc: Global, entry: Entry) -> Result<String, Refusal> {
+    let copy = entry.try_copy(alloc)?;
+    drop(entry);
+    let text = match &copy {
+        Entry::Told(version) => String::from_str(alloc, version.as_str()),
+        Entry::Unsure => String::from_str(alloc, "unsure"),
+    };
+    drop(copy);
+    Ok(text?)
+}
+
+// What is due where this version is to be stated, or where `-` stands for a removal.
+fn due_of(alloc: Global, version: &str) -> Result<Due, Refusal> {
+    if version == "-" {
+        return Ok(Due::Removed);
+    }
+    Ok(Due::Stated(Version::from_text(alloc, version)?))
+}
+
+// Whether what is due is the same as the copy of something else that is.
+fn is_copy(alloc: Global, due: &Due, other: Due) -> Result<bool, Refusal> {
+    let copy = other.try_copy(alloc)?;
+    drop(other);
+    let same = due.is_same(&copy);
+    drop(copy);
+    Ok(same)
+}
+
+struct Sameness;
+
+impl Outcome for Sameness {
+    fn of(alloc: Global, given: &str) -> Result<String, Fail> {
+        let (version, other) = first_word(given)?;
+        let due = due_of(alloc, version)?;
+        let same = is_copy(alloc, &due, due_of(alloc, other)?);
+        drop(due);
+        Ok(either(alloc, same?, "same", "other")?)
     }
 }
 
 #[test]
 fn entries_are_copied(rt: HostRuntime) -> Result<(), Fail> {
     let alloc = rt.alloc();
-    let entry = Entry::Told(Version::from_text(alloc, "5-2")?);
-    assert_eq!(rt; told(&entry.try_copy(alloc)?), "5-2");
-    assert_eq!(rt; told(&Entry::Unsure.try_copy(alloc)?), "unsure");
-    let due = Due::Stated(Version::from_text(alloc, "5-2")?);
-    let other = Due::Stated(Version::from_text(alloc, "6-2")?);
-    assert!(rt; due.is_same(&due.try_copy(alloc)?));
-    assert!(rt; !due.is_same(&other) && !due.is_same(&Due::Removed));
-    assert!(rt; Due::Removed.is_same(&Due::Removed.try_copy(alloc)?));
-    Ok(())
+    let told = entry_text(alloc, Entry::Told(Version::from_text(alloc, "5-2")?))?;
+    assert_eq!(rt; told.as_str(), "5-2");
+    let unsure = entry_text(alloc, Entry::Unsure)?;
+    assert_eq!(rt; unsure.as_str(), "unsure");
+    hold::<Sameness, HostRuntime>(
+        &rt,
+        "5-2 5-2 => same
+5-2 6-2 => other
+5-2 - => other
+- - => same",
+    )
 }
 
 #[test]

@@ -17,13 +17,12 @@ fn numbered(alloc: Global, number: u64) -> Result<Write<Cluster>, Refusal> {
     ))
 }
 
-// What stands once the 10,000 came, each this many places after the one before it in their own order.
-fn joined(alloc: Global, stride: u16) -> Result<Catalogue<Cluster>, Refusal> {
-    let mut catalogue = Catalogue::new(alloc);
+// Joins the 10,000, each this many places after the one before it in their own order.
+fn join(alloc: Global, catalogue: &mut Catalogue<Cluster>, stride: u16) -> Result<(), Refusal> {
     for place in 0..10_000_u64 {
         catalogue.join_write(numbered(alloc, place * stride as u64 % 10_000)?)?;
     }
-    Ok(catalogue)
+    Ok(())
 }
 
 // Whether both hold the same writes, of this many names.
@@ -56,6 +55,14 @@ fn walked(catalogue: &Catalogue<Cluster>) -> Option<u64> {
     None
 }
 
+// Whether a write is the one of this number.
+fn is_numbered(alloc: Global, write: &Write<Cluster>, number: u64) -> Result<bool, Refusal> {
+    let wanted = numbered(alloc, number)?;
+    let same = *write == wanted;
+    drop(wanted);
+    Ok(same)
+}
+
 // Whether the next changes of a catalogue, from the first on, are the last write of each name, in order.
 fn ends_in_order(alloc: Global, sorted: &Catalogue<Cluster>) -> Result<bool, Refusal> {
     let mut after = 0;
@@ -63,7 +70,7 @@ fn ends_in_order(alloc: Global, sorted: &Catalogue<Cluster>) -> Result<bool, Ref
         let Some((number, write)) = sorted.next_change(after) else {
             return Ok(false);
         };
-        if number != 7_501 + place || *write != numbered(alloc, 7_500 + place)? {
+        if number != 7_501 + place || !is_numbered(alloc, write, 7_500 + place)? {
             return Ok(false);
         }
         after = number;
@@ -86,11 +93,23 @@ fn told_of_orders(
     Ok(format!(in alloc; "{same} {changes} {walk} {other_walk} {ordered}")?)
 }
 
-// The same, of the catalogues that the two orders make.
+// The same, of two catalogues that hold nothing yet.
+fn told_of_both(
+    alloc: Global,
+    sorted: &mut Catalogue<Cluster>,
+    shuffled: &mut Catalogue<Cluster>,
+) -> Result<String, Refusal> {
+    join(alloc, sorted, 1)?;
+    join(alloc, shuffled, 7_919)?;
+    told_of_orders(alloc, sorted, shuffled)
+}
+
 fn told_of_writes(alloc: Global) -> Result<String, Refusal> {
-    let sorted = joined(alloc, 1)?;
-    let shuffled = joined(alloc, 7_919)?;
-    told_of_orders(alloc, &sorted, &shuffled)
+    let (mut sorted, mut shuffled) = (Catalogue::new(alloc), Catalogue::new(alloc));
+    let told = told_of_both(alloc, &mut sorted, &mut shuffled);
+    drop(sorted);
+    drop(shuffled);
+    told
 }
 
 #[test]
@@ -125,16 +144,40 @@ fn same(first: &Catalogue<Cluster>, second: &Catalogue<Cluster>) -> bool {
     false
 }
 
-// Joins a batch to some writes: it is joined whole, or memory was refused and the catalogue is as it was.
-fn joined_or_unchanged(alloc: Global) -> Result<bool, Refusal> {
-    let mut catalogue = Catalogue::new(alloc);
+// Joins some writes to a catalogue, and answers a copy of it.
+fn joined(
+    alloc: Global,
+    catalogue: &mut Catalogue<Cluster>,
+) -> Result<Catalogue<Cluster>, Refusal> {
     catalogue.join_all(batch(alloc, &[1, 2, 3, 2_501, 4, 5])?)?;
-    let before = catalogue.try_copy(alloc)?;
+    catalogue.try_copy(alloc)
+}
+
+// Joins a batch to these: it is joined whole, or memory was refused and the catalogue is as it was.
+fn joins_all(
+    alloc: Global,
+    catalogue: &mut Catalogue<Cluster>,
+    before: &Catalogue<Cluster>,
+) -> Result<bool, Refusal> {
     let more = batch(alloc, &[7, 2_502, 8, 2_507, 1, 5_002, 9, 7_501])?;
     Ok(match catalogue.join_all(more) {
         Ok(grown) => grown == 7 && catalogue.changes() == 13,
-        Err(refusal) => refusal == Refusal::OutOfMemory && same(&catalogue, &before),
+        Err(refusal) => refusal == Refusal::OutOfMemory && same(catalogue, before),
     })
+}
+
+fn joined_or_unchanged(alloc: Global) -> Result<bool, Refusal> {
+    let mut catalogue = Catalogue::new(alloc);
+    let answer = match joined(alloc, &mut catalogue) {
+        Ok(before) => {
+            let answer = joins_all(alloc, &mut catalogue, &before);
+            drop(before);
+            answer
+        }
+        Err(refusal) => Err(refusal),
+    };
+    drop(catalogue);
+    answer
 }
 
 // With ample memory the batch is joined. It is also run with each allocation failing in turn.

@@ -4,7 +4,7 @@ ghost use Rattle.xds_catalogue.specs.Holdings.{IsCatalogue};
 ghost use Rattle.xds_owed.specs.declared.variant.VariantName.TheVariants as variants;
 ghost use Rattle.xds_ledger.specs.Lists.{SessionFits};
 
-use crate::stories::change;
+use crate::stories::{change, keep};
 use std::alloc::Global;
 use std::test::Fail;
 use xds_cases::scripts::{Script, either, follow};
@@ -29,6 +29,7 @@ impl<T: ResourceType> Stream<T> {
     fn taken(&mut self, alloc: Global, request: &str) -> Result<String, Refusal> {
         let request = DiscoveryRequest::read(alloc, request.as_bytes())?;
         let outcome = self.session.take(alloc, &request);
+        drop(request);
         outcome_text(alloc, outcome)
     }
 
@@ -43,7 +44,7 @@ impl<T: ResourceType> Stream<T> {
     // The client is of another cluster from the start.
     fn is_of(&mut self, alloc: Global, cluster: &str) -> Result<String, Refusal> {
         let cluster = ClusterText::new(alloc, cluster)?;
-        self.session = Session::new(alloc, cluster);
+        keep(&mut self.session, Session::new(alloc, cluster));
         Ok(String::from_str(alloc, "of")?)
     }
 
@@ -52,7 +53,11 @@ impl<T: ResourceType> Stream<T> {
             .session
             .poll(alloc, 1, &self.catalogue, &mut self.nonces)?
         {
-            Some(draft) => draft.write(alloc),
+            Some(draft) => {
+                let text = draft.write(alloc);
+                drop(draft);
+                text
+            }
             None => Ok(String::from_str(alloc, "none")?),
         }
     }

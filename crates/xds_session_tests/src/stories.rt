@@ -1,13 +1,14 @@
 // Stories as texts, one step a line: what is done, ` => `, and the answer that is wanted.
+ghost use Rattle.std.specs.Prelude.{◌≡◌};
 ghost use Rattle.xds_catalogue.specs.Holdings.{IsCatalogue};
 ghost use Rattle.xds_owed.specs.Listed.{IsLater};
 
 use std::alloc::Global;
-use std::process::Abort;
+use std::mem;
 use std::test::Fail;
-use xds_cases::cases::{replaced, words_of};
+use xds_cases::cases::{replaced, told, words_of, written_out};
 use xds_catalogue::Catalogue;
-use xds_resource::{Groups, Refusal, Resource, ResourceType, Stamp, TypeName, Write};
+use xds_resource::{Groups, Refusal, Resource, ResourceType, Stamp, Write};
 
 /// What answers the steps of a story.
 pub trait Actor {
@@ -16,26 +17,41 @@ pub trait Actor {
     fn answer(&mut self, alloc: Global, verb: &str, rest: &str) -> Result<String, Refusal>;
 }
 
-/// Compares the answer to each step with the one that is wanted, where the steps are done in their order. In a story
-/// `CDS`, `RDS` and `SDS` stand for the URLs of the types.
-pub(crate) fn hold<A: Actor + Drop, R: Abort + AllocGlobal>(
-    rt: &R,
-    replica: u16,
-    story: &str,
-) -> Result<(), Fail> {
-    let mut actor = A::new(rt.alloc(), replica);
+/// Compares the answer to each step with the one that is wanted, where the steps are done in their order. In a story the
+/// types' URLs are written short, as in a table of cases.
+pub(crate) fn hold<A: Actor + Drop>(alloc: Global, replica: u16, story: &str) -> Result<(), Fail> {
+    let mut actor = A::new(alloc, replica);
     for line in story.lines() {
-        let line = written_out(rt.alloc(), line)?;
-        let (step, wanted) = line
-            .as_str()
-            .split_once(" => ")
-            .ok_or("a step has no answer")?;
-        let (verb, rest) = step.split_once(' ').unwrap_or((step, ""));
-        let answer = actor.answer(rt.alloc(), verb, rest);
-        let told = told(rt.alloc(), answer)?;
-        assert_eq!(rt; told.as_str(), wanted, "at {step}");
+        hold_one(alloc, &mut actor, line)?;
     }
     Ok(())
+}
+
+fn hold_one<A: Actor>(alloc: Global, actor: &mut A, line: &str) -> Result<(), Fail> {
+    let line = written_out(alloc, line)?;
+    let (step, wanted) = line
+        .as_str()
+        .split_once(" => ")
+        .ok_or("a step has no answer")?;
+    let (verb, rest) = step.split_once(' ').unwrap_or((step, ""));
+    let answer = actor.answer(alloc, verb, rest);
+    same(told(alloc, answer)?.as_str(), wanted, step)
+}
+
+// Fails unless what was found is what is wanted.
+fn same(found: &str, wanted: &str, step: &str) -> Result<(), Fail> {
+    if found == wanted {
+        Ok(())
+    } else {
+        Err(Fail::new(format_args!("{found} and not {wanted}, at {step}")))
+    }
+}
+
+/// Keeps another value in a place.
+pub(crate) fn keep<V: Drop>(place: &mut V, value: V)
+    ensures { place.new ≡ value }
+{
+    drop(mem::replace(place, value));
 }
 
 /// A text of its own.
@@ -136,19 +152,4 @@ fn write_of<T: ResourceType>(alloc: Global, text: &str) -> Result<Write<T>, Refu
     let (version, resource) = text.split_once(' ').ok_or(Refusal::BadMessage)?;
     let stamp = Stamp::parse_version(version)?;
     Ok(Write::put(stamp, Resource::parse(alloc, resource)?, Groups::none()))
-}
-
-// The text that a call answers, or its refusal.
-fn told(alloc: Global, answer: Result<String, Refusal>) -> Result<String, Fail> {
-    match answer {
-        Ok(text) => Ok(text),
-        Err(refusal) => Ok(refusal.to_string(alloc)?),
-    }
-}
-
-// The text, with the types' URLs in place of their abbreviations.
-fn written_out(alloc: Global, text: &str) -> Result<String, Refusal> {
-    let text = replaced(alloc, text, "CDS", TypeName::Cluster.url())?;
-    let text = replaced(alloc, text.as_str(), "RDS", TypeName::Route.url())?;
-    replaced(alloc, text.as_str(), "SDS", TypeName::Secret.url())
 }

@@ -7,7 +7,8 @@ use xds_cases::cases::{Outcome, hold, replaced};
 use xds_resource::Refusal;
 use xds_rules::{Trace, TraceFault};
 
-fn told_fault(alloc: Global, fault: TraceFault) -> Result<String, Refusal> {
+/// The line that a trace is refused at, and why.
+pub(crate) fn told_fault(alloc: Global, fault: TraceFault) -> Result<String, Refusal> {
     let line = fault.line;
     let number = fault.refusal.number();
     let name = fault.refusal.name();
@@ -20,7 +21,11 @@ struct Written;
 fn write_text(alloc: Global, given: &str) -> Result<String, Refusal> {
     let text = replaced(alloc, given, "|", "\n")?;
     match Trace::read(alloc, text.as_str().as_bytes()) {
-        Ok(trace) => replaced(alloc, trace.write(alloc)?.as_str(), "\n", "|"),
+        Ok(trace) => {
+            let written = trace.write(alloc);
+            drop(trace);
+            replaced(alloc, written?.as_str(), "\n", "|")
+        }
         Err(fault) => told_fault(alloc, fault),
     }
 }

@@ -1,4 +1,5 @@
 // Traces and the verdict on each.
+use crate::traces::told_fault;
 use std::alloc::Global;
 use std::test::Fail;
 use xds_cases::cases::{Outcome, hold, replaced};
@@ -13,13 +14,12 @@ impl Outcome for Verdict {
     fn of(alloc: Global, given: &str) -> Result<String, Fail> {
         let text = replaced(alloc, given, "|", "\n")?;
         match Trace::read(alloc, text.as_bytes()) {
-            Ok(trace) => told(alloc, &trace),
-            Err(fault) => {
-                let line = fault.line;
-                let number = fault.refusal.number();
-                let name = fault.refusal.name();
-                Ok(format!(in alloc; "line {line}: {number} {name}")?)
+            Ok(trace) => {
+                let told = told(alloc, &trace);
+                drop(trace);
+                told
             }
+            Err(fault) => Ok(told_fault(alloc, fault)?),
         }
     }
 }

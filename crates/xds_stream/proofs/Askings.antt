@@ -1,5 +1,5 @@
 -- What an open stream is answered, and that it stays open.
-use Rattle.std.proofs.Common.{◌≡◌, ◌≢◌, ◌≤◌, ◌<◌, ◌+◌, ◌-◌, ◌==◌, ◌⊎◌, ℕ, List, [], ◌∷◌, Bool, true, false, Option, Some, None, Result, Ok, Err, inl, inr, refl, sym, ap, subst, ◌∙◌, arith}
+use Rattle.std.proofs.Common.{◌≡◌, ◌≢◌, ◌≤◌, ◌<◌, ◌+◌, ◌-◌, ◌==◌, ◌⊎◌, ℕ, [], ◌∷◌, Bool, true, false, Option, Some, None, Result, Ok, Err, inl, inr, refl, sym, ap, subst, ◌∙◌, arith}
 use Rattle.std.specs.Prelude.{IfErr, IsSome, IsSomeAnd, if◌then◌else◌}
 use Rattle.std.specs.Option.{option_map, option_map_or}
 use Rattle.std.specs.Cmp.{nat_cmp_total}
@@ -17,7 +17,7 @@ use Rattle.xds_resource.proofs.Refusing.{memory_or_not, unless_refused-value}
 use Rattle.xds_catalogue.proofs.Lookups.{get-inserted}
 use Rattle.xds_draft.specs.declared.draft.Draft.{Draft}
 use Rattle.xds_owed.specs.Offers.{Offer}
-use Rattle.xds_store.specs.Stores.{Store, if_done}
+use Rattle.xds_store.specs.Stores.{Store}
 use Rattle.xds_streams.specs.Streams.{Stream, Message, opening, requested, answered, sessions_for, is_foreign, variant_of, polled_first, polled, responding, response_of, first_due, to_send, sent}
 use Rattle.xds_core.specs.Events as events
 use Rattle.xds_core.specs.Events.{Event, Reply, Answered, Polled, Opened, Closed}

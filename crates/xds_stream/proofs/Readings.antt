@@ -1,5 +1,5 @@
 -- Why a frame isn't read as a request.
-use Rattle.std.proofs.Common.{◌≡◌, ◌⊎◌, ℕ, List, [], ◌∷◌, ◌++◌, Option, Some, None, Result, Ok, Err, inl, inr, refl, sym, ap, subst, ◌∙◌, arith}
+use Rattle.std.proofs.Common.{◌≡◌, ◌⊎◌, ℕ, List, [], ◌∷◌, ◌++◌, Option, Some, Result, Ok, Err, inl, inr, sym, subst, ◌∙◌, arith}
 use Rattle.std.specs.Prelude.{Contains, IfErr, IsErrAnd}
 use Rattle.xds_resource.proofs.BestWrites.{Contains-cons_cases}
 use Rattle.serde_json.specs.Data.{Data}

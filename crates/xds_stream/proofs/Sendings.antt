@@ -1,28 +1,23 @@
 -- How far the responses to a request were sent.
-use Rattle.std.proofs.Common.{◌≡◌, ◌⊎◌, ℕ, List, [], ◌∷◌, ◌++◌, Option, Some, None, Result, Ok, Err, inl, inr, map, refl, sym, ap, subst, ◌∙◌, append-nil}
+use Rattle.std.proofs.Common.{◌≡◌, ℕ, List, [], ◌∷◌, ◌++◌, Option, Some, None, Ok, inl, inr, map, refl, sym, subst, ◌∙◌, append-nil}
 use Rattle.std.specs.Prelude.{All}
-use Rattle.std.specs.List.{flat_map}
-use Rattle.std.specs.Io.KnownBytes.{Appends, Keeps}
-use Rattle.std.proofs.KnownBytes.{Appends-nil, Keeps-refl}
+use Rattle.std.specs.Io.KnownBytes.{Appends}
+use Rattle.std.proofs.KnownBytes.{Keeps-refl}
 use Rattle.std.proofs.lemmas.Grind.{flat_map-append}
 use Rattle.std.proofs.lemmas.List.{map-append}
 use Rattle.std.proofs.lemmas.List.Elements.{All-nil, All-push}
 use Rattle.xds_resource.specs.declared.refusal.Refusal.{Refusal}
-use Rattle.xds_resource.specs.declared.refusal.Refusal.TheVariants.{OutOfMemory, Device as DeviceRefusal}
 use Rattle.xds_draft.specs.declared.draft.Draft.{Draft}
-use Rattle.xds_ledger.specs.declared.outcome.Outcome.{Outcome}
 use Rattle.xds_frames.specs.Frames.{frame_bytes}
-use Rattle.xds_frames.specs.Devices.{Device, MoreFailed}
-use Rattle.xds_streams.specs.Streams.{Message}
+use Rattle.xds_frames.specs.Devices.{MoreFailed}
 use Rattle.xds_core.specs.Events as events
 use Rattle.xds_core.specs.Steps.{Core, step}
-use Rattle.xds_core.specs.Legal.{Record, IsShort, replayed}
-use Rattle.xds_stream.specs.Records.{Refuses, asked, gave, gave_none, polled_out, refused, answered}
-use Rattle.xds_stream.specs.Sending.{Fits, IsUnsent, NoneFailed, Sends, frame_of, sent}
+use Rattle.xds_core.specs.Legal.{Record, IsShort}
+use Rattle.xds_stream.specs.Records.{Refuses, gave, polled_out, refused}
+use Rattle.xds_stream.specs.Sending.{Fits, IsUnsent, frame_of, sent}
 use Rattle.xds_stream.specs.Serving.{Does}
-use Rattle.xds_stream.specs.Ending.{PollEnds, PollsEnd, MessageEnds}
-use Rattle.xds_stream.specs.Turning.{AnswersOne, SendsDue}
-use Rattle.xds_stream.proofs.Passing.{dev, does_nothing, does_then, does_event, does_refused, does_text, does_as, replayed_then}
+use Rattle.xds_stream.specs.Ending.{PollsEnd}
+use Rattle.xds_stream.proofs.Passing.{dev, does_nothing, does_then, does_event, does_refused, does_text, does_as}
 
 -- polls gave these responses, which were sent
 pub record IsSentTo (n : ℕ) (c now : Core) (b m : Option (List ℕ)) (f g : ℕ) : Type 0 where

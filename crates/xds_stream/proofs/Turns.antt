@@ -1,29 +1,27 @@
 -- How far a stream is served, turn by turn.
-use Rattle.std.proofs.Common.{◌≡◌, ◌⊎◌, ◌<◌, ℕ, List, [], ◌∷◌, ◌++◌, Bool, true, false, Option, Some, None, Result, Ok, Err, inl, inr, map, length, refl, sym, ap, subst, ◌∙◌, append_assoc, append-nil, ◌+◌, arith}
+use Rattle.std.proofs.Common.{◌≡◌, ◌⊎◌, ◌<◌, ℕ, List, [], ◌∷◌, ◌++◌, Bool, true, false, Option, Some, None, Result, Ok, Err, inl, inr, length, refl, sym, ap, subst, ◌∙◌, append_assoc, append-nil, ◌+◌, arith}
 use Rattle.std.specs.Prelude.{All}
-use Rattle.std.specs.Io.KnownBytes.{Appends, Consumes, IsAtEnd, Keeps}
-use Rattle.std.proofs.KnownBytes.{Appends-nil, Appends-trans, Consumes-nil, Consumes-trans, Keeps-refl}
+use Rattle.std.specs.Io.KnownBytes.{Consumes}
+use Rattle.std.proofs.KnownBytes.{Consumes-nil, Consumes-trans, Keeps-refl}
 use Rattle.std.proofs.lemmas.Bool.{false≢true, true≢false}
 use Rattle.std.proofs.lemmas.Grind.{flat_map-append}
 use Rattle.std.proofs.lemmas.List.{length-append}
 use Rattle.std.proofs.lemmas.List.Elements.{All-append, All-cons, All-nil}
 use Rattle.xds_resource.specs.declared.refusal.Refusal.{Refusal}
-use Rattle.xds_resource.specs.declared.refusal.Refusal.TheVariants.{OutOfMemory, Truncated, Device as DeviceRefusal}
 use Rattle.xds_draft.specs.declared.draft.Draft.{Draft}
 use Rattle.xds_ledger.specs.declared.outcome.Outcome.{Outcome}
 use Rattle.xds_frames.specs.Frames.{Framed, IsFrame, IsFault, IsPartial, frame_bytes}
-use Rattle.xds_frames.specs.Devices.{Device, MoreFailed}
 use Rattle.xds_streams.specs.Seen.{message_of}
 use Rattle.xds_streams.specs.Streams.{Message}
 use Rattle.xds_streams.specs.declared.request.Request.{Request}
 use Rattle.xds_core.specs.Events as events
 use Rattle.xds_core.specs.Steps.{Core, step}
-use Rattle.xds_core.specs.Legal.{Record, IsShort, replayed}
+use Rattle.xds_core.specs.Legal.{Record, replayed}
 use Rattle.xds_stream.specs.Requests.{Spells}
 use Rattle.xds_stream.specs.Records.{Refuses, answered, asked, polled_out, refused}
-use Rattle.xds_stream.specs.Sending.{Fits, IsUnsent, NoneFailed, sent}
+use Rattle.xds_stream.specs.Sending.{Fits, sent}
 use Rattle.xds_stream.specs.Serving.{Served, IsServed, Does, frames_of, events_of, sent_by}
-use Rattle.xds_stream.specs.Ending.{Ends, EndsWithin, EndsAtFrame, IsNothing, IsUnread, MessageEnds, PollEnds, PollsEnd}
+use Rattle.xds_stream.specs.Ending.{Ends, IsUnread, MessageEnds, PollsEnd}
 use Rattle.xds_stream.specs.Running.{Serves}
 use Rattle.xds_stream.specs.Turning.{AnswersOne, Fills, GivesRequest, GoesOn, SendsDue, Turns, left_to_do}
 use Rattle.xds_stream.proofs.Passing.{dev, does_nothing, does_then, does_event, does_refused, does_as, replayed_then}

@@ -1,5 +1,5 @@
 -- Messages that were answered whole, and what a replica and a writer are then. This project's own.
-use Rattle.std.specs.Prelude.{◌≡◌, ℕ, List, [], All}
+use Rattle.std.specs.Prelude.{◌≡◌, ℕ, List, All}
 use Rattle.std.specs.List.{flat_map}
 use Rattle.xds_draft.specs.declared.draft.Draft.{Draft}
 use Rattle.xds_ledger.specs.declared.outcome.Outcome.{Outcome}

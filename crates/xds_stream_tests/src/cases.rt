@@ -1,10 +1,10 @@
 // Streams from bytes to bytes.
-use crate::ran::{Ends, bytes_of, run};
+use crate::ran::{Ends, Ran, bytes_of, run};
 use std::alloc::Global;
 use std::str;
 use std::test::Fail;
 use xds_cases::cases::{Outcome, hold, told};
-use xds_frames::{Decoder, frame_head};
+use xds_frames::{Decoder, Frame, frame_head};
 use xds_resource::Refusal;
 
 // Sizes of the pieces that the input comes in.
@@ -18,44 +18,66 @@ impl Outcome for Stream {
         let input = bytes_of(alloc, given)?;
         let whole = served(alloc, input.as_slice(), usize::MAX)?;
         for size in SIZES {
-            let cut = served(alloc, input.as_slice(), size)?;
-            if cut.as_str() != whole.as_str() {
-                return Err(Fail::new(format_args!("another answer in pieces of {size}")));
-            }
+            is_served_so(alloc, input.as_slice(), size, whole.as_str())?;
         }
         Ok(whole)
     }
 }
 
+// Fails unless input in pieces of this size comes to the same.
+fn is_served_so(alloc: Global, input: &[u8], size: usize, whole: &str) -> Result<(), Fail> {
+    let cut = served(alloc, input, size)?;
+    if cut.as_str() == whole {
+        return Ok(());
+    }
+    Err(Fail::new(format_args!("{cut} and not {whole}, in pieces of {size}")))
+}
+
 // What a stream comes to whose input comes in pieces of this size: the answer, and each frame as it is told in the cases.
 fn served(alloc: Global, input: &[u8], size: usize) -> Result<String, Fail> {
     let mut ends = Ends::new(input, size, Vec::new(alloc));
-    let ran = run(alloc, &mut ends)?;
+    let ran = run(alloc, &mut ends);
+    told_of(alloc, ran, ends.written())
+}
+
+fn told_of(alloc: Global, ran: Result<Ran, Refusal>, written: &[u8]) -> Result<String, Fail> {
+    let ran = ran?;
     if !ran.closed {
         return Err(Fail::new(format_args!("the stream is open")));
     }
-    let answer = match ran.answer {
-        Ok(()) => Ok(String::from_str(alloc, "ok")?),
-        Err(refusal) => Err(refusal),
-    };
-    let mut text = told(alloc, answer)?;
-    push_frames(alloc, ends.written(), &mut text)?;
+    let mut text = told(alloc, ok_or(alloc, ran.answer))?;
+    push_frames(alloc, written, &mut text)?;
     Ok(text)
+}
+
+// `ok`, or the refusal.
+fn ok_or(alloc: Global, answer: Result<(), Refusal>) -> Result<String, Refusal> {
+    answer?;
+    Ok(String::from_str(alloc, "ok")?)
 }
 
 fn push_frames(alloc: Global, bytes: &[u8], text: &mut String) -> Result<(), Refusal> {
     let mut decoder = Decoder::new(alloc);
     decoder.feed(bytes)?;
+    push_each(alloc, &mut decoder, text)
+}
+
+fn push_each(alloc: Global, decoder: &mut Decoder, text: &mut String) -> Result<(), Refusal> {
     for _ in 0..u64::MAX {
-        let Some(frame) = decoder.next()? else {
-            return decoder.finish();
-        };
-        let head = frame_head(frame.kind, frame.text.len())?;
-        let head = hex::encode(alloc, head.as_slice())?;
-        let body = str::from_utf8(frame.text).ok().ok_or(Refusal::NotJson)?;
-        let head = head.as_str();
-        text.push_str(format!(in alloc; "; {head} {body}")?.as_str())?;
+        match decoder.next()? {
+            Some(frame) => push_frame(alloc, frame, text)?,
+            None => return decoder.finish(),
+        }
     }
+    Ok(())
+}
+
+fn push_frame(alloc: Global, frame: Frame<'_>, text: &mut String) -> Result<(), Refusal> {
+    let head = frame_head(frame.kind, frame.text.len())?;
+    let head = hex::encode(alloc, head.as_slice())?;
+    let body = str::from_utf8(frame.text).ok().ok_or(Refusal::NotJson)?;
+    let head = head.as_str();
+    text.push_str(format!(in alloc; "; {head} {body}")?.as_str())?;
     Ok(())
 }
 

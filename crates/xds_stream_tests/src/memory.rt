@@ -1,6 +1,6 @@
 // A stream that finds no memory. `bench/fail_each.py` runs this test with each allocation failing in turn: where one fails
 // while the stream is served, a beginning of the responses was written, and the stream is closed.
-use crate::ran::{Ends, serve, written_bytes};
+use crate::ran::{Ends, Ran, serve, written_bytes};
 use std::alloc::Global;
 use std::test::Fail;
 use xds_core::{Core, Event};
@@ -21,17 +21,11 @@ fn put_a_cluster(alloc: Global, core: &mut Core) -> Result<(), Fail> {
 }
 
 // Whether the stream was refused memory. It is closed, and a beginning of the responses was written; all, where it wasn't.
-fn is_refused(alloc: Global, core: &mut Core) -> Result<bool, Fail> {
-    let input = written_bytes(alloc, REQUESTS)?;
-    let responses = written_bytes(alloc, RESPONSES)?;
-    // (what is written takes no memory meanwhile)
-    let taken = Vec::with_capacity(alloc, responses.len())?;
-    put_a_cluster(alloc, core)?;
-    let mut ends = Ends::new(input.as_slice(), 50, taken);
-    let ran = serve(alloc, core, &mut ends)?;
+fn is_refused(ran: Result<Ran, Refusal>, written: &[u8], responses: &[u8]) -> Result<bool, Fail> {
+    let ran = ran?;
     let refused = ran.answer == Err(Refusal::OutOfMemory);
-    let whole = ends.written().len() == responses.len();
-    if !ran.closed || !responses.as_slice().starts_with(ends.written()) {
+    let whole = written.len() == responses.len();
+    if !ran.closed || !responses.starts_with(written) {
         return Err("it is open, or other responses are written".into());
     }
     if !refused && (ran.answer != Ok(()) || !whole) {
@@ -40,9 +34,22 @@ fn is_refused(alloc: Global, core: &mut Core) -> Result<bool, Fail> {
     Ok(refused)
 }
 
+fn is_cut_short(alloc: Global, core: &mut Core) -> Result<bool, Fail> {
+    let input = written_bytes(alloc, REQUESTS)?;
+    let responses = written_bytes(alloc, RESPONSES)?;
+    // (what is written takes no memory meanwhile)
+    let taken = Vec::with_capacity(alloc, responses.len())?;
+    put_a_cluster(alloc, core)?;
+    let mut ends = Ends::new(input.as_slice(), 50, taken);
+    let ran = serve(alloc, core, &mut ends);
+    is_refused(ran, ends.written(), responses.as_slice())
+}
+
 fn is_served(alloc: Global) -> Result<bool, Fail> {
     let mut core = Core::new(alloc, 1);
-    is_refused(alloc, &mut core)
+    let short = is_cut_short(alloc, &mut core);
+    drop(core);
+    short
 }
 
 #[test]

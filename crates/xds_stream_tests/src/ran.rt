@@ -106,14 +106,19 @@ pub(crate) fn serve(alloc: Global, core: &mut Core, ends: &mut Ends<'_>) -> Resu
 
 // Whether a request on stream 1 is told that there is no such stream.
 fn is_closed(core: &mut Core, request: DiscoveryRequest) -> bool {
-    let answer = core.step(Event::Request(1, Request::Sotw(request)));
+    has_no_stream(core.step(Event::Request(1, Request::Sotw(request))))
+}
+
+fn has_no_stream<V: Drop>(answer: Result<V, Refusal>) -> bool {
     matches!(&answer, Err(Refusal::NoStream))
 }
 
 /// Serves the first stream of replica 1, which holds nothing.
 pub(crate) fn run(alloc: Global, ends: &mut Ends<'_>) -> Result<Ran, Refusal> {
     let mut core = Core::new(alloc, 1);
-    serve(alloc, &mut core, ends)
+    let ran = serve(alloc, &mut core, ends);
+    drop(core);
+    ran
 }
 
 /// The bytes of items that stand apart by `; `: hex digits, and where a space follows them a text.

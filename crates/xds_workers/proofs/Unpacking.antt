@@ -1,5 +1,5 @@
 -- What is refused where a parcel is unpacked: no frame of a batch, but for want of memory.
-use Rattle.std.proofs.Common.{◌≡◌, ℕ, zero, suc, arith, List, [], ◌∷◌, Option, Some, None, Result, Ok, Err, ap, sym, ◌∙◌, subst}
+use Rattle.std.proofs.Common.{◌≡◌, ℕ, zero, suc, arith, List, [], ◌∷◌, Option, Some, Result, Ok, Err, ap, sym, ◌∙◌, subst}
 use Rattle.std.specs.Prelude.{IfErr, Contains}
 use Rattle.serde_json.specs.Data.{Data}
 use Rattle.xds_resource.specs.declared.refusal.Refusal.{Refusal}

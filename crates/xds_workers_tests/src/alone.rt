@@ -1,21 +1,17 @@
 // How worker threads end, each called alone.
-ghost use Rattle.std.specs.Prelude.{◌≡◌};
-
 use crate::calls::{open, put, refused};
 use crate::exchanges::crossed;
 use crate::gates::Open;
 use crate::short::Short;
-use crate::sites::Site;
+use crate::sites::{Site, Trial, tried};
 use crate::streams::REQUEST;
 use std::alloc::Global;
-use std::marker::Brand;
 use std::sync::Wait;
 use std::test::Fail;
 use xds_core::{Event, Request};
 use xds_frames::{Counted, Faulty, FrameKind, write_frame};
-use xds_link::link;
+use xds_link::{Incoming, Outgoing, link};
 use xds_message::DiscoveryRequest;
-use xds_node::{Line, Node, NodeName, Opened};
 use xds_resource::Refusal;
 use xds_workers::{
     Ended, Host, Parcel, Receipt, called, exchange_in, exchange_out, serve_reader, serve_writer,
@@ -80,18 +76,17 @@ struct Streams {
     after: Result<(), Refusal>,
 }
 
-fn streams_at<A: Site, R: Wait>(
+fn streams_by<A: Host, R: Wait>(
     rt: &R,
     alloc: Global,
-    node: Result<A, Refusal>,
+    node: &A,
+    seat: &mut A::Seat,
 ) -> Result<Streams, Refusal> {
-    let node = node?;
-    let mut seat = node.seat(rt)?;
-    let read = reads(rt, alloc, &node, &mut seat, 9);
-    let (wrote, bytes) = writes(rt, alloc, &node, &mut seat, 9, 0);
-    let stream = asked(rt, alloc, &node, &mut seat)?;
-    let (failed, _) = writes(rt, alloc, &node, &mut seat, stream, 1);
-    let after = reads(rt, alloc, &node, &mut seat, stream);
+    let read = reads(rt, alloc, node, seat, 9);
+    let (wrote, bytes) = writes(rt, alloc, node, seat, 9, 0);
+    let stream = asked(rt, alloc, node, seat)?;
+    let (failed, _) = writes(rt, alloc, node, seat, stream, 1);
+    let after = reads(rt, alloc, node, seat, stream);
     Ok(Streams {
         read,
         wrote,
@@ -101,20 +96,20 @@ fn streams_at<A: Site, R: Wait>(
     })
 }
 
-fn streams_of<N: NodeName, R: Wait>(
-    rt: &R,
-    alloc: Global,
-    opened: Opened<Line>,
-) -> Result<Streams, Refusal>
-    requires { opened ≡ N.id }
-{
-    streams_at(rt, alloc, Node::<N>::new(alloc, opened, 1))
+struct AtStreams;
+
+impl Trial for AtStreams {
+    type Came = Streams;
+
+    fn at<A: Site, R: Wait>(&self, rt: &R, alloc: Global, node: A) -> Result<Streams, Refusal> {
+        let mut seat = node.seat(rt)?;
+        streams_by(rt, alloc, &node, &mut seat)
+    }
 }
 
 #[test]
 fn a_stream_is_over_where_it_is_closed_or_a_write_fails(rt: HostRuntime) -> Result<(), Fail> {
-    let opened = Opened::<Line>::new(rt.alloc())?;
-    let came = streams_of::<Brand, _>(&rt, rt.alloc(), opened)?;
+    let came = tried(&rt, rt.alloc(), &AtStreams)?;
     assert!(rt;
         came.read == Err(Refusal::NoStream),
         "there is no stream that is asked"
@@ -148,54 +143,44 @@ fn exchanged<A: Host, R: Wait>(
     node: &A,
     seat: &mut A::Seat,
 ) -> Result<(Result<Ended, Refusal>, u64, Option<Receipt>), Refusal> {
+    let frame = write_frame(alloc, FrameKind::Batch, b"{}")?;
     let ((mut out, mut receipts), (mut from, mut back)) = crossed(link(alloc), link(alloc))?;
     let told = exchange_out(rt, alloc, node, seat, &mut out, &mut receipts, &Open);
-    let frame = write_frame(alloc, FrameKind::Batch, b"{}")?;
     let _ = out.put(rt, Parcel { frame, last: true });
     out.end(rt);
     let dropped = exchange_in(rt, alloc, node, seat, &mut from, &mut back, &Open);
     Ok((told, dropped, receipts.take(rt)))
 }
 
-fn full_at<A: Site, R: Wait>(
-    rt: &R,
-    alloc: Global,
-    node: Result<A, Refusal>,
-) -> Result<Full, Refusal> {
-    let node = node?;
-    let mut seat = node.seat(rt)?;
-    node.stop(rt);
-    let node = Short::new(node, 0);
-    let called = outcome(called(rt, &node, &Open, &mut seat, Event::Open));
-    let cuts = node.cuts(rt);
-    let read = reads(rt, alloc, &node, &mut seat, 1);
-    let (wrote, _) = writes(rt, alloc, &node, &mut seat, 1, 0);
-    let (told, dropped, receipt) = exchanged(rt, alloc, &node, &mut seat)?;
-    Ok(Full {
-        called,
-        cuts,
-        read,
-        wrote,
-        told,
-        dropped,
-        receipt,
-    })
-}
+struct WhereFull;
 
-fn full_of<N: NodeName, R: Wait>(
-    rt: &R,
-    alloc: Global,
-    opened: Opened<Line>,
-) -> Result<Full, Refusal>
-    requires { opened ≡ N.id }
-{
-    full_at(rt, alloc, Node::<N>::new(alloc, opened, 1))
+impl Trial for WhereFull {
+    type Came = Full;
+
+    fn at<A: Site, R: Wait>(&self, rt: &R, alloc: Global, node: A) -> Result<Full, Refusal> {
+        let mut seat = node.seat(rt)?;
+        node.stop(rt);
+        let node = Short::new(node, 0);
+        let called = outcome(called(rt, &node, &Open, &mut seat, Event::Open));
+        let cuts = node.cuts(rt);
+        let read = reads(rt, alloc, &node, &mut seat, 1);
+        let (wrote, _) = writes(rt, alloc, &node, &mut seat, 1, 0);
+        let (told, dropped, receipt) = exchanged(rt, alloc, &node, &mut seat)?;
+        Ok(Full {
+            called,
+            cuts,
+            read,
+            wrote,
+            told,
+            dropped,
+            receipt,
+        })
+    }
 }
 
 #[test]
 fn a_journal_that_stays_full_is_told(rt: HostRuntime) -> Result<(), Fail> {
-    let opened = Opened::<Line>::new(rt.alloc())?;
-    let came = full_of::<Brand, _>(&rt, rt.alloc(), opened)?;
+    let came = tried(&rt, rt.alloc(), &WhereFull)?;
     let refused = Err(Refusal::JournalFull);
     assert!(rt; came.called == refused, "a call finds no room");
     assert!(rt; came.cuts == 1, "in spite of a cut");
@@ -214,39 +199,45 @@ fn a_journal_that_stays_full_is_told(rt: HostRuntime) -> Result<(), Fail> {
 }
 
 // What telling a peer comes to that is gone: where nothing is to be told, and where a cluster is.
-fn to_nobody<A: Site, R: Wait>(
+fn tells_twice<A: Host, R: Wait>(
     rt: &R,
     alloc: Global,
-    node: Result<A, Refusal>,
+    node: &A,
+    seat: &mut A::Seat,
+    out: &mut Outgoing<Parcel>,
+    receipts: &mut Incoming<Receipt>,
 ) -> Result<(Ended, Ended), Refusal> {
-    let node = node?;
-    let mut seat = node.seat(rt)?;
-    node.stop(rt);
-    let ((mut out, mut receipts), (from, mut back)) = crossed(link(alloc), link(alloc))?;
-    back.end(rt);
-    drop(from.leave());
-    let nothing = exchange_out(rt, alloc, &node, &mut seat, &mut out, &mut receipts, &Open)?;
-    put(rt, alloc, &node, &mut seat, "a")?;
-    let something = exchange_out(rt, alloc, &node, &mut seat, &mut out, &mut receipts, &Open)?;
+    let nothing = exchange_out(rt, alloc, node, seat, out, receipts, &Open)?;
+    put(rt, alloc, node, seat, "a")?;
+    let something = exchange_out(rt, alloc, node, seat, out, receipts, &Open)?;
     Ok((nothing, something))
 }
 
-fn to_nobody_of<N: NodeName, R: Wait>(
-    rt: &R,
-    alloc: Global,
-    opened: Opened<Line>,
-) -> Result<(Ended, Ended), Refusal>
-    requires { opened ≡ N.id }
-{
-    to_nobody(rt, alloc, Node::<N>::new(alloc, opened, 1))
+struct ToNobody;
+
+impl Trial for ToNobody {
+    type Came = (Ended, Ended);
+
+    fn at<A: Site, R: Wait>(
+        &self,
+        rt: &R,
+        alloc: Global,
+        node: A,
+    ) -> Result<(Ended, Ended), Refusal> {
+        let mut seat = node.seat(rt)?;
+        node.stop(rt);
+        let ((mut out, mut receipts), (from, mut back)) = crossed(link(alloc), link(alloc))?;
+        back.end(rt);
+        drop(from.leave());
+        tells_twice(rt, alloc, &node, &mut seat, &mut out, &mut receipts)
+    }
 }
 
 #[test]
 fn a_peer_that_is_gone_is_told_where_there_is_something_to_tell(
     rt: HostRuntime,
 ) -> Result<(), Fail> {
-    let opened = Opened::<Line>::new(rt.alloc())?;
-    let (nothing, something) = to_nobody_of::<Brand, _>(&rt, rt.alloc(), opened)?;
+    let (nothing, something) = tried(&rt, rt.alloc(), &ToNobody)?;
     assert!(rt; nothing == Ended::Stopped, "nothing was to be told");
     assert!(rt; something == Ended::Unlinked, "nobody takes a cluster");
     Ok(())

@@ -3,7 +3,7 @@ ghost use Rattle.std.specs.Prelude.{◌≡◌};
 ghost use Rattle.std.specs.Thread.{IsSend};
 
 use crate::calls;
-use crate::calls::{open, put, refused};
+use crate::calls::{holds, open, put, refused};
 use crate::gates::Held;
 use crate::sites::{Site, both};
 use crate::streams::{Pieces, REQUEST, RESPONSE, Served, by_two};
@@ -144,37 +144,45 @@ fn unread<N: NodeName + Send + Sync, R: Threads + Wait + Sync>(
     unread_and_full(rt, alloc, Node::<N>::new(alloc, opened, 1), bytes)
 }
 
+// That this response was written to a stream, and that this ended well.
+fn wrote(alloc: Global, served: &Served, response: &[u8]) -> Result<(), Fail> {
+    let frame = write_frame(alloc, FrameKind::DiscoveryResponse, response)?;
+    if served.output == frame && served.wrote == Ok(()) {
+        return Ok(());
+    }
+    let (wrote, output) = (&served.wrote, &served.output);
+    Err(Fail::new(format_args!("{wrote:?}, {output:?}")))
+}
+
+fn found_room(full: &Full) -> Result<(), Fail> {
+    let refused = Err(Refusal::JournalFull);
+    holds(
+        full.filled == refused && full.put == refused,
+        "the journal is full",
+    )?;
+    holds(full.again == Ok(()), "once it is cut there is room")?;
+    holds(
+        full.held.as_str().contains("\"counter\":2,\"name\":\"b\""),
+        "what was refused has changed nothing",
+    )
+}
+
+// A cluster was put and the other stream served meanwhile, and this one once it could be written to.
+fn held_nobody(alloc: Global, came: &((Served, Served), Full)) -> Result<(), Fail> {
+    let ((slow, quick), full) = came;
+    wrote(alloc, quick, WITH_A)?;
+    wrote(alloc, slow, RESPONSE)?;
+    found_room(full)
+}
+
 #[test]
 fn a_peer_that_never_reads_holds_nobody_else(rt: HostRuntime) -> Result<(), Fail> {
     let input = write_frame(rt.alloc(), FrameKind::DiscoveryRequest, REQUEST)?;
-    let output = write_frame(rt.alloc(), FrameKind::DiscoveryResponse, RESPONSE)?;
-    let later = write_frame(rt.alloc(), FrameKind::DiscoveryResponse, WITH_A)?;
     let opened = Opened::<Line>::new(rt.alloc())?;
-    let ((slow, quick), full) = unread::<Brand, _>(&rt, rt.alloc(), opened, &input)?;
-    assert!(rt;
-        quick.output == later,
-        "a cluster is put, and the other stream is served meanwhile"
-    );
-    assert!(rt;
-        slow.output == output,
-        "and this one once it can be written to"
-    );
-    assert!(rt;
-        slow.wrote == Ok(()) && quick.wrote == Ok(()),
-        "both end well"
-    );
-    let refused = Err(Refusal::JournalFull);
-    assert!(rt;
-        full.filled == refused && full.put == refused,
-        "the journal is full"
-    );
-    assert!(rt; full.again == Ok(()), "once it is cut there is room");
-    let held = full.held.as_str();
-    assert!(rt;
-        held.contains("\"counter\":2,\"name\":\"b\""),
-        "what was refused has changed nothing"
-    );
-    Ok(())
+    let came = unread::<Brand, _>(&rt, rt.alloc(), opened, &input)?;
+    let held = held_nobody(rt.alloc(), &came);
+    drop(came);
+    held
 }
 
 // Cuts a node until a stream is let go, and answers how often.
@@ -223,17 +231,23 @@ fn half<N: NodeName + Send + Sync, R: Threads + Wait + Sync>(
     half_and_cut(rt, alloc, Node::<N>::new(alloc, opened, 1), bytes)
 }
 
+// The other stream was served before, and whole. This one ended well, too.
+fn was_cut(alloc: Global, came: &((Served, Served), u64)) -> Result<(), Fail> {
+    let ((slow, quick), turns) = came;
+    holds(*turns < MOST_TURNS, "the other stream was served before")?;
+    holds(
+        slow.read == Ok(()) && slow.wrote == Ok(()),
+        "this one ends well, too",
+    )?;
+    wrote(alloc, quick, WITH_A)
+}
+
 #[test]
 fn half_a_frame_holds_nobody_else_while_a_node_is_cut(rt: HostRuntime) -> Result<(), Fail> {
     let input = write_frame(rt.alloc(), FrameKind::DiscoveryRequest, REQUEST)?;
-    let later = write_frame(rt.alloc(), FrameKind::DiscoveryResponse, WITH_A)?;
     let opened = Opened::<Line>::new(rt.alloc())?;
-    let ((slow, quick), turns) = half::<Brand, _>(&rt, rt.alloc(), opened, &input)?;
-    assert!(rt; turns < MOST_TURNS, "the other stream was served before");
-    assert!(rt; quick.output == later, "and whole");
-    assert!(rt;
-        slow.read == Ok(()) && slow.wrote == Ok(()),
-        "this one ends well, too"
-    );
-    Ok(())
+    let came = half::<Brand, _>(&rt, rt.alloc(), opened, &input)?;
+    let held = was_cut(rt.alloc(), &came);
+    drop(came);
+    held
 }

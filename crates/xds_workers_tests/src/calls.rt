@@ -1,6 +1,7 @@
 // Events of the tests, and what they are answered.
 use std::alloc::Global;
 use std::sync::Wait;
+use std::test::Fail;
 use xds_core::{Event, Reply};
 use xds_node::Unrecorded;
 use xds_resource::{AnyResource, Groups, Refusal};
@@ -99,4 +100,12 @@ pub(crate) fn held<A: Host, R: Wait>(
     seat: &mut A::Seat,
 ) -> Result<String, Refusal> {
     entries(alloc, node.call(rt, seat, Event::Snapshot))
+}
+
+/// Fails with this reason unless it is so.
+pub(crate) fn holds(is_so: bool, why: &str) -> Result<(), Fail> {
+    if is_so {
+        return Ok(());
+    }
+    Err(Fail::new(format_args!("{why}")))
 }

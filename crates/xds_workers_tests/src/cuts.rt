@@ -79,6 +79,19 @@ struct Worker<S, P> {
     done: Result<(), Refusal>,
 }
 
+// A worker with a new seat, that has cut nothing.
+fn seated<A: Site, R: Wait>(
+    rt: &R,
+    alloc: Global,
+    node: &A,
+) -> Result<Worker<A::Seat, A::Segment>, Refusal> {
+    Ok(Worker {
+        seat: node.seat(rt)?,
+        segments: Vec::new(alloc),
+        done: Ok(()),
+    })
+}
+
 fn workers<A: Site, R: Wait>(
     rt: &R,
     alloc: Global,
@@ -86,11 +99,7 @@ fn workers<A: Site, R: Wait>(
 ) -> Result<Vec<Worker<A::Seat, A::Segment>>, Refusal> {
     let mut workers = Vec::new(alloc);
     for _ in 0..SEATS {
-        workers.push(Worker {
-            seat: node.seat(rt)?,
-            segments: Vec::new(alloc),
-            done: Ok(()),
-        })?;
+        workers.push(seated(rt, alloc, node)?)?;
     }
     Ok(workers)
 }
@@ -135,6 +144,30 @@ fn worked<A: Host, R: Wait>(
     worker
 }
 
+// Moves all values of a list behind those of another.
+fn append<V: Drop>(all: &mut Vec<V>, more: Vec<V>) -> Result<(), Refusal> {
+    for value in more {
+        all.push(value)?;
+    }
+    Ok(())
+}
+
+// Adds the seat and the segments of a worker.
+fn hand_in<S: Drop, P: Drop>(
+    seats: &mut Vec<S>,
+    segments: &mut Vec<P>,
+    worker: Worker<S, P>,
+) -> Result<(), Refusal> {
+    let Worker {
+        seat,
+        segments: cut,
+        done,
+    } = worker;
+    done?;
+    seats.push(seat)?;
+    append(segments, cut)
+}
+
 // The seats, and the segments, of all workers.
 fn handed_in<S: Drop, P: Drop>(
     alloc: Global,
@@ -143,11 +176,7 @@ fn handed_in<S: Drop, P: Drop>(
     let mut seats = Vec::new(alloc);
     let mut segments = Vec::new(alloc);
     for worker in workers {
-        worker.done?;
-        seats.push(worker.seat)?;
-        for segment in worker.segments {
-            segments.push(segment)?;
-        }
+        hand_in(&mut seats, &mut segments, worker)?;
     }
     Ok((seats, segments))
 }

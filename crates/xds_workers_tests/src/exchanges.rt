@@ -2,7 +2,7 @@
 ghost use Rattle.std.specs.Prelude.{◌≡◌};
 ghost use Rattle.std.specs.Thread.{IsSend};
 
-use crate::calls::{held, put};
+use crate::calls::{held, holds, put};
 use crate::gates::Open;
 use crate::short::Short;
 use crate::sites::{Site, both};
@@ -186,19 +186,27 @@ fn exchange_stopped<M: NodeName + Send + Sync, N: NodeName + Send + Sync, R: Thr
     stopped(rt, alloc, two::<M, N>(alloc, first, second))
 }
 
+// That all was told, so many parcels were dropped, and both hold the same.
+pub(crate) fn told_all(outcome: &Exchanged, dropped: u64) -> Result<(), Fail> {
+    holds(outcome.ended == Ok(Ended::Stopped), "all was told")?;
+    holds(outcome.dropped == dropped, "so many were dropped")?;
+    holds(outcome.held == outcome.told, "both hold the same")
+}
+
+fn told_b(outcome: &Exchanged) -> Result<(), Fail> {
+    told_all(outcome, 0)?;
+    holds(
+        outcome.held.as_str().contains("\"b\""),
+        "the clusters are held",
+    )
+}
+
 #[test]
 fn what_a_stopped_node_holds_comes_to_another(rt: HostRuntime) -> Result<(), Fail> {
     let first = Opened::<Line>::new(rt.alloc())?;
     let second = Opened::<Line>::new(rt.alloc())?;
     let outcome = exchange_stopped::<Brand, Brand, _>(&rt, rt.alloc(), first, second)?;
-    assert!(rt; outcome.ended == Ok(Ended::Stopped), "all was told");
-    assert!(rt; outcome.dropped == 0, "nothing was dropped");
-    assert!(rt; outcome.held == outcome.told, "both hold the same");
-    assert!(rt;
-        outcome.held.as_str().contains("\"b\""),
-        "the clusters are held"
-    );
-    Ok(())
+    told_b(&outcome)
 }
 
 // Puts so many clusters, each once the one before came to another node.
@@ -323,9 +331,7 @@ fn a_hundred_parcels_pass_where_the_journals_are_short(rt: HostRuntime) -> Resul
     let first = Opened::<Line>::new(rt.alloc())?;
     let second = Opened::<Line>::new(rt.alloc())?;
     let (outcome, cuts) = exchange_shortly::<Brand, Brand, _>(&rt, rt.alloc(), first, second, 100)?;
-    assert!(rt; outcome.ended == Ok(Ended::Stopped), "all was told");
-    assert!(rt; outcome.dropped == 0, "nothing was dropped");
-    assert!(rt; outcome.held == outcome.told, "both hold the same");
+    told_all(&outcome, 0)?;
     assert!(rt; cuts == 33, "there were 100 merges, and room for 3");
     Ok(())
 }

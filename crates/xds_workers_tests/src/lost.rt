@@ -4,11 +4,11 @@ ghost use Rattle.std.specs.Thread.{IsSend};
 
 use crate::calls::{held, put};
 use crate::exchanges::{
-    Done, Exchanged, Merging, Ready, crossed, exchange, outcome_of, ready, two,
+    Done, Exchanged, Ready, crossed, exchange, outcome_of, ready, told_all, two,
 };
 use crate::frail::{Batches, Frail, Watched};
 use crate::gates::Open;
-use crate::sites::{Site, both};
+use crate::sites::Site;
 use std::alloc::Global;
 use std::marker::Brand;
 use std::sync::Wait;
@@ -18,27 +18,25 @@ use xds_frames::{FrameKind, write_frame};
 use xds_link::{Incoming, Outgoing, link};
 use xds_node::{Line, NodeName, Opened};
 use xds_resource::Refusal;
-use xds_workers::{Ended, Host, Parcel, Receipt, exchange_in};
+use xds_workers::{Host, Parcel, Receipt, exchange_in};
 
-// Puts a batch of one parcel, whose text this is, and then no more.
-fn puts_batch<R: Wait>(
-    rt: &R,
-    alloc: Global,
-    out: &mut Outgoing<Parcel>,
-    text: &str,
-) -> Result<(), Refusal> {
-    let frame = write_frame(alloc, FrameKind::Batch, text.as_bytes())?;
-    let again = write_frame(alloc, FrameKind::Batch, text.as_bytes())?;
-    let _ = out.put(rt, Parcel { frame, last: true });
+// Puts two batches of one parcel each, and then no more.
+fn puts_both<R: Wait>(rt: &R, out: &mut Outgoing<Parcel>, first: Vec<u8>, second: Vec<u8>) {
     let _ = out.put(
         rt,
         Parcel {
-            frame: again,
+            frame: first,
+            last: true,
+        },
+    );
+    let _ = out.put(
+        rt,
+        Parcel {
+            frame: second,
             last: true,
         },
     );
     out.end(rt);
-    Ok(())
 }
 
 // Merges what is in a channel whose other end told that no more comes. Answers how many parcels were dropped.
@@ -47,29 +45,32 @@ fn merges_all<A: Host, R: Wait>(
     alloc: Global,
     node: &A,
     seat: &mut A::Seat,
-    ends: Merging,
+    from: &mut Incoming<Parcel>,
+    back: &mut Outgoing<Receipt>,
 ) -> u64 {
-    let (mut from, mut back) = ends;
-    let dropped = exchange_in(rt, alloc, node, seat, &mut from, &mut back, &Open);
+    let dropped = exchange_in(rt, alloc, node, seat, from, back, &Open);
     back.end(rt);
     dropped
 }
 
-// What came of a batch that was put twice, where the first merge found no memory.
+// What came of a batch that was put twice, where the first merge found no memory, and whether it is held then.
 #[derive(Drop)]
 struct Twice {
     dropped: u64,
     first: Option<Receipt>,
     second: Option<Receipt>,
     third: Option<Receipt>,
-    put: String,
-    held: String,
+    held: bool,
 }
 
-fn receipts<R: Wait>(rt: &R, from: &mut Incoming<Receipt>, into: &mut Twice) {
-    into.first = from.take(rt);
-    into.second = from.take(rt);
-    into.third = from.take(rt);
+fn receipts<R: Wait>(rt: &R, from: &mut Incoming<Receipt>, dropped: u64) -> Twice {
+    Twice {
+        dropped,
+        first: from.take(rt),
+        second: from.take(rt),
+        third: from.take(rt),
+        held: false,
+    }
 }
 
 // Puts a text twice as a batch, and has it merged.
@@ -78,21 +79,35 @@ fn merged_twice<A: Host, R: Wait>(
     alloc: Global,
     node: &A,
     seat: &mut A::Seat,
-    text: String,
+    text: &str,
 ) -> Result<Twice, Refusal> {
-    let ((mut out, mut from), merging) = crossed(link(alloc), link(alloc))?;
-    puts_batch(rt, alloc, &mut out, text.as_str())?;
-    let mut twice = Twice {
-        dropped: merges_all(rt, alloc, node, seat, merging),
-        first: None,
-        second: None,
-        third: None,
-        put: text,
-        held: String::new(alloc),
-    };
-    receipts(rt, &mut from, &mut twice);
-    twice.held = held(rt, alloc, node, seat)?;
+    let first = write_frame(alloc, FrameKind::Batch, text.as_bytes())?;
+    let second = write_frame(alloc, FrameKind::Batch, text.as_bytes())?;
+    let ((mut out, mut receipted), (mut from, mut back)) = crossed(link(alloc), link(alloc))?;
+    puts_both(rt, &mut out, first, second);
+    let dropped = merges_all(rt, alloc, node, seat, &mut from, &mut back);
+    Ok(receipts(rt, &mut receipted, dropped))
+}
+
+// The same, and looks whether the node holds it then.
+fn holds_twice<A: Host, R: Wait>(
+    rt: &R,
+    alloc: Global,
+    node: &A,
+    seat: &mut A::Seat,
+    text: &str,
+) -> Result<Twice, Refusal> {
+    let mut twice = merged_twice(rt, alloc, node, seat, text)?;
+    let held = held(rt, alloc, node, seat)?;
+    twice.held = held.as_str() == text;
     Ok(twice)
+}
+
+// Puts a cluster, and tells what the node holds.
+fn holds_a<A: Site, R: Wait>(rt: &R, alloc: Global, node: &A) -> Result<String, Refusal> {
+    let mut seat = node.seat(rt)?;
+    put(rt, alloc, node, &mut seat, "a")?;
+    held(rt, alloc, node, &mut seat)
 }
 
 // What a node holds is put to another, which finds no memory for it at first.
@@ -102,10 +117,9 @@ fn put_twice<A: Site, B: Site, R: Wait>(
     nodes: Result<(A, B), Refusal>,
 ) -> Result<Twice, Refusal> {
     let (from, to) = nodes?;
-    let (mut puts, mut seat) = both(from.seat(rt), to.seat(rt))?;
-    put(rt, alloc, &from, &mut puts, "a")?;
-    let text = held(rt, alloc, &from, &mut puts)?;
-    merged_twice(rt, alloc, &Frail::new(to), &mut seat, text)
+    let text = holds_a(rt, alloc, &from)?;
+    let mut seat = to.seat(rt)?;
+    holds_twice(rt, alloc, &Frail::new(to), &mut seat, text.as_str())
 }
 
 fn lost_once<M: NodeName, N: NodeName, R: Wait>(
@@ -135,7 +149,7 @@ fn a_merge_without_memory_is_receipted_as_lost(rt: HostRuntime) -> Result<(), Fa
         "the same batch is merged then"
     );
     assert!(rt; outcome.third == None, "there are no more receipts");
-    assert!(rt; outcome.held == outcome.put, "and is held");
+    assert!(rt; outcome.held, "and is held");
     Ok(())
 }
 
@@ -182,8 +196,9 @@ where
     B::Seat: Send,
     B::Segment: Send,
 {
-    let (mut puts, ready) = both(from.node.seat(rt), ready(rt, alloc, &from.node, &to.node))?;
+    let mut puts = from.node.seat(rt)?;
     put(rt, alloc, &from.node, &mut puts, "a")?;
+    let ready = ready(rt, alloc, &from.node, &to.node)?;
     let (done, all_put) = join(
         rt,
         move || -> Done
@@ -228,9 +243,9 @@ fn what_is_lost_is_told_again_whole(rt: HostRuntime) -> Result<(), Fail> {
     let first = Opened::<Line>::new(rt.alloc())?;
     let second = Opened::<Line>::new(rt.alloc())?;
     let (outcome, batches) = lost_and_told::<Brand, Brand, _>(&rt, rt.alloc(), first, second)?;
-    assert!(rt; outcome.ended == Ok(Ended::Stopped), "all was told");
-    assert!(rt; outcome.dropped == 1, "one parcel was dropped");
-    assert!(rt; outcome.held == outcome.told, "both hold the same");
+    let told = told_all(&outcome, 1);
+    drop(outcome);
+    told?;
     assert!(rt; batches.first == 1, "the first batch had one cluster");
     assert!(rt; batches.second == 2, "the next one has both");
     Ok(())

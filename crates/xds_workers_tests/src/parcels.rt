@@ -37,29 +37,43 @@ const BEFORE: &[u8] =
 const AFTER: &[u8] =
     b"\",\"name\":\"a\"},\"counter\":1,\"name\":\"a\",\"typeUrl\":\"type.googleapis.com/envoy.config.cluster.v3.Cluster\",\"writer\":1},";
 
-// A batch of so many equal writes, each of which has a million bytes and some more.
-fn long(alloc: Global, count: usize) -> Result<Batch, Refusal> {
+// Adds a write of a million bytes and some more.
+fn push_write(text: &mut Vec<u8>, block: &[u8]) -> Result<(), Refusal> {
+    text.extend_from_slice(BEFORE)?;
+    text.extend_from_slice(block)?;
+    text.extend_from_slice(AFTER)?;
+    Ok(())
+}
+
+// The text of a batch of so many equal writes.
+fn long(alloc: Global, count: usize) -> Result<Vec<u8>, Refusal> {
     let mut block = Vec::new(alloc);
     block.resize(1_000_000, b'x')?;
     let mut text = Vec::new(alloc);
     text.extend_from_slice(b"{\"writes\":[")?;
     for _ in 0..count {
-        text.extend_from_slice(BEFORE)?;
-        text.extend_from_slice(block.as_slice())?;
-        text.extend_from_slice(AFTER)?;
+        push_write(&mut text, block.as_slice())?;
     }
     text.pop();
     text.extend_from_slice(b"]}")?;
-    Batch::read(alloc, text.as_slice())
+    Ok(text)
+}
+
+// Packs a batch of so many such writes.
+fn packs(alloc: Global, count: usize) -> Result<(), Refusal> {
+    let text = long(alloc, count)?;
+    let batch = Batch::read(alloc, text.as_slice())?;
+    let packed = Parcel::pack(alloc, &batch, true);
+    drop(batch);
+    outcome(packed)
 }
 
 #[test]
 fn a_batch_may_be_too_long_for_a_parcel(rt: HostRuntime) -> Result<(), Fail> {
-    let fits = long(rt.alloc(), 16)?;
-    let packed = outcome(Parcel::pack(rt.alloc(), &fits, true));
-    assert!(rt; packed == Ok(()), "sixteen writes fit");
-    let longer = long(rt.alloc(), 17)?;
-    let packed = outcome(Parcel::pack(rt.alloc(), &longer, true));
-    assert!(rt; packed == Err(Refusal::FrameTooLong), "seventeen don't");
+    assert!(rt; packs(rt.alloc(), 16) == Ok(()), "sixteen writes fit");
+    assert!(rt;
+        packs(rt.alloc(), 17) == Err(Refusal::FrameTooLong),
+        "seventeen don't"
+    );
     Ok(())
 }

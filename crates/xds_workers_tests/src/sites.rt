@@ -1,6 +1,10 @@
 // Nodes, as these tests know them: by traits alone, so that to drop one is a single step of a proof.
+ghost use Rattle.std.specs.Prelude.{◌≡◌};
+
+use std::alloc::Global;
+use std::marker::Brand;
 use std::sync::Wait;
-use xds_node::{Node, NodeName, Seat};
+use xds_node::{Line, Node, NodeName, Opened, Seat};
 use xds_resource::Refusal;
 use xds_workers::Host;
 
@@ -29,4 +33,41 @@ pub(crate) fn both<X: Drop, Y: Drop>(
     other: Result<Y, Refusal>,
 ) -> Result<(X, Y), Refusal> {
     Ok((one?, other?))
+}
+
+/// What a test does with a node, and what comes of it.
+pub(crate) trait Trial {
+    type Came: Drop;
+
+    fn at<A: Site, R: Wait>(&self, rt: &R, alloc: Global, node: A) -> Result<Self::Came, Refusal>;
+}
+
+/// What comes of a trial at a new node, of replica 1.
+pub(crate) fn tried<T: Trial, R: Wait>(
+    rt: &R,
+    alloc: Global,
+    trial: &T,
+) -> Result<T::Came, Refusal> {
+    let opened = Opened::<Line>::new(alloc)?;
+    tried_with::<Brand, T, R>(rt, alloc, opened, trial)
+}
+
+fn tried_with<N: NodeName, T: Trial, R: Wait>(
+    rt: &R,
+    alloc: Global,
+    opened: Opened<Line>,
+    trial: &T,
+) -> Result<T::Came, Refusal>
+    requires { opened ≡ N.id }
+{
+    tried_at(rt, alloc, Node::<N>::new(alloc, opened, 1), trial)
+}
+
+fn tried_at<A: Site, T: Trial, R: Wait>(
+    rt: &R,
+    alloc: Global,
+    node: Result<A, Refusal>,
+    trial: &T,
+) -> Result<T::Came, Refusal> {
+    trial.at(rt, alloc, node?)
 }

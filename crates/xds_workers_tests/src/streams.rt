@@ -1,7 +1,7 @@
 // The two threads of a stream.
 ghost use Rattle.std.specs.Prelude.{◌≡◌};
 
-use crate::calls::open;
+use crate::calls::{holds, open};
 use crate::gates::Held;
 use crate::sites::{Site, both};
 use std::alloc::Global;
@@ -151,23 +151,32 @@ fn serve_in_pieces<R: Threads + Wait + Sync>(
     )
 }
 
+// That the request is answered by a stream, and both threads end well.
+fn is_answered(alloc: Global, served: &Served) -> Result<(), Fail> {
+    holds(
+        served.read == Ok(()) && served.wrote == Ok(()),
+        "both threads end well",
+    )?;
+    let output = write_frame(alloc, FrameKind::DiscoveryResponse, RESPONSE)?;
+    holds(served.output == output, "the response is written")
+}
+
+// The same where it comes in pieces of this size.
+fn answers<R: Threads + Wait + Sync>(
+    rt: &R,
+    alloc: Global,
+    size: usize,
+    reads: u64,
+) -> Result<(), Fail> {
+    let input = write_frame(alloc, FrameKind::DiscoveryRequest, REQUEST)?;
+    let served = serve_in_pieces(rt, alloc, &input, size, reads, 1)?;
+    is_answered(alloc, &served)
+}
+
 #[test]
 fn a_request_is_answered(rt: HostRuntime) -> Result<(), Fail> {
-    let input = write_frame(rt.alloc(), FrameKind::DiscoveryRequest, REQUEST)?;
-    let output = write_frame(rt.alloc(), FrameKind::DiscoveryResponse, RESPONSE)?;
-    let whole = serve_in_pieces(&rt, rt.alloc(), &input, 4096, 2, 1)?;
-    assert!(rt;
-        whole.read == Ok(()) && whole.wrote == Ok(()),
-        "both threads end well"
-    );
-    assert!(rt; whole.output == output, "the response is written");
-    let bytes = serve_in_pieces(&rt, rt.alloc(), &input, 1, 71, 1)?;
-    assert!(rt;
-        bytes.read == Ok(()) && bytes.wrote == Ok(()),
-        "both threads end well"
-    );
-    assert!(rt; bytes.output == output, "the response is written");
-    Ok(())
+    answers(&rt, rt.alloc(), 4096, 2)?;
+    answers(&rt, rt.alloc(), 1, 71)
 }
 
 #[test]

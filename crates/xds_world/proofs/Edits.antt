@@ -1,6 +1,6 @@
 -- A value of a world that is taken out, changed and put back.
 use Rattle.std.proofs.Common.{◌≡◌, ℕ, Bool, true, false, Option, Some, None, Result, Ok, Err, refl, sym, ap, subst, ◌∙◌}
-use Rattle.std.specs.Prelude.{IfOk, option_map, is_some, is_none, not, if◌then◌else◌}
+use Rattle.std.specs.Prelude.{IfOk, option_map, is_some}
 use Rattle.std.specs.Option.{option_and_then, option_map_or}
 use Rattle.std.specs.Ordering.{nat_cmp}
 use Rattle.std.specs.FinMap as finmap
@@ -13,9 +13,9 @@ use Rattle.xds_core.specs.Seen.{reply_of}
 use Rattle.xds_core.specs.Steps.{Step, step}
 use Rattle.xds_core.proofs.StreamSteps.{put_twice, put_back}
 use Rattle.xds_cache.specs.Clients.{unlinked}
-use Rattle.xds_model.specs.Worlds.{Site, Link, Peer, World, with_peer, answered_at, at_site, connected_to}
+use Rattle.xds_model.specs.Worlds.{Site, Link, Peer, World, with_peer, answered_at, at_site}
 use Rattle.xds_peer.specs.Calls.{Gave, Happened}
-use Rattle.xds_peer.specs.Peers.{peer_lost, peer_connected}
+use Rattle.xds_peer.specs.Peers.{peer_lost}
 use Rattle.xds_world.specs.Parts.{answered, if_answered, peer_event}
 
 abbrev pub with_peers : World → FinMap nat_cmp Peer → World

@@ -1,5 +1,5 @@
 -- A poll without a stream: what a replica answers, and what the client makes of it.
-use Rattle.std.proofs.Common.{◌≡◌, ℕ, Bool, true, false, Option, Some, None, Result, Ok, Err, refl, sym, ap, subst, ◌∙◌}
+use Rattle.std.proofs.Common.{◌≡◌, ℕ, Bool, true, false, Option, Some, None, Result, Ok, Err, refl, sym, ap, ◌∙◌}
 use Rattle.std.specs.Prelude.{IfOk, option_map}
 use Rattle.std.specs.Option.{option_and_then}
 use Rattle.std.specs.Ordering.{nat_cmp}
@@ -20,8 +20,7 @@ use Rattle.xds_model.specs.declared.event.Answer.TheVariants.{Arrives, Lost}
 use Rattle.xds_model.specs.declared.event.ClientKind.{ClientKind}
 use Rattle.xds_model.specs.declared.event.ClientKind.TheVariants.{Sotw, Delta, Rest}
 use Rattle.xds_model.specs.Happenings as happenings
-use Rattle.xds_model.specs.Worlds.{Peer, World, with_peer, at_site, asked_by, poll_of, poll_event, answer_taken, rested, rest_polled, happens}
-use Rattle.xds_model.proofs.Replicas.{some_is}
+use Rattle.xds_model.specs.Worlds.{Peer, World, with_peer, at_site, poll_of, poll_event, answer_taken, rested, rest_polled, happens}
 use Rattle.xds_model.proofs.EveryEvent.{polls_as}
 use Rattle.xds_model.proofs.RestPolls.{asked_is, poll_says, answer_kind}
 use Rattle.xds_model.proofs.Polled.{takes_some}

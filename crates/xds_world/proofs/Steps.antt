@@ -1,6 +1,6 @@
 -- A step of a replica, and a change of a client after it.
 use Rattle.std.proofs.Common.{◌≡◌, ℕ, ◌+◌, List, [], ◌∷◌, ◌++◌, Bool, true, false, Option, Some, None, Result, Ok, Err, refl, sym, ap, subst, ◌∙◌}
-use Rattle.std.specs.Prelude.{◌==◌, IfOk, option_map, is_some, is_none, if◌then◌else◌}
+use Rattle.std.specs.Prelude.{◌==◌, IfOk, option_map, is_some, if◌then◌else◌}
 use Rattle.std.specs.Option.{option_and_then, option_map_or}
 use Rattle.std.specs.FinMap as finmap
 use Rattle.xds_resource.specs.declared.refusal.Refusal.{Refusal}

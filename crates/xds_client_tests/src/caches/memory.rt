@@ -6,32 +6,46 @@ use crate::caches::delta::Delta;
 use crate::caches::rest::Rest;
 use crate::caches::script::{NO_MEMORY, Player, ask, play_on};
 use crate::caches::sotw::Sotw;
-use std::process::Abort;
+use std::alloc::Global;
 use std::test::Fail;
 
 // Plays a script, then asks for a response to be received. Where that is refused for memory, another script is played.
 // Answers whether it was. The last script holds either way.
-fn goes_on<P: Player, R: Abort + AllocGlobal>(
-    rt: &R,
+fn is_refused<P: Player>(
+    alloc: Global,
     before: &str,
     response: &str,
     refused: &str,
     at_last: &str,
 ) -> Result<bool, Fail> {
-    let mut player = P::new(rt.alloc(), "")?;
-    play_on(rt, &mut player, before)?;
-    let answer = ask(rt.alloc(), &mut player, response)?;
+    let mut player = P::new(alloc, "")?;
+    play_on(alloc, &mut player, before)?;
+    let answer = ask(alloc, &mut player, response)?;
     let is_refused = answer.as_str() == NO_MEMORY;
     if is_refused {
-        play_on(rt, &mut player, refused)?;
+        play_on(alloc, &mut player, refused)?;
     }
-    play_on(rt, &mut player, at_last)?;
+    play_on(alloc, &mut player, at_last)?;
     Ok(is_refused)
+}
+
+// The same, and says where it was refused.
+fn goes_on<P: Player>(
+    rt: &HostRuntime,
+    before: &str,
+    response: &str,
+    refused: &str,
+    at_last: &str,
+) -> Result<(), Fail> {
+    if is_refused::<P>(rt.alloc(), before, response, refused, at_last)? {
+        println!(rt; "refused, and went on")?;
+    }
+    Ok(())
 }
 
 #[test]
 fn state_of_the_world_without_memory(rt: HostRuntime) -> Result<(), Fail> {
-    let refused = goes_on::<Sotw, HostRuntime>(
+    goes_on::<Sotw>(
         &rt,
         r#"change cluster * => none
 connect => {"node":{"id":"7"},"resourceNames":["*"],"typeUrl":"CDS"}
@@ -47,16 +61,12 @@ connect => {"node":{"id":"7"},"resourceNames":["*"],"typeUrl":"CDS","versionInfo
 view cluster => {"@type":"CDS","name":"a"}
 receive {"nonce":"1","resources":[{"@type":"CDS","name":"b"}],"typeUrl":"CDS","versionInfo":"v2"} => {"resourceNames":["*"],"responseNonce":"1","typeUrl":"CDS","versionInfo":"v2"}"#,
         r#"view cluster => {"@type":"CDS","name":"b"}"#,
-    )?;
-    if refused {
-        println!(rt; "refused, and went on")?;
-    }
-    Ok(())
+    )
 }
 
 #[test]
 fn delta_without_memory(rt: HostRuntime) -> Result<(), Fail> {
-    let refused = goes_on::<Delta, HostRuntime>(
+    goes_on::<Delta>(
         &rt,
         r#"change cluster * => none
 connect => {"node":{"id":"7"},"resourceNamesSubscribe":["*"],"typeUrl":"CDS"}
@@ -72,11 +82,7 @@ connect => {"initialResourceVersions":{"a":"1-1"},"node":{"id":"7"},"resourceNam
 view cluster => 1-1 {"@type":"CDS","name":"a"}
 receive {"nonce":"1","removedResources":["a"],"resources":[{"name":"b","resource":{"@type":"CDS","name":"b"},"version":"2-1"}],"typeUrl":"CDS"} => {"responseNonce":"1","typeUrl":"CDS"}"#,
         r#"view cluster => 2-1 {"@type":"CDS","name":"b"}"#,
-    )?;
-    if refused {
-        println!(rt; "refused, and went on")?;
-    }
-    Ok(())
+    )
 }
 
 // What a client holds that polled once, and the steps that may find no memory.
@@ -85,7 +91,7 @@ receive cluster {"resources":[{"@type":"CDS","name":"a"},{"@type":"CDS","name":"
 
 #[test]
 fn polling_without_memory(rt: HostRuntime) -> Result<(), Fail> {
-    let refused = goes_on::<Rest, HostRuntime>(
+    goes_on::<Rest>(
         &rt,
         POLLED,
         r#"receive cluster {"resources":[{"@type":"CDS","name":"b","x":1}],"typeUrl":"CDS","versionInfo":"v2"}"#,
@@ -96,16 +102,12 @@ receive cluster {"typeUrl":"RDS","versionInfo":"v2"} => 7 BadMessage
 receive cluster {"resources":[{"@type":"CDS","name":"b","x":1}],"typeUrl":"CDS","versionInfo":"v2"} => taken"#,
         r#"view cluster => {"@type":"CDS","name":"b","x":1}
 poll cluster => {"node":{"id":"7"},"resourceNames":["*"],"typeUrl":"CDS","versionInfo":"v2"}"#,
-    )?;
-    if refused {
-        println!(rt; "refused, and went on")?;
-    }
-    Ok(())
+    )
 }
 
 #[test]
 fn changing_what_is_polled_without_memory(rt: HostRuntime) -> Result<(), Fail> {
-    let refused = goes_on::<Rest, HostRuntime>(
+    goes_on::<Rest>(
         &rt,
         POLLED,
         "change cluster b",
@@ -114,16 +116,12 @@ poll cluster => {"node":{"id":"7"},"resourceNames":["*"],"typeUrl":"CDS","versio
 change cluster b => none"#,
         r#"view cluster => {"@type":"CDS","name":"b"}
 poll cluster => {"node":{"id":"7"},"resourceNames":["b"],"typeUrl":"CDS"}"#,
-    )?;
-    if refused {
-        println!(rt; "refused, and went on")?;
-    }
-    Ok(())
+    )
 }
 
 #[test]
 fn connecting_in_state_of_the_world_without_memory(rt: HostRuntime) -> Result<(), Fail> {
-    let refused = goes_on::<Sotw, HostRuntime>(
+    goes_on::<Sotw>(
         &rt,
         r#"change cluster * => none
 change route q => none
@@ -136,16 +134,12 @@ connect => {"node":{"id":"7"},"resourceNames":["*"],"typeUrl":"CDS","versionInfo
         r#"view cluster => {"@type":"CDS","name":"a"}
 receive {"nonce":"1","typeUrl":"CDS","versionInfo":"v2"} => {"resourceNames":["*"],"responseNonce":"1","typeUrl":"CDS","versionInfo":"v2"}
 view cluster => none"#,
-    )?;
-    if refused {
-        println!(rt; "refused, and went on")?;
-    }
-    Ok(())
+    )
 }
 
 #[test]
 fn connecting_in_delta_without_memory(rt: HostRuntime) -> Result<(), Fail> {
-    let refused = goes_on::<Delta, HostRuntime>(
+    goes_on::<Delta>(
         &rt,
         r#"change cluster * => none
 connect => {"node":{"id":"7"},"resourceNamesSubscribe":["*"],"typeUrl":"CDS"}
@@ -157,16 +151,12 @@ connect => {"initialResourceVersions":{"a":"1-1"},"node":{"id":"7"},"resourceNam
         r#"view cluster => 1-1 {"@type":"CDS","name":"a"}
 receive {"nonce":"1","removedResources":["a"],"typeUrl":"CDS"} => {"responseNonce":"1","typeUrl":"CDS"}
 view cluster => none"#,
-    )?;
-    if refused {
-        println!(rt; "refused, and went on")?;
-    }
-    Ok(())
+    )
 }
 
 #[test]
 fn changing_in_state_of_the_world_without_memory(rt: HostRuntime) -> Result<(), Fail> {
-    let refused = goes_on::<Sotw, HostRuntime>(
+    goes_on::<Sotw>(
         &rt,
         r#"change cluster * => none
 connect => {"node":{"id":"7"},"resourceNames":["*"],"typeUrl":"CDS"}
@@ -178,16 +168,12 @@ change cluster b => {"resourceNames":["b"],"responseNonce":"2","typeUrl":"CDS","
         r#"view cluster => {"@type":"CDS","name":"b"}
 receive {"nonce":"3","resources":[{"@type":"CDS","name":"a"}],"typeUrl":"CDS","versionInfo":"v3"} => {"resourceNames":["b"],"responseNonce":"3","typeUrl":"CDS","versionInfo":"v3"}
 view cluster => none"#,
-    )?;
-    if refused {
-        println!(rt; "refused, and went on")?;
-    }
-    Ok(())
+    )
 }
 
 #[test]
 fn changing_in_delta_without_memory(rt: HostRuntime) -> Result<(), Fail> {
-    let refused = goes_on::<Delta, HostRuntime>(
+    goes_on::<Delta>(
         &rt,
         r#"change cluster a b => none
 connect => {"node":{"id":"7"},"resourceNamesSubscribe":["a","b"],"typeUrl":"CDS"}
@@ -198,9 +184,5 @@ change cluster c - a => {"resourceNamesSubscribe":["c"],"resourceNamesUnsubscrib
         r#"view cluster => none
 receive {"nonce":"2","resources":[{"name":"c","resource":{"@type":"CDS","name":"c"},"version":"2-1"}],"typeUrl":"CDS"} => {"responseNonce":"2","typeUrl":"CDS"}
 view cluster => 2-1 {"@type":"CDS","name":"c"}"#,
-    )?;
-    if refused {
-        println!(rt; "refused, and went on")?;
-    }
-    Ok(())
+    )
 }

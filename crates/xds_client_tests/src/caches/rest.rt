@@ -1,7 +1,8 @@
 // A client that polls and plays a script.
-use crate::caches::script::{Player, first_word, perhaps_answered, type_of, words_of};
+use crate::caches::script::{Player, first_word, perhaps_answered, type_of};
 use std::alloc::Global;
 use xds_cache::{Holding, Marked, RestClient};
+use xds_cases::cases::words_of;
 use xds_message::DiscoveryResponse;
 use xds_resource::{NameMap, Refusal, TypeName};
 
@@ -56,7 +57,9 @@ impl Player for Rest {
             return judged(alloc, self.client.receive(alloc, kind, None));
         }
         let response = DiscoveryResponse::read(alloc, body.as_bytes())?;
-        judged(alloc, self.client.receive(alloc, kind, Some(&response)))
+        let answer = self.client.receive(alloc, kind, Some(&response));
+        drop(response);
+        judged(alloc, answer)
     }
 
     fn view(&self, kind: TypeName) -> Result<&NameMap<Holding>, Refusal> {

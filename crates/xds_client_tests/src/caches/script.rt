@@ -1,8 +1,9 @@
 // Scripts for a client: each line tells it one thing, and then, after ` => `, what it answers.
 use std::alloc::{AllocError, Global};
-use std::process::Abort;
+use std::mem;
 use std::test::Fail;
 use xds_cache::Holding;
+use xds_cases::cases::written_out;
 use xds_message::{DeltaDiscoveryRequest, DiscoveryRequest};
 use xds_resource::{NameMap, Refusal, TypeName};
 
@@ -65,22 +66,37 @@ pub(crate) fn perhaps_answered<Q: Sent>(
     }
 }
 
-/// The texts of the requests, apart by spaces.
-pub(crate) fn joined<Q: Sent>(alloc: Global, requests: &[Q]) -> Result<String, Refusal> {
+/// Puts a value in a place.
+pub(crate) fn put<V: Drop>(place: &mut Option<V>, value: V) {
+    drop(mem::replace(place, Some(value)));
+}
+
+/// What a client says that got a stream, or found no memory. It is then in its place.
+pub(crate) fn linked<D: Drop, U: Drop, Q: Sent>(
+    alloc: Global,
+    connected: Result<(U, Vec<Q>), D>,
+    down: &mut Option<D>,
+    up: &mut Option<U>,
+) -> Result<String, Refusal> {
+    match connected {
+        Ok((client, requests)) => {
+            put(up, client);
+            joined(alloc, requests.as_slice())
+        }
+        Err(client) => {
+            put(down, client);
+            Ok(String::from_str(alloc, NO_MEMORY)?)
+        }
+    }
+}
+
+// The texts of the requests, apart by spaces.
+fn joined<Q: Sent>(alloc: Global, requests: &[Q]) -> Result<String, Refusal> {
     let mut all = String::new(alloc);
     for request in requests {
         add(&mut all, request.text(alloc)?.as_str())?;
     }
     or_none(alloc, all)
-}
-
-/// The words of a text.
-pub(crate) fn words_of(alloc: Global, text: &str) -> Result<Vec<String>, AllocError> {
-    let mut words = Vec::new(alloc);
-    for word in text.split_whitespace() {
-        words.push(String::from_str(alloc, word)?)?;
-    }
-    Ok(words)
 }
 
 fn none(alloc: Global) -> Result<String, Refusal> {
@@ -142,26 +158,6 @@ fn told<P: Player>(alloc: Global, player: &mut P, step: &str) -> Result<String, 
     }
 }
 
-fn replaced(alloc: Global, text: &str, word: &str, by: &str) -> Result<String, AllocError> {
-    let mut all = String::new(alloc);
-    for (i, part) in text.split(word).enumerate() {
-        if i > 0 {
-            all.push_str(by)?;
-        }
-        all.push_str(part)?;
-    }
-    Ok(all)
-}
-
-// The text, with what its abbreviations stand for.
-fn written_out(alloc: Global, text: &str) -> Result<String, AllocError> {
-    let text = replaced(alloc, text, "CDS", TypeName::Cluster.url())?;
-    let text = replaced(alloc, text.as_str(), "EDS", TypeName::Endpoint.url())?;
-    let text = replaced(alloc, text.as_str(), "LDS", TypeName::Listener.url())?;
-    let text = replaced(alloc, text.as_str(), "RDS", TypeName::Route.url())?;
-    replaced(alloc, text.as_str(), "SDS", TypeName::Secret.url())
-}
-
 /// What a client answers to one step. `CDS`, `EDS`, `LDS`, `RDS` and `SDS` stand for the URLs of the types.
 pub(crate) fn ask<P: Player>(alloc: Global, player: &mut P, step: &str) -> Result<String, Fail> {
     let step = written_out(alloc, step)?;
@@ -172,44 +168,42 @@ pub(crate) fn ask<P: Player>(alloc: Global, player: &mut P, step: &str) -> Resul
 pub const NO_MEMORY: &str = "8 OutOfMemory";
 
 // Plays one line, and compares. Where the client found no memory, it ends with that refusal.
-fn play_line<P: Player, R: Abort + AllocGlobal>(
-    rt: &R,
-    player: &mut P,
-    line: &str,
-) -> Result<(), Fail> {
+fn play_line<P: Player>(alloc: Global, player: &mut P, line: &str) -> Result<(), Fail> {
     let (step, wanted) = line.split_once(" => ").ok_or("no answer")?;
-    let wanted = written_out(rt.alloc(), wanted)?;
-    let answer = ask(rt.alloc(), player, step)?;
-    if answer.as_str() == NO_MEMORY {
+    let wanted = written_out(alloc, wanted)?;
+    let answer = ask(alloc, player, step)?;
+    is_wanted(answer.as_str(), wanted.as_str(), step)
+}
+
+fn is_wanted(answer: &str, wanted: &str, step: &str) -> Result<(), Fail> {
+    if answer == NO_MEMORY {
         return Err(Refusal::OutOfMemory.into());
     }
-    assert_eq!(rt; answer.as_str(), wanted.as_str(), "at {step}");
-    Ok(())
+    if answer == wanted {
+        return Ok(());
+    }
+    Err(Fail::new(format_args!("{answer} and not {wanted}, at {step}")))
 }
 
 /// Plays a script on with a client.
-pub(crate) fn play_on<P: Player, R: Abort + AllocGlobal>(
-    rt: &R,
-    player: &mut P,
-    script: &str,
-) -> Result<(), Fail> {
+pub(crate) fn play_on<P: Player>(alloc: Global, player: &mut P, script: &str) -> Result<(), Fail> {
     for line in script.lines() {
-        play_line(rt, player, line)?;
+        play_line(alloc, player, line)?;
     }
     Ok(())
 }
 
 /// Plays a script with a new client whose node is of this cluster.
-pub(crate) fn play_in<P: Player, R: Abort + AllocGlobal>(
+pub(crate) fn play_in<P: Player, R: AllocGlobal>(
     rt: &R,
     cluster: &str,
     script: &str,
 ) -> Result<(), Fail> {
     let mut player = P::new(rt.alloc(), cluster)?;
-    play_on(rt, &mut player, script)
+    play_on(rt.alloc(), &mut player, script)
 }
 
 /// Plays a script with a new client whose node is of no cluster.
-pub(crate) fn play<P: Player, R: Abort + AllocGlobal>(rt: &R, script: &str) -> Result<(), Fail> {
+pub(crate) fn play<P: Player, R: AllocGlobal>(rt: &R, script: &str) -> Result<(), Fail> {
     play_in::<P, R>(rt, "", script)
 }

@@ -1,7 +1,8 @@
 // A state-of-the-world client that plays a script.
-use crate::caches::script::{NO_MEMORY, Player, answered, joined, perhaps_answered, words_of};
+use crate::caches::script::{Player, answered, linked, perhaps_answered, put};
 use std::alloc::Global;
 use xds_cache::{Down, Holding, Marked, SotwClient, Up};
+use xds_cases::cases::words_of;
 use xds_message::DiscoveryResponse;
 use xds_resource::{NameMap, Refusal, TypeName};
 
@@ -25,21 +26,12 @@ impl Player for Sotw {
 
     fn connect(&mut self, alloc: Global) -> Result<String, Refusal> {
         let client = self.down.take().ok_or(Refusal::NotFound)?;
-        match client.connect(alloc) {
-            Ok((up, requests)) => {
-                self.up = Some(up);
-                joined(alloc, requests.as_slice())
-            }
-            Err(down) => {
-                self.down = Some(down);
-                Ok(String::from_str(alloc, NO_MEMORY)?)
-            }
-        }
+        linked(alloc, client.connect(alloc), &mut self.down, &mut self.up)
     }
 
     fn lose(&mut self) -> Result<(), Refusal> {
         let client = self.up.take().ok_or(Refusal::NotFound)?;
-        self.down = Some(client.lose());
+        put(&mut self.down, client.lose());
         Ok(())
     }
 
@@ -57,9 +49,11 @@ impl Player for Sotw {
     }
 
     fn receive(&mut self, alloc: Global, message: &str) -> Result<String, Refusal> {
-        let response = DiscoveryResponse::read(alloc, message.as_bytes())?;
         let client = self.up.as_mut().ok_or(Refusal::NotFound)?;
-        answered(alloc, client.receive(alloc, &response))
+        let response = DiscoveryResponse::read(alloc, message.as_bytes())?;
+        let sent = client.receive(alloc, &response);
+        drop(response);
+        answered(alloc, sent)
     }
 
     fn view(&self, kind: TypeName) -> Result<&NameMap<Holding>, Refusal> {

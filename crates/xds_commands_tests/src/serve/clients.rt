@@ -1,9 +1,9 @@
 // Connections to a server, and what comes from it.
 use std::alloc::Global;
 use std::io::{Read, Write};
-use std::net::{Ipv4Addr, Net, SocketAddrV4, TcpListener, TcpStream};
+use std::net::{Ipv4Addr, SocketAddrV4, TcpStream};
 use std::test::Fail;
-use std::time::{Clock, Duration};
+use std::time::Duration;
 use std::{str, thread};
 use xds_frames::{Decoder, FrameKind, write_frame};
 use xds_resource::Refusal;
@@ -15,10 +15,7 @@ const TURNS: u32 = 10_000;
 const SECONDS: u64 = 20;
 
 /// A connection to this port, tried again while it is refused.
-pub(crate) fn connected<R>(rt: &R, port: u16) -> Result<TcpStream, Fail>
-where
-    R: Clock + Net<Listener = TcpListener, Stream = TcpStream>,
-{
+pub(crate) fn connected(rt: &HostRuntime, port: u16) -> Result<TcpStream, Fail> {
     let server = SocketAddrV4::new(Ipv4Addr::LOCALHOST, port);
     for _ in 0..TURNS {
         if let Ok(socket) = TcpStream::connect(rt, server) {

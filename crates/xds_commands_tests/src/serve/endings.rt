@@ -1,6 +1,6 @@
 // How a server ends, and why it doesn't begin.
 use crate::serve::clients::connected;
-use crate::serve::servers::{came_to, served, serving, started};
+use crate::serve::servers::{comes_to, ends_well, serving, started};
 use std::net::{Ipv4Addr, SocketAddrV4, TcpListener};
 use std::test::Fail;
 use xds_resource::Refusal;
@@ -9,8 +9,13 @@ use xds_serve::{End, Ending};
 #[test]
 fn a_port_in_use_is_told(rt: HostRuntime) -> Result<(), Fail> {
     let held = TcpListener::bind(&rt, SocketAddrV4::new(Ipv4Addr::LOCALHOST, 18_401))?;
-    let came = served(&rt, b"" as &[u8], serving(2, 18_400, None));
-    came_to(&came, 1, "127.0.0.1:18401: 19 Device\n")?;
+    comes_to(
+        &rt,
+        b"" as &[u8],
+        serving(2, 18_400, None),
+        1,
+        "127.0.0.1:18401: 19 Device\n",
+    )?;
     drop(held);
     Ok(())
 }
@@ -18,8 +23,13 @@ fn a_port_in_use_is_told(rt: HostRuntime) -> Result<(), Fail> {
 #[test]
 fn a_port_of_rest_in_use_is_told(rt: HostRuntime) -> Result<(), Fail> {
     let held = TcpListener::bind(&rt, SocketAddrV4::new(Ipv4Addr::LOCALHOST, 18_430))?;
-    let came = served(&rt, b"put\n" as &[u8], serving(1, 18_420, None));
-    came_to(&came, 1, "127.0.0.1:18430: 19 Device\n")?;
+    comes_to(
+        &rt,
+        b"put\n" as &[u8],
+        serving(1, 18_420, None),
+        1,
+        "127.0.0.1:18430: 19 Device\n",
+    )?;
     drop(held);
     Ok(())
 }
@@ -32,10 +42,9 @@ fn it_ends_after_as_many_streams_as_are_asked_for(rt: HostRuntime) -> Result<(),
         let ended = connected(&rt, 18_440)?;
         drop(ended);
     }
-    let came = server.join(&rt);
-    came_to(
-        &came,
-        0,
+    ends_well(
+        &rt,
+        server,
         "replica 1: streams on 127.0.0.1:18440, REST on 127.0.0.1:18450\n",
     )?;
     drop(held);

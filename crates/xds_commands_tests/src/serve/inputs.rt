@@ -1,5 +1,5 @@
 // Lines of the input that end a server.
-use crate::serve::servers::{came_to, served, serving};
+use crate::serve::servers::{comes_to, serving};
 use std::io;
 use std::io::{ErrorKind, Read};
 use std::test::Fail;
@@ -9,9 +9,10 @@ use xds_frames::Faulty;
 fn a_line_that_is_no_change_ends_it(rt: HostRuntime) -> Result<(), Fail> {
     let input =
         "# a comment\n\nput 1 {\"@type\":\"type.googleapis.com/envoy.config.cluster.v3.Cluster\",\"name\":\"a\"}\nput 9 {\"@type\":\"type.googleapis.com/envoy.config.cluster.v3.Cluster\",\"name\":\"a\"}\ndelete 1 cluster none\nview 1 cluster\nput\n";
-    let came = served(&rt, input.as_bytes(), serving(1, 18_340, None));
-    came_to(
-        &came,
+    comes_to(
+        &rt,
+        input.as_bytes(),
+        serving(1, 18_340, None),
         1,
         "replica 1: streams on 127.0.0.1:18340, REST on 127.0.0.1:18350\nline 6: 21 BadScript\n",
     )
@@ -19,9 +20,10 @@ fn a_line_that_is_no_change_ends_it(rt: HostRuntime) -> Result<(), Fail> {
 
 #[test]
 fn a_put_of_no_resource_ends_it(rt: HostRuntime) -> Result<(), Fail> {
-    let came = served(&rt, b"put 1 {}" as &[u8], serving(1, 18_360, None));
-    came_to(
-        &came,
+    comes_to(
+        &rt,
+        b"put 1 {}" as &[u8],
+        serving(1, 18_360, None),
         1,
         "replica 1: streams on 127.0.0.1:18360, REST on 127.0.0.1:18370\nline 1: 21 BadScript\n",
     )
@@ -31,9 +33,10 @@ fn a_put_of_no_resource_ends_it(rt: HostRuntime) -> Result<(), Fail> {
 fn a_put_in_a_bad_group_ends_it(rt: HostRuntime) -> Result<(), Fail> {
     let input =
         "\nputin 1 a, {\"@type\":\"type.googleapis.com/envoy.config.cluster.v3.Cluster\",\"name\":\"a\"}\n";
-    let came = served(&rt, input.as_bytes(), serving(1, 18_380, None));
-    came_to(
-        &came,
+    comes_to(
+        &rt,
+        input.as_bytes(),
+        serving(1, 18_380, None),
         1,
         "replica 1: streams on 127.0.0.1:18380, REST on 127.0.0.1:18390\nline 2: 21 BadScript\n",
     )
@@ -66,9 +69,10 @@ fn lines_that_come_in_pieces_are_counted(rt: HostRuntime) -> Result<(), Fail> {
         bytes: b"# a comment\n\nput 1 {\"@type\":\"type.googleapis.com/envoy.config.cluster.v3.Cluster\",\"name\":\"a\"}\nsettle 1 cluster",
         interrupted: false,
     };
-    let came = served(&rt, input, serving(1, 18_500, None));
-    came_to(
-        &came,
+    comes_to(
+        &rt,
+        input,
+        serving(1, 18_500, None),
         1,
         "replica 1: streams on 127.0.0.1:18500, REST on 127.0.0.1:18510\nline 4: 21 BadScript\n",
     )
@@ -77,9 +81,10 @@ fn lines_that_come_in_pieces_are_counted(rt: HostRuntime) -> Result<(), Fail> {
 #[test]
 fn an_input_that_fails_ends_it(rt: HostRuntime) -> Result<(), Fail> {
     let input = Faulty::new(b"put" as &[u8], 2);
-    let came = served(&rt, input, serving(1, 18_520, None));
-    came_to(
-        &came,
+    comes_to(
+        &rt,
+        input,
+        serving(1, 18_520, None),
         1,
         "replica 1: streams on 127.0.0.1:18520, REST on 127.0.0.1:18530\n19 Device\n",
     )

@@ -1,12 +1,9 @@
 // A server in a thread of a test.
-use std::alloc::AllocGlobal;
+use crate::running::Machine;
 use std::io::Read;
 use std::net::{Net, TcpListener, TcpStream};
-use std::random::RandomSource;
-use std::sync::Wait;
 use std::test::Fail;
-use std::thread::{JoinHandle, Threads};
-use std::time::Clock;
+use std::thread::JoinHandle;
 use std::{str, thread};
 use xds_frames::Counted;
 use xds_serve::{Serving, serve};
@@ -29,21 +26,10 @@ pub(crate) fn serving(replicas: u16, port: u16, streams: Option<u16>) -> Serving
 }
 
 /// Serves to the end.
-pub(crate) fn served<I, R>(rt: &R, input: I, serving: Serving) -> Came
-where
+pub(crate) fn served<
     I: Read + Drop + Send + 'static,
-    R: Wait
-        + Threads
-        + Clock
-        + Net<Listener = TcpListener, Stream = TcpStream>
-        + RandomSource
-        + AllocGlobal
-        + Copy
-        + Drop
-        + Send
-        + Sync
-        + 'static,
-{
+    R: Machine + Net<Listener = TcpListener, Stream = TcpStream>,
+>(rt: &R, input: I, serving: Serving) -> Came {
     let mut errors = Counted::new(Vec::new(rt.alloc()));
     let status = serve(rt, input, &mut errors, serving);
     Came {
@@ -53,24 +39,11 @@ where
 }
 
 /// The same in a thread of its own.
-pub(crate) fn started<R>(
+pub(crate) fn started<R: Machine + Net<Listener = TcpListener, Stream = TcpStream>>(
     rt: &R,
     input: &'static str,
     serving: Serving,
-) -> Result<JoinHandle<Came>, Fail>
-where
-    R: Wait
-        + Threads
-        + Clock
-        + Net<Listener = TcpListener, Stream = TcpStream>
-        + RandomSource
-        + AllocGlobal
-        + Copy
-        + Drop
-        + Send
-        + Sync
-        + 'static,
-{
+) -> Result<JoinHandle<Came>, Fail> {
     let host = *rt;
     match thread::spawn(rt, move || served(&host, input.as_bytes(), serving)) {
         Ok(handle) => Ok(handle),
@@ -78,8 +51,25 @@ where
     }
 }
 
-/// Whether a server came to this status, and told this.
-pub(crate) fn came_to(came: &Came, status: u8, errors: &str) -> Result<(), Fail> {
+/// That a server comes to this status, and tells this.
+pub(crate) fn comes_to<
+    I: Read + Drop + Send + 'static,
+    R: Machine + Net<Listener = TcpListener, Stream = TcpStream>,
+>(rt: &R, input: I, serving: Serving, status: u8, errors: &str) -> Result<(), Fail> {
+    came_to(&served(rt, input, serving), status, errors)
+}
+
+/// That a server which was started ends well, and tells this.
+pub(crate) fn ends_well<R: Machine + Net<Listener = TcpListener, Stream = TcpStream>>(
+    rt: &R,
+    server: JoinHandle<Came>,
+    errors: &str,
+) -> Result<(), Fail> {
+    came_to(&server.join(rt), 0, errors)
+}
+
+// Whether a server came to this status, and told this.
+fn came_to(came: &Came, status: u8, errors: &str) -> Result<(), Fail> {
     let told = str::from_utf8(came.errors.as_slice()).unwrap_or("no text");
     if came.status == status && told == errors {
         return Ok(());

@@ -1,8 +1,10 @@
 // A replica that is asked by requests over HTTP, as a script.
+use crate::events::{event_of, type_of};
+use crate::script::parted;
 use std::alloc::Global;
 use xds_cases::scripts::Script;
 use xds_core::{Core, Event};
-use xds_resource::{AnyResource, Groups, Refusal, TypeName};
+use xds_resource::Refusal;
 use xds_rest::{Asked, HttpReply, answer, ask, reply_of};
 
 /// The first replica. It tells `ok` after `put RESOURCE`, `putin GROUP,GROUP.. RESOURCE` and `delete TYPE NAME`; the reply to what
@@ -23,41 +25,15 @@ impl Script for Served {
 
     fn step(&mut self, alloc: Global, verb: &str, rest: &str) -> Result<String, Refusal> {
         match verb {
-            "put" => happens(&mut self.core, alloc, put(alloc, Groups::none(), rest)),
-            "putin" => happens(&mut self.core, alloc, putin(alloc, rest)),
-            "delete" => happens(&mut self.core, alloc, delete(alloc, rest)),
+            "put" | "putin" | "delete" => {
+                happens(&mut self.core, alloc, event_of(alloc, verb, rest))
+            }
             "poll" => replied(&mut self.core, alloc, poll(alloc, rest)),
             "snapshot" => replied(&mut self.core, alloc, Ok(Event::Snapshot)),
             "ask" => asking(alloc, rest),
             method => asked(&mut self.core, alloc, method, rest),
         }
     }
-}
-
-/// The text before and after the first space.
-pub(crate) fn parted(text: &str) -> (&str, &str) {
-    text.split_once(' ').unwrap_or((text, ""))
-}
-
-fn put(alloc: Global, groups: Groups, text: &str) -> Result<Event, Refusal> {
-    let resource = AnyResource::parse(alloc, text)?;
-    Ok(Event::Put(resource, groups))
-}
-
-fn putin(alloc: Global, text: &str) -> Result<Event, Refusal> {
-    let (groups, text) = parted(text);
-    let mut texts = Vec::new(alloc);
-    for group in groups.split(',') {
-        texts.push(String::from_str(alloc, group)?)?;
-    }
-    put(alloc, Groups::new(alloc, &texts)?, text)
-}
-
-fn delete(alloc: Global, text: &str) -> Result<Event, Refusal> {
-    let (word, name) = parted(text);
-    let kind = TypeName::from_word(word).ok_or(Refusal::BadScript)?;
-    let name = String::from_str(alloc, name)?;
-    Ok(Event::Delete(kind, name))
 }
 
 fn happens(
@@ -71,7 +47,7 @@ fn happens(
 
 fn poll(alloc: Global, text: &str) -> Result<Event, Refusal> {
     let (word, version) = parted(text);
-    let kind = TypeName::from_word(word).ok_or(Refusal::BadScript)?;
+    let kind = type_of(word)?;
     let version = String::from_str(alloc, version)?;
     let cluster = String::new(alloc);
     Ok(Event::Rest(kind, Vec::new(alloc), version, cluster))

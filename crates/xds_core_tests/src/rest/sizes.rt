@@ -1,5 +1,6 @@
 // Requests with bodies as long as may be, and longer.
-use crate::rest::served::{Served, parted};
+use crate::rest::served::Served;
+use crate::script::parted;
 use std::alloc::Global;
 use std::test::Fail;
 use xds_cases::cases::{Outcome, hold, told};

@@ -5,7 +5,7 @@ use std::alloc::Global;
 use std::test::Fail;
 use xds_cases::cases::{Outcome, first_word, hold, told};
 use xds_cases::scripts::{Script, follow};
-use xds_frames::{Decoder, FrameKind, frame_head, push_frame, write_frame};
+use xds_frames::{Decoder, Frame, FrameKind, frame_head, push_frame, write_frame};
 use xds_resource::Refusal;
 
 // A decoder: `feed` feeds it bytes at once, and `drip` one after another, each time with all frames that it then gives, a
@@ -64,12 +64,16 @@ fn give_all(decoder: &mut Decoder, alloc: Global, all: &mut String) -> Result<()
         let Some(frame) = decoder.next()? else {
             return Ok(());
         };
-        let number = frame.kind.number();
-        let text = hex::encode(alloc, frame.text)?;
-        let text = text.as_str();
-        all.push_str(format!(in alloc; "({number},{text})")?.as_str())?;
+        push_frame_told(alloc, all, frame)?;
     }
     Ok(())
+}
+
+// Adds a frame's number and its text in hex digits.
+fn push_frame_told(alloc: Global, all: &mut String, frame: Frame<'_>) -> Result<(), Refusal> {
+    let number = frame.kind.number();
+    let text = hex::encode(alloc, frame.text)?;
+    Ok(all.push_str(format!(in alloc; "({number},{text})")?.as_str())?)
 }
 
 #[test]

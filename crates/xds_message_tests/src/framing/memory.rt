@@ -30,11 +30,16 @@ fn is_found(alloc: Global, bytes: &[u8]) -> Result<bool, Fail> {
     let mut decoder = Decoder::new(alloc);
     let first = is_fed_again(&mut decoder, front)?;
     let second = is_fed_again(&mut decoder, rest)?;
-    if !gives(&mut decoder, b"{}")? || !gives(&mut decoder, b"[]")? || gives(&mut decoder, b"")? {
+    gives_both(&mut decoder)?;
+    Ok(first || second)
+}
+
+// That a decoder gives two frames, and then no more.
+fn gives_both(decoder: &mut Decoder) -> Result<(), Fail> {
+    if !gives(decoder, b"{}")? || !gives(decoder, b"[]")? || gives(decoder, b"")? {
         return Err("other frames are given".into());
     }
-    decoder.finish()?;
-    Ok(first || second)
+    Ok(decoder.finish()?)
 }
 
 #[test]

@@ -7,11 +7,10 @@ use xds_resource::{Groups, Refusal};
 // The texts between commas. An empty text has none.
 pub(crate) fn texts_of(alloc: Global, text: &str) -> Result<Vec<String>, Refusal> {
     let mut texts = Vec::new(alloc);
-    if text.is_empty() {
-        return Ok(texts);
-    }
-    for part in text.split(',') {
-        texts.push(String::from_str(alloc, part)?)?;
+    if !text.is_empty() {
+        for part in text.split(',') {
+            texts.push(String::from_str(alloc, part)?)?;
+        }
     }
     Ok(texts)
 }
@@ -70,10 +69,16 @@ fn counted(alloc: Global, given: &str) -> Result<String, Refusal> {
     let most = given.parse::<u16>().ok().ok_or(Refusal::BadScript)?;
     let mut texts = Vec::new(alloc);
     for number in 0..most {
-        texts.push(number.to_string(alloc)?)?;
-        texts.push(number.to_string(alloc)?)?;
+        push_twice(alloc, &mut texts, number)?;
     }
-    Ok(Groups::new(alloc, &texts)?.len().to_string(alloc)?)
+    let groups = Groups::new(alloc, &texts);
+    drop(texts);
+    Ok(groups?.len().to_string(alloc)?)
+}
+
+fn push_twice(alloc: Global, texts: &mut Vec<String>, number: u16) -> Result<(), Refusal> {
+    texts.push(number.to_string(alloc)?)?;
+    Ok(texts.push(number.to_string(alloc)?)?)
 }
 
 #[test]

@@ -76,18 +76,30 @@ fn covered(
     groups: &[String],
 ) -> Result<String, Refusal> {
     let groups = Groups::new(alloc, groups)?;
-    let cluster = ClusterText::new(alloc, cluster)?;
-    let interest = Interest::<Cluster>::of_list(alloc, names, cluster)?;
-    let is_covered = interest.covers(name, &groups);
-    Ok(String::from_str(
-        alloc,
-        match (interest.reaches(name), is_covered) {
-            (true, true) => "covered",
-            (true, false) => "reached",
-            (false, true) => "at odds",
-            (false, false) => "passed over",
-        },
-    )?)
+    let interest = interest_in(alloc, cluster, names)?;
+    let standing = standing(&interest, name, &groups);
+    drop(interest);
+    drop(groups);
+    Ok(String::from_str(alloc, standing)?)
+}
+
+fn interest_in(
+    alloc: Global,
+    cluster: &str,
+    names: &[String],
+) -> Result<Interest<Cluster>, Refusal> {
+    Interest::of_list(alloc, names, ClusterText::new(alloc, cluster)?)
+}
+
+// How a name of these groups stands to an interest, in a word.
+fn standing(interest: &Interest<Cluster>, name: &str, groups: &Groups) -> &'static str {
+    let is_covered = interest.covers(name, groups);
+    match (interest.reaches(name), is_covered) {
+        (true, true) => "covered",
+        (true, false) => "reached",
+        (false, true) => "at odds",
+        (false, false) => "passed over",
+    }
 }
 
 #[test]

@@ -195,40 +195,40 @@ CDS => none"#,
     )
 }
 
+// All of them, by their numbers.
+const REFUSALS: &[Refusal] = &[
+    Refusal::NotJson,
+    Refusal::TooDeep,
+    Refusal::NotWhole,
+    Refusal::BadResource,
+    Refusal::BadName,
+    Refusal::TooLong,
+    Refusal::BadMessage,
+    Refusal::OutOfMemory,
+    Refusal::NotFound,
+    Refusal::CounterSpent,
+    Refusal::BadStamp,
+    Refusal::NoStream,
+    Refusal::WrongVariant,
+    Refusal::NonceSpent,
+    Refusal::EmptyFrame,
+    Refusal::FrameTooLong,
+    Refusal::UnknownKind,
+    Refusal::Truncated,
+    Refusal::Device,
+    Refusal::JournalFull,
+    Refusal::BadScript,
+    Refusal::BadTrace,
+    Refusal::Gap,
+    Refusal::BadGroup,
+];
+
 #[test]
 fn refusals_print_number_and_name(rt: HostRuntime) -> Result<(), Fail> {
     let alloc = rt.alloc();
     let mut printed = String::new(alloc);
-    for refusal in [
-        Refusal::NotJson,
-        Refusal::TooDeep,
-        Refusal::NotWhole,
-        Refusal::BadResource,
-        Refusal::BadName,
-        Refusal::TooLong,
-        Refusal::BadMessage,
-        Refusal::OutOfMemory,
-        Refusal::NotFound,
-        Refusal::CounterSpent,
-        Refusal::BadStamp,
-        Refusal::NoStream,
-        Refusal::WrongVariant,
-        Refusal::NonceSpent,
-        Refusal::EmptyFrame,
-        Refusal::FrameTooLong,
-        Refusal::UnknownKind,
-        Refusal::Truncated,
-        Refusal::Device,
-        Refusal::JournalFull,
-        Refusal::BadScript,
-        Refusal::BadTrace,
-        Refusal::Gap,
-        Refusal::BadGroup,
-    ]
-    .as_slice()
-    {
-        printed.push_str(refusal.to_string(alloc)?.as_str())?;
-        printed.push_str(" ")?;
+    for refusal in REFUSALS {
+        printed.push_str(format!(in alloc; "{refusal} ")?.as_str())?;
     }
     let wanted =
         "1 NotJson 2 TooDeep 3 NotWhole 4 BadResource 5 BadName 6 TooLong 7 BadMessage 8 OutOfMemory 9 NotFound 10 CounterSpent 11 BadStamp 12 NoStream 13 WrongVariant 14 NonceSpent 15 EmptyFrame 16 FrameTooLong 17 UnknownKind 18 Truncated 19 Device 20 JournalFull 21 BadScript 22 BadTrace 23 Gap 24 BadGroup ";

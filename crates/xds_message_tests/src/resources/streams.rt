@@ -1,5 +1,6 @@
 // What a stream's requests leave of an interest, and the names that they touch, request by request.
 use std::alloc::{AllocError, Global};
+use std::collections::btree_set::Iter;
 use std::mem;
 use std::test::Fail;
 use xds_cases::cases::{Outcome, hold, words_of};
@@ -13,14 +14,17 @@ fn write_step<T: ResourceType>(
     touched: &Touched,
 ) -> Result<(), AllocError> {
     all.push_str(if interest.has_star() { "+" } else { "" })?;
-    for name in interest.names() {
-        all.push_str(name)?;
-    }
+    push_all(all, interest.names())?;
     all.push_str(if touched.all() { ":!" } else { ":" })?;
-    for name in touched.names() {
+    push_all(all, touched.names())?;
+    all.push(' ')
+}
+
+fn push_all(all: &mut String, names: Iter<'_, String>) -> Result<(), AllocError> {
+    for name in names {
         all.push_str(name)?;
     }
-    all.push(' ')
+    Ok(())
 }
 
 // Keeps another value in a place.
@@ -69,13 +73,26 @@ fn take_in_place<T: ResourceType>(
     unsubscribe: &[String],
 ) -> Result<Touched, Refusal> {
     let wanted = kept.wanted_by(alloc, subscribe, unsubscribe)?;
-    let added = kept.widen(alloc, &wanted)?;
+    let widened = widen_again(alloc, kept, &wanted);
+    if widened.is_ok() {
+        kept.narrow(&wanted, unsubscribe);
+    }
+    drop(wanted);
+    widened?;
+    DeltaNames::<T>::touched_by(alloc, subscribe, unsubscribe)
+}
+
+// Adds what is wanted, once that was taken back.
+fn widen_again<T: ResourceType>(
+    alloc: Global,
+    kept: &mut DeltaNames<T>,
+    wanted: &Interest<T>,
+) -> Result<(), Refusal> {
+    let added = kept.widen(alloc, wanted)?;
     kept.take_back(&added);
     drop(added);
-    drop(kept.widen(alloc, &wanted)?);
-    kept.narrow(&wanted, unsubscribe);
-    drop(wanted);
-    DeltaNames::<T>::touched_by(alloc, subscribe, unsubscribe)
+    drop(kept.widen(alloc, wanted)?);
+    Ok(())
 }
 
 fn delta_step<T: ResourceType>(

@@ -1,11 +1,10 @@
 // What happens at a node, told by lines, and what the node leaves.
-ghost use Rattle.std.specs.Prelude.{◌≡◌};
-
+use crate::calls::Told;
+use crate::sites::{Site, alone};
 use std::alloc::Global;
 use std::sync::Wait;
 use xds_core::{Event, Request};
 use xds_message::{Batch, DeltaDiscoveryRequest, DiscoveryRequest};
-use xds_node::{History, Line, Node, NodeName, Opened, Seat, Segment};
 use xds_resource::{AnyResource, Groups, Refusal, TypeName};
 
 // A client takes one cluster on a stream, and then another; some lines are refused, or say nothing in a trace. The second
@@ -128,37 +127,37 @@ fn event_of(alloc: Global, line: &str) -> Result<Event, Refusal> {
 }
 
 // An event of a line is called, whatever it is answered.
-fn call<N: NodeName, R: Wait>(
+fn call<A: Site, R: Wait>(
     rt: &R,
-    node: &Node<N>,
-    seat: &mut Seat<N>,
-    event: Event,
+    node: &A,
+    seat: &mut A::Seat,
+    event: A::Event,
 ) -> Result<(), Refusal> {
-    match node.call(rt, seat, event) {
-        Ok(_) => Ok(()),
-        Err(unrecorded) => Err(unrecorded.refusal),
+    match node.call(rt, seat, event).back() {
+        Some((_, refusal)) => Err(refusal),
+        None => Ok(()),
     }
 }
 
-fn happen<N: NodeName, R: Wait>(
+fn happen<A: Site<Event = Event>, R: Wait>(
     rt: &R,
     alloc: Global,
-    node: &Node<N>,
-    seat: &mut Seat<N>,
+    node: &A,
+    seat: &mut A::Seat,
     line: &str,
 ) -> Result<(), Refusal> {
     call(rt, node, seat, event_of(alloc, line)?)
 }
 
 // All of a story happens. What is cut of the node is put to the segments; the lines that cut it may be passed over.
-fn tell<N: NodeName, R: Wait>(
+fn tell<A: Site<Event = Event>, R: Wait>(
     rt: &R,
     alloc: Global,
-    node: &Node<N>,
-    seat: &mut Seat<N>,
+    node: &A,
+    seat: &mut A::Seat,
     story: &str,
     is_cut: bool,
-    segments: &mut Vec<Segment<N>>,
+    segments: &mut Vec<A::Segment>,
 ) -> Result<(), Refusal> {
     for line in story.lines() {
         if line != "cut" {
@@ -171,20 +170,17 @@ fn tell<N: NodeName, R: Wait>(
 }
 
 /// What a node leaves after it; what was cut is put to the segments.
-pub(crate) fn left<N: NodeName, R: Wait>(
+pub(crate) fn left<A: Site<Event = Event>, R: Wait>(
     rt: &R,
     alloc: Global,
-    opened: Opened<Line>,
+    node: Result<A, Refusal>,
     story: &str,
     is_cut: bool,
-    segments: &mut Vec<Segment<N>>,
-) -> Result<History<N>, Refusal>
-    requires { opened ≡ N.id }
-{
-    let node = Node::<N>::new(alloc, opened, 1)?;
+    segments: &mut Vec<A::Segment>,
+) -> Result<A::Left, Refusal> {
+    let node = node?;
     let mut seat = node.seat(rt)?;
     tell(rt, alloc, &node, &mut seat, story, is_cut, segments)?;
-    let mut seats = Vec::new(alloc);
-    seats.push(seat)?;
+    let seats = alone(alloc, seat)?;
     Ok(node.close(seats))
 }

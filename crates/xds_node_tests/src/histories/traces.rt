@@ -8,7 +8,7 @@ use std::sync::Wait;
 use std::test::Fail;
 use xds_check::check;
 use xds_histories::{of_audited, of_history};
-use xds_node::{Line, NodeName, Opened, Segment};
+use xds_node::{History, Line, Node, NodeName, Opened, Segment};
 use xds_resource::Refusal;
 use xds_rules::Trace;
 
@@ -32,7 +32,7 @@ impl Order {
     }
 }
 
-fn arrange<N: NodeName>(segments: &mut Vec<Segment<N>>, order: Order) {
+fn arrange<P: Drop>(segments: &mut Vec<P>, order: Order) {
     match order {
         Order::WithoutTheLast => drop(segments.pop()),
         Order::WithoutTheFirst => {
@@ -46,15 +46,40 @@ fn arrange<N: NodeName>(segments: &mut Vec<Segment<N>>, order: Order) {
     }
 }
 
-// A trace as a text, if it breaks no rule; or the name of what was refused.
+// A trace as a text, if it breaks no rule.
+fn unbroken(alloc: Global, trace: &Trace) -> Result<String, Refusal> {
+    match check(alloc, trace.lines())? {
+        Some(_) => Ok(String::from_str(alloc, "broken")?),
+        None => trace.write(alloc),
+    }
+}
+
+// The same, or the name of what was refused.
 fn text_of(alloc: Global, told: Result<Trace, Refusal>) -> Result<String, Refusal> {
     match told {
-        Ok(trace) => match check(alloc, trace.lines())? {
-            Some(_) => Ok(String::from_str(alloc, "broken")?),
-            None => trace.write(alloc),
-        },
+        Ok(trace) => {
+            let text = unbroken(alloc, &trace);
+            drop(trace);
+            text
+        }
         Err(refusal) => Ok(String::from_str(alloc, refusal.name())?),
     }
+}
+
+// The trace of what a node left, audited or not.
+fn trace_of<N: NodeName>(
+    alloc: Global,
+    segments: Vec<Segment<N>>,
+    history: History<N>,
+    is_audited: bool,
+) -> Result<Trace, Refusal> {
+    if is_audited {
+        return of_audited(alloc, segments, history);
+    }
+    let trace = of_history(alloc, segments.as_slice(), &history);
+    drop(history);
+    drop(segments);
+    trace
 }
 
 // What is told of the node that the story happened at, by its segments in an order.
@@ -68,23 +93,11 @@ fn told<N: NodeName, R: Wait>(
 ) -> Result<String, Refusal>
     requires { opened ≡ N.id }
 {
-    let mut segments: Vec<Segment<N>> = Vec::new(alloc);
-    let history = left(
-        rt,
-        alloc,
-        opened,
-        story.text(),
-        order.is_cut(),
-        &mut segments,
-    )?;
+    let node = Node::<N>::new(alloc, opened, 1);
+    let mut segments = Vec::new(alloc);
+    let history = left(rt, alloc, node, story.text(), order.is_cut(), &mut segments)?;
     arrange(&mut segments, order);
-    if is_audited {
-        return text_of(alloc, of_audited(alloc, segments, history));
-    }
-    let told = of_history(alloc, segments.as_slice(), &history);
-    drop(history);
-    drop(segments);
-    text_of(alloc, told)
+    text_of(alloc, trace_of(alloc, segments, history, is_audited))
 }
 
 // What is told of a new node.

@@ -1,6 +1,6 @@
 // A round that finds no memory, and an outbox. `bench/fail_each.py` runs these tests with each allocation failing in turn: where
 // a round is refused, the next one tells everything, and an outbox that was refused has what it had.
-use crate::exchanges::parts::{Wanted, batch_of};
+use crate::exchanges::parts::{Wanted, batch_of, size_of};
 use crate::exchanges::replicas::Site;
 use crate::exchanges::rounds::{are_equal, put_all};
 use std::alloc::Global;
@@ -52,32 +52,55 @@ fn rounds_without_memory(rt: HostRuntime) -> Result<(), Fail> {
 
 // Whether an outbox was refused a batch at first; it has none then, and has it at last.
 fn is_filled_again(alloc: Global, outbox: &mut Outbox, batch: Batch) -> Result<bool, Fail> {
-    let copy = batch.try_copy(alloc)?;
-    match outbox.fill(batch) {
-        Ok(()) => Ok(false),
+    let copy = batch.try_copy(alloc);
+    let filled = outbox.fill(batch);
+    fills_again(outbox, filled, copy?)
+}
+
+fn fills_again(
+    outbox: &mut Outbox,
+    filled: Result<(), Refusal>,
+    copy: Batch,
+) -> Result<bool, Fail> {
+    if filled != Err(Refusal::OutOfMemory) {
+        drop(copy);
+        filled?;
+        return Ok(false);
+    }
+    if outbox.len() != 0 {
+        drop(copy);
+        return Err("a refused batch is there".into());
+    }
+    outbox.fill(copy)?;
+    Ok(true)
+}
+
+// Whether a part was refused at first; all is left then.
+fn is_cut_again(outbox: &mut Outbox) -> Result<bool, Fail> {
+    match outbox.next_part() {
+        Ok(part) => {
+            is_whole(part, outbox.len())?;
+            Ok(false)
+        }
         Err(Refusal::OutOfMemory) => {
-            if outbox.len() != 0 {
-                return Err("a refused batch is there".into());
+            if outbox.len() != 5 {
+                return Err("a refused part is gone".into());
             }
-            outbox.fill(copy)?;
+            let part = outbox.next_part()?;
+            is_whole(part, outbox.len())?;
             Ok(true)
         }
         Err(refusal) => Err(refusal.into()),
     }
 }
 
-// A part, and whether it was refused at first; all is left then.
-fn cut_again(outbox: &mut Outbox, left: usize) -> Result<(Option<Batch>, bool), Fail> {
-    match outbox.next_part() {
-        Ok(part) => Ok((part, false)),
-        Err(Refusal::OutOfMemory) => {
-            if outbox.len() != left {
-                return Err("a refused part is gone".into());
-            }
-            Ok((outbox.next_part()?, true))
-        }
-        Err(refusal) => Err(refusal.into()),
+// Fails unless a part is the batch, and this is what is left.
+fn is_whole(part: Option<Batch>, left: usize) -> Result<(), Fail> {
+    let (clusters, secrets) = size_of(part.ok_or("no part comes")?);
+    if (clusters, secrets, left) == (3, 2, 0) {
+        return Ok(());
     }
+    Err("the part isn't the batch".into())
 }
 
 // Whether filling and cutting were refused.
@@ -90,12 +113,14 @@ fn is_parted(alloc: Global) -> Result<(bool, bool), Fail> {
     };
     let batch = batch_of(alloc, &wanted)?;
     let mut outbox = Outbox::new(alloc);
-    let filled = is_filled_again(alloc, &mut outbox, batch)?;
-    let (part, cut) = cut_again(&mut outbox, 5)?;
-    let part = part.ok_or("no part comes")?;
-    if part.cluster.len() != 3 || part.secret.len() != 2 || outbox.len() != 0 {
-        return Err("the part isn't the batch".into());
-    }
+    let refused = parted(alloc, &mut outbox, batch);
+    drop(outbox);
+    refused
+}
+
+fn parted(alloc: Global, outbox: &mut Outbox, batch: Batch) -> Result<(bool, bool), Fail> {
+    let filled = is_filled_again(alloc, outbox, batch)?;
+    let cut = is_cut_again(outbox)?;
     Ok((filled, cut))
 }
 

@@ -25,17 +25,27 @@ pub(crate) struct Wanted {
 }
 
 fn parts_of(alloc: Global, given: &str) -> Result<String, Refusal> {
+    let wanted = wanted_of(alloc, given)?;
+    let batch = batch_of(alloc, &wanted)?;
+    let mut outbox = Outbox::new(alloc);
+    let text = cut(alloc, &mut outbox, batch);
+    drop(outbox);
+    text
+}
+
+fn wanted_of(alloc: Global, given: &str) -> Result<Wanted, Refusal> {
     let words = words_of(alloc, given)?;
-    let wanted = Wanted {
+    Ok(Wanted {
         clusters: number(&words, 0)?,
         secrets: number(&words, 1)?,
         bytes: number(&words, 2)? as usize,
         group: number(&words, 3)? as usize,
-    };
-    let batch = batch_of(alloc, &wanted)?;
-    let mut outbox = Outbox::new(alloc);
+    })
+}
+
+fn cut(alloc: Global, outbox: &mut Outbox, batch: Batch) -> Result<String, Refusal> {
     outbox.fill(batch)?;
-    sizes(alloc, &mut outbox)
+    sizes(alloc, outbox)
 }
 
 fn number(words: &Vec<String>, place: usize) -> Result<u64, Refusal> {
@@ -47,17 +57,22 @@ fn sizes(alloc: Global, outbox: &mut Outbox) -> Result<String, Refusal> {
     let mut all = String::new(alloc);
     for _ in 0..100_u64 {
         match outbox.next_part()? {
-            Some(part) => push_size(alloc, &mut all, &part)?,
+            Some(part) => push_size(alloc, &mut all, part)?,
             None => return Ok(all),
         }
     }
     Err(Refusal::BadScript)
 }
 
-// Adds how many clusters and secrets a part has.
-fn push_size(alloc: Global, all: &mut String, part: &Batch) -> Result<(), Refusal> {
-    let clusters = part.cluster.len();
-    let secrets = part.secret.len();
+/// How many clusters and secrets a part has.
+pub(crate) fn size_of(part: Batch) -> (usize, usize) {
+    let size = (part.cluster.len(), part.secret.len());
+    drop(part);
+    size
+}
+
+fn push_size(alloc: Global, all: &mut String, part: Batch) -> Result<(), Refusal> {
+    let (clusters, secrets) = size_of(part);
     let text = format!(in alloc; "{clusters}+{secrets} ")?;
     all.push_str(text.as_str())?;
     Ok(())
@@ -66,14 +81,29 @@ fn push_size(alloc: Global, all: &mut String, part: &Batch) -> Result<(), Refusa
 // The same write again and again: an outbox looks at no name.
 pub(crate) fn batch_of(alloc: Global, wanted: &Wanted) -> Result<Batch, Refusal> {
     let mut batch = Batch::new(alloc);
-    let cluster = AnyWrite::Cluster(write_of(alloc, wanted)?);
-    let secret = AnyWrite::Secret(write_of(alloc, wanted)?);
-    push_many(alloc, &mut batch, &cluster, wanted.clusters)?;
-    push_many(alloc, &mut batch, &secret, wanted.secrets)?;
-    Ok(batch)
+    match push_both(alloc, &mut batch, wanted) {
+        Ok(()) => Ok(batch),
+        Err(refusal) => {
+            drop(batch);
+            Err(refusal)
+        }
+    }
 }
 
-fn push_many(
+fn push_both(alloc: Global, batch: &mut Batch, wanted: &Wanted) -> Result<(), Refusal> {
+    let cluster = AnyWrite::Cluster(write_of(alloc, wanted)?);
+    push_many(alloc, batch, cluster, wanted.clusters)?;
+    let secret = AnyWrite::Secret(write_of(alloc, wanted)?);
+    push_many(alloc, batch, secret, wanted.secrets)
+}
+
+fn push_many(alloc: Global, batch: &mut Batch, write: AnyWrite, count: u64) -> Result<(), Refusal> {
+    let pushed = push_copies(alloc, batch, &write, count);
+    drop(write);
+    pushed
+}
+
+fn push_copies(
     alloc: Global,
     batch: &mut Batch,
     write: &AnyWrite,
@@ -87,8 +117,8 @@ fn push_many(
 
 fn write_of<T: ResourceType>(alloc: Global, wanted: &Wanted) -> Result<Write<T>, Refusal> {
     let text = body(alloc, T::TYPE.url(), wanted.bytes)?;
-    let resource = Resource::parse(alloc, text.as_str())?;
     let groups = groups(alloc, wanted.group)?;
+    let resource = Resource::parse(alloc, text.as_str())?;
     Ok(Write::put(Stamp::new(1, 1), resource, groups))
 }
 

@@ -3,7 +3,6 @@ use std::alloc::Global;
 use xds_core::{Core, Event, Reply};
 use xds_exchange::{Peer, Round, round};
 use xds_resource::{AnyResource, Groups, Refusal, TypeName};
-use xds_writes::Batch;
 
 /// A replica that writes and tells others.
 pub trait Site: Drop + Sized {
@@ -40,21 +39,16 @@ impl Site for Core {
     }
 
     fn put(&mut self, alloc: Global, kind: TypeName, number: u64) -> Result<(), Refusal> {
-        let resource = resource_of(alloc, kind, number)?;
         let groups = groups_of(alloc, number)?;
-        drop(self.step(Event::Put(resource, groups))?);
-        Ok(())
+        let resource = resource_of(alloc, kind, number)?;
+        done(self.step(Event::Put(resource, groups)))
     }
 
     fn delete(&mut self, alloc: Global, kind: TypeName, number: u64) -> Result<(), Refusal> {
         let name = format!(in alloc; "n{number}")?;
-        match self.step(Event::Delete(kind, name)) {
-            Ok(reply) => {
-                drop(reply);
-                Ok(())
-            }
+        match done(self.step(Event::Delete(kind, name))) {
             Err(Refusal::NotFound) => Ok(()),
-            Err(refusal) => Err(refusal),
+            answer => answer,
         }
     }
 
@@ -63,15 +57,23 @@ impl Site for Core {
     }
 
     fn text(&mut self, alloc: Global) -> Result<String, Refusal> {
-        match self.step(Event::Snapshot)? {
-            Reply::Entries(batch) => batch_text(alloc, &batch),
-            _ => Err(Refusal::BadScript),
-        }
+        let reply = self.step(Event::Snapshot)?;
+        let text = entries(alloc, &reply);
+        drop(reply);
+        text
     }
 }
 
-fn batch_text(alloc: Global, batch: &Batch) -> Result<String, Refusal> {
-    batch.write(alloc)
+fn done<V: Drop>(answer: Result<V, Refusal>) -> Result<(), Refusal> {
+    drop(answer?);
+    Ok(())
+}
+
+fn entries(alloc: Global, reply: &Reply) -> Result<String, Refusal> {
+    match reply {
+        Reply::Entries(batch) => batch.write(alloc),
+        _ => Err(Refusal::BadScript),
+    }
 }
 
 fn resource_of(alloc: Global, kind: TypeName, number: u64) -> Result<AnyResource, Refusal> {

@@ -11,14 +11,19 @@ const CLUSTERS: u64 = 1000;
 // Ten times as many rounds, each behind a write, and then all replicas agree.
 const ROUNDS: u64 = 1000;
 
-fn is_round(done: Round, sent: usize, parts: usize, grown: u128) -> Result<(), Fail> {
-    if done == (Round { sent, parts, grown }) {
+// Tells another what changed. Fails unless so many writes are sent in so many parts, and its changes grow by so many.
+fn tells<S: Site>(
+    alloc: Global,
+    one: &S,
+    other: &mut S,
+    peer: &mut Peer,
+    wanted: (usize, usize, u128),
+) -> Result<(), Fail> {
+    let Round { sent, parts, grown } = one.tell(alloc, other, peer)?;
+    if (sent, parts, grown) == wanted {
         return Ok(());
     }
-    Err(Fail::new(format_args!(
-        "{} sent in {} parts, {} grown",
-        done.sent, done.parts, done.grown
-    )))
+    Err(Fail::new(format_args!("{sent} sent in {parts} parts, {grown} grown")))
 }
 
 /// Puts the resources 0 to count - 1 of a type.
@@ -54,12 +59,12 @@ fn thousand_clusters<S: Site>(alloc: Global) -> Result<(), Fail> {
 fn told_thrice<S: Site>(alloc: Global, one: &mut S, other: &mut S) -> Result<(), Fail> {
     let mut peer = Peer::new();
     put_all(alloc, one, TypeName::Cluster, CLUSTERS)?;
-    is_round(one.tell(alloc, other, &mut peer)?, 1000, 2, 1000)?;
-    is_round(one.tell(alloc, other, &mut peer)?, 0, 0, 0)?;
+    tells(alloc, one, other, &mut peer, (1000, 2, 1000))?;
+    tells(alloc, one, other, &mut peer, (0, 0, 0))?;
     one.put(alloc, TypeName::Cluster, CLUSTERS)?;
-    is_round(one.tell(alloc, other, &mut peer)?, 1, 1, 1)?;
+    tells(alloc, one, other, &mut peer, (1, 1, 1))?;
     let mut peer = Peer::new();
-    is_round(one.tell(alloc, other, &mut peer)?, 1001, 2, 0)?;
+    tells(alloc, one, other, &mut peer, (1001, 2, 0))?;
     are_equal(alloc, one, other)
 }
 
@@ -82,10 +87,10 @@ fn told_of_types<S: Site>(alloc: Global, one: &mut S, other: &mut S) -> Result<(
     put_all(alloc, one, TypeName::Listener, 3)?;
     put_all(alloc, one, TypeName::Route, 3)?;
     put_all(alloc, one, TypeName::Secret, 3)?;
-    is_round(one.tell(alloc, other, &mut peer)?, 15, 1, 15)?;
+    tells(alloc, one, other, &mut peer, (15, 1, 15))?;
     one.delete(alloc, TypeName::Route, 1)?;
     one.delete(alloc, TypeName::Secret, 2)?;
-    is_round(one.tell(alloc, other, &mut peer)?, 2, 1, 2)?;
+    tells(alloc, one, other, &mut peer, (2, 1, 2))?;
     are_equal(alloc, one, other)
 }
 
@@ -199,22 +204,21 @@ fn kind_of(number: u64) -> TypeName {
 }
 
 fn tell<S: Site>(alloc: Global, all: &mut Three<S>, which: u64) -> Result<(), Refusal> {
-    match which {
-        0 => all.one.tell(alloc, &mut all.two, &mut all.peers.one_two)?,
-        1 => all
-            .one
-            .tell(alloc, &mut all.three, &mut all.peers.one_three)?,
-        2 => all.two.tell(alloc, &mut all.one, &mut all.peers.two_one)?,
-        3 => all
-            .two
-            .tell(alloc, &mut all.three, &mut all.peers.two_three)?,
-        4 => all
-            .three
-            .tell(alloc, &mut all.one, &mut all.peers.three_one)?,
-        _ => all
-            .three
-            .tell(alloc, &mut all.two, &mut all.peers.three_two)?,
+    let Three {
+        one,
+        two,
+        three,
+        peers,
+    } = all;
+    let told = match which {
+        0 => one.tell(alloc, two, &mut peers.one_two),
+        1 => one.tell(alloc, three, &mut peers.one_three),
+        2 => two.tell(alloc, one, &mut peers.two_one),
+        3 => two.tell(alloc, three, &mut peers.two_three),
+        4 => three.tell(alloc, one, &mut peers.three_one),
+        _ => three.tell(alloc, two, &mut peers.three_two),
     };
+    told?;
     Ok(())
 }
 

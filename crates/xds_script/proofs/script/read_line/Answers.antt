@@ -1,9 +1,9 @@
-use Rattle.std.proofs.Common.{◌≡◌, Some, ap, sym, ◌∙◌}
+use Rattle.std.proofs.Common.{Some, ap, sym, ◌∙◌}
 use Rattle.std.specs.Option.{ok_or, option_map}
 use Rattle.std.proofs.lemmas.Result.{err_from_is_err_and}
 use Rattle.xds_resource.specs.declared.refusal.Refusal.TheVariants.{BadScript}
 use Rattle.xds_script.specs.Commands.{said_of}
-use Rattle.xds_script.specs.Scripts.{text_says, line_says}
+use Rattle.xds_script.specs.Scripts.{text_says}
 use Rattle.xds_script.proofs.Behind.{read_so, made_refused}
 use Rattle.xds_script.proofs.Scripting.{line_says-kept}
 use Rattle.xds_script.proofs.script.read_line.Goals as goal

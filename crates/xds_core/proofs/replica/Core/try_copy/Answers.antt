@@ -1,4 +1,4 @@
-use Rattle.std.proofs.Common.{ap, ◌∙◌}
+use Rattle.std.proofs.Common.{◌∙◌}
 use Rattle.xds_core.specs.Lists.{streams_of}
 use Rattle.xds_core.proofs.Fitting.{copied_fits, copied_as}
 use Rattle.xds_core.proofs.replica.Core.try_copy.Goals as goal

@@ -1,4 +1,4 @@
-use Rattle.std.proofs.Common.{rules, ◌≡◌, Ok, ap, ◌∙◌}
+use Rattle.std.proofs.Common.{rules, Ok, ap, ◌∙◌}
 use Rattle.xds_workers.proofs.Unpacking.{text_read}
 use Rattle.xds_workers.proofs.parcels.Parcel.unpack.Goals as goal
 

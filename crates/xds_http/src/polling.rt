@@ -1,0 +1,142 @@
+// One poll over HTTP.
+ghost use Rattle.std.specs.Prelude.{◌≡◌, IfOk, IfErr};
+ghost use Rattle.xds_resource.specs.declared.refusal.Refusal.TheVariants.{OutOfMemory};
+ghost use Rattle.xds_http.specs.Sent.{IsPostTo, IsPostOf, TellsNothing};
+
+use crate::question::Question;
+use crate::told::Told;
+use bytes::Bytes;
+use futures::future::join;
+use futures::{FutureExt, TryFutureExt};
+use http_body_util::{BodyExt, Full};
+use hyper::client::conn::http1::handshake;
+use hyper::{Request, header};
+use std::alloc::{AllocGlobal, Global};
+use std::hash::RandomState;
+use std::io;
+use std::net::{Net, SocketAddr};
+use std::random::RandomSource;
+use std::sync::Wait;
+use std::time::Clock;
+use tokio::io::{AsyncRead, AsyncWrite};
+use tokio::net::TcpStream;
+use tokio::runtime::LocalRuntime;
+use xds_resource::Refusal;
+
+// Why a call of the system failed.
+fn of_system(error: io::Error) -> Refusal
+    ensures { TellsNothing result }
+{
+    match error.kind() {
+        io::ErrorKind::OutOfMemory => Refusal::OutOfMemory,
+        _ => Refusal::Device,
+    }
+}
+
+// Why a request over HTTP failed.
+fn of_http(error: hyper::Error) -> Refusal
+    ensures { TellsNothing result }
+{
+    if error.is_out_of_memory() {
+        Refusal::OutOfMemory
+    } else {
+        Refusal::Device
+    }
+}
+
+// A post of a body to a path of a host.
+fn post_to(
+    alloc: Global,
+    host: &str,
+    path: &str,
+    body: Bytes,
+) -> Result<Request<Full<Bytes>>, http::Error>
+    ensures { IfOk result (IsPostTo path.now body) }
+{
+    Request::post(alloc, path)
+        .header(header::HOST, host)
+        .header(header::CONTENT_TYPE, "application/json")
+        .body(Full::new(body))
+}
+
+// The post of a question to a server.
+fn post(
+    alloc: Global,
+    server: SocketAddr,
+    question: Question,
+) -> Result<Request<Full<Bytes>>, Refusal>
+    ensures ok { IfOk result (IsPostOf question) }
+    ensures err { IfErr result (λ e. e ≡ OutOfMemory) }
+{
+    let path = question.kind.rest_path();
+    let host = format!(in alloc; "{server}")?;
+    let body = Bytes::from_string(question.body(alloc)?)?;
+    post_to(alloc, host.as_str(), path, body).map_err(|_| Refusal::OutOfMemory)
+}
+
+// Sends a request over a connection, and reads the reply whole.
+fn exchange<R, I>(
+    rt: &R,
+    runtime: &mut LocalRuntime,
+    io: I,
+    request: Request<Full<Bytes>>,
+) -> Result<Told, Refusal>
+where
+    R: Wait + Clock + RandomSource + AllocGlobal,
+    I: AsyncRead + AsyncWrite,
+    ensures { IfErr result TellsNothing }
+{
+    let alloc = rt.alloc();
+    let keys = RandomState::new(rt).map_err(of_system)?;
+    let (mut sender, connection) = handshake(alloc, keys, io).map_err(of_http)?;
+    let answer = sender.send_request(request).and_then(move |response| {
+        let status = response.status();
+        response
+            .into_body()
+            .collect(alloc)
+            .map(move |come| match come {
+                Ok(body) => Ok((status, body)),
+                Err(e) => Err(e),
+            })
+    });
+    drop(sender);
+    let (answered, _ended) = runtime
+        .block_on(rt, join(answer, connection))
+        .map_err(of_system)?;
+    let (status, body) = answered.map_err(of_http)?;
+    Ok(Told {
+        status: status.as_u16(),
+        body: body.to_bytes()?,
+    })
+}
+
+// A connection to a server.
+fn connected<R>(
+    rt: &R,
+    runtime: &mut LocalRuntime,
+    server: SocketAddr,
+) -> Result<TcpStream, Refusal>
+where
+    R: Wait + Clock + Net + RandomSource + AllocGlobal,
+    ensures { IfErr result TellsNothing }
+{
+    let connect = TcpStream::connect(rt, server, runtime.handle().reactor());
+    match runtime.block_on(rt, connect) {
+        Ok(Ok(socket)) => Ok(socket),
+        Ok(Err(e)) => Err(of_system(e)),
+        Err(e) => Err(of_system(e)),
+    }
+}
+
+/// One poll of a server, over a connection of its own: a post, and its reply. Refused is `Device` where the server can't be
+/// reached, or its reply breaks off or is no HTTP, and `OutOfMemory`. It waits for a server that is silent.
+pub fn poll<R>(rt: &R, server: SocketAddr, question: Question) -> Result<Told, Refusal>
+where
+    R: Wait + Clock + Net + RandomSource + AllocGlobal,
+    ensures { IfErr result TellsNothing }
+{
+    let request = post(rt.alloc(), server, question)?;
+    let mut runtime = LocalRuntime::new(rt).map_err(of_system)?;
+    let socket = connected(rt, &mut runtime, server)?;
+    exchange(rt, &mut runtime, socket, request)
+}
