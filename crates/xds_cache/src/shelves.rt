@@ -8,13 +8,25 @@ use std::marker::Model;
 use xds_resource::TypeName;
 use xds_shelf::shelf::Shelf;
 
-#[derive(Drop)]
 pub(crate) struct Shelves {
     cluster: Shelf,
     endpoint: Shelf,
     listener: Shelf,
     route: Shelf,
     secret: Shelf,
+}
+
+// Written out: docs/PROVING.md, "Drops".
+impl Drop for Shelves {
+    fn drop(self) {
+        let Shelves {
+            cluster: _,
+            endpoint: _,
+            listener: _,
+            route: _,
+            secret: _,
+        } = self;
+    }
 }
 
 impl Model for Shelves {

@@ -24,10 +24,19 @@ use xds_resource::stamp::MAX_COUNTER;
 use xds_resource::{Groups, Refusal, Resource, ResourceType, Stamp, Write};
 
 /// The greatest write of each name of the type `T`. Deletions stay for good.
-#[derive(Drop)]
 pub struct Catalogue<T: ResourceType> {
     pub(crate) tables: Tables<T>,
     pub(crate) alloc: Global,
+}
+
+// Written out: docs/PROVING.md, "Drops".
+impl<T: ResourceType> Drop for Catalogue<T> {
+    fn drop(self) {
+        let Catalogue {
+            tables: _,
+            alloc: _,
+        } = self;
+    }
 }
 
 impl<T: ResourceType> Model for Catalogue<T> {

@@ -14,10 +14,19 @@ use xds_interest::Interest;
 use xds_resource::{Refusal, ResourceType, Write};
 
 // A write that stands, and the number of the change that put it there.
-#[derive(Drop)]
 pub(crate) struct Entry<T: ResourceType> {
     pub(crate) write: Write<T>,
     pub(crate) change: u64,
+}
+
+// Written out: docs/PROVING.md, "Drops".
+impl<T: ResourceType> Drop for Entry<T> {
+    fn drop(self) {
+        let Entry {
+            write: _,
+            change: _,
+        } = self;
+    }
 }
 
 impl<T: ResourceType> Model for Entry<T> {
@@ -57,10 +66,19 @@ impl<T: ResourceType> Clone for Entry<T> {
     }
 }
 
-#[derive(Drop)]
 pub(crate) struct Names<T: ResourceType> {
     by_name: BTreeMap<String, Entry<T>>,
     alloc: Global,
+}
+
+// Written out: docs/PROVING.md, "Drops".
+impl<T: ResourceType> Drop for Names<T> {
+    fn drop(self) {
+        let Names {
+            by_name: _,
+            alloc: _,
+        } = self;
+    }
 }
 
 impl<T: ResourceType> Model for Names<T> {

@@ -14,13 +14,24 @@ use std::marker::Model;
 use std::sync::ArcStr;
 use xds_resource::{Refusal, ResourceType, Write};
 
-#[derive(Drop)]
 pub(crate) struct Tables<T: ResourceType> {
     names: Names<T>,
     numbers: Numbers,
     changes: u64,
     // The greatest counter of a write that stands, or 0.
     greatest: u64,
+}
+
+// Written out: docs/PROVING.md, "Drops".
+impl<T: ResourceType> Drop for Tables<T> {
+    fn drop(self) {
+        let Tables {
+            names: _,
+            numbers: _,
+            changes: _,
+            greatest: _,
+        } = self;
+    }
 }
 
 impl<T: ResourceType> Model for Tables<T> {

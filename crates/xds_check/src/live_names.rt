@@ -9,10 +9,19 @@ use std::marker::Model;
 use xds_resource::{Groups, NameMap, Refusal};
 
 /// The names of live writes: of those without groups, and by group of those that have some. Contracts see both.
-#[derive(Drop)]
 pub(crate) struct LiveNames {
     everyone: NameMap<bool>,
     by_group: NameMap<NameMap<bool>>,
+}
+
+// Written out: docs/PROVING.md, "Drops".
+impl Drop for LiveNames {
+    fn drop(self) {
+        let LiveNames {
+            everyone: _,
+            by_group: _,
+        } = self;
+    }
 }
 
 impl Model for LiveNames {

@@ -22,7 +22,6 @@ use xds_rules::{Answer, Asking};
 
 /// What is kept of a stream, of the type `T`: what its client wants, its last response, the offers that count, the names that
 /// wait for an answer, and the nonces that were used. Contracts see the record of these.
-#[derive(Drop)]
 pub(crate) struct Talk<T: ResourceType> {
     known: bool,
     pub(crate) begun: bool,
@@ -33,6 +32,23 @@ pub(crate) struct Talk<T: ResourceType> {
     pub(crate) refused: Option<NameMap<Due>>,
     pub(crate) waiting: NameMap<bool>,
     pub(crate) used: NameMap<bool>,
+}
+
+// Written out: docs/PROVING.md, "Drops".
+impl<T: ResourceType> Drop for Talk<T> {
+    fn drop(self) {
+        let Talk {
+            known: _,
+            begun: _,
+            sotw: _,
+            delta: _,
+            last: _,
+            unanswered: _,
+            refused: _,
+            waiting: _,
+            used: _,
+        } = self;
+    }
 }
 
 impl<T: ResourceType> Model for Talk<T> {

@@ -13,9 +13,15 @@ use std::mem;
 use xds_resource::Refusal;
 
 /// Values by number. Contracts see the finite map.
-#[derive(Drop)]
 pub struct Numbered<V> {
     values: BTreeMap<u64, V>,
+}
+
+// Written out: docs/PROVING.md, "Drops".
+impl<V: Drop> Drop for Numbered<V> {
+    fn drop(self) {
+        let Numbered { values: _ } = self;
+    }
 }
 
 impl<V> Model for Numbered<V> {

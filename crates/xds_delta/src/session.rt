@@ -25,10 +25,19 @@ use xds_message::DeltaDiscoveryRequest;
 use xds_resource::{NameMap, Refusal, ResourceType};
 
 /// One type on one stream, in the incremental variant.
-#[derive(Drop)]
 pub struct Session<T: ResourceType> {
     names: DeltaNames<T>,
     ledger: Ledger<T, Delta>,
+}
+
+// Written out: docs/PROVING.md, "Drops".
+impl<T: ResourceType> Drop for Session<T> {
+    fn drop(self) {
+        let Session {
+            names: _,
+            ledger: _,
+        } = self;
+    }
 }
 
 impl<T: ResourceType> Model for Session<T> {

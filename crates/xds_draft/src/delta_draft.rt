@@ -15,11 +15,21 @@ use xds_message::{DeltaDiscoveryResponse, DeltaResource, copy_texts};
 use xds_resource::{Refusal, ResourceType, TypeName, Write};
 
 // A resource, whose text is shared with the write that it stands in.
-#[derive(Drop)]
 struct DraftResource {
     name: ArcStr<Global>,
     version: String,
     body: Body,
+}
+
+// Written out: docs/PROVING.md, "Drops".
+impl Drop for DraftResource {
+    fn drop(self) {
+        let DraftResource {
+            name: _,
+            version: _,
+            body: _,
+        } = self;
+    }
 }
 
 impl Model for DraftResource {
@@ -75,13 +85,25 @@ impl DraftResource {
 }
 
 /// A [`DeltaDiscoveryResponse`] before it is written. Its resources are the stored texts of writes, which it shares.
-#[derive(Drop)]
 pub struct DeltaDraft {
     kind: TypeName,
     version: String,
     nonce: String,
     resources: Vec<DraftResource>,
     removed: Vec<String>,
+}
+
+// Written out: docs/PROVING.md, "Drops".
+impl Drop for DeltaDraft {
+    fn drop(self) {
+        let DeltaDraft {
+            kind: _,
+            version: _,
+            nonce: _,
+            resources: _,
+            removed: _,
+        } = self;
+    }
 }
 
 impl Model for DeltaDraft {

@@ -18,12 +18,23 @@ use xds_message::DiscoveryResponse;
 use xds_resource::{Refusal, ResourceType, TypeName, Write};
 
 /// A [`DiscoveryResponse`] before it is written. Its resources are the stored texts of writes, which it shares.
-#[derive(Drop)]
 pub struct SotwDraft {
     kind: TypeName,
     version: String,
     nonce: String,
     bodies: Vec<Body>,
+}
+
+// Written out: docs/PROVING.md, "Drops".
+impl Drop for SotwDraft {
+    fn drop(self) {
+        let SotwDraft {
+            kind: _,
+            version: _,
+            nonce: _,
+            bodies: _,
+        } = self;
+    }
 }
 
 /// The text of a response but for its resources: what stands before them, and what stands behind them.

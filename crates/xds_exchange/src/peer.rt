@@ -20,9 +20,15 @@ use xds_outbox::Outbox;
 use xds_resource::{Refusal, ResourceType};
 
 /// What a peer was told: for each type, the count of changes up to which it was told all.
-#[derive(Drop)]
 pub struct Peer {
     marks: Marks,
+}
+
+// Written out: docs/PROVING.md, "Drops".
+impl Drop for Peer {
+    fn drop(self) {
+        let Peer { marks: _ } = self;
+    }
 }
 
 impl Model for Peer {

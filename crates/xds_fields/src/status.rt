@@ -15,12 +15,22 @@ use std::marker::Model;
 use xds_resource::Refusal;
 
 /// Why a client rejects a response: of `google.rpc.Status` its code and its message.
-#[derive(Debug, Drop)]
+#[derive(Debug)]
 pub struct Status {
     /// A code of `google.rpc.Code`, of which 0 is no error.
     pub code: i32,
     /// What a person reads.
     pub message: String,
+}
+
+// Written out: docs/PROVING.md, "Drops".
+impl Drop for Status {
+    fn drop(self) {
+        let Status {
+            code: _,
+            message: _,
+        } = self;
+    }
 }
 
 impl Model for Status {

@@ -15,9 +15,15 @@ use std::marker::Model;
 use xds_resource::Refusal;
 
 /// A version for each of some names, as a client tells which versions it holds.
-#[derive(Drop)]
 pub struct Versions {
     entries: BTreeMap<String, String>,
+}
+
+// Written out: docs/PROVING.md, "Drops".
+impl Drop for Versions {
+    fn drop(self) {
+        let Versions { entries: _ } = self;
+    }
 }
 
 impl Model for Versions {

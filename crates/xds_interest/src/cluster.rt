@@ -9,9 +9,15 @@ use xds_resource::Refusal;
 
 /// The text of the cluster of a client's node, empty where it has none. It is held once, however many interests have
 /// it, and takes no memory where it is empty.
-#[derive(Drop)]
 pub struct ClusterText {
     text: Option<ArcStr<Global>>,
+}
+
+// Written out: docs/PROVING.md, "Drops".
+impl Drop for ClusterText {
+    fn drop(self) {
+        let ClusterText { text: _ } = self;
+    }
 }
 
 impl Model for ClusterText {

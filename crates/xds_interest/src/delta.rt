@@ -18,10 +18,19 @@ use xds_resource::{Refusal, ResourceType, TypeName};
 
 /// What a delta stream has asked of the type `T` so far: the client's interest, and whether there
 /// was a request. The first request is the star of a complete type if it subscribes nothing.
-#[derive(Drop)]
 pub struct DeltaNames<T: ResourceType> {
     begun: bool,
     interest: Interest<T>,
+}
+
+// Written out: docs/PROVING.md, "Drops".
+impl<T: ResourceType> Drop for DeltaNames<T> {
+    fn drop(self) {
+        let DeltaNames {
+            begun: _,
+            interest: _,
+        } = self;
+    }
 }
 
 impl<T: ResourceType> Model for DeltaNames<T> {

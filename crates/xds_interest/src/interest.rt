@@ -21,12 +21,23 @@ use xds_resource::{Groups, Refusal, ResourceType, TypeName};
 /// Which resources of the type `T` a client wants: those of explicit names, and all of them if it
 /// has the star. Only a complete type has a star; of an incomplete type `*` is a name as any other.
 /// The star doesn't cover a write that lists groups unless the client's cluster is among them.
-#[derive(Drop)]
 pub struct Interest<T: ResourceType> {
     star: bool,
     names: NameSet,
     cluster: ClusterText,
     kind: PhantomData<T>,
+}
+
+// Written out: docs/PROVING.md, "Drops".
+impl<T: ResourceType> Drop for Interest<T> {
+    fn drop(self) {
+        let Interest {
+            star: _,
+            names: _,
+            cluster: _,
+            kind: _,
+        } = self;
+    }
 }
 
 impl<T: ResourceType> Model for Interest<T> {

@@ -14,9 +14,15 @@ use std::marker::Model;
 use xds_resource::{Refusal, TypeName};
 
 /// A set of names, in ascending byte order. Contracts see the finite set of their bytes.
-#[derive(Drop)]
 pub struct NameSet {
     names: BTreeSet<String>,
+}
+
+// Written out: docs/PROVING.md, "Drops".
+impl Drop for NameSet {
+    fn drop(self) {
+        let NameSet { names: _ } = self;
+    }
 }
 
 impl Model for NameSet {

@@ -14,11 +14,21 @@ use xds_resource::{Refusal, ResourceType};
 
 /// What a state-of-the-world stream has asked of the type `T` so far: the client's interest, and
 /// whether a list of it has named something. Once one has, an empty list is no star any more.
-#[derive(Drop)]
 pub struct SotwNames<T: ResourceType> {
     begun: bool,
     named: bool,
     interest: Interest<T>,
+}
+
+// Written out: docs/PROVING.md, "Drops".
+impl<T: ResourceType> Drop for SotwNames<T> {
+    fn drop(self) {
+        let SotwNames {
+            begun: _,
+            named: _,
+            interest: _,
+        } = self;
+    }
 }
 
 impl<T: ResourceType> Model for SotwNames<T> {

@@ -13,10 +13,16 @@ use std::marker::Model;
 use xds_resource::Refusal;
 
 /// The names that a request touches: each of some names, or every name. A server answers them anew.
-#[derive(Drop)]
 pub struct Touched {
     all: bool,
     names: NameSet,
+}
+
+// Written out: docs/PROVING.md, "Drops".
+impl Drop for Touched {
+    fn drop(self) {
+        let Touched { all: _, names: _ } = self;
+    }
 }
 
 impl Model for Touched {

@@ -1,5 +1,6 @@
 -- That a ledger whose beliefs changed in place is the ledger that took the request.
-use Rattle.std.proofs.Common.{◌≡◌, ℕ, List, Bool, true, false, ◌&&◌, not, Option, Some, None, refl, sym, ap, ◌∙◌}
+use Rattle.std.proofs.Common.{◌≡◌, ℕ, List, Bool, true, false, ◌&&◌, not, Option, Some, None, refl, sym, ap, ◌∙◌, arith, length, ◌-◌, [], ◌∷◌, ◌++◌, option_map}
+use Rattle.std.proofs.lemmas.List.{take_at, length-append}
 use Rattle.std.specs.Prelude.{IfSome, unwrap_or}
 use Rattle.std.specs.FinMap as finmap
 use Rattle.std.specs.FinSet as set
@@ -11,7 +12,7 @@ use Rattle.xds_interest.specs.Touches.{Touch}
 use Rattle.xds_owed.specs.declared.variant.VariantName.{VariantName}
 use Rattle.xds_owed.specs.Variants.{is_whole}
 use Rattle.xds_owed.specs.Owed.{Beliefs}
-use Rattle.xds_ledger.specs.Ledgers.{Sent, Account, answered, beliefs_accepted, beliefs_taken, beliefs_resumed, noted, touch, resume}
+use Rattle.xds_ledger.specs.Ledgers.{Sent, Account, answered, beliefs_accepted, beliefs_taken, beliefs_resumed, noted, forgotten, touch, resume, touched_since, last_touch_forgotten}
 use Rattle.xds_beliefs.specs.Changes.{Changes, believed_now, changes_answered}
 use Rattle.xds_beliefs.proofs.Changing.{told_by_name}
 
@@ -62,3 +63,15 @@ pub answer_in_place : (v : VariantName) (t : TypeName) (rejects : Bool) (s : Sel
     → IfSome a.sent (λ sent. out ≡ resume (touch (answered v t a sent rejects) s touched mentioned) held)
 answer_in_place v t rejects s touched mentioned held a new start out partial is makes settled =
     answer_at v t rejects s touched mentioned held a new start out a.sent refl partial is makes settled
+
+last_out : (o : Option Sent) (touched : Touch) → option_map last_touch_forgotten (option_map (λ sent. touched_since sent touched) o) ≡ o
+last_out None touched = refl
+last_out (Some sent) touched =
+    let shorter : length sent.touched ≡ length (sent.touched ++ touched ∷ []) - 1 = omega (arith, length-append sent.touched (touched ∷ [])) in
+    λ i. Some (record sent { touched = take_at sent.touched (touched ∷ []) (length (sent.touched ++ touched ∷ []) - 1) shorter i })
+
+-- what was noted, forgotten again, where the beliefs are as they were
+pub note_taken_back : (a before middle out : Account) (touched : Touch) (new : Beliefs)
+    → before ≡ a → middle ≡ noted before touched → new ≡ middle.beliefs → out ≡ forgotten (record middle { beliefs = new }) → out ≡ a
+note_taken_back a before middle out touched new same note kept is =
+    is ∙ (λ i. forgotten (record middle { beliefs = kept i })) ∙ ap forgotten note ∙ (λ i. record before { sent = last_out before.sent touched i }) ∙ same

@@ -13,7 +13,6 @@ use xds_owed::{Beliefs, Due, Variant};
 use xds_resource::{NameMap, Refusal, ResourceType};
 
 /// What a client was told of one type on one stream, and what is unanswered.
-#[derive(Drop)]
 pub struct Account<T: ResourceType, V: Variant> {
     pub(crate) beliefs: Beliefs,
     // The number of the last response of the type, 0 before the first.
@@ -23,6 +22,21 @@ pub struct Account<T: ResourceType, V: Variant> {
     pub(crate) refused: Option<NameMap<Due>>,
     kind: PhantomData<T>,
     variant: PhantomData<V>,
+}
+
+// Written out: docs/PROVING.md, "Drops".
+impl<T: ResourceType, V: Variant> Drop for Account<T, V> {
+    fn drop(self) {
+        let Account {
+            beliefs: _,
+            nonce: _,
+            accepted: _,
+            sent: _,
+            refused: _,
+            kind: _,
+            variant: _,
+        } = self;
+    }
 }
 
 impl<T: ResourceType, V: Variant> Model for Account<T, V> {

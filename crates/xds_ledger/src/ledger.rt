@@ -20,10 +20,19 @@ use xds_owed::{Due, Listed, Variant, offer, something_owed};
 use xds_resource::{NameMap, Refusal, ResourceType};
 
 /// What a client was told of one type on one stream, what is unanswered, and which names it may be owed.
-#[derive(Drop)]
 pub struct Ledger<T: ResourceType, V: Variant> {
     pub(crate) account: Account<T, V>,
     pub(crate) listed: Listed,
+}
+
+// Written out: docs/PROVING.md, "Drops".
+impl<T: ResourceType, V: Variant> Drop for Ledger<T, V> {
+    fn drop(self) {
+        let Ledger {
+            account: _,
+            listed: _,
+        } = self;
+    }
 }
 
 impl<T: ResourceType, V: Variant> Model for Ledger<T, V> {

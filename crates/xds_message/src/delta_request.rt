@@ -22,7 +22,6 @@ use xds_resource::Refusal;
 
 /// What a client of the incremental variant asks of a server: which names of one type it wants from now on and which no
 /// longer, and the acceptance or rejection of a response.
-#[derive(Drop)]
 pub struct DeltaDiscoveryRequest {
     /// Who asks; a client may leave it out after its first request.
     pub node: Option<Node>,
@@ -38,6 +37,21 @@ pub struct DeltaDiscoveryRequest {
     pub response_nonce: String,
     /// Why that response is rejected, if it is.
     pub error_detail: Option<Status>,
+}
+
+// Written out: docs/PROVING.md, "Drops".
+impl Drop for DeltaDiscoveryRequest {
+    fn drop(self) {
+        let DeltaDiscoveryRequest {
+            node: _,
+            type_url: _,
+            resource_names_subscribe: _,
+            resource_names_unsubscribe: _,
+            initial_resource_versions: _,
+            response_nonce: _,
+            error_detail: _,
+        } = self;
+    }
 }
 
 impl Model for DeltaDiscoveryRequest {

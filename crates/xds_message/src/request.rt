@@ -1,5 +1,5 @@
 // Discovery requests.
-ghost use Rattle.std.specs.Prelude.{◌≡◌, [], ◌∷◌, string_bytes, IfOk, IfErr, OnOk, Contains};
+ghost use Rattle.std.specs.Prelude.{◌≡◌, [], ◌∷◌, map, string_bytes, IfOk, IfErr, OnOk, Contains};
 ghost use Rattle.serde_json.specs.Data.{Data};
 ghost use Rattle.serde_json.specs.View.{view};
 ghost use Rattle.serde_json.specs.Written.{compact_text};
@@ -18,7 +18,7 @@ use xds_fields::status::{Status, copy_status, error_detail_field, put_error_deta
 use xds_resource::Refusal;
 
 /// What a client asks of a server: resources of one type, and the acceptance or rejection of the last response.
-#[derive(Debug, Drop)]
+#[derive(Debug)]
 pub struct DiscoveryRequest {
     /// The version of the last response that was accepted.
     pub version_info: String,
@@ -32,6 +32,20 @@ pub struct DiscoveryRequest {
     pub response_nonce: String,
     /// Why that response is rejected, if it is.
     pub error_detail: Option<Status>,
+}
+
+// Written out: docs/PROVING.md, "Drops".
+impl Drop for DiscoveryRequest {
+    fn drop(self) {
+        let DiscoveryRequest {
+            version_info: _,
+            node: _,
+            resource_names: _,
+            type_url: _,
+            response_nonce: _,
+            error_detail: _,
+        } = self;
+    }
 }
 
 impl Model for DiscoveryRequest {
@@ -51,6 +65,23 @@ impl Model for DiscoveryRequest {
 }
 
 impl DiscoveryRequest {
+    /// What a poll without a stream goes by: the version that is held, the names, and the node.
+    pub fn into_poll(self) -> (String, Vec<String>, Option<Node>)
+        ensures version { string_bytes result.0 ≡ self.version_info }
+        ensures names { map string_bytes result.1.items ≡ self.resource_names }
+        ensures node { result.2 ≡ self.node }
+    {
+        let DiscoveryRequest {
+            version_info,
+            node,
+            resource_names,
+            type_url: _,
+            response_nonce: _,
+            error_detail: _,
+        } = self;
+        (version_info, resource_names, node)
+    }
+
     /// The request that the bytes spell in the proto3 JSON mapping: one JSON object, whose fields are known by their
     /// lowerCamelCase names and the proto file's. Fields that are not known are passed over.
     pub fn read(alloc: Global, bytes: &[u8]) -> Result<DiscoveryRequest, Refusal>

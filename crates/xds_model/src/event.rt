@@ -27,12 +27,21 @@ pub enum Answer {
 }
 
 /// What a client is told to want of a type.
-#[derive(Drop)]
 pub enum Wish {
     /// State of the world and REST: all texts that are wanted from now on.
     Names(Vec<String>),
     /// Delta: texts to subscribe, and texts to unsubscribe.
     Edits(Vec<String>, Vec<String>),
+}
+
+// Written out: docs/PROVING.md, "Drops".
+impl Drop for Wish {
+    fn drop(self) {
+        match self {
+            Wish::Names(_) => {}
+            Wish::Edits(_, _) => {}
+        }
+    }
 }
 
 /// What may happen in a world. Replicas and clients go by their numbers, replicas from 1; a batch goes by its place in the

@@ -41,7 +41,6 @@ pub const MOST_RECORDS: usize = 65_536;
 
 /// What lies under a node's lock. Contracts see the books of all that happened; whenever the lock is free, the replica is
 /// what they come to.
-#[derive(Drop)]
 pub struct Desk<N: NodeName> {
     base: Core,
     core: Core,
@@ -55,6 +54,23 @@ pub struct Desk<N: NodeName> {
     // Whose writers wait, and whether the node was stopped. Nothing that is recorded depends on it.
     waiting: Waiting,
     stopped: bool,
+}
+
+// Written out: docs/PROVING.md, "Drops".
+impl<N: NodeName> Drop for Desk<N> {
+    fn drop(self) {
+        let Desk {
+            base: _,
+            core: _,
+            journal: _,
+            cut: _,
+            seats: _,
+            token: _,
+            alloc: _,
+            waiting: _,
+            stopped: _,
+        } = self;
+    }
 }
 
 impl<N: NodeName> Model for Desk<N> {

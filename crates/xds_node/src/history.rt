@@ -13,7 +13,6 @@ use xds_resource::Refusal;
 use xds_tokens::{NodeName, Token, Tokens};
 
 /// What a node leaves at its end: the records since the last cut, and the replica before the first of them.
-#[derive(Drop)]
 pub struct History<N: NodeName> {
     pub(crate) base: Core,
     pub(crate) records: Vec<Line>,
@@ -21,6 +20,20 @@ pub struct History<N: NodeName> {
     pub(crate) complete: bool,
     pub(crate) tokens: Tokens<Line, N>,
     pub(crate) token: Token<Line, N>,
+}
+
+// Written out: docs/PROVING.md, "Drops".
+impl<N: NodeName> Drop for History<N> {
+    fn drop(self) {
+        let History {
+            base: _,
+            records: _,
+            cut: _,
+            complete: _,
+            tokens: _,
+            token: _,
+        } = self;
+    }
 }
 
 impl<N: NodeName> Model for History<N> {

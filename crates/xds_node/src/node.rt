@@ -21,11 +21,21 @@ use xds_resource::Refusal;
 use xds_tokens::{NodeName, Opened, Tokens};
 
 /// A replica that threads share: one lock round its state and its journal.
-#[derive(Drop)]
 pub struct Node<N: NodeName> {
     desk: Mutex<Desk<N>>,
     tokens: Tokens<Line, N>,
     lanes: Lanes,
+}
+
+// Written out: docs/PROVING.md, "Drops".
+impl<N: NodeName> Drop for Node<N> {
+    fn drop(self) {
+        let Node {
+            desk: _,
+            tokens: _,
+            lanes: _,
+        } = self;
+    }
 }
 
 impl<N: NodeName> Node<N> {

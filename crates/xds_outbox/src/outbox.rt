@@ -20,13 +20,23 @@ pub const MAX_WRITES: usize = 512;
 pub const MAX_BYTES: usize = 8_388_608;
 
 /// A batch that waits to be sent in parts, each of which fits a frame.
-#[derive(Drop)]
 pub struct Outbox {
     // All writes of the batch, by type in the table's order.
     writes: Vec<AnyWrite>,
     // How many of them were given.
     given: usize,
     alloc: Global,
+}
+
+// Written out: docs/PROVING.md, "Drops".
+impl Drop for Outbox {
+    fn drop(self) {
+        let Outbox {
+            writes: _,
+            given: _,
+            alloc: _,
+        } = self;
+    }
 }
 
 impl Model for Outbox {

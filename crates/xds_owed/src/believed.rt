@@ -14,9 +14,15 @@ use std::marker::Model;
 use xds_resource::Refusal;
 
 /// What is believed of some names. Contracts see the finite map from the bytes of the names.
-#[derive(Drop)]
 pub struct Beliefs {
     by_name: BTreeMap<String, Entry>,
+}
+
+// Written out: docs/PROVING.md, "Drops".
+impl Drop for Beliefs {
+    fn drop(self) {
+        let Beliefs { by_name: _ } = self;
+    }
 }
 
 impl Model for Beliefs {

@@ -8,7 +8,7 @@ use std::alloc::Global;
 use xds_resource::Refusal;
 
 /// What a client is believed to hold of a name. A name without an entry isn't held.
-#[derive(Debug, Drop)]
+#[derive(Debug)]
 pub enum Entry {
     /// This version.
     Told(Version),
@@ -16,13 +16,33 @@ pub enum Entry {
     Unsure,
 }
 
+// Written out: docs/PROVING.md, "Drops".
+impl Drop for Entry {
+    fn drop(self) {
+        match self {
+            Entry::Told(_) => {}
+            Entry::Unsure => {}
+        }
+    }
+}
+
 /// What a response says of a name.
-#[derive(Debug, Drop)]
+#[derive(Debug)]
 pub enum Due {
     /// The resource is stated, at this version.
     Stated(Version),
     /// The resource is gone.
     Removed,
+}
+
+// Written out: docs/PROVING.md, "Drops".
+impl Drop for Due {
+    fn drop(self) {
+        match self {
+            Due::Stated(_) => {}
+            Due::Removed => {}
+        }
+    }
 }
 
 impl Entry {

@@ -18,11 +18,17 @@ use xds_interest::Interest;
 use xds_resource::{NameMap, Refusal, ResourceType};
 
 /// Names of which something may be owed, and the count of changes up to which a catalogue was looked at.
-#[derive(Drop)]
 pub struct Listed {
     mark: u64,
     // Each with the number of the change by which it came in, or 0.
     names: NameMap<u64>,
+}
+
+// Written out: docs/PROVING.md, "Drops".
+impl Drop for Listed {
+    fn drop(self) {
+        let Listed { mark: _, names: _ } = self;
+    }
 }
 
 impl Model for Listed {

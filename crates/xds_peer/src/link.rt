@@ -48,12 +48,23 @@ impl Step {
 }
 
 /// A stream from a client to a replica, with what is under way on it each way, the oldest first.
-#[derive(Drop)]
 pub struct Link {
     replica: u16,
     stream: u64,
     up: VecDeque<Request>,
     down: VecDeque<Draft>,
+}
+
+// Written out: docs/PROVING.md, "Drops".
+impl Drop for Link {
+    fn drop(self) {
+        let Link {
+            replica: _,
+            stream: _,
+            up: _,
+            down: _,
+        } = self;
+    }
 }
 
 impl Model for Link {

@@ -59,7 +59,7 @@ impl StreamVariant {
 }
 
 /// What `xds client` is asked for.
-#[derive(Debug, Drop)]
+#[derive(Debug)]
 pub struct ClientTask {
     /// Where a replica serves streams.
     pub addr: SocketAddrV4,
@@ -73,6 +73,20 @@ pub struct ClientTask {
     pub cluster: String,
     /// The names of the resources that it wants, in the order of the words.
     pub names: Vec<String>,
+}
+
+// Written out: docs/PROVING.md, "Drops".
+impl Drop for ClientTask {
+    fn drop(self) {
+        let ClientTask {
+            addr: _,
+            variant: _,
+            kind: _,
+            responses: _,
+            cluster: _,
+            names: _,
+        } = self;
+    }
 }
 
 impl Model for ClientTask {

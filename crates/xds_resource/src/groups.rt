@@ -18,10 +18,16 @@ pub const MAX_GROUPS: usize = 64;
 pub const MAX_GROUP: usize = 1024;
 
 /// A set of groups, in ascending byte order. Its copies share it, and an empty one takes no memory.
-#[derive(Drop)]
 pub struct Groups {
     // None where there is no group.
     list: Option<ArcSlice<String, Global>>,
+}
+
+// Written out: docs/PROVING.md, "Drops".
+impl Drop for Groups {
+    fn drop(self) {
+        let Groups { list: _ } = self;
+    }
 }
 
 impl Model for Groups {

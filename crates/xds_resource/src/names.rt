@@ -11,9 +11,15 @@ use std::collections::btree_map::Iter;
 use std::marker::Model;
 
 /// Values by name. Contracts see the finite map from the bytes of the names.
-#[derive(Drop)]
 pub struct NameMap<V> {
     by_name: BTreeMap<String, V>,
+}
+
+// Written out: docs/PROVING.md, "Drops".
+impl<V: Drop> Drop for NameMap<V> {
+    fn drop(self) {
+        let NameMap { by_name: _ } = self;
+    }
 }
 
 impl<V> Model for NameMap<V> {

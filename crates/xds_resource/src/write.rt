@@ -19,7 +19,6 @@ use std::marker::{Model, PhantomData};
 use std::sync::ArcStr;
 
 /// A stamped write of a resource, or of its deletion.
-#[derive(Drop)]
 pub struct Write<T: ResourceType> {
     stamp: Stamp,
     name: ArcStr<Global>,
@@ -27,6 +26,19 @@ pub struct Write<T: ResourceType> {
     body: Option<ArcStr<Global>>,
     groups: Groups,
     kind: PhantomData<T>,
+}
+
+// Written out: docs/PROVING.md, "Drops".
+impl<T: ResourceType> Drop for Write<T> {
+    fn drop(self) {
+        let Write {
+            stamp: _,
+            name: _,
+            body: _,
+            groups: _,
+            kind: _,
+        } = self;
+    }
 }
 
 impl<T: ResourceType> Model for Write<T> {

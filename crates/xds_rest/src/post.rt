@@ -69,12 +69,7 @@ fn poll_in(alloc: Global, kind: TypeName, body: &[u8]) -> Result<Event, Refusal>
     if !is_own(kind, request.type_url.as_str()) {
         return Err(Refusal::BadMessage);
     }
-    let DiscoveryRequest {
-        version_info,
-        node,
-        resource_names,
-        ..
-    } = request;
+    let (version_info, resource_names, node) = request.into_poll();
     let cluster = cluster_of(alloc, node);
     Ok(Event::Rest(kind, resource_names, version_info, cluster))
 }

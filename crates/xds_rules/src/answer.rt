@@ -17,7 +17,6 @@ use xds_owed::VariantName;
 use xds_resource::{Refusal, TypeName};
 
 /// A response of either variant. Its resources are of its type.
-#[derive(Drop)]
 pub struct Answer {
     variant: VariantName,
     kind: TypeName,
@@ -25,6 +24,20 @@ pub struct Answer {
     nonce: String,
     statements: Vec<Statement>,
     removed: Vec<String>,
+}
+
+// Written out: docs/PROVING.md, "Drops".
+impl Drop for Answer {
+    fn drop(self) {
+        let Answer {
+            variant: _,
+            kind: _,
+            version: _,
+            nonce: _,
+            statements: _,
+            removed: _,
+        } = self;
+    }
 }
 
 impl Model for Answer {

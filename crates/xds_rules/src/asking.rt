@@ -10,10 +10,19 @@ use xds_owed::VariantName;
 use xds_resource::Refusal;
 
 /// A request of either variant.
-#[derive(Drop)]
 pub enum Asking {
     Sotw(DiscoveryRequest),
     Delta(DeltaDiscoveryRequest),
+}
+
+// Written out: docs/PROVING.md, "Drops".
+impl Drop for Asking {
+    fn drop(self) {
+        match self {
+            Asking::Sotw(_) => {}
+            Asking::Delta(_) => {}
+        }
+    }
 }
 
 // The cluster text of a node, if there is one.

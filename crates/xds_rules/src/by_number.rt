@@ -10,9 +10,15 @@ use std::marker::Model;
 use xds_resource::Refusal;
 
 /// Values by number. Contracts see the finite map.
-#[derive(Drop)]
 pub(crate) struct ByNumber<V> {
     values: BTreeMap<u64, V>,
+}
+
+// Written out: docs/PROVING.md, "Drops".
+impl<V: Drop> Drop for ByNumber<V> {
+    fn drop(self) {
+        let ByNumber { values: _ } = self;
+    }
 }
 
 impl<V> Model for ByNumber<V> {

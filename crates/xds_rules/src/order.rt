@@ -10,10 +10,16 @@ use std::marker::Model;
 use xds_resource::Refusal;
 
 /// What the lines so far say of streams: whether each is open, and whether it is one of delta.
-#[derive(Drop)]
 pub(crate) struct Order {
     open: ByNumber<bool>,
     delta: ByNumber<bool>,
+}
+
+// Written out: docs/PROVING.md, "Drops".
+impl Drop for Order {
+    fn drop(self) {
+        let Order { open: _, delta: _ } = self;
+    }
 }
 
 impl Model for Order {

@@ -20,10 +20,19 @@ use xds_resource::laws::resources_are_canonical;
 use xds_resource::{AnyResource, Refusal, Resource, TypeName};
 
 /// The name and the version that stand beside a resource in a delta response.
-#[derive(Drop)]
 pub struct Label {
     name: String,
     version: String,
+}
+
+// Written out: docs/PROVING.md, "Drops".
+impl Drop for Label {
+    fn drop(self) {
+        let Label {
+            name: _,
+            version: _,
+        } = self;
+    }
 }
 
 impl Model for Label {
@@ -50,11 +59,21 @@ impl Label {
 }
 
 /// A resource of a response: its name and the compact text of its object, and in delta its label.
-#[derive(Drop)]
 pub struct Statement {
     name: String,
     body: String,
     label: Option<Label>,
+}
+
+// Written out: docs/PROVING.md, "Drops".
+impl Drop for Statement {
+    fn drop(self) {
+        let Statement {
+            name: _,
+            body: _,
+            label: _,
+        } = self;
+    }
 }
 
 impl Model for Statement {

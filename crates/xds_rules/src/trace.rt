@@ -21,9 +21,15 @@ pub struct TraceFault {
 }
 
 /// What one replica did, line by line. Contracts see the list of the lines.
-#[derive(Drop)]
 pub struct Trace {
     lines: Vec<Line>,
+}
+
+// Written out: docs/PROVING.md, "Drops".
+impl Drop for Trace {
+    fn drop(self) {
+        let Trace { lines: _ } = self;
+    }
 }
 
 impl Model for Trace {

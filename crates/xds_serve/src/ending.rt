@@ -14,11 +14,17 @@ pub enum End {
 }
 
 // What is known of the end.
-#[derive(Drop)]
 struct State {
     // How many streams are still to end, where that was said.
     left: Option<u16>,
     end: Option<End>,
+}
+
+// Written out: docs/PROVING.md, "Drops".
+impl Drop for State {
+    fn drop(self) {
+        let State { left: _, end: _ } = self;
+    }
 }
 
 impl State {
@@ -52,10 +58,16 @@ impl State {
 }
 
 /// What threads tell of the end of a server.
-#[derive(Drop)]
 pub struct Ending {
     state: Mutex<State>,
     told: Condvar,
+}
+
+// Written out: docs/PROVING.md, "Drops".
+impl Drop for Ending {
+    fn drop(self) {
+        let Ending { state: _, told: _ } = self;
+    }
 }
 
 impl Ending {

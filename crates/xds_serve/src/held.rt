@@ -9,10 +9,16 @@ use xds_resource::Refusal;
 use xds_script::lines::split_line;
 
 /// What has come of the input's last line.
-#[derive(Drop)]
 pub struct Held {
     pub bytes: Vec<u8>,
     ghost one: { pieces feed bytes.items ≡ bytes.items ∷ [] },
+}
+
+// Written out: docs/PROVING.md, "Drops".
+impl Drop for Held {
+    fn drop(self) {
+        let Held { bytes: _ } = self;
+    }
 }
 
 /// What a piece of the input brings.

@@ -8,10 +8,19 @@ use std::sync::ArcStr;
 use xds_resource::Refusal;
 
 /// The resource that a client holds of a name. Its texts are shared by all copies.
-#[derive(Drop)]
 pub struct Holding {
     version: ArcStr<Global>,
     body: ArcStr<Global>,
+}
+
+// Written out: docs/PROVING.md, "Drops".
+impl Drop for Holding {
+    fn drop(self) {
+        let Holding {
+            version: _,
+            body: _,
+        } = self;
+    }
 }
 
 impl Model for Holding {

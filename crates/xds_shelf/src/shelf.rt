@@ -14,7 +14,6 @@ use std::marker::Model;
 use xds_resource::{NameMap, Refusal, TypeName};
 
 /// What a client wants of a type, what it holds, and how far its stream is.
-#[derive(Drop)]
 pub struct Shelf {
     pub wants: Wants,
     pub cache: NameMap<Holding>,
@@ -24,6 +23,19 @@ pub struct Shelf {
     pub accepted: String,
     /// Whether the type was asked for on this stream.
     pub asked: bool,
+}
+
+// Written out: docs/PROVING.md, "Drops".
+impl Drop for Shelf {
+    fn drop(self) {
+        let Shelf {
+            wants: _,
+            cache: _,
+            nonce: _,
+            accepted: _,
+            asked: _,
+        } = self;
+    }
 }
 
 impl Model for Shelf {

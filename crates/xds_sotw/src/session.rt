@@ -23,10 +23,19 @@ use xds_message::DiscoveryRequest;
 use xds_resource::{NameMap, Refusal, ResourceType};
 
 /// One type on one stream, in the state-of-the-world variant.
-#[derive(Drop)]
 pub struct Session<T: ResourceType> {
     names: SotwNames<T>,
     ledger: Ledger<T, StateOfTheWorld>,
+}
+
+// Written out: docs/PROVING.md, "Drops".
+impl<T: ResourceType> Drop for Session<T> {
+    fn drop(self) {
+        let Session {
+            names: _,
+            ledger: _,
+        } = self;
+    }
 }
 
 impl<T: ResourceType> Model for Session<T> {

@@ -44,7 +44,8 @@ impl Pending {
             route,
             secret,
         } = held;
-        let cluster = match cluster.start_join(batch.cluster) {
+        let (clusters, endpoints, listeners, routes, secrets) = batch.into_lists();
+        let cluster = match cluster.start_join(clusters) {
             Ok(pending) => pending,
             Err(cluster) => {
                 return Err(Catalogues {
@@ -56,7 +57,7 @@ impl Pending {
                 });
             }
         };
-        let endpoint = match endpoint.start_join(batch.endpoint) {
+        let endpoint = match endpoint.start_join(endpoints) {
             Ok(pending) => pending,
             Err(endpoint) => {
                 return Err(Catalogues {
@@ -68,7 +69,7 @@ impl Pending {
                 });
             }
         };
-        let listener = match listener.start_join(batch.listener) {
+        let listener = match listener.start_join(listeners) {
             Ok(pending) => pending,
             Err(listener) => {
                 return Err(Catalogues {
@@ -80,7 +81,7 @@ impl Pending {
                 });
             }
         };
-        let route = match route.start_join(batch.route) {
+        let route = match route.start_join(routes) {
             Ok(pending) => pending,
             Err(route) => {
                 return Err(Catalogues {
@@ -92,7 +93,7 @@ impl Pending {
                 });
             }
         };
-        match secret.start_join(batch.secret) {
+        match secret.start_join(secrets) {
             Ok(secret) => Ok(Pending {
                 cluster,
                 endpoint,

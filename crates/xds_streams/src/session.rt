@@ -21,16 +21,31 @@ use xds_interest::ClusterText;
 use xds_ledger::{Due, Nonces, Outcome, VariantName};
 use xds_resource::{NameMap, Refusal, ResourceType};
 
-#[derive(Drop)]
 enum Side<T: ResourceType> {
     Sotw(xds_sotw::Session<T>),
     Delta(xds_delta::Session<T>),
 }
 
+// Written out: docs/PROVING.md, "Drops".
+impl<T: ResourceType> Drop for Side<T> {
+    fn drop(self) {
+        match self {
+            Side::Sotw(_) => {}
+            Side::Delta(_) => {}
+        }
+    }
+}
+
 /// A session of one type, of either variant. Contracts see its variant beside the session.
-#[derive(Drop)]
 pub(crate) struct Session<T: ResourceType> {
     side: Side<T>,
+}
+
+// Written out: docs/PROVING.md, "Drops".
+impl<T: ResourceType> Drop for Session<T> {
+    fn drop(self) {
+        let Session { side: _ } = self;
+    }
 }
 
 impl<T: ResourceType> Model for Session<T> {

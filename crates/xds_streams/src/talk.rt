@@ -23,7 +23,6 @@ use xds_store::Catalogues;
 use xds_store::parts::five;
 
 /// A variant, the numbers of the responses, and a session of each type, all of the variant.
-#[derive(Drop)]
 pub(crate) struct Talk {
     variant: VariantName,
     nonces: Nonces,
@@ -32,6 +31,21 @@ pub(crate) struct Talk {
     listener: Session<Listener>,
     route: Session<Route>,
     secret: Session<Secret>,
+}
+
+// Written out: docs/PROVING.md, "Drops".
+impl Drop for Talk {
+    fn drop(self) {
+        let Talk {
+            variant: _,
+            nonces: _,
+            cluster: _,
+            endpoint: _,
+            listener: _,
+            route: _,
+            secret: _,
+        } = self;
+    }
 }
 
 impl Model for Talk {

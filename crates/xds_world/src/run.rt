@@ -15,10 +15,19 @@ use xds_peer::Step;
 use xds_resource::{Refusal, TypeName};
 
 /// What a world is at a time, with all that happened in it until then.
-#[derive(Drop)]
 pub(crate) struct Run<A: Accept> {
     pub(crate) state: State<A>,
     pub(crate) events: Vec<WorldEvent>,
+}
+
+// Written out: docs/PROVING.md, "Drops".
+impl<A: Accept> Drop for Run<A> {
+    fn drop(self) {
+        let Run {
+            state: _,
+            events: _,
+        } = self;
+    }
 }
 
 impl<A: Accept> Run<A> {

@@ -32,11 +32,21 @@ use xds_resource::{AnyResource, Groups, Refusal, TypeName};
 use xds_writes::Batch;
 
 /// Replicas, clients, and the batches that were taken.
-#[derive(Drop)]
 pub(crate) struct State<A: Accept> {
     sites: Numbered<Site>,
     peers: Numbered<Peer<A>>,
     pool: Vec<(u16, Batch)>,
+}
+
+// Written out: docs/PROVING.md, "Drops".
+impl<A: Accept> Drop for State<A> {
+    fn drop(self) {
+        let State {
+            sites: _,
+            peers: _,
+            pool: _,
+        } = self;
+    }
 }
 
 impl<A: Accept> Model for State<A> {
@@ -273,8 +283,9 @@ impl<A: Accept> State<A> {
         ensures ok { IfOk result (λ o. Gave events.Rested self.old o self.new (at_site self.old replica (poll_event kind request))) }
         ensures refused { IfErr result (λ e. e ≡ OutOfMemory) }
     {
-        let cluster = cluster_of(alloc, request.node);
-        let event = Event::Rest(kind, request.resource_names, request.version_info, cluster);
+        let (version, names, node) = request.into_poll();
+        let cluster = cluster_of(alloc, node);
+        let event = Event::Rest(kind, names, version, cluster);
         let reply = self.at_site(alloc, replica, event)?;
         Ok(rested_in(reply))
     }

@@ -23,13 +23,25 @@ use xds_resource::{
 };
 
 /// Writes of all types. Those of a type have an order; writes of different types don't meet.
-#[derive(Drop)]
 pub struct Batch {
     pub cluster: Vec<Write<Cluster>>,
     pub endpoint: Vec<Write<Endpoint>>,
     pub listener: Vec<Write<Listener>>,
     pub route: Vec<Write<Route>>,
     pub secret: Vec<Write<Secret>>,
+}
+
+// Written out: docs/PROVING.md, "Drops".
+impl Drop for Batch {
+    fn drop(self) {
+        let Batch {
+            cluster: _,
+            endpoint: _,
+            listener: _,
+            route: _,
+            secret: _,
+        } = self;
+    }
 }
 
 impl Model for Batch {
@@ -57,6 +69,32 @@ impl Batch {
             route: Vec::new(alloc),
             secret: Vec::new(alloc),
         }
+    }
+
+    /// Its writes of each type, in the table's order.
+    pub fn into_lists(
+        self,
+    ) -> (
+        Vec<Write<Cluster>>,
+        Vec<Write<Endpoint>>,
+        Vec<Write<Listener>>,
+        Vec<Write<Route>>,
+        Vec<Write<Secret>>,
+    )
+        ensures clusters { result.0.items ≡ self.cluster }
+        ensures endpoints { result.1.items ≡ self.endpoint }
+        ensures listeners { result.2.items ≡ self.listener }
+        ensures routes { result.3.items ≡ self.route }
+        ensures secrets { result.4.items ≡ self.secret }
+    {
+        let Batch {
+            cluster,
+            endpoint,
+            listener,
+            route,
+            secret,
+        } = self;
+        (cluster, endpoint, listener, route, secret)
     }
 
     /// The batch that the bytes spell: one JSON object, whose list `writes` holds the writes, none where it is absent or

@@ -42,9 +42,15 @@ pub fn read_write(alloc: Global, bytes: &[u8]) -> Result<AnyWrite, Refusal>
 }
 
 /// Reads writes one after another. The memory that reading takes is kept from one to the next.
-#[derive(Drop)]
 pub struct WriteReader {
     scratch: Scratch,
+}
+
+// Written out: docs/PROVING.md, "Drops".
+impl Drop for WriteReader {
+    fn drop(self) {
+        let WriteReader { scratch: _ } = self;
+    }
 }
 
 impl WriteReader {

@@ -5,22 +5,16 @@ use Rattle.std.specs.FinMap as finmap
 use Rattle.xds_resource.specs.Names.{pairs}
 use Rattle.xds_owed.proofs.Replacing.{replaced_found, replaced_absent}
 use Rattle.xds_owed.proofs.believed.Beliefs.replace.Goals as goal
-use Rattle.xds_owed.proofs.believed.Beliefs.replace.Goals.{in-Some+in-Told-1, in-Some+in-Unsure-1, in_default+in-Told-1, in_default+in-Unsure-1}
+use Rattle.xds_owed.proofs.believed.Beliefs.replace.Goals.{in-Some, in_default}
 
 pub returns : goal.returns
 returns c =
     let m = c.self.inside.by_name in
     elim c.match-get_mut.branch [
-      | in-Some+in-Told-1 w ↦
+      | in-Some w ↦
           let found = ap is_some (sym c.get_mut.ensures.value ∙ ap option_copied_mut w.in-Some.is) in
           ap (λ b. finmap.from_entries (pairs b.by_name.entries)) w.self-inside-is ∙ replaced_found m (c.get_mut.follows.lender c.args.entry) c.args.self.now c.args.name.now c.args.entry c.self.view_is found ((c.get_mut.follows.holds c.args.entry).3 found)
-      | in-Some+in-Unsure-1 w ↦
-          let found = ap is_some (sym c.get_mut.ensures.value ∙ ap option_copied_mut w.in-Some.is) in
-          ap (λ b. finmap.from_entries (pairs b.by_name.entries)) w.self-inside-is ∙ replaced_found m (c.get_mut.follows.lender c.args.entry) c.args.self.now c.args.name.now c.args.entry c.self.view_is found ((c.get_mut.follows.holds c.args.entry).3 found)
-      | in_default+in-Told-1 w ↦
-          let absent = ap is_some (sym c.get_mut.ensures.value ∙ ap option_copied_mut w.in_default.is) in
-          ap (λ b. finmap.from_entries (pairs b.by_name.entries)) w.self-inside-is ∙ replaced_absent m c.get_mut.follows.lender-at-none c.args.self.now c.args.name.now c.args.entry c.self.view_is absent c.get_mut.follows.holds-at-none
-      | in_default+in-Unsure-1 w ↦
+      | in_default w ↦
           let absent = ap is_some (sym c.get_mut.ensures.value ∙ ap option_copied_mut w.in_default.is) in
           ap (λ b. finmap.from_entries (pairs b.by_name.entries)) w.self-inside-is ∙ replaced_absent m c.get_mut.follows.lender-at-none c.args.self.now c.args.name.now c.args.entry c.self.view_is absent c.get_mut.follows.holds-at-none
     ]
