@@ -8,8 +8,9 @@ use Rattle.xds_rules.specs.declared.line.Line.{Line}
 use Rattle.xds_rules.specs.declared.line.Line.TheVariants as lines
 use Rattle.xds_rules.specs.declared.rule.Rule.{Rule}
 use Rattle.xds_rules.specs.Rules.{KeepsRules, AllKeep}
+use Rattle.xds_rules.proofs.OneVerdict.{none_has_no_first, one_is_first}
 use Rattle.xds_check.specs.declared.checking.Broken.{Broken}
-use Rattle.xds_check.specs.Verdicts.{speaks_of, AllKeepOf, FirstOf, Found, found_of, earlier_of, TellsFirst, IsVerdict}
+use Rattle.xds_check.specs.Verdicts.{speaks_of, AllKeepOf, FirstOf, Found, found_of, earlier_of, TellsFirst, IsVerdict, TellsWell, TellsTheFirst}
 use Rattle.xds_check.proofs.Passing.{this_type}
 
 -- ---- of both
@@ -149,3 +150,13 @@ verdict trace c e l r s b tc te tl tr ts is =
     (told_both (either (either (this_type Cluster) (this_type Endpoint)) (this_type Listener)) (either (this_type Route) (this_type Secret)) trace (earlier_of (earlier_of (found_of c) (found_of e)) (found_of l)) (earlier_of (found_of r) (found_of s))
     (told_both (either (this_type Cluster) (this_type Endpoint)) (this_type Listener) trace (earlier_of (found_of c) (found_of e)) (found_of l) (told_both (this_type Cluster) (this_type Endpoint) trace (found_of c) (found_of e) tc te) tl)
     (told_both (this_type Route) (this_type Secret) trace (found_of r) (found_of s) tr ts)))
+
+-- ---- the verdict is the only one
+
+pub well_told : (trace : List Line) (told : Option Broken) → IsVerdict trace told → TellsWell trace told
+well_told trace None h = λ kept. refl
+well_told trace (Some b) h = λ kept. absurd (none_has_no_first trace b.line b.rule kept h)
+
+pub first_told : (trace : List Line) (told : Option Broken) → IsVerdict trace told → TellsTheFirst trace told
+first_told trace None h = λ number rule first. absurd (none_has_no_first trace number rule h first)
+first_told trace (Some b) h = λ number rule first. let both = one_is_first trace b.line number b.rule rule h first in (λ i. Some (both.0 i, both.1 i))

@@ -57,3 +57,11 @@ TellsFirst ts trace (Some f) = FirstOf ts trace f.0 f.1
 abbrev pub IsVerdict : List Line → Option Broken → Type 0
 IsVerdict trace None = NoneBroken trace
 IsVerdict trace (Some b) = FirstBroken trace b.line b.rule
+
+-- A trace that keeps the rules is told to do so,
+abbrev pub TellsWell : List Line → Option Broken → Type 0
+TellsWell trace told = NoneBroken trace → told ≡ None
+
+-- and of one that doesn't the first broken line is told, with the least rule there.
+abbrev pub TellsTheFirst : List Line → Option Broken → Type 0
+TellsTheFirst trace told = (number : ℕ) (rule : Rule) → FirstBroken trace number rule → found_of told ≡ Some (number, rule)

@@ -8,7 +8,7 @@ ghost use Rattle.xds_catalogue.specs.Holdings.{nothing_held};
 ghost use Rattle.xds_catalogue.specs.Joins.{joined};
 ghost use Rattle.xds_check.specs.Kept.{unheard, talk_at, least, none_missed, broken_in, held_after, IsHeard, asked, told};
 ghost use Rattle.xds_check.specs.LiveNames.{AreLive, no_names};
-ghost use Rattle.xds_check.specs.Verdicts.{TellsFirst, found_of, earlier_of, IsVerdict};
+ghost use Rattle.xds_check.specs.Verdicts.{TellsFirst, found_of, earlier_of, IsVerdict, TellsWell, TellsTheFirst};
 
 use crate::by_stream::ByStream;
 use crate::by_type::ByType;
@@ -374,6 +374,8 @@ fn earliest(
 /// Refused only by `OutOfMemory`.
 pub fn check(alloc: Global, lines: &[Line]) -> Result<Option<Broken>, Refusal>
     ensures ok { IfOk result (IsVerdict lines.now) }
+    ensures well { IfOk result (TellsWell lines.now) }
+    ensures first { IfOk result (TellsTheFirst lines.now) }
     ensures refused { IfErr result (λ e. e ≡ OutOfMemory) }
 {
     let clusters = first_broken::<Cluster>(alloc, lines)?;

@@ -1,28 +1,67 @@
--- How a poll ends, by what it writes and its status, and which variant a client asks in. This project's own.
-use Rattle.std.specs.Prelude.{◌≡◌, ◌⊎◌, ℕ, List}
+-- How the commands that ask a server end, by what they write and their status: `xds poll`, with the post that goes out and the reply that
+-- is shown, and `xds client`, with the subscription that its task asks for. This project's own.
+use Rattle.std.specs.Prelude.{◌≡◌, ◌⊎◌, ℕ, List, Result, Ok, Err, ⊤}
+use Rattle.http.specs.declared.request.Request.{Request}
+use Rattle.http_body_util.specs.declared.full.Full.{Full}
 use Rattle.xds_frames.specs.Devices.{Device, Stays, Tells}
 use Rattle.xds_resource.specs.declared.refusal.Refusal.{Refusal}
-use Rattle.xds_http.specs.Questions.{shown}
-use Rattle.xds_http.specs.Sent.{TellsNothing}
+use Rattle.xds_resource.specs.declared.refusal.Refusal.TheVariants.{OutOfMemory}
+use Rattle.xds_http.specs.declared.told.Told.{Told}
+use Rattle.xds_http.specs.Questions.{Question, shown}
+use Rattle.xds_http.specs.Sent.{IsPolled}
 use Rattle.xds_client.specs.declared.subscription.StreamVariant as streams
 use Rattle.xds_client.specs.declared.subscription.StreamVariant.TheVariants as variants
+use Rattle.xds_client.specs.declared.subscription.Subscription.{Subscription}
+use Rattle.xds_client.specs.Running.{RunsAt}
+use Rattle.xds_client.specs.Subscribing.{names_of}
 use Rattle.xds_program.specs.declared.tasks.StreamVariant.{StreamVariant}
 use Rattle.xds_program.specs.declared.tasks.StreamVariant.TheVariants.{Sotw, Delta}
 use Rattle.xds_program.specs.Outcomes.{Prints, refusal_line}
+use Rattle.xds_program.specs.Tasks.{Look, Watch}
 
--- a reply is shown: its status in a line, and its body in the next, where it has one
-abbrev pub ShowsReply : ℕ → Device → Device → Type 0
-ShowsReply status output errors = (code : ℕ) × (body : List ℕ) × Prints (shown code body) 0 status output errors
+-- a refusal is told, and nothing is shown
+abbrev pub TellsRefusal : Refusal → ℕ → Device → Device → Type 0
+TellsRefusal refusal status output errors = Stays output × Tells errors (refusal_line refusal) × (status ≡ 1)
 
--- no reply came, or there was no memory: the refusal says which, and nothing is shown
-abbrev pub HasNoReply : ℕ → Device → Device → Type 0
-HasNoReply status output errors = (refusal : Refusal) × TellsNothing refusal × Stays output × Tells errors (refusal_line refusal) × (status ≡ 1)
+-- A reply is shown: its status in a line, and its body in the next, where it has one; or there is no memory for that text, which is
+-- told. Where no reply came, it is told why.
+abbrev pub ShowsReply : Result Told Refusal → ℕ → Device → Device → Type 0
+ShowsReply (Ok told) status output errors =
+    Prints (shown told.status told.body) 0 status output errors ⊎ TellsRefusal OutOfMemory status output errors
+ShowsReply (Err e) status output errors = TellsRefusal e status output errors
 
--- `xds poll`
-abbrev pub EndsPoll : ℕ → Device → Device → Type 0
-EndsPoll status output errors = ShowsReply status output errors ⊎ HasNoReply status output errors
+-- what a poll's task asks a server
+abbrev pub question_of : Look → Question
+question_of look = record { kind = look.kind; names = look.names; version = look.version; cluster = look.cluster }
+
+-- `xds poll`, by what posts its request: the post of its question goes out, and what that tells is shown
+abbrev pub EndsPollBy : (Request (Full (List ℕ)) → Result Told Refusal → Type 0) → Look → ℕ → Device → Device → Type 0
+EndsPollBy tells look status output errors =
+    (r : Result Told Refusal) × IsPolled tells (question_of look) r × ShowsReply r status output errors
+
+-- `xds poll` over a connection, of which nothing is known but what it told
+abbrev pub EndsPoll : Look → ℕ → Device → Device → Type 0
+EndsPoll look status output errors = EndsPollBy (λ _ _. ⊤) look status output errors
 
 -- the variant of a client's stream
 abbrev pub variant_of : StreamVariant → streams.StreamVariant
 variant_of Sotw = variants.Sotw
 variant_of Delta = variants.Delta
+
+-- the subscription is the one that a client's task asks for
+pub record IsOf (task : Watch) (s : Subscription) : Type 0 where
+  pub variant : s.variant ≡ variant_of task.variant
+  pub kind : s.kind ≡ task.kind
+  pub cluster : s.cluster.now ≡ task.cluster
+  pub names : names_of s ≡ task.names
+  pub responses : s.responses ≡ task.responses
+
+-- the status of a client that ended so, and what is told of that: its refusal, or that there was no memory to say it
+abbrev pub HasEnded : {T : Type 0} → Result T Refusal → ℕ → Device → Type 0
+HasEnded (Ok x) status errors = (status ≡ 0) × Stays errors
+HasEnded (Err e) status errors = (status ≡ 1) × (Tells errors (refusal_line e) ⊎ Tells errors (refusal_line OutOfMemory))
+
+-- `xds client`: the client of its task ran over a connection, and its end is told
+abbrev pub EndsClient : Watch → ℕ → Device → Device → Type 0
+EndsClient task status output errors =
+    (s : Subscription) × (r : Result (Unit {0}) Refusal) × IsOf task s × RunsAt s r output × HasEnded r status errors

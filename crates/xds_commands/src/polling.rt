@@ -1,6 +1,8 @@
 // `xds poll`: one poll of a server, and what is shown of its reply.
+ghost use Rattle.std.specs.Prelude.{◌≡◌, IfErr, Ok};
 ghost use Rattle.xds_frames.specs.Devices.{seen};
-ghost use Rattle.xds_commands.specs.Ends.{EndsPoll};
+ghost use Rattle.xds_http.specs.Sent.{TellsNothing};
+ghost use Rattle.xds_commands.specs.Ends.{EndsPoll, EndsPollBy, ShowsReply, question_of};
 
 use std::alloc::{AllocGlobal, Global};
 use std::io::Write;
@@ -9,9 +11,10 @@ use std::random::RandomSource;
 use std::sync::Wait;
 use std::time::Clock;
 use xds_frames::Counted;
-use xds_http::{Question, Told, poll};
+use xds_http::{Connects, Posts, Question, Told, poll_by};
 use xds_program::PollTask;
 use xds_program::run::{DONE, print, tell};
+use xds_resource::Refusal;
 
 /// Polls once over a connection of its own, and shows the reply, or tells why none came. Answers the status.
 pub fn poll_once<R, O, E>(
@@ -24,35 +27,77 @@ where
     R: Wait + Clock + Net + RandomSource + AllocGlobal,
     O: Write,
     E: Write,
-    ensures { EndsPoll result (seen O.contents output.old output.new) (seen E.contents errors.old errors.new) }
+    ensures { EndsPoll task result (seen O.contents output.old output.new) (seen E.contents errors.old errors.new) }
+{
+    let posts = Connects {
+        server: SocketAddr::V4(task.addr),
+    };
+    poll_once_by(rt, &posts, task, output, errors)
+}
+
+/// The same by what posts the request: the post that goes out is that of the task's question, and what is shown is its reply.
+pub fn poll_once_by<R, P, O, E>(
+    rt: &R,
+    posts: &P,
+    task: PollTask,
+    output: &mut Counted<O>,
+    errors: &mut Counted<E>,
+) -> u8
+where
+    R: Wait + Clock + Net + RandomSource + AllocGlobal,
+    P: Posts,
+    O: Write,
+    E: Write,
+    ensures { EndsPollBy P.tells task result (seen O.contents output.old output.new) (seen E.contents errors.old errors.new) }
+{
+    let host = SocketAddr::V4(task.addr);
+    let polled = poll_by(rt, posts, host, question_of(task));
+    show(rt.alloc(), &polled, output, errors)
+}
+
+// What a task asks a server.
+fn question_of(task: PollTask) -> Question
+    ensures { result ≡ question_of task }
 {
     let PollTask {
-        addr,
+        addr: _,
         kind,
         version,
         cluster,
         names,
     } = task;
-    let question = Question {
+    Question {
         kind,
         names,
         version,
         cluster,
-    };
-    match poll(rt, SocketAddr::V4(addr), question) {
-        Ok(told) => show(rt.alloc(), &told, output, errors),
-        Err(refusal) => tell(refusal, errors),
     }
 }
 
-// Shows a reply.
+// Shows a reply, or tells why none came.
 fn show<O: Write, E: Write>(
+    alloc: Global,
+    polled: &Result<Told, Refusal>,
+    output: &mut Counted<O>,
+    errors: &mut Counted<E>,
+) -> u8
+    requires { IfErr polled.now TellsNothing }
+    ensures { ShowsReply polled.now result (seen O.contents output.old output.new) (seen E.contents errors.old errors.new) }
+{
+    match polled {
+        Ok(told) => show_reply(alloc, told, output, errors),
+        Err(refusal) => tell(*refusal, errors),
+    }
+}
+
+// Shows a reply, or tells that there was no memory for its text.
+fn show_reply<O: Write, E: Write>(
     alloc: Global,
     told: &Told,
     output: &mut Counted<O>,
     errors: &mut Counted<E>,
 ) -> u8
-    ensures { EndsPoll result (seen O.contents output.old output.new) (seen E.contents errors.old errors.new) }
+    ensures { ShowsReply (Ok told.now) result (seen O.contents output.old output.new) (seen E.contents errors.old errors.new) }
 {
     match told.text(alloc) {
         Ok(text) => print(text.as_slice(), DONE, output, errors),

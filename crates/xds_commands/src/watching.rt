@@ -1,6 +1,7 @@
 // `xds client`: a client on one stream, and how it ends.
-ghost use Rattle.std.specs.Prelude.{◌≡◌, ◌≤◌};
-ghost use Rattle.xds_commands.specs.Ends.{variant_of};
+ghost use Rattle.std.specs.Prelude.{◌≡◌};
+ghost use Rattle.xds_frames.specs.Devices.{seen};
+ghost use Rattle.xds_commands.specs.Ends.{EndsClient, variant_of};
 
 use crate::telling::tell_refusal;
 use std::alloc::AllocGlobal;
@@ -11,7 +12,7 @@ use xds_frames::Counted;
 use xds_program::run::DONE;
 use xds_program::{ClientTask, StreamVariant};
 
-/// Runs a client over a connection of its own, and answers the status.
+/// Runs the client that a task asks for over a connection of its own, and tells the refusal that it ends by. Answers the status.
 pub fn watch<R, O, E>(
     rt: &R,
     task: &ClientTask,
@@ -22,7 +23,7 @@ where
     R: Net<Stream = TcpStream> + AllocGlobal,
     O: Write,
     E: Write,
-    ensures { result ≤ 1 }
+    ensures { EndsClient task.now result (seen O.contents output.old output.new) (seen E.contents errors.old errors.new) }
 {
     let alloc = rt.alloc();
     let wish = Subscription {

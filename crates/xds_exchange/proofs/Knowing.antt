@@ -95,7 +95,7 @@ weaker : {X : Type 0} (P Q : X → Type 0) (o : Option X) → ((x : X) → P x �
 weaker P Q None to h = tt
 weaker P Q (Some x) to h = to x h
 
-above_joined : (h : Holdings) (ws : List StampedWrite) (n : Entries) → IsCatalogue h.entries → IsAbove h.entries n → IsAbove (joined h ws).entries n
+pub above_joined : (h : Holdings) (ws : List StampedWrite) (n : Entries) → IsCatalogue h.entries → IsAbove h.entries n → IsAbove (joined h ws).entries n
 above_joined h ws n named above name =
     let here = get-catalogue_of (finmap.values h.entries ++ ws) name ∙ best_of_both (finmap.values h.entries) ws name ∙ ap (λ o. greater o (best ws name)) (best-values h.entries named name) in
     weaker _ _ (finmap.get n name) (λ v yet. subst (λ o. IsSomeAnd o (λ w. write_cmp v w ≢ Greater)) (sym here) (still_there v (finmap.get h.entries name) (best ws name) yet)) (above name)

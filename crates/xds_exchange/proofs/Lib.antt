@@ -3,3 +3,4 @@ pub mod OneMerge
 pub mod Knowing
 pub mod ByParts
 pub mod Telling
+pub mod Staying

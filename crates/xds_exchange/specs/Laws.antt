@@ -4,11 +4,14 @@ use Rattle.xds_resource.specs.PerType.{PerType, each}
 use Rattle.xds_resource.specs.TypedWrites.{TypedWrite}
 use Rattle.xds_resource.specs.Writes.{StampedWrite}
 use Rattle.xds_writes.specs.Batches.{by_type}
-use Rattle.xds_store.specs.Since.{changed_since}
+use Rattle.xds_store.specs.Since.{changed_since, marks_of}
 use Rattle.xds_store.specs.Stores.{Store, grown, merged, all_entries}
+use Rattle.xds_core.specs.Events.{Event}
+use Rattle.xds_core.specs.Legal.{after}
+use Rattle.xds_core.specs.Steps.{Core}
 use Rattle.xds_outbox.specs.Parts.{parts_of}
 use Rattle.xds_exchange.specs.Merges.{merged_by, grown_by}
-use Rattle.xds_exchange.specs.Rounds.{Knows, IsKept}
+use Rattle.xds_exchange.specs.Rounds.{Knows, IsKept, AreTaken}
 
 -- The parts of some writes, merged one after another, come to one merge of them all.
 abbrev pub PartsAreOneMerge : Type 0
@@ -29,3 +32,19 @@ ZerosKnowNothing = (from to : Store) → IsKept from → Knows from (each 0) to
 -- What is known stays known, whatever is merged there.
 abbrev pub MergesKeepKnowing : Type 0
 MergesKeepKnowing = (from to : Store) (marks : PerType ℕ) (writes : PerType (List StampedWrite)) → IsKept to → Knows from marks to → Knows from marks (merged to writes)
+
+-- Whatever happens at a replica, its catalogues are kept so.
+abbrev pub EventsKeepCatalogues : Type 0
+EventsKeepCatalogues = (c : Core) (e : Event) → IsKept c.store → IsKept (after c e).store
+
+-- What is known stays known, whatever happens at the one that tells since its marks were taken: an own write, a merge, or anything else.
+abbrev pub TellersMayWrite : Type 0
+TellersMayWrite = (c : Core) (e : Event) (marks : PerType ℕ) (to : Store) → IsKept c.store → AreTaken c.store marks → Knows c.store marks to → Knows (after c e).store marks to × AreTaken (after c e).store marks
+
+-- It stays known, too, whatever happens at the one that is told.
+abbrev pub HearersMayWrite : Type 0
+HearersMayWrite = (c : Core) (e : Event) (marks : PerType ℕ) (from : Store) → IsKept c.store → Knows from marks c.store → Knows from marks (after c e).store
+
+-- The counts of changes are marks that were taken, and so are zeros.
+abbrev pub MarksAreTaken : Type 0
+MarksAreTaken = (s : Store) → AreTaken s (marks_of s) × AreTaken s (each 0)

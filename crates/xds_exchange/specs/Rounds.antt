@@ -1,5 +1,5 @@
 -- What one replica tells another since the last time, by marks. This project's own.
-use Rattle.std.specs.Prelude.{◌≡◌, ℕ, List, not}
+use Rattle.std.specs.Prelude.{◌≡◌, ◌≤◌, ℕ, List, not}
 use Rattle.std.specs.FinMap as finmap
 use Rattle.xds_resource.specs.declared.types.TypeName.{TypeName}
 use Rattle.xds_resource.specs.PerType.{PerType, at}
@@ -17,6 +17,10 @@ unchanged_after h mark = finmap.retain_keys h.entries (λ name. not (is_above h 
 -- The one replica holds, of each entry of the other whose latest change isn't above the mark of its type, a write at least as great.
 abbrev pub Knows : Store → PerType ℕ → Store → Type 0
 Knows from marks to = (t : TypeName) → IsAbove (at to t).entries (unchanged_after (at from t) (at marks t))
+
+-- Marks that were taken of a replica, or are zero: of each type it made as many changes, or more.
+abbrev pub AreTaken : Store → PerType ℕ → Type 0
+AreTaken from marks = (t : TypeName) → at marks t ≤ (at from t).changes
 
 -- the writes that are told: those above the marks, deletions included
 abbrev pub told : Store → PerType ℕ → List TypedWrite

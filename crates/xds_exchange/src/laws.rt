@@ -1,5 +1,15 @@
 // Laws of merges by parts and of rounds. Each is a function that does nothing, whose clause is the law.
-ghost use Rattle.xds_exchange.specs.Laws.{PartsAreOneMerge, ChangesAreAll, AllIsKnown, ZerosKnowNothing, MergesKeepKnowing};
+ghost use Rattle.xds_exchange.specs.Laws.{
+  PartsAreOneMerge,
+  ChangesAreAll,
+  AllIsKnown,
+  ZerosKnowNothing,
+  MergesKeepKnowing,
+  EventsKeepCatalogues,
+  TellersMayWrite,
+  HearersMayWrite,
+  MarksAreTaken,
+};
 
 /// The parts of some writes, merged one after another, come to one merge of them all.
 pub fn parts_are_one_merge()
@@ -24,4 +34,25 @@ pub fn zeros_know_nothing()
 /// What is known stays known, whatever writes are merged.
 pub fn merges_keep_knowing()
     ensures { MergesKeepKnowing }
+{}
+
+/// What every replica's catalogues are, they stay, whatever happens there.
+pub fn events_keep_catalogues()
+    ensures { EventsKeepCatalogues }
+{}
+
+/// What is known stays known, whatever happens at the replica that tells since its marks were taken: its own writes, merges
+/// of others', and all else.
+pub fn tellers_may_write()
+    ensures { TellersMayWrite }
+{}
+
+/// What is known stays known, whatever happens at the replica that is told.
+pub fn hearers_may_write()
+    ensures { HearersMayWrite }
+{}
+
+/// A replica's counts of changes are marks that were taken of it, and so are zeros.
+pub fn marks_are_taken()
+    ensures { MarksAreTaken }
 {}

@@ -5,7 +5,7 @@ ghost use Rattle.xds_store.specs.Counts.{counts_of};
 ghost use Rattle.xds_store.specs.Since.{marks_of};
 ghost use Rattle.xds_store.specs.Stores.{grown, all_entries};
 ghost use Rattle.xds_exchange.specs.Merges.{AllMerged, IsStopped};
-ghost use Rattle.xds_exchange.specs.Rounds.{Knows, told, IsKept, HasAll};
+ghost use Rattle.xds_exchange.specs.Rounds.{Knows, told, IsKept, AreTaken, HasAll};
 ghost use Rattle.xds_catalogue.specs.Holdings.{IsCatalogue, IsNumbered};
 ghost use Rattle.xds_resource.specs.declared.refusal.Refusal.TheVariants.{OutOfMemory};
 
@@ -71,6 +71,9 @@ impl Peer {
 /// Tells a replica what changed at another since the last time, part by part. Where the one knew all else, it holds
 /// afterwards what the merge of all entries of the other would have left, and knows all. On a refusal, which is that of
 /// a merge or `OutOfMemory`, the parts before it are merged, and all is told again the next time.
+///
+/// What the one knew it still knows after further events at either replica, so that the next round has its premise
+/// (`laws::tellers_may_write`, `laws::hearers_may_write`).
 pub fn round(alloc: Global, from: &Core, to: &mut Core, peer: &mut Peer) -> Result<Round, Refusal>
     ensures sent { IfOk result (λ r. r.sent ≡ length (told from.now.store peer.old)) }
     ensures merged { IfOk result
@@ -85,6 +88,7 @@ pub fn round(alloc: Global, from: &Core, to: &mut Core, peer: &mut Peer) -> Resu
         → IfOk result (λ r. r.grown ≡ grown to.old.store (all_entries from.now.store)) }
     ensures knows { Knows from.now.store peer.old to.old.store
         → Knows from.now.store peer.new to.new.store }
+    ensures taken { AreTaken from.now.store peer.new }
 {
     held_is_kept(from);
     held_is_kept(to);

@@ -1,12 +1,11 @@
 -- Lines of records are added one after another; and what comes of it where the records are those of a node.
-use Rattle.std.proofs.Common.{◌≡◌, ◌≢◌, ◌<◌, ◌⊎◌, inl, inr, ℕ, ◌+◌, List, [], ◌∷◌, ◌++◌, length, take, drop, get_or, Result, Ok, Err, refl, sym, ap, subst, ◌∙◌, append-nil, append_assoc, arith}
+use Rattle.std.proofs.Common.{◌≡◌, ◌≢◌, ◌<◌, ◌⊎◌, inl, ℕ, ◌+◌, List, [], ◌∷◌, ◌++◌, length, take, drop, get_or, Result, Ok, Err, refl, sym, ap, subst, ◌∙◌, append-nil, append_assoc, arith}
 use Rattle.std.specs.Prelude.{All, IfOk, IfErr}
 use Rattle.std.proofs.lemmas.List.{take_more, take-append-drop}
 use Rattle.std.proofs.lemmas.List.Concat.{flat_map-append}
-use Rattle.std.proofs.lemmas.List.Elements.{All-nil, All-tail, All-append, All-more}
+use Rattle.std.proofs.lemmas.List.Elements.{All-nil, All-append, All-more}
 use Rattle.xds_resource.specs.declared.refusal.Refusal.{Refusal}
 use Rattle.xds_resource.specs.declared.refusal.Refusal.TheVariants.{OutOfMemory, BadTrace, Gap}
-use Rattle.xds_resource.proofs.Refusing.{memory_or_not}
 use Rattle.xds_core.specs.Steps.{fresh}
 use Rattle.xds_core.specs.Legal.{Record, IsLegal, replayed}
 use Rattle.xds_tokens.specs.Entries.{records_of, Counted}
@@ -18,32 +17,10 @@ use Rattle.xds_rules.specs.Rules.{NoneBroken}
 use Rattle.xds_trace.specs.Claims.{IsQuiet}
 use Rattle.xds_trace.specs.Making.{own_names, lines_of, trace_of}
 use Rattle.xds_trace.specs.Telling.{IsTold, IsSoundRecord, BeginsUntold, KeepsTheRules}
-use Rattle.xds_trace.proofs.Traced.{all_last, keeps_the_rules, short_where_legal}
-use Rattle.xds_histories.specs.Joined.{pieces_records, all_records, Joins, IsUntold, TellsJoined}
+use Rattle.xds_trace.proofs.Traced.{all_last, keeps_the_rules}
+use Rattle.xds_histories.specs.Joined.{pieces_records, all_records, Joins, TellsJoined}
 
--- ---- records that can't be told, among others
-
-all_later : {X : Type 0} (P : X → Type 0) (xs ys : List X) → All P (xs ++ ys) → All P ys
-all_later P [] ys all = all
-all_later P (x ∷ xs) ys all = all_later P xs ys (All-tail P x (xs ++ ys) all)
-
-pub untold_first : (rs qs : List Record) → BeginsUntold rs → BeginsUntold (rs ++ qs)
-untold_first rs qs k = record {
-  front = k.front;
-  rest = k.rest ++ qs;
-  joined = ap (λ l. l ++ qs) k.joined ∙ append_assoc k.front k.rest qs;
-  sound = k.sound;
-  untold = k.untold;
-}
-
-pub untold_then : (rs qs : List Record) → All IsSoundRecord rs → BeginsUntold qs → BeginsUntold (rs ++ qs)
-untold_then rs qs sound k = record {
-  front = rs ++ k.front;
-  rest = k.rest;
-  joined = ap (λ l. rs ++ l) k.joined ∙ sym (append_assoc rs k.front k.rest);
-  sound = All-append IsSoundRecord rs k.front sound k.sound;
-  untold = λ all. k.untold (all_later IsTold rs k.front all);
-}
+-- ---- lines of some records, and of others
 
 trace_append : (rs qs : List Record) → trace_of (rs ++ qs) ≡ trace_of rs ++ trace_of qs
 trace_append rs qs = flat_map-append (lines_of own_names) rs qs
@@ -93,16 +70,6 @@ module _ (ps : List Piece) (i : ℕ) (p : Piece) (rs : List Record) (below : i <
   pub pieces_sound : All IsSoundRecord (pieces_records (take i ps)) → All IsSoundRecord rs → All IsSoundRecord (pieces_records (take (i + 1) ps))
   pieces_sound before now = subst (All IsSoundRecord) (sym take_piece) (All-append IsSoundRecord (pieces_records (take i ps)) rs before now)
 
-  pub pieces_untold : (e : Refusal) → All IsSoundRecord (pieces_records (take i ps)) → (e ≢ OutOfMemory → (e ≡ BadTrace) × BeginsUntold rs) → e ≢ OutOfMemory → (e ≡ BadTrace) × BeginsUntold (pieces_records ps)
-  pieces_untold e before told other =
-      let all : pieces_records (take (i + 1) ps) ++ pieces_records (drop (i + 1) ps) ≡ pieces_records ps =
-      sym (flat_map-append (λ (q : Piece). q.records) (take (i + 1) ps) (drop (i + 1) ps)) ∙ ap pieces_records (take-append-drop (i + 1) ps) in (
-        (told other).0,
-        subst BeginsUntold all
-            (untold_first (pieces_records (take (i + 1) ps)) (pieces_records (drop (i + 1) ps))
-            (subst BeginsUntold (sym take_piece) (untold_then (pieces_records (take i ps)) rs before (told other).1))),
-      )
-
 -- ---- the whole
 
 entries_records : (ps : List Piece) → records_of (pieces_entries ps) ≡ pieces_records ps
@@ -133,17 +100,6 @@ module _ (ps : List Piece) (s : Story) (rs : List Record) (whole : IsWhole s) (s
   pub keeps_all : (trace : List Line) → trace ≡ trace_of (pieces_records ps ++ rs) → All IsSoundRecord (pieces_records ps ++ rs) → pieces_entries ps ≡ s.before → NoneBroken trace
   keeps_all trace is sound all =
       keeps_plainly (pieces_records ps ++ rs) trace s.base.replica (keeps_the_rules (pieces_records ps ++ rs) trace is sound) (legal_all all)
-
-  -- and whose records can all be told
-  pub short_all : (e : Refusal) → (e ≢ OutOfMemory → (e ≡ BadTrace) × BeginsUntold (pieces_records ps ++ rs)) → pieces_entries ps ≡ s.before → e ≡ OutOfMemory
-  short_all e told all = short_where_legal (pieces_records ps ++ rs) e told s.base.replica (legal_all all)
-
-  pub told_err : (e : Refusal) → Joins ps s → (e ≢ OutOfMemory → (e ≡ BadTrace) × BeginsUntold (pieces_records ps ++ rs)) → IsUntold ps s e
-  told_err e joins told = which (memory_or_not e)
-    where
-      which : (e ≡ OutOfMemory) ⊎ (e ≢ OutOfMemory) → IsUntold ps s e
-      which (inl short) = inr (inl (joins, short))
-      which (inr other) = inr (inr (joins, (told other).0, subst (λ l. BeginsUntold (pieces_records ps ++ l)) same (told other).1))
 
 -- where nothing was cut, segments that join are all that was
 pub none_cut : (ps : List Piece) (s : Story) → Joins ps s → s.before ≡ [] → pieces_entries ps ≡ s.before

@@ -28,10 +28,14 @@ abbrev pub AddsTo : {X : Type 0} → List Line → (X → List Line) → List Re
 AddsTo old view rs (Ok x) = (view x ≡ old ++ trace_of rs) × All IsSoundRecord rs
 AddsTo old view rs (Err e) = e ≢ OutOfMemory → (e ≡ BadTrace) × BeginsUntold rs
 
--- Why no trace is made: by Gap just where the segments don't join the history, and where they do because there was no memory, or
--- there are records that can't be told.
+-- The same of records that can all be told: else it found no memory.
+abbrev pub AddsAll : {X : Type 0} → List Line → (X → List Line) → List Record → Result X Refusal → Type 0
+AddsAll old view rs (Ok x) = (view x ≡ old ++ trace_of rs) × All IsSoundRecord rs
+AddsAll old view rs (Err e) = e ≡ OutOfMemory
+
+-- Why no trace is made: by Gap just where the segments don't join the history, and where they do because there was no memory.
 abbrev pub IsUntold : List Piece → Story → Refusal → Type 0
-IsUntold ps s e = ((e ≡ Gap) × (Joins ps s → ⊥)) ⊎ (Joins ps s × (e ≡ OutOfMemory)) ⊎ (Joins ps s × (e ≡ BadTrace) × BeginsUntold (all_records ps s))
+IsUntold ps s e = ((e ≡ Gap) × (Joins ps s → ⊥)) ⊎ (Joins ps s × (e ≡ OutOfMemory))
 
 -- what a call answers that makes the trace of segments and of a history: the trace of their records, in order, where they join
 abbrev pub TellsJoined : List Piece → Story → Result (List Line) Refusal → Type 0

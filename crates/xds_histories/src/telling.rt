@@ -4,9 +4,12 @@ ghost use Rattle.xds_resource.specs.declared.refusal.Refusal.TheVariants.{OutOfM
 ghost use Rattle.xds_node.specs.Pieces.{pieces_entries};
 ghost use Rattle.xds_rules.specs.Rules.{NoneBroken};
 ghost use Rattle.xds_trace.specs.Making.{trace_of};
-ghost use Rattle.xds_histories.specs.Joined.{pieces_records, all_records, AddsTo, TellsJoined};
+ghost use Rattle.xds_core.specs.Legal.{IsLegal};
+ghost use Rattle.xds_histories.specs.Joined.{pieces_records, all_records, AddsTo, AddsAll, TellsJoined};
 
+use crate::bases::what_is_held_could_be_read;
 use std::alloc::Global;
+use xds_core::Core;
 use xds_node::{History, Line, NodeName, Segment};
 use xds_resource::Refusal;
 use xds_rules::{Line as TraceLine, Trace};
@@ -15,8 +18,8 @@ use xds_trace::push_record;
 /// The trace of what the threads of a node did: the lines of each record of the segments, one after another, and then of the
 /// history. Where nothing was cut it breaks no rule, nor where the segments are all that was cut, as `History::audit` finds out.
 /// `Gap` where the segments, in this order, don't begin with record 1 and join without a gap up to the first record of the
-/// history; else refused by `OutOfMemory`. Of records that no node makes, as segments that stand in another's place might be, it
-/// may be refused by `BadTrace`.
+/// history; else refused only by `OutOfMemory`: each segment's records are those of a replica, from its base, and so are the
+/// history's, so that they can all be told.
 pub fn of_history<N: NodeName>(
     alloc: Global,
     segments: &[Segment<N>],
@@ -27,30 +30,33 @@ pub fn of_history<N: NodeName>(
     ensures keeps { IfOk result (λ t. pieces_entries segments.now ≡ history.now.before → NoneBroken t) }
     ensures legal { pieces_entries segments.now ≡ history.now.before → IfErr result (λ e. e ≡ OutOfMemory) }
 {
+    let base = history.base();
     let last = history.records();
     if !history.follows(segments) {
         return Err(Refusal::Gap);
     }
-    match all_lines(alloc, segments, last) {
+    match all_lines(alloc, segments, base, last) {
         Ok(lines) => Ok(Trace::of_lines(lines)),
         Err(refusal) => Err(refusal),
     }
 }
 
-// The lines of segments, and of records behind them.
+// The lines of segments, and of the records behind them that were made from this base.
 fn all_lines<N: NodeName>(
     alloc: Global,
     segments: &[Segment<N>],
+    base: &Core,
     last: &[Line],
 ) -> Result<Vec<TraceLine>, Refusal>
-    ensures { AddsTo [] (λ v. v.items) (pieces_records segments.now ++ last.now) result }
+    requires { IsLegal base.now last.now }
+    ensures { AddsAll [] (λ v. v.items) (pieces_records segments.now ++ last.now) result }
 {
     let mut lines = Vec::new(alloc);
     match push_segments(alloc, &mut lines, segments) {
         Ok(()) => {}
         Err(refusal) => return Err(refusal),
     }
-    match push_lines(alloc, &mut lines, last) {
+    match push_legal(alloc, &mut lines, base, last) {
         Ok(()) => Ok(lines),
         Err(refusal) => Err(refusal),
     }
@@ -62,15 +68,34 @@ fn push_segments<N: NodeName>(
     lines: &mut Vec<TraceLine>,
     segments: &[Segment<N>],
 ) -> Result<(), Refusal>
-    ensures { AddsTo lines.old.items (λ _. lines.new.items) (pieces_records segments.now) result }
+    ensures { AddsAll lines.old.items (λ _. lines.new.items) (pieces_records segments.now) result }
 {
     for segment in segments {
-        match push_lines(alloc, lines, segment.records()) {
+        match push_legal(alloc, lines, segment.base(), segment.records()) {
             Ok(()) => {}
             Err(refusal) => return Err(refusal),
         }
     }
     Ok(())
+}
+
+// Adds the lines of records that were made from this base. They can all be told, so that it refuses only for memory.
+fn push_legal(
+    alloc: Global,
+    lines: &mut Vec<TraceLine>,
+    base: &Core,
+    records: &[Line],
+) -> Result<(), Refusal>
+    requires { IsLegal base.now records.now }
+    ensures { AddsAll lines.old.items (λ _. lines.new.items) records.now result }
+{
+    match push_lines(alloc, lines, records) {
+        Ok(()) => Ok(()),
+        Err(refusal) => {
+            what_is_held_could_be_read(base);
+            Err(refusal)
+        }
+    }
 }
 
 // Adds the lines of records.

@@ -1,10 +1,9 @@
 -- What a response over HTTP carries of a reply. This project's own.
-use Rattle.std.specs.Prelude.{◌≡◌, ◌⊎◌, ◌==◌, ◌||◌, ℕ, List, Option, Some, None, codes, length, nat_lt, if◌then◌else◌}
+use Rattle.std.specs.Prelude.{◌≡◌, ◌⊎◌, ◌==◌, ◌||◌, ℕ, List, Option, Some, None, length, nat_lt, if◌then◌else◌}
 use Rattle.http.specs.declared.response.Response.{Response}
 use Rattle.http.specs.Response.{head_of, body_of}
 use Rattle.http_body_util.specs.declared.full.Full.{Full}
-use Rattle.xds_rest.specs.Posts.{HttpReply}
-use Rattle.xds_posts.specs.Posted.{unavailable, IsReplyOrUnavailable}
+use Rattle.xds_polls.specs.Polls.{HttpReply, unavailable}
 
 -- a number as a status: one that isn't of three digits, which no reply has, counts as a fault of the server
 abbrev pub status_or_fault : ℕ → ℕ
@@ -23,6 +22,13 @@ Carries response reply = ((head_of response).status ≡ status_or_fault reply.st
 abbrev pub CarriesOrNone : Response (Full (List ℕ)) → HttpReply → Type 0
 CarriesOrNone response reply = Carries response reply ⊎ Carries response unavailable
 
--- The response to a post at a path whose body has come: it carries a reply of the node to it, or that there was none.
-abbrev pub IsAnswer : List ℕ → List ℕ → Response (Full (List ℕ)) → Type 0
-IsAnswer path body response = (r : HttpReply) × IsReplyOrUnavailable (codes "POST") path body r × CarriesOrNone response r
+-- a reply to a post at a path with a body, between the seat that asks before and after
+abbrev pub Replying : Type 0 → Type 1
+Replying Seat = Seat → Seat → List ℕ → List ℕ → HttpReply → Type 0
+
+-- The response to a post at a path whose body has come: it carries the reply to it by a seat that was made for it, or that there was
+-- none. Where no seat could be made it says that there was none.
+abbrev pub IsAnswer : {Seat : Type 0} → (Seat → Type 0) → Replying Seat → List ℕ → List ℕ → Response (Full (List ℕ)) → Type 0
+IsAnswer {Seat} fresh replies path body response =
+    ((old : Seat) × (new : Seat) × (r : HttpReply) × fresh old × replies old new path body r × CarriesOrNone response r)
+    ⊎ Carries response unavailable

@@ -1,5 +1,5 @@
 -- The post of a poll over HTTP, and why nothing is told. This project's own.
-use Rattle.std.specs.Prelude.{◌≡◌, ◌⊎◌, ◌==◌, ℕ, List, Option, Some, None, codes, length, if◌then◌else◌}
+use Rattle.std.specs.Prelude.{◌≡◌, ◌⊎◌, ◌==◌, ℕ, List, Option, Some, None, codes, length, if◌then◌else◌, Result, Err}
 use Rattle.http.specs.declared.request.Request.{Request}
 use Rattle.http.specs.Request as http
 use Rattle.http_body_util.specs.declared.full.Full.{Full}
@@ -7,6 +7,7 @@ use Rattle.http_uri.specs.Uri.{Spells}
 use Rattle.xds_resource.specs.Types.{row}
 use Rattle.xds_resource.specs.declared.refusal.Refusal.{Refusal}
 use Rattle.xds_resource.specs.declared.refusal.Refusal.TheVariants.{OutOfMemory, Device}
+use Rattle.xds_http.specs.declared.told.Told.{Told}
 use Rattle.xds_http.specs.Questions.{Question, body_of}
 
 -- a body in one piece, unless it is empty
@@ -26,3 +27,8 @@ IsPostOf q request = IsPostTo (row q.kind).rest_path (body_of q) request
 -- why nothing is told
 abbrev pub TellsNothing : Refusal → Type 0
 TellsNothing e = (e ≡ OutOfMemory) ⊎ (e ≡ Device)
+
+-- One poll by what posts it: the post of the question went out by it, and this is what it told of that; or there was no memory for the
+-- post, and nothing went out.
+abbrev pub IsPolled : (Request (Full (List ℕ)) → Result Told Refusal → Type 0) → Question → Result Told Refusal → Type 0
+IsPolled tells q r = ((request : Request (Full (List ℕ))) × IsPostOf q request × tells request r) ⊎ (r ≡ Err OutOfMemory)

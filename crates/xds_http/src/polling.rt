@@ -1,7 +1,7 @@
 // One poll over HTTP.
 ghost use Rattle.std.specs.Prelude.{◌≡◌, IfOk, IfErr};
 ghost use Rattle.xds_resource.specs.declared.refusal.Refusal.TheVariants.{OutOfMemory};
-ghost use Rattle.xds_http.specs.Sent.{IsPostTo, IsPostOf, TellsNothing};
+ghost use Rattle.xds_http.specs.Sent.{IsPostTo, IsPostOf, IsPolled, TellsNothing};
 
 use crate::question::Question;
 use crate::told::Told;
@@ -128,6 +128,68 @@ where
     }
 }
 
+/// What posts a request to a server and tells the reply. [`Connects`] is one.
+pub trait Posts {
+    ghost use Rattle.std.specs.Prelude.{ℕ, List, Result, IfErr};
+    ghost use Rattle.http.specs.declared.request.Request.{Request as Post};
+    ghost use Rattle.http_body_util.specs.declared.full.Full.{Full as Whole};
+    ghost use Rattle.xds_resource.specs.declared.refusal.Refusal.{Refusal as Cause};
+    ghost use Rattle.xds_http.specs.declared.told.Told.{Told as Shown};
+    ghost use Rattle.xds_http.specs.Sent.{TellsNothing};
+
+    // How what is told stands to the request that is posted.
+    ghost tells: { Post (Whole (List ℕ)) → Result Shown Cause → Type 0 };
+
+    /// Sends the request of a post, and tells the reply to it. Refused is `Device` where the server can't be reached, or its reply breaks off
+    /// or is no HTTP, and `OutOfMemory`.
+    fn send<R>(&self, rt: &R, request: Request<Full<Bytes>>) -> Result<Told, Refusal>
+    where
+        R: Wait + Clock + Net + RandomSource + AllocGlobal,
+        ensures tells { tells request result }
+        ensures refused { IfErr result TellsNothing };
+}
+
+/// Posts over a connection of its own to this server, and waits for one that is silent.
+#[derive(Clone, Copy, Debug)]
+pub struct Connects {
+    pub server: SocketAddr,
+}
+
+impl Posts for Connects {
+    ghost use Rattle.std.specs.Prelude.{⊤};
+
+    // Nothing is claimed of what goes over a socket.
+    ghost tells = { λ _ _. ⊤ };
+
+    fn send<R>(&self, rt: &R, request: Request<Full<Bytes>>) -> Result<Told, Refusal>
+    where
+        R: Wait + Clock + Net + RandomSource + AllocGlobal,
+    {
+        let mut runtime = LocalRuntime::new(rt).map_err(of_system)?;
+        let socket = connected(rt, &mut runtime, self.server)?;
+        exchange(rt, &mut runtime, socket, request)
+    }
+}
+
+/// One poll by what posts it, to this host: the request that is posted is the question's, and what is told is what that post is
+/// answered. Where there is no memory for the request nothing is posted, and refused is `OutOfMemory`.
+pub fn poll_by<R, P: Posts>(
+    rt: &R,
+    posts: &P,
+    host: SocketAddr,
+    question: Question,
+) -> Result<Told, Refusal>
+where
+    R: Wait + Clock + Net + RandomSource + AllocGlobal,
+    ensures polled { IsPolled P.tells question result }
+    ensures refused { IfErr result TellsNothing }
+{
+    match post(rt.alloc(), host, question) {
+        Ok(request) => posts.send(rt, request),
+        Err(refusal) => Err(refusal),
+    }
+}
+
 /// One poll of a server, over a connection of its own: a post, and its reply. Refused is `Device` where the server can't be
 /// reached, or its reply breaks off or is no HTTP, and `OutOfMemory`. It waits for a server that is silent.
 pub fn poll<R>(rt: &R, server: SocketAddr, question: Question) -> Result<Told, Refusal>
@@ -135,8 +197,5 @@ where
     R: Wait + Clock + Net + RandomSource + AllocGlobal,
     ensures { IfErr result TellsNothing }
 {
-    let request = post(rt.alloc(), server, question)?;
-    let mut runtime = LocalRuntime::new(rt).map_err(of_system)?;
-    let socket = connected(rt, &mut runtime, server)?;
-    exchange(rt, &mut runtime, socket, request)
+    poll_by(rt, &Connects { server }, server, question)
 }

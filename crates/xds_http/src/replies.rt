@@ -1,22 +1,36 @@
 // What answers posts over HTTP.
 use std::alloc::Global;
 use std::sync::Wait;
-use xds_node::{Node, NodeName};
-use xds_posts::reply_at;
-use xds_rest::HttpReply;
+use xds_polls::HttpReply;
+use xds_resource::Refusal;
 
 /// What answers posts, shared by all connections.
 pub trait Replies {
-    ghost use Rattle.std.specs.Prelude.{codes};
-    ghost use Rattle.xds_posts.specs.Posted.{IsReplyOrUnavailable};
+    ghost use Rattle.std.specs.Prelude.{ℕ, List, IfOk};
+    ghost use Rattle.xds_polls.specs.Polls as polls;
 
-    /// The reply to a post of this body at this path; 503 without a body where none could be made. It may wait for a lock.
-    fn reply<R: Wait>(&self, rt: &R, alloc: Global, path: &str, body: &[u8]) -> HttpReply
-        ensures { IsReplyOrUnavailable (codes "POST") path.now body.now result };
-}
+    /// The right to ask it. One is made for each post, and ends with it.
+    type Seat: Drop;
 
-impl<N: NodeName> Replies for Node<N> {
-    fn reply<R: Wait>(&self, rt: &R, alloc: Global, path: &str, body: &[u8]) -> HttpReply {
-        reply_at(rt, alloc, self, "POST", path, body)
-    }
+    // What a seat is that was made for a post.
+    ghost fresh: { Self.Seat → Type 0 };
+
+    // The reply to a post at a path with a body, between the seat before and after: (before, after, path, body, reply).
+    ghost replies: { Self.Seat → Self.Seat → List ℕ → List ℕ → polls.HttpReply → Type 0 };
+
+    /// A seat for a post. It may wait for a lock.
+    fn seat<R: Wait>(&self, rt: &R) -> Result<Self::Seat, Refusal>
+        ensures { IfOk result fresh };
+
+    /// The reply to a post of this body at this path, by a seat; 503 without a body where none could be made. It may wait for a
+    /// lock.
+    fn reply<R: Wait>(
+        &self,
+        rt: &R,
+        alloc: Global,
+        seat: &mut Self::Seat,
+        path: &str,
+        body: &[u8],
+    ) -> HttpReply
+        ensures { replies seat.old seat.new path.now body.now result };
 }

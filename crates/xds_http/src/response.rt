@@ -1,7 +1,7 @@
 // Replies as responses over HTTP.
 ghost use Rattle.std.specs.Prelude.{◌≡◌, IfOk, string_bytes};
 ghost use Rattle.std.specs.Option.{option_map};
-ghost use Rattle.xds_rest.specs.Posts as posts;
+ghost use Rattle.xds_polls.specs.Polls.{without_body};
 ghost use Rattle.xds_http.specs.Carried.{Carries, CarriesOrNone, piece_of, status_or_fault};
 
 use bytes::Bytes;
@@ -10,12 +10,12 @@ use http::header::{ALLOW, CONTENT_TYPE, HeaderValue};
 use http_body_util::Full;
 use hyper::{Response, StatusCode};
 use std::alloc::Global;
+use xds_polls::HttpReply;
 use xds_resource::Refusal;
-use xds_rest::HttpReply;
 
 /// A response with this status alone: no header field and no body. It takes no memory.
 pub fn bare(alloc: Global, status: StatusCode) -> Response<Full<Bytes>>
-    ensures { Carries result (posts.without_body status) }
+    ensures { Carries result (without_body status) }
 {
     let mut response = Response::new(alloc, Full::default());
     *response.status_mut() = status;

@@ -1,7 +1,7 @@
 // The service of one connection.
 ghost use Rattle.std.specs.Prelude.{◌≡◌, [], Ok, Err, MatchOption};
 ghost use Rattle.xds_resource.specs.declared.types.TypeName.{TypeName as Kind};
-ghost use Rattle.xds_rest.specs.Posts.{addressed};
+ghost use Rattle.xds_polls.specs.Polls.{addressed};
 ghost use Rattle.xds_http.specs.Carried.{IsAnswer};
 
 use crate::replies::Replies;
@@ -21,9 +21,7 @@ use std::sync::{Arc, Wait};
 use std::time::{Clock, Duration};
 use tokio::time::error::Elapsed;
 use tokio::time::{Handle, Timeout};
-use xds_rest::HttpReply;
-use xds_rest::path::type_of_path;
-use xds_rest::post::MAX_BODY;
+use xds_polls::{HttpReply, MAX_BODY, type_of_path};
 
 /// As many seconds as a body may take to come, once its head has.
 pub const BODY_SECONDS: u64 = 30;
@@ -71,17 +69,22 @@ pub enum Answering<R, A, F> {
 // What a body that was to come has come to.
 type Come = Result<Result<Collected, LimitedError<hyper::Error>>, Elapsed>;
 
-// The response to a post at a path, by the bytes of its body.
-fn answer<R: Wait + AllocGlobal, A: Replies>(
+/// The response to a post at a path, by the bytes of its body and a seat of its own. 503 where no seat can be made, or there is
+/// no memory for the response.
+pub fn answer<R: Wait + AllocGlobal, A: Replies>(
     rt: &R,
     replies: &A,
     path: &str,
     body: &[u8],
 ) -> Response<Full<Bytes>>
-    ensures { IsAnswer path.now body.now result }
+    ensures { IsAnswer A.fresh A.replies path.now body.now result }
 {
     let alloc = rt.alloc();
-    response_of(alloc, replies.reply(rt, alloc, path, body))
+    let Ok(seat) = replies.seat(rt) else {
+        return bare(alloc, StatusCode::SERVICE_UNAVAILABLE);
+    };
+    let mut seat = seat;
+    response_of(alloc, replies.reply(rt, alloc, &mut seat, path, body))
 }
 
 // The response to a request whose body has come, by its bytes. 503 where there is no memory to put them together.

@@ -8,9 +8,9 @@ use std::sync::Wait;
 use std::test::Fail;
 use xds_cases::cases::written_out;
 use xds_node::{Line, Node, NodeName, Opened, Seat};
+use xds_polls::HttpReply;
 use xds_posts::{answer_at, reply_at};
 use xds_resource::Refusal;
-use xds_rest::HttpReply;
 
 /// A reply as its status, and its body behind a space where it has one.
 pub(crate) fn shown(alloc: Global, reply: HttpReply) -> Result<String, Refusal> {
@@ -33,16 +33,30 @@ pub(crate) fn by_seat<N: NodeName, R: Wait>(
     Ok(shown(alloc, reply)?)
 }
 
-/// The reply to a request by a node.
+// The reply to a request by a seat of a node, where a full journal is cut.
+fn by_cutting<N: NodeName, R: Wait>(
+    rt: &R,
+    alloc: Global,
+    node: &Node<N>,
+    seat: &mut Seat<N>,
+    request: &str,
+) -> Result<String, Fail> {
+    let (method, path, body) = parts(request)?;
+    let reply = reply_at(rt, alloc, node, seat, method, path, body.as_bytes());
+    Ok(shown(alloc, reply)?)
+}
+
+/// The reply to a request by a node, with a seat that lives no longer.
 pub(crate) fn by_node<N: NodeName, R: Wait>(
     rt: &R,
     alloc: Global,
     node: &Node<N>,
     request: &str,
 ) -> Result<String, Fail> {
-    let (method, path, body) = parts(request)?;
-    let reply = reply_at(rt, alloc, node, method, path, body.as_bytes());
-    Ok(shown(alloc, reply)?)
+    let mut seat = node.seat(rt)?;
+    let reply = by_cutting(rt, alloc, node, &mut seat, request);
+    drop(seat);
+    reply
 }
 
 const CASES: &str =
@@ -103,7 +117,8 @@ fn recorded<N: NodeName, R: Wait>(
     alloc: Global,
     opened: Opened<Line>,
 ) -> Result<usize, Fail>
-    requires { opened ≡ N.id }
+    requires name { opened ≡ N.id }
+    requires own { 1 ≡ N.replica }
 {
     let node = node_with_a::<N, R>(rt, alloc, opened)?;
     let records = recorded_at(rt, alloc, &node);

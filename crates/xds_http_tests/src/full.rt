@@ -67,7 +67,8 @@ fn cut_for_a_request<N: NodeName, R: Wait>(
 }
 
 fn full<N: NodeName, R: Wait>(rt: &R, alloc: Global, opened: Opened<Line>) -> Result<usize, Fail>
-    requires { opened ≡ N.id }
+    requires name { opened ≡ N.id }
+    requires own { 1 ≡ N.replica }
 {
     let node = Node::<N>::new(alloc, opened, 1)?;
     let records = cut_for_a_request(rt, alloc, &node);

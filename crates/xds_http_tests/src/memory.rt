@@ -9,9 +9,9 @@ use std::marker::Brand;
 use std::sync::Wait;
 use std::test::Fail;
 use xds_node::{Line, Node, NodeName, Opened, Seat};
+use xds_polls::HttpReply;
 use xds_posts::{answer_at, reply_at};
 use xds_resource::Refusal;
-use xds_rest::HttpReply;
 
 const PATH: &str = "/v3/discovery:secrets";
 
@@ -47,13 +47,25 @@ fn by_seat<N: NodeName, R: Wait>(rt: &R, alloc: Global, node: &Node<N>) -> Resul
     refused
 }
 
-// The same by the node alone.
-fn by_node<N: NodeName, R: Wait>(rt: &R, alloc: Global, node: &Node<N>) -> Result<bool, Fail> {
-    let first = reply_at(rt, alloc, node, "POST", PATH, b"{}");
+// The same where a full journal is cut: whether the first poll was unavailable.
+fn cutting_twice<N: NodeName, R: Wait>(
+    rt: &R,
+    alloc: Global,
+    node: &Node<N>,
+    seat: &mut Seat<N>,
+) -> Result<bool, Fail> {
+    let first = reply_at(rt, alloc, node, seat, "POST", PATH, b"{}");
     let unavailable = first.status == 503;
     drop(first);
-    tells_none(alloc, reply_at(rt, alloc, node, "POST", PATH, b"{}"))?;
+    tells_none(alloc, reply_at(rt, alloc, node, seat, "POST", PATH, b"{}"))?;
     Ok(unavailable)
+}
+
+fn by_node<N: NodeName, R: Wait>(rt: &R, alloc: Global, node: &Node<N>) -> Result<bool, Fail> {
+    let mut seat = node.seat(rt)?;
+    let unavailable = cutting_twice(rt, alloc, node, &mut seat);
+    drop(seat);
+    unavailable
 }
 
 fn either<N: NodeName, R: Wait>(rt: &R, alloc: Global, node: &Node<N>) -> Result<bool, Fail> {
@@ -66,7 +78,8 @@ fn comes_again<N: NodeName, R: Wait>(
     alloc: Global,
     opened: Opened<Line>,
 ) -> Result<bool, Fail>
-    requires { opened ≡ N.id }
+    requires name { opened ≡ N.id }
+    requires own { 1 ≡ N.replica }
 {
     let node = Node::<N>::new(alloc, opened, 1)?;
     let refused = either(rt, alloc, &node);

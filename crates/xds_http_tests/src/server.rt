@@ -1,6 +1,7 @@
 // A server over a socket, and a client that writes what it is told to.
 ghost use Rattle.std.specs.Prelude.{◌≡◌};
 
+use crate::asked::Asked;
 use std::alloc::{AllocGlobal, Global};
 use std::io::{Read, Write};
 use std::marker::Brand;
@@ -70,7 +71,8 @@ pub(crate) fn node_with_a<N: NodeName, R: Wait>(
     alloc: Global,
     opened: Opened<Line>,
 ) -> Result<Node<N>, Refusal>
-    requires { opened ≡ N.id }
+    requires name { opened ≡ N.id }
+    requires own { 1 ≡ N.replica }
 {
     let node = Node::<N>::new(alloc, opened, 1)?;
     let done = put_a(rt, alloc, &node);
@@ -92,6 +94,7 @@ where
         + Net<Listener = TcpListener, Stream = TcpStream>
         + 'static,
     A: Replies + Drop + Send + Sync + 'static,
+    A::Seat: Send,
 {
     let shared = Arc::new(rt.alloc(), replies)?;
     let host = *rt;
@@ -114,12 +117,13 @@ where
         + Sync
         + Net<Listener = TcpListener, Stream = TcpStream>
         + 'static,
-    requires { opened ≡ N.id }
+    requires name { opened ≡ N.id }
+    requires own { 1 ≡ N.replica }
 {
     let listener = TcpListener::bind(rt, SocketAddr::from((Ipv4Addr::LOCALHOST, 0)))?;
     let server = listener.local_addr()?;
     let node = node_with_a::<N, R>(rt, rt.alloc(), opened)?;
-    serve_in_thread(rt, listener, node)?;
+    serve_in_thread(rt, listener, Asked { node })?;
     Ok(server)
 }
 

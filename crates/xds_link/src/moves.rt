@@ -30,8 +30,8 @@ pub fn link<T: Drop>(alloc: Global) -> Result<(Outgoing<T>, Incoming<T>), AllocE
 }
 
 impl<T: Drop> Outgoing<T> {
-    /// Puts an item behind all that were put. It waits while the channel is full. `Unlinked` where the other end is gone;
-    /// then nothing was put.
+    /// Puts an item behind all that were put. It waits while the channel is full. Where it answers `Unlinked` nothing was put.
+    /// It does so once the other end is gone; no clause says that it does so only then, or that it does.
     pub fn put<R: Wait>(&mut self, rt: &R, item: T) -> Result<(), Unlinked>
         ensures end { IsSameEnd self.old self.new }
         ensures put { OnOk result (put_by self.new ≡ put_by self.old ++ item ∷ []) }
@@ -67,7 +67,8 @@ impl<T: Drop> Outgoing<T> {
 }
 
 impl<T: Drop> Incoming<T> {
-    /// The next item. It waits while there is none. None once the other end told that no item comes any more, or is gone.
+    /// The next item. It waits while there is none. None once the other end told that no item comes any more, or is gone, and
+    /// then nothing was taken; why there is none, no clause says.
     pub fn take<R: Wait>(&mut self, rt: &R) -> Option<T>
         ensures end { IsSameSource self.old self.new }
         ensures taken { IfSome result (λ item. taken_by self.new ≡ taken_by self.old ++ item ∷ []) }

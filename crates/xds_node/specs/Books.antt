@@ -41,6 +41,10 @@ next_number b = length b.before + length b.journal + 1
 abbrev pub entries_of : Books → List (ℕ × Record)
 entries_of b = numbered (length b.before + 1) b.journal
 
+-- all records, with their numbers
+abbrev pub all_entries_of : Books → List (ℕ × Record)
+all_entries_of b = b.before ++ entries_of b
+
 -- what an event is answered now
 abbrev pub record_of : Books → Event → Record
 record_of b e = record { event = e; answer = answer_of (step (present b) e) }
@@ -63,8 +67,10 @@ IsFull b = (length b.journal ≡ most_records) ⊎ (length b.before + length b.j
 
 -- What holds whenever the lock is free. The core is what the journal's records make of the base, each answered as the core answers
 -- there, and the base is what the records that were cut make of a replica at which nothing happened; so one list of steps is all
--- that ever happened. The keeper's token has these records, under numbers from 1 on, and has made so many seats.
-pub record IsKept (base core : Core) (journal : List Record) (cut seats : ℕ) (token : Holding Record) : Type 0 where
+-- that ever happened at the replica of this number. The keeper's token has these records, under numbers from 1 on, and has made so many
+-- seats.
+pub record IsKept (replica : ℕ) (base core : Core) (journal : List Record) (cut seats : ℕ) (token : Holding Record) : Type 0 where
+  pub own : base.replica ≡ replica
   pub state : core ≡ replayed base journal
   pub legal : IsLegal base journal
   pub few : length journal ≤ most_records

@@ -1,5 +1,5 @@
 // What lies under a node's lock.
-ghost use Rattle.std.specs.Prelude.{◌≡◌, ◌+◌, ◌<◌, ◌≤◌, ◌==◌, ◌⊎◌, [], ◌∷◌, ◌++◌, length, true, MatchBool, IsPermutation, IfOk, IfErr, OnErr};
+ghost use Rattle.std.specs.Prelude.{◌≡◌, ◌+◌, ◌<◌, ◌≤◌, ◌==◌, ◌⊎◌, ◌∷◌, ◌++◌, [], length, true, All, Contains, MatchBool, IsPermutation, IfOk, IfErr, OnErr};
 ghost use Rattle.std.specs.List.{flat_map};
 ghost use Rattle.xds_resource.specs.Stamps.{max_counter};
 ghost use Rattle.xds_resource.specs.declared.refusal.Refusal.TheVariants.{OutOfMemory, CounterSpent, JournalFull};
@@ -8,9 +8,9 @@ ghost use Rattle.xds_store.specs.Counts.{counts_of};
 ghost use Rattle.xds_core.specs.Seen.{event_of, answer_of};
 ghost use Rattle.xds_tokens.specs.Entries.{AllBelow};
 ghost use Rattle.xds_tokens.specs.Holdings.{keeper};
-ghost use Rattle.xds_node.specs.Books.{Books, most_records, opened_books, base_of, present, next_number, record_of, with_record, with_seat, after_cut, IsFull};
-ghost use Rattle.xds_node.specs.Pieces.{piece_of, last_entries, IsWhole};
-ghost use Rattle.xds_node.specs.Told.{LeavesNoRecord};
+ghost use Rattle.xds_node.specs.Books.{Books, most_records, opened_books, base_of, present, next_number, all_entries_of, record_of, with_record, with_seat, after_cut, IsFull};
+ghost use Rattle.xds_node.specs.Pieces.{piece_of, last_entries, StandsInStory, GoesOn, IsWhole};
+ghost use Rattle.xds_node.specs.Told.{no_calls, also_told, also_refused, IsStepAt, LeavesNoRecord};
 ghost use Rattle.xds_node.specs.Wakes.{due_at, wait_ends};
 
 use crate::history::History;
@@ -84,13 +84,14 @@ impl<N: NodeName> Model for Desk<N> {
 
     ghost view = { λ d. record { replica = d.base.replica; before = d.token.cut; journal = d.journal.items; seats = d.seats } };
 
-    ghost invariant = { λ d. IsKept d.base d.core d.journal.items d.cut d.seats d.token };
+    ghost invariant = { λ d. IsKept N.replica d.base d.core d.journal.items d.cut d.seats d.token };
 }
 
 impl<N: NodeName> Desk<N> {
-    /// That of a replica at which nothing happened.
+    /// That of a replica at which nothing happened, and which has the number that the node's name says.
     pub fn new(alloc: Global, replica: u16, token: Token<Line, N>) -> Desk<N>
         requires number { 1 ≤ replica }
+        requires own { replica ≡ N.replica }
         requires keeper { token ≡ keeper 0 [] [] }
         ensures { result ≡ opened_books replica }
     {
@@ -107,9 +108,9 @@ impl<N: NodeName> Desk<N> {
         }
     }
 
-    /// A seat more, which was told nothing. `CounterSpent` where no more can be counted.
+    /// A seat more, which made no call. `CounterSpent` where no more can be counted.
     pub fn seat(&mut self, tokens: &Tokens<Line, N>) -> Result<Seat<N>, Refusal>
-        ensures ok { IfOk result (λ s. (s ≡ []) × (self.new ≡ with_seat self.old)) }
+        ensures ok { IfOk result (λ s. (s ≡ no_calls) × (self.new ≡ with_seat self.old)) }
         ensures refused { IfErr result (λ e. (e ≡ CounterSpent) × (self.old.seats ≡ max_counter)) }
         ensures err { OnErr result (self.new ≡ self.old) }
     {
@@ -121,8 +122,8 @@ impl<N: NodeName> Desk<N> {
     }
 
     /// One event of a seat: one step of the replica, and one record at the end of the journal. The answer is the step's,
-    /// a refusal or not. No record is left, and nothing changes, where the journal is full (`JournalFull`) or there is no
-    /// memory (`OutOfMemory`); then the event comes back.
+    /// a refusal or not. No record is left, and nothing changes but that the seat keeps the event and why, where the journal is full
+    /// (`JournalFull`) or there is no memory (`OutOfMemory`); then the event comes back.
     pub fn call(
         &mut self,
         tokens: &Tokens<Line, N>,
@@ -131,20 +132,23 @@ impl<N: NodeName> Desk<N> {
     ) -> Result<Result<Reply, Refusal>, Unrecorded>
         ensures answer { IfOk result (λ a. answer_of a ≡ (record_of self.old (event_of event)).answer) }
         ensures recorded { IfOk result (λ a. self.new ≡ with_record self.old (record_of self.old (event_of event))) }
-        ensures told { IfOk result (λ a. seat.new ≡ seat.old ++ (next_number self.old, record_of self.old (event_of event)) ∷ []) }
-        ensures rising { IfOk result (λ a. AllBelow (next_number self.old) seat.old) }
+        ensures told { IfOk result (λ a. seat.new ≡ also_told (next_number self.old, record_of self.old (event_of event)) seat.old) }
+        ensures rising { IfOk result (λ a. AllBelow (next_number self.old) seat.old.told) }
+        ensures stands { IfOk result (λ a. All (Contains (all_entries_of self.old)) seat.old.told) }
+        ensures step { IfOk result (λ a. IsStepAt N.replica seat.old.told seat.new.told (event_of event) (answer_of a)) }
         ensures back { IfErr result (λ e. e.event ≡ event) }
         ensures full { IfErr result (λ e. LeavesNoRecord e.refusal × (e.refusal ≡ JournalFull → IsFull self.old)) }
         ensures room { IfOk result (λ a. IsFull self.old → ⊥) }
         ensures full_first { IfErr result (λ e. IsFull self.old → e.refusal ≡ JournalFull) }
-        ensures err { OnErr result ((self.new ≡ self.old) × (seat.new ≡ seat.old)) }
+        ensures err { OnErr result (self.new ≡ self.old) }
+        ensures noted { IfErr result (λ e. seat.new ≡ also_refused (event_of event) e.refusal seat.old) }
     {
         let records = self.journal.len();
         if is_full(records, self.cut) {
-            return Err(unrecorded(Refusal::JournalFull, event));
+            return Err(unrecorded(tokens, seat, Refusal::JournalFull, event));
         }
         if self.journal.reserve(1).is_err() {
-            return Err(unrecorded(Refusal::OutOfMemory, event));
+            return Err(unrecorded(tokens, seat, Refusal::OutOfMemory, event));
         }
         match answered_twice(&mut self.core, &event) {
             Ok((answer, kept)) => {
@@ -154,7 +158,7 @@ impl<N: NodeName> Desk<N> {
                 self.journal.push_reserved(line);
                 Ok(answer)
             }
-            Err(refusal) => Err(unrecorded(refusal, event)),
+            Err(refusal) => Err(unrecorded(tokens, seat, refusal, event)),
         }
     }
 
@@ -162,6 +166,7 @@ impl<N: NodeName> Desk<N> {
     /// `OutOfMemory`; then nothing changes.
     pub fn cut(&mut self, tokens: &Tokens<Line, N>) -> Result<Segment<N>, Refusal>
         ensures ok { IfOk result (λ s. (s ≡ piece_of self.old) × (self.new ≡ after_cut self.old)) }
+        ensures goes_on { IfOk result (λ s. GoesOn N.replica s.base s.first s.before) }
         ensures refused { IfErr result (λ e. e ≡ OutOfMemory) }
         ensures err { OnErr result (self.new ≡ self.old) }
     {
@@ -181,8 +186,11 @@ impl<N: NodeName> Desk<N> {
         ensures base { result.base ≡ base_of self }
         ensures records { result.records ≡ self.journal }
         ensures before { result.before ≡ self.before }
-        ensures told { result.told ≡ flat_map (λ told. told) seats.items }
-        ensures complete { result.complete ≡ (length seats.items == self.seats) }
+        ensures told { result.told ≡ flat_map (λ s. s.told) seats.items }
+        ensures made { result.made ≡ self.seats }
+        ensures complete { result.complete ≡ (length seats.items == result.made) }
+        ensures stands { StandsInStory result }
+        ensures own { result.base.replica ≡ N.replica }
         ensures each { result.complete ≡ true → IsPermutation result.told (result.before ++ last_entries result) }
         ensures whole { IsWhole result }
     {
@@ -264,8 +272,16 @@ fn is_full(records: usize, cut: u64) -> bool
     records == MOST_RECORDS || cut + records as u64 == MAX_COUNTER
 }
 
-fn unrecorded(refusal: Refusal, event: Event) -> Unrecorded
-    ensures { (result.refusal ≡ refusal) × (result.event ≡ event) }
+// What an event leaves that leaves no record: the seat keeps it, with the refusal.
+fn unrecorded<N: NodeName>(
+    tokens: &Tokens<Line, N>,
+    seat: &mut Seat<N>,
+    refusal: Refusal,
+    event: Event,
+) -> Unrecorded
+    ensures back { (result.refusal ≡ refusal) × (result.event ≡ event) }
+    ensures noted { seat.new ≡ also_refused (event_of event) refusal seat.old }
 {
+    let event = seat.refuse(tokens, refusal, event);
     Unrecorded { refusal, event }
 }

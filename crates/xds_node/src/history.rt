@@ -3,7 +3,7 @@ ghost use Rattle.std.specs.Prelude.{◌≡◌, ◌≢◌, ◌⊎◌, ◌+◌, �
 ghost use Rattle.xds_resource.specs.declared.refusal.Refusal.TheVariants.{Gap};
 ghost use Rattle.xds_tokens.specs.Entries.{Counted};
 ghost use Rattle.xds_tokens.specs.Holdings.{with_shares};
-ghost use Rattle.xds_node.specs.Pieces.{piece_entries, pieces_entries, last_entries, IsWhole};
+ghost use Rattle.xds_node.specs.Pieces.{piece_entries, piece_before, pieces_entries, last_entries, StandsInStory, BeginAsCut, IsWhole};
 
 use crate::line::Line;
 use crate::segment::Segment;
@@ -12,7 +12,9 @@ use xds_core::Core;
 use xds_resource::Refusal;
 use xds_tokens::{NodeName, Token, Tokens};
 
-/// What a node leaves at its end: the records since the last cut, and the replica before the first of them.
+/// What a node leaves at its end: the records since the last cut, and the replica before the first of them. Contracts see also all
+/// records that were cut, with their numbers, how many seats were made, whether all of them were handed in, and what those that were
+/// had been told.
 pub struct History<N: NodeName> {
     pub(crate) base: Core,
     pub(crate) records: Vec<Line>,
@@ -46,15 +48,16 @@ impl<N: NodeName> Model for History<N> {
 
     ghost coded = { Prim.hlevel (codes, version_map_code, core_code) };
 
-    ghost view = { λ h. record { base = h.base; records = h.records.items; before = h.token.cut; complete = h.complete; told = h.token.told } };
+    ghost view = { λ h. record { base = h.base; records = h.records.items; before = h.token.cut; made = h.token.made; complete = h.complete; told = h.token.told } };
 
-    ghost invariant = { λ h. IsStory h.base h.records.items h.cut h.complete h.token };
+    ghost invariant = { λ h. IsStory N.replica h.base h.records.items h.cut h.complete h.token };
 }
 
 impl<N: NodeName> History<N> {
-    /// The replica before the first of the records.
+    /// The replica before the first of the records. It has the node's number.
     pub fn base(&self) -> &Core
-        ensures { result.now ≡ self.now.base }
+        ensures base { result.now ≡ self.now.base }
+        ensures own { self.now.base.replica ≡ N.replica }
     {
         &self.base
     }
@@ -84,18 +87,22 @@ impl<N: NodeName> History<N> {
         are_in_order(segments, self.cut())
     }
 
-    /// Whether every seat of the node was handed in.
+    /// Whether every seat of the node was handed in. Either way each record that those were told was cut, or is the history's.
     pub fn is_complete(&self) -> bool
         ensures answer { result ≡ self.now.complete }
+        ensures stands { StandsInStory self.now }
         ensures each { self.now.complete ≡ true → IsPermutation self.now.told (self.now.before ++ last_entries self.now) }
     {
         self.complete
     }
 
     /// The end of the history, by these segments: `Gap` where they, in this order, don't begin with record 1 and join
-    /// without a gap up to the first record that the history has.
+    /// without a gap up to the first record that the history has. Either way what was cut before each of them is what the node cut
+    /// first.
     pub fn audit(self, segments: Vec<Segment<N>>) -> Result<(), Refusal>
         ensures shares { All (Contains self.before) (pieces_entries segments.items) }
+        ensures bases { BeginAsCut self segments.items }
+        ensures stands { StandsInStory self }
         ensures each { self.complete ≡ true → length (pieces_entries segments.items) ≡ length self.before → IsPermutation self.told (pieces_entries segments.items ++ last_entries self) }
         ensures in_order { MatchResult result (λ _. pieces_entries segments.items ≡ self.before) (λ e. (e ≡ Gap) × (pieces_entries segments.items ≢ self.before)) }
     {
@@ -149,7 +156,7 @@ fn share<N: NodeName>(
     token: &mut Token<Line, N>,
     segments: Vec<Segment<N>>,
 )
-    ensures { token.new ≡ with_shares piece_entries token.old segments.items }
+    ensures { token.new ≡ with_shares piece_before piece_entries token.old segments.items }
 {
     for segment in segments {
         let Segment {

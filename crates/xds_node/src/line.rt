@@ -1,10 +1,13 @@
 // A line of the journal.
-ghost use Rattle.std.specs.Prelude.{◌≡◌};
+ghost use Rattle.std.specs.Prelude.{◌≡◌, Err};
 ghost use Rattle.xds_core.specs.Seen.{event_of, answer_of};
+ghost use Rattle.xds_tokens.specs.Holdings.{with_refused};
 
 use std::marker::Model;
+use std::mem;
 use xds_core::{Event, Record, Reply};
 use xds_resource::Refusal;
+use xds_tokens::{NodeName, Token, Tokens};
 
 /// A line of the journal: an event, and what it was answered. Contracts see the record.
 pub struct Line {
@@ -60,5 +63,25 @@ impl Line {
         ensures { answer_of result.now ≡ self.now.answer }
     {
         &self.record.answer
+    }
+
+    /// Notes at a seat's token that an event left no record, and gives it back.
+    pub fn note<N: NodeName>(
+        tokens: &Tokens<Line, N>,
+        token: &mut Token<Line, N>,
+        event: Event,
+        refusal: Refusal,
+    ) -> Event
+        ensures noted { token.new ≡ with_refused (record { event = event_of event; answer = Err refusal }) token.old }
+        ensures back { result ≡ event }
+    {
+        let mut line = Line {
+            record: Record {
+                event,
+                answer: Err(refusal),
+            },
+        };
+        tokens.note(token, &line);
+        mem::replace(&mut line.record.event, Event::Open)
     }
 }

@@ -1,12 +1,12 @@
 // A replica that threads share.
-ghost use Rattle.std.specs.Prelude.{◌≡◌, ◌≢◌, ◌≤◌, ◌++◌, [], true, MatchBool, IfOk, IfErr, IfSome, OnErr, IsPermutation};
+ghost use Rattle.std.specs.Prelude.{◌≡◌, ◌≢◌, ◌≤◌, ◌++◌, ◌==◌, length, true, MatchBool, IfOk, IfErr, IfSome, OnErr, IsPermutation};
 ghost use Rattle.std.specs.List.{flat_map};
 ghost use Rattle.xds_resource.specs.declared.refusal.Refusal.TheVariants.{OutOfMemory, CounterSpent};
 ghost use Rattle.xds_store.specs.Counts.{counts_of};
 ghost use Rattle.xds_core.specs.Legal.{IsLegal};
 ghost use Rattle.xds_core.specs.Seen.{event_of, answer_of};
-ghost use Rattle.xds_node.specs.Pieces.{last_entries, IsWhole};
-ghost use Rattle.xds_node.specs.Told.{IsTold, LeavesNoRecord};
+ghost use Rattle.xds_node.specs.Pieces.{last_entries, StandsInStory, GoesOn, IsWhole};
+ghost use Rattle.xds_node.specs.Told.{no_calls, also_refused, IsTold, IsStepAt, LeavesNoRecord};
 
 use crate::desk::{Desk, Due};
 use crate::history::History;
@@ -39,10 +39,12 @@ impl<N: NodeName> Drop for Node<N> {
 }
 
 impl<N: NodeName> Node<N> {
-    /// A node whose replica has this number, from 1, and at which nothing happened. Refused only by `OutOfMemory`.
+    /// A node whose replica has this number, from 1, which its name says too, and at which nothing happened. Refused only by
+    /// `OutOfMemory`.
     pub fn new(alloc: Global, opened: Opened<Line>, replica: u16) -> Result<Node<N>, Refusal>
         requires name { opened ≡ N.id }
         requires number { 1 ≤ replica }
+        requires own { replica ≡ N.replica }
         ensures { IfErr result (λ e. e ≡ OutOfMemory) }
     {
         let lanes = Lanes::new(alloc)?;
@@ -54,24 +56,27 @@ impl<N: NodeName> Node<N> {
         })
     }
 
-    /// A seat, which was told nothing. `CounterSpent` where no more can be counted. It may wait for the lock.
+    /// A seat, which made no call. `CounterSpent` where no more can be counted. It may wait for the lock.
     pub fn seat<R: Wait>(&self, rt: &R) -> Result<Seat<N>, Refusal>
-        ensures ok { IfOk result (λ s. s ≡ []) }
+        ensures ok { IfOk result (λ s. s ≡ no_calls) }
         ensures refused { IfErr result (λ e. e ≡ CounterSpent) }
     {
         self.desk.lock(rt).seat(&self.tokens)
     }
 
-    /// One event of a seat: one step of the replica, and one record. It may wait for the lock.
+    /// One event of a seat: one step of the replica, and one record. It may wait for the lock. What the seat is told is a step of the
+    /// one replica of this node, after all that happened there before; where no record is left, the seat keeps the event and why.
     pub fn call<R: Wait>(
         &self,
         rt: &R,
         seat: &mut Seat<N>,
         event: Event,
     ) -> Result<Result<Reply, Refusal>, Unrecorded>
-        ensures told { IfOk result (λ a. IsTold seat.old seat.new (event_of event) (answer_of a)) }
+        ensures told { IfOk result (λ a. IsTold seat.old.told seat.new.told (event_of event) (answer_of a)) }
+        ensures step { IfOk result (λ a. IsStepAt N.replica seat.old.told seat.new.told (event_of event) (answer_of a)) }
+        ensures kept { IfOk result (λ a. seat.new.refused ≡ seat.old.refused) }
         ensures back { IfErr result (λ e. (e.event ≡ event) × LeavesNoRecord e.refusal) }
-        ensures err { OnErr result (seat.new ≡ seat.old) }
+        ensures noted { IfErr result (λ e. seat.new ≡ also_refused (event_of event) e.refusal seat.old) }
     {
         let wake = Wake::by(&event);
         let mut desk = self.desk.lock(rt);
@@ -127,14 +132,19 @@ impl<N: NodeName> Node<N> {
     pub fn cut<R: Wait>(&self, rt: &R) -> Result<Segment<N>, Refusal>
         ensures refused { IfErr result (λ e. e ≡ OutOfMemory) }
         ensures legal { IfOk result (λ s. IsLegal s.base s.records) }
+        ensures goes_on { IfOk result (λ s. GoesOn N.replica s.base s.first s.before) }
     {
         self.desk.lock(rt).cut(&self.tokens)
     }
 
-    /// The end of the node, by these seats.
+    /// The end of the node, by these seats. Whether they are all that were made or not, each record that they were told was cut, or
+    /// is the history's.
     pub fn close(self, seats: Vec<Seat<N>>) -> History<N>
-        ensures told { result.told ≡ flat_map (λ told. told) seats.items }
+        ensures told { result.told ≡ flat_map (λ s. s.told) seats.items }
+        ensures complete { result.complete ≡ (length seats.items == result.made) }
+        ensures stands { StandsInStory result }
         ensures each { result.complete ≡ true → IsPermutation result.told (result.before ++ last_entries result) }
+        ensures own { result.base.replica ≡ N.replica }
         ensures whole { IsWhole result }
     {
         let Node {

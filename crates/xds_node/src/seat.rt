@@ -1,6 +1,8 @@
 // The right to call a node, with what was told for it.
 ghost use Rattle.std.specs.Prelude.{◌≡◌, [], ◌∷◌, ◌++◌, All, Contains};
+ghost use Rattle.xds_core.specs.Seen.{event_of};
 ghost use Rattle.xds_tokens.specs.Holdings.{keeper, seat_holding, recorded, with_seats, IsAlone};
+ghost use Rattle.xds_node.specs.Told.{no_calls, also_told, also_refused};
 
 use crate::line::Line;
 use std::marker::Model;
@@ -8,26 +10,27 @@ use xds_core::Event;
 use xds_resource::Refusal;
 use xds_tokens::{NodeName, Token, Tokens};
 
-/// The right to call a node. It has no bytes. Contracts see what its calls were told: each record, with its number.
+/// The right to call a node. It has no bytes. Contracts see all its calls: each record that they were told, with its number, and
+/// each event that left no record, with its refusal.
 #[derive(Drop)]
 pub struct Seat<N: NodeName> {
     token: Token<Line, N>,
 }
 
 impl<N: NodeName> Model for Seat<N> {
-    ghost use Rattle.std.specs.Prelude.{◌≡◌, ℕ, List};
+    ghost use Rattle.std.specs.Prelude.{◌≡◌};
     ghost use Rattle.std.specs.Coded.{codes};
     ghost use Rattle.xds_fields.specs.Versions.{version_map_code};
-    ghost use Rattle.xds_core.specs.Legal.{Record};
     ghost use Rattle.xds_tokens.specs.Holdings.{seat_holding};
+    ghost use Rattle.xds_node.specs.Told.{Calls};
 
-    ghost Value = { List (ℕ × Record) };
+    ghost Value = { Calls };
 
     ghost coded = { Prim.hlevel (codes, version_map_code) };
 
-    ghost view = { λ s. s.token.told };
+    ghost view = { λ s. record { told = s.token.told; refused = s.token.refused } };
 
-    ghost invariant = { λ s. s.token ≡ seat_holding s.token.told };
+    ghost invariant = { λ s. s.token ≡ seat_holding s.token.told s.token.refused };
 }
 
 /// An event that left no record: the journal is full (`JournalFull`), or there was no memory (`OutOfMemory`). It can be
@@ -41,8 +44,8 @@ pub struct Unrecorded {
 impl<N: NodeName> Seat<N> {
     /// A new seat, by its token.
     pub fn of(token: Token<Line, N>) -> Seat<N>
-        requires { token ≡ seat_holding [] }
-        ensures { result ≡ [] }
+        requires { token ≡ seat_holding [] [] }
+        ensures { result ≡ no_calls }
     {
         Seat { token }
     }
@@ -57,10 +60,18 @@ impl<N: NodeName> Seat<N> {
     )
         requires { IsAlone token.old }
         ensures kept { token.new ≡ keeper token.old.made token.old.cut (token.old.journal ++ (number, line.now) ∷ []) }
-        ensures told { self.new ≡ self.old ++ (number, line.now) ∷ [] }
-        ensures stands { All (Contains (recorded token.old)) self.old }
+        ensures told { self.new ≡ also_told (number, line.now) self.old }
+        ensures stands { All (Contains (recorded token.old)) self.old.told }
     {
         tokens.tell(token, &mut self.token, number, line);
+    }
+
+    /// Notes that an event left no record, and gives it back.
+    pub fn refuse(&mut self, tokens: &Tokens<Line, N>, refusal: Refusal, event: Event) -> Event
+        ensures noted { self.new ≡ also_refused (event_of event) refusal self.old }
+        ensures back { result ≡ event }
+    {
+        Line::note(tokens, &mut self.token, event, refusal)
     }
 }
 
@@ -70,7 +81,7 @@ pub fn gather<N: NodeName>(
     token: &mut Token<Line, N>,
     seats: Vec<Seat<N>>,
 )
-    ensures { token.new ≡ with_seats (λ told. told) token.old seats.items }
+    ensures { token.new ≡ with_seats (λ s. s.told) (λ s. s.refused) token.old seats.items }
 {
     for seat in seats {
         let Seat { token: lent } = seat;

@@ -10,7 +10,7 @@ use xds_node::{Line, Node, NodeName, Opened};
 use xds_resource::Refusal;
 
 // Puts clusters of these names, and cuts the node.
-fn put_and_cut<A: Site, R: Wait>(
+pub(crate) fn put_and_cut<A: Site, R: Wait>(
     rt: &R,
     alloc: Global,
     node: &A,
@@ -81,7 +81,8 @@ fn audits<N: NodeName, R: Wait>(
     opened: Opened<Line>,
     order: Order,
 ) -> Result<bool, Refusal>
-    requires { opened ≡ N.id }
+    requires name { opened ≡ N.id }
+    requires number { N.replica ≡ 1 }
 {
     audited(rt, alloc, Node::<N>::new(alloc, opened, 1), order)
 }
@@ -135,9 +136,43 @@ fn lacks_a_seat<N: NodeName, R: Wait>(
     alloc: Global,
     opened: Opened<Line>,
 ) -> Result<bool, Refusal>
-    requires { opened ≡ N.id }
+    requires name { opened ≡ N.id }
+    requires number { N.replica ≡ 1 }
 {
     one_of_two(rt, alloc, Node::<N>::new(alloc, opened, 1))
+}
+
+// Whether it is complete where two of two are.
+fn two_of_two<A: Site, R: Wait>(
+    rt: &R,
+    alloc: Global,
+    node: Result<A, Refusal>,
+) -> Result<bool, Refusal> {
+    let node = node?;
+    let mut seats = alone(alloc, node.seat(rt)?)?;
+    seats.push(node.seat(rt)?)?;
+    Ok(node.close(seats).is_complete())
+}
+
+fn has_both_seats<N: NodeName, R: Wait>(
+    rt: &R,
+    alloc: Global,
+    opened: Opened<Line>,
+) -> Result<bool, Refusal>
+    requires name { opened ≡ N.id }
+    requires number { N.replica ≡ 1 }
+{
+    two_of_two(rt, alloc, Node::<N>::new(alloc, opened, 1))
+}
+
+#[test]
+fn each_call_makes_one_seat(rt: HostRuntime) -> Result<(), Fail> {
+    let opened = Opened::<Line>::new(rt.alloc())?;
+    assert!(rt;
+        has_both_seats::<Brand, _>(&rt, rt.alloc(), opened)?,
+        "both seats were handed in, and no other was made"
+    );
+    Ok(())
 }
 
 #[test]

@@ -94,7 +94,8 @@ fn fills_up<N: NodeName, R: Wait>(
     alloc: Global,
     opened: Opened<Line>,
 ) -> Result<Outcome, Refusal>
-    requires { opened ≡ N.id }
+    requires name { opened ≡ N.id }
+    requires number { N.replica ≡ 1 }
 {
     full(rt, alloc, Node::<N>::new(alloc, opened, 1))
 }

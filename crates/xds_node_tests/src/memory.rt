@@ -86,7 +86,8 @@ fn refused_of<N: NodeName, R: Wait>(
     alloc: Global,
     opened: Opened<Line>,
 ) -> Result<Refused, Refusal>
-    requires { opened ≡ N.id }
+    requires name { opened ≡ N.id }
+    requires number { N.replica ≡ 1 }
 {
     short(rt, alloc, Node::<N>::new(alloc, opened, 1))
 }

@@ -157,7 +157,8 @@ fn four_seats<N: NodeName + Send + Sync, R: Threads + Wait + Sync>(
     alloc: Global,
     opened: Opened<Line>,
 ) -> Result<Outcome, Refusal>
-    requires { opened ≡ N.id }
+    requires name { opened ≡ N.id }
+    requires number { N.replica ≡ 1 }
 {
     let node = Node::<N>::new(alloc, opened, 1)?;
     let done = all_work(rt, alloc, &node);
@@ -195,7 +196,8 @@ fn finds_its_write<N: NodeName, R: Wait>(
     alloc: Global,
     opened: Opened<Line>,
 ) -> Result<(usize, u16), Refusal>
-    requires { opened ≡ N.id }
+    requires name { opened ≡ N.id }
+    requires number { N.replica ≡ 7 }
 {
     found(rt, alloc, Node::<N>::new(alloc, opened, 7))
 }

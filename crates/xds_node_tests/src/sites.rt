@@ -2,9 +2,9 @@
 use crate::calls::{Told, counter};
 use std::alloc::Global;
 use std::sync::Wait;
-use xds_core::{Event, Marks, Reply, Request};
+use xds_core::{Core, Event, Marks, Reply, Request};
 use xds_message::DeltaDiscoveryRequest;
-use xds_node::{Due, History, Node, NodeName, Seat, Segment, Unrecorded};
+use xds_node::{Due, History, Line, Node, NodeName, Seat, Segment, Unrecorded};
 use xds_resource::{AnyResource, Groups, Refusal, TypeName};
 
 /// Events of the tests.
@@ -61,6 +61,12 @@ pub(crate) trait Records: Drop {
     fn first(&self) -> u64;
 
     fn count(&self) -> usize;
+
+    /// The clusters of the replica before the first, as a text.
+    fn held(&self, alloc: Global) -> Result<String, Refusal>;
+
+    /// Those of the replica after the last, at which all of them happened again.
+    fn held_after(&self, alloc: Global) -> Result<String, Refusal>;
 }
 
 impl<N: NodeName> Records for Segment<N> {
@@ -70,6 +76,45 @@ impl<N: NodeName> Records for Segment<N> {
 
     fn count(&self) -> usize {
         self.records().len()
+    }
+
+    fn held(&self, alloc: Global) -> Result<String, Refusal> {
+        clusters_of(alloc, self.base())
+    }
+
+    fn held_after(&self, alloc: Global) -> Result<String, Refusal> {
+        replayed(alloc, self.base().try_copy(alloc)?, self.records())
+    }
+}
+
+// The clusters of a replica, as a text.
+fn clusters_of(alloc: Global, core: &Core) -> Result<String, Refusal> {
+    core.entries(alloc, TypeName::Cluster)?.write(alloc)
+}
+
+// The same of a replica at which these events happened, each with the answer that the record has.
+fn replayed(alloc: Global, core: Core, records: &[Line]) -> Result<String, Refusal> {
+    let mut core = core;
+    let mut done = Ok(());
+    for line in records {
+        if done.is_ok() {
+            done = again(alloc, &mut core, line);
+        }
+    }
+    let held = clusters_of(alloc, &core);
+    drop(core);
+    done?;
+    held
+}
+
+fn again(alloc: Global, core: &mut Core, line: &Line) -> Result<(), Refusal> {
+    let answer = core.step(line.event().try_copy(alloc)?);
+    let is_same = answer.is_ok() == line.answer().is_ok();
+    drop(answer);
+    if is_same {
+        Ok(())
+    } else {
+        Err(Refusal::BadTrace)
     }
 }
 
@@ -81,6 +126,9 @@ pub(crate) trait Left: Drop {
     fn count(&self) -> usize;
 
     fn cut(&self) -> u64;
+
+    /// The clusters of the replica when the journal was cut last, as a text.
+    fn held(&self, alloc: Global) -> Result<String, Refusal>;
 
     /// How many clusters there were when the journal was cut last.
     fn clusters(&self, alloc: Global) -> Result<usize, Refusal>;
@@ -99,6 +147,10 @@ impl<N: NodeName> Left for History<N> {
 
     fn cut(&self) -> u64 {
         History::cut(self)
+    }
+
+    fn held(&self, alloc: Global) -> Result<String, Refusal> {
+        clusters_of(alloc, self.base())
     }
 
     fn clusters(&self, alloc: Global) -> Result<usize, Refusal> {

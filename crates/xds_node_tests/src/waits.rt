@@ -111,7 +111,8 @@ fn waits<N: NodeName + Send + Sync, R: Threads + Wait + Sync>(
     alloc: Global,
     opened: Opened<Line>,
 ) -> Result<Outcome, Refusal>
-    requires { opened ≡ N.id }
+    requires name { opened ≡ N.id }
+    requires number { N.replica ≡ 1 }
 {
     let node = Node::<N>::new(alloc, opened, 1)?;
     let outcome = waited(rt, alloc, &node);

@@ -3,7 +3,7 @@ use Rattle.std.proofs.Common.{◌≡◌, ℕ, zero, suc, ◌+◌, ◌-◌, ◌�
 use Rattle.std.specs.List.{sum_by, flat_map}
 use Rattle.std.proofs.lemmas.Bool.{le-ltb, lt-ltb, ltb-false}
 use Rattle.std.proofs.lemmas.List.{take-append-drop, take-map, drop-map, drop-drop, take_all, length-map, length-take-le}
-use Rattle.std.proofs.lemmas.List.Elements.{All-cons, All-head, All-tail, All-nil}
+use Rattle.std.proofs.lemmas.List.Elements.{All-cons, All-head, All-tail, All-nil, All-append}
 use Rattle.std.proofs.lemmas.List.Sums.{sum_by-append}
 use Rattle.xds_resource.specs.PerType.{PerType}
 use Rattle.xds_resource.specs.TypedWrites.{TypedWrite}
@@ -77,26 +77,37 @@ first_part (x ∷ xs) (suc n) h some = behind_first (x ∷ []) n xs h.within (λ
 one_weight : (x : TypedWrite) → sum_by weight (x ∷ []) ≡ weight x
 one_weight x = omega arith
 
--- each is within the bounds
+-- a part of writes that are held
+abbrev pub IsSoundPart : List TypedWrite → Type 0
+IsSoundPart p = (is_part p ≡ true) × All IsSound p
+
 abbrev pub AreParts : List (List TypedWrite) → Type 0
-AreParts ps = All (λ p. is_part p ≡ true) ps
+AreParts ps = All IsSoundPart ps
 
-within_by : (b : Bool) (part : List TypedWrite) (ps qs : List (List TypedWrite)) → is_part part ≡ true → (b ≡ true → AreParts ps) → AreParts qs → AreParts (cond b ps (part ∷ qs))
+within_by : (b : Bool) (part : List TypedWrite) (ps qs : List (List TypedWrite)) → IsSoundPart part → (b ≡ true → AreParts ps) → AreParts qs → AreParts (cond b ps (part ∷ qs))
 within_by true part ps qs h same next = same refl
-within_by false part ps qs h same next = All-cons (λ p. is_part p ≡ true) part qs h next
+within_by false part ps qs h same next = All-cons IsSoundPart part qs h next
 
-alone_fits : (x : TypedWrite) → IsSound x → is_part (x ∷ []) ≡ true
-alone_fits x h = within_bounds (x ∷ []) (omega arith) (omega (arith, one_weight x, weight_few x.0 x.1 h.writable))
+alone : (x : TypedWrite) → IsSound x → All IsSound (x ∷ [])
+alone x h = All-cons IsSound x [] h (All-nil IsSound)
 
-within_behind : (part xs : List TypedWrite) → is_part part ≡ true → All IsSound xs → AreParts (parts_behind part xs)
-within_behind part [] h sound = All-cons (λ p. is_part p ≡ true) part [] h (All-nil (λ p. is_part p ≡ true))
+alone_fits : (x : TypedWrite) → IsSound x → IsSoundPart (x ∷ [])
+alone_fits x h = (within_bounds (x ∷ []) (omega arith) (omega (arith, one_weight x, weight_few x.0 x.1 h.writable)), alone x h)
+
+within_behind : (part xs : List TypedWrite) → IsSoundPart part → All IsSound xs → AreParts (parts_behind part xs)
+within_behind part [] h sound = All-cons IsSoundPart part [] h (All-nil IsSoundPart)
 within_behind part (x ∷ xs) h sound =
+    let one = All-head IsSound x xs sound in
     let rest = All-tail IsSound x xs sound in
-    within_by (is_part (part ++ x ∷ [])) part (parts_behind (part ++ x ∷ []) xs) (parts_behind (x ∷ []) xs) h (λ fits. within_behind (part ++ x ∷ []) xs fits rest) (within_behind (x ∷ []) xs (alone_fits x (All-head IsSound x xs sound)) rest)
+    within_by (is_part (part ++ x ∷ [])) part (parts_behind (part ++ x ∷ []) xs) (parts_behind (x ∷ []) xs) h
+    (λ fits. within_behind (part ++ x ∷ []) xs (fits, All-append IsSound part (x ∷ []) h.1 (alone x one)) rest) (within_behind (x ∷ []) xs (alone_fits x one) rest)
+
+pub sound_parts : (ws : List TypedWrite) → All IsSound ws → AreParts (parts_of ws)
+sound_parts [] sound = All-nil IsSoundPart
+sound_parts (x ∷ xs) sound = within_behind (x ∷ []) xs (alone_fits x (All-head IsSound x xs sound)) (All-tail IsSound x xs sound)
 
 pub parts_within : (ws : List TypedWrite) → AreWithin ws
-parts_within [] sound = All-nil (λ p. is_part p ≡ true)
-parts_within (x ∷ xs) sound = within_behind (x ∷ []) xs (alone_fits x (All-head IsSound x xs sound)) (All-tail IsSound x xs sound)
+parts_within ws sound = λ i part below. (sound_parts ws sound i part below).0
 
 -- ---- where the first part ends
 
@@ -131,7 +142,7 @@ module _ {X : Type 0} (f : X → TypedWrite) (xs : List X) (n : ℕ) where
     some = λ _. omega (arith, many);
   }
 
-  more : (x : X) → n < length xs → x ≡ get_or xs n x → sum_by weight (map f (take (n + 1) xs)) ≡ sum_by weight (map f (take n xs)) + weight (f x)
+  pub more : (x : X) → n < length xs → x ≡ get_or xs n x → sum_by weight (map f (take (n + 1) xs)) ≡ sum_by weight (map f (take n xs)) + weight (f x)
   more x below is = ap (sum_by weight) (map-take-more f xs n x below is) ∙ sum_by-append weight (map f (take n xs)) (f x ∷ []) ∙ ap (λ k. sum_by weight (map f (take n xs)) + k) (one_weight (f x))
 
   pub full_of_bytes : (x : X) → n < length xs → n ≤ max_writes → sum_by weight (map f (take n xs)) ≤ max_bytes → x ≡ get_or xs n x → weight (f x) ≤ max_bytes → max_bytes < sum_by weight (map f (take n xs)) + weight (f x) → IsFirstPart (map f xs) n
@@ -141,6 +152,14 @@ module _ {X : Type 0} (f : X → TypedWrite) (xs : List X) (n : ℕ) where
     full = λ _. too_heavy (take (n + 1) (map f xs)) (omega (arith, heavy, sum_is (n + 1), more x below is));
     some = λ _. not_none f n xs (weight (f x)) one heavy;
   }
+
+  -- what is known of the writes of the first part
+
+  pub sound_first : All IsSound (map f (take n xs)) → All IsSound (take n (map f xs))
+  sound_first h = subst (All IsSound) (sym (take-map f n xs)) h
+
+  pub sound_more : (x : X) → n < length xs → x ≡ get_or xs n x → All IsSound (map f (take n xs)) → IsSound (f x) → All IsSound (map f (take (n + 1) xs))
+  sound_more x below is before one = subst (All IsSound) (sym (map-take-more f xs n x below is)) (All-append IsSound (map f (take n xs)) (f x ∷ []) before (alone (f x) one))
 
 pub next_part_some : (ws left : List TypedWrite) (n : ℕ) (b : PerType (List StampedWrite)) → IsFirstPart ws n → 0 < n → left ≡ drop n ws → b ≡ by_type (take n ws) → (part : List TypedWrite) × (parts_of ws ≡ part ∷ parts_of left) × (part ++ left ≡ ws) × (is_part part ≡ true) × (0 < length part) × (by_type part ≡ b)
 next_part_some ws left n b h some rest is = (

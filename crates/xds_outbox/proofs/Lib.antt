@@ -1,2 +1,4 @@
 pub mod Weights
 pub mod Cutting
+pub mod Lengths
+pub mod Framing

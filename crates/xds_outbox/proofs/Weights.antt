@@ -42,14 +42,14 @@ and_parts : (a b : Bool) → (a && b) ≡ true → (a ≡ true) × (b ≡ true)
 and_parts true b e = (refl, e)
 and_parts false b e = absurd cc
 
-not_long : (b : Bool) → not b ≡ true → b ≡ false
+pub not_long : (b : Bool) → not b ≡ true → b ≡ false
 not_long true e = absurd cc
 not_long false e = refl
 
 group_short : (g : List ℕ) → is_group g ≡ true → length g ≤ max_group
 group_short g e = ltb-false max_group (length g) (not_long (nat_lt max_group (length g)) (and_parts (nat_lt 0 (length g)) (not (nat_lt max_group (length g))) e).1)
 
-comma_short : (later : Bool) → length (comma_if later) ≤ 1
+pub comma_short : (later : Bool) → length (comma_if later) ≤ 1
 comma_short true = omega arith
 comma_short false = omega arith
 

@@ -10,7 +10,9 @@ use Rattle.xds_resource.specs.TypedWrites.{TypedWrite}
 use Rattle.xds_resource.specs.Writes.{StampedWrite}
 use Rattle.xds_resource.specs.declared.any.AnyWrite.{AnyWrite}
 use Rattle.xds_fields.specs.WrittenFields.{list_data}
-use Rattle.xds_writes.specs.Batches.{by_type}
+use Rattle.xds_frames.specs.Frames.{Framed}
+use Rattle.xds_frames.specs.declared.frame.FrameKind.TheVariants.{Batch}
+use Rattle.xds_writes.specs.Batches.{by_type, batch_object}
 
 -- a write of the program, with its type
 abbrev pub typed_write : AnyWrite → TypedWrite
@@ -57,3 +59,7 @@ pub record IsFirstPart (ws : List TypedWrite) (n : ℕ) : Type 0 where
   pub within : is_part (take n ws) ≡ true
   pub full : n < length ws → is_part (take (n + 1) ws) ≡ false
   pub some : 0 < length ws → 0 < n
+
+-- the frame of a batch
+abbrev pub batch_frame : PerType (List StampedWrite) → Framed
+batch_frame b = record { kind = Batch; text = compact_text (batch_object b) }

@@ -1,10 +1,11 @@
 // A batch that waits to be sent, part by part.
-ghost use Rattle.std.specs.Prelude.{◌≡◌, ◌<◌, ◌++◌, [], map, length, get_or, IfOk, IfErr, OnOk, OnErr};
+ghost use Rattle.std.specs.Prelude.{◌≡◌, ◌<◌, ◌++◌, [], map, length, get_or, take, All, IfSome, IfOk, IfErr, OnOk, OnErr};
 ghost use Rattle.xds_resource.specs.PerType.{at};
 ghost use Rattle.xds_resource.specs.Writes.{StampedWrite};
 ghost use Rattle.xds_resource.specs.declared.refusal.Refusal.TheVariants.{OutOfMemory};
-ghost use Rattle.xds_writes.specs.Batches.{by_type, in_order, typed};
-ghost use Rattle.xds_outbox.specs.Parts.{typed_write, IsNextPart, IsFirstPart};
+ghost use Rattle.xds_frames.specs.Frames.{IsFrame};
+ghost use Rattle.xds_writes.specs.Batches.{by_type, in_order, typed, IsSound};
+ghost use Rattle.xds_outbox.specs.Parts.{typed_write, batch_frame, IsNextPart, IsFirstPart};
 
 use crate::weighing::weight_of;
 use std::alloc::Global;
@@ -84,10 +85,11 @@ impl Outbox {
     }
 
     /// The next part of the batch, or none where all was given. A part takes writes in order until it has 512 of them,
-    /// or until the next one would bring the bytes of its bodies and lists of groups over 8,388,608. No body is copied.
-    /// Refused only by `OutOfMemory`, with nothing changed.
+    /// or until the next one would bring the bytes of its bodies and lists of groups over 8,388,608. No body is copied, and
+    /// the batch's text fits a frame. Refused only by `OutOfMemory`, with nothing changed.
     pub fn next_part(&mut self) -> Result<Option<Batch>, Refusal>
         ensures ok { IfOk result (λ part. IsNextPart self.old part self.new) }
+        ensures fits { IfOk result (λ part. IfSome part (λ b. IsFrame (batch_frame b))) }
         ensures err { OnErr result (self.new ≡ self.old) }
         ensures refused { IfErr result (λ e. e ≡ OutOfMemory) }
     {
@@ -105,6 +107,7 @@ impl Outbox {
 // How many writes the first part takes.
 fn part_len(alloc: Global, writes: &[AnyWrite]) -> Result<usize, Refusal>
     ensures ok { IfOk result (IsFirstPart (map typed_write writes.now)) }
+    ensures sound { IfOk result (λ n. All IsSound (take n (map typed_write writes.now))) }
     ensures refused { IfErr result (λ e. e ≡ OutOfMemory) }
 {
     let mut len = 0;

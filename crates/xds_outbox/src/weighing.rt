@@ -1,7 +1,8 @@
 // What a write weighs in a part.
-ghost use Rattle.std.specs.Prelude.{◌≡◌, ◌≤◌, IfOk, IfErr};
+ghost use Rattle.std.specs.Prelude.{◌≡◌, ◌≤◌, IfOk, OnOk, IfErr};
 ghost use Rattle.xds_resource.specs.Groups.{IsGroups};
 ghost use Rattle.xds_resource.specs.declared.refusal.Refusal.TheVariants.{OutOfMemory};
+ghost use Rattle.xds_writes.specs.Batches.{IsSound};
 ghost use Rattle.xds_outbox.specs.Parts.{typed_write, weight, groups_bytes, max_bytes};
 
 use serde_json::{Map, Value};
@@ -13,6 +14,7 @@ use xds_resource::{AnyWrite, Groups, Refusal, ResourceType, Write};
 pub(crate) fn weight_of(alloc: Global, write: &AnyWrite) -> Result<usize, Refusal>
     ensures ok { IfOk result (λ n. n ≡ weight (typed_write write.now)) }
     ensures few { IfOk result (λ n. n ≤ max_bytes) }
+    ensures sound { OnOk result (IsSound (typed_write write.now)) }
     ensures refused { IfErr result (λ e. e ≡ OutOfMemory) }
 {
     match write {
@@ -28,8 +30,10 @@ pub(crate) fn weight_of(alloc: Global, write: &AnyWrite) -> Result<usize, Refusa
 fn typed_weight<T: ResourceType>(alloc: Global, write: &Write<T>) -> Result<usize, Refusal>
     ensures ok { IfOk result (λ n. n ≡ weight (T.TYPE, write.now)) }
     ensures few { IfOk result (λ n. n ≤ max_bytes) }
+    ensures sound { OnOk result (IsSound (T.TYPE, write.now)) }
     ensures refused { IfErr result (λ e. e ≡ OutOfMemory) }
 {
+    let _ = write.stamp();
     let body = match write.shared_body()? {
         Some(text) => text.as_str().len(),
         None => 0,

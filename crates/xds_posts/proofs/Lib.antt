@@ -1,1 +1,1 @@
-mod Seated
+mod Polled

@@ -2,5 +2,7 @@
 #![tactic(auto)]
 
 pub mod post;
+pub mod posts;
 
 pub use post::{answer_at, reply_at};
+pub use posts::Posts;

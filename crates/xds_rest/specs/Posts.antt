@@ -1,53 +1,18 @@
--- What a post to the REST variant asks for, or which reply it is finished with before a replica is asked: the paths of Envoy's "xDS
--- REST and gRPC protocol", and its body a DiscoveryRequest in the proto3 JSON mapping. The bound on a body, the order of the checks
--- and the body of a refusal are this project's own.
-use Rattle.std.specs.Prelude.{◌≡◌, ◌⊎◌, ℕ, List, [], ◌++◌, Bool, true, false, ◌||◌, not, if◌then◌else◌, ◌==◌, length, Option, Some, None, Result, Ok, Err, bytes_eq, codes, decimal, find, nat_lt}
-use Rattle.std.specs.List.{before_first}
-use Rattle.std.specs.Option.{option_map_or}
+-- What a post to the REST variant asks for, or which reply it is finished with before a replica is asked: its body a DiscoveryRequest
+-- in the proto3 JSON mapping. The order of the checks and the body of a refusal are this project's own.
+use Rattle.std.specs.Prelude.{◌≡◌, ◌⊎◌, ℕ, List, [], ◌++◌, Bool, true, false, ◌||◌, Result, Ok, Err, bytes_eq, codes, decimal}
 use Rattle.serde_json.specs.Data.{Data}
 use Rattle.xds_resource.specs.declared.types.TypeName.{TypeName}
 use Rattle.xds_resource.specs.declared.refusal.Refusal.{Refusal}
 use Rattle.xds_resource.specs.declared.refusal.Refusal.TheVariants.{NotJson, BadMessage}
-use Rattle.xds_resource.specs.Types.{row, types}
+use Rattle.xds_resource.specs.Types.{row}
 use Rattle.xds_resource.specs.Refusals.{number_of, name_of}
 use Rattle.xds_message.specs.Spelling.{IsJson}
 use Rattle.xds_message.specs.Messages.{Request, SpellsRequest}
 use Rattle.xds_streams.specs.Streams.{cluster_in}
 use Rattle.xds_core.specs.Events as events
 use Rattle.xds_core.specs.Events.{Event}
-
--- a reply: its status, and its body, if it has one
-pub record HttpReply : Type 0 where
-  pub status : ℕ
-  pub body : Option (List ℕ)
-
-abbrev pub without_body : ℕ → HttpReply
-without_body status = record { status = status; body = None }
-
-abbrev pub with_body : ℕ → List ℕ → HttpReply
-with_body status text = record { status = status; body = Some text }
-
--- ---- before the body is read
-
--- the path up to its query, if it has one
-abbrev pub without_query : List ℕ → List ℕ
-without_query path = before_first (λ b. b == 63) path
-
--- the type that is polled at a path
-abbrev pub type_of_path : List ℕ → Option TypeName
-type_of_path path = find (λ t. bytes_eq (without_query path) (row t).rest_path) types
-
--- as many bytes as a body may have
-abbrev pub max_body : ℕ
-max_body = 4194304
-
--- of a request to the path of a type: the type, or the status that finishes it
-abbrev pub admitted : List ℕ → List ℕ → TypeName → Result TypeName ℕ
-admitted method body t = if not (bytes_eq method (codes "POST")) then Err 405 else if nat_lt max_body (length body) then Err 413 else Ok t
-
--- of any request: the type that it polls, or the status that finishes it
-abbrev pub addressed : List ℕ → List ℕ → List ℕ → Result TypeName ℕ
-addressed method path body = option_map_or (admitted method body) (type_of_path path) (Err 404)
+pub use Rattle.xds_polls.specs.Polls.{HttpReply, without_body, with_body, unavailable, without_query, type_of_path, max_body, admitted, addressed}
 
 -- ---- the body
 

@@ -8,15 +8,13 @@ ghost use Rattle.xds_core.specs.Seen.{event_of};
 ghost use Rattle.xds_rest.specs.Posts.{addressed as addressed_by, is_own as own, IsPoll, RefusesBody, IsReadAs, IsAsked, poll_of};
 ghost use Rattle.xds_rest.specs.Seen.{asked_of};
 
-use crate::path::type_of_path;
 use crate::reply::{HttpReply, refused};
 use std::alloc::Global;
 use xds_core::Event;
 use xds_message::{DiscoveryRequest, Node};
+pub use xds_polls::MAX_BODY;
+use xds_polls::addressed;
 use xds_resource::{Refusal, TypeName};
-
-/// As many bytes as a body may have.
-pub const MAX_BODY: usize = 4_194_304;
 
 /// What a request comes to.
 #[derive(Drop)]
@@ -25,22 +23,6 @@ pub enum Asked {
     Finished(HttpReply),
     /// It asks a replica, by a `Rest`.
     Asks(Event),
-}
-
-// The type that a request polls, or the status that finishes it.
-fn addressed(method: &str, path: &str, body: &[u8]) -> Result<TypeName, u16>
-    ensures { result ≡ addressed_by method.now path.now body.now }
-{
-    let Some(kind) = type_of_path(path) else {
-        return Err(404);
-    };
-    if method != "POST" {
-        return Err(405);
-    }
-    if body.len() > MAX_BODY {
-        return Err(413);
-    }
-    Ok(kind)
 }
 
 // Whether a message names this type, or none.

@@ -4,39 +4,14 @@ ghost use Rattle.xds_resource.specs.declared.refusal.Refusal.TheVariants.{OutOfM
 ghost use Rattle.xds_draft.specs.Drafts.{Drafted};
 ghost use Rattle.xds_core.specs.Events as events;
 ghost use Rattle.xds_core.specs.Seen.{reply_of as reply_seen};
-ghost use Rattle.xds_rest.specs.Posts.{without_body as bare, refusal_object, refused_reply};
+ghost use Rattle.xds_rest.specs.Posts.{refusal_object, refused_reply};
 ghost use Rattle.xds_rest.specs.Replies.{http_of, reply_to};
 
 use std::alloc::Global;
-use std::marker::Model;
 use xds_core::Reply;
 use xds_draft::SotwDraft;
+pub use xds_polls::HttpReply;
 use xds_resource::Refusal;
-
-/// A reply: its status, and its body, if it has one. A body is a JSON text.
-#[derive(Drop)]
-pub struct HttpReply {
-    pub status: u16,
-    pub body: Option<String>,
-}
-
-impl Model for HttpReply {
-    ghost use Rattle.std.specs.Prelude.{option_map, string_bytes};
-    ghost use Rattle.xds_rest.specs.Posts as posts;
-
-    ghost Value = { posts.HttpReply };
-
-    ghost view = { λ r. record { status = r.status; body = option_map string_bytes r.body } };
-}
-
-impl HttpReply {
-    /// A status alone.
-    pub fn without_body(status: u16) -> HttpReply
-        ensures { result ≡ bare status }
-    {
-        HttpReply { status, body: None }
-    }
-}
 
 // A refusal as a JSON object.
 fn refusal_text(alloc: Global, refusal: Refusal) -> Result<String, Refusal>

@@ -9,3 +9,4 @@ mod OneTrace
 mod OneLine
 mod LineTexts
 mod AnswerTexts
+pub mod OneVerdict

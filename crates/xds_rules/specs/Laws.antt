@@ -1,6 +1,8 @@
--- What is claimed of the texts of traces. This project's own.
+-- What is claimed of the texts of traces, and of verdicts on traces. This project's own.
 use Rattle.std.specs.Prelude.{◌≡◌, ℕ, List}
 use Rattle.xds_rules.specs.declared.line.Line.{Line}
+use Rattle.xds_rules.specs.declared.rule.Rule.{Rule}
+use Rattle.xds_rules.specs.Rules.{NoneBroken, FirstBroken}
 use Rattle.xds_rules.specs.Texts.{Says, IsTrace, IsFirstBad}
 
 -- A text says one line at most.
@@ -14,3 +16,11 @@ BytesAreOneTrace = (bytes : List ℕ) (a b : List Line) → IsTrace bytes a → 
 -- Bytes that are a trace have no bad line.
 abbrev pub ATraceHasNoBadLine : Type 0
 ATraceHasNoBadLine = (bytes : List ℕ) (trace : List Line) (number : ℕ) → IsTrace bytes trace → IsFirstBad bytes number → ⊥
+
+-- A trace at which no rule is broken has no first line at which one is.
+abbrev pub NoneBrokenHasNoFirst : Type 0
+NoneBrokenHasNoFirst = (trace : List Line) (number : ℕ) (rule : Rule) → NoneBroken trace → FirstBroken trace number rule → ⊥
+
+-- The first line at which a rule is broken, and the least rule there, are one.
+abbrev pub OneIsFirst : Type 0
+OneIsFirst = (trace : List Line) (m n : ℕ) (r s : Rule) → FirstBroken trace m r → FirstBroken trace n s → (m ≡ n) × (r ≡ s)

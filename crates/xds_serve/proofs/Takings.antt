@@ -54,7 +54,7 @@ brought_more before line changes new so_far is =
     is ∙ ap (λ (l : List Written). l ++ brings line) so_far ∙ ap (λ (l : List Written). flat_map brings before ++ l) (sym (append-nil (brings line)))
     ∙ sym (flat_map-append brings before (line ∷ []))
 
-line_more : (before : List (List ℕ)) (line : List ℕ) (changes new : List Written) → AreTaken before changes → is_wrong line ≡ false → new ≡ changes ++ brings line → AreTaken (before ++ line ∷ []) new
+pub line_more : (before : List (List ℕ)) (line : List ℕ) (changes new : List Written) → AreTaken before changes → is_wrong line ≡ false → new ≡ changes ++ brings line → AreTaken (before ++ line ∷ []) new
 line_more before line changes new taken good is = record {
   good = All-push (λ l. is_wrong l ≡ false) before line taken.good good;
   brought_are = brought_more before line changes new taken.brought_are is;
@@ -75,7 +75,7 @@ taken_more bytes held rest part next left changes new count size so_far one spli
 
 -- ---- the ends
 
-why_of : (e : Refusal) (line : List ℕ) → (e ≢ OutOfMemory → (e ≡ BadScript) × (is_wrong line ≡ true)) → (e ≡ OutOfMemory) ⊎ ((e ≡ BadScript) × (is_wrong line ≡ true))
+pub why_of : (e : Refusal) (line : List ℕ) → (e ≢ OutOfMemory → (e ≡ BadScript) × (is_wrong line ≡ true)) → (e ≡ OutOfMemory) ⊎ ((e ≡ BadScript) × (is_wrong line ≡ true))
 why_of e line why = elim (memory_or_not e) [ inl memory ↦ inl memory | inr other ↦ inr (why other) ]
 
 pub taken_refused : (bytes held rest part : List ℕ) (more : List (List ℕ)) (changes new : List Written) (count size : ℕ) (e : Refusal) → IsTakenTo bytes held rest changes count size

@@ -1,3 +1,5 @@
 pub mod Changes
+pub mod Handing
 pub mod Inputs
 pub mod Messages
+pub mod Responses

@@ -13,10 +13,10 @@ use std::thread;
 use std::thread::Threads;
 use std::time::Clock;
 use xds_core::Event;
-use xds_http::serve_on;
+use xds_http::{Replies, serve_on};
 use xds_link::{Incoming, Outgoing};
 use xds_resource::Refusal;
-use xds_workers::{Parcel, Receipt, called, exchange_in, exchange_out};
+use xds_workers::{Host, Parcel, Receipt, called, exchange_in, exchange_out};
 
 /// Ends of the channels by which a replica tells another what changed: for what it tells, and for what becomes of it.
 pub type Sends = (Outgoing<Parcel>, Incoming<Receipt>);
@@ -55,9 +55,11 @@ where
         + Send
         + Sync
         + 'static,
-    A: Served + Drop + Send + Sync + 'static,
-    A::Seat: Send + 'static,
+    A: Served + Replies + Drop + Send + Sync + 'static,
+    <A as Host>::Seat: Send + 'static,
     A::Segment: Send,
+    A::PostSeat: Send,
+    <A as Replies>::Seat: Send,
 {
     let Bound {
         sockets,
@@ -88,6 +90,7 @@ where
     A: Served + Drop + Send + Sync + 'static,
     A::Seat: Send + 'static,
     A::Segment: Send,
+    A::PostSeat: Send,
 {
     let mut done = Ok(());
     for ends in sends {
@@ -119,9 +122,11 @@ where
         + Send
         + Sync
         + 'static,
-    A: Served + Drop + Send + Sync + 'static,
-    A::Seat: Send,
+    A: Served + Replies + Drop + Send + Sync + 'static,
+    <A as Host>::Seat: Send,
     A::Segment: Send,
+    A::PostSeat: Send,
+    <A as Replies>::Seat: Send,
 {
     let Sockets { streams, polls } = sockets;
     let polled = start_polls(rt, node, polls);
@@ -142,6 +147,7 @@ where
     A: Served + Drop + Send + Sync + 'static,
     A::Seat: Send + 'static,
     A::Segment: Send,
+    A::PostSeat: Send,
 {
     match place(rt, node) {
         Ok((seat, node)) => {
@@ -178,6 +184,7 @@ where
     A: Served + Drop + Send + Sync + 'static,
     A::Seat: Send + 'static,
     A::Segment: Send,
+    A::PostSeat: Send,
 {
     match place(rt, node) {
         Ok((seat, node)) => {
@@ -221,7 +228,8 @@ where
         + Send
         + Sync
         + 'static,
-    A: Served + Drop + Send + Sync + 'static,
+    A: Replies + Drop + Send + Sync + 'static,
+    A::Seat: Send,
 {
     let node = Arc::try_clone(node)?;
     let rt = *rt;
@@ -253,6 +261,7 @@ where
     A: Served + Drop + Send + Sync + 'static,
     A::Seat: Send,
     A::Segment: Send,
+    A::PostSeat: Send,
 {
     let (node, ending) = shares(node, ending)?;
     let rt = *rt;

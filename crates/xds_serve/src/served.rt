@@ -1,17 +1,17 @@
 // A node, as the server knows it.
 use std::sync::Wait;
-use xds_http::Replies;
 use xds_node::{Node, NodeName, Seat};
+use xds_posts::Posts;
 use xds_resource::Refusal;
 use xds_workers::Host;
 
-/// A replica that a server runs: its worker threads call it by seats, and polls are replied to. [`Node`] is one.
-pub trait Served: Host + Replies {
+/// A replica that a server runs: its worker threads call it by seats, and posts ask it. [`Node`] is one.
+pub trait Served: Host + Posts {
     ghost use Rattle.std.specs.Prelude.{◌≡◌, [], IfOk, IfErr};
 
-    /// A seat, which was told nothing. `CounterSpent` where no more can be counted. It may wait.
+    /// A seat, which made no call. `CounterSpent` where no more can be counted. It may wait.
     fn seat<R: Wait>(&self, rt: &R) -> Result<Self::Seat, Refusal>
-        ensures told { IfOk result (λ s. Self.told s ≡ []) }
+        ensures told { IfOk result (λ s. (Self.told s ≡ []) × (Self.refused s ≡ [])) }
         ensures refused { IfErr result (λ e. e ≡ Refusal.CounterSpent) };
 }
 

@@ -18,8 +18,10 @@ use std::thread;
 use std::thread::Threads;
 use std::time::Clock;
 use xds_core::Event;
+use xds_http::Replies;
 use xds_node::{Line, Node, NodeName, Opened};
 use xds_resource::Refusal;
+use xds_workers::Host;
 
 /// Starts the thread of the replica behind so many others. Its node has a name of its own.
 pub(crate) fn start_replica<R>(
@@ -76,6 +78,7 @@ where
     N: NodeName + Send + Sync + 'static,
     requires name { opened ≡ N.id }
     requires first { 1 ≤ number }
+    requires own { number ≡ N.replica }
 {
     match shared::<N>(alloc, opened, number) {
         Ok(node) => start_node(rt, alloc, node, replica, ending),
@@ -94,6 +97,7 @@ fn shared<N: NodeName>(
 ) -> Result<Arc<Weighed<Node<N>>>, Refusal>
     requires name { opened ≡ N.id }
     requires first { 1 ≤ number }
+    requires own { number ≡ N.replica }
 {
     let node = Node::<N>::new(alloc, opened, number)?;
     Ok(Arc::new(alloc, Weighed::new(alloc, node))?)
@@ -119,9 +123,11 @@ where
         + Send
         + Sync
         + 'static,
-    A: Served + Drop + Send + Sync + 'static,
-    A::Seat: Send + 'static,
+    A: Served + Replies + Drop + Send + Sync + 'static,
+    <A as Host>::Seat: Send + 'static,
     A::Segment: Send,
+    A::PostSeat: Send,
+    <A as Replies>::Seat: Send,
 {
     let Ok(ending) = Arc::try_clone(ending) else {
         drop(replica);

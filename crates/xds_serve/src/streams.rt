@@ -27,6 +27,7 @@ where
     A: Served + Drop + Send + Sync + 'static,
     A::Seat: Send,
     A::Segment: Send,
+    A::PostSeat: Send,
 {
     for accepted in listener.incoming() {
         match accepted {
@@ -43,6 +44,7 @@ where
     A: Served + Drop + Send + Sync + 'static,
     A::Seat: Send,
     A::Segment: Send,
+    A::PostSeat: Send,
 {
     let (Ok(node), Ok(ending)) = (Arc::try_clone(node), Arc::try_clone(ending)) else {
         return;
@@ -60,6 +62,7 @@ where
     A: Served + Send + Sync,
     A::Seat: Send,
     A::Segment: Send,
+    A::PostSeat: Send,
 {
     let (Ok(mut reading), Ok(mut writing)) = (node.seat(rt), node.seat(rt)) else {
         return;

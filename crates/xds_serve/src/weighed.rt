@@ -6,8 +6,9 @@ use std::sync::{Mutex, Wait};
 use xds_core::{Event, Marks, Reply};
 use xds_http::Replies;
 use xds_node::{Due, Unrecorded};
+use xds_polls::HttpReply;
+use xds_posts::Posts;
 use xds_resource::Refusal;
-use xds_rest::HttpReply;
 use xds_workers::Host;
 
 /// About how many bytes the records of a journal may take: 256 MiB. A journal with more of them is cut, whatever its length.
@@ -64,6 +65,8 @@ impl<A: Served> Host for Weighed<A> {
 
     ghost told = { A.told };
 
+    ghost refused = { A.refused };
+
     fn call<R: Wait>(
         &self,
         rt: &R,
@@ -104,11 +107,55 @@ fn poll_weight(body: &[u8], reply: &HttpReply) -> u64 {
     asked.saturating_add(stated / 4).saturating_add(NAMES)
 }
 
-impl<A: Served> Replies for Weighed<A> {
-    fn reply<R: Wait>(&self, rt: &R, alloc: Global, path: &str, body: &[u8]) -> HttpReply {
-        let reply = self.node.reply(rt, alloc, path, body);
+impl<A: Served> Posts for Weighed<A> {
+    type PostSeat = A::PostSeat;
+
+    ghost replica = { A.replica };
+
+    ghost calls = { A.calls };
+
+    fn post_seat<R: Wait>(&self, rt: &R) -> Result<A::PostSeat, Refusal> {
+        self.node.post_seat(rt)
+    }
+
+    fn post_reply<R: Wait>(
+        &self,
+        rt: &R,
+        alloc: Global,
+        seat: &mut A::PostSeat,
+        path: &str,
+        body: &[u8],
+    ) -> HttpReply {
+        let reply = self.node.post_reply(rt, alloc, seat, path, body);
         self.count(rt, poll_weight(body, &reply));
         reply
+    }
+}
+
+impl<A: Served> Replies for Weighed<A> {
+    ghost use Rattle.std.specs.Prelude.{◌≡◌, codes};
+    ghost use Rattle.xds_node.specs.Told.{no_calls};
+    ghost use Rattle.xds_posts.specs.Posted.{IsReplyOrUnavailable};
+
+    type Seat = A::PostSeat;
+
+    ghost fresh = { λ s. A.calls s ≡ no_calls };
+
+    ghost replies = { λ old new path body r. IsReplyOrUnavailable A.replica (codes "POST") path body (A.calls old) (A.calls new) r };
+
+    fn seat<R: Wait>(&self, rt: &R) -> Result<A::PostSeat, Refusal> {
+        self.post_seat(rt)
+    }
+
+    fn reply<R: Wait>(
+        &self,
+        rt: &R,
+        alloc: Global,
+        seat: &mut A::PostSeat,
+        path: &str,
+        body: &[u8],
+    ) -> HttpReply {
+        self.post_reply(rt, alloc, seat, path, body)
     }
 }
 

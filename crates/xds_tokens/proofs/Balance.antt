@@ -8,10 +8,11 @@ use Rattle.atomic_table.specs.Table.{Me, step, keeps, Allows, Splits, Joins}
 use Rattle.atomic_table.proofs.Lists.{at_set, at_snoc, set_else}
 use Rattle.xds_tokens.specs.declared.holding.Holding.{Holding}
 use Rattle.xds_tokens.specs.Entries.{weigh}
-use Rattle.xds_tokens.specs.Holdings.{recorded, nothing, kept_part, lent_part, both, with_entry, with_seat, after_cut}
-use Rattle.xds_tokens.specs.Tally.{IsIdle, Balanced, Known, Rule, Appends, Sits, Cuts, Looks}
+use Rattle.xds_tokens.specs.Holdings.{recorded, nothing, kept_part, lent_part, both, with_entry, with_refused, with_seat, after_cut}
+use Rattle.xds_tokens.specs.Tally.{IsIdle, Balanced, Known, Rule, Appends, Notes, Sits, Cuts, Looks}
 use Rattle.xds_tokens.proofs.Weights.{weigh_append, weigh_more, weigh_set, weigh_length, only}
 use Rattle.xds_tokens.proofs.Covering.{Turns, covers_set, covers_fork, covers_merge, part_of}
+use Rattle.xds_tokens.proofs.Pasts.{Begins, begins_longer, begins_still, pasts_set, pasts_fork, pasts_merge, begins_own}
 
 -- the balance of one holding is the same as another's
 record Even {E : Type 0} (v w : Holding E) : Type 0 where
@@ -19,6 +20,7 @@ record Even {E : Type 0} (v w : Holding E) : Type 0 where
   seats : w.seats + v.made ≡ v.seats + w.made
   told : Turns recorded (λ u. u.told) v w
   share : Turns (λ u. u.cut) (λ u. u.share) v w
+  pasts : Begins v w
   idle : IsIdle w
 
 module _ {E : Type 0} where
@@ -49,6 +51,7 @@ module _ {E : Type 0} where
         omega arith;
     told = covers_set recorded (λ u. u.told) views i v w b.told at even.told;
     share = covers_set (λ u. u.cut) (λ u. u.share) views i v w b.share at even.share;
+    pasts = pasts_set views i v w b.pasts at even.pasts;
     idle = idle_set views i w even.idle b.idle;
   }
 
@@ -72,6 +75,7 @@ module _ {E : Type 0} where
             omega arith;
         told = covers_fork recorded (λ u. u.told) views i v w x b.told at refl refl refl refl;
         share = covers_fork (λ u. u.cut) (λ u. u.share) views i v w x b.share at refl refl refl refl;
+        pasts = pasts_fork views i v w x b.pasts at refl refl refl;
         idle = λ j u there.
             ⊎_elim
             (λ (old : get_elem? (set views i w) j ≡ some u). idle_set views i w (record { apart = mine.apart; silent = λ _. refl }) b.idle j u old)
@@ -108,6 +112,7 @@ module _ {E : Type 0} where
             omega arith;
         told = covers_merge recorded (λ u. u.told) views i other v w x nothing b.told at was_there apart refl refl no_record refl refl;
         share = covers_merge (λ u. u.cut) (λ u. u.share) views i other v w x nothing b.share at was_there apart refl refl void.1 refl refl;
+        pasts = pasts_merge views i other v w x nothing b.pasts at was_there apart refl refl void.1 refl;
         idle = idle_set first other nothing (record { apart = λ _. (refl, refl, refl); silent = λ _. refl }) (idle_set views i x (record { apart = mine.apart; silent = silent }) b.idle);
       }
 
@@ -133,6 +138,7 @@ module _ {E : Type 0} where
             let long = weigh_length v.share in
             let long_cut = weigh_length v.cut in
             only (λ u. weigh h u.share) (λ u. weigh (λ _. 1) u.share) views i v at (omega arith) (λ j u there void. no_length u.share h void));
+        pasts = begins_own views i v (λ u. u.keepers) b.pasts at alone (λ j u there void. ((b.idle j u there).apart void).1);
       }
 
   -- what the calls of the table ask, whatever becomes of its word (f), which the rule does not look at
@@ -159,9 +165,26 @@ module _ {E : Type 0} where
           each = λ x p. ⊎_elim (λ (old : Contains v.told x). inl old) (λ (new : (n, e) ≡ x). inr (subst (λ (l : List (ℕ × E)). Contains l x) (sym longer) (subst (Contains (recorded v ++ (n, e) ∷ [])) new (Contains-push (recorded v) (n, e))))) (Contains-push_cases v.told (n, e) x p);
         };
         share = unturned (λ u. u.cut) (λ u. u.share) v (with_entry n e v) refl refl;
+        pasts = begins_still v (with_entry n e v) refl refl;
         idle = record { apart = λ void. absurd (omega arith); silent = λ void. absurd (omega arith) };
       } in
       (with_entry n e v, keeps, tt, moved s.views id v (with_entry n e v) b at even, refl)
+
+  -- a note changes nothing that the rule looks at
+  pub notes : (slots id : ℕ) (m : Me E (Holding E)) (f : ℕ → ℕ) (e : E) → Allows Rule slots id m 0 f (Notes (step slots 0 0 0 (some e)) m)
+  notes slots id m f e s b wide at small =
+      let v = m.0 in
+      let w = with_refused e v in
+      let mine = b.idle id v at in
+      let even : Even v w = record {
+        one = refl;
+        seats = refl;
+        told = unturned recorded (λ u. u.told) v w refl refl;
+        share = unturned (λ u. u.cut) (λ u. u.share) v w refl refl;
+        pasts = begins_still v w refl refl;
+        idle = record { apart = mine.apart; silent = mine.silent };
+      } in
+      (w, keeps, tt, moved s.views id v w b at even, refl)
 
   pub sits : (slots id : ℕ) (m : Me E (Holding E)) (f : ℕ → ℕ) → m.0.keepers ≡ 1 → Allows Rule slots id m 0 f (Sits (step slots 0 0 0 none) m)
   sits slots id m f keeper s b wide at small =
@@ -171,6 +194,7 @@ module _ {E : Type 0} where
         seats = omega arith;
         told = unturned recorded (λ u. u.told) v (with_seat v) refl refl;
         share = unturned (λ u. u.cut) (λ u. u.share) v (with_seat v) refl refl;
+        pasts = begins_still v (with_seat v) refl refl;
         idle = record { apart = λ void. absurd (omega arith); silent = λ void. absurd (omega arith) };
       } in
       (with_seat v, keeps, tt, moved s.views id v (with_seat v) b at even, refl)
@@ -188,6 +212,10 @@ module _ {E : Type 0} where
           grows = λ x p. Contains-append_left v.cut v.journal x p;
           each = λ x p. ⊎_elim (λ (old : Contains v.share x). inl old) (λ (new : Contains v.journal x). inr (Contains-append_right v.cut v.journal x new)) (Contains-append_cases v.share v.journal x p);
         };
+        pasts = record {
+          grows = λ past begins. begins_longer past v.cut v.journal begins;
+          each = λ past p. ⊎_elim (λ (old : Contains v.pasts past). inl old) (λ (new : v.cut ≡ past). inr (v.journal, ap (λ l. l ++ v.journal) new)) (Contains-push_cases v.pasts v.cut past p);
+        };
         idle = record { apart = λ void. absurd (omega arith); silent = mine.silent };
       } in
       (after_cut v, keeps, tt, moved s.views id v (after_cut v) b at even, refl)
@@ -195,5 +223,5 @@ module _ {E : Type 0} where
   pub looks : (slots id : ℕ) (m : Me E (Holding E)) (f : ℕ → ℕ) → m.0.keepers ≡ 1 → Allows Rule slots id m 0 f (Looks (step slots 0 0 0 none) m)
   looks slots id m f keeper s b wide at small =
       let v = m.0 in
-      let even : Even v v = record { one = refl; seats = refl; told = unturned recorded (λ u. u.told) v v refl refl; share = unturned (λ u. u.cut) (λ u. u.share) v v refl refl; idle = b.idle id v at } in
+      let even : Even v v = record { one = refl; seats = refl; told = unturned recorded (λ u. u.told) v v refl refl; share = unturned (λ u. u.cut) (λ u. u.share) v v refl refl; pasts = begins_still v v refl refl; idle = b.idle id v at } in
       (v, keeps, tt, moved s.views id v v b at even, (refl, learns s.views id v b at keeper))

@@ -45,15 +45,24 @@ sole g (x ∷ xs) (suc i) (suc j) v u at there all some_weight =
     let rest : weigh g xs ≡ g v = omega arith in
     ap suc (sole g xs i j v u at there rest some_weight)
 
+-- what holds of some element holds of some element after a change of one that keeps it
+pub some_set : {X : Type 0} (P : X → Type 0) (xs : List X) (i : ℕ) (v w : X) → get_elem? xs i ≡ some v → (P v → P w) → (k : ℕ) × (u : X) × (get_elem? xs k ≡ some u) × P u → (k : ℕ) × (u : X) × (get_elem? (set xs i w) k ≡ some u) × P u
+some_set {X} P xs i v w at keeps s =
+    dite (ℕ_discrete s.0 i)
+    (λ (here : s.0 ≡ i). (i, w, set_there xs i v w at, keeps (subst P (same_there xs i s.0 v s.1 at s.2 here) s.3)))
+    (λ (else : s.0 ≢ i). (s.0, s.1, set_else xs i s.0 w else ∙ s.2, s.3))
+
+-- where what has none of a weight has none of a property, what has the property is the one element that has all the weight
+pub sole_has : {X : Type 0} (P : X → Type 0) (g : X → ℕ) (xs : List X) (i : ℕ) (v : X) → get_elem? xs i ≡ some v → weigh g xs ≡ g v → ((j : ℕ) (u : X) → get_elem? xs j ≡ some u → g u ≡ 0 → P u → P v) → (k : ℕ) × (u : X) × (get_elem? xs k ≡ some u) × P u → P v
+sole_has {X} P g xs i v at alone idle s =
+    dite (ℕ_discrete (g s.1) 0)
+    (λ (lone : g s.1 ≡ 0). idle s.0 s.1 s.2 lone s.3)
+    (λ (weighty : g s.1 ≢ 0). subst P (same_there xs i s.0 v s.1 at s.2 (sole g xs i s.0 v s.1 at s.2 alone (omega arith))) s.3)
+
 module _ {E : Type 0} (known given : Holding E → List (ℕ × E)) where
   -- after a change of one holding
   stands_set : (views : List (Holding E)) (i : ℕ) (v w : Holding E) → get_elem? views i ≡ some v → ((e : ℕ × E) → Contains (known v) e → Contains (known w) e) → (e : ℕ × E) → StandsIn known views e → StandsIn known (set views i w) e
-  stands_set views i v w at grows e s =
-      dite (ℕ_discrete s.0 i)
-      (λ (here : s.0 ≡ i).
-      let same = same_there views i s.0 v s.1 at s.2 here in
-      (i, w, set_there views i v w at, grows e (subst (λ (u : Holding E). Contains (known u) e) same s.3)))
-      (λ (else : s.0 ≢ i). (s.0, s.1, set_else views i s.0 w else ∙ s.2, s.3))
+  stands_set views i v w at grows e s = some_set (λ u. Contains (known u) e) views i v w at (grows e) s
 
   -- what is given of a holding that changes, and what it knows of it
   pub record Turns (v w : Holding E) : Type 0 where
@@ -172,9 +181,4 @@ module _ {E : Type 0} (known given : Holding E → List (ℕ × E)) where
   }
     where
       mine : (e : ℕ × E) → StandsIn known views e → Contains (known v) e
-      mine e s =
-          dite (ℕ_discrete (g s.1) 0)
-          (λ (lone : g s.1 ≡ 0). absurd (in_none (known s.1) e (idle s.0 s.1 s.2 lone) s.3))
-          (λ (weighty : g s.1 ≢ 0).
-          let here = sole g views i s.0 v s.1 at s.2 alone (omega arith) in
-          subst (λ (u : Holding E). Contains (known u) e) (same_there views i s.0 v s.1 at s.2 here) s.3)
+      mine e s = sole_has (λ u. Contains (known u) e) g views i v at alone (λ j u there lone p. absurd (in_none (known u) e (idle j u there lone) p)) s

@@ -1,5 +1,5 @@
 -- Records with their numbers, and lists of them: counted, and weighed. This project's own.
-use Rattle.std.specs.Prelude.{◌≡◌, ℕ, ◌+◌, ◌<◌, List, [], ◌∷◌, map, All}
+use Rattle.std.specs.Prelude.{◌≡◌, ℕ, ◌+◌, ◌<◌, List, [], ◌∷◌, ◌++◌, map, All}
 
 -- a record with its number
 abbrev pub Entry : Type 0 → Type 0
@@ -22,6 +22,10 @@ Counted n (e ∷ es) = (e.0 ≡ n) × Counted (n + 1) es
 -- each entry has a number below this one
 abbrev pub AllBelow : {E : Type 0} → ℕ → List (ℕ × E) → Type 0
 AllBelow n entries = All (λ e. e.0 < n) entries
+
+-- the one list is a beginning of the other
+abbrev pub IsBeginning : {X : Type 0} → List X → List X → Type 0
+IsBeginning {X} front all = (rear : List X) × (all ≡ front ++ rear)
 
 -- the weights of all elements, added up
 abbrev pub weigh : {X : Type 0} → (X → ℕ) → List X → ℕ

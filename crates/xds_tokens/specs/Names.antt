@@ -1,5 +1,5 @@
--- The name of a node, which tells its tokens from those of any other node. This project's own.
-use Rattle.std.specs.Prelude.{[]}
+-- The name of a node, which tells its tokens from those of any other node, and the number of its replica. This project's own.
+use Rattle.std.specs.Prelude.{ℕ, []}
 use base.Stored.{Coded}
 use Rattle.atomic_table.specs.Seated.{TableId, table_id_coded}
 
@@ -13,3 +13,7 @@ node_id_code = table_id_coded
 -- the name of no node
 abbrev pub no_node : NodeId
 no_node = record { words = 0; slots = 0; views_name = 0; atom = 0; block = 0; offset = 0; slot_names = [] }
+
+-- the number of no replica
+abbrev pub no_replica : ℕ
+no_replica = 0

@@ -13,6 +13,9 @@ pub struct Holding<E> {
     /// How many seats it stands for, and what they were told.
     pub seats: u64,
     pub told: LinkedList<(u64, E)>,
-    /// Its share of what was cut.
+    /// The calls of its seats that left no record, each as its event and its refusal.
+    pub refused: LinkedList<E>,
+    /// Its shares of what was cut, and what was cut before each of them.
     pub share: LinkedList<(u64, E)>,
+    pub pasts: LinkedList<LinkedList<(u64, E)>>,
 }

@@ -3,17 +3,23 @@ use crate::holding::Holding;
 use atomic_table::{Join, Play, Split, TableRule};
 use std::marker::Brand;
 
-/// Names one node. Each call of a program that makes a node picks the name, so that a token of another node doesn't compile.
+/// Names one node, and says the number of its replica. Each call of a program that makes a node picks both, so that a token of
+/// another node doesn't compile, and no other replica goes by the number.
 pub trait NodeName {
+    ghost use Rattle.std.specs.Prelude.{ℕ};
     ghost use Rattle.xds_tokens.specs.Names.{NodeId};
 
     ghost id: { NodeId };
+
+    ghost replica: { ℕ };
 }
 
 impl NodeName for Brand {
-    ghost use Rattle.xds_tokens.specs.Names.{no_node};
+    ghost use Rattle.xds_tokens.specs.Names.{no_node, no_replica};
 
     ghost id = { no_node };
+
+    ghost replica = { no_replica };
 }
 
 // What seats were told weighs as much as what was recorded, and what is shared as much as what was cut.
@@ -36,6 +42,15 @@ impl<E> Play<E, Holding<E>> for Append {
     ghost use Rattle.xds_tokens.specs.Tally.{Appends};
 
     ghost then = { Appends };
+}
+
+// The step that notes a call that left no record.
+pub struct Note;
+
+impl<E> Play<E, Holding<E>> for Note {
+    ghost use Rattle.xds_tokens.specs.Tally.{Notes};
+
+    ghost then = { Notes };
 }
 
 // The step that makes one more seat.
@@ -65,7 +80,7 @@ impl<E> Play<E, Holding<E>> for Look {
     ghost then = { Looks };
 }
 
-// What is lent is all but what a keeper knows.
+// What is lent is all but what a keeper knows, and what a seat was refused.
 pub struct Lend;
 
 impl<E> Split<Holding<E>> for Lend {

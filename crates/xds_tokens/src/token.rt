@@ -1,10 +1,10 @@
 // The tokens of one node.
 ghost use Rattle.std.specs.Prelude.{◌≡◌, ◌+◌, ◌<◌, [], ◌∷◌, ◌++◌, All, Contains};
-ghost use Rattle.xds_tokens.specs.Holdings.{keeper, seat_holding, share_holding, kept_part, lent_part, both, with_entry, with_seat, after_cut, recorded, IsAlone};
+ghost use Rattle.xds_tokens.specs.Holdings.{keeper, seat_holding, share_holding, kept_part, lent_part, both, with_entry, with_refused, with_seat, after_cut, recorded, IsAlone};
 ghost use Rattle.xds_tokens.specs.Tally.{Known};
 
 use crate::holding::Holding;
-use crate::rule::{Append, Cut, Give, Lend, Look, NodeName, Sit, Tally};
+use crate::rule::{Append, Cut, Give, Lend, Look, NodeName, Note, Sit, Tally};
 use atomic_table::{Seat, Table};
 use std::alloc::{AllocError, Global};
 use std::marker::{Model, PhantomData};
@@ -84,7 +84,7 @@ impl<E> Opened<E> {
 }
 
 impl<E, N: NodeName> Tokens<E, N> {
-    /// Takes out of a token all but what a keeper knows.
+    /// Takes out of a token all but what a keeper knows, and what a seat was refused.
     pub fn lend(&self, token: &mut Token<E, N>) -> Token<E, N>
         ensures left { token.new ≡ kept_part token.old }
         ensures lent { result ≡ lent_part token.old }
@@ -115,6 +115,16 @@ impl<E, N: NodeName> Tokens<E, N> {
             .compare_exchange_with::<Append>(&mut token.seat, 0, number, number, entry);
     }
 
+    /// Notes at a token that a call left no record.
+    pub fn note(&self, token: &mut Token<E, N>, refused: &E)
+        ensures { token.new ≡ with_refused refused.now token.old }
+    {
+        let _found = self
+            .table
+            .shared
+            .compare_exchange_with::<Note>(&mut token.seat, 0, 0, 0, refused);
+    }
+
     /// Makes one more seat, which was told nothing. The keeper has it.
     pub fn sit(&self, token: &mut Token<E, N>)
         requires { token.old.keepers ≡ 1 }
@@ -123,7 +133,7 @@ impl<E, N: NodeName> Tokens<E, N> {
         let _found = self.table.shared.load::<Sit>(&mut token.seat, 0);
     }
 
-    /// Cuts the journal. The keeper has the share of it.
+    /// Cuts the journal. The keeper has the share of it, and what was cut before.
     pub fn cut(&self, token: &mut Token<E, N>)
         requires { token.old.keepers ≡ 1 }
         ensures { token.new ≡ after_cut token.old }
@@ -139,11 +149,12 @@ impl<E, N: NodeName> Tokens<E, N> {
     {
         let _found = self.table.shared.load::<Look>(&mut token.seat, 0);
     }
+
     /// Makes one more seat, which was told nothing, and hands it out.
     pub fn seat(&self, token: &mut Token<E, N>) -> Token<E, N>
         requires { IsAlone token.old }
         ensures kept { token.new ≡ keeper (token.old.made + 1) token.old.cut token.old.journal }
-        ensures seat { result ≡ seat_holding [] }
+        ensures seat { result ≡ seat_holding [] [] }
     {
         self.sit(token);
         self.lend(token)
@@ -152,9 +163,9 @@ impl<E, N: NodeName> Tokens<E, N> {
     /// Adds an entry to the keeper's journal, and tells it to a seat, in one step. All that the seat was told before is recorded.
     pub fn tell(&self, token: &mut Token<E, N>, seat: &mut Token<E, N>, number: u64, entry: &E)
         requires kept { IsAlone token.old }
-        requires seat { seat.old ≡ seat_holding seat.old.told }
+        requires seat { seat.old ≡ seat_holding seat.old.told seat.old.refused }
         ensures kept { token.new ≡ keeper token.old.made token.old.cut (token.old.journal ++ (number, entry.now) ∷ []) }
-        ensures told { seat.new ≡ seat_holding (seat.old.told ++ (number, entry.now) ∷ []) }
+        ensures told { seat.new ≡ seat_holding (seat.old.told ++ (number, entry.now) ∷ []) seat.old.refused }
         ensures stands { All (Contains (recorded token.old)) seat.old.told }
     {
         let lent = self.lend(seat);
@@ -165,11 +176,11 @@ impl<E, N: NodeName> Tokens<E, N> {
         self.give(seat, back);
     }
 
-    /// Cuts the keeper's journal, and hands out the share of it.
+    /// Cuts the keeper's journal, and hands out the share of it, with what was cut before.
     pub fn share(&self, token: &mut Token<E, N>) -> Token<E, N>
         requires { IsAlone token.old }
         ensures kept { token.new ≡ keeper token.old.made (recorded token.old) [] }
-        ensures share { result ≡ share_holding token.old.journal }
+        ensures share { result ≡ share_holding token.old.cut token.old.journal }
     {
         self.cut(token);
         self.lend(token)

@@ -4,3 +4,5 @@ pub mod Readings
 pub mod Tellings
 pub mod Mergings
 pub mod Unpacking
+pub mod Comparing
+pub mod Packing

@@ -6,7 +6,7 @@ use Rattle.std.proofs.lemmas.Bool.{false≢true, ne_eqb}
 use Rattle.std.proofs.lemmas.Grind.{flat_map-append}
 use Rattle.std.proofs.lemmas.List.Elements.{All-nil, All-push}
 use Rattle.xds_resource.specs.declared.refusal.Refusal.{Refusal}
-use Rattle.xds_resource.specs.declared.refusal.Refusal.TheVariants.{OutOfMemory, FrameTooLong}
+use Rattle.xds_resource.specs.declared.refusal.Refusal.TheVariants.{OutOfMemory}
 use Rattle.xds_resource.specs.PerType.{PerType, each}
 use Rattle.xds_resource.specs.TypedWrites.{TypedWrite}
 use Rattle.xds_resource.specs.Writes.{StampedWrite}
@@ -16,16 +16,15 @@ use Rattle.xds_outbox.specs.Parts.{IsNextPart, is_part, parts_behind, parts_of}
 use Rattle.xds_core.specs.Events.{Reply, Since}
 use Rattle.xds_core.specs.Legal.{Record}
 use Rattle.xds_link.specs.Ends.{Begins}
-use Rattle.xds_node.specs.Told.{IsTold, LeavesNoRecord}
 use Rattle.xds_workers.specs.declared.exchange.Ended.{Ended}
 use Rattle.xds_workers.specs.declared.exchange.Ended.TheVariants as ended
 use Rattle.xds_workers.specs.declared.exchange.Unsent.{Unsent}
 use Rattle.xds_workers.specs.declared.exchange.Unsent.TheVariants as unsent
 use Rattle.xds_workers.specs.declared.parcels.Receipt.{Receipt}
 use Rattle.xds_workers.specs.declared.parcels.Receipt.TheVariants.{Merged, Lost}
-use Rattle.xds_workers.specs.Told.{IsAnswered}
 use Rattle.xds_workers.specs.Parcels.{batch_frame, changed_in, packed, parcels_of}
-use Rattle.xds_workers.specs.Exchanging.{Follows, HasTold, IsLastTurn, IsReason, IsTurn, Puts, Settles, Turn, TurnEnds, given_up}
+use Rattle.xds_workers.specs.Exchanging.{Follows, HasTold, IsCutOff, IsGivenUp, IsLastTurn, IsReason, IsTurn, Puts, Settles, Turn, TurnEnds, given_up}
+use Rattle.xds_workers.proofs.Callings.{Answering}
 
 -- ---- parcels
 
@@ -114,136 +113,152 @@ module _ (ws order : List TypedWrite) (old new : List (List ℕ × Bool)) (had h
   settles_err e (reason, (put, is, begins)) none = (reason, (put, is, subst (λ (l : List TypedWrite). Begins put (parcels_of l)) same begins), none)
 
 pub settles_unfilled : (parcels old : List (List ℕ × Bool)) (had : List Receipt) (e : Refusal) → e ≡ OutOfMemory → Settles parcels old old had had (Err (unsent.Refused e))
-settles_unfilled parcels old had e memory = (inl memory, ([], sym (append-nil old), (parcels, refl)), refl)
+settles_unfilled parcels old had e memory = (memory, ([], sym (append-nil old), (parcels, refl)), refl)
 
 -- ---- one turn
 
-module _ (marks : PerType ℕ) (s0 s1 : List (ℕ × Record)) (p0 p1 : List (List ℕ × Bool)) (g0 g1 : List Receipt) where
+-- a turn that was cut off is one that was given up, and was told something
+given_off : (t : Turn) → IsCutOff t → IsGivenUp t
+given_off t (again, (entry, since, granted, begins)) = (again, inr (entry, since, begins))
+
+something : (t : Turn) → IsCutOff t → t.told ≢ []
+something t (again, (entry, since, granted, begins)) none = one (sym since.0 ∙ none)
+  where
+    one : entry ∷ [] ≡ [] → ⊥
+    one same = absurd cc
+
+module _ (marks : PerType ℕ) (s0 s1 : List (ℕ × Record)) (r0 r1 : List Record) (p0 p1 : List (List ℕ × Bool)) (g0 g1 : List Receipt) where
   -- a turn, from these marks to those, and how it ends
   abbrev pub Turned : PerType ℕ → Result Bool Refusal → Type 0
-  Turned after r = (t : Turn) × (t.marks ≡ marks) × (t.after ≡ after) × (s1 ≡ s0 ++ t.told) × (p1 ≡ p0 ++ t.put) × (g1 ≡ g0 ++ t.receipts) × TurnEnds t r
+  Turned after r =
+      (t : Turn) × (t.marks ≡ marks) × (t.after ≡ after) × (s1 ≡ s0 ++ t.told) × (r1 ≡ r0 ++ t.tried) × (p1 ≡ p0 ++ t.put) × (g1 ≡ g0 ++ t.receipts) × TurnEnds t r
 
-  pub turn_refused : (after : PerType ℕ) (e : Refusal) → after ≡ each 0 → p1 ≡ p0 → g1 ≡ g0 → IsAnswered s0 s1 (Since marks) (Err e) → Turned after (Err e)
-  turn_refused after e zeros put got (inl (n, is, below)) =
+  pub turn_refused : (after : PerType ℕ) (e : Refusal) → after ≡ each 0 → p1 ≡ p0 → g1 ≡ g0 → Answering s0 s1 r0 r1 (Since marks) (Err e) → Turned after (Err e)
+  turn_refused after e zeros put got (tries, grew, inl ((n, is, below), tried)) =
       let entry : ℕ × Record = (n, record { event = Since marks; answer = Err e }) in (
-        record { marks = marks; told = entry ∷ []; put = []; receipts = []; after = each 0 },
+        record { marks = marks; told = entry ∷ []; tried = tries; put = []; receipts = []; after = each 0 },
         refl,
         sym zeros,
         is,
+        grew,
         put ∙ sym (append-nil p0),
         got ∙ sym (append-nil g0),
-        ((refl, refl, inr (entry, (refl, refl), ([], refl))), inl (entry, refl, refl)),
+        (((refl, refl), inr (entry, (refl, refl, tried), ([], refl))), inl (entry, refl, refl)),
       )
-  turn_refused after e zeros put got (inr (none, is)) = (
-    record { marks = marks; told = []; put = []; receipts = []; after = each 0 },
+  turn_refused after e zeros put got (tries, grew, inr (none, is, vain)) = (
+    record { marks = marks; told = []; tried = tries; put = []; receipts = []; after = each 0 },
     refl,
     sym zeros,
     is ∙ sym (append-nil s0),
+    grew,
     put ∙ sym (append-nil p0),
     got ∙ sym (append-nil g0),
-    ((refl, refl, inl (refl, refl)), inr (inl none)),
+    (((refl, refl), inl (e, (refl, refl, none, vain))), inr (inl (refl, refl, none, vain))),
   )
 
-  merged_by : (after : PerType ℕ) (reply : Reply) (batch : PerType (List StampedWrite)) → IsTold s0 s1 (Since marks) (Ok reply) → batch ≡ (changed_in reply).0 → after ≡ (changed_in reply).1
+  merged_by : (after : PerType ℕ) (reply : Reply) (batch : PerType (List StampedWrite)) → Answering s0 s1 r0 r1 (Since marks) (Ok reply) → batch ≡ (changed_in reply).0 → after ≡ (changed_in reply).1
       → Settles (parcels_of (in_order batch)) p0 p1 g0 g1 (Ok Merged) → Turned after (Ok true)
-  merged_by after reply batch (n, is, below) batch_is after_is (put, received) =
+  merged_by after reply batch (tries, grew, ((n, is, below), tried)) batch_is after_is (put, received) =
       let entry : ℕ × Record = (n, record { event = Since marks; answer = Ok reply }) in
       let told_put : p1 ≡ p0 ++ parcels_of (in_order (changed_in reply).0) = put ∙ ap (λ (b : PerType (List StampedWrite)). p0 ++ parcels_of (in_order b)) batch_is in
       elim received [
         | inl (none, merged, same) ↦ (
-          record { marks = marks; told = entry ∷ []; put = parcels_of (in_order (changed_in reply).0); receipts = []; after = (changed_in reply).1 },
+          record { marks = marks; told = entry ∷ []; tried = tries; put = parcels_of (in_order (changed_in reply).0); receipts = []; after = (changed_in reply).1 },
           refl,
           sym after_is,
           is,
+          grew,
           told_put,
           same ∙ sym (append-nil g0),
-          (entry, (refl, refl), refl, refl, inl (subst (λ (b : PerType (List StampedWrite)). parcels_of (in_order b) ≡ []) batch_is none, refl, refl)),
+          (entry, (refl, refl, tried), refl, refl, inl (subst (λ (b : PerType (List StampedWrite)). parcels_of (in_order b) ≡ []) batch_is none, refl, refl)),
         )
         | inr (some, more) ↦ (
-          record { marks = marks; told = entry ∷ []; put = parcels_of (in_order (changed_in reply).0); receipts = Merged ∷ []; after = (changed_in reply).1 },
+          record { marks = marks; told = entry ∷ []; tried = tries; put = parcels_of (in_order (changed_in reply).0); receipts = Merged ∷ []; after = (changed_in reply).1 },
           refl,
           sym after_is,
           is,
+          grew,
           told_put,
           more,
-          (entry, (refl, refl), refl, refl, inr (inl (subst (λ (b : PerType (List StampedWrite)). parcels_of (in_order b) ≢ []) batch_is some, refl, refl))),
+          (entry, (refl, refl, tried), refl, refl, inr (inl (subst (λ (b : PerType (List StampedWrite)). parcels_of (in_order b) ≢ []) batch_is some, refl, refl))),
         )
       ]
 
-  lost_by : (after : PerType ℕ) (reply : Reply) (batch : PerType (List StampedWrite)) → IsTold s0 s1 (Since marks) (Ok reply) → batch ≡ (changed_in reply).0 → after ≡ each 0
+  lost_by : (after : PerType ℕ) (reply : Reply) (batch : PerType (List StampedWrite)) → Answering s0 s1 r0 r1 (Since marks) (Ok reply) → batch ≡ (changed_in reply).0 → after ≡ each 0
       → Settles (parcels_of (in_order batch)) p0 p1 g0 g1 (Ok Lost) → Turned after (Ok true)
-  lost_by after reply batch (n, is, below) batch_is zeros (put, received) =
+  lost_by after reply batch (tries, grew, ((n, is, below), tried)) batch_is zeros (put, received) =
       let entry : ℕ × Record = (n, record { event = Since marks; answer = Ok reply }) in
       let told_put : p1 ≡ p0 ++ parcels_of (in_order (changed_in reply).0) = put ∙ ap (λ (b : PerType (List StampedWrite)). p0 ++ parcels_of (in_order b)) batch_is in
       elim received [
         | inl (none, merged, same) ↦ absurd (apart merged)
         | inr (some, more) ↦ (
-          record { marks = marks; told = entry ∷ []; put = parcels_of (in_order (changed_in reply).0); receipts = Lost ∷ []; after = each 0 },
+          record { marks = marks; told = entry ∷ []; tried = tries; put = parcels_of (in_order (changed_in reply).0); receipts = Lost ∷ []; after = each 0 },
           refl,
           sym zeros,
           is,
+          grew,
           told_put,
           more,
-          (entry, (refl, refl), refl, refl, inr (inr (subst (λ (b : PerType (List StampedWrite)). parcels_of (in_order b) ≢ []) batch_is some, refl, refl))),
+          (entry, (refl, refl, tried), refl, refl, inr (inr (subst (λ (b : PerType (List StampedWrite)). parcels_of (in_order b) ≢ []) batch_is some, refl, refl))),
         )
       ]
     where
       apart : Lost ≡ Merged → ⊥
       apart same = absurd cc
 
-  left_over : (reply : Reply) (batch : PerType (List StampedWrite)) (e : Unsent) → IsTold s0 s1 (Since marks) (Ok reply) → batch ≡ (changed_in reply).0
+  -- a batch that was told, and isn't sent
+  left_over : (reply : Reply) (batch : PerType (List StampedWrite)) (e : Unsent) → Answering s0 s1 r0 r1 (Since marks) (Ok reply) → batch ≡ (changed_in reply).0
       → Settles (parcels_of (in_order batch)) p0 p1 g0 g1 (Err e)
-      → (t : Turn) × (t.marks ≡ marks) × (t.after ≡ each 0) × (s1 ≡ s0 ++ t.told) × (p1 ≡ p0 ++ t.put) × (g1 ≡ g0 ++ t.receipts) × TurnEnds t (Ok false)
-  left_over reply batch e (n, is, below) batch_is (reason, (put, more, begins), same) =
+      → (t : Turn) × (t.marks ≡ marks) × (t.after ≡ each 0) × (s1 ≡ s0 ++ t.told) × (r1 ≡ r0 ++ t.tried) × (p1 ≡ p0 ++ t.put) × (g1 ≡ g0 ++ t.receipts) × IsCutOff t
+  left_over reply batch e (tries, grew, ((n, is, below), tried)) batch_is (reason, (put, more, begins), same) =
       let entry : ℕ × Record = (n, record { event = Since marks; answer = Ok reply }) in (
-        record { marks = marks; told = entry ∷ []; put = put; receipts = []; after = each 0 },
+        record { marks = marks; told = entry ∷ []; tried = tries; put = put; receipts = []; after = each 0 },
         refl,
         refl,
         is,
+        grew,
         more,
         same ∙ sym (append-nil g0),
-        (refl, refl, inr (entry, (refl, refl), subst (λ (b : PerType (List StampedWrite)). Begins put (parcels_of (in_order b))) batch_is begins)),
+        ((refl, refl), (entry, (refl, refl, tried), refl, subst (λ (b : PerType (List StampedWrite)). Begins put (parcels_of (in_order b))) batch_is begins)),
       )
 
-  pub turn_merged : (after : PerType ℕ) (reply : Reply) (batch : PerType (List StampedWrite)) (receipt : Receipt) → IsTold s0 s1 (Since marks) (Ok reply) → batch ≡ (changed_in reply).0
+  pub turn_merged : (after : PerType ℕ) (reply : Reply) (batch : PerType (List StampedWrite)) (receipt : Receipt) → Answering s0 s1 r0 r1 (Since marks) (Ok reply) → batch ≡ (changed_in reply).0
       → after ≡ (changed_in reply).1 → receipt ≡ Merged → Settles (parcels_of (in_order batch)) p0 p1 g0 g1 (Ok receipt) → Turned after (Ok true)
   turn_merged after reply batch receipt told batch_is after_is is settles =
       merged_by after reply batch told batch_is after_is (subst (λ (x : Receipt). Settles (parcels_of (in_order batch)) p0 p1 g0 g1 (Ok x)) is settles)
 
-  pub turn_lost : (after : PerType ℕ) (reply : Reply) (batch : PerType (List StampedWrite)) (receipt : Receipt) → IsTold s0 s1 (Since marks) (Ok reply) → batch ≡ (changed_in reply).0 → after ≡ each 0
+  pub turn_lost : (after : PerType ℕ) (reply : Reply) (batch : PerType (List StampedWrite)) (receipt : Receipt) → Answering s0 s1 r0 r1 (Since marks) (Ok reply) → batch ≡ (changed_in reply).0 → after ≡ each 0
       → receipt ≡ Lost → Settles (parcels_of (in_order batch)) p0 p1 g0 g1 (Ok receipt) → Turned after (Ok true)
   turn_lost after reply batch receipt told batch_is zeros is settles =
       lost_by after reply batch told batch_is zeros (subst (λ (x : Receipt). Settles (parcels_of (in_order batch)) p0 p1 g0 g1 (Ok x)) is settles)
 
-  reasons : (why : Refusal) → (why ≡ OutOfMemory) ⊎ (why ≡ FrameTooLong) → LeavesNoRecord why ⊎ (why ≡ FrameTooLong)
-  reasons why (inl memory) = inl (inl memory)
-  reasons why (inr long) = inr long
-
-  ended_by : (after : PerType ℕ) (reply : Reply) (batch : PerType (List StampedWrite)) (u : Unsent) → IsTold s0 s1 (Since marks) (Ok reply) → batch ≡ (changed_in reply).0 → after ≡ each 0
+  ended_by : (after : PerType ℕ) (reply : Reply) (batch : PerType (List StampedWrite)) (u : Unsent) → Answering s0 s1 r0 r1 (Since marks) (Ok reply) → batch ≡ (changed_in reply).0 → after ≡ each 0
       → Settles (parcels_of (in_order batch)) p0 p1 g0 g1 (Err u) → Turned after (given_up u)
   ended_by after reply batch unsent.Unlinked told batch_is zeros settles =
-      let (t, a, b, c, d, e, f) = left_over reply batch unsent.Unlinked told batch_is settles in
-      (t, a, b ∙ sym zeros, c, d, e, f)
+      let (t, a, b, c, d, e, f, off) = left_over reply batch unsent.Unlinked told batch_is settles in
+      (t, a, b ∙ sym zeros, c, d, e, f, off)
   ended_by after reply batch (unsent.Refused why) told batch_is zeros settles =
-      let (t, a, b, c, d, e, f) = left_over reply batch (unsent.Refused why) told batch_is settles in
-      (t, a, b ∙ sym zeros, c, d, e, (f, inr (reasons why settles.0)))
+      let (t, a, b, c, d, e, f, off) = left_over reply batch (unsent.Refused why) told batch_is settles in
+      (t, a, b ∙ sym zeros, c, d, e, f, (given_off t off, inr (inr (something t off, settles.0))))
 
-  pub turn_given_up : (after : PerType ℕ) (reply : Reply) (batch : PerType (List StampedWrite)) (u : Unsent) (r : Result Bool Refusal) → IsTold s0 s1 (Since marks) (Ok reply)
+  pub turn_given_up : (after : PerType ℕ) (reply : Reply) (batch : PerType (List StampedWrite)) (u : Unsent) (r : Result Bool Refusal) → Answering s0 s1 r0 r1 (Since marks) (Ok reply)
       → batch ≡ (changed_in reply).0 → after ≡ each 0 → Settles (parcels_of (in_order batch)) p0 p1 g0 g1 (Err u) → r ≡ given_up u → Turned after r
   turn_given_up after reply batch u r told batch_is zeros settles is = subst (λ (x : Result Bool Refusal). Turned after x) (sym is) (ended_by after reply batch u told batch_is zeros settles)
 
 -- ---- turns one after another
 
 -- these turns were made, with what they told, put and took
-pub record ByTurns (s0 s1 : List (ℕ × Record)) (p0 p1 : List (List ℕ × Bool)) (g0 g1 : List Receipt) (turns : List Turn) (marks : PerType ℕ) : Type 0 where
+pub record ByTurns (s0 s1 : List (ℕ × Record)) (r0 r1 : List Record) (p0 p1 : List (List ℕ × Bool)) (g0 g1 : List Receipt) (turns : List Turn) (marks : PerType ℕ) : Type 0 where
   pub are : All IsTurn turns
   pub follow : Follows (each 0) turns marks
   pub told : s1 ≡ s0 ++ flat_map (λ t. t.told) turns
+  pub tried : r1 ≡ r0 ++ flat_map (λ t. t.tried) turns
   pub put : p1 ≡ p0 ++ flat_map (λ t. t.put) turns
   pub got : g1 ≡ g0 ++ flat_map (λ t. t.receipts) turns
 
-pub telling-start : (s : List (ℕ × Record)) (p : List (List ℕ × Bool)) (g : List Receipt) (marks : PerType ℕ) → marks ≡ each 0 → (turns : List Turn) × ByTurns s s p p g g turns marks
-telling-start s p g marks zeros = ([], record { are = All-nil IsTurn; follow = sym zeros; told = sym (append-nil s); put = sym (append-nil p); got = sym (append-nil g) })
+pub telling-start : (s : List (ℕ × Record)) (r : List Record) (p : List (List ℕ × Bool)) (g : List Receipt) (marks : PerType ℕ) → marks ≡ each 0 → (turns : List Turn) × ByTurns s s r r p p g g turns marks
+telling-start s r p g marks zeros =
+    ([], record { are = All-nil IsTurn; follow = sym zeros; told = sym (append-nil s); tried = sym (append-nil r); put = sym (append-nil p); got = sym (append-nil g) })
 
 follow-snoc : (first : PerType ℕ) (turns : List Turn) (marks after : PerType ℕ) (t : Turn) → Follows first turns marks → t.marks ≡ marks → t.after ≡ after → Follows first (turns ++ t ∷ []) after
 follow-snoc first [] marks after t is from to = (from ∙ sym is, to)
@@ -256,47 +271,58 @@ grown f turns t old mid new is more =
 
 is_turn : (t : Turn) (r : Result Bool Refusal) → TurnEnds t r → IsTurn t
 is_turn t (Ok true) ends = inl ends
-is_turn t (Ok false) ends = inr ends
+is_turn t (Ok false) ends = inr (given_off t ends)
 is_turn t (Err e) ends = inr ends.0
 
-module _ (s0 s1 s2 : List (ℕ × Record)) (p0 p1 p2 : List (List ℕ × Bool)) (g0 g1 g2 : List Receipt) (marks after : PerType ℕ) where
-  more_by : (turns : List Turn) (r : Result Bool Refusal) (so : ByTurns s0 s1 p0 p1 g0 g1 turns marks) (turn : Turned marks s1 s2 p1 p2 g1 g2 after r) → ByTurns s0 s2 p0 p2 g0 g2 (turns ++ turn.0 ∷ []) after
-  more_by turns r so (t, from, to, told, put, got, ends) = record {
+module _ (s0 s1 s2 : List (ℕ × Record)) (r0 r1 r2 : List Record) (p0 p1 p2 : List (List ℕ × Bool)) (g0 g1 g2 : List Receipt) (marks after : PerType ℕ) where
+  -- these turns were made before
+  abbrev pub Made : Type 0
+  Made = (turns : List Turn) × ByTurns s0 s1 r0 r1 p0 p1 g0 g1 turns marks
+
+  -- and this one more
+  abbrev pub More : Result Bool Refusal → Type 0
+  More r = Turned marks s1 s2 r1 r2 p1 p2 g1 g2 after r
+
+  more_by : (turns : List Turn) (r : Result Bool Refusal) (so : ByTurns s0 s1 r0 r1 p0 p1 g0 g1 turns marks) (turn : More r) → ByTurns s0 s2 r0 r2 p0 p2 g0 g2 (turns ++ turn.0 ∷ []) after
+  more_by turns r so (t, from, to, told, tried, put, got, ends) = record {
     are = All-push IsTurn turns t so.are (is_turn t r ends);
     follow = follow-snoc (each 0) turns marks after t so.follow from to;
     told = grown (λ u. u.told) turns t s0 s1 s2 so.told told;
+    tried = grown (λ u. u.tried) turns t r0 r1 r2 so.tried tried;
     put = grown (λ u. u.put) turns t p0 p1 p2 so.put put;
     got = grown (λ u. u.receipts) turns t g0 g1 g2 so.got got;
   }
 
   -- it goes on
-  pub telling-more : (r : Result Bool Refusal) → ((turns : List Turn) × ByTurns s0 s1 p0 p1 g0 g1 turns marks) → Turned marks s1 s2 p1 p2 g1 g2 after r → (turns : List Turn) × ByTurns s0 s2 p0 p2 g0 g2 turns after
+  pub telling-more : (r : Result Bool Refusal) → Made → More r → (turns : List Turn) × ByTurns s0 s2 r0 r2 p0 p2 g0 g2 turns after
   telling-more r (turns, so) turn = (turns ++ turn.0 ∷ [], more_by turns r so turn)
 
   -- all of it, where it ends so
   abbrev pub Tells : Result Ended Refusal → Type 0
   Tells q =
-      (told : List (ℕ × Record)) × (put : List (List ℕ × Bool)) × (got : List Receipt) × (s2 ≡ s0 ++ told) × (p2 ≡ p0 ++ put) × (g2 ≡ g0 ++ got) × HasTold told put got q
+      (told : List (ℕ × Record)) × (tried : List Record) × (put : List (List ℕ × Bool)) × (got : List Receipt)
+      × (s2 ≡ s0 ++ told) × (r2 ≡ r0 ++ tried) × (p2 ≡ p0 ++ put) × (g2 ≡ g0 ++ got) × HasTold told tried put got q
 
-  all_of : (turns : List Turn) (r : Result Bool Refusal) (q : Result Ended Refusal) (so : ByTurns s0 s1 p0 p1 g0 g1 turns marks) (turn : Turned marks s1 s2 p1 p2 g1 g2 after r)
-      → IsLastTurn turn.0 q → Tells q
+  all_of : (turns : List Turn) (r : Result Bool Refusal) (q : Result Ended Refusal) (so : ByTurns s0 s1 r0 r1 p0 p1 g0 g1 turns marks) (turn : More r) → IsLastTurn turn.0 q → Tells q
   all_of turns r q so turn last =
       let t = turn.0 in
       let more = more_by turns r so turn in (
         flat_map (λ u. u.told) (turns ++ t ∷ []),
+        flat_map (λ u. u.tried) (turns ++ t ∷ []),
         flat_map (λ u. u.put) (turns ++ t ∷ []),
         flat_map (λ u. u.receipts) (turns ++ t ∷ []),
         more.told,
+        more.tried,
         more.put,
         more.got,
-        (turns, t, after, record { are = more.are; follow = more.follow; told_are = refl; put_are = refl; receipts_are = refl }, last),
+        (turns, t, after, record { are = more.are; follow = more.follow; told_are = refl; tried_are = refl; put_are = refl; receipts_are = refl }, last),
       )
 
-  pub telling-stopped : ((turns : List Turn) × ByTurns s0 s1 p0 p1 g0 g1 turns marks) → Turned marks s1 s2 p1 p2 g1 g2 after (Ok true) → Tells (Ok ended.Stopped)
-  telling-stopped (turns, so) turn = all_of turns (Ok true) (Ok ended.Stopped) so turn turn.6
+  pub telling-stopped : Made → More (Ok true) → Tells (Ok ended.Stopped)
+  telling-stopped (turns, so) turn = all_of turns (Ok true) (Ok ended.Stopped) so turn turn.7
 
-  pub telling-unlinked : ((turns : List Turn) × ByTurns s0 s1 p0 p1 g0 g1 turns marks) → Turned marks s1 s2 p1 p2 g1 g2 after (Ok false) → Tells (Ok ended.Unlinked)
-  telling-unlinked (turns, so) turn = all_of turns (Ok false) (Ok ended.Unlinked) so turn turn.6
+  pub telling-unlinked : Made → More (Ok false) → Tells (Ok ended.Unlinked)
+  telling-unlinked (turns, so) turn = all_of turns (Ok false) (Ok ended.Unlinked) so turn turn.7
 
-  pub telling-failed : (e : Refusal) → ((turns : List Turn) × ByTurns s0 s1 p0 p1 g0 g1 turns marks) → Turned marks s1 s2 p1 p2 g1 g2 after (Err e) → Tells (Err e)
-  telling-failed e (turns, so) turn = all_of turns (Err e) (Err e) so turn turn.6
+  pub telling-failed : (e : Refusal) → Made → More (Err e) → Tells (Err e)
+  telling-failed e (turns, so) turn = all_of turns (Err e) (Err e) so turn turn.7

@@ -3,3 +3,4 @@ pub mod Writing
 pub mod Reading
 pub mod Parcels
 pub mod Exchanging
+pub mod Whole

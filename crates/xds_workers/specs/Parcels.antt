@@ -1,20 +1,16 @@
 -- How a batch is sent from one replica to another: in parcels, each of which has the frame of a part. This project's own.
 use Rattle.std.specs.Prelude.{◌≡◌, ◌==◌, ℕ, List, [], ◌∷◌, ◌++◌, Bool, length, Result, Ok, Err}
-use Rattle.serde_json.specs.Written.{compact_text}
 use Rattle.serde_json.specs.Data.{Data}
 use Rattle.xds_resource.specs.PerType.{PerType, each}
 use Rattle.xds_resource.specs.TypedWrites.{TypedWrite}
 use Rattle.xds_resource.specs.Writes.{StampedWrite}
 use Rattle.xds_frames.specs.declared.frame.FrameKind.TheVariants as kinds
-use Rattle.xds_frames.specs.Frames.{Framed, IsFrame, frame_bytes}
+use Rattle.xds_frames.specs.Frames.{IsFrame, frame_bytes}
 use Rattle.xds_message.specs.Spelling.{IsJson}
-use Rattle.xds_writes.specs.Batches.{by_type, in_order, batch_object, SpellsBatch}
+use Rattle.xds_writes.specs.Batches.{by_type, in_order, SpellsBatch}
+pub use Rattle.xds_outbox.specs.Parts.{batch_frame}
 use Rattle.xds_outbox.specs.Parts.{parts_of}
 use Rattle.xds_core.specs.Events.{Reply, Changed}
-
--- the frame of a batch
-abbrev pub batch_frame : PerType (List StampedWrite) → Framed
-batch_frame b = record { kind = kinds.Batch; text = compact_text (batch_object b) }
 
 -- the parcels of some parts: of each its frame's bytes, and whether it is the last one
 abbrev pub packed : List (List TypedWrite) → List (List ℕ × Bool)

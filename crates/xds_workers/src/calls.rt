@@ -1,9 +1,10 @@
 // How worker threads call a node.
-ghost use Rattle.std.specs.Prelude.{◌≡◌, ℕ, List, [], ◌++◌, IfOk, IfErr, OnErr};
+ghost use Rattle.std.specs.Prelude.{◌≡◌, ◌≢◌, ℕ, List, [], ◌∷◌, ◌++◌, IfOk, IfErr, OnOk, OnErr, MatchBool};
+ghost use Rattle.xds_resource.specs.declared.refusal.Refusal.TheVariants.{JournalFull};
 ghost use Rattle.xds_core.specs.Legal.{Record};
 ghost use Rattle.xds_core.specs.Seen.{event_of, answer_of};
 ghost use Rattle.xds_node.specs.Told.{IsTold, LeavesNoRecord};
-ghost use Rattle.xds_workers.specs.Told.{IsAnswered, IsClosing};
+ghost use Rattle.xds_workers.specs.Told.{IsAnswered, IsClosing, IsTried, in_vain};
 
 use crate::hosts::{Gate, Host};
 use std::sync::Wait;
@@ -13,7 +14,7 @@ use xds_resource::Refusal;
 
 /// One event of a seat, as [`Host::call`] makes it. Where the journal is full it is cut, the gate keeps the segment, and
 /// the event is tried once more. So `JournalFull` comes only where that was in vain, and else `OutOfMemory`, where there
-/// was no memory; then no record is left.
+/// was no memory; then no record is left. An event is never tried thrice, and never twice but where the journal was full.
 pub fn called<H: Host, G: Gate<H::Segment>, R: Wait>(
     rt: &R,
     node: &H,
@@ -24,24 +25,49 @@ pub fn called<H: Host, G: Gate<H::Segment>, R: Wait>(
     ensures told { IfOk result (λ a. IsTold (H.told seat.old) (H.told seat.new) (event_of event) (answer_of a)) }
     ensures unrecorded { IfErr result LeavesNoRecord }
     ensures err { OnErr result (H.told seat.new ≡ H.told seat.old) }
+    ensures tried { (tries : List Record) × (H.refused seat.new ≡ H.refused seat.old ++ tries) × IsTried (event_of event) result tries }
 {
     match node.call(rt, seat, event) {
         Ok(answer) => Ok(answer),
-        Err(
-            Unrecorded {
-                refusal: Refusal::JournalFull,
-                event,
-            },
-        ) => {
+        Err(Unrecorded { refusal, event }) => {
+            if !is_full(refusal) {
+                drop(event);
+                return Err(refusal);
+            }
             if let Ok(segment) = node.cut(rt) {
                 gate.keep(rt, segment);
             }
-            match node.call(rt, seat, event) {
-                Ok(answer) => Ok(answer),
-                Err(Unrecorded { refusal, event: _ }) => Err(refusal),
-            }
+            called_again(rt, node, seat, event)
         }
-        Err(Unrecorded { refusal, event: _ }) => Err(refusal),
+    }
+}
+
+// Whether a refusal tells that the journal is full.
+fn is_full(refusal: Refusal) -> bool
+    ensures { MatchBool result (refusal ≡ JournalFull) (refusal ≢ JournalFull) }
+{
+    refusal == Refusal::JournalFull
+}
+
+// One event of a seat. Where it leaves no record it is given up.
+fn called_again<H: Host, R: Wait>(
+    rt: &R,
+    node: &H,
+    seat: &mut H::Seat,
+    event: Event,
+) -> Result<Result<Reply, Refusal>, Refusal>
+    ensures told { IfOk result (λ a. IsTold (H.told seat.old) (H.told seat.new) (event_of event) (answer_of a)) }
+    ensures unrecorded { IfErr result LeavesNoRecord }
+    ensures err { OnErr result (H.told seat.new ≡ H.told seat.old) }
+    ensures granted { OnOk result (H.refused seat.new ≡ H.refused seat.old) }
+    ensures refused { IfErr result (λ e. H.refused seat.new ≡ H.refused seat.old ++ in_vain (event_of event) e ∷ []) }
+{
+    match node.call(rt, seat, event) {
+        Ok(answer) => Ok(answer),
+        Err(Unrecorded { refusal, event }) => {
+            drop(event);
+            Err(refusal)
+        }
     }
 }
 
@@ -53,7 +79,8 @@ pub(crate) fn answered<H: Host, G: Gate<H::Segment>, R: Wait>(
     seat: &mut H::Seat,
     event: Event,
 ) -> Result<Reply, Refusal>
-    ensures { IsAnswered (H.told seat.old) (H.told seat.new) (event_of event) (answer_of result) }
+    ensures { (tries : List Record) × (H.refused seat.new ≡ H.refused seat.old ++ tries)
+        × IsAnswered (H.told seat.old) (H.told seat.new) tries (event_of event) (answer_of result) }
 {
     match called(rt, node, gate, seat, event) {
         Ok(Ok(reply)) => Ok(reply),
@@ -62,7 +89,7 @@ pub(crate) fn answered<H: Host, G: Gate<H::Segment>, R: Wait>(
     }
 }
 
-// Closes a stream. A close that is refused leaves it as it is.
+// Asks for the close of a stream. A close that is refused leaves it as it is.
 pub(crate) fn close<H: Host, G: Gate<H::Segment>, R: Wait>(
     rt: &R,
     node: &H,
@@ -70,7 +97,8 @@ pub(crate) fn close<H: Host, G: Gate<H::Segment>, R: Wait>(
     seat: &mut H::Seat,
     stream: u64,
 )
-    ensures { (closing : List (ℕ × Record)) × (H.told seat.new ≡ H.told seat.old ++ closing) × IsClosing stream closing }
+    ensures { (closing : List (ℕ × Record)) × (tries : List Record) × (H.told seat.new ≡ H.told seat.old ++ closing)
+        × (H.refused seat.new ≡ H.refused seat.old ++ tries) × IsClosing stream closing tries }
 {
-    let _ = called(rt, node, gate, seat, Event::Close(stream));
+    drop(called(rt, node, gate, seat, Event::Close(stream)));
 }

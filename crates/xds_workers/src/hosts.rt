@@ -7,10 +7,11 @@ use xds_resource::Refusal;
 
 /// A replica that threads share, as its worker threads know it. [`xds_node::Node`] is one.
 pub trait Host {
-    ghost use Rattle.std.specs.Prelude.{◌≡◌, ℕ, List, IfOk, IfErr, OnErr};
+    ghost use Rattle.std.specs.Prelude.{◌≡◌, ℕ, List, [], ◌∷◌, ◌++◌, IfOk, IfErr, OnOk, OnErr};
     ghost use Rattle.xds_core.specs.Legal.{Record};
     ghost use Rattle.xds_core.specs.Seen.{event_of, answer_of};
     ghost use Rattle.xds_node.specs.Told.{IsTold, LeavesNoRecord};
+    ghost use Rattle.xds_workers.specs.Told.{in_vain};
 
     /// The right to call it.
     type Seat: Drop;
@@ -20,8 +21,11 @@ pub trait Host {
     // What a seat was told: each record of its calls, with its number.
     ghost told: { Self.Seat → List (ℕ × Record) };
 
+    // Its calls that left no record: of each the event, and why, as its answer.
+    ghost refused: { Self.Seat → List Record };
+
     /// One event of a seat, and one record of it. An event that leaves no record comes back: the journal is full
-    /// (`JournalFull`), or there was no memory (`OutOfMemory`).
+    /// (`JournalFull`), or there was no memory (`OutOfMemory`). Contracts see the call among those that the seat was refused.
     fn call<R: Wait>(
         &self,
         rt: &R,
@@ -30,7 +34,10 @@ pub trait Host {
     ) -> Result<Result<Reply, Refusal>, Unrecorded>
         ensures told { IfOk result (λ a. IsTold (told seat.old) (told seat.new) (event_of event) (answer_of a)) }
         ensures back { IfErr result (λ e. (e.event ≡ event) × LeavesNoRecord e.refusal) }
-        ensures err { OnErr result (told seat.new ≡ told seat.old) };
+        ensures err { OnErr result (told seat.new ≡ told seat.old) }
+        ensures granted { OnOk result (refused seat.new ≡ refused seat.old) }
+        ensures refused { IfErr result
+            (λ e. refused seat.new ≡ refused seat.old ++ in_vain (event_of event) e.refusal ∷ []) };
 
     /// Hands out the records of the journal, which is empty then.
     fn cut<R: Wait>(&self, rt: &R) -> Result<Self::Segment, Refusal>;

@@ -18,7 +18,8 @@ pub const MOST_DROPPED: u64 = 9_223_372_036_854_775_807;
 
 /// The thread that merges what another replica tells. Each parcel is merged, as one event, or dropped, where it spells no
 /// batch or the merge leaves no record (`OutOfMemory`, `JournalFull` in spite of a cut). After the last parcel of a batch
-/// it puts a receipt: `Merged`, or `Lost` where a part wasn't merged.
+/// it puts a receipt: `Merged`, or `Lost` where a part wasn't merged. Every receipt that is due is put, but for the last one,
+/// where nobody takes it.
 ///
 /// It ends with the channel of the parcels, or where nobody takes a receipt, or once [`MOST_DROPPED`] parcels were dropped.
 /// It answers how many were dropped.
@@ -33,9 +34,10 @@ pub fn exchange_in<H: Host, G: Gate<H::Segment>, R: Wait>(
 ) -> u64
     ensures source { IsSameSource from.old from.new }
     ensures end { IsSameEnd receipts.old receipts.new }
-    ensures merged { (told : List (ℕ × Record)) × (taken : List (List ℕ × Bool)) × (given : List Receipt)
-        × (H.told seat.new ≡ H.told seat.old ++ told) × (taken_by from.new ≡ taken_by from.old ++ taken)
-        × (put_by receipts.new ≡ put_by receipts.old ++ given) × HasMerged told taken given result }
+    ensures merged { (told : List (ℕ × Record)) × (tried : List Record) × (taken : List (List ℕ × Bool)) × (given : List Receipt)
+        × (H.told seat.new ≡ H.told seat.old ++ told) × (H.refused seat.new ≡ H.refused seat.old ++ tried)
+        × (taken_by from.new ≡ taken_by from.old ++ taken)
+        × (put_by receipts.new ≡ put_by receipts.old ++ given) × HasMerged told tried taken given result }
 {
     let mut dropped = 0;
     let mut lost = false;
@@ -62,7 +64,8 @@ fn merge<H: Host, G: Gate<H::Segment>, R: Wait>(
     seat: &mut H::Seat,
     parcel: &Parcel,
 ) -> (u64, bool)
-    ensures { (told : List (ℕ × Record)) × (H.told seat.new ≡ H.told seat.old ++ told) × IsMerging parcel.now told result }
+    ensures { (told : List (ℕ × Record)) × (tried : List Record) × (H.told seat.new ≡ H.told seat.old ++ told)
+        × (H.refused seat.new ≡ H.refused seat.old ++ tried) × IsMerging parcel.now told tried result }
 {
     match parcel.unpack(alloc) {
         Err(_) => (1, false),

@@ -10,6 +10,7 @@ pub mod nodes;
 pub mod outward;
 pub mod parcels;
 pub mod reader;
+pub mod whole;
 pub mod writer;
 
 pub use calls::called;
@@ -19,4 +20,5 @@ pub use inward::exchange_in;
 pub use outward::exchange_out;
 pub use parcels::{Parcel, Receipt};
 pub use reader::serve_reader;
+pub use whole::{Exchanged, exchange_both};
 pub use writer::serve_writer;

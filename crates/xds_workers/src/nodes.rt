@@ -11,7 +11,9 @@ impl<N: NodeName> Host for Node<N> {
 
     type Segment = Segment<N>;
 
-    ghost told = { λ s. s };
+    ghost told = { λ s. s.told };
+
+    ghost refused = { λ s. s.refused };
 
     fn call<R: Wait>(
         &self,

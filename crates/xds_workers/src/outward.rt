@@ -1,12 +1,12 @@
 // The thread that tells another replica what changed.
 ghost use Rattle.std.specs.Prelude.{◌≡◌, ◌⊎◌, ℕ, List, [], ◌∷◌, ◌++◌, Bool, OnOk, OnErr, IfOk, IfErr, Result, Ok, Err};
 ghost use Rattle.xds_resource.specs.PerType.{PerType, each};
-ghost use Rattle.xds_resource.specs.declared.refusal.Refusal.TheVariants.{OutOfMemory, FrameTooLong};
+ghost use Rattle.xds_resource.specs.declared.refusal.Refusal.TheVariants.{OutOfMemory};
 ghost use Rattle.xds_store.specs.Counts.{counts_of};
 ghost use Rattle.xds_writes.specs.Batches.{in_order};
 ghost use Rattle.xds_core.specs.Legal.{Record};
 ghost use Rattle.xds_core.specs.Seen.{reply_of};
-ghost use Rattle.xds_frames.specs.Frames.{frame_bytes};
+ghost use Rattle.xds_frames.specs.Frames.{IsFrame, frame_bytes};
 ghost use Rattle.xds_link.specs.Ends.{put_by, taken_by, IsSameEnd, IsSameSource, Begins};
 ghost use Rattle.xds_workers.specs.Exchanging.{Turn, TurnEnds, HasTold, Puts, Settles, given_up};
 ghost use Rattle.xds_workers.specs.Parcels.{batch_frame, changed_in, parcels_of};
@@ -26,8 +26,8 @@ use xds_writes::Batch;
 
 /// The thread that tells another replica what changed here. It waits until the counts of changes differ from those that
 /// it saw, asks for what changed since the peer was told, puts that as parcels, and takes one receipt for them; where
-/// nothing changed there is neither. Where the receipt is lost, or the batch is given up (`OutOfMemory`, `JournalFull` in
-/// spite of a cut, or `FrameTooLong`), all is told again at the next change.
+/// nothing changed there is neither. Where the receipt is lost, or the batch is given up (`OutOfMemory`, or `JournalFull` in
+/// spite of a cut), all is told again at the next change. Each part fits a frame.
 ///
 /// After the node is stopped it does so once more. Then it answers `Stopped`, or the refusal for which that batch was given
 /// up; and `Unlinked` as soon as the other end of a channel is gone.
@@ -42,9 +42,10 @@ pub fn exchange_out<H: Host, G: Gate<H::Segment>, R: Wait>(
 ) -> Result<Ended, Refusal>
     ensures end { IsSameEnd out.old out.new }
     ensures source { IsSameSource receipts.old receipts.new }
-    ensures told { (told : List (ℕ × Record)) × (put : List (List ℕ × Bool)) × (got : List Receipt)
-        × (H.told seat.new ≡ H.told seat.old ++ told) × (put_by out.new ≡ put_by out.old ++ put)
-        × (taken_by receipts.new ≡ taken_by receipts.old ++ got) × HasTold told put got result }
+    ensures told { (told : List (ℕ × Record)) × (tried : List Record) × (put : List (List ℕ × Bool)) × (got : List Receipt)
+        × (H.told seat.new ≡ H.told seat.old ++ told) × (H.refused seat.new ≡ H.refused seat.old ++ tried)
+        × (put_by out.new ≡ put_by out.old ++ put)
+        × (taken_by receipts.new ≡ taken_by receipts.old ++ got) × HasTold told tried put got result }
 {
     let mut peer = nothing();
     let mut seen = nothing();
@@ -92,7 +93,8 @@ fn tell<H: Host, G: Gate<H::Segment>, R: Wait>(
     ensures end { IsSameEnd out.old out.new }
     ensures source { IsSameSource receipts.old receipts.new }
     ensures told { (t : Turn) × (t.marks ≡ counts_of peer.old) × (t.after ≡ counts_of peer.new)
-        × (H.told seat.new ≡ H.told seat.old ++ t.told) × (put_by out.new ≡ put_by out.old ++ t.put)
+        × (H.told seat.new ≡ H.told seat.old ++ t.told) × (H.refused seat.new ≡ H.refused seat.old ++ t.tried)
+        × (put_by out.new ≡ put_by out.old ++ t.put)
         × (taken_by receipts.new ≡ taken_by receipts.old ++ t.receipts) × TurnEnds t result }
 {
     let marks = *peer;
@@ -188,7 +190,7 @@ fn put_all<R: Wait>(
     unreachable!()
 }
 
-// Puts the parcel of a part.
+// Puts the parcel of a part, which fits a frame.
 fn put_part<R: Wait>(
     rt: &R,
     alloc: Global,
@@ -196,6 +198,7 @@ fn put_part<R: Wait>(
     last: bool,
     out: &mut Outgoing<Parcel>,
 ) -> Result<(), Unsent>
+    requires { IsFrame (batch_frame part.now) }
     ensures end { IsSameEnd out.old out.new }
     ensures puts { Puts ((frame_bytes (batch_frame part.now), last) ∷ []) (put_by out.old) (put_by out.new) result }
     ensures err { OnErr result (put_by out.new ≡ put_by out.old) }

@@ -1,9 +1,9 @@
 // What passes between the threads of two replicas: parcels one way, and receipts the other.
-ghost use Rattle.std.specs.Prelude.{◌≡◌, ◌⊎◌, IfOk, IfErr, List};
+ghost use Rattle.std.specs.Prelude.{◌≡◌, ◌⊎◌, IfOk, IfErr, OnOk, List};
 ghost use Rattle.xds_resource.specs.PerType.{PerType};
 ghost use Rattle.xds_resource.specs.Writes.{StampedWrite};
 ghost use Rattle.xds_resource.specs.declared.refusal.Refusal.TheVariants.{OutOfMemory, FrameTooLong, NotJson, BadMessage, WrongVariant};
-ghost use Rattle.xds_frames.specs.Frames.{frame_bytes};
+ghost use Rattle.xds_frames.specs.Frames.{IsFrame, frame_bytes};
 ghost use Rattle.xds_workers.specs.Parcels.{batch_frame, IsFrameOf};
 
 use std::alloc::Global;
@@ -43,10 +43,12 @@ pub enum Receipt {
 }
 
 impl Parcel {
-    /// The parcel of a part. `FrameTooLong` where the part is too long for a frame.
+    /// The parcel of a part. `FrameTooLong` only where the part's text has 16,777,216 bytes or more, and then there is no
+    /// parcel of it; else it is refused only by `OutOfMemory`.
     pub fn pack(alloc: Global, part: &Batch, last: bool) -> Result<Parcel, Refusal>
         ensures ok { IfOk result (λ p. p ≡ (frame_bytes (batch_frame part.now), last)) }
-        ensures refused { IfErr result (λ e. (e ≡ OutOfMemory) ⊎ (e ≡ FrameTooLong)) }
+        ensures fits { OnOk result (IsFrame (batch_frame part.now)) }
+        ensures refused { IfErr result (λ e. (e ≡ OutOfMemory) ⊎ ((e ≡ FrameTooLong) × ¬ IsFrame (batch_frame part.now))) }
     {
         match part.write(alloc) {
             Err(_) => Err(Refusal::OutOfMemory),

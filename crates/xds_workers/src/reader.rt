@@ -15,8 +15,9 @@ use xds_frames::{Counted, Decoder};
 use xds_resource::Refusal;
 use xds_stream::{fill, next_request};
 
-/// The reading thread of a stream: it reads frames, and makes of each the request that it spells. The stream is closed in
-/// every case. The gate is passed before each read.
+/// The reading thread of a stream: it reads frames, and makes of each the request that it spells. The last thing that it
+/// asks for is the close of the stream, whatever happened before; it leaves a record, or was refused one (`JournalFull`
+/// in spite of a cut, `OutOfMemory`), and then the stream may stay open. The gate is passed before each read.
 ///
 /// It answers `Ok` where the input ends between frames and nothing was refused, and else the first refusal: of a frame or
 /// of its message, as `run_stream` tells them, of the request, and `NoStream` where the stream was closed meanwhile;
@@ -30,8 +31,9 @@ pub fn serve_reader<H: Host, G: Gate<H::Segment>, D: Read, R: Wait>(
     reader: &mut Counted<D>,
     gate: &G,
 ) -> Result<(), Refusal>
-    ensures { (told : List (ℕ × Record)) × (H.told seat.new ≡ H.told seat.old ++ told)
-        × ReadsAll stream told (seen D.remaining reader.old reader.new) result }
+    ensures { (told : List (ℕ × Record)) × (tried : List Record) × (H.told seat.new ≡ H.told seat.old ++ told)
+        × (H.refused seat.new ≡ H.refused seat.old ++ tried)
+        × ReadsAll stream told tried (seen D.remaining reader.old reader.new) result }
 {
     let served = read_requests(rt, alloc, node, seat, stream, reader, gate);
     close(rt, node, gate, seat, stream);
@@ -48,8 +50,9 @@ fn read_requests<H: Host, G: Gate<H::Segment>, D: Read, R: Wait>(
     reader: &mut Counted<D>,
     gate: &G,
 ) -> Result<(), Refusal>
-    ensures { (told : List (ℕ × Record)) × (H.told seat.new ≡ H.told seat.old ++ told)
-        × HasRead stream told [] (seen D.remaining reader.old reader.new) result }
+    ensures { (told : List (ℕ × Record)) × (tried : List Record) × (H.told seat.new ≡ H.told seat.old ++ told)
+        × (H.refused seat.new ≡ H.refused seat.old ++ tried)
+        × HasRead stream told tried [] (seen D.remaining reader.old reader.new) result }
 {
     let mut decoder = Decoder::new(alloc);
     for _ in rt.forever() {
@@ -73,8 +76,9 @@ fn turn<H: Host, G: Gate<H::Segment>, D: Read, R: Wait>(
     reader: &mut Counted<D>,
     gate: &G,
 ) -> Result<bool, Refusal>
-    ensures { (told : List (ℕ × Record)) × (H.told seat.new ≡ H.told seat.old ++ told)
-        × TurnReads stream told decoder.old (seen D.remaining reader.old reader.new) result decoder.new }
+    ensures { (told : List (ℕ × Record)) × (tried : List Record) × (H.told seat.new ≡ H.told seat.old ++ told)
+        × (H.refused seat.new ≡ H.refused seat.old ++ tried)
+        × TurnReads stream told tried decoder.old (seen D.remaining reader.old reader.new) result decoder.new }
 {
     match next_request(alloc, decoder) {
         Ok(Some(request)) => match ask(rt, node, gate, seat, stream, request) {
@@ -98,7 +102,8 @@ fn ask<H: Host, G: Gate<H::Segment>, R: Wait>(
     stream: u64,
     request: Request,
 ) -> Result<(), Refusal>
-    ensures { Asks stream (message_of request) (H.told seat.old) (H.told seat.new) result }
+    ensures { (tries : List Record) × (H.refused seat.new ≡ H.refused seat.old ++ tries)
+        × Asks stream (message_of request) (H.told seat.old) (H.told seat.new) tries result }
 {
     granted(answered(rt, node, gate, seat, Event::Request(stream, request)))
 }

@@ -19,9 +19,9 @@ use xds_stream::{draft_in, send};
 /// The writing thread of a stream: it waits until a response is due, polls, and writes the response as a frame, outside of
 /// the node's lock. The gate is passed before each frame.
 ///
-/// It answers `Ok` once a poll finds the stream closed. Any other refusal is answered once the stream is closed: of a poll
-/// (`NonceSpent`; `JournalFull` and `OutOfMemory` where it left no record), or of a response, as `FrameTooLong`, `Device` and
-/// `OutOfMemory`, of which a beginning may be written.
+/// It answers `Ok` once a poll finds the stream closed; then it asks for nothing more. Any other refusal is answered once it
+/// asked for the close of the stream, as `serve_reader` does: of a poll (`NonceSpent`; `JournalFull` and `OutOfMemory` where it
+/// left no record), or of a response, as `FrameTooLong`, `Device` and `OutOfMemory`, of which a beginning may be written.
 pub fn serve_writer<H: Host, G: Gate<H::Segment>, W: Write, R: Wait>(
     rt: &R,
     alloc: Global,
@@ -31,8 +31,9 @@ pub fn serve_writer<H: Host, G: Gate<H::Segment>, W: Write, R: Wait>(
     writer: &mut Counted<W>,
     gate: &G,
 ) -> Result<(), Refusal>
-    ensures { (told : List (ℕ × Record)) × (H.told seat.new ≡ H.told seat.old ++ told)
-        × WritesAll stream told (seen W.contents writer.old writer.new) result }
+    ensures { (told : List (ℕ × Record)) × (tried : List Record) × (H.told seat.new ≡ H.told seat.old ++ told)
+        × (H.refused seat.new ≡ H.refused seat.old ++ tried)
+        × WritesAll stream told tried (seen W.contents writer.old writer.new) result }
 {
     match write_responses(rt, alloc, node, seat, stream, writer, gate) {
         Ok(()) => Ok(()),
@@ -53,8 +54,9 @@ fn write_responses<H: Host, G: Gate<H::Segment>, W: Write, R: Wait>(
     writer: &mut Counted<W>,
     gate: &G,
 ) -> Result<(), Refusal>
-    ensures { (told : List (ℕ × Record)) × (H.told seat.new ≡ H.told seat.old ++ told)
-        × HasWritten stream told (seen W.contents writer.old writer.new) result }
+    ensures { (told : List (ℕ × Record)) × (tried : List Record) × (H.told seat.new ≡ H.told seat.old ++ told)
+        × (H.refused seat.new ≡ H.refused seat.old ++ tried)
+        × HasWritten stream told tried (seen W.contents writer.old writer.new) result }
 {
     let mut buffer = Vec::new(alloc);
     for _ in rt.forever() {
@@ -78,8 +80,9 @@ fn turn<H: Host, G: Gate<H::Segment>, W: Write, R: Wait>(
     writer: &mut Counted<W>,
     gate: &G,
 ) -> Result<bool, Refusal>
-    ensures { (told : List (ℕ × Record)) × (H.told seat.new ≡ H.told seat.old ++ told)
-        × TurnWrites stream told (seen W.contents writer.old writer.new) result }
+    ensures { (told : List (ℕ × Record)) × (tried : List Record) × (H.told seat.new ≡ H.told seat.old ++ told)
+        × (H.refused seat.new ≡ H.refused seat.old ++ tried)
+        × TurnWrites stream told tried (seen W.contents writer.old writer.new) result }
 {
     node.wait_due(rt, stream);
     match answered(rt, node, gate, seat, Event::Poll(stream, None)) {

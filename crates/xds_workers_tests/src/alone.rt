@@ -14,7 +14,8 @@ use xds_link::{Incoming, Outgoing, link};
 use xds_message::DiscoveryRequest;
 use xds_resource::Refusal;
 use xds_workers::{
-    Ended, Host, Parcel, Receipt, called, exchange_in, exchange_out, serve_reader, serve_writer,
+    Ended, Gate, Host, Parcel, Receipt, called, exchange_in, exchange_out, serve_reader,
+    serve_writer,
 };
 
 /// The refusal, if it is one.
@@ -33,9 +34,21 @@ fn reads<A: Host, R: Wait>(
     seat: &mut A::Seat,
     stream: u64,
 ) -> Result<(), Refusal> {
+    reads_by(rt, alloc, node, seat, stream, &Open)
+}
+
+/// The same by this gate.
+pub(crate) fn reads_by<A: Host, G: Gate<A::Segment>, R: Wait>(
+    rt: &R,
+    alloc: Global,
+    node: &A,
+    seat: &mut A::Seat,
+    stream: u64,
+    gate: &G,
+) -> Result<(), Refusal> {
     let frame = write_frame(alloc, FrameKind::DiscoveryRequest, REQUEST)?;
     let mut reader = Counted::new(frame.as_slice());
-    serve_reader(rt, alloc, node, seat, stream, &mut reader, &Open)
+    serve_reader(rt, alloc, node, seat, stream, &mut reader, gate)
 }
 
 // What the writer of a stream answers, of which this write fails, and how many bytes it wrote.
@@ -47,13 +60,26 @@ fn writes<A: Host, R: Wait>(
     stream: u64,
     failing: u64,
 ) -> (Result<(), Refusal>, usize) {
+    writes_by(rt, alloc, node, seat, stream, failing, &Open)
+}
+
+/// The same by this gate.
+pub(crate) fn writes_by<A: Host, G: Gate<A::Segment>, R: Wait>(
+    rt: &R,
+    alloc: Global,
+    node: &A,
+    seat: &mut A::Seat,
+    stream: u64,
+    failing: u64,
+    gate: &G,
+) -> (Result<(), Refusal>, usize) {
     let mut writer = Counted::new(Faulty::new(Vec::new(alloc), failing));
-    let wrote = serve_writer(rt, alloc, node, seat, stream, &mut writer, &Open);
+    let wrote = serve_writer(rt, alloc, node, seat, stream, &mut writer, gate);
     (wrote, writer.inner.inner.len())
 }
 
-// Opens a stream, and asks for the clusters on it.
-fn asked<A: Host, R: Wait>(
+/// Opens a stream, and asks for the clusters on it.
+pub(crate) fn asked<A: Host, R: Wait>(
     rt: &R,
     alloc: Global,
     node: &A,
@@ -160,7 +186,8 @@ impl Trial for WhereFull {
     fn at<A: Site, R: Wait>(&self, rt: &R, alloc: Global, node: A) -> Result<Full, Refusal> {
         let mut seat = node.seat(rt)?;
         node.stop(rt);
-        let node = Short::new(node, 0);
+        let filler = node.seat(rt)?;
+        let node = Short::new(rt, node, filler, 0)?;
         let called = outcome(called(rt, &node, &Open, &mut seat, Event::Open));
         let cuts = node.cuts(rt);
         let read = reads(rt, alloc, &node, &mut seat, 1);

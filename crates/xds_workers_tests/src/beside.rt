@@ -139,7 +139,8 @@ fn unread<N: NodeName + Send + Sync, R: Threads + Wait + Sync>(
     opened: Opened<Line>,
     bytes: &[u8],
 ) -> Result<((Served, Served), Full), Refusal>
-    requires { opened ≡ N.id }
+    requires name { opened ≡ N.id }
+    requires number { 1 ≡ N.replica }
 {
     unread_and_full(rt, alloc, Node::<N>::new(alloc, opened, 1), bytes)
 }
@@ -226,7 +227,8 @@ fn half<N: NodeName + Send + Sync, R: Threads + Wait + Sync>(
     opened: Opened<Line>,
     bytes: &[u8],
 ) -> Result<((Served, Served), u64), Refusal>
-    requires { opened ≡ N.id }
+    requires name { opened ≡ N.id }
+    requires number { 1 ≡ N.replica }
 {
     half_and_cut(rt, alloc, Node::<N>::new(alloc, opened, 1), bytes)
 }

@@ -1,11 +1,12 @@
 // Events of the tests, and what they are answered.
+use crate::gates::Open;
 use std::alloc::Global;
 use std::sync::Wait;
 use std::test::Fail;
 use xds_core::{Event, Reply};
 use xds_node::Unrecorded;
 use xds_resource::{AnyResource, Groups, Refusal};
-use xds_workers::Host;
+use xds_workers::{Host, called};
 
 /// What is looked for in what a call of a node answers. It is told by reference, and dropped by a function that doesn't know the
 /// type.
@@ -85,6 +86,26 @@ pub(crate) fn put<A: Host, R: Wait>(
     name: &str,
 ) -> Result<(), Refusal> {
     refused(node.call(rt, seat, putting(alloc, name)?))
+}
+
+/// The same, and where the journal is full it is cut.
+pub(crate) fn put_in_room<A: Host, R: Wait>(
+    rt: &R,
+    alloc: Global,
+    node: &A,
+    seat: &mut A::Seat,
+    name: &str,
+) -> Result<(), Refusal> {
+    flat(called(rt, node, &Open, seat, putting(alloc, name)?))
+}
+
+// The refusal, if it is one.
+fn flat<T: Drop>(answer: Result<Result<T, Refusal>, Refusal>) -> Result<(), Refusal> {
+    match answer {
+        Ok(Ok(_)) => Ok(()),
+        Ok(Err(refusal)) => Err(refusal),
+        Err(refusal) => Err(refusal),
+    }
 }
 
 /// Opens a stream.

@@ -262,7 +262,8 @@ fn four_seats<N: NodeName + Send + Sync, R: Threads + Wait + Sync>(
     alloc: Global,
     opened: Opened<Line>,
 ) -> Result<Outcome, Refusal>
-    requires { opened ≡ N.id }
+    requires name { opened ≡ N.id }
+    requires number { 1 ≡ N.replica }
 {
     four(rt, alloc, Node::<N>::new(alloc, opened, 1))
 }

@@ -2,7 +2,7 @@
 ghost use Rattle.std.specs.Prelude.{◌≡◌};
 ghost use Rattle.std.specs.Thread.{IsSend};
 
-use crate::calls::{held, holds, put};
+use crate::calls::{held, holds, put, put_in_room};
 use crate::gates::Open;
 use crate::short::Short;
 use crate::sites::{Site, both};
@@ -15,10 +15,10 @@ use xds_core::Marks;
 use xds_link::{Incoming, Outgoing, link};
 use xds_node::{Line, Node, NodeName, Opened};
 use xds_resource::Refusal;
-use xds_workers::{Ended, Host, Parcel, Receipt, exchange_in, exchange_out};
+use xds_workers::{Ended, Host, Parcel, Receipt, exchange_both, exchange_in, exchange_out};
 
-// The marks of a node that holds nothing.
-const NOTHING: Marks = Marks {
+/// The marks of a node that holds nothing.
+pub(crate) const NOTHING: Marks = Marks {
     cluster: 0,
     endpoint: 0,
     listener: 0,
@@ -69,6 +69,14 @@ pub(crate) fn crossed<O: Drop, I: Drop, P: Drop, J: Drop>(
     let (out, into) = one?;
     let (back, receipts) = other?;
     Ok(((out, receipts), (into, back)))
+}
+
+// Two channels.
+fn linked<X: Drop, Y: Drop>(
+    one: Result<X, AllocError>,
+    other: Result<Y, AllocError>,
+) -> Result<(X, Y), Refusal> {
+    Ok((one?, other?))
 }
 
 /// Makes ready what the threads of an exchange take.
@@ -143,8 +151,8 @@ pub(crate) fn two<M: NodeName, N: NodeName>(
     first: Opened<Line>,
     second: Opened<Line>,
 ) -> Result<(Node<M>, Node<N>), Refusal>
-    requires first { first ≡ M.id }
-    requires second { second ≡ N.id }
+    requires first { (first ≡ M.id) × (1 ≡ M.replica) }
+    requires second { (second ≡ N.id) × (2 ≡ N.replica) }
 {
     both(
         Node::<M>::new(alloc, first, 1),
@@ -152,26 +160,35 @@ pub(crate) fn two<M: NodeName, N: NodeName>(
     )
 }
 
-// The first node holds two clusters and is stopped, and then tells them to the second.
-fn stopped<A: Site + Sync, B: Site + Sync, R: Threads + Wait + Sync>(
+// A node that holds two clusters and is stopped.
+fn holds_two<A: Site, R: Wait>(rt: &R, alloc: Global, node: &A) -> Result<(), Refusal> {
+    let mut puts = node.seat(rt)?;
+    put(rt, alloc, node, &mut puts, "a")?;
+    put(rt, alloc, node, &mut puts, "b")?;
+    node.stop(rt);
+    Ok(())
+}
+
+// What the first node holds is told to the second, by one call for both workers.
+fn tells_stopped<M: NodeName + Send + Sync, N: NodeName + Send + Sync, R: Threads + Wait + Sync>(
     rt: &R,
     alloc: Global,
-    nodes: Result<(A, B), Refusal>,
-) -> Result<Exchanged, Refusal>
-where
-    A::Seat: Send,
-    A::Segment: Send,
-    B::Seat: Send,
-    B::Segment: Send,
-{
-    let (from, to) = nodes?;
-    let mut puts = from.seat(rt)?;
-    put(rt, alloc, &from, &mut puts, "a")?;
-    put(rt, alloc, &from, &mut puts, "b")?;
-    from.stop(rt);
-    let ready = ready(rt, alloc, &from, &to)?;
-    let done = exchange(rt, alloc, &from, &to, ready);
-    outcome_of(rt, alloc, &from, &to, done)
+    from: &Node<M>,
+    to: &Node<N>,
+) -> Result<Done, Refusal> {
+    holds_two(rt, alloc, from)?;
+    let parcels = link(alloc)?;
+    let receipts = link(alloc)?;
+    let (teller, merger) = both(Node::seat(from, rt), Node::seat(to, rt))?;
+    let done = exchange_both(
+        rt,
+        alloc,
+        (from, teller, &Open),
+        (to, merger, &Open),
+        parcels,
+        receipts,
+    );
+    Ok((done.ended, done.dropped))
 }
 
 fn exchange_stopped<M: NodeName + Send + Sync, N: NodeName + Send + Sync, R: Threads + Wait + Sync>(
@@ -180,10 +197,23 @@ fn exchange_stopped<M: NodeName + Send + Sync, N: NodeName + Send + Sync, R: Thr
     first: Opened<Line>,
     second: Opened<Line>,
 ) -> Result<Exchanged, Refusal>
-    requires first { first ≡ M.id }
-    requires second { second ≡ N.id }
+    requires first { (first ≡ M.id) × (1 ≡ M.replica) }
+    requires second { (second ≡ N.id) × (2 ≡ N.replica) }
 {
-    stopped(rt, alloc, two::<M, N>(alloc, first, second))
+    let (from, to) = two::<M, N>(alloc, first, second)?;
+    let done = tells_stopped(rt, alloc, &from, &to);
+    ended_at(rt, alloc, from, to, done)
+}
+
+// What came of two nodes whose exchange is done.
+fn ended_at<A: Site, B: Site, R: Wait>(
+    rt: &R,
+    alloc: Global,
+    from: A,
+    to: B,
+    done: Result<Done, Refusal>,
+) -> Result<Exchanged, Refusal> {
+    outcome_of(rt, alloc, &from, &to, done?)
 }
 
 // That all was told, so many parcels were dropped, and both hold the same.
@@ -209,7 +239,7 @@ fn what_a_stopped_node_holds_comes_to_another(rt: HostRuntime) -> Result<(), Fai
     told_b(&outcome)
 }
 
-// Puts so many clusters, each once the one before came to another node.
+// Puts so many clusters, each once the one before came to another node. Where the journal is full it is cut.
 fn puts_each<A: Host, B: Host, R: Wait>(
     rt: &R,
     alloc: Global,
@@ -221,7 +251,7 @@ fn puts_each<A: Host, B: Host, R: Wait>(
     let mut seen = NOTHING;
     for number in 0..count {
         let name = format!(in alloc; "{number}")?;
-        put(rt, alloc, node, seat, name.as_str())?;
+        put_in_room(rt, alloc, node, seat, name.as_str())?;
         match other.wait_changed(rt, seen) {
             Some(marks) => seen = marks,
             None => return Err(Refusal::NoStream),
@@ -275,13 +305,13 @@ where
     B::Seat: Send,
     B::Segment: Send,
 {
-    let (puts, ready) = both(from.node.seat(rt), ready(rt, alloc, &from.node, &to.node))?;
+    let (puts, ready) = both(from.seat(rt), ready(rt, alloc, &from.node, &to.node))?;
     let (done, all_put) = join(
         rt,
         move || -> Done
             requires { IsSend A.Seat.row × IsSend A.Segment.row × IsSend B.Seat.row × IsSend B.Segment.row }
         { exchange_short(rt, alloc, from, to, ready) },
-        move || puts_and_stops(rt, alloc, &from.node, puts, &to.node, count),
+        move || puts_and_stops(rt, alloc, from, puts, &to.node, count),
     );
     all_put?;
     let outcome = outcome_of(rt, alloc, &from.node, &to.node, done)?;
@@ -289,7 +319,7 @@ where
 }
 
 // As many records as a short journal takes.
-const ROOM: u64 = 3;
+const ROOM: usize = 30;
 
 fn short<A: Site + Sync, B: Site + Sync, R: Threads + Wait + Sync>(
     rt: &R,
@@ -304,13 +334,12 @@ where
     B::Segment: Send,
 {
     let (from, to) = nodes?;
-    shortly(
-        rt,
-        alloc,
-        &Short::new(from, ROOM),
-        &Short::new(to, ROOM),
-        count,
-    )
+    let (one, other) = both(from.seat(rt), to.seat(rt))?;
+    let (from, to) = both(
+        Short::new(rt, from, one, ROOM),
+        Short::new(rt, to, other, ROOM),
+    )?;
+    shortly(rt, alloc, &from, &to, count)
 }
 
 fn exchange_shortly<M: NodeName + Send + Sync, N: NodeName + Send + Sync, R: Threads + Wait + Sync>(
@@ -320,8 +349,8 @@ fn exchange_shortly<M: NodeName + Send + Sync, N: NodeName + Send + Sync, R: Thr
     second: Opened<Line>,
     count: u64,
 ) -> Result<(Exchanged, u64), Refusal>
-    requires first { first ≡ M.id }
-    requires second { second ≡ N.id }
+    requires first { (first ≡ M.id) × (1 ≡ M.replica) }
+    requires second { (second ≡ N.id) × (2 ≡ N.replica) }
 {
     short(rt, alloc, two::<M, N>(alloc, first, second), count)
 }
@@ -332,6 +361,6 @@ fn a_hundred_parcels_pass_where_the_journals_are_short(rt: HostRuntime) -> Resul
     let second = Opened::<Line>::new(rt.alloc())?;
     let (outcome, cuts) = exchange_shortly::<Brand, Brand, _>(&rt, rt.alloc(), first, second, 100)?;
     told_all(&outcome, 0)?;
-    assert!(rt; cuts == 33, "there were 100 merges, and room for 3");
+    assert!(rt; cuts == 3, "there were 100 merges, and room for 30");
     Ok(())
 }

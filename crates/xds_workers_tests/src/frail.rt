@@ -1,48 +1,69 @@
-// A node that finds no memory once, and one that counts what it tells.
+// A node that takes no record of a merge once, and one that counts what it tells.
 use crate::calls::Told;
+use crate::filling::fill;
 use std::sync::{Condvar, Mutex, Wait};
 use xds_core::{Event, Marks, Reply};
-use xds_node::{Due, Unrecorded};
+use xds_node::{Due, MOST_RECORDS, Unrecorded};
 use xds_resource::Refusal;
 use xds_workers::Host;
 
-/// A node that finds no memory for the first merge, as its worker threads know it.
+// How often the first merge is tried, in vain.
+const TRIES: u64 = 2;
+
 #[derive(Drop)]
-pub(crate) struct Frail<A> {
+struct Failing<S> {
+    seat: S,
+    tries: u64,
+}
+
+/// A node that takes no record of the first merge, as its worker threads know it: its journal is full then, and can't be cut until the
+/// merge was tried twice.
+#[derive(Drop)]
+pub(crate) struct Frail<A: Host> {
     pub(crate) node: A,
-    failed: Mutex<bool>,
+    failing: Mutex<Failing<A::Seat>>,
     changed: Condvar,
 }
 
-impl<A> Frail<A> {
-    pub(crate) fn new(node: A) -> Frail<A> {
+impl<A: Host> Frail<A> {
+    pub(crate) fn new(node: A, seat: A::Seat) -> Frail<A> {
         Frail {
             node,
-            failed: Mutex::new(false),
+            failing: Mutex::new(Failing { seat, tries: 0 }),
             changed: Condvar::new(),
         }
     }
 
-    /// Waits until a merge found no memory.
+    /// Waits until a merge left no record.
     pub(crate) fn wait_failed<R: Wait>(&self, rt: &R) {
-        let mut failed = self.failed.lock(rt);
+        let mut failing = self.failing.lock(rt);
         for _ in rt.forever() {
-            if *failed {
+            if failing.tries >= TRIES {
                 return;
             }
-            failed = self.changed.wait(rt, failed);
+            failing = self.changed.wait(rt, failing);
         }
     }
 
-    // Whether this merge is the first.
-    fn fails<R: Wait>(&self, rt: &R) -> bool {
-        let mut failed = self.failed.lock(rt);
-        if *failed {
-            return false;
+    // Whether a merge left no record before.
+    fn has_failed<R: Wait>(&self, rt: &R) -> bool {
+        self.failing.lock(rt).tries >= TRIES
+    }
+
+    // Fills the journal.
+    fn fill<R: Wait>(&self, rt: &R) {
+        let mut failing = self.failing.lock(rt);
+        let _ = fill(rt, &self.node, &mut failing.seat, MOST_RECORDS);
+    }
+
+    // Counts a try of the first merge, and cuts the journal behind the last of them.
+    fn count<R: Wait>(&self, rt: &R) {
+        let mut failing = self.failing.lock(rt);
+        failing.tries = failing.tries.saturating_add(1);
+        if failing.tries >= TRIES {
+            let _ = self.node.cut(rt);
+            self.changed.notify_all();
         }
-        *failed = true;
-        self.changed.notify_all();
-        true
     }
 }
 
@@ -53,22 +74,27 @@ impl<A: Host> Host for Frail<A> {
 
     ghost told = { A.told };
 
+    ghost refused = { A.refused };
+
     fn call<R: Wait>(
         &self,
         rt: &R,
         seat: &mut A::Seat,
         event: Event,
     ) -> Result<Result<Reply, Refusal>, Unrecorded> {
-        if is_merge(&event) && self.fails(rt) {
-            return Err(Unrecorded {
-                refusal: Refusal::OutOfMemory,
-                event,
-            });
+        if !is_merge(&event) || self.has_failed(rt) {
+            return self.node.call(rt, seat, event);
         }
-        self.node.call(rt, seat, event)
+        self.fill(rt);
+        let answer = self.node.call(rt, seat, event);
+        self.count(rt);
+        answer
     }
 
     fn cut<R: Wait>(&self, rt: &R) -> Result<A::Segment, Refusal> {
+        if !self.has_failed(rt) {
+            return Err(Refusal::OutOfMemory);
+        }
         self.node.cut(rt)
     }
 
@@ -138,6 +164,8 @@ impl<A: Host> Host for Watched<A> {
     type Segment = A::Segment;
 
     ghost told = { A.told };
+
+    ghost refused = { A.refused };
 
     fn call<R: Wait>(
         &self,

@@ -13,13 +13,19 @@ mod cuts;
 #[cfg(test)]
 mod exchanges;
 #[cfg(test)]
+mod filling;
+#[cfg(test)]
 mod frail;
 #[cfg(test)]
 mod gates;
 #[cfg(test)]
+mod limits;
+#[cfg(test)]
 mod lost;
 #[cfg(test)]
 mod parcels;
+#[cfg(test)]
+mod places;
 #[cfg(test)]
 mod short;
 #[cfg(test)]

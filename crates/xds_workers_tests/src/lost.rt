@@ -1,4 +1,4 @@
-// A node that finds no memory for a merge once: what it was told is lost, and told again.
+// A node that takes no record of a merge once: what it was told is lost, and told again.
 ghost use Rattle.std.specs.Prelude.{◌≡◌};
 ghost use Rattle.std.specs.Thread.{IsSend};
 
@@ -53,7 +53,7 @@ fn merges_all<A: Host, R: Wait>(
     dropped
 }
 
-// What came of a batch that was put twice, where the first merge found no memory, and whether it is held then.
+// What came of a batch that was put twice, where the first merge left no record, and whether it is held then.
 #[derive(Drop)]
 struct Twice {
     dropped: u64,
@@ -110,7 +110,7 @@ fn holds_a<A: Site, R: Wait>(rt: &R, alloc: Global, node: &A) -> Result<String, 
     held(rt, alloc, node, &mut seat)
 }
 
-// What a node holds is put to another, which finds no memory for it at first.
+// What a node holds is put to another, which takes no record of that at first.
 fn put_twice<A: Site, B: Site, R: Wait>(
     rt: &R,
     alloc: Global,
@@ -119,7 +119,8 @@ fn put_twice<A: Site, B: Site, R: Wait>(
     let (from, to) = nodes?;
     let text = holds_a(rt, alloc, &from)?;
     let mut seat = to.seat(rt)?;
-    holds_twice(rt, alloc, &Frail::new(to), &mut seat, text.as_str())
+    let filler = to.seat(rt)?;
+    holds_twice(rt, alloc, &Frail::new(to, filler), &mut seat, text.as_str())
 }
 
 fn lost_once<M: NodeName, N: NodeName, R: Wait>(
@@ -128,14 +129,14 @@ fn lost_once<M: NodeName, N: NodeName, R: Wait>(
     first: Opened<Line>,
     second: Opened<Line>,
 ) -> Result<Twice, Refusal>
-    requires first { first ≡ M.id }
-    requires second { second ≡ N.id }
+    requires first { (first ≡ M.id) × (1 ≡ M.replica) }
+    requires second { (second ≡ N.id) × (2 ≡ N.replica) }
 {
     put_twice(rt, alloc, two::<M, N>(alloc, first, second))
 }
 
 #[test]
-fn a_merge_without_memory_is_receipted_as_lost(rt: HostRuntime) -> Result<(), Fail> {
+fn a_merge_without_a_record_is_receipted_as_lost(rt: HostRuntime) -> Result<(), Fail> {
     let first = Opened::<Line>::new(rt.alloc())?;
     let second = Opened::<Line>::new(rt.alloc())?;
     let outcome = lost_once::<Brand, Brand, _>(&rt, rt.alloc(), first, second)?;
@@ -153,7 +154,7 @@ fn a_merge_without_memory_is_receipted_as_lost(rt: HostRuntime) -> Result<(), Fa
     Ok(())
 }
 
-// Puts a cluster once a merge at another node found no memory, and stops the node.
+// Puts a cluster once a merge at another node left no record, and stops the node.
 fn puts_once_lost<A: Site, B: Site, R: Wait>(
     rt: &R,
     alloc: Global,
@@ -223,7 +224,8 @@ where
     B::Segment: Send,
 {
     let (from, to) = nodes?;
-    exchange_again(rt, alloc, &Watched::new(from), &Frail::new(to))
+    let filler = to.seat(rt)?;
+    exchange_again(rt, alloc, &Watched::new(from), &Frail::new(to, filler))
 }
 
 fn lost_and_told<M: NodeName + Send + Sync, N: NodeName + Send + Sync, R: Threads + Wait + Sync>(
@@ -232,8 +234,8 @@ fn lost_and_told<M: NodeName + Send + Sync, N: NodeName + Send + Sync, R: Thread
     first: Opened<Line>,
     second: Opened<Line>,
 ) -> Result<(Exchanged, Batches), Refusal>
-    requires first { first ≡ M.id }
-    requires second { second ≡ N.id }
+    requires first { (first ≡ M.id) × (1 ≡ M.replica) }
+    requires second { (second ≡ N.id) × (2 ≡ N.replica) }
 {
     again(rt, alloc, two::<M, N>(alloc, first, second))
 }

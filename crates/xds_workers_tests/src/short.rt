@@ -1,53 +1,49 @@
 // A node whose journal is short.
+use crate::filling::fill;
+use crate::sites::Site;
 use std::sync::{Mutex, Wait};
 use xds_core::{Event, Marks, Reply};
-use xds_node::{Due, Unrecorded};
+use xds_node::{Due, MOST_RECORDS, Unrecorded};
 use xds_resource::Refusal;
 use xds_workers::Host;
 
 #[derive(Drop)]
-struct Room {
-    taken: u64,
+struct Filler<S> {
+    seat: S,
     cuts: u64,
 }
 
-/// A node whose journal takes so many records at most, as its worker threads know it.
+/// A node whose journal has room for so many records at most, as its worker threads know it: the rest is filled, at first and after
+/// each cut.
 #[derive(Drop)]
-pub(crate) struct Short<A> {
+pub(crate) struct Short<A: Host> {
     pub(crate) node: A,
-    most: u64,
-    room: Mutex<Room>,
+    most: usize,
+    filler: Mutex<Filler<A::Seat>>,
 }
 
-impl<A> Short<A> {
-    pub(crate) fn new(node: A, most: u64) -> Short<A> {
-        Short {
+impl<A: Host> Short<A> {
+    pub(crate) fn new<R: Wait>(
+        rt: &R,
+        node: A,
+        seat: A::Seat,
+        most: usize,
+    ) -> Result<Short<A>, Refusal>
+    where
+        A: Drop,
+    {
+        let mut seat = seat;
+        fill(rt, &node, &mut seat, MOST_RECORDS.saturating_sub(most))?;
+        Ok(Short {
             node,
             most,
-            room: Mutex::new(Room { taken: 0, cuts: 0 }),
-        }
+            filler: Mutex::new(Filler { seat, cuts: 0 }),
+        })
     }
 
     /// How often it was cut.
     pub(crate) fn cuts<R: Wait>(&self, rt: &R) -> u64 {
-        self.room.lock(rt).cuts
-    }
-
-    // Whether there is room for a record more, which then is taken.
-    fn takes_one<R: Wait>(&self, rt: &R) -> bool {
-        let mut room = self.room.lock(rt);
-        if room.taken >= self.most {
-            return false;
-        }
-        room.taken += 1;
-        true
-    }
-
-    // What was taken is cut.
-    fn is_cut<R: Wait>(&self, rt: &R) {
-        let mut room = self.room.lock(rt);
-        room.taken = 0;
-        room.cuts = room.cuts.saturating_add(1);
+        self.filler.lock(rt).cuts
     }
 }
 
@@ -58,24 +54,28 @@ impl<A: Host> Host for Short<A> {
 
     ghost told = { A.told };
 
+    ghost refused = { A.refused };
+
     fn call<R: Wait>(
         &self,
         rt: &R,
         seat: &mut A::Seat,
         event: Event,
     ) -> Result<Result<Reply, Refusal>, Unrecorded> {
-        if !self.takes_one(rt) {
-            return Err(Unrecorded {
-                refusal: Refusal::JournalFull,
-                event,
-            });
-        }
         self.node.call(rt, seat, event)
     }
 
     fn cut<R: Wait>(&self, rt: &R) -> Result<A::Segment, Refusal> {
-        self.is_cut(rt);
-        self.node.cut(rt)
+        let mut filler = self.filler.lock(rt);
+        let segment = self.node.cut(rt)?;
+        filler.cuts = filler.cuts.saturating_add(1);
+        let _ = fill(
+            rt,
+            &self.node,
+            &mut filler.seat,
+            MOST_RECORDS.saturating_sub(self.most),
+        );
+        Ok(segment)
     }
 
     fn wait_due<R: Wait>(&self, rt: &R, stream: u64) -> Due {
@@ -84,5 +84,15 @@ impl<A: Host> Host for Short<A> {
 
     fn wait_changed<R: Wait>(&self, rt: &R, seen: Marks) -> Option<Marks> {
         self.node.wait_changed(rt, seen)
+    }
+}
+
+impl<A: Site> Site for Short<A> {
+    fn seat<R: Wait>(&self, rt: &R) -> Result<A::Seat, Refusal> {
+        self.node.seat(rt)
+    }
+
+    fn stop<R: Wait>(&self, rt: &R) {
+        self.node.stop(rt)
     }
 }

@@ -58,7 +58,8 @@ fn tried_with<N: NodeName, T: Trial, R: Wait>(
     opened: Opened<Line>,
     trial: &T,
 ) -> Result<T::Came, Refusal>
-    requires { opened ≡ N.id }
+    requires name { opened ≡ N.id }
+    requires number { 1 ≡ N.replica }
 {
     tried_at(rt, alloc, Node::<N>::new(alloc, opened, 1), trial)
 }

@@ -127,7 +127,8 @@ fn serve<N: NodeName + Send + Sync, R: Threads + Wait + Sync>(
     input: Pieces<'_>,
     gate: &Held,
 ) -> Result<Served, Refusal>
-    requires { opened ≡ N.id }
+    requires name { opened ≡ N.id }
+    requires number { 1 ≡ N.replica }
 {
     serve_one(rt, alloc, Node::<N>::new(alloc, opened, 1), input, gate)
 }

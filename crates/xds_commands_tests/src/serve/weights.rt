@@ -55,7 +55,8 @@ fn records_after<N: NodeName, R: Wait>(
     opened: Opened<Line>,
     puts: usize,
 ) -> Result<usize, Refusal>
-    requires { opened ≡ N.id }
+    requires name { opened ≡ N.id }
+    requires own { 1 ≡ N.replica }
 {
     let node = Weighed::new(alloc, Node::<N>::new(alloc, opened, 1)?);
     let mut seat = node.seat(rt)?;

@@ -20,6 +20,55 @@ impl Write for Full {
     }
 }
 
+// A writer that counts how often it was flushed, and whose flushes fail from one on.
+#[derive(Drop)]
+struct Flushed {
+    times: u64,
+    failing: u64,
+}
+
+impl Write for Flushed {
+    fn write(&mut self, buf: &[u8]) -> io::Result<usize> {
+        Ok(buf.len())
+    }
+
+    fn flush(&mut self) -> io::Result<()> {
+        self.times = self.times.saturating_add(1);
+        if self.times >= self.failing {
+            return Err(io::Error::from(io::ErrorKind::Other));
+        }
+        Ok(())
+    }
+}
+
+#[test]
+fn a_flush_is_passed_on_and_its_failure_told(rt: HostRuntime) -> Result<(), Fail> {
+    let mut writer = Counted::new(Flushed {
+        times: 0,
+        failing: 2,
+    });
+    assert!(rt; write_whole(&mut writer, b"ab") == Ok(()));
+    assert_eq!(rt; (writer.inner.times, writer.failed), (1, 0));
+    assert!(rt; write_whole(&mut writer, b"cd") == Err(Refusal::Device));
+    assert_eq!(rt; (writer.inner.times, writer.failed), (2, 1));
+    Ok(())
+}
+
+#[test]
+fn a_device_that_fails_is_blamed_and_asked_once(rt: HostRuntime) -> Result<(), Fail> {
+    let alloc = rt.alloc();
+    let mut reader = Counted::new(Faulty::new(b"abc".as_slice(), 1));
+    assert!(rt; matches!(&read_whole(alloc, &mut reader), Err(Refusal::Device)));
+    assert_eq!(rt; (reader.calls, reader.failed), (1, 1));
+    assert_eq!(rt; reader.inner.inner, b"abc".as_slice());
+    assert_eq!(rt;
+        read_whole(alloc, &mut reader)?.as_slice(),
+        b"abc".as_slice()
+    );
+    assert_eq!(rt; reader.failed, 1);
+    Ok(())
+}
+
 #[test]
 fn a_write_that_takes_nothing_has_failed(rt: HostRuntime) -> Result<(), Fail> {
     let mut writer = Counted::new(Full);

@@ -91,7 +91,8 @@ fn told<N: NodeName, R: Wait>(
     order: Order,
     is_audited: bool,
 ) -> Result<String, Refusal>
-    requires { opened ≡ N.id }
+    requires name { opened ≡ N.id }
+    requires number { N.replica ≡ 1 }
 {
     let node = Node::<N>::new(alloc, opened, 1);
     let mut segments = Vec::new(alloc);

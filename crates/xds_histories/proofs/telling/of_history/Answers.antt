@@ -1,5 +1,5 @@
-use Rattle.std.proofs.Common.{refl, inl, ◌∙◌}
-use Rattle.xds_histories.proofs.Joining.{joins_all, told_all, keeps_all, short_all, told_err, none_cut}
+use Rattle.std.proofs.Common.{refl, inl, inr, ◌∙◌}
+use Rattle.xds_histories.proofs.Joining.{joins_all, told_all, keeps_all, none_cut}
 use Rattle.xds_histories.proofs.telling.of_history.Goals as goal
 
 pub returns-then-not-follows-clause-told : goal.returns-then-not-follows-clause-told
@@ -26,9 +26,7 @@ returns-in-Ok-clause-keeps g c =
     keeps_all c.args.segments.now c.args.history.now c.records-last.result.now c.records-last.ensures.whole c.records-last.ensures.records c.of_lines.result (c.of_lines.ensures ∙ c.in-Ok.ensures.0) c.in-Ok.ensures.1
 
 pub returns-in-Err-clause-told : goal.returns-in-Err-clause-told
-returns-in-Err-clause-told g c =
-    told_err c.args.segments.now c.args.history.now c.records-last.result.now c.records-last.ensures.whole c.records-last.ensures.records c.in-Err.refusal c.if-not-follows.ensures c.in-Err.ensures
+returns-in-Err-clause-told g c = inr (c.if-not-follows.ensures, c.in-Err.ensures)
 
 pub returns-in-Err-clause-legal : goal.returns-in-Err-clause-legal
-returns-in-Err-clause-legal g c =
-    short_all c.args.segments.now c.args.history.now c.records-last.result.now c.records-last.ensures.whole c.records-last.ensures.records c.in-Err.refusal c.in-Err.ensures
+returns-in-Err-clause-legal g c = λ _. c.in-Err.ensures

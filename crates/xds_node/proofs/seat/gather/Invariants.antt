@@ -5,7 +5,7 @@ use Rattle.xds_node.proofs.seat.gather.Given as goal
 
 abbrev pub invariant-loop-seat : goal.invariant-loop-seat
 invariant-loop-seat g l = record {
-  given : l.token ≡ with_seats (λ told. told) l.initial.token l.yielded;
+  given : l.token ≡ with_seats (λ s. s.told) (λ s. s.refused) l.initial.token l.yielded;
   all : l.yielded ++ into_iter_items l.seat-iterator ≡ l.fn.seats.items;
   counted : into_iter_len l.seat-iterator ≡ length (into_iter_items l.seat-iterator);
 }

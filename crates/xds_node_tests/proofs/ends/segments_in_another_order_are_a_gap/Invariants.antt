@@ -1,5 +1,5 @@
 use Rattle.xds_node_tests.proofs.ends.segments_in_another_order_are_a_gap.Given as goal
 
--- the node has the name of the tokens that were just made
+-- the node has the name of the tokens that were just made, and its replica this number
 abbrev pub ghosts-audits : goal.ghosts-audits
-ghosts-audits g a = record { id = a.opened }
+ghosts-audits g a = record { id = a.opened; replica = 1 }

@@ -7,5 +7,6 @@ use Rattle.xds_workers.proofs.outward.exchange_out.Given as goal
 
 abbrev pub invariant-loop : goal.invariant-loop
 invariant-loop g l =
-    ((turns : List Turn) × ByTurns (g.H.Host.told l.initial.seat) (g.H.Host.told l.seat) (put_by l.initial.out) (put_by l.out) (taken_by l.initial.receipts) (taken_by l.receipts) turns (counts_of l.peer))
+    ((turns : List Turn) × ByTurns (g.H.Host.told l.initial.seat) (g.H.Host.told l.seat) (g.H.Host.refused l.initial.seat) (g.H.Host.refused l.seat)
+    (put_by l.initial.out) (put_by l.out) (taken_by l.initial.receipts) (taken_by l.receipts) turns (counts_of l.peer))
     × IsSameEnd l.initial.out l.out × IsSameSource l.initial.receipts l.receipts

@@ -6,4 +6,5 @@ use Rattle.xds_workers.proofs.reader.read_requests.Given as goal
 
 abbrev pub invariant-loop : goal.invariant-loop
 invariant-loop g l =
-    Told (g.H.Host.told l.initial.seat) (g.H.Host.told l.seat) (λ told. IsRead l.stream told [] (seen g.D.Read.remaining l.initial.reader l.reader) l.decoder)
+    Told (g.H.Host.told l.initial.seat) (g.H.Host.told l.seat) (g.H.Host.refused l.initial.seat) (g.H.Host.refused l.seat)
+    (λ told tried. IsRead l.stream told tried [] (seen g.D.Read.remaining l.initial.reader l.reader) l.decoder)

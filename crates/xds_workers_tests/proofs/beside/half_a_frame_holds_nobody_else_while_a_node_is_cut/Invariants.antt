@@ -2,4 +2,4 @@ use Rattle.xds_workers_tests.proofs.beside.half_a_frame_holds_nobody_else_while_
 
 -- the node has the name of the tokens that were just made
 abbrev pub ghosts-half : goal.ghosts-half
-ghosts-half g a = record { id = a.opened }
+ghosts-half g a = record { id = a.opened; replica = 1 }

@@ -1,0 +1,46 @@
+// A node as what replies over HTTP.
+use std::alloc::Global;
+use std::sync::Wait;
+use xds_http::Replies;
+use xds_node::{Node, NodeName, Seat};
+use xds_polls::HttpReply;
+use xds_posts::reply_at;
+use xds_resource::Refusal;
+
+/// A node that posts ask, each by a seat of its own.
+pub(crate) struct Asked<N: NodeName> {
+    pub(crate) node: Node<N>,
+}
+
+impl<N: NodeName> Drop for Asked<N> {
+    fn drop(self) {
+        let Asked { node: _ } = self;
+    }
+}
+
+impl<N: NodeName> Replies for Asked<N> {
+    ghost use Rattle.std.specs.Prelude.{◌≡◌, codes};
+    ghost use Rattle.xds_node.specs.Told.{no_calls};
+    ghost use Rattle.xds_posts.specs.Posted.{IsReplyOrUnavailable};
+
+    type Seat = Seat<N>;
+
+    ghost fresh = { λ s. s ≡ no_calls };
+
+    ghost replies = { λ old new path body r. IsReplyOrUnavailable N.replica (codes "POST") path body old new r };
+
+    fn seat<R: Wait>(&self, rt: &R) -> Result<Seat<N>, Refusal> {
+        self.node.seat(rt)
+    }
+
+    fn reply<R: Wait>(
+        &self,
+        rt: &R,
+        alloc: Global,
+        seat: &mut Seat<N>,
+        path: &str,
+        body: &[u8],
+    ) -> HttpReply {
+        reply_at(rt, alloc, &self.node, seat, "POST", path, body)
+    }
+}

@@ -1,0 +1,5 @@
+use Rattle.xds_node_tests.proofs.cuts.each_segment_begins_where_the_one_before_it_ends.Given as goal
+
+-- the node has the name of the tokens that were just made, and its replica this number
+abbrev pub ghosts-cuts : goal.ghosts-cuts
+ghosts-cuts g a = record { id = a.opened; replica = 1 }
