@@ -1,0 +1,105 @@
+package main
+
+import (
+	"bufio"
+	"encoding/binary"
+	"errors"
+	"fmt"
+	"io"
+	"net"
+)
+
+// The kinds of frames that streams carry.
+const (
+	kindRequest       = 1
+	kindResponse      = 2
+	kindDeltaRequest  = 3
+	kindDeltaResponse = 4
+)
+
+// maxText is the length of the longest text that a frame has room for.
+const maxText = 1<<24 - 1
+
+// keptBuffer is how long a reader's buffer may be for the reader to keep it for the next frame.
+const keptBuffer = 1 << 20
+
+var errTooLong = fmt.Errorf("a text is longer than a frame's %d bytes", maxText)
+
+// errBadFrame is what bytes that are no frame are told as.
+type errBadFrame string
+
+func (e errBadFrame) Error() string { return string(e) }
+
+// writeFrame writes one frame: four bytes of length, one of kind, the text.
+func writeFrame(conn net.Conn, kind byte, text []byte) error {
+	if len(text) > maxText {
+		return errTooLong
+	}
+	head := make([]byte, 5)
+	binary.BigEndian.PutUint32(head, uint32(len(text)+1))
+	head[4] = kind
+	parts := net.Buffers{head, text}
+	_, err := parts.WriteTo(conn)
+	return err
+}
+
+// frameReader reads one frame after another.
+type frameReader struct {
+	from *bufio.Reader
+	text []byte
+}
+
+func newFrameReader(from io.Reader) *frameReader {
+	return &frameReader{from: bufio.NewReaderSize(from, 16<<10)}
+}
+
+// next gives the kind and the text of the next frame; the text is good until the next call. At the end of the input
+// it gives io.EOF, within a frame io.ErrUnexpectedEOF, and for what is no frame an errBadFrame.
+func (r *frameReader) next() (byte, []byte, error) {
+	var head [5]byte
+	if _, err := io.ReadFull(r.from, head[:4]); err != nil {
+		return 0, nil, err
+	}
+	length := binary.BigEndian.Uint32(head[:4])
+	if length == 0 || length > maxText+1 {
+		return 0, nil, errBadFrame(fmt.Sprintf("a frame's length is %d", length))
+	}
+	if _, err := io.ReadFull(r.from, head[4:]); err != nil {
+		return 0, nil, within(err)
+	}
+	if cap(r.text) > keptBuffer {
+		r.text = nil
+	}
+	err := r.fill(int(length) - 1)
+	return head[4], r.text, within(err)
+}
+
+// fill reads a text. It takes memory as the text comes, and not as its length announces it.
+func (r *frameReader) fill(length int) error {
+	r.text = r.text[:0]
+	for len(r.text) < length {
+		have := len(r.text)
+		more := length - have
+		if most := have + keptBuffer; more > most {
+			more = most
+		}
+		if need := have + more; need > cap(r.text) {
+			longer := make([]byte, have, need)
+			copy(longer, r.text)
+			r.text = longer
+		}
+		r.text = r.text[:have+more]
+		if _, err := io.ReadFull(r.from, r.text[have:]); err != nil {
+			return err
+		}
+	}
+	return nil
+}
+
+// within is an error that was met behind a frame's first byte.
+func within(err error) error {
+	if errors.Is(err, io.EOF) {
+		return io.ErrUnexpectedEOF
+	}
+	return err
+}

@@ -1,0 +1,115 @@
+package main
+
+import (
+	"errors"
+	"os"
+	"strings"
+	"sync/atomic"
+	"testing"
+	"time"
+
+	"google.golang.org/grpc/codes"
+)
+
+// mostHeld is how many bytes may be under way where nobody takes them: what the kernel's sockets hold, and a message
+// at each step.
+const mostHeld = 24 << 20
+
+func TestAClientThatDoesntReadHoldsUpTheServer(t *testing.T) {
+	k := newWorld(t).sotw()
+	text := []byte(`{"nonce":"` + strings.Repeat("x", 1<<20) + `"}`)
+	_ = k.server.SetWriteDeadline(time.Now().Add(time.Second))
+	sent := 0
+	for ; sent < 2*mostHeld; sent += len(text) {
+		if err := writeFrame(k.server, kindResponse, text); errors.Is(err, os.ErrDeadlineExceeded) {
+			break
+		} else if err != nil {
+			t.Fatal(err)
+		}
+	}
+	if sent > mostHeld {
+		t.Fatalf("%d bytes are under way", sent)
+	}
+	// (another stream over the same connection isn't held up)
+	other := k.delta()
+	other.asks(`{"typeUrl":"t"}`)
+	other.answers(`{"nonce":"1"}`)
+	other.wants(other.takes(), `{"nonce":"1"}`)
+}
+
+func TestAServerThatDoesntReadHoldsUpTheClient(t *testing.T) {
+	k := newWorld(t).sotw()
+	const all = 3 * mostHeld / 2 >> 20
+	wire := append([]byte("\x0a\x80\x80\x40"), strings.Repeat("x", 1<<20)...)
+	var sent int32
+	ended := make(chan error, 1)
+	go func() {
+		for i := 0; i < all; i++ {
+			if err := k.client.SendMsg(&message{wire}); err != nil {
+				ended <- err
+				return
+			}
+			atomic.AddInt32(&sent, 1)
+		}
+		ended <- nil
+	}()
+	time.Sleep(time.Second)
+	if n := atomic.LoadInt32(&sent); n > mostHeld>>20 {
+		t.Fatalf("%d MiB are under way", n)
+	}
+	// Meanwhile responses go on, and once the server reads, the requests that waited come.
+	k.answers(`{"nonce":"1"}`)
+	k.wants(k.takes(), `{"nonce":"1"}`)
+	for i := 0; i < all; i++ {
+		k.gets()
+	}
+	if err := <-ended; err != nil {
+		t.Fatal(err)
+	}
+}
+
+func TestMessagesThatAreTooLong(t *testing.T) {
+	w := newWorld(t)
+	k := w.sotw()
+	k.answers(`{"nonce":"` + strings.Repeat("x", maxText-12) + `"}`)
+	var in message
+	if err := k.client.RecvMsg(&in); err != nil || len(in.wire) < maxText-12 {
+		t.Fatal(err, len(in.wire))
+	}
+	k.answers(`{"nonce":"` + strings.Repeat(`\n`, maxText/2-7) + `"}`)
+	if err := k.client.RecvMsg(&in); err != nil || len(in.wire) < maxText/2-7 {
+		t.Fatal(err, len(in.wire))
+	}
+	_ = k.client.SendMsg(&message{make([]byte, maxText+1)})
+	k.ends(codes.ResourceExhausted, "larger than max")
+	k.closes()
+	// A byte 0 is six in JSON.
+	k = w.sotw()
+	_ = k.client.SendMsg(&message{append([]byte("\x0a\x80\x80\x80\x02"), make([]byte, 4<<20)...)})
+	k.ends(codes.ResourceExhausted, "longer than a frame")
+	k.closes()
+}
+
+func TestLimitsOfOnesOwn(t *testing.T) {
+	w := newWorld(t, "--max-request", "1000", "--max-response", "500")
+	k := w.sotw()
+	k.asks(`{"versionInfo":"` + strings.Repeat("x", 990) + `"}`)
+	k.answers(`{"nonce":"` + strings.Repeat("x", 490) + `"}`)
+	k.takes()
+	k.sends(`{"versionInfo":"` + strings.Repeat("x", 1000) + `"}`)
+	k.ends(codes.ResourceExhausted, "1000")
+	k = w.sotw()
+	k.answers(`{"nonce":"` + strings.Repeat("x", 500) + `"}`)
+	k.ends(codes.ResourceExhausted, "500")
+	k.closes()
+}
+
+func TestNamesThatAreTooMany(t *testing.T) {
+	k := newWorld(t).sotw()
+	names := `["` + strings.Repeat("x", mostNames/3) + `"]`
+	for _, of := range []string{"a", "b", "b", "a"} {
+		k.asks(`{"typeUrl":"` + of + `","resourceNames":` + names + `}`)
+	}
+	k.sends(`{"typeUrl":"c","resourceNames":` + names + `}`)
+	k.ends(codes.ResourceExhausted, "names of more than")
+}

@@ -1,0 +1,74 @@
+"""examples/envoy-ads.yaml: that it is a bootstrap, and that what stands in its head passes through the bridge."""
+import json
+import os
+import unittest
+
+import envoy_set
+import grpc
+import yaml
+from google.protobuf import descriptor_pb2, descriptor_pool, json_format, message_factory
+from parts import CLUSTER, ENDPOINT, LISTENER, OUT, ROUTE, TOP, Bridge, Control, delta
+
+EXAMPLE = os.path.join(TOP, "examples", "envoy-ads.yaml")
+OPTIONS = "envoy/extensions/upstreams/http/v3/http_protocol_options.proto"
+
+
+class Example(unittest.TestCase):
+    def test_it_is_a_bootstrap(self):
+        found = envoy_set.files()
+        if "envoy/config/bootstrap/v3/bootstrap.proto" not in found:
+            self.skipTest("gRPC's library has no descriptors of Envoy in it")
+        # (the one file that it lacks is the small set's)
+        with open(os.path.join(OUT, "go", "envoy.binpb"), "rb") as file:
+            for it in descriptor_pb2.FileDescriptorSet.FromString(file.read()).file:
+                if it.name == OPTIONS:
+                    found[it.name] = it
+        files, pool = {it.name: it for it in envoy_set.closed(found).file}, descriptor_pool.DescriptorPool()
+
+        def add(name):
+            if name in files:
+                it = files.pop(name)
+                for of in it.dependency:
+                    add(of)
+                pool.Add(it)
+
+        for name in list(files):
+            add(name)
+        kind = message_factory.MessageFactory(pool).GetPrototype(pool.FindMessageTypeByName("envoy.config.bootstrap.v3.Bootstrap"))
+        with open(EXAMPLE, encoding="utf-8") as file:
+            made = json_format.ParseDict(yaml.safe_load(file), kind(), descriptor_pool=pool)
+        self.assertTrue(made.dynamic_resources.HasField("ads_config"))
+
+    def test_its_resources_pass(self):
+        lines = []
+        with open(EXAMPLE, encoding="utf-8") as file:
+            for it in file:
+                if it.startswith("#     put 1 "):
+                    lines.append(it[len("#     put 1 "):].rstrip("\n"))
+                elif it.startswith("#       ") and lines:
+                    lines[-1] += it[1:].strip()
+        control = Control()
+        self.addCleanup(control.end)
+        bridge = Bridge(control.port)
+        self.addCleanup(bridge.end)
+        for it in lines:
+            resource = json.loads(it)
+            control.put(resource.pop("@type"), **resource)
+        control.settle()
+        with grpc.insecure_channel(bridge.address) as channel:
+            stream = delta(channel)
+            self.addCleanup(stream.end)
+            asked = {CLUSTER: [], LISTENER: [], ENDPOINT: ["payments"], ROUTE: ["shop"]}
+            for url, names in asked.items():
+                stream.ask(type_url=url, resource_names_subscribe=names, node={"id": "envoy-1", "cluster": "edge"})
+            told = {}
+            while len(told) < len(asked):
+                response = stream.take()
+                told[response.type_url] = [it.name for it in response.resources]
+                stream.accept(response)
+        self.assertEqual(told, {CLUSTER: ["payments"], LISTENER: ["front"], ENDPOINT: ["payments"], ROUTE: ["shop"]})
+        self.assertFalse(bridge.told("refused"))
+
+
+if __name__ == "__main__":
+    unittest.main()
