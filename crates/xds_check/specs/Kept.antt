@@ -16,7 +16,7 @@ use Rattle.xds_interest.specs.Asked.{Asked, asked_code, unasked, sotw_asked, del
 use Rattle.xds_catalogue.specs.Content.{live_at, content}
 use Rattle.xds_catalogue.specs.Holdings.{Entries, Holdings}
 use Rattle.xds_catalogue.specs.Joins.{joined}
-use Rattle.xds_fields.specs.Versions.{VersionMap}
+use Rattle.xds_json.specs.Versions.{VersionMap}
 use Rattle.xds_message.specs.DeltaMessages.{DeltaRequest}
 use Rattle.xds_owed.specs.declared.entry.Due.{Due}
 use Rattle.xds_owed.specs.declared.entry.Due.TheVariants.{Stated, Removed}

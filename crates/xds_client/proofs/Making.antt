@@ -7,7 +7,7 @@ use Rattle.xds_resource.specs.declared.types.TypeName.{TypeName}
 use Rattle.xds_frames.specs.declared.frame.Frame.{Frame}
 use Rattle.xds_frames.specs.Decoding.{GivesNext, framed}
 use Rattle.xds_frames.specs.Frames.{Framed}
-use Rattle.xds_fields.specs.Spelling.{IsJson}
+use Rattle.xds_json.specs.Spelling.{IsJson}
 use Rattle.xds_message.specs.Messages.{Request, Response, SpellsResponse}
 use Rattle.xds_message.specs.DeltaMessages.{DeltaRequest, DeltaResponse, SpellsDeltaResponse}
 use Rattle.xds_cache.specs.Clients.{Client}

@@ -5,7 +5,7 @@ use Rattle.serde_json.specs.Data.{Data}
 use Rattle.xds_resource.specs.declared.refusal.Refusal.{Refusal}
 use Rattle.xds_resource.specs.declared.refusal.Refusal.TheVariants.{NotJson, BadMessage, OutOfMemory, WrongVariant, FrameTooLong}
 use Rattle.xds_frames.specs.Frames.{Framed}
-use Rattle.xds_fields.specs.Spelling.{IsJson}
+use Rattle.xds_json.specs.Spelling.{IsJson}
 use Rattle.xds_message.specs.Messages.{Request, Response, SpellsResponse}
 use Rattle.xds_message.specs.DeltaMessages.{DeltaRequest, DeltaResponse, SpellsDeltaResponse}
 use Rattle.xds_shelf.specs.Faults.{Test}

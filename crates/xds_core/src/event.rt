@@ -6,7 +6,7 @@ ghost use Rattle.xds_core.specs.Twice.{is_light, poll_in};
 
 use std::alloc::Global;
 use xds_draft::{Draft, SotwDraft};
-use xds_fields::copy_texts;
+use xds_json::copy_texts;
 use xds_ledger::Outcome;
 use xds_resource::{AnyResource, Groups, Refusal, Stamp, TypeName};
 use xds_store::Marks;

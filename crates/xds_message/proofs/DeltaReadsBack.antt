@@ -3,14 +3,14 @@ use Rattle.std.proofs.Common.{◌≡◌, ℕ, suc, List, [], ◌∷◌, length, 
 use Rattle.std.specs.List.{AllZip}
 use Rattle.std.specs.FinMap as finmap
 use Rattle.serde_json.specs.Data.{Data, null, boolean, number, string, array, object}
-use Rattle.xds_fields.specs.Spelling.{IsObject, IsTexts, IsInner, set_value}
+use Rattle.xds_json.specs.Spelling.{IsObject, IsTexts, IsInner, set_value}
 use Rattle.xds_message.specs.Messages.{SpellsIdentity, SpellsFailure}
-use Rattle.xds_fields.specs.Versions.{VersionMap, IsVersions, versions_data, pairs_data, text_members}
+use Rattle.xds_json.specs.Versions.{VersionMap, IsVersions, versions_data, pairs_data, text_members}
 use Rattle.xds_message.specs.Written.{list_data, identity_object, failure_object}
 use Rattle.xds_message.specs.DeltaMessages.{DeltaRequest, DeltaResponse, VersionedResource, SpellsDeltaRequest, SpellsDeltaResponse, SpellsResource, IsResources}
 use Rattle.xds_message.specs.DeltaWritten.{delta_request_fields, delta_request_object, resource_fields, resource_object, delta_response_fields, delta_response_object}
 use Rattle.xds_message.specs.Laws.{HasDeltaCodeInRange}
-use Rattle.xds_fields.proofs.FieldsReadBack.{field-object_set, once_is, twice_is, IsTexts-list_data, text_once, text_twice, IsInner-identity, IsInner-failure}
+use Rattle.xds_json.proofs.FieldsReadBack.{field-object_set, once_is, twice_is, IsTexts-list_data, text_once, text_twice, IsInner-identity, IsInner-failure}
 
 -- ---- requests
 

@@ -4,10 +4,10 @@ use Rattle.std.specs.FinMap as finmap
 use Rattle.serde_json.specs.Data.{string, depth, items_depth, members_depth}
 use Rattle.serde_json.specs.View.{items_of}
 use Rattle.serde_json.specs.Written.{has_float, items_have_float, members_have_float}
-use Rattle.xds_fields.specs.Versions.{pairs_data, text_members}
+use Rattle.xds_json.specs.Versions.{pairs_data, text_members}
 use Rattle.xds_message.specs.DeltaMessages.{DeltaRequest, DeltaResponse, VersionedResource}
 use Rattle.xds_message.specs.DeltaWritten.{delta_request_fields, delta_request_object, resource_fields, resource_object, delta_response_fields, delta_response_object}
-use Rattle.xds_fields.proofs.FieldsWithin.{IsWithin, members_depth-members_set, IsWithin-text_data, IsWithin-list_data, HasNoFloat, members_have_float-members_set, HasNoFloat-text_data, HasNoFloat-list_data, items_depth-texts, items_have_float-texts, IsWithin-identity, IsWithin-failure, HasNoFloat-identity, HasNoFloat-failure, neither}
+use Rattle.xds_json.proofs.FieldsWithin.{IsWithin, members_depth-members_set, IsWithin-text_data, IsWithin-list_data, HasNoFloat, members_have_float-members_set, HasNoFloat-text_data, HasNoFloat-list_data, items_depth-texts, items_have_float-texts, IsWithin-identity, IsWithin-failure, HasNoFloat-identity, HasNoFloat-failure, neither}
 
 -- ---- requests
 

@@ -1,4 +1,4 @@
-pub use Rattle.xds_fields.proofs.Lists
+pub use Rattle.xds_json.proofs.Lists
 pub mod OneMessage
 pub mod ReadsBack
 pub mod WrittenLemmas

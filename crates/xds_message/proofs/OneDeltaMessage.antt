@@ -4,13 +4,13 @@ use Rattle.std.specs.List.{AllZip}
 use Rattle.std.specs.FinMap as finmap
 use Rattle.serde_json.specs.Data.{Data, array, object}
 use Rattle.serde_json.specs.View.{items_of}
-use Rattle.xds_fields.specs.Spelling.{set_value}
+use Rattle.xds_json.specs.Spelling.{set_value}
 use Rattle.xds_message.specs.Messages.{SpellsIdentity, SpellsFailure}
-use Rattle.xds_fields.specs.Versions.{VersionMap, IsVersions, text_members}
+use Rattle.xds_json.specs.Versions.{VersionMap, IsVersions, text_members}
 use Rattle.xds_message.specs.DeltaMessages.{DeltaRequest, DeltaResponse, VersionedResource, SpellsDeltaRequest, SpellsDeltaResponse, SpellsResource, IsResources}
-use Rattle.xds_fields.proofs.Lists.{items_of-injective, IsArrayOf}
-use Rattle.xds_fields.proofs.OneField.{IsOrDefault-unique, IsText-unique, IsTexts-unique, IsInner-unique, SpellsIdentity-unique, SpellsFailure-unique}
-use Rattle.xds_fields.proofs.VersionLemmas.{text_members-injective}
+use Rattle.xds_json.proofs.Lists.{items_of-injective, IsArrayOf}
+use Rattle.xds_json.proofs.OneField.{IsOrDefault-unique, IsText-unique, IsTexts-unique, IsInner-unique, SpellsIdentity-unique, SpellsFailure-unique}
+use Rattle.xds_json.proofs.VersionLemmas.{text_members-injective}
 
 same_versions : (d : Data) (m n : VersionMap) → d ≡ object (text_members (finmap.entries m)) → d ≡ object (text_members (finmap.entries n)) → m ≡ n
 same_versions d m n p q = let same = sym p ∙ q in finmap.same_entries_map m n (text_members-injective (finmap.entries m) (finmap.entries n) cc)

@@ -2,7 +2,7 @@
 use Rattle.std.proofs.Common.{◌≡◌}
 use Rattle.serde_json.specs.Data.{Data}
 use Rattle.xds_message.specs.Messages.{Request, Response, SpellsIdentity, SpellsFailure, SpellsRequest, SpellsResponse}
-use Rattle.xds_fields.proofs.OneField.{IsText-unique, IsTexts-unique, IsObjects-unique, IsInner-unique, SpellsIdentity-unique, SpellsFailure-unique}
+use Rattle.xds_json.proofs.OneField.{IsText-unique, IsTexts-unique, IsObjects-unique, IsInner-unique, SpellsIdentity-unique, SpellsFailure-unique}
 
 pub SpellsRequest-unique : (d : Data) (m n : Request) → SpellsRequest d m → SpellsRequest d n → m ≡ n
 SpellsRequest-unique d m n p q =

@@ -1,11 +1,11 @@
 -- The object that is written for a message spells the message.
 use Rattle.std.proofs.Common.{map, option_map, All, codes, refl, sym, ◌∙◌, subst}
 use Rattle.serde_json.specs.Data.{string}
-use Rattle.xds_fields.specs.Spelling.{IsObject, IsTexts, IsObjects, IsInner}
+use Rattle.xds_json.specs.Spelling.{IsObject, IsTexts, IsObjects, IsInner}
 use Rattle.xds_message.specs.Messages.{Request, Response, SpellsIdentity, SpellsFailure, SpellsRequest, SpellsResponse}
 use Rattle.xds_message.specs.Laws.{HasCodeInRange}
 use Rattle.xds_message.specs.Written.{list_data, identity_object, failure_object, request_object, request_fields, response_object, response_fields}
-use Rattle.xds_fields.proofs.FieldsReadBack.{field-object_set, once_is, twice_is, IsTexts-list_data, IsObjects-list_data, text_once, text_twice, IsInner-identity, IsInner-failure}
+use Rattle.xds_json.proofs.FieldsReadBack.{field-object_set, once_is, twice_is, IsTexts-list_data, IsObjects-list_data, text_once, text_twice, IsInner-identity, IsInner-failure}
 
 pub SpellsRequest-request_object : (m : Request) → HasCodeInRange m → SpellsRequest (request_object m) m
 SpellsRequest-request_object m h = record {

@@ -5,7 +5,7 @@ use Rattle.serde_json.specs.View.{items_of}
 use Rattle.serde_json.specs.Written.{has_float, items_have_float}
 use Rattle.xds_message.specs.Messages.{Request, Response}
 use Rattle.xds_message.specs.Written.{request_fields, request_object, response_fields, response_object}
-use Rattle.xds_fields.proofs.FieldsWithin.{members_depth-members_set, members_have_float-members_set, IsWithin-text_data, HasNoFloat-text_data, IsWithin-list_data, HasNoFloat-list_data, items_depth-texts, items_have_float-texts, IsWithin-identity, HasNoFloat-identity, IsWithin-failure, HasNoFloat-failure}
+use Rattle.xds_json.proofs.FieldsWithin.{members_depth-members_set, members_have_float-members_set, IsWithin-text_data, HasNoFloat-text_data, IsWithin-list_data, HasNoFloat-list_data, items_depth-texts, items_have_float-texts, IsWithin-identity, HasNoFloat-identity, IsWithin-failure, HasNoFloat-failure}
 
 -- ---- responses
 

@@ -6,9 +6,9 @@ use Rattle.std.specs.Coded.{Coded, code_by, coded×, coded_ℕ, coded_ℤ, coded
 use Rattle.serde_json.specs.Data.{Data, array}
 use Rattle.serde_json.specs.View.{items_of}
 use Rattle.xds_resource.specs.Fields.{field}
-use Rattle.xds_fields.specs.Spelling.{IsObject, IsOrDefault, IsText, IsTexts, IsInner, set_value}
+use Rattle.xds_json.specs.Spelling.{IsObject, IsOrDefault, IsText, IsTexts, IsInner, set_value}
 use Rattle.xds_message.specs.Messages.{Identity, Failure, SpellsIdentity, SpellsFailure}
-use Rattle.xds_fields.specs.Versions.{VersionMap, IsVersions, version_map_code}
+use Rattle.xds_json.specs.Versions.{VersionMap, IsVersions, version_map_code}
 
 -- a DeltaDiscoveryRequest
 pub record DeltaRequest : Type 0 where

@@ -1,7 +1,7 @@
 -- The objects that are written for the messages of the incremental variant, in the proto3 JSON mapping.
 use Rattle.std.specs.Prelude.{[], ◌∷◌, map, Some, option_map, codes}
 use Rattle.serde_json.specs.Data.{Data, string}
-use Rattle.xds_fields.specs.Versions.{versions_data}
+use Rattle.xds_json.specs.Versions.{versions_data}
 use Rattle.xds_message.specs.DeltaMessages.{DeltaRequest, VersionedResource, DeltaResponse}
 use Rattle.xds_message.specs.Written.{Fields, object_set, text_data, list_data, identity_object, failure_object}
 

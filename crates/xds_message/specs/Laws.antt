@@ -2,7 +2,7 @@
 use Rattle.std.specs.Prelude.{◌≡◌, All, MatchOption, FitsSigned, ⊤}
 use Rattle.std.specs.Int.{w32}
 use Rattle.serde_json.specs.Data.{Data}
-use Rattle.xds_fields.specs.Spelling.{IsObject}
+use Rattle.xds_json.specs.Spelling.{IsObject}
 use Rattle.xds_message.specs.Messages.{Request, Response, SpellsRequest, SpellsResponse}
 use Rattle.xds_message.specs.DeltaMessages.{DeltaRequest, DeltaResponse, SpellsDeltaRequest, SpellsDeltaResponse}
 use Rattle.xds_message.specs.Written.{request_object, response_object}

@@ -1,8 +1,8 @@
-pub use Rattle.xds_fields.specs.Spelling
+pub use Rattle.xds_json.specs.Spelling
 pub mod Messages
 pub mod Written
 pub mod Responses
-pub use Rattle.xds_fields.specs.Versions
+pub use Rattle.xds_json.specs.Versions
 pub use Rattle.xds_writes.specs.StampedWrites
 pub mod DeltaMessages
 pub mod DeltaWritten

@@ -3,8 +3,8 @@
 use Rattle.std.specs.Prelude.{ℕ, List, Option, codes}
 use Rattle.serde_json.specs.Data.{Data}
 use Rattle.xds_resource.specs.Fields.{field}
-use Rattle.xds_fields.specs.Spelling.{IsObject, IsText, IsTexts, IsObjects, IsInner}
-pub use Rattle.xds_fields.specs.Parts.{Identity, Failure, SpellsIdentity, SpellsFailure}
+use Rattle.xds_json.specs.Spelling.{IsObject, IsText, IsTexts, IsObjects, IsInner}
+pub use Rattle.xds_json.specs.Parts.{Identity, Failure, SpellsIdentity, SpellsFailure}
 
 -- a DiscoveryRequest
 pub record Request : Type 0 where

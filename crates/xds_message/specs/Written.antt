@@ -3,7 +3,7 @@
 use Rattle.std.specs.Prelude.{[], ◌∷◌, map, option_map, codes}
 use Rattle.serde_json.specs.Data.{Data, string}
 use Rattle.xds_message.specs.Messages.{Request, Response}
-pub use Rattle.xds_fields.specs.WrittenFields.{Fields, text_data, list_data, code_data, put_set, members_set, object_set, identity_fields, identity_object, failure_fields, failure_object}
+pub use Rattle.xds_json.specs.WrittenFields.{Fields, text_data, list_data, code_data, put_set, members_set, object_set, identity_fields, identity_object, failure_fields, failure_object}
 
 abbrev pub request_fields : Request → Fields
 request_fields m =

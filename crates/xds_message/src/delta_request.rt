@@ -7,17 +7,17 @@ ghost use Rattle.xds_resource.specs.declared.refusal.Refusal.TheVariants.{NotJso
 ghost use Rattle.xds_message.specs.DeltaMessages.{DeltaRequest, SpellsDeltaRequest};
 ghost use Rattle.xds_message.specs.DeltaWritten.{delta_request_object};
 ghost use Rattle.xds_message.specs.Laws.{HasDeltaCodeInRange};
-ghost use Rattle.xds_fields.specs.Spelling.{IsJson, Reads};
+ghost use Rattle.xds_json.specs.Spelling.{IsJson, Reads};
 
 use serde_json::{Map, Value};
 use std::alloc::Global;
 use std::marker::Model;
-use xds_fields::fields::{
+use xds_json::fields::{
     copy_texts, put_inner, put_text, put_texts, read_json, text_field, texts_field,
 };
-use xds_fields::node::{Node, copy_node, node_field, put_node};
-use xds_fields::status::{Status, copy_status, error_detail_field, put_error_detail};
-use xds_fields::versions::{Versions, versions_field};
+use xds_json::node::{Node, copy_node, node_field, put_node};
+use xds_json::status::{Status, copy_status, error_detail_field, put_error_detail};
+use xds_json::versions::{Versions, versions_field};
 use xds_resource::Refusal;
 
 /// What a client of the incremental variant asks of a server: which names of one type it wants from now on and which no

@@ -11,11 +11,11 @@ ghost use Rattle.xds_resource.specs.declared.refusal.Refusal.TheVariants.{NotJso
 ghost use Rattle.xds_message.specs.DeltaMessages.{DeltaResponse, SpellsResource, SpellsDeltaResponse, IsResources};
 ghost use Rattle.xds_message.specs.DeltaWritten.{resource_object, delta_response_object};
 ghost use Rattle.xds_message.specs.Responses.{resource_of, delta_response_of};
-ghost use Rattle.xds_fields.specs.Spelling.{IsJson, IsObject, Reads, set_value};
+ghost use Rattle.xds_json.specs.Spelling.{IsJson, IsObject, Reads, set_value};
 
 use serde_json::{Map, Value, put};
 use std::alloc::Global;
-use xds_fields::fields::{
+use xds_json::fields::{
     copy_texts, put_list, put_text, put_texts, read_json, taken_field, text_field, texts_field,
 };
 use xds_resource::Refusal;

@@ -12,5 +12,5 @@ pub use delta_request::DeltaDiscoveryRequest;
 pub use delta_response::{DeltaDiscoveryResponse, DeltaResource};
 pub use request::DiscoveryRequest;
 pub use response::DiscoveryResponse;
-pub use xds_fields::{Node, Status, Versions, copy_texts};
+pub use xds_json::{Node, Status, Versions, copy_texts};
 pub use xds_writes::{Batch, read_write, write_object};

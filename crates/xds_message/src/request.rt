@@ -6,15 +6,15 @@ ghost use Rattle.serde_json.specs.Written.{compact_text};
 ghost use Rattle.xds_resource.specs.declared.refusal.Refusal.TheVariants.{NotJson, BadMessage, OutOfMemory};
 ghost use Rattle.xds_message.specs.Messages.{Request, SpellsRequest};
 ghost use Rattle.xds_message.specs.Laws.{HasCodeInRange};
-ghost use Rattle.xds_fields.specs.Spelling.{IsJson, Reads};
+ghost use Rattle.xds_json.specs.Spelling.{IsJson, Reads};
 ghost use Rattle.xds_message.specs.Written.{request_object};
 
 use serde_json::{Map, Value};
 use std::alloc::Global;
 use std::marker::Model;
-use xds_fields::fields::{copy_texts, put_text, put_texts, read_json, text_field, texts_field};
-use xds_fields::node::{Node, copy_node, node_field, put_node};
-use xds_fields::status::{Status, copy_status, error_detail_field, put_error_detail};
+use xds_json::fields::{copy_texts, put_text, put_texts, read_json, text_field, texts_field};
+use xds_json::node::{Node, copy_node, node_field, put_node};
+use xds_json::status::{Status, copy_status, error_detail_field, put_error_detail};
 use xds_resource::Refusal;
 
 /// What a client asks of a server: resources of one type, and the acceptance or rejection of the last response.

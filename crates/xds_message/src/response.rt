@@ -9,12 +9,12 @@ ghost use Rattle.xds_resource.specs.Resources.{max_nesting};
 ghost use Rattle.xds_resource.specs.declared.refusal.Refusal.TheVariants.{NotJson, BadMessage, OutOfMemory};
 ghost use Rattle.xds_message.specs.Messages.{Response, SpellsResponse};
 ghost use Rattle.xds_message.specs.Responses.{response_of};
-ghost use Rattle.xds_fields.specs.Spelling.{IsJson, IsObject, IsObjects, Reads};
+ghost use Rattle.xds_json.specs.Spelling.{IsJson, IsObject, IsObjects, Reads};
 ghost use Rattle.xds_message.specs.Written.{response_object};
 
 use serde_json::{Map, Value};
 use std::alloc::Global;
-use xds_fields::fields::{copy_values, put_list, put_text, read_json, taken_field, text_field};
+use xds_json::fields::{copy_values, put_list, put_text, read_json, taken_field, text_field};
 use xds_resource::Refusal;
 
 /// What a server answers: resources of one type.

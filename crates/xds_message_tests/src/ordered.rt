@@ -3,7 +3,7 @@ use json::{Scratch, Value};
 use std::alloc::Global;
 use std::test::Fail;
 use xds_cases::cases::{Outcome, first_word, hold};
-use xds_compact::{find_member, read_ordered, text_in, text_of, texts_in, whole_number};
+use xds_json::{find_member, read_ordered, text_in, text_of, texts_in, whole_number};
 
 // How deep the texts of the cases may nest.
 const DEPTH: usize = 3;

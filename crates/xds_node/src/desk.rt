@@ -75,7 +75,7 @@ impl<N: NodeName> Drop for Desk<N> {
 
 impl<N: NodeName> Model for Desk<N> {
     ghost use Rattle.std.specs.Coded.{codes};
-    ghost use Rattle.xds_fields.specs.Versions.{version_map_code};
+    ghost use Rattle.xds_json.specs.Versions.{version_map_code};
     ghost use Rattle.xds_node.specs.Books.{Books, IsKept};
 
     ghost Value = { Books };

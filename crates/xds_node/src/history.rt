@@ -40,7 +40,7 @@ impl<N: NodeName> Drop for History<N> {
 
 impl<N: NodeName> Model for History<N> {
     ghost use Rattle.std.specs.Coded.{codes};
-    ghost use Rattle.xds_fields.specs.Versions.{version_map_code};
+    ghost use Rattle.xds_json.specs.Versions.{version_map_code};
     ghost use Rattle.xds_core.specs.Steps.{core_code};
     ghost use Rattle.xds_node.specs.Pieces.{Story, IsStory};
 

@@ -23,7 +23,7 @@ impl Drop for Line {
 
 impl Model for Line {
     ghost use Rattle.std.specs.Coded.{codes};
-    ghost use Rattle.xds_fields.specs.Versions.{version_map_code};
+    ghost use Rattle.xds_json.specs.Versions.{version_map_code};
     ghost use Rattle.xds_core.specs.Legal.{Record};
     ghost use Rattle.xds_core.specs.Seen.{event_of, answer_of};
 

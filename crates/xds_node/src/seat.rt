@@ -20,7 +20,7 @@ pub struct Seat<N: NodeName> {
 impl<N: NodeName> Model for Seat<N> {
     ghost use Rattle.std.specs.Prelude.{◌≡◌};
     ghost use Rattle.std.specs.Coded.{codes};
-    ghost use Rattle.xds_fields.specs.Versions.{version_map_code};
+    ghost use Rattle.xds_json.specs.Versions.{version_map_code};
     ghost use Rattle.xds_tokens.specs.Holdings.{seat_holding};
     ghost use Rattle.xds_node.specs.Told.{Calls};
 

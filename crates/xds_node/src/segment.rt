@@ -20,7 +20,7 @@ pub struct Segment<N: NodeName> {
 
 impl<N: NodeName> Model for Segment<N> {
     ghost use Rattle.std.specs.Coded.{codes};
-    ghost use Rattle.xds_fields.specs.Versions.{version_map_code};
+    ghost use Rattle.xds_json.specs.Versions.{version_map_code};
     ghost use Rattle.xds_core.specs.Steps.{core_code};
     ghost use Rattle.xds_tokens.specs.Holdings.{past_of};
     ghost use Rattle.xds_node.specs.Pieces.{Piece, IsPiece};

@@ -9,7 +9,7 @@ use Rattle.json.specs.Print.{quoted}
 use Rattle.serde_json.specs.Data.{Data, object, Members, no_members, member, put}
 use Rattle.serde_json.specs.View.{items_of}
 use Rattle.serde_json.specs.Written.{compact_text, comma_if, items_text, members_text}
-use Rattle.xds_fields.specs.WrittenFields.{Fields, list_data, put_set, members_set, object_set}
+use Rattle.xds_json.specs.WrittenFields.{Fields, list_data, put_set, members_set, object_set}
 use Rattle.xds_outbox.proofs.Weights.{quoted_short, comma_short}
 
 -- the bytes of a value that may be set

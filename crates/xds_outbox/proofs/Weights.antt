@@ -13,8 +13,8 @@ use Rattle.xds_resource.specs.Groups.{IsGroups, is_group, grouped, max_group, ma
 use Rattle.xds_resource.specs.Resources.{IsWritable, IsCanonical, max_text}
 use Rattle.xds_resource.specs.Writes.{StampedWrite}
 use Rattle.xds_resource.proofs.Grouping.{groups-parts}
-use Rattle.xds_fields.specs.WrittenFields.{list_data, put_set}
-use Rattle.xds_fields.proofs.FieldsWithin.{HasNoFloat, HasNoFloat-list_data, items_have_float-texts}
+use Rattle.xds_json.specs.WrittenFields.{list_data, put_set}
+use Rattle.xds_json.proofs.FieldsWithin.{HasNoFloat, HasNoFloat-list_data, items_have_float-texts}
 use Rattle.xds_outbox.specs.Parts.{weight, groups_bytes, max_bytes}
 
 -- ---- texts

@@ -9,7 +9,7 @@ use Rattle.xds_resource.specs.PerType.{PerType}
 use Rattle.xds_resource.specs.TypedWrites.{TypedWrite}
 use Rattle.xds_resource.specs.Writes.{StampedWrite}
 use Rattle.xds_resource.specs.declared.any.AnyWrite.{AnyWrite}
-use Rattle.xds_fields.specs.WrittenFields.{list_data}
+use Rattle.xds_json.specs.WrittenFields.{list_data}
 use Rattle.xds_frames.specs.Frames.{Framed}
 use Rattle.xds_frames.specs.declared.frame.FrameKind.TheVariants.{Batch}
 use Rattle.xds_writes.specs.Batches.{by_type, batch_object}

@@ -7,7 +7,7 @@ ghost use Rattle.xds_outbox.specs.Parts.{typed_write, weight, groups_bytes, max_
 
 use serde_json::{Map, Value};
 use std::alloc::Global;
-use xds_fields::fields::put_texts;
+use xds_json::fields::put_texts;
 use xds_resource::{AnyWrite, Groups, Refusal, ResourceType, Write};
 
 /// The bytes of a write's body and of its list of groups, as they are written.

@@ -11,7 +11,7 @@ use Rattle.serde_json.specs.Written.{compact_text, has_float}
 use Rattle.xds_resource.specs.declared.types.TypeName.{TypeName}
 use Rattle.xds_resource.specs.declared.refusal.Refusal.{Refusal}
 use Rattle.xds_resource.specs.Resources.{NamedBody, from_object, value_of, max_nesting}
-use Rattle.xds_fields.specs.Spelling.{IsObject, IsJson}
+use Rattle.xds_json.specs.Spelling.{IsObject, IsJson}
 use Rattle.xds_writes.proofs.StampedWriteLemmas.{from_value-canonical}
 use Rattle.xds_message.specs.Messages.{Response, SpellsResponse}
 use Rattle.xds_message.specs.DeltaMessages.{DeltaResponse, SpellsDeltaResponse}

@@ -4,7 +4,7 @@ use Rattle.std.specs.Prelude.{IfOk, IfErr, IsErrAnd, Contains}
 use Rattle.serde_json.specs.Data.{Data}
 use Rattle.xds_resource.specs.declared.refusal.Refusal.{Refusal}
 use Rattle.xds_resource.specs.declared.refusal.Refusal.TheVariants.{NotJson, BadMessage, OutOfMemory, BadTrace}
-use Rattle.xds_fields.specs.Spelling.{IsJson}
+use Rattle.xds_json.specs.Spelling.{IsJson}
 use Rattle.xds_rules.specs.Texts.{IsJsonOf}
 use Rattle.xds_rules.specs.Words.{Finds}
 

@@ -10,7 +10,7 @@ use Rattle.xds_resource.specs.declared.refusal.Refusal.TheVariants.{OutOfMemory,
 use Rattle.xds_resource.specs.Any.{write_type, stamped_write}
 use Rattle.xds_resource.specs.Resources.{from_value}
 use Rattle.xds_resource.specs.Types.{row}
-use Rattle.xds_fields.specs.Spelling.{IsJson}
+use Rattle.xds_json.specs.Spelling.{IsJson}
 use Rattle.xds_writes.specs.StampedWrites.{IsSpelledBy, write_object}
 use Rattle.xds_message.specs.Messages.{Response, SpellsRequest, SpellsResponse}
 use Rattle.xds_message.specs.DeltaMessages.{VersionedResource, DeltaResponse, SpellsDeltaRequest, SpellsDeltaResponse}

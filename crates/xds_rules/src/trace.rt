@@ -35,7 +35,7 @@ impl Drop for Trace {
 impl Model for Trace {
     ghost use Rattle.std.specs.Prelude.{List};
     ghost use Rattle.std.specs.Coded.{codes};
-    ghost use Rattle.xds_fields.specs.Versions.{version_map_code};
+    ghost use Rattle.xds_json.specs.Versions.{version_map_code};
     ghost use Rattle.xds_rules.specs.declared.line.Line.{Line};
 
     ghost Value = { List Line };

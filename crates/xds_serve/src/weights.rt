@@ -2,7 +2,7 @@
 use std::alloc::Global;
 use xds_core::{Event, Reply, Request};
 use xds_draft::{DeltaDraft, Draft, SotwDraft};
-use xds_fields::Versions;
+use xds_json::Versions;
 use xds_message::{DeltaDiscoveryRequest, DiscoveryRequest};
 use xds_resource::{Refusal, ResourceType, Write};
 use xds_writes::Batch;

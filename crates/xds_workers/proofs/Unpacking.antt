@@ -6,7 +6,7 @@ use Rattle.xds_resource.specs.declared.refusal.Refusal.{Refusal}
 use Rattle.xds_resource.specs.declared.refusal.Refusal.TheVariants.{NotJson, BadMessage, OutOfMemory}
 use Rattle.xds_resource.specs.PerType.{PerType}
 use Rattle.xds_resource.specs.Writes.{StampedWrite}
-use Rattle.xds_fields.specs.Spelling.{IsJson}
+use Rattle.xds_json.specs.Spelling.{IsJson}
 use Rattle.xds_frames.specs.declared.frame.Frame.{Frame}
 use Rattle.xds_frames.specs.declared.frame.FrameKind.TheVariants as kinds
 use Rattle.xds_frames.specs.Frames.{Framed}

@@ -17,12 +17,12 @@ use Rattle.xds_resource.specs.TypedWrites.{TypedWrite, writes_of}
 use Rattle.xds_resource.specs.Types.{types, is_same_type}
 use Rattle.xds_resource.specs.Writes.{StampedWrite}
 use Rattle.xds_resource.proofs.TypesApart.{same_type, same_at_each_type, at-with_at, at-with_at_other}
-use Rattle.xds_fields.specs.Spelling.{IsObject, IsOrDefault, Reads, set_value}
-use Rattle.xds_fields.specs.WrittenFields.{list_data}
-use Rattle.xds_fields.proofs.FieldsReadBack.{get_member-members_set}
-use Rattle.xds_fields.proofs.FieldsWithin.{neither, members_depth-members_set, members_have_float-members_set, IsWithin-list_data, HasNoFloat-list_data}
-use Rattle.xds_fields.proofs.Lists.{items_of-injective, IsArrayOf, Reads-same, map-twice}
-use Rattle.xds_fields.proofs.OneField.{IsOrDefault-unique}
+use Rattle.xds_json.specs.Spelling.{IsObject, IsOrDefault, Reads, set_value}
+use Rattle.xds_json.specs.WrittenFields.{list_data}
+use Rattle.xds_json.proofs.FieldsReadBack.{get_member-members_set}
+use Rattle.xds_json.proofs.FieldsWithin.{neither, members_depth-members_set, members_have_float-members_set, IsWithin-list_data, HasNoFloat-list_data}
+use Rattle.xds_json.proofs.Lists.{items_of-injective, IsArrayOf, Reads-same, map-twice}
+use Rattle.xds_json.proofs.OneField.{IsOrDefault-unique}
 use Rattle.xds_writes.specs.Batches.{by_type, typed, in_order, AreWrites, SpellsBatch, SpellsOneBatch, batch_fields, batch_object, IsSound, IsBatchSpelledByItsObject, IsBatchOfItsWrites}
 use Rattle.xds_writes.specs.StampedWrites.{IsSpelledBy, write_object}
 use Rattle.xds_writes.proofs.ReadGroups.{same_twice}

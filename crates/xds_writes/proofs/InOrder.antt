@@ -13,7 +13,7 @@ use Rattle.xds_resource.specs.Refusals.{unless_refused}
 use Rattle.xds_resource.specs.Types.{row}
 use Rattle.xds_resource.specs.Resources.{NamedBody, IsCanonical, from_object, from_value, is_valid_name, max_nesting, max_text, resource_name, type_text, value_of, written}
 use Rattle.xds_resource.proofs.NameMaps.{bytes_eq_same}
-use Rattle.xds_fields.specs.Spelling.{IsObject, IsOrDefault, set_value}
+use Rattle.xds_json.specs.Spelling.{IsObject, IsOrDefault, set_value}
 use Rattle.xds_writes.specs.StampedWrites.{IsBodyOf, SpellsWrite}
 use Rattle.xds_writes.proofs.ReadWrites.{IsHeaded}
 use Rattle.xds_writes.proofs.StampedWriteLemmas.{from_value-canonical}

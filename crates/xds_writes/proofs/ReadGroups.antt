@@ -4,9 +4,9 @@ use Rattle.serde_json.specs.Data.{Data}
 use Rattle.xds_resource.specs.declared.refusal.Refusal.{Refusal}
 use Rattle.xds_resource.specs.Fields.{first_of}
 use Rattle.xds_resource.specs.Groups.{groups_of}
-use Rattle.xds_fields.specs.Spelling.{IsTexts, Reads}
-use Rattle.xds_fields.proofs.Lists.{Reads-same}
-use Rattle.xds_fields.proofs.OneField.{IsTexts-unique}
+use Rattle.xds_json.specs.Spelling.{IsTexts, Reads}
+use Rattle.xds_json.proofs.Lists.{Reads-same}
+use Rattle.xds_json.proofs.OneField.{IsTexts-unique}
 use Rattle.xds_writes.specs.StampedWrites.{AreGroups}
 
 -- a field whose two names are one

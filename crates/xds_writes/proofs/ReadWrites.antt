@@ -12,8 +12,8 @@ use Rattle.xds_resource.specs.Stamps.{IsStamp}
 use Rattle.xds_resource.specs.Writes.{StampedWrite}
 use Rattle.xds_resource.specs.Resources.{NamedBody, is_valid_name, from_value, deleted}
 use Rattle.xds_resource.proofs.Refusing.{memory_or_not}
-use Rattle.xds_fields.specs.Spelling.{IsObject, IsOrDefault, Reads, set_value}
-use Rattle.xds_fields.proofs.Lists.{Reads-same}
+use Rattle.xds_json.specs.Spelling.{IsObject, IsOrDefault, Reads, set_value}
+use Rattle.xds_json.proofs.Lists.{Reads-same}
 use Rattle.xds_writes.specs.StampedWrites.{IsBodyOf, AreGroups, SpellsWrite}
 use Rattle.xds_writes.proofs.StampedWriteLemmas.{same_text, same_number, AreGroups-unique}
 use Rattle.xds_writes.proofs.ReadGroups.{same_twice}

@@ -14,12 +14,12 @@ use Rattle.xds_resource.specs.Writes.{StampedWrite}
 use Rattle.xds_resource.specs.Groups.{groups_of}
 use Rattle.xds_resource.specs.Resources.{max_text, max_nesting, NamedBody, value_of, from_object, from_value, IsCanonical, IsWritable}
 use Rattle.xds_resource.proofs.Naming.{from_value-from_object}
-use Rattle.xds_fields.specs.Spelling.{IsTexts, set_value}
-use Rattle.xds_fields.specs.WrittenFields.{list_data}
+use Rattle.xds_json.specs.Spelling.{IsTexts, set_value}
+use Rattle.xds_json.specs.WrittenFields.{list_data}
 use Rattle.xds_writes.specs.StampedWrites.{IsBodyOf, IsBody, AreGroups, SpellsWrite, SpellsOneWrite, write_fields, write_object, IsWriteSpelledByItsObject}
-use Rattle.xds_fields.proofs.OneField.{IsOrDefault-unique, IsSomeAnd-unique, IsTexts-unique}
-use Rattle.xds_fields.proofs.FieldsReadBack.{get_member-members_set, IsTexts-list_data}
-use Rattle.xds_fields.proofs.FieldsWithin.{IsWithin, HasNoFloat, members_depth-members_set, members_have_float-members_set, IsWithin-list_data, HasNoFloat-list_data, items_depth-texts, items_have_float-texts}
+use Rattle.xds_json.proofs.OneField.{IsOrDefault-unique, IsSomeAnd-unique, IsTexts-unique}
+use Rattle.xds_json.proofs.FieldsReadBack.{get_member-members_set, IsTexts-list_data}
+use Rattle.xds_json.proofs.FieldsWithin.{IsWithin, HasNoFloat, members_depth-members_set, members_have_float-members_set, IsWithin-list_data, HasNoFloat-list_data, items_depth-texts, items_have_float-texts}
 
 -- ---- one write
 

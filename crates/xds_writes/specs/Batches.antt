@@ -11,8 +11,8 @@ use Rattle.xds_resource.specs.Stamps.{IsStamp}
 use Rattle.xds_resource.specs.TypedWrites.{TypedWrite, writes_of}
 use Rattle.xds_resource.specs.Types.{types}
 use Rattle.xds_resource.specs.Writes.{StampedWrite}
-use Rattle.xds_fields.specs.Spelling.{IsObject, IsOrDefault, set_value}
-use Rattle.xds_fields.specs.WrittenFields.{Fields, list_data, object_set}
+use Rattle.xds_json.specs.Spelling.{IsObject, IsOrDefault, set_value}
+use Rattle.xds_json.specs.WrittenFields.{Fields, list_data, object_set}
 use Rattle.xds_writes.specs.StampedWrites.{IsSpelledBy, write_object}
 
 -- the batch of some writes: of each type those that are of it, in their order

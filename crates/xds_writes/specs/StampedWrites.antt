@@ -8,8 +8,8 @@ use Rattle.xds_resource.specs.Stamps.{IsStamp}
 use Rattle.xds_resource.specs.Writes.{StampedWrite}
 use Rattle.xds_resource.specs.Groups.{groups_of}
 use Rattle.xds_resource.specs.Resources.{is_valid_name, value_of, from_value, IsWritable}
-use Rattle.xds_fields.specs.Spelling.{IsObject, IsOrDefault, IsTexts, set_value}
-use Rattle.xds_fields.specs.WrittenFields.{Fields, list_data, object_set}
+use Rattle.xds_json.specs.Spelling.{IsObject, IsOrDefault, IsTexts, set_value}
+use Rattle.xds_json.specs.WrittenFields.{Fields, list_data, object_set}
 
 -- the text of the resource of this type and name that a value is
 abbrev pub IsBodyOf : TypeName → List ℕ → Data → List ℕ → Type 0

@@ -9,7 +9,7 @@ ghost use Rattle.xds_resource.specs.PerType.{PerType, at, each, with_at};
 ghost use Rattle.xds_resource.specs.TypedWrites.{TypedWrite};
 ghost use Rattle.xds_resource.specs.Writes.{StampedWrite};
 ghost use Rattle.xds_resource.specs.declared.refusal.Refusal.TheVariants.{NotJson, BadMessage, OutOfMemory};
-ghost use Rattle.xds_fields.specs.Spelling.{IsJson, Reads};
+ghost use Rattle.xds_json.specs.Spelling.{IsJson, Reads};
 ghost use Rattle.xds_writes.specs.Batches.{by_type, typed, in_order, SpellsBatch, batch_object, IsSound};
 ghost use Rattle.xds_writes.specs.StampedWrites.{IsSpelledBy, write_object};
 
@@ -17,7 +17,7 @@ use crate::writes::{any_write_of, object_of_write};
 use serde_json::{Map, Value};
 use std::alloc::Global;
 use std::marker::Model;
-use xds_fields::fields::{put_list, read_json, taken_field};
+use xds_json::fields::{put_list, read_json, taken_field};
 use xds_resource::{
     AnyWrite, Cluster, Endpoint, Listener, Refusal, ResourceType, Route, Secret, Write,
 };

@@ -13,7 +13,7 @@ ghost use Rattle.xds_resource.specs.Resources.{max_nesting, value_of, from_value
 ghost use Rattle.xds_resource.specs.Stamps.{IsStamp};
 ghost use Rattle.xds_resource.specs.Types.{row};
 ghost use Rattle.xds_resource.specs.Writes.{StampedWrite};
-ghost use Rattle.xds_fields.specs.Spelling.{IsJson, IsObject, Reads};
+ghost use Rattle.xds_json.specs.Spelling.{IsJson, IsObject, Reads};
 ghost use Rattle.xds_writes.specs.Batches.{IsSound};
 ghost use Rattle.xds_writes.specs.StampedWrites.{IsBodyOf, AreGroups, SpellsWrite, IsSpelledBy, write_object as object_of};
 
@@ -22,7 +22,7 @@ use json::Scratch;
 use serde_json::{Map, Value, put};
 use std::alloc::Global;
 use std::sync::ArcStr;
-use xds_fields::fields::{put_inner, put_texts, read_json, set_field, texts_field};
+use xds_json::fields::{put_inner, put_texts, read_json, set_field, texts_field};
 use xds_resource::resource::is_valid_name;
 use xds_resource::stamp::MAX_COUNTER;
 use xds_resource::{AnyWrite, Groups, Refusal, Resource, ResourceType, Stamp, TypeName, Write};

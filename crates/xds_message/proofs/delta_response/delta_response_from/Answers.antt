@@ -1,7 +1,7 @@
 use Rattle.std.proofs.Common.{arith}
 use Rattle.serde_json.specs.View.{view}
 use Rattle.xds_message.specs.DeltaMessages.{SpellsDeltaResponse}
-use Rattle.xds_fields.proofs.Lists.{Reads-refused}
+use Rattle.xds_json.proofs.Lists.{Reads-refused}
 use Rattle.xds_message.proofs.delta_response.delta_response_from.Goals as goal
 
 pub returns-in_err-removed_resources : goal.returns-in_err-removed_resources

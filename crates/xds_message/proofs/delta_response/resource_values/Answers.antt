@@ -3,7 +3,7 @@ use Rattle.std.proofs.lemmas.List.{append-nil}
 use Rattle.serde_json.specs.View.{view}
 use Rattle.xds_message.specs.DeltaWritten.{resource_object}
 use Rattle.xds_message.specs.Responses.{resource_of}
-use Rattle.xds_fields.proofs.Lists.{none_left, map-moved, map-twice}
+use Rattle.xds_json.proofs.Lists.{none_left, map-moved, map-twice}
 use Rattle.xds_message.proofs.delta_response.resource_values.Goals as goal
 
 pub loop-resource-init : goal.loop-resource-init

@@ -3,7 +3,7 @@ use Rattle.std.specs.Option.{option_map}
 use Rattle.serde_json.specs.View.{view}
 use Rattle.serde_json.proofs.Views.{view-Array}
 use Rattle.xds_message.specs.DeltaMessages.{SpellsResource}
-use Rattle.xds_fields.proofs.Lists.{Reads-each}
+use Rattle.xds_json.proofs.Lists.{Reads-each}
 use Rattle.xds_message.proofs.delta_response.resources_field.Goals as goal
 
 pub returns-in-Some-Array : goal.returns-in-Some-Array

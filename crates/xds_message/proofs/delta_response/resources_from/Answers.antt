@@ -5,7 +5,7 @@ use Rattle.std.proofs.lemmas.List.{append-nil}
 use Rattle.serde_json.specs.View.{view}
 use Rattle.xds_message.specs.DeltaMessages.{SpellsResource}
 use Rattle.xds_message.specs.Responses.{resource_of}
-use Rattle.xds_fields.proofs.Lists.{none_left, AllZip-map-more, AllZip-middle, Reads-refused}
+use Rattle.xds_json.proofs.Lists.{none_left, AllZip-map-more, AllZip-middle, Reads-refused}
 use Rattle.xds_message.proofs.delta_response.resources_from.Goals as goal
 
 pub loop-value-init : goal.loop-value-init

@@ -1,5 +1,5 @@
 use Rattle.std.proofs.Common.{arith}
-use Rattle.xds_fields.proofs.Lists.{Reads-refused}
+use Rattle.xds_json.proofs.Lists.{Reads-refused}
 use Rattle.serde_json.specs.View.{view}
 use Rattle.xds_message.specs.Messages.{SpellsRequest}
 use Rattle.xds_message.proofs.request.request_of.Goals as goal

@@ -2,7 +2,7 @@ use Rattle.std.proofs.Common.{Some, map, sym, ap, ◌∙◌}
 use Rattle.std.specs.Option.{option_map}
 use Rattle.serde_json.specs.View.{view}
 use Rattle.serde_json.proofs.Views.{view-Array}
-use Rattle.xds_fields.proofs.Lists.{Reads-objects}
+use Rattle.xds_json.proofs.Lists.{Reads-objects}
 use Rattle.xds_message.proofs.response.objects_field.Goals as goal
 
 pub returns-in-Some-Array : goal.returns-in-Some-Array

@@ -4,8 +4,8 @@ use Rattle.std.proofs.lemmas.List.Elements.{All-nil, All-more, All-map}
 use Rattle.serde_json.specs.Find.{as_object}
 use Rattle.serde_json.specs.View.{view}
 use Rattle.serde_json.specs.declared.value.Value.{Value}
-use Rattle.xds_fields.specs.Spelling.{IsObject}
-use Rattle.xds_fields.proofs.Lists.{no_objects}
+use Rattle.xds_json.specs.Spelling.{IsObject}
+use Rattle.xds_json.proofs.Lists.{no_objects}
 use Rattle.xds_message.proofs.response.only_objects.Goals as goal
 
 pub loop-value-init : goal.loop-value-init

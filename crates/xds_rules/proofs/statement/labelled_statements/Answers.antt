@@ -8,7 +8,7 @@ use Rattle.xds_message.specs.Responses.{resource_of}
 use Rattle.xds_owed.specs.declared.variant.VariantName.TheVariants.{Delta}
 use Rattle.xds_rules.specs.Answers.{IsStatement}
 use Rattle.xds_rules.specs.Texts.{IsLabelled}
-use Rattle.xds_fields.proofs.Lists.{none_left, AllZip-middle}
+use Rattle.xds_json.proofs.Lists.{none_left, AllZip-middle}
 use Rattle.xds_rules.proofs.Finding.{Finds-refused}
 use Rattle.xds_rules.proofs.statement.labelled_statements.Goals as goal
 

@@ -8,7 +8,7 @@ use Rattle.serde_json.specs.View.{view}
 use Rattle.xds_owed.specs.declared.variant.VariantName.TheVariants.{StateOfTheWorld}
 use Rattle.xds_rules.specs.Answers.{IsStatement}
 use Rattle.xds_rules.specs.Texts.{IsStated}
-use Rattle.xds_fields.proofs.Lists.{none_left, AllZip-middle}
+use Rattle.xds_json.proofs.Lists.{none_left, AllZip-middle}
 use Rattle.xds_rules.proofs.Finding.{Finds-refused}
 use Rattle.xds_rules.proofs.statement.statements_of.Goals as goal
 

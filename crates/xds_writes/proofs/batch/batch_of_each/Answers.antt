@@ -6,7 +6,7 @@ use Rattle.xds_resource.specs.Any.{write_type, stamped_write}
 use Rattle.xds_resource.specs.PerType.{PerType}
 use Rattle.xds_resource.specs.TypedWrites.{TypedWrite}
 use Rattle.xds_resource.specs.Writes.{StampedWrite}
-use Rattle.xds_fields.proofs.Lists.{AllZip-middle, Reads-refused}
+use Rattle.xds_json.proofs.Lists.{AllZip-middle, Reads-refused}
 use Rattle.xds_writes.specs.Batches.{by_type}
 use Rattle.xds_writes.specs.StampedWrites.{IsSpelledBy}
 use Rattle.xds_writes.proofs.BatchLemmas.{by_type-push, map-take-more, around}

@@ -1,6 +1,6 @@
 use Rattle.std.proofs.Common.{codes, sym, subst}
 use Rattle.json.specs.Value.{value_view}
-use Rattle.xds_compact.specs.Ordered.{meaning}
+use Rattle.xds_json.specs.Ordered.{meaning}
 use Rattle.xds_writes.specs.StampedWrites.{SpellsWrite}
 use Rattle.xds_writes.proofs.InOrder.{object_of_member, spells_put}
 use Rattle.xds_writes.proofs.ReadWrites.{IsHeaded}

@@ -3,8 +3,8 @@ use Rattle.json.specs.Value.{value_view}
 use Rattle.serde_json.specs.Data.{depth}
 use Rattle.xds_resource.specs.Resources.{max_nesting, max_text, type_text, resource_name}
 use Rattle.xds_resource.specs.Types.{row}
-use Rattle.xds_compact.specs.Ordered.{meaning}
-use Rattle.xds_compact.proofs.Meanings.{depth-meaning, has_float-meaning}
+use Rattle.xds_json.specs.Ordered.{meaning}
+use Rattle.xds_json.proofs.Meanings.{depth-meaning, has_float-meaning}
 use Rattle.xds_writes.proofs.InOrder.{canonical_body, body_is}
 use Rattle.xds_writes.proofs.in_order.resource_in.Goals as goal
 

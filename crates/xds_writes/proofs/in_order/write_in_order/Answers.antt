@@ -2,7 +2,7 @@ use Rattle.std.proofs.Common.{◌≡◌, Some, subst}
 use Rattle.std.proofs.lemmas.Option.{IfSome_then}
 use Rattle.json.specs.Value.{value_view}
 use Rattle.serde_json.specs.Read.{read}
-use Rattle.xds_compact.specs.Ordered.{meaning}
+use Rattle.xds_json.specs.Ordered.{meaning}
 use Rattle.xds_writes.proofs.in_order.write_in_order.Goals as goal
 
 pub returns : goal.returns

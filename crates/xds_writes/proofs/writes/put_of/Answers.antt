@@ -2,7 +2,7 @@ use Rattle.std.proofs.Common.{arith, ◌≡◌, Ok, IsSomeAnd}
 use Rattle.serde_json.specs.View.{view}
 use Rattle.xds_resource.specs.Resources.{NamedBody, from_value}
 use Rattle.xds_resource.specs.Writes.{StampedWrite}
-use Rattle.xds_fields.proofs.Lists.{Reads-refused}
+use Rattle.xds_json.proofs.Lists.{Reads-refused}
 use Rattle.xds_writes.specs.StampedWrites.{IsBodyOf}
 use Rattle.xds_writes.proofs.ReadWrites.{bodied, resource_put}
 use Rattle.xds_writes.proofs.writes.put_of.Goals as goal

@@ -1,7 +1,7 @@
 use Rattle.std.proofs.Common.{arith, codes}
 use Rattle.serde_json.specs.Find.{get}
 use Rattle.serde_json.specs.View.{view}
-use Rattle.xds_fields.proofs.Lists.{Reads-refused}
+use Rattle.xds_json.proofs.Lists.{Reads-refused}
 use Rattle.xds_writes.specs.StampedWrites.{AreGroups, SpellsWrite}
 use Rattle.xds_writes.proofs.ReadWrites.{IsHeaded, Reads-put, Reads-deletion}
 use Rattle.xds_writes.proofs.writes.write_of.Goals as goal

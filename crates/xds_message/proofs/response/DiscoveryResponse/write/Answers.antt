@@ -4,7 +4,7 @@ use Rattle.xds_resource.specs.Resources.{max_nesting}
 use Rattle.xds_message.specs.Responses.{response_of}
 use Rattle.xds_message.specs.Written.{response_object}
 use Rattle.xds_message.proofs.ReadsBack.{SpellsResponse-response_object}
-use Rattle.xds_fields.proofs.FieldsWithin.{items_depth-items_of, items_have_float-items_of}
+use Rattle.xds_json.proofs.FieldsWithin.{items_depth-items_of, items_have_float-items_of}
 use Rattle.xds_message.proofs.WrittenLemmas.{has_float-response_object, depth-response_object}
 use Rattle.xds_message.proofs.response.DiscoveryResponse.write.Goals as goal
 

@@ -1,4 +1,0 @@
-pub mod Meanings
-mod Grammars
-mod Places
-mod Members

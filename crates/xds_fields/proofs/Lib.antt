@@ -1,5 +1,0 @@
-pub mod Lists
-pub mod OneField
-pub mod FieldsReadBack
-pub mod VersionLemmas
-pub mod FieldsWithin

@@ -1,5 +1,0 @@
-use Rattle.xds_fields.proofs.VersionLemmas.{from_sorted-empty}
-use Rattle.xds_fields.proofs.versions.Versions.new.Goals as goal
-
-pub returns : goal.returns
-returns c = from_sorted-empty c.new.result.entries c.new.ensures.empty

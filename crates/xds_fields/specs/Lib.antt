@@ -1,4 +1,0 @@
-pub mod Spelling
-pub mod Parts
-pub mod WrittenFields
-pub mod Versions

@@ -1,0 +1,9 @@
+pub mod Meanings
+mod Grammars
+mod Places
+mod Members
+pub mod Lists
+pub mod OneField
+pub mod FieldsReadBack
+pub mod VersionLemmas
+pub mod FieldsWithin
