@@ -13,10 +13,10 @@ use Rattle.xds_interest.specs.Delta.{Mention}
 use Rattle.xds_interest.proofs.Choices.{and_first, and_second}
 use Rattle.xds_catalogue.specs.Content.{is_live, is_shown, if_live, live_at, content}
 use Rattle.xds_catalogue.specs.Holdings.{Entries, IsCatalogue}
-use Rattle.xds_owed.specs.Offers.{Offer, same_offer}
-use Rattle.xds_owed.specs.Variants.{is_whole}
-use Rattle.xds_owed.proofs.Repeating.{named_passes, one_fails}
-use Rattle.xds_owed.proofs.SameOffers.{offers_are_told_apart}
+use Rattle.xds_ledger.specs.Offers.{Offer, same_offer}
+use Rattle.xds_ledger.specs.Variants.{is_whole}
+use Rattle.xds_ledger.proofs.Repeating.{named_passes, one_fails}
+use Rattle.xds_ledger.proofs.SameOffers.{offers_are_told_apart}
 use Rattle.xds_rules.specs.declared.line.Line.{Line}
 use Rattle.xds_rules.specs.declared.rule.Rule.{Rule}
 use Rattle.xds_rules.specs.declared.rule.Rule.TheVariants.{FreshNonce, BestResources, CoveredResources, WholeResponse, RightRemovals, OneAtATime, NothingRefusedAgain, NothingPending}

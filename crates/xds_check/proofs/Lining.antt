@@ -13,8 +13,8 @@ use Rattle.xds_resource.proofs.TypesApart.{same_type}
 use Rattle.xds_interest.specs.Interests.{Selection, has_name}
 use Rattle.xds_interest.proofs.Choices.{option_or-None}
 use Rattle.xds_catalogue.specs.Holdings.{Entries}
-use Rattle.xds_owed.specs.declared.entry.Due.{Due}
-use Rattle.xds_owed.specs.declared.entry.Due.TheVariants.{Stated, Removed}
+use Rattle.xds_ledger.specs.declared.entry.Due.{Due}
+use Rattle.xds_ledger.specs.declared.entry.Due.TheVariants.{Stated, Removed}
 use Rattle.xds_rules.specs.declared.asking.Asking.{Asking}
 use Rattle.xds_rules.specs.declared.line.Line.{Line}
 use Rattle.xds_rules.specs.declared.line.Line.TheVariants as lines

@@ -13,7 +13,7 @@ use Rattle.xds_interest.specs.Delta.{Mention}
 use Rattle.xds_interest.specs.Asked.{unasked, sotw_kept, delta_kept, sotw_asked, delta_asked}
 use Rattle.xds_interest.proofs.AskedLaws.{sotw_is_kept, delta_is_kept}
 use Rattle.xds_catalogue.specs.Holdings.{Entries}
-use Rattle.xds_owed.specs.Offers.{Offer}
+use Rattle.xds_ledger.specs.Offers.{Offer}
 use Rattle.xds_rules.specs.declared.asking.Asking.{Asking}
 use Rattle.xds_rules.specs.declared.asking.Asking.TheVariants.{Sotw, Delta}
 use Rattle.xds_rules.specs.Answers.{Answer, nonce_of, rejects, lists_in, mentions_in, mention_in, stated_names}

@@ -18,10 +18,10 @@ use Rattle.xds_catalogue.specs.Holdings.{Entries, Holdings}
 use Rattle.xds_catalogue.specs.Joins.{joined}
 use Rattle.xds_json.specs.Versions.{VersionMap}
 use Rattle.xds_message.specs.DeltaMessages.{DeltaRequest}
-use Rattle.xds_owed.specs.declared.entry.Due.{Due}
-use Rattle.xds_owed.specs.declared.entry.Due.TheVariants.{Stated, Removed}
-use Rattle.xds_owed.specs.Offers.{Offer, due_code, same_offer}
-use Rattle.xds_owed.specs.Variants.{is_whole}
+use Rattle.xds_ledger.specs.declared.entry.Due.{Due}
+use Rattle.xds_ledger.specs.declared.entry.Due.TheVariants.{Stated, Removed}
+use Rattle.xds_ledger.specs.Offers.{Offer, due_code, same_offer}
+use Rattle.xds_ledger.specs.Variants.{is_whole}
 use Rattle.xds_rules.specs.declared.asking.Asking.{Asking}
 use Rattle.xds_rules.specs.declared.asking.Asking.TheVariants.{Sotw, Delta}
 use Rattle.xds_rules.specs.declared.line.Line.{Line}

@@ -3,13 +3,13 @@ ghost use Rattle.std.specs.Prelude.{◌≡◌, map, string_bytes, Some, IfOk, If
 ghost use Rattle.std.specs.FinMap as finmap;
 ghost use Rattle.xds_resource.specs.declared.refusal.Refusal.TheVariants.{OutOfMemory};
 ghost use Rattle.xds_resource.specs.Names.{put_each};
-ghost use Rattle.xds_owed.specs.declared.entry.Due.TheVariants.{Removed};
-ghost use Rattle.xds_owed.specs.Offers.{is_within as is_within_of, same_offer as is_same_offer};
+ghost use Rattle.xds_ledger.specs.declared.entry.Due.TheVariants.{Removed};
+ghost use Rattle.xds_ledger.specs.Offers.{is_within as is_within_of, same_offer as is_same_offer};
 ghost use Rattle.xds_check.specs.Kept.{stated_due, offer_in};
 
 use std::alloc::Global;
 use xds_catalogue::Catalogue;
-use xds_owed::{Due, Version};
+use xds_ledger::{Due, Version};
 use xds_resource::{NameMap, Refusal, ResourceType};
 use xds_rules::{Answer, Statement};
 

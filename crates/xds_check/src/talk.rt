@@ -15,8 +15,8 @@ use std::marker::Model;
 use std::mem;
 use xds_catalogue::Catalogue;
 use xds_interest::{ClusterText, DeltaNames, Interest, SotwNames};
+use xds_ledger::Due;
 use xds_message::DeltaDiscoveryRequest;
-use xds_owed::Due;
 use xds_resource::{NameMap, Refusal, ResourceType, TypeName};
 use xds_rules::{Answer, Asking};
 

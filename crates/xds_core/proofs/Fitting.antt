@@ -19,8 +19,8 @@ use Rattle.xds_catalogue.specs.Joins.{joined}
 use Rattle.xds_catalogue.specs.Local.{next_counter}
 use Rattle.xds_catalogue.proofs.Catalogues.{catalogue_of-IsCatalogue}
 use Rattle.xds_catalogue.proofs.Lookups.{get-inserted, get-removed}
-use Rattle.xds_owed.specs.Listed.{IsLater}
-use Rattle.xds_owed.proofs.Later.{later_itself, joined_is_later}
+use Rattle.xds_ledger.specs.Listed.{IsLater}
+use Rattle.xds_ledger.proofs.Later.{later_itself, joined_is_later}
 use Rattle.xds_store.specs.Stores.{Store, Batch, merging, putting_at, deleting_at, is_spent, grown, merged, if_done}
 use Rattle.xds_resource.specs.declared.refusal.Refusal.TheVariants.{CounterSpent, NoStream}
 use Rattle.xds_resource.specs.Stamps.{max_counter}

@@ -16,7 +16,7 @@ use Rattle.xds_catalogue.specs.Tables.{by_number}
 use Rattle.xds_catalogue.proofs.Lookups.{remove-none, tie_told}
 use Rattle.xds_catalogue.proofs.MapViews.{get-by_number, by_number-insert, by_number-remove}
 use Rattle.xds_resource.proofs.NameMaps.{none_by_is_some, both_true, both_hold}
-use Rattle.xds_beliefs.proofs.Made.{or_none}
+use Rattle.xds_ledger.proofs.Made.{or_none}
 
 -- a map as its entries show it
 abbrev pub numbered : {X : Type 0} → BTreeMap ℕ X → finmap.FinMap nat_cmp X

@@ -11,8 +11,8 @@ use Rattle.xds_interest.specs.Asked.{delta_asked, wanted_by}
 use Rattle.xds_interest.specs.Touches.{Touch, touches, delta_touch}
 use Rattle.xds_interest.proofs.AskedLaws.{wanted_by-reaches}
 use Rattle.xds_message.specs.DeltaMessages.{DeltaRequest}
-use Rattle.xds_owed.specs.declared.entry.Entry.{Entry}
-use Rattle.xds_owed.specs.declared.variant.VariantName.TheVariants.{Delta}
+use Rattle.xds_ledger.specs.declared.entry.Entry.{Entry}
+use Rattle.xds_ledger.specs.declared.variant.VariantName.TheVariants.{Delta}
 use Rattle.xds_ledger.specs.Ledgers.{Account, believed_touched, noted, settled, touch, resume}
 use Rattle.xds_ledger.specs.Sessions.{Session}
 use Rattle.xds_delta.specs.Parts.{account_after, session_taken}

@@ -10,15 +10,15 @@ use Rattle.xds_resource.proofs.MadeMaps.{EachFound, each_found}
 use Rattle.xds_interest.specs.Interests.{Selection, covers}
 use Rattle.xds_catalogue.specs.Holdings.{Entries, IsCatalogue}
 use Rattle.xds_draft.specs.Drafts.{DraftedResource}
-use Rattle.xds_owed.specs.declared.variant.VariantName.TheVariants.{Delta}
-use Rattle.xds_owed.specs.declared.entry.Entry.{Entry}
-use Rattle.xds_owed.specs.declared.entry.Entry.TheVariants.{Told, Unsure}
-use Rattle.xds_owed.specs.declared.entry.Due.{Due}
-use Rattle.xds_owed.specs.declared.entry.Due.TheVariants.{Stated, Removed}
-use Rattle.xds_owed.specs.Variants.{is_told}
-use Rattle.xds_owed.specs.Owed.{Beliefs, live_version, version_shown, present, owed, owed_of}
-use Rattle.xds_owed.specs.Offers.{Offer, offer, stated_version}
-use Rattle.xds_owed.proofs.ByName.{offer_says_it}
+use Rattle.xds_ledger.specs.declared.variant.VariantName.TheVariants.{Delta}
+use Rattle.xds_ledger.specs.declared.entry.Entry.{Entry}
+use Rattle.xds_ledger.specs.declared.entry.Entry.TheVariants.{Told, Unsure}
+use Rattle.xds_ledger.specs.declared.entry.Due.{Due}
+use Rattle.xds_ledger.specs.declared.entry.Due.TheVariants.{Stated, Removed}
+use Rattle.xds_ledger.specs.Variants.{is_told}
+use Rattle.xds_ledger.specs.Owed.{Beliefs, live_version, version_shown, present, owed, owed_of}
+use Rattle.xds_ledger.specs.Offers.{Offer, offer, stated_version}
+use Rattle.xds_ledger.proofs.ByName.{offer_says_it}
 use Rattle.xds_delta.specs.Laws.{ResponseStatesTheOffer}
 use Rattle.xds_delta.specs.Polls.{resource_of, resource_at}
 use Rattle.xds_delta.proofs.Made.{stated_in}

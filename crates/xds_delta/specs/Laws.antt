@@ -5,9 +5,9 @@ use Rattle.std.specs.FinMap as finmap
 use Rattle.xds_resource.specs.declared.types.TypeName.{TypeName}
 use Rattle.xds_interest.specs.Interests.{Selection}
 use Rattle.xds_catalogue.specs.Holdings.{Holdings, IsCatalogue}
-use Rattle.xds_owed.specs.declared.variant.VariantName.TheVariants.{Delta}
-use Rattle.xds_owed.specs.Owed.{Beliefs}
-use Rattle.xds_owed.specs.Offers.{Offer, offer, stated_version}
+use Rattle.xds_ledger.specs.declared.variant.VariantName.TheVariants.{Delta}
+use Rattle.xds_ledger.specs.Owed.{Beliefs}
+use Rattle.xds_ledger.specs.Offers.{Offer, offer, stated_version}
 use Rattle.xds_delta.specs.Polls.{response}
 
 -- the names that an offer states, each with the version that it states

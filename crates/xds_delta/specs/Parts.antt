@@ -11,9 +11,9 @@ use Rattle.xds_interest.specs.Touches.{Touch, delta_touch}
 use Rattle.xds_catalogue.specs.Holdings.{Entries}
 use Rattle.xds_message.specs.DeltaMessages.{DeltaRequest}
 use Rattle.xds_draft.specs.Drafts.{DraftedDelta, with_resource, with_removed}
-use Rattle.xds_owed.specs.declared.variant.VariantName.TheVariants.{Delta}
-use Rattle.xds_owed.specs.declared.entry.Due.{Due}
-use Rattle.xds_owed.specs.declared.entry.Due.TheVariants.{Stated, Removed}
+use Rattle.xds_ledger.specs.declared.variant.VariantName.TheVariants.{Delta}
+use Rattle.xds_ledger.specs.declared.entry.Due.{Due}
+use Rattle.xds_ledger.specs.declared.entry.Due.TheVariants.{Stated, Removed}
 use Rattle.xds_ledger.specs.Ledgers.{Account, settled, touch, resume}
 use Rattle.xds_ledger.specs.Sessions.{Session}
 use Rattle.xds_delta.specs.Polls.{mention}

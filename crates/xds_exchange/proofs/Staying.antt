@@ -18,8 +18,8 @@ use Rattle.xds_catalogue.specs.Joins.{joined, IsAbove}
 use Rattle.xds_catalogue.specs.Local.{next_counter}
 use Rattle.xds_catalogue.proofs.Catalogues.{catalogue_of-IsCatalogue}
 use Rattle.xds_catalogue.proofs.Numbering.{entries_are_numbered}
-use Rattle.xds_owed.specs.Listed.{IsPast, IsLater}
-use Rattle.xds_owed.proofs.Later.{later_itself, joined_is_later, past_more}
+use Rattle.xds_ledger.specs.Listed.{IsPast, IsLater}
+use Rattle.xds_ledger.proofs.Later.{later_itself, joined_is_later, past_more}
 use Rattle.xds_writes.proofs.BatchLemmas.{at-per_type}
 use Rattle.xds_store.specs.Since.{is_above, marks_of}
 use Rattle.xds_store.specs.Stores.{Store, merging, putting_at, deleting_at, is_spent, grown, merged, if_done}

@@ -29,10 +29,10 @@ use Rattle.xds_catalogue.specs.Next.{NoneAfter, IsNextChange}
 use Rattle.xds_catalogue.proofs.Catalogues.{get-catalogue_of, catalogue_of-IsCatalogue}
 use Rattle.xds_draft.specs.declared.draft.Draft.{Draft}
 use Rattle.xds_draft.specs.Drafts.{DraftedResource}
-use Rattle.xds_owed.specs.declared.variant.VariantName.{VariantName}
-use Rattle.xds_owed.specs.declared.variant.VariantName.TheVariants as variants
-use Rattle.xds_owed.specs.Offers.{Offer}
-use Rattle.xds_owed.proofs.LookedAt.{LookedAt, one_looked_at, all_looked_at}
+use Rattle.xds_ledger.specs.declared.variant.VariantName.{VariantName}
+use Rattle.xds_ledger.specs.declared.variant.VariantName.TheVariants as variants
+use Rattle.xds_ledger.specs.Offers.{Offer}
+use Rattle.xds_ledger.proofs.LookedAt.{LookedAt, one_looked_at, all_looked_at}
 use Rattle.xds_sotw.specs.Polls.{stated_writes}
 use Rattle.xds_delta.specs.Polls.{resource_of, resource_at, names_where, is_statement}
 use Rattle.xds_ledger.specs.Sessions.{Session}

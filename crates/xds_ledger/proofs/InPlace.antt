@@ -9,12 +9,12 @@ use Rattle.xds_resource.specs.Writes.{text_cmp}
 use Rattle.xds_resource.proofs.NameMaps.{same_names}
 use Rattle.xds_interest.specs.Interests.{Selection}
 use Rattle.xds_interest.specs.Touches.{Touch}
-use Rattle.xds_owed.specs.declared.variant.VariantName.{VariantName}
-use Rattle.xds_owed.specs.Variants.{is_whole}
-use Rattle.xds_owed.specs.Owed.{Beliefs}
+use Rattle.xds_ledger.specs.declared.variant.VariantName.{VariantName}
+use Rattle.xds_ledger.specs.Variants.{is_whole}
+use Rattle.xds_ledger.specs.Owed.{Beliefs}
 use Rattle.xds_ledger.specs.Ledgers.{Sent, Account, answered, beliefs_accepted, beliefs_taken, beliefs_resumed, noted, forgotten, touch, resume, touched_since, last_touch_forgotten}
-use Rattle.xds_beliefs.specs.Changes.{Changes, believed_now, changes_answered}
-use Rattle.xds_beliefs.proofs.Changing.{told_by_name}
+use Rattle.xds_ledger.specs.Changes.{Changes, believed_now, changes_answered}
+use Rattle.xds_ledger.proofs.Changing.{told_by_name}
 
 -- what a request leaves of beliefs
 abbrev left : Selection → Touch → set.FinSet text_cmp → finmap.FinMap text_cmp (List ℕ) → Beliefs → Beliefs

@@ -13,16 +13,16 @@ use Rattle.xds_interest.specs.Delta.{Mention}
 use Rattle.xds_interest.specs.Touches.{Touch, touches, sotw_touch, delta_touch}
 use Rattle.xds_interest.proofs.AskedLaws.{kept_star_is_of_complete, untouched_keeps_cover_of_kept, untouched_keeps_cover_of_kept_in_delta}
 use Rattle.xds_catalogue.specs.Holdings.{Holdings}
-use Rattle.xds_owed.specs.declared.variant.VariantName.{VariantName}
-use Rattle.xds_owed.specs.Owed.{live_version, version_shown}
-use Rattle.xds_owed.specs.Listed as lists
-use Rattle.xds_owed.specs.Listed.{Listed, IsPast, IsLater, StaysSufficient}
-use Rattle.xds_owed.proofs.ByName.{present_absent}
-use Rattle.xds_owed.proofs.Fitting.{new_list_fits, none_at_first, later_holdings_fit}
+use Rattle.xds_ledger.specs.declared.variant.VariantName.{VariantName}
+use Rattle.xds_ledger.specs.Owed.{live_version, version_shown}
+use Rattle.xds_ledger.specs.Listed as lists
+use Rattle.xds_ledger.specs.Listed.{Listed, IsPast, IsLater, StaysSufficient}
+use Rattle.xds_ledger.proofs.ByName.{present_absent}
+use Rattle.xds_ledger.proofs.Fitting.{new_list_fits, none_at_first, later_holdings_fit}
 use Rattle.xds_ledger.specs.Ledgers as ledgers
 use Rattle.xds_ledger.specs.Ledgers.{Account}
 use Rattle.xds_ledger.specs.Sessions.{Session, send}
-use Rattle.xds_owed.specs.Offers.{Offer}
+use Rattle.xds_ledger.specs.Offers.{Offer}
 use Rattle.xds_ledger.specs.Lists.{Books, Kept, Fits, new_kept, FitsNext, StaysPresent, SessionFits, StaysFit}
 
 -- before the first request every list suffices

@@ -5,20 +5,20 @@ use Rattle.std.specs.Option.{option_map_or}
 use Rattle.std.specs.FinMap as finmap
 use Rattle.xds_resource.specs.declared.types.TypeName.{TypeName}
 use Rattle.xds_resource.proofs.NameMaps.{bytes_eq_same}
-use Rattle.xds_owed.specs.declared.variant.VariantName.{VariantName}
-use Rattle.xds_owed.specs.declared.entry.Entry.{Entry}
-use Rattle.xds_owed.specs.declared.entry.Entry.TheVariants.{Told, Unsure}
-use Rattle.xds_owed.specs.declared.entry.Due.{Due}
-use Rattle.xds_owed.specs.declared.entry.Due.TheVariants.{Stated, Removed}
-use Rattle.xds_owed.specs.Variants.{is_whole, is_told}
-use Rattle.xds_owed.specs.Owed.{Beliefs, present, owed, is_owed, names_known}
-use Rattle.xds_owed.specs.Offers.{offer}
+use Rattle.xds_ledger.specs.declared.variant.VariantName.{VariantName}
+use Rattle.xds_ledger.specs.declared.entry.Entry.{Entry}
+use Rattle.xds_ledger.specs.declared.entry.Entry.TheVariants.{Told, Unsure}
+use Rattle.xds_ledger.specs.declared.entry.Due.{Due}
+use Rattle.xds_ledger.specs.declared.entry.Due.TheVariants.{Stated, Removed}
+use Rattle.xds_ledger.specs.Variants.{is_whole, is_told}
+use Rattle.xds_ledger.specs.Owed.{Beliefs, present, owed, is_owed, names_known}
+use Rattle.xds_ledger.specs.Offers.{offer}
 use Rattle.xds_ledger.specs.Ledgers.{Sent, Account, once_told, believed_accepted, beliefs_accepted, accept, reject, touch, resume, nonce_text}
 use Rattle.xds_ledger.specs.Sessions.{Session}
 use Rattle.xds_ledger.specs.Laws.{AcceptedOwesNothing, SendingCommutes, with_sent}
-use Rattle.xds_owed.proofs.Choosing.{none_passes}
-use Rattle.xds_owed.proofs.ByName.{offer_says_it}
-use Rattle.xds_beliefs.proofs.ByName.{accepted_by_name}
+use Rattle.xds_ledger.proofs.Choosing.{none_passes}
+use Rattle.xds_ledger.proofs.ByName.{offer_says_it}
+use Rattle.xds_ledger.proofs.BeliefsByName.{accepted_by_name}
 use Rattle.xds_interest.proofs.Choices.{and-false}
 
 -- what was told at the version that is present is owed no more

@@ -13,19 +13,19 @@ use Rattle.xds_interest.specs.Interests.{Selection, reaches}
 use Rattle.xds_interest.specs.Touches.{Touch}
 use Rattle.xds_interest.proofs.Texts.{contains-from_texts}
 use Rattle.xds_catalogue.specs.Holdings.{Holdings, Entries}
-use Rattle.xds_owed.specs.declared.variant.VariantName.{VariantName}
-use Rattle.xds_owed.specs.declared.entry.Entry.{Entry}
-use Rattle.xds_owed.specs.declared.entry.Entry.TheVariants.{Told, Unsure}
-use Rattle.xds_owed.specs.declared.entry.Due.{Due}
-use Rattle.xds_owed.specs.Variants.{is_whole}
-use Rattle.xds_owed.specs.Owed.{Beliefs, is_owed}
-use Rattle.xds_owed.specs.Offers.{Offer, offer, same_offer}
-use Rattle.xds_owed.specs.Listed as lists
-use Rattle.xds_owed.specs.Listed.{Listed, is_listed, with_name, without_mark, IsPast, IsWider}
-use Rattle.xds_owed.proofs.Fitting.{none_at_first, unowed, same_owed}
-use Rattle.xds_owed.proofs.Later.{past_more}
-use Rattle.xds_beliefs.proofs.ByName.{accepted_by_name, taken_by_name}
-use Rattle.xds_beliefs.proofs.Made.{resumed_by_name}
+use Rattle.xds_ledger.specs.declared.variant.VariantName.{VariantName}
+use Rattle.xds_ledger.specs.declared.entry.Entry.{Entry}
+use Rattle.xds_ledger.specs.declared.entry.Entry.TheVariants.{Told, Unsure}
+use Rattle.xds_ledger.specs.declared.entry.Due.{Due}
+use Rattle.xds_ledger.specs.Variants.{is_whole}
+use Rattle.xds_ledger.specs.Owed.{Beliefs, is_owed}
+use Rattle.xds_ledger.specs.Offers.{Offer, offer, same_offer}
+use Rattle.xds_ledger.specs.Listed as lists
+use Rattle.xds_ledger.specs.Listed.{Listed, is_listed, with_name, without_mark, IsPast, IsWider}
+use Rattle.xds_ledger.proofs.Fitting.{none_at_first, unowed, same_owed}
+use Rattle.xds_ledger.proofs.Later.{past_more}
+use Rattle.xds_ledger.proofs.BeliefsByName.{accepted_by_name, taken_by_name}
+use Rattle.xds_ledger.proofs.Made.{resumed_by_name}
 use Rattle.xds_ledger.specs.Ledgers.{Sent, Account, was_touched, believed_accepted, believed_touched, beliefs_taken, is_refused, answers, answered, settled, touch, resume, versions_of}
 use Rattle.xds_ledger.specs.Laws.{RequestKeepsFitting}
 use Rattle.xds_ledger.specs.Lists.{Books, Fits, FitsNext, accepts, StaysPresent, IsPassedOver, ListsRequest, with_names, with_offer, with_all, with_changes, listed_after}

@@ -7,15 +7,15 @@ use Rattle.xds_resource.specs.Writes.{text_cmp}
 use Rattle.xds_interest.specs.Interests.{Selection}
 use Rattle.xds_interest.specs.Touches.{Touch}
 use Rattle.xds_catalogue.specs.Holdings.{Entries}
-use Rattle.xds_owed.specs.declared.variant.VariantName.{VariantName}
-use Rattle.xds_owed.specs.Offers.{Offer, offer}
-use Rattle.xds_owed.specs.Variants.{is_whole}
-use Rattle.xds_owed.specs.Listed.{Listed, IsWider}
+use Rattle.xds_ledger.specs.declared.variant.VariantName.{VariantName}
+use Rattle.xds_ledger.specs.Offers.{Offer, offer}
+use Rattle.xds_ledger.specs.Variants.{is_whole}
+use Rattle.xds_ledger.specs.Listed.{Listed, IsWider}
 use Rattle.xds_ledger.specs.Ledgers.{Account, nonce_text, is_due, accept, settled, touch, resume}
 use Rattle.xds_ledger.specs.Lists.{Books, accepts, ListsRequest, FitsNext}
-pub use Rattle.xds_owed.specs.ListLaws.{NewListFits, WiderListFits, RefreshedListFits, PrunedListFits, OwedIsListed, LaterHoldingsFit, JoinedIsLater}
-pub use Rattle.xds_owed.specs.OfferLaws.{OfferSaysIt, NothingOwed, OffersAreToldApart}
-pub use Rattle.xds_beliefs.specs.BeliefLaws.{AcceptedByName, TakenByName, UntouchedKeepsBelief, TouchedIsNotTold}
+pub use Rattle.xds_ledger.specs.ListLaws.{NewListFits, WiderListFits, RefreshedListFits, PrunedListFits, OwedIsListed, LaterHoldingsFit, JoinedIsLater}
+pub use Rattle.xds_ledger.specs.OfferLaws.{OfferSaysIt, NothingOwed, OffersAreToldApart}
+pub use Rattle.xds_ledger.specs.BeliefLaws.{AcceptedByName, TakenByName, UntouchedKeepsBelief, TouchedIsNotTold}
 use Rattle.xds_ledger.specs.Sessions.{Session, Answer, Names, taken}
 
 -- the session with a response unanswered, and these touches since

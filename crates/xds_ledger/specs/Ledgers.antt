@@ -9,13 +9,13 @@ use Rattle.xds_interest.specs.Interests.{Selection}
 use Rattle.std.specs.Coded.{Coded, code_by, coded×, coded_ℕ, coded_bool, coded_list, coded_option}
 use Rattle.xds_interest.specs.Touches.{Touch}
 use Rattle.xds_catalogue.specs.Holdings.{Entries}
-use Rattle.xds_owed.specs.declared.variant.VariantName.{VariantName}
-use Rattle.xds_owed.specs.declared.entry.Entry.{Entry}
-use Rattle.xds_owed.specs.declared.entry.Due.{Due}
-pub use Rattle.xds_beliefs.specs.Believing.{Sent, sent_code, touched_since, last_touch_forgotten, was_touched, once_told, believed_accepted, beliefs_accepted, believed_touched, believed_taken, beliefs_taken, AreInOrder, versions_of, beliefs_resumed}
-use Rattle.xds_owed.specs.Variants.{is_whole}
-use Rattle.xds_owed.specs.Owed.{entry_code, something_owed}
-use Rattle.xds_owed.specs.Offers.{Offer, due_code, offer, same_offer}
+use Rattle.xds_ledger.specs.declared.variant.VariantName.{VariantName}
+use Rattle.xds_ledger.specs.declared.entry.Entry.{Entry}
+use Rattle.xds_ledger.specs.declared.entry.Due.{Due}
+pub use Rattle.xds_ledger.specs.Believing.{Sent, sent_code, touched_since, last_touch_forgotten, was_touched, once_told, believed_accepted, beliefs_accepted, believed_touched, believed_taken, beliefs_taken, AreInOrder, versions_of, beliefs_resumed}
+use Rattle.xds_ledger.specs.Variants.{is_whole}
+use Rattle.xds_ledger.specs.Owed.{entry_code, something_owed}
+use Rattle.xds_ledger.specs.Offers.{Offer, due_code, offer, same_offer}
 
 pub record Account : Type 0 where
   -- what the client is believed to hold

@@ -1,3 +1,15 @@
+pub mod Variants
+pub mod Owed
+pub mod Offers
+pub mod OfferParts
+pub mod Repeats
+pub mod OfferLaws
+pub mod Listed
+pub mod ListLaws
+pub mod Believing
+pub mod Parts
+pub mod Changes
+pub mod BeliefLaws
 pub mod Ledgers
 pub mod Sessions
 pub mod Texts

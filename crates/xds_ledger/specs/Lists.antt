@@ -11,10 +11,10 @@ use Rattle.xds_interest.specs.Interests.{Selection}
 use Rattle.xds_interest.specs.Asked.{IsStarOfComplete}
 use Rattle.xds_interest.specs.Touches.{Touch, touches}
 use Rattle.xds_catalogue.specs.Holdings.{Holdings}
-use Rattle.xds_owed.specs.declared.variant.VariantName.{VariantName}
-use Rattle.xds_owed.specs.Owed.{present}
-use Rattle.xds_owed.specs.Listed as lists
-use Rattle.xds_owed.specs.Listed.{Listed, listed_code, unlisted, is_listed, IsPast, IsWider}
+use Rattle.xds_ledger.specs.declared.variant.VariantName.{VariantName}
+use Rattle.xds_ledger.specs.Owed.{present}
+use Rattle.xds_ledger.specs.Listed as lists
+use Rattle.xds_ledger.specs.Listed.{Listed, listed_code, unlisted, is_listed, IsPast, IsWider}
 use Rattle.xds_ledger.specs.Ledgers.{Account, account_code, untold, answers}
 use Rattle.xds_ledger.specs.Sessions.{Session, session_code, unopened}
 

@@ -10,10 +10,10 @@ use Rattle.xds_interest.specs.Asked.{Asked, asked_code, unasked, sotw_asked, del
 use Rattle.xds_interest.specs.Delta.{Mention}
 use Rattle.xds_interest.specs.Touches.{Touch, sotw_touch, delta_touch}
 use Rattle.xds_catalogue.specs.Holdings.{Entries}
-use Rattle.xds_owed.specs.declared.variant.VariantName.{VariantName}
+use Rattle.xds_ledger.specs.declared.variant.VariantName.{VariantName}
 use Rattle.xds_ledger.specs.declared.outcome.Outcome.{Outcome}
 use Rattle.xds_ledger.specs.declared.outcome.Outcome.TheVariants.{Taken, Ignored}
-use Rattle.xds_owed.specs.Offers.{Offer}
+use Rattle.xds_ledger.specs.Offers.{Offer}
 use Rattle.xds_ledger.specs.Ledgers as ledgers
 use Rattle.xds_ledger.specs.Ledgers.{Account, account_code, untold, is_stale, settled, touch, resume}
 

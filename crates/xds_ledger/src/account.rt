@@ -4,12 +4,14 @@ ghost use Rattle.xds_resource.specs.declared.refusal.Refusal.TheVariants.{OutOfM
 ghost use Rattle.xds_ledger.specs.Ledgers as ledgers;
 ghost use Rattle.xds_ledger.specs.Ledgers.{untold, nonce_text};
 
+use crate::believed::Beliefs;
+use crate::copying::{copy_beliefs, copy_offer};
+use crate::entry::Due;
+use crate::sent::Sent;
+use crate::variant::Variant;
 use itoa::Buffer;
 use std::alloc::Global;
 use std::marker::{Model, PhantomData};
-use xds_beliefs::Sent;
-use xds_beliefs::copying::{copy_beliefs, copy_offer};
-use xds_owed::{Beliefs, Due, Variant};
 use xds_resource::{NameMap, Refusal, ResourceType};
 
 /// What a client was told of one type on one stream, and what is unanswered.

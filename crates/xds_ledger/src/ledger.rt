@@ -3,20 +3,24 @@ ghost use Rattle.std.specs.Prelude.{◌≡◌, map, string_bytes, is_some, IfOk,
 ghost use Rattle.std.specs.FinMap as finmap;
 ghost use Rattle.std.specs.FinSet as set;
 ghost use Rattle.xds_resource.specs.declared.refusal.Refusal.TheVariants.{OutOfMemory};
-ghost use Rattle.xds_owed.specs.Listed.{StaysSufficient, changed_since};
-ghost use Rattle.xds_owed.specs.Offers.{offer as offer_of};
+ghost use Rattle.xds_ledger.specs.Listed.{StaysSufficient, changed_since};
+ghost use Rattle.xds_ledger.specs.Offers.{offer as offer_of};
 ghost use Rattle.xds_ledger.specs.Ledgers as ledgers;
 ghost use Rattle.xds_ledger.specs.Ledgers.{AreInOrder, versions_of, settled, touch, resume};
 ghost use Rattle.xds_ledger.specs.Lists.{Fits, FitsNext, new_books, refreshed};
 
 use crate::account::Account;
+use crate::entry::Due;
+use crate::listed::Listed;
+use crate::offers::offer;
+use crate::owed::something_owed;
+use crate::repeats::repeats;
+use crate::variant::Variant;
 use std::alloc::Global;
 use std::collections::btree_set::Iter;
 use std::marker::Model;
 use xds_catalogue::Catalogue;
 use xds_interest::{Interest, Touched};
-use xds_owed::repeats::repeats;
-use xds_owed::{Due, Listed, Variant, offer, something_owed};
 use xds_resource::{NameMap, Refusal, ResourceType};
 
 /// What a client was told of one type on one stream, what is unanswered, and which names it may be owed.

@@ -1,16 +1,38 @@
 // What a server told a client of one type on one stream, and what it owes.
+// What a client is owed of one type and what a response says, from what the client is believed to hold.
+// What a server believes that a client holds of one type, and how answers and requests change it.
 #![tactic(auto)]
 
 mod account;
+pub mod beliefs;
+pub mod believed;
+pub mod changes;
+pub mod copying;
+pub mod entry;
 pub mod laws;
 pub mod ledger;
+pub mod listed;
 mod listing;
 pub mod nonces;
+pub mod offers;
 pub mod outcome;
+pub mod owed;
+pub mod repeats;
+pub mod sent;
+pub mod storing;
 mod taking;
 pub mod texts;
+pub mod variant;
+pub mod version;
 
+pub use believed::Beliefs;
+pub use entry::{Due, Entry};
 pub use ledger::Ledger;
+pub use listed::Listed;
 pub use nonces::Nonces;
+pub use offers::offer;
 pub use outcome::Outcome;
-pub use xds_owed::{Delta, Due, Entry, StateOfTheWorld, Variant, VariantName, Version};
+pub use owed::something_owed;
+pub use sent::Sent;
+pub use variant::{Delta, StateOfTheWorld, Variant, VariantName};
+pub use version::Version;

@@ -4,15 +4,18 @@ ghost use Rattle.std.specs.Prelude.{◌≡◌, ◌&&◌, ◌||◌, ℕ, List, ma
 ghost use Rattle.std.specs.FinMap as finmap;
 ghost use Rattle.std.specs.FinSet as set;
 ghost use Rattle.xds_resource.specs.declared.refusal.Refusal.TheVariants.{OutOfMemory};
-ghost use Rattle.xds_owed.specs.Listed.{without_mark};
-ghost use Rattle.xds_owed.specs.Variants.{is_whole};
+ghost use Rattle.xds_ledger.specs.Listed.{without_mark};
+ghost use Rattle.xds_ledger.specs.Variants.{is_whole};
 ghost use Rattle.xds_ledger.specs.Lists.{accepts, with_names, with_offer, with_all, listed_after};
 
+use crate::believed::Beliefs;
+use crate::entry::Due;
 use crate::ledger::Ledger;
+use crate::listed::Listed;
+use crate::variant::Variant;
 use std::alloc::Global;
 use std::collections::btree_set::Iter;
 use xds_interest::Touched;
-use xds_owed::{Beliefs, Due, Listed, Variant};
 use xds_resource::{NameMap, Refusal, ResourceType};
 
 // With some names.

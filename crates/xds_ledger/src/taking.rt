@@ -5,20 +5,22 @@ ghost use Rattle.std.specs.FinMap as finmap;
 ghost use Rattle.std.specs.FinSet as set;
 ghost use Rattle.xds_resource.specs.Writes.{text_cmp};
 ghost use Rattle.xds_resource.specs.declared.refusal.Refusal.TheVariants.{OutOfMemory};
-ghost use Rattle.xds_beliefs.specs.Changes.{believed_now, changes_answered};
+ghost use Rattle.xds_ledger.specs.Changes.{believed_now, changes_answered};
 ghost use Rattle.xds_ledger.specs.Ledgers.{answered, beliefs_accepted, beliefs_taken, AreInOrder, versions_of, beliefs_resumed, noted, forgotten, settled, touch, resume};
-ghost use Rattle.xds_owed.specs.Owed as owed;
-ghost use Rattle.xds_owed.specs.Variants.{is_whole};
+ghost use Rattle.xds_ledger.specs.Owed as owed;
+ghost use Rattle.xds_ledger.specs.Variants.{is_whole};
 
 use crate::account::Account;
+use crate::beliefs::{accepted, beliefs_after};
+use crate::believed::Beliefs;
+use crate::changes::{changes_after, changes_told};
+use crate::entry::Entry;
+use crate::sent::Sent;
+use crate::storing::change;
+use crate::variant::Variant;
 use std::alloc::Global;
 use std::collections::btree_set::Iter;
-use xds_beliefs::Sent;
-use xds_beliefs::beliefs::{accepted, beliefs_after};
-use xds_beliefs::changes::{changes_after, changes_told};
-use xds_beliefs::storing::change;
 use xds_interest::{Interest, Touched};
-use xds_owed::{Beliefs, Entry, Variant};
 use xds_resource::{NameMap, Refusal, ResourceType};
 
 // Changes what is believed in place, by a request that doesn't touch every name; `start` has what its answer changes.

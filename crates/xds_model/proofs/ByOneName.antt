@@ -2,13 +2,13 @@
 use Rattle.std.proofs.Common.{◌≡◌, ℕ, List, Bool, true, false, ◌||◌, ◌&&◌, Option, Some, None, refl, sym, ◌∙◌}
 use Rattle.std.specs.Prelude.{if◌then◌else◌, is_some, option_map, bytes_eq}
 use Rattle.std.specs.Option.{option_or}
-use Rattle.xds_owed.specs.declared.entry.Entry.{Entry}
-use Rattle.xds_owed.specs.declared.entry.Entry.TheVariants.{Told, Unsure}
-use Rattle.xds_owed.specs.declared.entry.Due.{Due}
-use Rattle.xds_owed.specs.declared.entry.Due.TheVariants.{Stated, Removed}
+use Rattle.xds_ledger.specs.declared.entry.Entry.{Entry}
+use Rattle.xds_ledger.specs.declared.entry.Entry.TheVariants.{Told, Unsure}
+use Rattle.xds_ledger.specs.declared.entry.Due.{Due}
+use Rattle.xds_ledger.specs.declared.entry.Due.TheVariants.{Stated, Removed}
 use Rattle.xds_resource.proofs.NameMaps.{bytes_eq_tells}
-use Rattle.xds_owed.specs.Owed.{owed}
-use Rattle.xds_beliefs.specs.Believing.{believed_accepted, believed_touched}
+use Rattle.xds_ledger.specs.Owed.{owed}
+use Rattle.xds_ledger.specs.Believing.{believed_accepted, believed_touched}
 use Rattle.xds_shelf.specs.Shelves.{Holding}
 
 -- what a client holds of a name after a response of which it takes everything

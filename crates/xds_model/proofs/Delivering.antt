@@ -16,13 +16,13 @@ use Rattle.xds_interest.specs.Interests.{Selection, reaches, covers}
 use Rattle.xds_interest.proofs.Reaching.{covered_is_reached}
 use Rattle.xds_catalogue.specs.Holdings.{Holdings, Entries}
 use Rattle.xds_draft.specs.Drafts.{DraftedResource, drafted_resource}
-use Rattle.xds_owed.specs.declared.variant.VariantName.TheVariants.{Delta}
-use Rattle.xds_owed.specs.declared.entry.Due.{Due}
-use Rattle.xds_owed.specs.declared.entry.Due.TheVariants.{Stated, Removed}
-use Rattle.xds_owed.specs.Variants.{is_told}
-use Rattle.xds_owed.specs.Owed.{Beliefs, live_version, version_shown, present, owed_of}
-use Rattle.xds_owed.specs.Offers.{Offer, offer}
-use Rattle.xds_owed.proofs.ByName.{offer_says_it}
+use Rattle.xds_ledger.specs.declared.variant.VariantName.TheVariants.{Delta}
+use Rattle.xds_ledger.specs.declared.entry.Due.{Due}
+use Rattle.xds_ledger.specs.declared.entry.Due.TheVariants.{Stated, Removed}
+use Rattle.xds_ledger.specs.Variants.{is_told}
+use Rattle.xds_ledger.specs.Owed.{Beliefs, live_version, version_shown, present, owed_of}
+use Rattle.xds_ledger.specs.Offers.{Offer, offer}
+use Rattle.xds_ledger.proofs.ByName.{offer_says_it}
 use Rattle.xds_delta.specs.Polls.{is_statement, is_removal, names_where, resource_of as drafted_of, resource_at, response}
 use Rattle.xds_delta.proofs.Stating.{present_if_stated, kept_at}
 use Rattle.xds_shelf.specs.Shelves.{Holding, Cache, marked}

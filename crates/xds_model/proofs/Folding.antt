@@ -5,10 +5,10 @@ use Rattle.std.specs.Option.{option_map_or}
 use Rattle.xds_resource.specs.declared.types.TypeName.{TypeName}
 use Rattle.xds_interest.specs.Touches.{Touch, delta_touch}
 use Rattle.xds_message.specs.DeltaMessages.{DeltaRequest}
-use Rattle.xds_owed.specs.declared.variant.VariantName.TheVariants.{Delta}
-use Rattle.xds_owed.specs.Offers.{Offer}
+use Rattle.xds_ledger.specs.declared.variant.VariantName.TheVariants.{Delta}
+use Rattle.xds_ledger.specs.Offers.{Offer}
 use Rattle.xds_ledger.specs.Ledgers.{Account, nonce_text, settled, answered}
-use Rattle.xds_beliefs.specs.Believing.{Sent, touched_since}
+use Rattle.xds_ledger.specs.Believing.{Sent, touched_since}
 use Rattle.xds_ledger.specs.Sessions.{Session, Answer, Names, taken, is_taken, delta_names}
 use Rattle.xds_ledger.specs.Laws.{with_sent}
 use Rattle.xds_ledger.proofs.Settling.{sending_commutes}

@@ -22,15 +22,15 @@ use Rattle.xds_interest.proofs.SotwLaws.{list_any-is_star}
 use Rattle.xds_message.specs.Messages.{Identity}
 use Rattle.xds_message.specs.DeltaMessages.{DeltaRequest}
 use Rattle.xds_draft.specs.Drafts.{DraftedDelta, delta_message_of}
-use Rattle.xds_owed.specs.declared.variant.VariantName.TheVariants.{Delta}
-use Rattle.xds_owed.specs.declared.entry.Entry.{Entry}
-use Rattle.xds_owed.specs.declared.entry.Entry.TheVariants.{Told}
-use Rattle.xds_owed.specs.declared.entry.Due.TheVariants.{Stated}
-use Rattle.xds_owed.specs.Offers.{Offer}
+use Rattle.xds_ledger.specs.declared.variant.VariantName.TheVariants.{Delta}
+use Rattle.xds_ledger.specs.declared.entry.Entry.{Entry}
+use Rattle.xds_ledger.specs.declared.entry.Entry.TheVariants.{Told}
+use Rattle.xds_ledger.specs.declared.entry.Due.TheVariants.{Stated}
+use Rattle.xds_ledger.specs.Offers.{Offer}
 use Rattle.xds_ledger.specs.Ledgers.{Account, nonce_text, settled, answered}
-use Rattle.xds_beliefs.specs.Believing.{Sent, was_touched, touched_since, believed_accepted}
+use Rattle.xds_ledger.specs.Believing.{Sent, was_touched, touched_since, believed_accepted}
 use Rattle.xds_ledger.specs.Sessions.{Session, Names, unopened, taken, is_taken, delta_names, send}
-use Rattle.xds_beliefs.proofs.ByName.{accepted_by_name}
+use Rattle.xds_ledger.proofs.BeliefsByName.{accepted_by_name}
 use Rattle.xds_delta.specs.Polls.{take, mention, answer_in}
 use Rattle.xds_shelf.specs.Shelves.{Wants, Holding, Cache, Shelf, texts, interest, is_wanted, wants_of, wants_after, wanting, kept_of}
 use Rattle.xds_shelf.specs.Faults.{Test}

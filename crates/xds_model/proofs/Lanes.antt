@@ -16,16 +16,16 @@ use Rattle.xds_interest.specs.Touches.{touches, delta_touch}
 use Rattle.xds_interest.proofs.AskedLaws.{delta_touch_is_a_set}
 use Rattle.xds_message.specs.DeltaMessages.{DeltaRequest}
 use Rattle.xds_draft.specs.Drafts.{DraftedDelta, delta_message_of}
-use Rattle.xds_owed.specs.declared.variant.VariantName.{VariantName}
-use Rattle.xds_owed.specs.declared.variant.VariantName.TheVariants.{Delta}
-use Rattle.xds_owed.specs.declared.entry.Entry.{Entry}
-use Rattle.xds_owed.specs.declared.entry.Due.TheVariants.{Stated}
-use Rattle.xds_owed.specs.Owed.{Beliefs}
+use Rattle.xds_ledger.specs.declared.variant.VariantName.{VariantName}
+use Rattle.xds_ledger.specs.declared.variant.VariantName.TheVariants.{Delta}
+use Rattle.xds_ledger.specs.declared.entry.Entry.{Entry}
+use Rattle.xds_ledger.specs.declared.entry.Due.TheVariants.{Stated}
+use Rattle.xds_ledger.specs.Owed.{Beliefs}
 use Rattle.xds_ledger.specs.Ledgers.{Account, nonce_text, settled, answered}
-use Rattle.xds_beliefs.specs.Believing.{Sent, was_touched, touched_since, beliefs_taken}
+use Rattle.xds_ledger.specs.Believing.{Sent, was_touched, touched_since, beliefs_taken}
 use Rattle.xds_ledger.specs.Sessions.{Session, Answer, Names, unopened, taken, is_taken, delta_names}
-use Rattle.xds_beliefs.proofs.ByName.{taken_by_name}
-use Rattle.xds_beliefs.proofs.Made.{resumed_by_name}
+use Rattle.xds_ledger.proofs.BeliefsByName.{taken_by_name}
+use Rattle.xds_ledger.proofs.Made.{resumed_by_name}
 use Rattle.xds_delta.specs.Polls.{take, mention, answer_in}
 use Rattle.xds_shelf.specs.Shelves.{Wants, Holding, Cache, Shelf, texts, interest, is_wanted, wants_some, wants_of, wants_after}
 use Rattle.xds_shelf.specs.Deliveries.{delta_delivery, statements}

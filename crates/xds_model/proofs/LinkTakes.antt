@@ -22,8 +22,8 @@ use Rattle.xds_draft.specs.declared.draft.Draft.{Draft}
 use Rattle.xds_draft.specs.declared.draft.Draft.TheVariants as drafts
 use Rattle.xds_draft.specs.Drafts.{DraftedDelta, delta_message_of}
 use Rattle.xds_draft.specs.DraftTexts.{kind_of}
-use Rattle.xds_owed.specs.declared.variant.VariantName.TheVariants as variants
-use Rattle.xds_owed.specs.declared.entry.Entry.TheVariants.{Told}
+use Rattle.xds_ledger.specs.declared.variant.VariantName.TheVariants as variants
+use Rattle.xds_ledger.specs.declared.entry.Entry.TheVariants.{Told}
 use Rattle.xds_ledger.specs.Sessions.{Session, unopened}
 use Rattle.xds_delta.specs.Polls.{take, mention}
 use Rattle.xds_core.specs.Streams as streams

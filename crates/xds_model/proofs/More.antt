@@ -7,9 +7,9 @@ use Rattle.xds_message.specs.DeltaMessages.{DeltaRequest}
 use Rattle.xds_draft.specs.declared.draft.Draft.{Draft}
 use Rattle.xds_draft.specs.Drafts.{Drafted, DraftedDelta}
 use Rattle.xds_message.specs.Messages.{Request}
-use Rattle.xds_owed.specs.declared.entry.Due.{Due}
-use Rattle.xds_owed.specs.declared.entry.Due.TheVariants.{Stated, Removed}
-use Rattle.xds_beliefs.specs.Believing.{Sent}
+use Rattle.xds_ledger.specs.declared.entry.Due.{Due}
+use Rattle.xds_ledger.specs.declared.entry.Due.TheVariants.{Stated, Removed}
+use Rattle.xds_ledger.specs.Believing.{Sent}
 use Rattle.xds_ledger.specs.Sessions.{Session}
 use Rattle.xds_core.specs.Streams.{Stream}
 use Rattle.xds_shelf.specs.Shelves.{Wants, Holding, Shelf}

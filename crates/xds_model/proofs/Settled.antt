@@ -19,17 +19,17 @@ use Rattle.xds_catalogue.specs.Holdings.{Entries}
 use Rattle.xds_draft.specs.declared.draft.Draft.{Draft}
 use Rattle.xds_draft.specs.Drafts.{DraftedDelta}
 use Rattle.xds_draft.specs.DraftTexts.{kind_of}
-use Rattle.xds_owed.specs.declared.variant.VariantName.{VariantName}
-use Rattle.xds_owed.specs.declared.variant.VariantName.TheVariants.{Delta}
-use Rattle.xds_owed.specs.declared.entry.Due.{Due}
-use Rattle.xds_owed.specs.declared.entry.Due.TheVariants.{Stated, Removed}
-use Rattle.xds_owed.specs.Variants.{is_told, is_whole}
-use Rattle.xds_owed.specs.Owed.{live_version, version_shown, present, owed_of, something_owed}
+use Rattle.xds_ledger.specs.declared.variant.VariantName.{VariantName}
+use Rattle.xds_ledger.specs.declared.variant.VariantName.TheVariants.{Delta}
+use Rattle.xds_ledger.specs.declared.entry.Due.{Due}
+use Rattle.xds_ledger.specs.declared.entry.Due.TheVariants.{Stated, Removed}
+use Rattle.xds_ledger.specs.Variants.{is_told, is_whole}
+use Rattle.xds_ledger.specs.Owed.{live_version, version_shown, present, owed_of, something_owed}
 use Rattle.xds_ledger.specs.Ledgers as ledgers
 use Rattle.xds_ledger.specs.Ledgers.{is_due}
 use Rattle.xds_ledger.specs.Sessions as sessions
 use Rattle.xds_ledger.specs.Sessions.{Session, unopened}
-use Rattle.xds_owed.proofs.ByName.{nothing_owed}
+use Rattle.xds_ledger.proofs.ByName.{nothing_owed}
 use Rattle.xds_core.specs.Stores.{Store}
 use Rattle.xds_core.specs.Streams.{Stream, Message, owes_of}
 use Rattle.xds_shelf.specs.Shelves.{Holding, Shelf, interest}

@@ -13,11 +13,11 @@ use Rattle.xds_message.specs.Messages as messages
 use Rattle.xds_draft.specs.declared.draft.Draft.{Draft}
 use Rattle.xds_draft.specs.DraftTexts.{kind_of}
 use Rattle.xds_ledger.specs.declared.outcome.Outcome.{Outcome}
-use Rattle.xds_owed.specs.declared.variant.VariantName.{VariantName}
-use Rattle.xds_owed.specs.declared.variant.VariantName.TheVariants as variants
-use Rattle.xds_owed.specs.Offers.{Offer}
+use Rattle.xds_ledger.specs.declared.variant.VariantName.{VariantName}
+use Rattle.xds_ledger.specs.declared.variant.VariantName.TheVariants as variants
+use Rattle.xds_ledger.specs.Offers.{Offer}
 use Rattle.xds_ledger.specs.Ledgers.{Account, settled, answers, answered}
-use Rattle.xds_beliefs.specs.Believing.{Sent, touched_since}
+use Rattle.xds_ledger.specs.Believing.{Sent, touched_since}
 use Rattle.xds_ledger.specs.Sessions as sessions
 use Rattle.xds_ledger.specs.Sessions.{Session, Answer, Names, unopened, is_taken, taken, send, sotw_names, delta_names}
 use Rattle.xds_ledger.specs.Laws.{with_sent}

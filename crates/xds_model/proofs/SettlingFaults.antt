@@ -20,16 +20,16 @@ use Rattle.xds_catalogue.specs.Content.{is_shown}
 use Rattle.xds_draft.specs.declared.draft.Draft.{Draft}
 use Rattle.xds_draft.specs.declared.draft.Draft.TheVariants as drafts
 use Rattle.xds_draft.specs.Drafts.{message_of, delta_message_of}
-use Rattle.xds_owed.specs.declared.variant.VariantName.{VariantName}
-use Rattle.xds_owed.specs.declared.variant.VariantName.TheVariants as variants
-use Rattle.xds_owed.specs.declared.entry.Due.{Due}
-use Rattle.xds_owed.specs.declared.entry.Due.TheVariants.{Stated, Removed}
-use Rattle.xds_owed.specs.Variants.{is_whole}
-use Rattle.xds_owed.specs.Owed.{Beliefs, live_version, version_shown, present, is_owed, owed_of}
-use Rattle.xds_owed.specs.Offers.{Offer, offer, stated_version}
+use Rattle.xds_ledger.specs.declared.variant.VariantName.{VariantName}
+use Rattle.xds_ledger.specs.declared.variant.VariantName.TheVariants as variants
+use Rattle.xds_ledger.specs.declared.entry.Due.{Due}
+use Rattle.xds_ledger.specs.declared.entry.Due.TheVariants.{Stated, Removed}
+use Rattle.xds_ledger.specs.Variants.{is_whole}
+use Rattle.xds_ledger.specs.Owed.{Beliefs, live_version, version_shown, present, is_owed, owed_of}
+use Rattle.xds_ledger.specs.Offers.{Offer, offer, stated_version}
 use Rattle.xds_ledger.specs.Sessions as sessions
 use Rattle.xds_ledger.specs.Sessions.{Session}
-use Rattle.xds_owed.proofs.ByName.{offer_says_it}
+use Rattle.xds_ledger.proofs.ByName.{offer_says_it}
 use Rattle.xds_sotw.specs.Polls as sotw
 use Rattle.xds_delta.specs.Polls as delta
 use Rattle.xds_delta.specs.Polls.{is_statement, is_removal, names_where, resource_of as drafted_of}
@@ -47,7 +47,7 @@ use Rattle.xds_model.proofs.LinkSteps.{sending_facts}
 use Rattle.xds_model.proofs.SotwDelivering as sotw_delivering
 use Rattle.xds_model.proofs.SotwDelivering.{offered_is}
 use Rattle.xds_writes.proofs.StampedWriteLemmas.{from_value-canonical}
-use Rattle.xds_owed.proofs.SomethingOwed.{is_some_of}
+use Rattle.xds_ledger.proofs.SomethingOwed.{is_some_of}
 use Rattle.xds_model.proofs.SotwSteps.{one_of_both}
 use Rattle.xds_model.proofs.SettlingSessions.{never_both}
 

@@ -10,7 +10,7 @@ use Rattle.xds_resource.specs.PerType.{at}
 use Rattle.xds_catalogue.specs.Holdings.{Entries}
 use Rattle.xds_draft.specs.declared.draft.Draft.{Draft}
 use Rattle.xds_draft.specs.DraftTexts.{kind_of}
-use Rattle.xds_owed.specs.Offers.{Offer}
+use Rattle.xds_ledger.specs.Offers.{Offer}
 use Rattle.xds_ledger.specs.Sessions as sessions
 use Rattle.xds_ledger.specs.Sessions.{Session, send}
 use Rattle.xds_core.specs.Stores.{Store}

@@ -12,19 +12,19 @@ use Rattle.xds_catalogue.specs.Holdings.{Entries}
 use Rattle.xds_message.specs.Messages.{Request}
 use Rattle.xds_message.specs.DeltaMessages.{DeltaRequest}
 use Rattle.xds_draft.specs.Drafts.{Drafted, DraftedDelta}
-use Rattle.xds_owed.specs.declared.variant.VariantName.{VariantName}
-use Rattle.xds_owed.specs.declared.variant.VariantName.TheVariants.{StateOfTheWorld, Delta}
-use Rattle.xds_owed.specs.Owed.{Beliefs}
-use Rattle.xds_owed.specs.Offers.{Offer, offer, same_offer}
+use Rattle.xds_ledger.specs.declared.variant.VariantName.{VariantName}
+use Rattle.xds_ledger.specs.declared.variant.VariantName.TheVariants.{StateOfTheWorld, Delta}
+use Rattle.xds_ledger.specs.Owed.{Beliefs}
+use Rattle.xds_ledger.specs.Offers.{Offer, offer, same_offer}
 use Rattle.xds_ledger.specs.Ledgers as ledgers
 use Rattle.xds_ledger.specs.Ledgers.{Account, nonce_text, is_due, is_refused, answered, touch, resume}
-use Rattle.xds_beliefs.specs.Believing.{Sent, touched_since, beliefs_taken, beliefs_resumed}
+use Rattle.xds_ledger.specs.Believing.{Sent, touched_since, beliefs_taken, beliefs_resumed}
 use Rattle.xds_ledger.specs.Sessions as sessions
 use Rattle.xds_ledger.specs.Sessions.{Session, Answer, Names, taken, send, delta_names}
 use Rattle.xds_ledger.proofs.Settling.{accepted_owes_nothing}
-use Rattle.xds_beliefs.proofs.ByName.{untouched_keeps_belief}
-use Rattle.xds_beliefs.proofs.Made.{resumed_by_name}
-use Rattle.xds_owed.proofs.SameOffers.{offers_are_told_apart}
+use Rattle.xds_ledger.proofs.BeliefsByName.{untouched_keeps_belief}
+use Rattle.xds_ledger.proofs.Made.{resumed_by_name}
+use Rattle.xds_ledger.proofs.SameOffers.{offers_are_told_apart}
 use Rattle.xds_sotw.specs.Polls.{take as sotw_take}
 use Rattle.xds_delta.specs.Polls.{take as delta_take, mention, answer_in}
 use Rattle.xds_shelf.specs.Shelves.{Shelf, texts, interest}

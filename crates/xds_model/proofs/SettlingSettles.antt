@@ -16,15 +16,15 @@ use Rattle.xds_interest.specs.Asked.{Asked}
 use Rattle.xds_catalogue.specs.Holdings.{Entries}
 use Rattle.xds_catalogue.proofs.Catalogues.{get-catalogue_of}
 use Rattle.xds_draft.specs.Drafts.{Drafted, DraftedDelta}
-use Rattle.xds_owed.specs.declared.variant.VariantName.{VariantName}
-use Rattle.xds_owed.specs.Owed.{version_shown, present}
-use Rattle.xds_owed.specs.Offers.{Offer, same_offer}
+use Rattle.xds_ledger.specs.declared.variant.VariantName.{VariantName}
+use Rattle.xds_ledger.specs.Owed.{version_shown, present}
+use Rattle.xds_ledger.specs.Offers.{Offer, same_offer}
 use Rattle.xds_ledger.specs.Ledgers as ledgers
-use Rattle.xds_beliefs.specs.Believing.{Sent}
+use Rattle.xds_ledger.specs.Believing.{Sent}
 use Rattle.xds_ledger.specs.Ledgers.{is_due, is_refused}
 use Rattle.xds_ledger.specs.Sessions as sessions
 use Rattle.xds_ledger.specs.Sessions.{Session}
-use Rattle.xds_owed.proofs.SameOffers.{offers_are_told_apart}
+use Rattle.xds_ledger.proofs.SameOffers.{offers_are_told_apart}
 use Rattle.xds_core.specs.Stores.{Store}
 use Rattle.xds_core.specs.Streams.{Stream, Message, session_after, owes_of}
 use Rattle.xds_shelf.specs.Shelves.{Wants, Holding, Shelf, interest}

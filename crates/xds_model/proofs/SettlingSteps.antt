@@ -19,9 +19,9 @@ use Rattle.xds_draft.specs.declared.draft.Draft.TheVariants as drafts
 use Rattle.xds_draft.specs.Drafts.{Drafted, DraftedDelta, message_of, delta_message_of}
 use Rattle.xds_draft.specs.DraftTexts.{kind_of}
 use Rattle.xds_ledger.specs.declared.outcome.Outcome.{Outcome}
-use Rattle.xds_owed.specs.declared.variant.VariantName.{VariantName}
-use Rattle.xds_owed.specs.declared.variant.VariantName.TheVariants as variants
-use Rattle.xds_owed.specs.Offers.{Offer}
+use Rattle.xds_ledger.specs.declared.variant.VariantName.{VariantName}
+use Rattle.xds_ledger.specs.declared.variant.VariantName.TheVariants as variants
+use Rattle.xds_ledger.specs.Offers.{Offer}
 use Rattle.xds_ledger.specs.Sessions as sessions
 use Rattle.xds_ledger.specs.Sessions.{Session, unopened, send}
 use Rattle.xds_core.specs.Stores.{Store}
@@ -60,7 +60,7 @@ use Rattle.xds_model.proofs.SettlingSessions.{HasAnswer, delta_answers, sotw_ans
 use Rattle.xds_model.proofs.SettlingFaults.{fault_at}
 use Rattle.xds_model.proofs.EveryEvent.{get_put}
 use Rattle.xds_writes.proofs.StampedWriteLemmas.{type_of_url-url}
-use Rattle.xds_beliefs.proofs.Stored.{or_true}
+use Rattle.xds_ledger.proofs.Stored.{or_true}
 
 -- ---- where a client is
 

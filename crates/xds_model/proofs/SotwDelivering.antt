@@ -13,14 +13,14 @@ use Rattle.xds_resource.proofs.MadeMaps.{EachFound, each_found}
 use Rattle.xds_interest.specs.Interests.{Selection, reaches, covers}
 use Rattle.xds_catalogue.specs.Holdings.{Holdings, Entries}
 use Rattle.xds_catalogue.specs.Content.{is_shown, content}
-use Rattle.xds_owed.specs.declared.variant.VariantName.TheVariants.{StateOfTheWorld}
-use Rattle.xds_owed.specs.declared.entry.Entry.{Entry}
-use Rattle.xds_owed.specs.declared.entry.Due.{Due}
-use Rattle.xds_owed.specs.declared.entry.Due.TheVariants.{Stated, Removed}
-use Rattle.xds_owed.specs.Variants.{is_told}
-use Rattle.xds_owed.specs.Owed.{Beliefs, live_version, version_shown, present, owed}
-use Rattle.xds_owed.specs.Offers.{Offer, offer, stated_version}
-use Rattle.xds_owed.proofs.ByName.{offer_says_it}
+use Rattle.xds_ledger.specs.declared.variant.VariantName.TheVariants.{StateOfTheWorld}
+use Rattle.xds_ledger.specs.declared.entry.Entry.{Entry}
+use Rattle.xds_ledger.specs.declared.entry.Due.{Due}
+use Rattle.xds_ledger.specs.declared.entry.Due.TheVariants.{Stated, Removed}
+use Rattle.xds_ledger.specs.Variants.{is_told}
+use Rattle.xds_ledger.specs.Owed.{Beliefs, live_version, version_shown, present, owed}
+use Rattle.xds_ledger.specs.Offers.{Offer, offer, stated_version}
+use Rattle.xds_ledger.proofs.ByName.{offer_says_it}
 use Rattle.xds_sotw.specs.Polls.{response, stated_writes}
 use Rattle.xds_shelf.specs.Shelves.{Holding, Cache}
 use Rattle.xds_shelf.specs.Faults.{Stated as StatedResource, stated_by, and_stated}

@@ -22,16 +22,16 @@ use Rattle.xds_interest.proofs.SotwLaws.{list_any-is_star}
 use Rattle.xds_interest.proofs.Texts.{contains-from_texts}
 use Rattle.xds_message.specs.Messages.{Identity, Request}
 use Rattle.xds_draft.specs.Drafts.{Drafted, message_of}
-use Rattle.xds_owed.specs.declared.variant.VariantName.TheVariants.{StateOfTheWorld}
-use Rattle.xds_owed.specs.declared.entry.Entry.{Entry}
-use Rattle.xds_owed.specs.declared.entry.Entry.TheVariants.{Told, Unsure}
-use Rattle.xds_owed.specs.declared.entry.Due.TheVariants.{Stated}
-use Rattle.xds_owed.specs.Offers.{Offer}
+use Rattle.xds_ledger.specs.declared.variant.VariantName.TheVariants.{StateOfTheWorld}
+use Rattle.xds_ledger.specs.declared.entry.Entry.{Entry}
+use Rattle.xds_ledger.specs.declared.entry.Entry.TheVariants.{Told, Unsure}
+use Rattle.xds_ledger.specs.declared.entry.Due.TheVariants.{Stated}
+use Rattle.xds_ledger.specs.Offers.{Offer}
 use Rattle.xds_ledger.specs.Ledgers.{Account, nonce_text, settled, answered}
-use Rattle.xds_beliefs.specs.Believing.{Sent, was_touched, touched_since, believed_accepted}
+use Rattle.xds_ledger.specs.Believing.{Sent, was_touched, touched_since, believed_accepted}
 use Rattle.xds_ledger.specs.Sessions.{Session, Names, unopened, is_taken, taken, send}
 use Rattle.xds_ledger.specs.Laws.{with_sent}
-use Rattle.xds_beliefs.proofs.ByName.{accepted_by_name}
+use Rattle.xds_ledger.proofs.BeliefsByName.{accepted_by_name}
 use Rattle.xds_sotw.specs.Polls.{take}
 use Rattle.xds_shelf.specs.Shelves.{Wants, Holding, Cache, Shelf, texts, interest, is_wanted, wants_some, wanting}
 use Rattle.xds_shelf.specs.Faults.{Test}

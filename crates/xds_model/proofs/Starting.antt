@@ -7,7 +7,7 @@ use Rattle.xds_resource.specs.declared.refusal.Refusal.TheVariants.{WrongVariant
 use Rattle.xds_resource.specs.PerType.{at, each}
 use Rattle.xds_draft.specs.declared.draft.Draft.{Draft}
 use Rattle.xds_ledger.specs.declared.outcome.Outcome.{Outcome}
-use Rattle.xds_owed.specs.declared.variant.VariantName.{VariantName}
+use Rattle.xds_ledger.specs.declared.variant.VariantName.{VariantName}
 use Rattle.xds_ledger.specs.Sessions as sessions
 use Rattle.xds_ledger.specs.Sessions.{unopened}
 use Rattle.xds_core.specs.Stores.{Store, if_done}

@@ -10,7 +10,7 @@ use Rattle.xds_resource.specs.PerType.{at}
 use Rattle.xds_resource.specs.Stamps.{max_counter}
 use Rattle.xds_draft.specs.declared.draft.Draft.{Draft}
 use Rattle.xds_draft.specs.DraftTexts.{kind_of}
-use Rattle.xds_owed.specs.Offers.{offer}
+use Rattle.xds_ledger.specs.Offers.{offer}
 use Rattle.xds_ledger.specs.Ledgers.{is_refused}
 use Rattle.xds_core.specs.Stores.{Store}
 use Rattle.xds_core.specs.Streams.{Stream, Message, to_send}

@@ -23,23 +23,23 @@ use Rattle.xds_catalogue.specs.Holdings.{Entries, Holdings, IsCatalogue}
 use Rattle.xds_catalogue.specs.Content.{is_live, is_shown, content}
 use Rattle.xds_message.specs.Messages.{Request}
 use Rattle.xds_draft.specs.Drafts.{Drafted, message_of}
-use Rattle.xds_owed.specs.declared.variant.VariantName.TheVariants.{StateOfTheWorld}
-use Rattle.xds_owed.specs.declared.entry.Entry.{Entry}
-use Rattle.xds_owed.specs.declared.entry.Entry.TheVariants.{Told, Unsure}
-use Rattle.xds_owed.specs.declared.entry.Due.TheVariants.{Stated}
-use Rattle.xds_owed.specs.Variants.{is_told}
-use Rattle.xds_owed.specs.Owed.{Beliefs, live_version, present, owed, something_owed, names_known}
-use Rattle.xds_owed.specs.Offers.{Offer, offered, offer}
-use Rattle.xds_beliefs.specs.Believing.{believed_touched, beliefs_taken, beliefs_resumed}
+use Rattle.xds_ledger.specs.declared.variant.VariantName.TheVariants.{StateOfTheWorld}
+use Rattle.xds_ledger.specs.declared.entry.Entry.{Entry}
+use Rattle.xds_ledger.specs.declared.entry.Entry.TheVariants.{Told, Unsure}
+use Rattle.xds_ledger.specs.declared.entry.Due.TheVariants.{Stated}
+use Rattle.xds_ledger.specs.Variants.{is_told}
+use Rattle.xds_ledger.specs.Owed.{Beliefs, live_version, present, owed, something_owed, names_known}
+use Rattle.xds_ledger.specs.Offers.{Offer, offered, offer}
+use Rattle.xds_ledger.specs.Believing.{believed_touched, beliefs_taken, beliefs_resumed}
 use Rattle.xds_ledger.specs.Sessions.{Session, unopened, send}
-use Rattle.xds_owed.proofs.ByName.{present_absent, offer_says_it}
-use Rattle.xds_beliefs.proofs.ByName.{taken_by_name}
-use Rattle.xds_owed.proofs.Choosing.{none_passes, listed_fails}
-use Rattle.xds_beliefs.proofs.Made.{resumed_by_name}
+use Rattle.xds_ledger.proofs.ByName.{present_absent, offer_says_it}
+use Rattle.xds_ledger.proofs.BeliefsByName.{taken_by_name}
+use Rattle.xds_ledger.proofs.Choosing.{none_passes, listed_fails}
+use Rattle.xds_ledger.proofs.Made.{resumed_by_name}
 use Rattle.xds_streams.specs.Streams.{cluster_in}
 use Rattle.xds_sotw.specs.Polls.{take, sending, response, stated_writes, HasPolled}
 use Rattle.xds_program.specs.Answers.{objects_of, response_with, response_to}
-use Rattle.xds_beliefs.proofs.Stored.{or_true}
+use Rattle.xds_ledger.proofs.Stored.{or_true}
 
 -- ---- what is believed after the first request
 

@@ -17,9 +17,9 @@ use Rattle.xds_message.specs.Messages.{Response, SpellsResponse}
 use Rattle.xds_message.specs.DeltaMessages.{DeltaResponse, SpellsDeltaResponse}
 use Rattle.xds_message.specs.Written.{response_object}
 use Rattle.xds_message.specs.DeltaWritten.{delta_response_object}
-use Rattle.xds_owed.specs.declared.variant.VariantName.{VariantName}
-use Rattle.xds_owed.specs.declared.variant.VariantName.TheVariants as variants
-use Rattle.xds_owed.specs.Variants.{is_delta}
+use Rattle.xds_ledger.specs.declared.variant.VariantName.{VariantName}
+use Rattle.xds_ledger.specs.declared.variant.VariantName.TheVariants as variants
+use Rattle.xds_ledger.specs.Variants.{is_delta}
 use Rattle.xds_rules.specs.Answers.{Label, Statement, Answer, IsStatement, IsAnswer, IsReadable, sotw_message, delta_message, labelled_resource, label_or_none}
 use Rattle.xds_rules.specs.Texts.{IsStated, IsLabelled, IsSotwAnswer, IsDeltaAnswer, SpellsAnswer, answer_json}
 

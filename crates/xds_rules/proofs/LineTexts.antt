@@ -13,9 +13,9 @@ use Rattle.serde_json.specs.Written.{compact_text}
 use Rattle.xds_writes.specs.StampedWrites.{write_object}
 use Rattle.xds_message.specs.Written.{request_object, response_object}
 use Rattle.xds_message.specs.DeltaWritten.{delta_request_object, delta_response_object}
-use Rattle.xds_owed.specs.Variants.{is_delta}
-use Rattle.xds_owed.specs.declared.variant.VariantName.{VariantName}
-use Rattle.xds_owed.specs.declared.variant.VariantName.TheVariants as variants
+use Rattle.xds_ledger.specs.Variants.{is_delta}
+use Rattle.xds_ledger.specs.declared.variant.VariantName.{VariantName}
+use Rattle.xds_ledger.specs.declared.variant.VariantName.TheVariants as variants
 use Rattle.xds_rules.specs.declared.asking.Asking.{Asking}
 use Rattle.xds_rules.specs.declared.asking.Asking.TheVariants.{Sotw, Delta}
 use Rattle.xds_rules.specs.declared.line.Line.{Line}

@@ -16,8 +16,8 @@ use Rattle.xds_message.specs.Messages.{Request, Response, SpellsRequest, SpellsR
 use Rattle.xds_message.specs.DeltaMessages.{DeltaRequest, DeltaResponse, SpellsDeltaRequest, SpellsDeltaResponse}
 use Rattle.xds_message.proofs.OneMessage.{SpellsResponse-unique}
 use Rattle.xds_message.proofs.OneDeltaMessage.{SpellsDeltaResponse-unique}
-use Rattle.xds_owed.specs.declared.variant.VariantName.TheVariants as variants
-use Rattle.xds_owed.specs.Variants.{is_delta}
+use Rattle.xds_ledger.specs.declared.variant.VariantName.TheVariants as variants
+use Rattle.xds_ledger.specs.Variants.{is_delta}
 use Rattle.xds_writes.specs.StampedWrites.{IsSpelledBy}
 use Rattle.xds_rules.specs.declared.asking.Asking.{Asking}
 use Rattle.xds_rules.specs.declared.asking.Asking.TheVariants.{Sotw, Delta}

@@ -8,7 +8,7 @@ use Rattle.std.specs.Cmp.{nat_cmp_total}
 use Rattle.std.specs.FinMap as finmap
 use Rattle.std.specs.FinMap.{nat_cmp-IsAntisymmetric}
 use Rattle.xds_catalogue.proofs.Lookups.{get-inserted}
-use Rattle.xds_owed.specs.Variants.{is_delta}
+use Rattle.xds_ledger.specs.Variants.{is_delta}
 use Rattle.xds_rules.specs.declared.line.Line.{Line}
 use Rattle.xds_rules.specs.declared.line.Line.TheVariants as lines
 use Rattle.xds_rules.specs.Answers.{variant_of}

@@ -8,9 +8,9 @@ use Rattle.xds_interest.specs.Delta.{Mention}
 use Rattle.xds_message.specs.Messages.{Identity, Response}
 use Rattle.xds_message.specs.DeltaMessages.{DeltaRequest, VersionedResource, DeltaResponse}
 use Rattle.xds_resource.specs.Resources.{IsCanonical, value_of}
-use Rattle.xds_owed.specs.Variants.{is_delta}
-use Rattle.xds_owed.specs.declared.variant.VariantName.{VariantName}
-use Rattle.xds_owed.specs.declared.variant.VariantName.TheVariants as variants
+use Rattle.xds_ledger.specs.Variants.{is_delta}
+use Rattle.xds_ledger.specs.declared.variant.VariantName.{VariantName}
+use Rattle.xds_ledger.specs.declared.variant.VariantName.TheVariants as variants
 use Rattle.xds_rules.specs.declared.asking.Asking.{Asking}
 use Rattle.xds_rules.specs.declared.asking.Asking.TheVariants.{Sotw, Delta}
 

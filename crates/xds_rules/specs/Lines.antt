@@ -19,9 +19,9 @@ use Rattle.xds_interest.specs.Delta.{Mention, delta_interest}
 use Rattle.xds_catalogue.specs.Content.{if_live}
 use Rattle.xds_message.specs.DeltaMessages.{DeltaRequest}
 use Rattle.xds_message.specs.Messages.{Request}
-use Rattle.xds_owed.specs.declared.entry.Due.{Due}
-use Rattle.xds_owed.specs.declared.entry.Due.TheVariants.{Stated, Removed}
-use Rattle.xds_owed.specs.Offers.{Offer}
+use Rattle.xds_ledger.specs.declared.entry.Due.{Due}
+use Rattle.xds_ledger.specs.declared.entry.Due.TheVariants.{Stated, Removed}
+use Rattle.xds_ledger.specs.Offers.{Offer}
 use Rattle.xds_rules.specs.declared.asking.Asking.{Asking}
 use Rattle.xds_rules.specs.declared.asking.Asking.TheVariants.{Sotw, Delta}
 use Rattle.xds_rules.specs.declared.line.Line.{Line}

@@ -5,7 +5,7 @@ use Rattle.std.specs.Coded.{Coded, code_by, coded×, coded_ℕ, coded_bool}
 use Rattle.std.specs.Ordering.{nat_cmp}
 use Rattle.std.specs.Option.{option_map_or, unwrap_or}
 use Rattle.std.specs.FinMap as finmap
-use Rattle.xds_owed.specs.Variants.{is_delta}
+use Rattle.xds_ledger.specs.Variants.{is_delta}
 use Rattle.xds_rules.specs.declared.line.Line.{Line}
 use Rattle.xds_rules.specs.declared.line.Line.TheVariants as lines
 use Rattle.xds_rules.specs.Answers.{variant_of}

@@ -6,7 +6,7 @@ use Rattle.std.specs.Option.{option_map_or}
 use Rattle.xds_resource.specs.declared.types.TypeName.{TypeName}
 use Rattle.xds_resource.specs.Writes.{StampedWrite, version_of}
 use Rattle.xds_interest.specs.Interests.{has_name}
-use Rattle.xds_owed.specs.Variants.{is_whole}
+use Rattle.xds_ledger.specs.Variants.{is_whole}
 use Rattle.xds_rules.specs.declared.line.Line.{Line}
 use Rattle.xds_rules.specs.declared.line.Line.TheVariants as lines
 use Rattle.xds_rules.specs.declared.rule.Rule.{Rule}

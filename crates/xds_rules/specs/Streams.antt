@@ -2,7 +2,7 @@
 -- definitions the line that came last stands first. This project's own.
 use Rattle.std.specs.Prelude.{◌≡◌, ℕ, ◌==◌, List, [], ◌∷◌, reverse, Bool, true, false, not, ◌&&◌, if◌then◌else◌, Option, Some, None, is_none, ⊤}
 use Rattle.std.specs.Option.{option_map_or, option_or, unwrap_or}
-use Rattle.xds_owed.specs.Variants.{is_delta}
+use Rattle.xds_ledger.specs.Variants.{is_delta}
 use Rattle.xds_rules.specs.declared.line.Line.{Line}
 use Rattle.xds_rules.specs.declared.line.Line.TheVariants as lines
 use Rattle.xds_rules.specs.Answers.{variant_of}

@@ -16,8 +16,8 @@ use Rattle.xds_message.specs.Messages.{Response, SpellsRequest, SpellsResponse}
 use Rattle.xds_message.specs.DeltaMessages.{VersionedResource, DeltaResponse, SpellsDeltaRequest, SpellsDeltaResponse}
 use Rattle.xds_message.specs.Written.{request_object, response_object}
 use Rattle.xds_message.specs.DeltaWritten.{delta_request_object, delta_response_object}
-use Rattle.xds_owed.specs.Variants.{is_delta}
-use Rattle.xds_owed.specs.declared.variant.VariantName.TheVariants as variants
+use Rattle.xds_ledger.specs.Variants.{is_delta}
+use Rattle.xds_ledger.specs.declared.variant.VariantName.TheVariants as variants
 use Rattle.xds_rules.specs.declared.asking.Asking.{Asking}
 use Rattle.xds_rules.specs.declared.asking.Asking.TheVariants.{Sotw, Delta}
 use Rattle.xds_rules.specs.declared.line.Line.{Line}

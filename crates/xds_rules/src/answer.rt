@@ -12,8 +12,8 @@ use crate::statement::{
 };
 use std::alloc::Global;
 use std::marker::Model;
+use xds_ledger::VariantName;
 use xds_message::{DeltaDiscoveryResponse, DiscoveryResponse, copy_texts};
-use xds_owed::VariantName;
 use xds_resource::{Refusal, TypeName};
 
 /// A response of either variant. Its resources are of its type.

@@ -5,8 +5,8 @@ ghost use Rattle.xds_rules.specs.Answers.{variant_of, url_of, nonce_of, rejects,
 ghost use Rattle.xds_rules.specs.Texts.{request_kind, asking_json, SpellsAsking};
 
 use std::alloc::Global;
+use xds_ledger::VariantName;
 use xds_message::{DeltaDiscoveryRequest, DiscoveryRequest, Node};
-use xds_owed::VariantName;
 use xds_resource::Refusal;
 
 /// A request of either variant.

@@ -7,7 +7,7 @@ ghost use Rattle.xds_resource.specs.Any.{resource_type, named_body};
 ghost use Rattle.xds_resource.specs.Refusals.{Gives};
 ghost use Rattle.xds_resource.specs.Resources.{IsCanonical, from_value, value_of};
 ghost use Rattle.xds_message.specs.Responses.{resource_of};
-ghost use Rattle.xds_owed.specs.declared.variant.VariantName.TheVariants.{StateOfTheWorld, Delta};
+ghost use Rattle.xds_ledger.specs.declared.variant.VariantName.TheVariants.{StateOfTheWorld, Delta};
 ghost use Rattle.xds_rules.specs.Answers.{IsReadable, IsStatement, label_or_none, labelled_resource};
 ghost use Rattle.xds_rules.specs.Texts.{IsStated, IsLabelled};
 ghost use Rattle.xds_rules.specs.Words.{Finds};

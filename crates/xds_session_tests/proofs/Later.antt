@@ -18,11 +18,11 @@ use Rattle.xds_catalogue.specs.Holdings.{Holdings, IsCatalogue, nothing_held}
 use Rattle.xds_catalogue.specs.Joins.{joined, joining, changes_by}
 use Rattle.xds_catalogue.specs.Local.{greatest_counter, next_counter, putting, deleting, has_live}
 use Rattle.xds_catalogue.proofs.Catalogues.{catalogue_of-IsCatalogue}
-use Rattle.xds_owed.specs.declared.variant.VariantName.{VariantName}
-use Rattle.xds_owed.specs.Owed.{live_version, version_shown}
-use Rattle.xds_owed.specs.Listed.{IsLater}
-use Rattle.xds_owed.proofs.Fitting.{new_list_fits, later_holdings_fit}
-use Rattle.xds_owed.proofs.Later.{later_itself, joined_is_later}
+use Rattle.xds_ledger.specs.declared.variant.VariantName.{VariantName}
+use Rattle.xds_ledger.specs.Owed.{live_version, version_shown}
+use Rattle.xds_ledger.specs.Listed.{IsLater}
+use Rattle.xds_ledger.proofs.Fitting.{new_list_fits, later_holdings_fit}
+use Rattle.xds_ledger.proofs.Later.{later_itself, joined_is_later}
 use Rattle.xds_ledger.specs.Lists.{Books, new_books, Fits, FitsNext, Kept, SessionFits, StaysFit, StaysPresent}
 use Rattle.xds_ledger.proofs.Keeping.{later_session_fits}
 

@@ -1,7 +1,7 @@
 // Stories of an incremental client and one replica. A step is done on a copy of the session, which then stands for it.
 ghost use Rattle.std.proofs.Props.{props};
 ghost use Rattle.xds_catalogue.specs.Holdings.{IsCatalogue};
-ghost use Rattle.xds_owed.specs.declared.variant.VariantName.TheVariants as variants;
+ghost use Rattle.xds_ledger.specs.declared.variant.VariantName.TheVariants as variants;
 ghost use Rattle.xds_ledger.specs.Lists.{SessionFits};
 
 use crate::stories::{Actor, change, hold, keep, text};

@@ -1,7 +1,7 @@
 // Sessions, by scripts of what replica 1 does, and what a client asks of it and is answered.
 ghost use Rattle.std.proofs.Props.{props};
 ghost use Rattle.xds_catalogue.specs.Holdings.{IsCatalogue};
-ghost use Rattle.xds_owed.specs.declared.variant.VariantName.TheVariants as variants;
+ghost use Rattle.xds_ledger.specs.declared.variant.VariantName.TheVariants as variants;
 ghost use Rattle.xds_ledger.specs.Lists.{SessionFits};
 
 use crate::stories::{change, keep};

@@ -1,7 +1,7 @@
 // Stories as texts, one step a line: what is done, ` => `, and the answer that is wanted.
 ghost use Rattle.std.specs.Prelude.{◌≡◌};
 ghost use Rattle.xds_catalogue.specs.Holdings.{IsCatalogue};
-ghost use Rattle.xds_owed.specs.Listed.{IsLater};
+ghost use Rattle.xds_ledger.specs.Listed.{IsLater};
 
 use std::alloc::Global;
 use std::mem;

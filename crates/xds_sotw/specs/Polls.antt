@@ -10,8 +10,8 @@ use Rattle.xds_catalogue.specs.Holdings.{Holdings, Entries}
 use Rattle.xds_catalogue.specs.Content.{content}
 use Rattle.xds_message.specs.Messages.{Request}
 use Rattle.xds_draft.specs.Drafts.{Drafted}
-use Rattle.xds_owed.specs.declared.variant.VariantName.TheVariants.{StateOfTheWorld}
-use Rattle.xds_owed.specs.Offers.{Offer}
+use Rattle.xds_ledger.specs.declared.variant.VariantName.TheVariants.{StateOfTheWorld}
+use Rattle.xds_ledger.specs.Offers.{Offer}
 use Rattle.xds_ledger.specs.Sessions as sessions
 use Rattle.xds_ledger.specs.Sessions.{Session, sotw_names}
 use Rattle.xds_ledger.specs.Texts.{interest_version}

@@ -3,12 +3,12 @@ ghost use Rattle.std.specs.Prelude.{◌≡◌, ◌<◌, ◌≤◌, ◌⊎◌, tr
 ghost use Rattle.std.specs.FinMap as finmap;
 ghost use Rattle.xds_resource.specs.Stamps.{max_counter};
 ghost use Rattle.xds_resource.specs.declared.refusal.Refusal.TheVariants.{OutOfMemory, NonceSpent};
-ghost use Rattle.xds_owed.specs.Offers.{offer};
-ghost use Rattle.xds_owed.specs.declared.variant.VariantName.TheVariants as variants;
+ghost use Rattle.xds_ledger.specs.Offers.{offer};
+ghost use Rattle.xds_ledger.specs.declared.variant.VariantName.TheVariants as variants;
 ghost use Rattle.xds_ledger.specs.Sessions.{is_taken, outcome, send};
 ghost use Rattle.xds_ledger.specs.Lists.{SessionFits, StaysFit, new_kept};
 ghost use Rattle.xds_catalogue.specs.Holdings.{Holdings};
-ghost use Rattle.xds_owed.specs.Listed.{changed_since};
+ghost use Rattle.xds_ledger.specs.Listed.{changed_since};
 ghost use Rattle.xds_sotw.specs.Polls as polls;
 ghost use Rattle.xds_sotw.specs.Polls.{HasPolled, sending, response as response_of};
 

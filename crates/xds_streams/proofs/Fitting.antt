@@ -8,9 +8,9 @@ use Rattle.xds_resource.specs.declared.types.TypeName.{TypeName}
 use Rattle.xds_resource.specs.PerType.{at, with_at, each}
 use Rattle.xds_resource.specs.Types.{is_same_type}
 use Rattle.xds_resource.proofs.TypesApart.{at-with_at, at-with_at_other, at-each, same_type}
-use Rattle.xds_owed.specs.declared.variant.VariantName.{VariantName}
-use Rattle.xds_owed.specs.Listed.{IsLater, unlisted}
-use Rattle.xds_owed.specs.Offers.{Offer}
+use Rattle.xds_ledger.specs.declared.variant.VariantName.{VariantName}
+use Rattle.xds_ledger.specs.Listed.{IsLater, unlisted}
+use Rattle.xds_ledger.specs.Offers.{Offer}
 use Rattle.xds_catalogue.specs.Holdings.{Holdings}
 use Rattle.xds_ledger.specs.Lists.{Kept, SessionFits, StaysFit}
 use Rattle.xds_ledger.specs.Sessions.{unopened, send}

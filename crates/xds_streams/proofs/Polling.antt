@@ -11,9 +11,9 @@ use Rattle.xds_resource.specs.PerType.{PerType, at, with_at}
 use Rattle.xds_resource.specs.Refusals.{Gives}
 use Rattle.xds_resource.specs.Stamps.{max_counter}
 use Rattle.xds_draft.specs.declared.draft.Draft.{Draft}
-use Rattle.xds_owed.specs.declared.variant.VariantName.{VariantName}
-use Rattle.xds_owed.specs.declared.variant.VariantName.TheVariants as variants
-use Rattle.xds_owed.specs.Offers.{Offer}
+use Rattle.xds_ledger.specs.declared.variant.VariantName.{VariantName}
+use Rattle.xds_ledger.specs.declared.variant.VariantName.TheVariants as variants
+use Rattle.xds_ledger.specs.Offers.{Offer}
 use Rattle.xds_ledger.specs.Sessions as sessions
 use Rattle.xds_ledger.specs.Sessions.{Session, HasPolled}
 use Rattle.xds_store.specs.Stores.{Store}

@@ -7,12 +7,12 @@ use Rattle.xds_interest.specs.Interests.{Selection}
 use Rattle.xds_catalogue.specs.Holdings.{Holdings}
 use Rattle.xds_draft.specs.declared.draft.Draft.{Draft}
 use Rattle.xds_draft.specs.declared.draft.Draft.TheVariants as drafts
-use Rattle.xds_owed.specs.Offers.{Offer, offer}
-use Rattle.xds_owed.specs.declared.variant.VariantName.{VariantName}
-use Rattle.xds_owed.specs.declared.variant.VariantName.TheVariants as variants
+use Rattle.xds_ledger.specs.Offers.{Offer, offer}
+use Rattle.xds_ledger.specs.declared.variant.VariantName.{VariantName}
+use Rattle.xds_ledger.specs.declared.variant.VariantName.TheVariants as variants
 use Rattle.xds_sotw.specs.Polls as sotw
 use Rattle.xds_delta.specs.Polls as delta
-use Rattle.xds_owed.specs.Listed.{Listed, listed_code, unlisted}
+use Rattle.xds_ledger.specs.Listed.{Listed, listed_code, unlisted}
 use Rattle.xds_ledger.specs.Lists.{Kept, kept_code, SessionFits}
 use Rattle.xds_ledger.specs.Sessions.{Session, session_code, unopened, send}
 use Rattle.xds_store.specs.Stores.{Store}

@@ -2,7 +2,7 @@
 ghost use Rattle.std.specs.Prelude.{◌≡◌, ◌<◌, ◌≤◌, ◌⊎◌, is_some, IsSome, IfSome, IfOk, IfErr, OnOk, OnErr};
 ghost use Rattle.xds_resource.specs.Stamps.{max_counter};
 ghost use Rattle.xds_resource.specs.declared.refusal.Refusal.TheVariants.{OutOfMemory, NonceSpent};
-ghost use Rattle.xds_owed.specs.Offers.{offer};
+ghost use Rattle.xds_ledger.specs.Offers.{offer};
 ghost use Rattle.xds_draft.specs.declared.draft.Draft.TheVariants as drafts;
 ghost use Rattle.xds_ledger.specs.Sessions as sessions;
 ghost use Rattle.xds_ledger.specs.Sessions.{outcome, HasPolled};

@@ -1,7 +1,7 @@
 // A stream whose variant is decided.
 ghost use Rattle.std.specs.Prelude.{◌≡◌, [], ◌∷◌, is_some, IfSome, IfOk, IfErr, OnOk, OnErr};
 ghost use Rattle.xds_resource.specs.PerType.{at, each};
-ghost use Rattle.xds_owed.specs.Listed.{unlisted};
+ghost use Rattle.xds_ledger.specs.Listed.{unlisted};
 ghost use Rattle.xds_resource.specs.Refusals.{Gives};
 ghost use Rattle.xds_resource.specs.declared.refusal.Refusal.TheVariants.{OutOfMemory};
 ghost use Rattle.xds_resource.specs.Types.{type_of_url};

@@ -6,9 +6,9 @@ use Rattle.std.specs.FinSet as set
 use Rattle.xds_resource.specs.declared.types.TypeName.{TypeName}
 use Rattle.xds_interest.specs.Asked.{Asked, sotw_kept, delta_kept}
 use Rattle.xds_interest.proofs.Choices.{and_first, and_second}
-use Rattle.xds_owed.specs.declared.variant.VariantName.{VariantName}
-use Rattle.xds_owed.specs.declared.variant.VariantName.TheVariants as variants
-use Rattle.xds_owed.specs.Variants.{is_delta}
+use Rattle.xds_ledger.specs.declared.variant.VariantName.{VariantName}
+use Rattle.xds_ledger.specs.declared.variant.VariantName.TheVariants as variants
+use Rattle.xds_ledger.specs.Variants.{is_delta}
 use Rattle.xds_ledger.specs.Ledgers.{Account, untold, settled, nonce_text, is_stale, touch, resume}
 use Rattle.xds_ledger.specs.Sessions as sessions
 use Rattle.xds_ledger.specs.Sessions.{Session, Names, unopened}

@@ -13,15 +13,15 @@ use Rattle.xds_interest.specs.Interests.{Selection, covers, has_name}
 use Rattle.xds_interest.proofs.Choices.{and_first, and_second}
 use Rattle.xds_catalogue.specs.Holdings.{Entries, IsCatalogue}
 use Rattle.xds_catalogue.specs.Content.{is_live, is_shown}
-use Rattle.xds_owed.specs.declared.variant.VariantName.TheVariants.{StateOfTheWorld}
-use Rattle.xds_owed.specs.declared.entry.Due.TheVariants.{Stated}
-use Rattle.xds_owed.specs.Owed.{Beliefs}
-use Rattle.xds_owed.specs.Offers.{Offer, offer}
+use Rattle.xds_ledger.specs.declared.variant.VariantName.TheVariants.{StateOfTheWorld}
+use Rattle.xds_ledger.specs.declared.entry.Due.TheVariants.{Stated}
+use Rattle.xds_ledger.specs.Owed.{Beliefs}
+use Rattle.xds_ledger.specs.Offers.{Offer, offer}
 use Rattle.xds_rules.specs.Answers.{Statement}
 use Rattle.xds_rules.specs.Rules.{is_label_of}
-use Rattle.xds_owed.proofs.SomethingOwed.{is_some_of}
+use Rattle.xds_ledger.proofs.SomethingOwed.{is_some_of}
 use Rattle.xds_trace.specs.Making.{Naming, IsCalled, statement_of}
-use Rattle.xds_beliefs.proofs.Stored.{or_true}
+use Rattle.xds_ledger.proofs.Stored.{or_true}
 use Rattle.xds_trace.proofs.Offering.{shown_by, present_by, present_is_stated, sotw_is_present}
 
 -- a resource of a response is that of a live write which the interest covers, and the offer states its version

@@ -10,16 +10,16 @@ use Rattle.xds_resource.proofs.NameMaps.{has_text, has_text-keys, bytes_eq_tells
 use Rattle.xds_resource.proofs.MadeMaps.{EachFound, each_found}
 use Rattle.xds_interest.specs.Interests.{Selection, covers, has_name}
 use Rattle.xds_catalogue.specs.Holdings.{Entries}
-use Rattle.xds_owed.specs.declared.variant.VariantName.TheVariants.{Delta}
-use Rattle.xds_owed.specs.declared.entry.Due.{Due}
-use Rattle.xds_owed.specs.declared.entry.Due.TheVariants.{Stated, Removed}
-use Rattle.xds_owed.specs.Owed.{Beliefs}
-use Rattle.xds_owed.specs.Offers.{Offer, offer}
+use Rattle.xds_ledger.specs.declared.variant.VariantName.TheVariants.{Delta}
+use Rattle.xds_ledger.specs.declared.entry.Due.{Due}
+use Rattle.xds_ledger.specs.declared.entry.Due.TheVariants.{Stated, Removed}
+use Rattle.xds_ledger.specs.Owed.{Beliefs}
+use Rattle.xds_ledger.specs.Offers.{Offer, offer}
 use Rattle.xds_delta.specs.Polls.{is_statement, is_removal, resource_of, resource_at}
 use Rattle.xds_rules.specs.Answers.{Statement}
-use Rattle.xds_owed.proofs.SomethingOwed.{is_some_of}
+use Rattle.xds_ledger.proofs.SomethingOwed.{is_some_of}
 use Rattle.xds_trace.specs.Making.{Naming, labelled_of}
-use Rattle.xds_beliefs.proofs.Stored.{or_true}
+use Rattle.xds_ledger.proofs.Stored.{or_true}
 use Rattle.xds_trace.proofs.Offering.{shown_by, stated_is_present}
 use Rattle.xds_trace.proofs.Answering.{IsRight, AllRight, IsKept, name_kept, body_kept, names_of}
 

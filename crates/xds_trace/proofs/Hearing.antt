@@ -14,8 +14,8 @@ use Rattle.xds_interest.specs.Interests.{in_cluster}
 use Rattle.xds_interest.specs.SotW.{sotw_interest}
 use Rattle.xds_interest.specs.Delta.{Mention}
 use Rattle.xds_interest.specs.Asked.{Asked, sotw_kept, delta_kept}
-use Rattle.xds_owed.specs.declared.variant.VariantName.{VariantName}
-use Rattle.xds_owed.specs.declared.variant.VariantName.TheVariants as variants
+use Rattle.xds_ledger.specs.declared.variant.VariantName.{VariantName}
+use Rattle.xds_ledger.specs.declared.variant.VariantName.TheVariants as variants
 use Rattle.xds_ledger.specs.Sessions.{Session}
 use Rattle.xds_streams.specs.Streams.{Stream}
 use Rattle.xds_rules.specs.declared.asking.Asking.{Asking}

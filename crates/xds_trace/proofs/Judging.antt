@@ -11,14 +11,14 @@ use Rattle.xds_resource.proofs.NameMaps.{get-tabulated, same_names, bytes_eq_sam
 use Rattle.xds_interest.specs.Interests.{Selection, covers, has_name}
 use Rattle.xds_catalogue.specs.Holdings.{Entries}
 use Rattle.xds_catalogue.specs.Content.{if_live}
-use Rattle.xds_owed.specs.declared.variant.VariantName.{VariantName}
-use Rattle.xds_owed.specs.declared.entry.Due.{Due}
-use Rattle.xds_owed.specs.declared.entry.Due.TheVariants.{Stated, Removed}
-use Rattle.xds_owed.specs.Variants.{is_whole}
-use Rattle.xds_owed.specs.Owed.{Beliefs, present, owed_of, is_owed}
-use Rattle.xds_owed.specs.Offers.{Offer, offer}
-use Rattle.xds_owed.proofs.ByName.{offer_says_it}
-use Rattle.xds_beliefs.proofs.Stored.{or_true}
+use Rattle.xds_ledger.specs.declared.variant.VariantName.{VariantName}
+use Rattle.xds_ledger.specs.declared.entry.Due.{Due}
+use Rattle.xds_ledger.specs.declared.entry.Due.TheVariants.{Stated, Removed}
+use Rattle.xds_ledger.specs.Variants.{is_whole}
+use Rattle.xds_ledger.specs.Owed.{Beliefs, present, owed_of, is_owed}
+use Rattle.xds_ledger.specs.Offers.{Offer, offer}
+use Rattle.xds_ledger.proofs.ByName.{offer_says_it}
+use Rattle.xds_ledger.proofs.Stored.{or_true}
 use Rattle.xds_rules.specs.declared.line.Line.{Line}
 use Rattle.xds_rules.specs.declared.line.Line.TheVariants as lines
 use Rattle.xds_rules.specs.declared.rule.Rule.TheVariants.{FreshNonce, BestResources, CoveredResources, WholeResponse, RightRemovals, OneAtATime, NothingRefusedAgain, NothingPending}

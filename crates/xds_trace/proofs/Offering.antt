@@ -9,16 +9,16 @@ use Rattle.xds_resource.specs.Writes.{StampedWrite, version_of}
 use Rattle.xds_interest.specs.Interests.{Selection, covers}
 use Rattle.xds_catalogue.specs.Holdings.{Entries}
 use Rattle.xds_catalogue.specs.Content.{is_live, if_live}
-use Rattle.xds_owed.specs.declared.variant.VariantName.{VariantName}
-use Rattle.xds_owed.specs.declared.variant.VariantName.TheVariants.{StateOfTheWorld}
-use Rattle.xds_owed.specs.declared.entry.Entry.{Entry}
-use Rattle.xds_owed.specs.declared.entry.Entry.TheVariants.{Told, Unsure}
-use Rattle.xds_owed.specs.declared.entry.Due.{Due}
-use Rattle.xds_owed.specs.declared.entry.Due.TheVariants.{Stated, Removed}
-use Rattle.xds_owed.specs.Variants.{is_whole, is_told}
-use Rattle.xds_owed.specs.Owed.{Beliefs, live_version, version_shown, present, owed}
-use Rattle.xds_owed.specs.Offers.{Offer, offer}
-use Rattle.xds_owed.proofs.ByName.{offer_says_it}
+use Rattle.xds_ledger.specs.declared.variant.VariantName.{VariantName}
+use Rattle.xds_ledger.specs.declared.variant.VariantName.TheVariants.{StateOfTheWorld}
+use Rattle.xds_ledger.specs.declared.entry.Entry.{Entry}
+use Rattle.xds_ledger.specs.declared.entry.Entry.TheVariants.{Told, Unsure}
+use Rattle.xds_ledger.specs.declared.entry.Due.{Due}
+use Rattle.xds_ledger.specs.declared.entry.Due.TheVariants.{Stated, Removed}
+use Rattle.xds_ledger.specs.Variants.{is_whole, is_told}
+use Rattle.xds_ledger.specs.Owed.{Beliefs, live_version, version_shown, present, owed}
+use Rattle.xds_ledger.specs.Offers.{Offer, offer}
+use Rattle.xds_ledger.proofs.ByName.{offer_says_it}
 
 -- ---- what is owed
 

@@ -12,15 +12,15 @@ use Rattle.xds_resource.proofs.NameMaps.{get-tabulated, absent_key, in_neither}
 use Rattle.xds_interest.specs.Interests.{Selection, reaches}
 use Rattle.xds_interest.specs.Touches.{Touch, touches}
 use Rattle.xds_interest.proofs.Listed.{list_any-push}
-use Rattle.xds_owed.specs.declared.variant.VariantName.{VariantName}
-use Rattle.xds_owed.specs.declared.entry.Entry.{Entry}
-use Rattle.xds_owed.specs.declared.entry.Entry.TheVariants.{Told, Unsure}
-use Rattle.xds_owed.specs.declared.entry.Due.{Due}
-use Rattle.xds_owed.specs.Variants.{is_delta, is_whole}
-use Rattle.xds_owed.specs.Owed.{Beliefs}
-use Rattle.xds_beliefs.specs.Believing.{Sent, touched_since, was_touched, believed_accepted, believed_touched, beliefs_resumed}
-use Rattle.xds_beliefs.proofs.ByName.{accepted_by_name, taken_by_name}
-use Rattle.xds_beliefs.proofs.Stored.{or_true}
+use Rattle.xds_ledger.specs.declared.variant.VariantName.{VariantName}
+use Rattle.xds_ledger.specs.declared.entry.Entry.{Entry}
+use Rattle.xds_ledger.specs.declared.entry.Entry.TheVariants.{Told, Unsure}
+use Rattle.xds_ledger.specs.declared.entry.Due.{Due}
+use Rattle.xds_ledger.specs.Variants.{is_delta, is_whole}
+use Rattle.xds_ledger.specs.Owed.{Beliefs}
+use Rattle.xds_ledger.specs.Believing.{Sent, touched_since, was_touched, believed_accepted, believed_touched, beliefs_resumed}
+use Rattle.xds_ledger.proofs.BeliefsByName.{accepted_by_name, taken_by_name}
+use Rattle.xds_ledger.proofs.Stored.{or_true}
 use Rattle.xds_ledger.specs.Ledgers.{Account, nonce_text, settled, answered, touch, resume}
 use Rattle.xds_trace.proofs.Accounts.{settled_as}
 

@@ -20,7 +20,7 @@ use Rattle.xds_interest.proofs.DeltaLaws.{delta_star_is_no_name}
 use Rattle.xds_interest.proofs.AskedLaws.{sotw_is_kept, delta_is_kept, contains-names_after, sotw_touch_is_a_set}
 use Rattle.xds_message.specs.Messages.{Request}
 use Rattle.xds_message.specs.DeltaMessages.{DeltaRequest}
-use Rattle.xds_owed.specs.declared.variant.VariantName.TheVariants.{StateOfTheWorld, Delta}
+use Rattle.xds_ledger.specs.declared.variant.VariantName.TheVariants.{StateOfTheWorld, Delta}
 use Rattle.xds_ledger.specs.Ledgers.{Account, settled}
 use Rattle.xds_ledger.specs.Sessions.{Session, Names, sotw_names, delta_names}
 use Rattle.xds_delta.specs.Polls.{mention}
@@ -29,7 +29,7 @@ use Rattle.xds_rules.specs.declared.asking.Asking.TheVariants as askings
 use Rattle.xds_rules.specs.Answers.{lists_in, mentions_in}
 use Rattle.xds_rules.specs.Lines.{Sent, lists, mentions, pending_in_sotw, pending_in_delta}
 use Rattle.std.proofs.lemmas.List.Concat.{flat_map-append}
-use Rattle.xds_beliefs.proofs.Stored.{or_true}
+use Rattle.xds_ledger.proofs.Stored.{or_true}
 use Rattle.xds_trace.proofs.Pending.{Waits, waits_settled, waits_on, waits_anew}
 use Rattle.xds_trace.proofs.Agreeing.{Agrees, NamesAgree, account_taken}
 

@@ -17,15 +17,15 @@ use Rattle.xds_interest.proofs.Choices.{and_first, and_second}
 use Rattle.xds_catalogue.specs.Holdings.{Entries}
 use Rattle.xds_catalogue.specs.Content.{is_live, if_live}
 use Rattle.xds_catalogue.proofs.Joining.{below_top}
-use Rattle.xds_owed.specs.declared.variant.VariantName.{VariantName}
-use Rattle.xds_owed.specs.declared.variant.VariantName.TheVariants as variants
-use Rattle.xds_owed.specs.declared.entry.Entry.{Entry}
-use Rattle.xds_owed.specs.declared.entry.Entry.TheVariants.{Told, Unsure}
-use Rattle.xds_owed.specs.Variants.{is_told, is_whole}
-use Rattle.xds_owed.specs.Owed.{Beliefs, present, owed, is_owed, something_owed}
-use Rattle.xds_owed.specs.Offers.{Offer, offer, same_offer}
-use Rattle.xds_owed.proofs.ByName.{nothing_owed}
-use Rattle.xds_owed.proofs.SameOffers.{offers_are_told_apart}
+use Rattle.xds_ledger.specs.declared.variant.VariantName.{VariantName}
+use Rattle.xds_ledger.specs.declared.variant.VariantName.TheVariants as variants
+use Rattle.xds_ledger.specs.declared.entry.Entry.{Entry}
+use Rattle.xds_ledger.specs.declared.entry.Entry.TheVariants.{Told, Unsure}
+use Rattle.xds_ledger.specs.Variants.{is_told, is_whole}
+use Rattle.xds_ledger.specs.Owed.{Beliefs, present, owed, is_owed, something_owed}
+use Rattle.xds_ledger.specs.Offers.{Offer, offer, same_offer}
+use Rattle.xds_ledger.proofs.ByName.{nothing_owed}
+use Rattle.xds_ledger.proofs.SameOffers.{offers_are_told_apart}
 use Rattle.xds_ledger.specs.Ledgers as ledgers
 use Rattle.xds_ledger.specs.Ledgers.{Account, nonce_text, is_due, is_refused}
 use Rattle.xds_ledger.specs.Sessions as sessions

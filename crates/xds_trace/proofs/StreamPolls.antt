@@ -14,8 +14,8 @@ use Rattle.xds_resource.proofs.Naming.{unless_not}
 use Rattle.xds_resource.proofs.NameMaps.{bytes_eq_tells}
 use Rattle.xds_catalogue.specs.Holdings.{Entries}
 use Rattle.xds_draft.specs.declared.draft.Draft.{Draft}
-use Rattle.xds_owed.specs.declared.variant.VariantName.{VariantName}
-use Rattle.xds_owed.specs.Offers.{Offer, offer}
+use Rattle.xds_ledger.specs.declared.variant.VariantName.{VariantName}
+use Rattle.xds_ledger.specs.Offers.{Offer, offer}
 use Rattle.xds_ledger.specs.Ledgers as ledgers
 use Rattle.xds_ledger.specs.Ledgers.{Account, nonce_text, is_due, is_refused, send}
 use Rattle.xds_ledger.specs.Sessions as sessions

@@ -9,8 +9,8 @@ use Rattle.xds_resource.specs.PerType.{PerType, at, with_at, each}
 use Rattle.xds_resource.specs.Types.{is_same_type, type_of_url}
 use Rattle.xds_resource.proofs.TypesApart.{same_type, at-with_at, at-with_at_other, at-each}
 use Rattle.xds_interest.specs.Interests.{Selection}
-use Rattle.xds_owed.specs.declared.variant.VariantName.{VariantName}
-use Rattle.xds_owed.specs.declared.variant.VariantName.TheVariants as variants
+use Rattle.xds_ledger.specs.declared.variant.VariantName.{VariantName}
+use Rattle.xds_ledger.specs.declared.variant.VariantName.TheVariants as variants
 use Rattle.xds_ledger.specs.declared.outcome.Outcome.{Outcome}
 use Rattle.xds_ledger.specs.Sessions.{Session, unopened, sotw_names, delta_names}
 use Rattle.xds_core.proofs.StepLaws.{done_with, unless_once}

@@ -15,7 +15,7 @@ use Rattle.xds_resource.specs.Writes.{StampedWrite}
 use Rattle.xds_draft.specs.declared.draft.Draft.{Draft}
 use Rattle.xds_draft.specs.declared.draft.Draft.TheVariants as drafts
 use Rattle.xds_draft.specs.Drafts.{DraftedResource}
-use Rattle.xds_owed.specs.declared.variant.VariantName.TheVariants.{StateOfTheWorld, Delta}
+use Rattle.xds_ledger.specs.declared.variant.VariantName.TheVariants.{StateOfTheWorld, Delta}
 use Rattle.xds_store.specs.Stores.{Batch}
 use Rattle.xds_streams.specs.Streams as streams
 use Rattle.xds_streams.specs.Streams.{Message}

@@ -24,9 +24,9 @@ use Rattle.xds_peer.specs.Steps.{event_for}
 use Rattle.xds_world.specs.Played.{IsWorldOf, HasStepped}
 use Rattle.xds_world.proofs.Plays.{played_one, after_both}
 use Rattle.xds_world.proofs.Weights.{weight, up_lightens, down_lightens, poll_burdens}
-use Rattle.xds_owed.proofs.SomethingOwed.{is_some_of}
+use Rattle.xds_ledger.proofs.SomethingOwed.{is_some_of}
 use Rattle.xds_model.proofs.SettlingSessions.{never_both}
-use Rattle.xds_beliefs.proofs.Stored.{or_true}
+use Rattle.xds_ledger.proofs.Stored.{or_true}
 use Rattle.xds_interest.proofs.Listed.{or-false}
 
 -- what was done since, from the world of a list to another, with how many responses of the type taken

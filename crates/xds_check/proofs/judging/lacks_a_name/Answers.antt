@@ -2,7 +2,7 @@ use Rattle.std.proofs.Common.{◌≡◌, List, map, true, not, sym, ap, ◌∙�
 use Rattle.std.specs.Prelude.{◌&&◌}
 use Rattle.xds_interest.specs.Interests.{has_name}
 use Rattle.xds_catalogue.specs.Content.{content}
-use Rattle.xds_owed.specs.Variants.{is_whole}
+use Rattle.xds_ledger.specs.Variants.{is_whole}
 use Rattle.xds_rules.specs.Answers.{Statement, stated_names}
 use Rattle.xds_check.specs.Kept.{lacks_one}
 use Rattle.xds_check.proofs.Living.{judged}

@@ -3,7 +3,7 @@ use Rattle.std.specs.FinMap as finmap
 use Rattle.std.specs.List.{list_all}
 use Rattle.std.specs.Option.{option_map_or}
 use Rattle.xds_resource.specs.Names.{pairs}
-use Rattle.xds_owed.specs.Offers.{same_due}
+use Rattle.xds_ledger.specs.Offers.{same_due}
 use Rattle.xds_check.proofs.offering.is_within.Given as goal
 
 -- what is left decides

@@ -1,7 +1,7 @@
 use Rattle.std.proofs.Common.{◌≡◌, map, drop, Some}
 use Rattle.std.specs.String.{string_bytes}
 use Rattle.xds_resource.specs.Names.{put_each}
-use Rattle.xds_owed.specs.declared.entry.Due.TheVariants.{Removed}
+use Rattle.xds_ledger.specs.declared.entry.Due.TheVariants.{Removed}
 use Rattle.xds_check.proofs.offering.remove.Given as goal
 
 -- what is left decides

@@ -1,7 +1,7 @@
 use Rattle.std.proofs.Common.{List}
 use Rattle.std.specs.Prelude.{IfSome}
 use Rattle.std.specs.FinMap as finmap
-use Rattle.xds_owed.proofs.LookedAt.{none_looked_at}
+use Rattle.xds_ledger.proofs.LookedAt.{none_looked_at}
 use Rattle.xds_histories.specs.Bases.{IsTellable}
 use Rattle.xds_histories.proofs.AnyBase.{looked_further, all_looked_through, writable_tellable}
 use Rattle.xds_histories.proofs.bases.each_is_tellable.Goals as goal

@@ -1,5 +1,5 @@
-use Rattle.xds_owed.proofs.Fitting.{new_list_fits, wider_list_fits, refreshed_list_fits, pruned_list_fits, owed_is_listed, later_holdings_fit}
-use Rattle.xds_owed.proofs.Later.{joined_is_later}
+use Rattle.xds_ledger.proofs.Fitting.{new_list_fits, wider_list_fits, refreshed_list_fits, pruned_list_fits, owed_is_listed, later_holdings_fit}
+use Rattle.xds_ledger.proofs.Later.{joined_is_later}
 use Rattle.xds_ledger.proofs.Suffices.{request_keeps_fitting}
 use Rattle.xds_ledger.proofs.laws.lists_suffice.Goals as goal
 

@@ -1,5 +1,5 @@
-use Rattle.xds_owed.proofs.ByName.{offer_says_it, nothing_owed}
-use Rattle.xds_beliefs.proofs.ByName.{accepted_by_name, taken_by_name}
+use Rattle.xds_ledger.proofs.ByName.{offer_says_it, nothing_owed}
+use Rattle.xds_ledger.proofs.BeliefsByName.{accepted_by_name, taken_by_name}
 use Rattle.xds_ledger.proofs.laws.name_by_name.Goals as goal
 
 pub returns-clause-offered : goal.returns-clause-offered

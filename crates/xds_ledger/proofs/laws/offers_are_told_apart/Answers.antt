@@ -1,4 +1,4 @@
-use Rattle.xds_owed.proofs.SameOffers.{offers_are_told_apart}
+use Rattle.xds_ledger.proofs.SameOffers.{offers_are_told_apart}
 use Rattle.xds_ledger.proofs.laws.offers_are_told_apart.Goals as goal
 
 pub returns : goal.returns

@@ -1,4 +1,4 @@
-use Rattle.xds_beliefs.proofs.ByName.{untouched_keeps_belief, touched_is_not_told}
+use Rattle.xds_ledger.proofs.BeliefsByName.{untouched_keeps_belief, touched_is_not_told}
 use Rattle.xds_ledger.proofs.laws.touched_names.Goals as goal
 
 pub returns-clause-untouched : goal.returns-clause-untouched

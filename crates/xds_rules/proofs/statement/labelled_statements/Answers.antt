@@ -5,7 +5,7 @@ use Rattle.std.proofs.lemmas.List.{append-nil}
 use Rattle.std.proofs.lemmas.List.Elements.{All-push, All-nil}
 use Rattle.std.proofs.lemmas.Slice.Zip.{all_zipped_more}
 use Rattle.xds_message.specs.Responses.{resource_of}
-use Rattle.xds_owed.specs.declared.variant.VariantName.TheVariants.{Delta}
+use Rattle.xds_ledger.specs.declared.variant.VariantName.TheVariants.{Delta}
 use Rattle.xds_rules.specs.Answers.{IsStatement}
 use Rattle.xds_rules.specs.Texts.{IsLabelled}
 use Rattle.xds_json.proofs.Lists.{none_left, AllZip-middle}

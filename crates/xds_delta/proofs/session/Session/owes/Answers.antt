@@ -1,4 +1,4 @@
-use Rattle.xds_owed.specs.declared.variant.VariantName.TheVariants.{Delta}
+use Rattle.xds_ledger.specs.declared.variant.VariantName.TheVariants.{Delta}
 use Rattle.xds_ledger.proofs.Keeping.{ledger_fits}
 use Rattle.xds_delta.proofs.session.Session.owes.Goals as goal
 

@@ -1,4 +1,4 @@
-use Rattle.xds_owed.specs.declared.variant.VariantName.TheVariants.{Delta}
+use Rattle.xds_ledger.specs.declared.variant.VariantName.TheVariants.{Delta}
 use Rattle.xds_ledger.proofs.Keeping.{sent_session_fits}
 use Rattle.xds_delta.proofs.session.Session.poll_tidied.Goals as goal
 

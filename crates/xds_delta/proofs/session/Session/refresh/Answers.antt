@@ -1,5 +1,5 @@
 use Rattle.std.proofs.Common.{sym, ◌∙◌}
-use Rattle.xds_owed.specs.declared.variant.VariantName.TheVariants.{Delta}
+use Rattle.xds_ledger.specs.declared.variant.VariantName.TheVariants.{Delta}
 use Rattle.xds_ledger.proofs.Keeping.{refreshed_session_fits}
 use Rattle.xds_delta.proofs.session.Session.refresh.Goals as goal
 

@@ -1,7 +1,7 @@
 use Rattle.std.proofs.Common.{◌≡◌, map, ap, subst, ◌∙◌}
 use Rattle.std.specs.String.{string_bytes}
 use Rattle.xds_interest.specs.Asked.{delta_asked}
-use Rattle.xds_owed.specs.declared.variant.VariantName.TheVariants.{Delta}
+use Rattle.xds_ledger.specs.declared.variant.VariantName.TheVariants.{Delta}
 use Rattle.xds_ledger.specs.Lists.{Books, Kept, FitsNext}
 use Rattle.xds_ledger.proofs.Keeping.{mention_stays_fit}
 use Rattle.xds_delta.specs.Polls.{mention}

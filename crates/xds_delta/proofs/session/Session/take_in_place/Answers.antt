@@ -3,7 +3,7 @@ use Rattle.std.specs.String.{string_bytes}
 use Rattle.std.specs.FinMap as finmap
 use Rattle.xds_interest.specs.Asked.{delta_asked, wanted_by, widened, without_names, narrowed}
 use Rattle.xds_interest.proofs.Adding.{narrowing_is_the_rest, widening_is_undone}
-use Rattle.xds_owed.specs.declared.variant.VariantName.TheVariants.{Delta}
+use Rattle.xds_ledger.specs.declared.variant.VariantName.TheVariants.{Delta}
 use Rattle.xds_ledger.specs.Lists.{Books, Kept, FitsNext}
 use Rattle.xds_ledger.proofs.Keeping.{mention_stays_fit}
 use Rattle.xds_delta.specs.Parts.{account_after}

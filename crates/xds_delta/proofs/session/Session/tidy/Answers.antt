@@ -1,5 +1,5 @@
 use Rattle.std.proofs.Common.{sym, ◌∙◌}
-use Rattle.xds_owed.specs.declared.variant.VariantName.TheVariants.{Delta}
+use Rattle.xds_ledger.specs.declared.variant.VariantName.TheVariants.{Delta}
 use Rattle.xds_ledger.proofs.Keeping.{ledger_fits, session_fits_back}
 use Rattle.xds_delta.proofs.session.Session.tidy.Goals as goal
 

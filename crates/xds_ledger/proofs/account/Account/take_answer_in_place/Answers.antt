@@ -4,7 +4,7 @@ use Rattle.std.specs.FinMap as finmap
 use Rattle.std.specs.FinSet as set
 use Rattle.xds_resource.specs.Writes.{text_cmp}
 use Rattle.xds_ledger.specs.Ledgers.{Account, versions_of, answered, touch, resume}
-use Rattle.xds_beliefs.specs.Changes.{changes_answered}
+use Rattle.xds_ledger.specs.Changes.{changes_answered}
 use Rattle.xds_ledger.proofs.InPlace.{answer_in_place}
 use Rattle.xds_ledger.proofs.account.Account.take_answer_in_place.Goals as goal
 

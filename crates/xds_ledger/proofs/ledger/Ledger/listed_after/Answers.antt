@@ -1,5 +1,5 @@
 use Rattle.std.proofs.Common.{map, string_bytes, ap, ◌∙◌}
-use Rattle.xds_owed.specs.Variants.{is_whole}
+use Rattle.xds_ledger.specs.Variants.{is_whole}
 use Rattle.xds_ledger.specs.Lists.{Books, accepts}
 use Rattle.xds_ledger.proofs.Suffices.{made_in_steps}
 use Rattle.xds_ledger.proofs.ledger.Ledger.listed_after.Goals as goal

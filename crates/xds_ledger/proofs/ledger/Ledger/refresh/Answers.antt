@@ -1,5 +1,5 @@
 use Rattle.std.proofs.Common.{subst}
-use Rattle.xds_owed.specs.Listed.{StaysSufficient}
+use Rattle.xds_ledger.specs.Listed.{StaysSufficient}
 use Rattle.xds_ledger.specs.Lists.{Books}
 use Rattle.xds_ledger.proofs.Keeping.{suffices_or}
 use Rattle.xds_ledger.proofs.ledger.Ledger.refresh.Goals as goal

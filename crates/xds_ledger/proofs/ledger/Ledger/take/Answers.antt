@@ -1,6 +1,6 @@
 use Rattle.std.proofs.Common.{◌≡◌, ℕ, List, map, string_bytes, refl, ap, ◌∙◌}
 use Rattle.std.specs.FinSet as set
-use Rattle.xds_owed.specs.Variants.{is_whole}
+use Rattle.xds_ledger.specs.Variants.{is_whole}
 use Rattle.xds_ledger.specs.Ledgers.{Account, versions_of, settled, touch, resume}
 use Rattle.xds_ledger.specs.Lists.{Books, accepts, listed_after}
 use Rattle.xds_ledger.proofs.Suffices.{taken_books_fit, firsts_of}

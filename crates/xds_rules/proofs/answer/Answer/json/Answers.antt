@@ -1,6 +1,6 @@
 use Rattle.std.proofs.Common.{◌≡◌, true, false, sym, ◌∙◌, subst}
 use Rattle.xds_message.specs.Responses.{response_of, delta_response_of}
-use Rattle.xds_owed.specs.Variants.{is_delta}
+use Rattle.xds_ledger.specs.Variants.{is_delta}
 use Rattle.xds_rules.specs.Answers.{Answer, IsAnswer}
 use Rattle.xds_rules.proofs.AnswerTexts.{sotw_text, delta_text, sotw_json, delta_json}
 use Rattle.xds_rules.proofs.answer.Answer.json.Goals as goal

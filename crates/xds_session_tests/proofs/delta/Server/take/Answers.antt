@@ -1,4 +1,4 @@
-use Rattle.xds_owed.specs.declared.variant.VariantName.TheVariants.{Delta}
+use Rattle.xds_ledger.specs.declared.variant.VariantName.TheVariants.{Delta}
 use Rattle.xds_session_tests.proofs.Later.{session_takes}
 use Rattle.xds_session_tests.proofs.delta.Server.take.Goals as goal
 

@@ -1,5 +1,5 @@
 use Rattle.std.proofs.Common.{sym, subst}
-use Rattle.xds_owed.specs.declared.variant.VariantName.TheVariants.{StateOfTheWorld}
+use Rattle.xds_ledger.specs.declared.variant.VariantName.TheVariants.{StateOfTheWorld}
 use Rattle.xds_ledger.specs.Lists.{SessionFits}
 use Rattle.xds_session_tests.proofs.sotw.Stream.is_of.Goals as goal
 

@@ -1,4 +1,4 @@
-use Rattle.xds_owed.specs.declared.variant.VariantName.TheVariants.{StateOfTheWorld}
+use Rattle.xds_ledger.specs.declared.variant.VariantName.TheVariants.{StateOfTheWorld}
 use Rattle.xds_session_tests.proofs.Later.{session_takes}
 use Rattle.xds_session_tests.proofs.sotw.Stream.taken.Goals as goal
 

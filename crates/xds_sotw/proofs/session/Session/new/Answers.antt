@@ -1,5 +1,5 @@
 use Rattle.std.proofs.Common.{◌≡◌, sym, subst}
-use Rattle.xds_owed.specs.declared.variant.VariantName.TheVariants.{StateOfTheWorld}
+use Rattle.xds_ledger.specs.declared.variant.VariantName.TheVariants.{StateOfTheWorld}
 use Rattle.xds_ledger.specs.Lists.{Kept, SessionFits, new_kept}
 use Rattle.xds_ledger.proofs.Keeping.{new_kept_fits}
 use Rattle.xds_sotw.proofs.session.Session.new.Goals as goal

@@ -1,4 +1,4 @@
-use Rattle.xds_owed.specs.declared.variant.VariantName.TheVariants.{StateOfTheWorld}
+use Rattle.xds_ledger.specs.declared.variant.VariantName.TheVariants.{StateOfTheWorld}
 use Rattle.xds_ledger.proofs.Keeping.{sent_session_fits}
 use Rattle.xds_sotw.proofs.session.Session.poll_tidied.Goals as goal
 

@@ -1,4 +1,4 @@
-use Rattle.xds_owed.specs.declared.variant.VariantName.TheVariants.{StateOfTheWorld}
+use Rattle.xds_ledger.specs.declared.variant.VariantName.TheVariants.{StateOfTheWorld}
 use Rattle.xds_ledger.proofs.Keeping.{ledger_fits}
 use Rattle.xds_sotw.proofs.session.Session.sends.Goals as goal
 

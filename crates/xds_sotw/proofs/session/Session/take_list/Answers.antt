@@ -2,7 +2,7 @@ use Rattle.std.proofs.Common.{◌≡◌, true, map, string_bytes, ap, subst, ◌
 use Rattle.std.specs.FinSet as set
 use Rattle.xds_interest.specs.Interests.{Selection}
 use Rattle.xds_interest.specs.Touches.{sotw_touch}
-use Rattle.xds_owed.specs.declared.variant.VariantName.TheVariants.{StateOfTheWorld}
+use Rattle.xds_ledger.specs.declared.variant.VariantName.TheVariants.{StateOfTheWorld}
 use Rattle.xds_ledger.specs.Lists.{Kept, StaysFit}
 use Rattle.xds_ledger.specs.Sessions.{Session, is_taken}
 use Rattle.xds_ledger.proofs.Keeping.{list_stays_fit}

@@ -1,11 +1,11 @@
 use Rattle.std.proofs.Common.{refl, sym, ap, ◌∙◌}
 use Rattle.xds_draft.specs.declared.draft.Draft.TheVariants as drafts
-use Rattle.xds_owed.specs.declared.variant.VariantName.TheVariants as variants
+use Rattle.xds_ledger.specs.declared.variant.VariantName.TheVariants as variants
 use Rattle.xds_sotw.specs.Polls as sotw
 use Rattle.xds_delta.specs.Polls as delta
 use Rattle.xds_streams.specs.States.{spoken_of}
 use Rattle.xds_streams.proofs.Sides.{side_polled, side_refused}
-use Rattle.xds_owed.specs.declared.variant.VariantName.TheVariants.{StateOfTheWorld, Delta}
+use Rattle.xds_ledger.specs.declared.variant.VariantName.TheVariants.{StateOfTheWorld, Delta}
 use Rattle.xds_streams.proofs.Fitting.{side_fits, side_fits_back}
 use Rattle.xds_streams.proofs.session.Session.poll.Goals as goal
 use Rattle.xds_streams.proofs.session.Session.poll.Goals.{in-Sotw, in-Delta}

@@ -1,5 +1,5 @@
 use Rattle.std.proofs.Common.{sym, ap, ◌∙◌}
-use Rattle.xds_owed.specs.declared.variant.VariantName.TheVariants.{StateOfTheWorld, Delta}
+use Rattle.xds_ledger.specs.declared.variant.VariantName.TheVariants.{StateOfTheWorld, Delta}
 use Rattle.xds_streams.specs.States.{spoken_of}
 use Rattle.xds_streams.proofs.Fitting.{side_fits}
 use Rattle.xds_streams.proofs.session.Session.respond.Goals as goal

@@ -3,7 +3,7 @@ use Rattle.std.specs.Prelude.{is_some}
 use Rattle.xds_ledger.specs.Sessions as sessions
 use Rattle.xds_streams.specs.States.{spoken_of}
 use Rattle.xds_streams.specs.Talks.{Spoken}
-use Rattle.xds_owed.specs.declared.variant.VariantName.TheVariants.{StateOfTheWorld, Delta}
+use Rattle.xds_ledger.specs.declared.variant.VariantName.TheVariants.{StateOfTheWorld, Delta}
 use Rattle.xds_streams.proofs.Fitting.{side_fits}
 use Rattle.xds_streams.proofs.session.Session.sends.Goals as goal
 

@@ -1,8 +1,0 @@
-use Rattle.std.proofs.Common.{◌≡◌, map, drop}
-use Rattle.xds_resource.specs.Names.{put_all}
-use Rattle.xds_beliefs.specs.Changes.{change_as}
-use Rattle.xds_beliefs.proofs.changes.changes_resumed.Given as goal
-
--- what is left decides
-abbrev pub invariant-loop-name : goal.invariant-loop-name
-invariant-loop-name l = put_all change_as l.next (map (λ p. (p.0.now, p.1.now)) (drop l.name-index l.versions)) ≡ put_all change_as l.initial.next (map (λ p. (p.0.now, p.1.now)) l.versions)

@@ -1,7 +1,0 @@
-use Rattle.std.proofs.Common.{◌≡◌, ◌++◌, map, drop, string_bytes}
-use Rattle.xds_beliefs.specs.Changes.{new_names}
-use Rattle.xds_beliefs.proofs.storing.new_names.Given as goal
-
--- what is made and what is left are all
-abbrev pub invariant-loop-name : goal.invariant-loop-name
-invariant-loop-name l = map (λ n. n.now) l.new.items ++ new_names l.changes l.beliefs (map string_bytes (drop l.name-index l.names)) ≡ new_names l.changes l.beliefs (map string_bytes l.names)

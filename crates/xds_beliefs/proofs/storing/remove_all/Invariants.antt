@@ -1,7 +1,0 @@
-use Rattle.std.proofs.Common.{◌≡◌, map, drop}
-use Rattle.xds_beliefs.specs.Changes.{removed_all}
-use Rattle.xds_beliefs.proofs.storing.remove_all.Given as goal
-
--- what is left decides
-abbrev pub invariant-loop-name : goal.invariant-loop-name
-invariant-loop-name l = removed_all l.beliefs (map (λ n. n.now) (drop l.name-index l.names)) ≡ removed_all l.initial.beliefs (map (λ n. n.now) l.names)

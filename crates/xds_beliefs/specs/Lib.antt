@@ -1,4 +1,0 @@
-pub mod Believing
-pub mod Parts
-pub mod Changes
-pub mod BeliefLaws

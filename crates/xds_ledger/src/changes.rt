@@ -1,0 +1,173 @@
+// What an answer and a request change of what is believed: for each name that they speak of, what is believed from then
+// on. Nothing else is looked at.
+ghost use Rattle.std.specs.Prelude.{◌≡◌, ℕ, List, false, Some, map, string_bytes, is_some, option_map, IfOk, IfErr, OnOk};
+ghost use Rattle.std.specs.FinMap as finmap;
+ghost use Rattle.std.specs.FinSet as set;
+ghost use Rattle.xds_resource.specs.declared.refusal.Refusal.TheVariants.{OutOfMemory};
+ghost use Rattle.xds_resource.specs.Names.{put_some, put_all};
+ghost use Rattle.xds_resource.specs.Writes.{text_cmp};
+ghost use Rattle.xds_interest.specs.Interests.{reaches};
+ghost use Rattle.xds_ledger.specs.Changes as specs;
+ghost use Rattle.xds_ledger.specs.Changes.{believed_now, left_touched, changes_left, changes_unsure, change_as};
+ghost use Rattle.xds_ledger.specs.Believing.{was_touched, beliefs_taken, AreInOrder, versions_of, beliefs_resumed};
+ghost use Rattle.xds_ledger.specs.Owed as owed;
+ghost use Rattle.xds_ledger.specs.Parts as parts;
+
+use crate::beliefs::{made_unsure, once_told};
+use crate::believed::Beliefs;
+use crate::entry::{Due, Entry};
+use crate::sent::Sent;
+use crate::version::Version;
+use std::alloc::Global;
+use std::collections::btree_set::Iter;
+use xds_interest::{Interest, Touched};
+use xds_resource::{NameMap, Refusal, ResourceType};
+
+// By an accepted response, of a name that it speaks of.
+fn put_told(
+    alloc: Global,
+    sent: &Sent,
+    changes: &mut NameMap<Option<Entry>>,
+    name: &str,
+    due: &Due,
+) -> Result<(), Refusal>
+    ensures ok { OnOk result (changes.new ≡ put_some changes.old name.now (Some (parts.told_unless_touched (was_touched sent.now name.now) due.now))) }
+    ensures err { IfErr result (λ e. e ≡ OutOfMemory) }
+{
+    let entry = once_told(alloc, sent.was_touched(name), due)?;
+    changes.put(alloc, name, Some(entry))
+}
+
+/// By an accepted response that isn't the whole.
+pub fn changes_told(alloc: Global, sent: &Sent) -> Result<NameMap<Option<Entry>>, Refusal>
+    ensures ok { IfOk result (λ m. m ≡ specs.changes_told sent.now) }
+    ensures err { IfErr result (λ e. e ≡ OutOfMemory) }
+{
+    let mut changes = NameMap::new(alloc);
+    for (name, due) in sent.offer.iter() {
+        put_told(alloc, sent, &mut changes, name, due)?;
+    }
+    Ok(changes)
+}
+
+// Whether something is believed of a name once the changes are made.
+fn is_believed(beliefs: &Beliefs, changes: &NameMap<Option<Entry>>, name: &str) -> bool
+    ensures { result ≡ is_some (believed_now changes.now beliefs.now name.now) }
+{
+    match changes.get(name) {
+        Some(entry) => entry.is_some(),
+        None => beliefs.contains(name),
+    }
+}
+
+// Of a touched name that isn't mentioned.
+fn put_left<T: ResourceType>(
+    alloc: Global,
+    interest: &Interest<T>,
+    beliefs: &Beliefs,
+    changes: &mut NameMap<Option<Entry>>,
+    name: &str,
+) -> Result<(), Refusal>
+    ensures ok { OnOk result (changes.new ≡ finmap.insert changes.old name.now (left_touched (reaches interest.now name.now) (believed_now changes.old beliefs.now name.now))) }
+    ensures err { IfErr result (λ e. e ≡ OutOfMemory) }
+{
+    let left = if interest.reaches(name) && is_believed(beliefs, changes, name) {
+        Some(Entry::Unsure)
+    } else {
+        None
+    };
+    changes.put(alloc, name, Some(left))
+}
+
+// Of the touched names, but for those that the request mentions.
+fn changes_left<T: ResourceType>(
+    alloc: Global,
+    interest: &Interest<T>,
+    touched: Iter<'_, String>,
+    beliefs: &Beliefs,
+    changes: NameMap<Option<Entry>>,
+) -> Result<NameMap<Option<Entry>>, Refusal>
+    ensures ok { IfOk result (λ m. m ≡ changes_left interest.now beliefs.now changes (map string_bytes touched.entry)) }
+    ensures err { IfErr result (λ e. e ≡ OutOfMemory) }
+{
+    let mut next = changes;
+    for name in touched {
+        put_left(alloc, interest, beliefs, &mut next, name)?;
+    }
+    Ok(next)
+}
+
+// Of a name that a request mentions.
+fn put_unsure<T: ResourceType>(
+    alloc: Global,
+    interest: &Interest<T>,
+    touched: &Touched,
+    changes: &mut NameMap<Option<Entry>>,
+    name: &str,
+) -> Result<(), Refusal>
+    ensures ok { OnOk result (changes.new ≡ put_some changes.old name.now (option_map Some (parts.made_unsure interest.now touched.now name.now))) }
+    ensures err { IfErr result (λ e. e ≡ OutOfMemory) }
+{
+    match made_unsure(interest, touched, name) {
+        Some(entry) => changes.put(alloc, name, Some(Some(entry))),
+        None => Ok(()),
+    }
+}
+
+// Of the names that a request mentions.
+fn changes_unsure<T: ResourceType>(
+    alloc: Global,
+    interest: &Interest<T>,
+    touched: &Touched,
+    mentioned: Iter<'_, String>,
+    changes: NameMap<Option<Entry>>,
+) -> Result<NameMap<Option<Entry>>, Refusal>
+    ensures ok { IfOk result (λ m. m ≡ changes_unsure interest.now touched.now changes (map string_bytes mentioned.entry)) }
+    ensures err { IfErr result (λ e. e ≡ OutOfMemory) }
+{
+    let mut next = changes;
+    for name in mentioned {
+        put_unsure(alloc, interest, touched, &mut next, name)?;
+    }
+    Ok(next)
+}
+
+// Of the names that a client says it holds at a version.
+fn changes_resumed(
+    alloc: Global,
+    versions: &[(&str, &str)],
+    changes: NameMap<Option<Entry>>,
+) -> Result<NameMap<Option<Entry>>, Refusal>
+    ensures ok { IfOk result (λ m. m ≡ put_all change_as changes (map (λ p. (p.0.now, p.1.now)) versions.now)) }
+    ensures err { IfErr result (λ e. e ≡ OutOfMemory) }
+{
+    let mut next = changes;
+    for (name, version) in versions {
+        let told = Entry::Told(Version::from_text(alloc, version)?);
+        next.put(alloc, name, Some(Some(told)))?;
+    }
+    Ok(next)
+}
+
+/// By a request that doesn't touch every name, after the changes that its answer makes: they leave what the rebuilt map
+/// would have.
+pub fn changes_after<T: ResourceType>(
+    alloc: Global,
+    interest: &Interest<T>,
+    touched: &Touched,
+    mentioned: Iter<'_, String>,
+    versions: &[(&str, &str)],
+    beliefs: &Beliefs,
+    changes: NameMap<Option<Entry>>,
+) -> Result<NameMap<Option<Entry>>, Refusal>
+    requires some { touched.now.all ≡ false }
+    requires sorted { AreInOrder (map (λ p. (p.0.now, p.1.now)) versions.now) }
+    ensures ok { (before : owed.Beliefs) → ((name : List ℕ) → finmap.get before name ≡ believed_now changes beliefs.now name)
+        → IfOk result (λ m. (name : List ℕ) → finmap.get (beliefs_resumed (versions_of (map (λ p. (p.0.now, p.1.now)) versions.now)) (beliefs_taken interest.now touched.now (set.from_list (map string_bytes mentioned.entry)) before)) name ≡ believed_now m beliefs.now name) }
+    ensures err { IfErr result (λ e. e ≡ OutOfMemory) }
+{
+    let left = changes_left(alloc, interest, touched.names(), beliefs, changes)?;
+    let unsure = changes_unsure(alloc, interest, touched, mentioned, left)?;
+    let next = changes_resumed(alloc, versions, unsure)?;
+    Ok(next)
+}
