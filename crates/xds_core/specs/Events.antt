@@ -3,8 +3,8 @@ use Rattle.std.specs.Prelude.{ℕ, List, Bool, Option}
 use Rattle.xds_resource.specs.declared.types.TypeName.{TypeName}
 use Rattle.xds_resource.specs.PerType.{PerType}
 use Rattle.xds_resource.specs.Resources.{NamedBody}
-use Rattle.xds_draft.specs.declared.draft.Draft.{Draft}
-use Rattle.xds_draft.specs.Drafts.{Drafted}
+use Rattle.xds_message.specs.declared.draft.Draft.{Draft}
+use Rattle.xds_message.specs.Drafts.{Drafted}
 use Rattle.xds_ledger.specs.declared.outcome.Outcome.{Outcome}
 use Rattle.xds_store.specs.Stores.{Batch}
 use Rattle.xds_streams.specs.Streams.{Message}

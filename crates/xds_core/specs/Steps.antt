@@ -12,7 +12,7 @@ use Rattle.xds_resource.specs.PerType.{PerType, per_type_code, at, each}
 use Rattle.xds_resource.specs.Refusals.{unless_refused}
 use Rattle.xds_resource.specs.Stamps.{max_counter}
 use Rattle.xds_catalogue.specs.Holdings.{Holdings, holdings_code, nothing_held}
-use Rattle.xds_draft.specs.Drafts.{Drafted}
+use Rattle.xds_message.specs.Drafts.{Drafted}
 use Rattle.xds_sotw.specs.Rest.{asked_once, unless_present}
 use Rattle.xds_store.specs.Stores.{Store, Batch, merging, putting_at, deleting_at, all_entries, if_done}
 use Rattle.xds_store.specs.Since.{changed_since, marks_of}

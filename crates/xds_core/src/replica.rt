@@ -21,15 +21,14 @@ use crate::event::{Event, Reply};
 use crate::numbered::Numbered;
 use std::alloc::Global;
 use std::marker::Model;
-use xds_draft::{Draft, SotwDraft};
 use xds_interest::ClusterText;
 use xds_ledger::Outcome;
+use xds_message::{Batch, Draft, SotwDraft};
 use xds_resource::stamp::MAX_COUNTER;
 use xds_resource::{AnyResource, Groups, Refusal, TypeName};
 use xds_sotw::rested;
 use xds_store::{Catalogues, Marks};
 use xds_streams::{Request, Stream};
-use xds_writes::Batch;
 
 /// One replica: what it holds of each type, and its open streams.
 pub struct Core {

@@ -3,8 +3,8 @@ use crate::parts::{Told, text_of};
 use std::alloc::Global;
 use xds_core::{Marks, Record, Reply};
 use xds_ledger::Outcome;
+use xds_message::Batch;
 use xds_resource::Refusal;
-use xds_writes::Batch;
 
 // A text of its own.
 fn text(alloc: Global, text: &str) -> Result<String, Refusal> {

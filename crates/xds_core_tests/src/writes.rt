@@ -2,8 +2,8 @@
 use crate::parts::{Told, text_of};
 use serde_json::Value;
 use std::alloc::Global;
+use xds_message::{Batch, read_write, write_object};
 use xds_resource::{AnyWrite, Cluster, Endpoint, Listener, Refusal, Route, Secret, Write};
-use xds_writes::{Batch, read_write, write_object};
 
 /// The batch of the writes in a text.
 pub(crate) fn batch_of(alloc: Global, text: &str) -> Result<Batch, Refusal> {

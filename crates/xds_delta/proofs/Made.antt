@@ -11,7 +11,7 @@ use Rattle.xds_interest.specs.Interests.{Selection}
 use Rattle.xds_interest.specs.Touches.{Touch}
 use Rattle.xds_message.specs.DeltaMessages.{DeltaRequest}
 use Rattle.xds_catalogue.specs.Holdings.{Holdings, Entries}
-use Rattle.xds_draft.specs.Drafts.{DraftedDelta, DraftedResource, with_resource}
+use Rattle.xds_message.specs.Drafts.{DraftedDelta, DraftedResource, with_resource}
 use Rattle.xds_ledger.specs.declared.entry.Due.{Due}
 use Rattle.xds_ledger.specs.declared.entry.Due.TheVariants.{Stated, Removed}
 use Rattle.xds_ledger.specs.declared.variant.VariantName.TheVariants.{Delta}

@@ -10,7 +10,7 @@ use Rattle.xds_interest.specs.Asked.{delta_asked}
 use Rattle.xds_interest.specs.Touches.{Touch, delta_touch}
 use Rattle.xds_catalogue.specs.Holdings.{Entries}
 use Rattle.xds_message.specs.DeltaMessages.{DeltaRequest}
-use Rattle.xds_draft.specs.Drafts.{DraftedDelta, with_resource, with_removed}
+use Rattle.xds_message.specs.Drafts.{DraftedDelta, with_resource, with_removed}
 use Rattle.xds_ledger.specs.declared.variant.VariantName.TheVariants.{Delta}
 use Rattle.xds_ledger.specs.declared.entry.Due.{Due}
 use Rattle.xds_ledger.specs.declared.entry.Due.TheVariants.{Stated, Removed}

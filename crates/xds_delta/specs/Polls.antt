@@ -9,7 +9,7 @@ use Rattle.xds_resource.specs.Writes.{StampedWrite, version_of}
 use Rattle.xds_interest.specs.Delta.{Mention}
 use Rattle.xds_catalogue.specs.Holdings.{Holdings, Entries}
 use Rattle.xds_message.specs.DeltaMessages.{DeltaRequest}
-use Rattle.xds_draft.specs.Drafts.{DraftedDelta, DraftedResource}
+use Rattle.xds_message.specs.Drafts.{DraftedDelta, DraftedResource}
 use Rattle.xds_ledger.specs.declared.variant.VariantName.TheVariants.{Delta}
 use Rattle.xds_ledger.specs.declared.entry.Due.{Due}
 use Rattle.xds_ledger.specs.declared.entry.Due.TheVariants.{Stated, Removed}

@@ -7,9 +7,9 @@ ghost use Rattle.xds_delta.specs.Polls.{response as response_of};
 
 use std::alloc::Global;
 use xds_catalogue::Catalogue;
-use xds_draft::DeltaDraft;
 use xds_ledger::Due;
 use xds_ledger::texts::{nonce_text, replica_version};
+use xds_message::DeltaDraft;
 use xds_resource::{NameMap, Refusal, ResourceType};
 
 // Adds what an offer says of a name: its live resource, or that it is gone.

@@ -18,10 +18,9 @@ use crate::response::response;
 use std::alloc::Global;
 use std::marker::Model;
 use xds_catalogue::Catalogue;
-use xds_draft::DeltaDraft;
 use xds_interest::{ClusterText, DeltaNames, Interest, Touched};
 use xds_ledger::{Delta, Due, Ledger, Nonces, Outcome};
-use xds_message::DeltaDiscoveryRequest;
+use xds_message::{DeltaDiscoveryRequest, DeltaDraft};
 use xds_resource::{NameMap, Refusal, ResourceType};
 
 /// One type on one stream, in the incremental variant.

@@ -9,7 +9,7 @@ use Rattle.xds_resource.specs.TypedWrites.{TypedWrite, writes_of}
 use Rattle.xds_resource.proofs.Refusing.{memory_or_not}
 use Rattle.xds_catalogue.proofs.News.{changes_after-le}
 use Rattle.std.specs.FinMap as finmap
-use Rattle.xds_writes.specs.Batches.{by_type}
+use Rattle.xds_message.specs.Batches.{by_type}
 use Rattle.xds_store.specs.Stores.{Store, Batch, merged, grown, is_spent, if_done}
 use Rattle.xds_core.specs.Events.{Merge, Reply, Merged}
 use Rattle.xds_core.specs.Steps.{Core, Step, step}

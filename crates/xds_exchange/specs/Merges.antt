@@ -3,7 +3,7 @@ use Rattle.std.specs.Prelude.{◌≡◌, ◌⊎◌, ℕ, ◌+◌, List, [], ◌�
 use Rattle.xds_resource.specs.TypedWrites.{TypedWrite}
 use Rattle.xds_resource.specs.declared.refusal.Refusal.{Refusal}
 use Rattle.xds_resource.specs.declared.refusal.Refusal.TheVariants.{OutOfMemory}
-use Rattle.xds_writes.specs.Batches.{by_type}
+use Rattle.xds_message.specs.Batches.{by_type}
 use Rattle.xds_store.specs.Stores.{Store, grown, merged}
 use Rattle.xds_core.specs.Events.{Merge}
 use Rattle.xds_core.specs.Steps.{Core, step}

@@ -4,7 +4,7 @@ use Rattle.std.specs.FinMap as finmap
 use Rattle.xds_resource.specs.declared.types.TypeName.{TypeName}
 use Rattle.xds_resource.specs.PerType.{PerType, at}
 use Rattle.xds_resource.specs.TypedWrites.{TypedWrite}
-use Rattle.xds_writes.specs.Batches.{in_order}
+use Rattle.xds_message.specs.Batches.{in_order}
 use Rattle.xds_catalogue.specs.Holdings.{Entries, Holdings, IsCatalogue, IsNumbered}
 use Rattle.xds_catalogue.specs.Joins.{join, IsAbove}
 use Rattle.xds_store.specs.Since.{is_above, changed_since}

@@ -8,9 +8,9 @@ ghost use Rattle.xds_core.specs.Steps.{step};
 ghost use Rattle.xds_exchange.specs.Merges.{AllMerged, IsStopped};
 
 use xds_core::{Core, Event, Reply};
+use xds_message::Batch;
 use xds_outbox::Outbox;
 use xds_resource::Refusal;
-use xds_writes::Batch;
 
 /// Merges a batch, whole or not at all, as one event of the replica. Answers by how much the changes grew, over all
 /// types. Refused by `CounterSpent` where they can't be counted, and then by `OutOfMemory`, with nothing changed.

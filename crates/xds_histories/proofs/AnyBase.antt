@@ -19,16 +19,16 @@ use Rattle.xds_resource.proofs.MadeMaps.{EachFound, each_found}
 use Rattle.xds_resource.proofs.Naming.{canonical-valid}
 use Rattle.xds_resource.proofs.Refusing.{memory_or_not}
 use Rattle.xds_resource.proofs.TypesApart.{same_type, at-with_at, at-with_at_other}
-use Rattle.xds_writes.proofs.BatchLemmas.{at-per_type}
-use Rattle.xds_writes.proofs.StampedWriteLemmas.{from_value-canonical}
+use Rattle.xds_message.proofs.BatchLemmas.{at-per_type}
+use Rattle.xds_message.proofs.StampedWriteLemmas.{from_value-canonical}
 use Rattle.xds_catalogue.specs.Content.{is_live, is_shown}
 use Rattle.xds_catalogue.specs.Holdings.{Entries, Holdings, IsCatalogue, IsNumbered}
 use Rattle.xds_catalogue.specs.Joins.{joined}
 use Rattle.xds_catalogue.specs.Local.{has_live, next_counter, spent_conditions}
 use Rattle.xds_catalogue.specs.Next.{NoneAfter, IsNextChange}
 use Rattle.xds_catalogue.proofs.Catalogues.{get-catalogue_of, catalogue_of-IsCatalogue}
-use Rattle.xds_draft.specs.declared.draft.Draft.{Draft}
-use Rattle.xds_draft.specs.Drafts.{DraftedResource}
+use Rattle.xds_message.specs.declared.draft.Draft.{Draft}
+use Rattle.xds_message.specs.Drafts.{DraftedResource}
 use Rattle.xds_ledger.specs.declared.variant.VariantName.{VariantName}
 use Rattle.xds_ledger.specs.declared.variant.VariantName.TheVariants as variants
 use Rattle.xds_ledger.specs.Offers.{Offer}

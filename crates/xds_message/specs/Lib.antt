@@ -1,9 +1,13 @@
-pub use Rattle.xds_json.specs.Spelling
+pub mod StampedWrites
+pub mod Batches
 pub mod Messages
 pub mod Written
 pub mod Responses
-pub use Rattle.xds_json.specs.Versions
-pub use Rattle.xds_writes.specs.StampedWrites
 pub mod DeltaMessages
 pub mod DeltaWritten
 pub mod Laws
+pub mod Joined
+pub mod Drafts
+pub mod DraftTexts
+pub use Rattle.xds_json.specs.Spelling
+pub use Rattle.xds_json.specs.Versions

@@ -2,7 +2,7 @@
 use std::alloc::Global;
 use std::sync::ArcStr;
 use std::test::Fail;
-use xds_draft::{DeltaDraft, Draft, Response, SotwDraft};
+use xds_message::{DeltaDraft, Draft, Response, SotwDraft};
 use xds_resource::{Cluster, Groups, Refusal, Resource, Stamp, TypeName, Write};
 
 // A cluster whose name and whose other field need escapes.

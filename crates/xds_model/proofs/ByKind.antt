@@ -9,7 +9,7 @@ use Rattle.xds_resource.specs.Types.{types}
 use Rattle.xds_resource.specs.Writes.{text_cmp}
 use Rattle.xds_message.specs.Messages as messages
 use Rattle.xds_message.specs.DeltaMessages.{DeltaRequest}
-use Rattle.xds_draft.specs.declared.draft.Draft.{Draft}
+use Rattle.xds_message.specs.declared.draft.Draft.{Draft}
 use Rattle.xds_ledger.specs.declared.outcome.Outcome.{Outcome}
 use Rattle.xds_core.specs.Stores.{Store}
 use Rattle.xds_core.specs.Streams as streams

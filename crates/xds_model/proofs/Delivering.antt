@@ -15,7 +15,7 @@ use Rattle.xds_resource.proofs.MadeMaps.{EachFound, each_found}
 use Rattle.xds_interest.specs.Interests.{Selection, reaches, covers}
 use Rattle.xds_interest.proofs.Reaching.{covered_is_reached}
 use Rattle.xds_catalogue.specs.Holdings.{Holdings, Entries}
-use Rattle.xds_draft.specs.Drafts.{DraftedResource, drafted_resource}
+use Rattle.xds_message.specs.Drafts.{DraftedResource, drafted_resource}
 use Rattle.xds_ledger.specs.declared.variant.VariantName.TheVariants.{Delta}
 use Rattle.xds_ledger.specs.declared.entry.Due.{Due}
 use Rattle.xds_ledger.specs.declared.entry.Due.TheVariants.{Stated, Removed}

@@ -11,8 +11,8 @@ use Rattle.xds_resource.specs.Stamps.{max_writer}
 use Rattle.xds_resource.specs.PerType.{at}
 use Rattle.xds_resource.proofs.TypesApart.{at-each}
 use Rattle.xds_catalogue.proofs.Lookups.{get-inserted}
-use Rattle.xds_draft.specs.declared.draft.Draft.{Draft}
-use Rattle.xds_draft.specs.Drafts.{Drafted}
+use Rattle.xds_message.specs.declared.draft.Draft.{Draft}
+use Rattle.xds_message.specs.Drafts.{Drafted}
 use Rattle.xds_message.specs.Messages.{Request}
 use Rattle.xds_core.specs.Laws.{stream_changed}
 use Rattle.xds_core.specs.Streams.{Stream, Message, opening, requested, polled_first, looked_at}

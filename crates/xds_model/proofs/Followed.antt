@@ -14,9 +14,9 @@ use Rattle.xds_resource.proofs.TypesApart.{same_type, at-with_at, at-with_at_oth
 use Rattle.xds_catalogue.proofs.Lookups.{get-inserted}
 use Rattle.xds_message.specs.Messages as messages
 use Rattle.xds_message.specs.DeltaMessages.{DeltaRequest}
-use Rattle.xds_draft.specs.declared.draft.Draft.{Draft}
-use Rattle.xds_draft.specs.declared.draft.Draft.TheVariants as drafts
-use Rattle.xds_draft.specs.Drafts.{message_of, delta_message_of}
+use Rattle.xds_message.specs.declared.draft.Draft.{Draft}
+use Rattle.xds_message.specs.declared.draft.Draft.TheVariants as drafts
+use Rattle.xds_message.specs.Drafts.{message_of, delta_message_of}
 use Rattle.xds_core.specs.Streams as streams
 use Rattle.xds_core.specs.Streams.{Message}
 use Rattle.xds_core.specs.Events as events

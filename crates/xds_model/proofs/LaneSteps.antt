@@ -21,7 +21,7 @@ use Rattle.xds_interest.proofs.AskedLaws.{kept_star_is_of_complete, untouched_ke
 use Rattle.xds_interest.proofs.SotwLaws.{list_any-is_star}
 use Rattle.xds_message.specs.Messages.{Identity}
 use Rattle.xds_message.specs.DeltaMessages.{DeltaRequest}
-use Rattle.xds_draft.specs.Drafts.{DraftedDelta, delta_message_of}
+use Rattle.xds_message.specs.Drafts.{DraftedDelta, delta_message_of}
 use Rattle.xds_ledger.specs.declared.variant.VariantName.TheVariants.{Delta}
 use Rattle.xds_ledger.specs.declared.entry.Entry.{Entry}
 use Rattle.xds_ledger.specs.declared.entry.Entry.TheVariants.{Told}

@@ -15,7 +15,7 @@ use Rattle.xds_interest.specs.Asked.{Asked, delta_asked}
 use Rattle.xds_interest.specs.Touches.{touches, delta_touch}
 use Rattle.xds_interest.proofs.AskedLaws.{delta_touch_is_a_set}
 use Rattle.xds_message.specs.DeltaMessages.{DeltaRequest}
-use Rattle.xds_draft.specs.Drafts.{DraftedDelta, delta_message_of}
+use Rattle.xds_message.specs.Drafts.{DraftedDelta, delta_message_of}
 use Rattle.xds_ledger.specs.declared.variant.VariantName.{VariantName}
 use Rattle.xds_ledger.specs.declared.variant.VariantName.TheVariants.{Delta}
 use Rattle.xds_ledger.specs.declared.entry.Entry.{Entry}

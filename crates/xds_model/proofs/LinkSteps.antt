@@ -17,9 +17,9 @@ use Rattle.xds_interest.specs.Asked.{IsStarOfComplete}
 use Rattle.xds_interest.proofs.AskedLaws.{kept_star_is_of_complete}
 use Rattle.xds_catalogue.specs.Holdings.{Entries}
 use Rattle.xds_message.specs.DeltaMessages.{DeltaRequest}
-use Rattle.xds_draft.specs.declared.draft.Draft.{Draft}
-use Rattle.xds_draft.specs.declared.draft.Draft.TheVariants as drafts
-use Rattle.xds_draft.specs.Drafts.{DraftedDelta}
+use Rattle.xds_message.specs.declared.draft.Draft.{Draft}
+use Rattle.xds_message.specs.declared.draft.Draft.TheVariants as drafts
+use Rattle.xds_message.specs.Drafts.{DraftedDelta}
 use Rattle.xds_ledger.specs.declared.outcome.Outcome.{Outcome}
 use Rattle.xds_ledger.specs.declared.variant.VariantName.{VariantName}
 use Rattle.xds_ledger.specs.declared.variant.VariantName.TheVariants.{Delta}
@@ -44,7 +44,7 @@ use Rattle.xds_model.proofs.ByOneName.{Says}
 use Rattle.xds_model.proofs.LaneSteps.{abreast_sent}
 use Rattle.xds_model.proofs.Delivering.{AllKnown, response_says, response_made, stated_is_reached}
 use Rattle.xds_model.proofs.Queues.{lane_up, of_own_type, of_other_type, AllDelta, lane_down, lane_down-append, all_numbered-later, none_answers, listed_draft, Lane, Speaks, Linked}
-use Rattle.xds_writes.proofs.StampedWriteLemmas.{type_of_url-url}
+use Rattle.xds_message.proofs.StampedWriteLemmas.{type_of_url-url}
 
 -- ---- a request is taken
 

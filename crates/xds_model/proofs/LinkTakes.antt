@@ -18,10 +18,10 @@ use Rattle.xds_interest.specs.SotW.{is_named}
 use Rattle.xds_interest.specs.Asked.{unasked, delta_asked, IsStarOfComplete}
 use Rattle.xds_message.specs.Messages.{Identity}
 use Rattle.xds_message.specs.DeltaMessages.{DeltaRequest}
-use Rattle.xds_draft.specs.declared.draft.Draft.{Draft}
-use Rattle.xds_draft.specs.declared.draft.Draft.TheVariants as drafts
-use Rattle.xds_draft.specs.Drafts.{DraftedDelta, delta_message_of}
-use Rattle.xds_draft.specs.DraftTexts.{kind_of}
+use Rattle.xds_message.specs.declared.draft.Draft.{Draft}
+use Rattle.xds_message.specs.declared.draft.Draft.TheVariants as drafts
+use Rattle.xds_message.specs.Drafts.{DraftedDelta, delta_message_of}
+use Rattle.xds_message.specs.DraftTexts.{kind_of}
 use Rattle.xds_ledger.specs.declared.variant.VariantName.TheVariants as variants
 use Rattle.xds_ledger.specs.declared.entry.Entry.TheVariants.{Told}
 use Rattle.xds_ledger.specs.Sessions.{Session, unopened}
@@ -48,7 +48,7 @@ use Rattle.xds_model.proofs.LaneSteps.{abreast_delivered, taken_delivered, abrea
 use Rattle.xds_model.proofs.Queues.{of_type, lane_up, lane_up-append, of_own_type, of_other_type, AllDelta, all_delta-append, lane_down, all_numbered-append, listed_draft, Lane, Linked, started}
 use Rattle.xds_model.proofs.LinkSteps.{undecided_session, quiet_folded}
 use Rattle.xds_model.proofs.Firsts.{firsts, firsts_by, one_first, once, first_lane}
-use Rattle.xds_writes.proofs.StampedWriteLemmas.{type_of_url-url}
+use Rattle.xds_message.proofs.StampedWriteLemmas.{type_of_url-url}
 
 -- ---- Down
 

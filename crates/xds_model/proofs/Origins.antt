@@ -23,7 +23,7 @@ use Rattle.xds_catalogue.proofs.Lookups.{get-inserted}
 use Rattle.xds_core.specs.Events as events
 use Rattle.xds_core.specs.Events.{Event, Request, Reply, Opened, Answered, Polled, Owed, Closed, Written, Merged, Entries, Rested, Changed}
 use Rattle.xds_core.specs.Streams.{Message}
-use Rattle.xds_draft.specs.declared.draft.Draft.{Draft}
+use Rattle.xds_message.specs.declared.draft.Draft.{Draft}
 use Rattle.xds_cache.specs.Clients.{unlinked}
 use Rattle.xds_core.specs.Steps.{Core, step, fresh as fresh_core}
 use Rattle.xds_core.specs.Stores.{putting_at, deleting_at}

@@ -10,10 +10,10 @@ use Rattle.xds_resource.specs.PerType.{at, each}
 use Rattle.xds_resource.proofs.NameMaps.{bytes_eq_tells}
 use Rattle.xds_interest.specs.Asked.{IsStarOfComplete}
 use Rattle.xds_message.specs.DeltaMessages.{DeltaRequest}
-use Rattle.xds_draft.specs.declared.draft.Draft.{Draft}
-use Rattle.xds_draft.specs.declared.draft.Draft.TheVariants as drafts
-use Rattle.xds_draft.specs.Drafts.{DraftedDelta}
-use Rattle.xds_draft.specs.DraftTexts.{kind_of}
+use Rattle.xds_message.specs.declared.draft.Draft.{Draft}
+use Rattle.xds_message.specs.declared.draft.Draft.TheVariants as drafts
+use Rattle.xds_message.specs.Drafts.{DraftedDelta}
+use Rattle.xds_message.specs.DraftTexts.{kind_of}
 use Rattle.xds_ledger.specs.declared.variant.VariantName.{VariantName}
 use Rattle.xds_ledger.specs.declared.variant.VariantName.TheVariants as variants
 use Rattle.xds_ledger.specs.Ledgers.{nonce_text}

@@ -29,8 +29,8 @@ use Rattle.xds_core.specs.Stores.{Store, Batch, putting_at, deleting_at, merging
 use Rattle.xds_core.specs.Events as events
 use Rattle.xds_core.specs.Events.{Event, Request, Reply, Opened, Answered, Polled, Owed, Closed, Written, Merged, Entries, Rested, Changed}
 use Rattle.xds_core.specs.Streams.{Message}
-use Rattle.xds_draft.specs.declared.draft.Draft.{Draft}
-use Rattle.xds_draft.specs.Drafts.{Drafted}
+use Rattle.xds_message.specs.declared.draft.Draft.{Draft}
+use Rattle.xds_message.specs.Drafts.{Drafted}
 use Rattle.xds_message.specs.Messages as messages
 use Rattle.xds_shelf.specs.Faults.{Test}
 use Rattle.xds_cache.specs.Clients.{Client, unlinked}

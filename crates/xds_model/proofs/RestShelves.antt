@@ -8,7 +8,7 @@ use Rattle.xds_resource.specs.declared.refusal.Refusal.TheVariants.{BadMessage}
 use Rattle.xds_resource.specs.Types.{is_same_type}
 use Rattle.xds_resource.specs.PerType.{at, with_at}
 use Rattle.xds_resource.proofs.TypesApart.{same_type, at-with_at, at-with_at_other}
-use Rattle.xds_draft.specs.Drafts.{Drafted, message_of}
+use Rattle.xds_message.specs.Drafts.{Drafted, message_of}
 use Rattle.xds_shelf.specs.Shelves.{Wants, Shelf}
 use Rattle.xds_shelf.specs.Faults.{Test}
 use Rattle.xds_shelf.specs.Deliveries.{Delivery, sotw_delivery, fault_in, statements}

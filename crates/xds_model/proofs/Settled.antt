@@ -16,9 +16,9 @@ use Rattle.xds_interest.specs.Interests.{Selection, reaches, covers}
 use Rattle.xds_interest.proofs.Reaching.{covered_is_reached}
 use Rattle.xds_interest.specs.Asked.{Asked}
 use Rattle.xds_catalogue.specs.Holdings.{Entries}
-use Rattle.xds_draft.specs.declared.draft.Draft.{Draft}
-use Rattle.xds_draft.specs.Drafts.{DraftedDelta}
-use Rattle.xds_draft.specs.DraftTexts.{kind_of}
+use Rattle.xds_message.specs.declared.draft.Draft.{Draft}
+use Rattle.xds_message.specs.Drafts.{DraftedDelta}
+use Rattle.xds_message.specs.DraftTexts.{kind_of}
 use Rattle.xds_ledger.specs.declared.variant.VariantName.{VariantName}
 use Rattle.xds_ledger.specs.declared.variant.VariantName.TheVariants.{Delta}
 use Rattle.xds_ledger.specs.declared.entry.Due.{Due}

@@ -8,7 +8,7 @@ use Rattle.std.specs.FinMap as finmap
 use Rattle.std.specs.FinMap.{FinMap, nat_cmp-IsAntisymmetric}
 use Rattle.xds_resource.specs.declared.types.TypeName.{TypeName}
 use Rattle.xds_catalogue.proofs.Lookups.{get-inserted}
-use Rattle.xds_draft.specs.declared.draft.Draft.{Draft}
+use Rattle.xds_message.specs.declared.draft.Draft.{Draft}
 use Rattle.xds_core.specs.Laws.{stream_changed}
 use Rattle.xds_core.specs.Streams.{Stream, Message, opening, requested, polled_first, looked_at}
 use Rattle.xds_core.specs.Events as events

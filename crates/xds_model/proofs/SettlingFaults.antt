@@ -17,9 +17,9 @@ use Rattle.xds_resource.proofs.MadeMaps.{EachFound, each_found, holds_first, hol
 use Rattle.xds_interest.specs.Interests.{Selection, covers}
 use Rattle.xds_catalogue.specs.Holdings.{Holdings, Entries}
 use Rattle.xds_catalogue.specs.Content.{is_shown}
-use Rattle.xds_draft.specs.declared.draft.Draft.{Draft}
-use Rattle.xds_draft.specs.declared.draft.Draft.TheVariants as drafts
-use Rattle.xds_draft.specs.Drafts.{message_of, delta_message_of}
+use Rattle.xds_message.specs.declared.draft.Draft.{Draft}
+use Rattle.xds_message.specs.declared.draft.Draft.TheVariants as drafts
+use Rattle.xds_message.specs.Drafts.{message_of, delta_message_of}
 use Rattle.xds_ledger.specs.declared.variant.VariantName.{VariantName}
 use Rattle.xds_ledger.specs.declared.variant.VariantName.TheVariants as variants
 use Rattle.xds_ledger.specs.declared.entry.Due.{Due}
@@ -46,7 +46,7 @@ use Rattle.xds_model.proofs.Delivering.{IsKnown, AllKnown, canonical_is}
 use Rattle.xds_model.proofs.LinkSteps.{sending_facts}
 use Rattle.xds_model.proofs.SotwDelivering as sotw_delivering
 use Rattle.xds_model.proofs.SotwDelivering.{offered_is}
-use Rattle.xds_writes.proofs.StampedWriteLemmas.{from_value-canonical}
+use Rattle.xds_message.proofs.StampedWriteLemmas.{from_value-canonical}
 use Rattle.xds_ledger.proofs.SomethingOwed.{is_some_of}
 use Rattle.xds_model.proofs.SotwSteps.{one_of_both}
 use Rattle.xds_model.proofs.SettlingSessions.{never_both}

@@ -11,7 +11,7 @@ use Rattle.xds_interest.specs.Touches.{touches, sotw_touch}
 use Rattle.xds_catalogue.specs.Holdings.{Entries}
 use Rattle.xds_message.specs.Messages.{Request}
 use Rattle.xds_message.specs.DeltaMessages.{DeltaRequest}
-use Rattle.xds_draft.specs.Drafts.{Drafted, DraftedDelta}
+use Rattle.xds_message.specs.Drafts.{Drafted, DraftedDelta}
 use Rattle.xds_ledger.specs.declared.variant.VariantName.{VariantName}
 use Rattle.xds_ledger.specs.declared.variant.VariantName.TheVariants.{StateOfTheWorld, Delta}
 use Rattle.xds_ledger.specs.Owed.{Beliefs}

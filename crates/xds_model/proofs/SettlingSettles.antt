@@ -15,7 +15,7 @@ use Rattle.xds_interest.specs.Interests.{Selection}
 use Rattle.xds_interest.specs.Asked.{Asked}
 use Rattle.xds_catalogue.specs.Holdings.{Entries}
 use Rattle.xds_catalogue.proofs.Catalogues.{get-catalogue_of}
-use Rattle.xds_draft.specs.Drafts.{Drafted, DraftedDelta}
+use Rattle.xds_message.specs.Drafts.{Drafted, DraftedDelta}
 use Rattle.xds_ledger.specs.declared.variant.VariantName.{VariantName}
 use Rattle.xds_ledger.specs.Owed.{version_shown, present}
 use Rattle.xds_ledger.specs.Offers.{Offer, same_offer}

@@ -14,10 +14,10 @@ use Rattle.xds_resource.specs.PerType.{PerType, at, with_at}
 use Rattle.xds_resource.proofs.TypesApart.{same_type, is_same_type-same, at-with_at, at-with_at_other, at-each}
 use Rattle.xds_message.specs.Messages.{Request}
 use Rattle.xds_message.specs.DeltaMessages.{DeltaRequest}
-use Rattle.xds_draft.specs.declared.draft.Draft.{Draft}
-use Rattle.xds_draft.specs.declared.draft.Draft.TheVariants as drafts
-use Rattle.xds_draft.specs.Drafts.{Drafted, DraftedDelta, message_of, delta_message_of}
-use Rattle.xds_draft.specs.DraftTexts.{kind_of}
+use Rattle.xds_message.specs.declared.draft.Draft.{Draft}
+use Rattle.xds_message.specs.declared.draft.Draft.TheVariants as drafts
+use Rattle.xds_message.specs.Drafts.{Drafted, DraftedDelta, message_of, delta_message_of}
+use Rattle.xds_message.specs.DraftTexts.{kind_of}
 use Rattle.xds_ledger.specs.declared.outcome.Outcome.{Outcome}
 use Rattle.xds_ledger.specs.declared.variant.VariantName.{VariantName}
 use Rattle.xds_ledger.specs.declared.variant.VariantName.TheVariants as variants
@@ -59,7 +59,7 @@ use Rattle.xds_model.proofs.Everyone.{at_site_is, Fine}
 use Rattle.xds_model.proofs.SettlingSessions.{HasAnswer, delta_answers, sotw_answers}
 use Rattle.xds_model.proofs.SettlingFaults.{fault_at}
 use Rattle.xds_model.proofs.EveryEvent.{get_put}
-use Rattle.xds_writes.proofs.StampedWriteLemmas.{type_of_url-url}
+use Rattle.xds_message.proofs.StampedWriteLemmas.{type_of_url-url}
 use Rattle.xds_ledger.proofs.Stored.{or_true}
 
 -- ---- where a client is

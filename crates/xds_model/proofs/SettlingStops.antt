@@ -11,9 +11,9 @@ use Rattle.xds_resource.specs.Refusals.{unless_refused}
 use Rattle.xds_resource.specs.Stamps.{max_counter}
 use Rattle.xds_resource.specs.Types.{row, type_of_url}
 use Rattle.xds_resource.specs.PerType.{PerType, at}
-use Rattle.xds_draft.specs.declared.draft.Draft.{Draft}
-use Rattle.xds_draft.specs.declared.draft.Draft.TheVariants as drafts
-use Rattle.xds_draft.specs.Drafts.{Drafted, DraftedDelta, message_of, delta_message_of}
+use Rattle.xds_message.specs.declared.draft.Draft.{Draft}
+use Rattle.xds_message.specs.declared.draft.Draft.TheVariants as drafts
+use Rattle.xds_message.specs.Drafts.{Drafted, DraftedDelta, message_of, delta_message_of}
 use Rattle.xds_ledger.specs.declared.outcome.Outcome.{Outcome}
 use Rattle.xds_ledger.specs.declared.variant.VariantName.{VariantName}
 use Rattle.xds_ledger.specs.Offers.{Offer}
@@ -48,7 +48,7 @@ use Rattle.xds_model.proofs.ByKind.{LinkedAs, LinkedTo}
 use Rattle.xds_model.proofs.SettlingSteps.{Spot, link_at, linked_at, own_stream, spoken, speaks, named_as, poll_one}
 use Rattle.xds_model.proofs.SettlingMoves.{next_is}
 use Rattle.xds_model.proofs.SettlingPolls.{IsSure, world_sure, next_there}
-use Rattle.xds_writes.proofs.StampedWriteLemmas.{type_of_url-url}
+use Rattle.xds_message.proofs.StampedWriteLemmas.{type_of_url-url}
 
 -- ---- the replica takes each request
 

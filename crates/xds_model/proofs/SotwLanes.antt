@@ -14,7 +14,7 @@ use Rattle.xds_interest.specs.Touched.{exactly_one}
 use Rattle.xds_interest.specs.Touches.{touches, sotw_touch}
 use Rattle.xds_interest.proofs.AskedLaws.{sotw_touch_is_a_set}
 use Rattle.xds_message.specs.Messages.{Request}
-use Rattle.xds_draft.specs.Drafts.{Drafted, message_of}
+use Rattle.xds_message.specs.Drafts.{Drafted, message_of}
 use Rattle.xds_ledger.specs.declared.variant.VariantName.TheVariants.{StateOfTheWorld}
 use Rattle.xds_ledger.specs.declared.entry.Entry.{Entry}
 use Rattle.xds_ledger.specs.declared.entry.Entry.TheVariants.{Told}

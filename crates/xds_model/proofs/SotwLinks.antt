@@ -12,10 +12,10 @@ use Rattle.xds_resource.specs.Writes.{text_cmp}
 use Rattle.xds_resource.specs.PerType.{PerType, at, with_at}
 use Rattle.xds_resource.proofs.TypesApart.{same_type, is_same_type-same, at-with_at, at-with_at_other, at-each}
 use Rattle.xds_message.specs.Messages.{Identity, Request}
-use Rattle.xds_draft.specs.declared.draft.Draft.{Draft}
-use Rattle.xds_draft.specs.declared.draft.Draft.TheVariants as drafts
-use Rattle.xds_draft.specs.Drafts.{Drafted, message_of}
-use Rattle.xds_draft.specs.DraftTexts.{kind_of}
+use Rattle.xds_message.specs.declared.draft.Draft.{Draft}
+use Rattle.xds_message.specs.declared.draft.Draft.TheVariants as drafts
+use Rattle.xds_message.specs.Drafts.{Drafted, message_of}
+use Rattle.xds_message.specs.DraftTexts.{kind_of}
 use Rattle.xds_ledger.specs.declared.outcome.Outcome.{Outcome}
 use Rattle.xds_ledger.specs.declared.entry.Entry.TheVariants.{Told}
 use Rattle.xds_ledger.specs.declared.variant.VariantName.TheVariants.{StateOfTheWorld}
@@ -50,7 +50,7 @@ use Rattle.xds_model.proofs.Lanes.{taken_if_sent}
 use Rattle.xds_model.proofs.SotwLanes.{Asks, Abreast, Says, stated_in, awaited, nothing_sent, none_sent}
 use Rattle.xds_model.proofs.SotwSteps.{answer, abreast_delivered, abreast_changed, abreast_first, abreast_sent, taken_last}
 use Rattle.xds_model.proofs.SotwDelivering.{response_says, stated_is_reached}
-use Rattle.xds_writes.proofs.StampedWriteLemmas.{type_of_url-url}
+use Rattle.xds_message.proofs.StampedWriteLemmas.{type_of_url-url}
 
 -- ---- the requests of a type
 

@@ -13,8 +13,8 @@ use Rattle.xds_resource.proofs.NameMaps.{bytes_eq_tells}
 use Rattle.xds_interest.specs.Interests.{Selection, covers}
 use Rattle.xds_interest.specs.Asked.{Asked}
 use Rattle.xds_catalogue.specs.Holdings.{Entries}
-use Rattle.xds_draft.specs.Drafts.{Drafted}
-use Rattle.xds_draft.specs.DraftTexts.{kind_of}
+use Rattle.xds_message.specs.Drafts.{Drafted}
+use Rattle.xds_message.specs.DraftTexts.{kind_of}
 use Rattle.xds_ledger.specs.declared.variant.VariantName.TheVariants.{StateOfTheWorld}
 use Rattle.xds_ledger.specs.declared.entry.Entry.{Entry}
 use Rattle.xds_ledger.specs.declared.entry.Entry.TheVariants.{Told, Unsure}

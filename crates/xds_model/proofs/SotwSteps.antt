@@ -21,7 +21,7 @@ use Rattle.xds_interest.proofs.AskedLaws.{sotw_touch_is_a_set, untouched_keeps_r
 use Rattle.xds_interest.proofs.SotwLaws.{list_any-is_star}
 use Rattle.xds_interest.proofs.Texts.{contains-from_texts}
 use Rattle.xds_message.specs.Messages.{Identity, Request}
-use Rattle.xds_draft.specs.Drafts.{Drafted, message_of}
+use Rattle.xds_message.specs.Drafts.{Drafted, message_of}
 use Rattle.xds_ledger.specs.declared.variant.VariantName.TheVariants.{StateOfTheWorld}
 use Rattle.xds_ledger.specs.declared.entry.Entry.{Entry}
 use Rattle.xds_ledger.specs.declared.entry.Entry.TheVariants.{Told, Unsure}

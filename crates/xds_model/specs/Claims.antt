@@ -13,8 +13,8 @@ use Rattle.xds_resource.specs.Writes.{StampedWrite, version_of}
 pub use Rattle.xds_resource.specs.TypedWrites.{writes_of}
 use Rattle.xds_interest.specs.Interests.{Selection, covers}
 use Rattle.xds_catalogue.specs.Holdings.{catalogue_of}
-use Rattle.xds_draft.specs.DraftTexts.{kind_of}
-use Rattle.xds_draft.specs.Drafts.{message_of}
+use Rattle.xds_message.specs.DraftTexts.{kind_of}
+use Rattle.xds_message.specs.Drafts.{message_of}
 use Rattle.xds_core.specs.Events as events
 use Rattle.xds_core.specs.Events.{Reply}
 use Rattle.xds_core.specs.Streams.{Message, url_of, owes_of}

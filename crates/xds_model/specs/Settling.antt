@@ -8,8 +8,8 @@ use Rattle.xds_resource.specs.declared.types.TypeName.{TypeName}
 use Rattle.xds_resource.specs.Types.{is_same_type}
 use Rattle.xds_resource.specs.PerType.{at}
 use Rattle.xds_resource.specs.Stamps.{max_counter}
-use Rattle.xds_draft.specs.declared.draft.Draft.{Draft}
-use Rattle.xds_draft.specs.DraftTexts.{kind_of}
+use Rattle.xds_message.specs.declared.draft.Draft.{Draft}
+use Rattle.xds_message.specs.DraftTexts.{kind_of}
 use Rattle.xds_ledger.specs.Offers.{offer}
 use Rattle.xds_ledger.specs.Ledgers.{is_refused}
 use Rattle.xds_core.specs.Stores.{Store}

@@ -8,8 +8,8 @@ use Rattle.std.proofs.lemmas.List.Sums.{sum_by-append}
 use Rattle.xds_resource.specs.PerType.{PerType}
 use Rattle.xds_resource.specs.TypedWrites.{TypedWrite}
 use Rattle.xds_resource.specs.Writes.{StampedWrite}
-use Rattle.xds_writes.specs.Batches.{by_type, IsSound}
-use Rattle.xds_writes.proofs.BatchLemmas.{map-take-more}
+use Rattle.xds_message.specs.Batches.{by_type, IsSound}
+use Rattle.xds_message.proofs.BatchLemmas.{map-take-more}
 use Rattle.xds_outbox.proofs.Weights.{weight_few}
 use Rattle.xds_outbox.specs.Laws.{AreTheWrites, AreWithin}
 use Rattle.xds_outbox.specs.Parts.{weight, max_writes, max_bytes, is_part, parts_behind, parts_of, IsFirstPart}

@@ -16,8 +16,8 @@ use Rattle.xds_resource.specs.TypedWrites.{TypedWrite, writes_of}
 use Rattle.xds_resource.specs.Types.{row}
 use Rattle.xds_resource.specs.Writes.{StampedWrite}
 use Rattle.xds_frames.specs.Frames.{IsFrame}
-use Rattle.xds_writes.specs.Batches.{by_type, typed, in_order, batch_fields, batch_object, IsSound}
-use Rattle.xds_writes.specs.StampedWrites.{write_fields, write_object}
+use Rattle.xds_message.specs.Batches.{by_type, typed, in_order, batch_fields, batch_object, IsSound}
+use Rattle.xds_message.specs.StampedWrites.{write_fields, write_object}
 use Rattle.xds_outbox.proofs.Cutting.{part_bounds, sound_parts}
 use Rattle.xds_outbox.proofs.Lengths.{set_len, object_len, item_len, list_len, sum_by-map}
 use Rattle.xds_outbox.proofs.Weights.{not_long, quoted_short}

@@ -2,7 +2,7 @@
 use Rattle.std.specs.Prelude.{◌≡◌, List, true, All}
 use Rattle.std.specs.List.{flat_map}
 use Rattle.xds_resource.specs.TypedWrites.{TypedWrite}
-use Rattle.xds_writes.specs.Batches.{IsSound, by_type}
+use Rattle.xds_message.specs.Batches.{IsSound, by_type}
 use Rattle.xds_frames.specs.Frames.{IsFrame}
 use Rattle.xds_outbox.specs.Parts.{is_part, parts_of, batch_frame}
 

@@ -12,7 +12,7 @@ use Rattle.xds_resource.specs.declared.any.AnyWrite.{AnyWrite}
 use Rattle.xds_json.specs.WrittenFields.{list_data}
 use Rattle.xds_frames.specs.Frames.{Framed}
 use Rattle.xds_frames.specs.declared.frame.FrameKind.TheVariants.{Batch}
-use Rattle.xds_writes.specs.Batches.{by_type, batch_object}
+use Rattle.xds_message.specs.Batches.{by_type, batch_object}
 
 -- a write of the program, with its type
 abbrev pub typed_write : AnyWrite → TypedWrite

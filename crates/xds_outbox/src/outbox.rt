@@ -4,15 +4,15 @@ ghost use Rattle.xds_resource.specs.PerType.{at};
 ghost use Rattle.xds_resource.specs.Writes.{StampedWrite};
 ghost use Rattle.xds_resource.specs.declared.refusal.Refusal.TheVariants.{OutOfMemory};
 ghost use Rattle.xds_frames.specs.Frames.{IsFrame};
-ghost use Rattle.xds_writes.specs.Batches.{by_type, in_order, typed, IsSound};
+ghost use Rattle.xds_message.specs.Batches.{by_type, in_order, typed, IsSound};
 ghost use Rattle.xds_outbox.specs.Parts.{typed_write, batch_frame, IsNextPart, IsFirstPart};
 
 use crate::weighing::weight_of;
 use std::alloc::Global;
 use std::marker::Model;
 use std::mem;
+use xds_message::Batch;
 use xds_resource::{AnyWrite, Refusal, TypeName};
-use xds_writes::Batch;
 
 /// The most writes of a part.
 pub const MAX_WRITES: usize = 512;

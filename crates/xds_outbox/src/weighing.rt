@@ -2,7 +2,7 @@
 ghost use Rattle.std.specs.Prelude.{◌≡◌, ◌≤◌, IfOk, OnOk, IfErr};
 ghost use Rattle.xds_resource.specs.Groups.{IsGroups};
 ghost use Rattle.xds_resource.specs.declared.refusal.Refusal.TheVariants.{OutOfMemory};
-ghost use Rattle.xds_writes.specs.Batches.{IsSound};
+ghost use Rattle.xds_message.specs.Batches.{IsSound};
 ghost use Rattle.xds_outbox.specs.Parts.{typed_write, weight, groups_bytes, max_bytes};
 
 use serde_json::{Map, Value};

@@ -6,9 +6,9 @@ use Rattle.xds_resource.specs.declared.types.TypeName.{TypeName}
 use Rattle.xds_resource.specs.declared.types.TypeName.TheVariants.{Cluster, Endpoint, Listener, Route, Secret}
 use Rattle.xds_message.specs.Messages.{Identity, Failure, Request}
 use Rattle.xds_message.specs.DeltaMessages.{DeltaRequest, identity_code, failure_code, delta_request_code}
-use Rattle.xds_draft.specs.declared.draft.Draft.{Draft}
-use Rattle.xds_draft.specs.declared.draft.Draft.TheVariants as drafts
-use Rattle.xds_draft.specs.Drafts.{Drafted, DraftedResource, DraftedDelta}
+use Rattle.xds_message.specs.declared.draft.Draft.{Draft}
+use Rattle.xds_message.specs.declared.draft.Draft.TheVariants as drafts
+use Rattle.xds_message.specs.Drafts.{Drafted, DraftedResource, DraftedDelta}
 use Rattle.xds_core.specs.Streams as streams
 use Rattle.xds_core.specs.Streams.{Message}
 use Rattle.xds_cache.specs.Clients.{Client, client_code}

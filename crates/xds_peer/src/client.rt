@@ -2,9 +2,9 @@
 ghost use Rattle.std.specs.Prelude.{◌≡◌, map, true, false, string_bytes, option_map, IfOk, IfErr};
 ghost use Rattle.xds_resource.specs.Types.{types};
 ghost use Rattle.xds_resource.specs.declared.refusal.Refusal.TheVariants.{OutOfMemory};
-ghost use Rattle.xds_draft.specs.declared.draft.Draft.TheVariants as drafts;
+ghost use Rattle.xds_message.specs.declared.draft.Draft.TheVariants as drafts;
 ghost use Rattle.xds_message.specs.Responses.{response_of};
-ghost use Rattle.xds_draft.specs.Drafts.{message_of as drafted_message};
+ghost use Rattle.xds_message.specs.Drafts.{message_of as drafted_message};
 ghost use Rattle.xds_core.specs.Streams as streams;
 ghost use Rattle.xds_core.specs.Seen.{message_of};
 ghost use Rattle.xds_cache.specs.Clients.{view as view_of, linked};
@@ -21,8 +21,9 @@ use std::collections::VecDeque;
 use std::marker::Model;
 use xds_cache::{Accept, DeltaClient, Down, Holding, Link, RestClient, SotwClient, Up};
 use xds_core::Request;
-use xds_draft::{DeltaDraft, Draft, SotwDraft};
-use xds_message::{DeltaDiscoveryRequest, DiscoveryRequest, DiscoveryResponse};
+use xds_message::{
+    DeltaDiscoveryRequest, DeltaDraft, DiscoveryRequest, DiscoveryResponse, Draft, SotwDraft,
+};
 use xds_model::{ClientKind, Wish};
 use xds_resource::{NameMap, Refusal, TypeName};
 

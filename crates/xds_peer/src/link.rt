@@ -4,7 +4,7 @@ ghost use Rattle.std.specs.List.{list_any};
 ghost use Rattle.xds_resource.specs.declared.refusal.Refusal.TheVariants.{OutOfMemory};
 ghost use Rattle.xds_resource.specs.Types.{is_same_type};
 ghost use Rattle.xds_core.specs.Seen.{message_of};
-ghost use Rattle.xds_draft.specs.DraftTexts.{kind_of};
+ghost use Rattle.xds_message.specs.DraftTexts.{kind_of};
 ghost use Rattle.xds_model.specs.Claims.{asks_for, is_quiet};
 ghost use Rattle.xds_model.specs.Worlds.{under_way};
 ghost use Rattle.xds_model.specs.Seen.{happening_of};
@@ -19,7 +19,7 @@ use std::alloc::Global;
 use std::collections::VecDeque;
 use std::marker::Model;
 use xds_core::Request;
-use xds_draft::Draft;
+use xds_message::Draft;
 use xds_model::WorldEvent;
 use xds_resource::{Refusal, TypeName};
 

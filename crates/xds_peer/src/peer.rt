@@ -16,8 +16,7 @@ use std::alloc::Global;
 use std::marker::Model;
 use xds_cache::{Accept, Holding};
 use xds_core::Request;
-use xds_draft::{Draft, SotwDraft};
-use xds_message::DiscoveryRequest;
+use xds_message::{DiscoveryRequest, Draft, SotwDraft};
 use xds_model::{ClientKind, Wish};
 use xds_resource::{NameMap, Refusal, TypeName};
 

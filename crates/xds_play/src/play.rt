@@ -13,11 +13,11 @@ use crate::show::{show_content, show_view};
 use std::alloc::Global;
 use std::slice;
 use xds_cache::Marked;
+use xds_message::Batch;
 use xds_model::WorldEvent;
 use xds_resource::{Refusal, TypeName};
 use xds_script::{Command, read_script};
 use xds_world::{Status, Unsettled, World, more, play, settle};
-use xds_writes::Batch;
 
 /// Why a script isn't played.
 #[derive(Clone, Copy, Debug, PartialEq, Eq)]

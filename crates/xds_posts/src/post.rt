@@ -2,7 +2,7 @@
 ghost use Rattle.std.specs.Prelude.{◌≡◌, ◌≢◌, Ok, Some, IfOk, IfErr, MatchBool};
 ghost use Rattle.std.specs.Prelude.{Option as Maybe};
 ghost use Rattle.xds_resource.specs.declared.refusal.Refusal.TheVariants.{OutOfMemory, JournalFull};
-ghost use Rattle.xds_draft.specs.Drafts.{Drafted};
+ghost use Rattle.xds_message.specs.Drafts.{Drafted};
 ghost use Rattle.xds_core.specs.Events as events;
 ghost use Rattle.xds_core.specs.Seen.{event_of, answer_of};
 ghost use Rattle.xds_rest.specs.Replies.{http_of};

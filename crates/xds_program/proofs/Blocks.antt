@@ -4,8 +4,8 @@ use Rattle.std.specs.Io.KnownBytes.{Appends}
 use Rattle.std.proofs.KnownBytes.{Appends-nil, Appends-trans}
 use Rattle.std.proofs.Math.Seq.{take-append_seam, take-append-add}
 use Rattle.xds_frames.specs.Devices.{Device, MoreFailed, Wrote, WrotePart}
-use Rattle.xds_draft.specs.Drafts.{body_text}
-use Rattle.xds_draft.specs.Joined.{with_commas, behind_commas}
+use Rattle.xds_message.specs.Drafts.{body_text}
+use Rattle.xds_message.specs.Joined.{with_commas, behind_commas}
 use Rattle.xds_program.specs.Blocks.{Passes, comma_before}
 
 -- a device as some calls leave it

@@ -22,7 +22,7 @@ use Rattle.xds_interest.specs.Touches.{Touch, touches}
 use Rattle.xds_catalogue.specs.Holdings.{Entries, Holdings, IsCatalogue}
 use Rattle.xds_catalogue.specs.Content.{is_live, is_shown, content}
 use Rattle.xds_message.specs.Messages.{Request}
-use Rattle.xds_draft.specs.Drafts.{Drafted, message_of}
+use Rattle.xds_message.specs.Drafts.{Drafted, message_of}
 use Rattle.xds_ledger.specs.declared.variant.VariantName.TheVariants.{StateOfTheWorld}
 use Rattle.xds_ledger.specs.declared.entry.Entry.{Entry}
 use Rattle.xds_ledger.specs.declared.entry.Entry.TheVariants.{Told, Unsure}

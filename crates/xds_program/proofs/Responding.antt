@@ -8,7 +8,7 @@ use Rattle.xds_resource.specs.Types.{type_of_url}
 use Rattle.xds_resource.specs.declared.refusal.Refusal.{Refusal}
 use Rattle.xds_resource.specs.PerType.{PerType, at}
 use Rattle.xds_catalogue.specs.Holdings.{Holdings}
-use Rattle.xds_draft.specs.Drafts.{Drafted, message_of}
+use Rattle.xds_message.specs.Drafts.{Drafted, message_of}
 use Rattle.xds_message.specs.Messages.{Request}
 use Rattle.xds_program.specs.Answers.{response_to, response_by}
 

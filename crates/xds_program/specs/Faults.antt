@@ -10,7 +10,7 @@ use Rattle.xds_resource.specs.Writes.{StampedWrite}
 use Rattle.xds_resource.specs.TypedWrites.{TypedWrite}
 use Rattle.xds_message.specs.Spelling.{IsJson}
 use Rattle.xds_message.specs.Messages.{Request, SpellsRequest}
-use Rattle.xds_writes.specs.StampedWrites.{SpellsWrite}
+use Rattle.xds_message.specs.StampedWrites.{SpellsWrite}
 use Rattle.xds_catalogue.specs.Holdings.{Holdings}
 use Rattle.xds_catalogue.specs.Joins.{joined}
 use Rattle.xds_script.specs.Lines.{lines}

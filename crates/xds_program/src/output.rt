@@ -1,16 +1,16 @@
 // An answer that is written from the stored texts of its resources, in blocks.
 ghost use Rattle.std.specs.Prelude.{◌≡◌, ◌⊎◌, ◌++◌, [], map, string_bytes, IfOk, IfErr, OnOk, Some};
 ghost use Rattle.std.specs.Option.{option_map};
-ghost use Rattle.xds_draft.specs.Drafts.{body_text, message_of};
-ghost use Rattle.xds_draft.specs.Joined.{with_commas};
+ghost use Rattle.xds_message.specs.Drafts.{body_text, message_of};
+ghost use Rattle.xds_message.specs.Joined.{with_commas};
 ghost use Rattle.xds_frames.specs.Devices.{Stays, Wrote, WrotePart, seen};
 ghost use Rattle.xds_program.specs.Answers.{answer_text};
 ghost use Rattle.xds_program.specs.Blocks.{Passes, comma_before};
 
 use std::alloc::Global;
 use std::io::Write;
-use xds_draft::{Body, Ends, SotwDraft};
 use xds_frames::{Counted, write_bytes, write_whole};
+use xds_message::{Body, Ends, SotwDraft};
 use xds_resource::Refusal;
 
 // How many bytes are gathered before they are written.

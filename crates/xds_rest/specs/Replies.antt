@@ -6,7 +6,7 @@ use Rattle.xds_resource.specs.declared.types.TypeName.{TypeName}
 use Rattle.xds_resource.specs.declared.refusal.Refusal.{Refusal}
 use Rattle.xds_message.specs.Messages.{Request}
 use Rattle.xds_message.specs.Written.{response_object}
-use Rattle.xds_draft.specs.Drafts.{Drafted, message_of}
+use Rattle.xds_message.specs.Drafts.{Drafted, message_of}
 use Rattle.xds_core.specs.Events as events
 use Rattle.xds_core.specs.Events.{Event, Reply}
 use Rattle.xds_streams.specs.Streams.{cluster_in}

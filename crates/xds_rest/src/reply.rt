@@ -1,7 +1,7 @@
 // Replies of the REST variant.
 ghost use Rattle.std.specs.Prelude.{◌≡◌, Some, Err, string_bytes, IfOk, IfErr};
 ghost use Rattle.xds_resource.specs.declared.refusal.Refusal.TheVariants.{OutOfMemory};
-ghost use Rattle.xds_draft.specs.Drafts.{Drafted};
+ghost use Rattle.xds_message.specs.Drafts.{Drafted};
 ghost use Rattle.xds_core.specs.Events as events;
 ghost use Rattle.xds_core.specs.Seen.{reply_of as reply_seen};
 ghost use Rattle.xds_rest.specs.Posts.{refusal_object, refused_reply};
@@ -9,7 +9,7 @@ ghost use Rattle.xds_rest.specs.Replies.{http_of, reply_to};
 
 use std::alloc::Global;
 use xds_core::Reply;
-use xds_draft::SotwDraft;
+use xds_message::SotwDraft;
 pub use xds_polls::HttpReply;
 use xds_resource::Refusal;
 

@@ -12,7 +12,7 @@ use Rattle.xds_resource.specs.declared.types.TypeName.{TypeName}
 use Rattle.xds_resource.specs.declared.refusal.Refusal.{Refusal}
 use Rattle.xds_resource.specs.Resources.{NamedBody, from_object, value_of, max_nesting}
 use Rattle.xds_json.specs.Spelling.{IsObject, IsJson}
-use Rattle.xds_writes.proofs.StampedWriteLemmas.{from_value-canonical}
+use Rattle.xds_message.proofs.StampedWriteLemmas.{from_value-canonical}
 use Rattle.xds_message.specs.Messages.{Response, SpellsResponse}
 use Rattle.xds_message.specs.DeltaMessages.{DeltaResponse, SpellsDeltaResponse}
 use Rattle.xds_message.specs.Written.{response_object}

@@ -10,7 +10,7 @@ use Rattle.xds_resource.specs.declared.types.TypeName.TheVariants as types
 use Rattle.xds_resource.specs.Any.{write_type, stamped_write}
 use Rattle.xds_resource.specs.Types.{row}
 use Rattle.serde_json.specs.Written.{compact_text}
-use Rattle.xds_writes.specs.StampedWrites.{write_object}
+use Rattle.xds_message.specs.StampedWrites.{write_object}
 use Rattle.xds_message.specs.Written.{request_object, response_object}
 use Rattle.xds_message.specs.DeltaWritten.{delta_request_object, delta_response_object}
 use Rattle.xds_ledger.specs.Variants.{is_delta}

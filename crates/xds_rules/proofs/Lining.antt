@@ -18,7 +18,7 @@ use Rattle.xds_message.proofs.OneMessage.{SpellsResponse-unique}
 use Rattle.xds_message.proofs.OneDeltaMessage.{SpellsDeltaResponse-unique}
 use Rattle.xds_ledger.specs.declared.variant.VariantName.TheVariants as variants
 use Rattle.xds_ledger.specs.Variants.{is_delta}
-use Rattle.xds_writes.specs.StampedWrites.{IsSpelledBy}
+use Rattle.xds_message.specs.StampedWrites.{IsSpelledBy}
 use Rattle.xds_rules.specs.declared.asking.Asking.{Asking}
 use Rattle.xds_rules.specs.declared.asking.Asking.TheVariants.{Sotw, Delta}
 use Rattle.xds_rules.specs.declared.line.Line.{Line}

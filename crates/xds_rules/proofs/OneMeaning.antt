@@ -13,8 +13,8 @@ use Rattle.xds_resource.specs.Any.{write_type, stamped_write}
 use Rattle.xds_resource.specs.Resources.{NamedBody}
 use Rattle.xds_resource.specs.Types.{row, type_of_word}
 use Rattle.xds_resource.specs.Writes.{StampedWrite}
-use Rattle.xds_writes.specs.StampedWrites.{IsSpelledBy, SpellsWrite}
-use Rattle.xds_writes.proofs.StampedWriteLemmas.{SpellsWrite-unique, url-injective}
+use Rattle.xds_message.specs.StampedWrites.{IsSpelledBy, SpellsWrite}
+use Rattle.xds_message.proofs.StampedWriteLemmas.{SpellsWrite-unique, url-injective}
 use Rattle.xds_message.specs.Messages.{Response, SpellsRequest, SpellsResponse}
 use Rattle.xds_message.specs.DeltaMessages.{VersionedResource, DeltaResponse, SpellsDeltaRequest, SpellsDeltaResponse}
 use Rattle.xds_message.proofs.OneMessage.{SpellsRequest-unique, SpellsResponse-unique}

@@ -12,7 +12,7 @@ use Rattle.xds_rules.specs.declared.line.Line.{Line}
 use Rattle.xds_rules.specs.Orders.{OrderKept, IsOrderOf, nothing_kept, may_follow_in, kept_after, IsTaken, IsBadIn}
 use Rattle.xds_rules.specs.Streams.{may_follow, AllFollow, IsInOrder}
 use Rattle.xds_rules.specs.Texts.{Says, SayAll, ended, IsOneLine, IsTrace, IsBad, IsRefusedAt, HasStream, line_text, trace_text}
-use Rattle.xds_writes.proofs.BatchLemmas.{map-take-more}
+use Rattle.xds_message.proofs.BatchLemmas.{map-take-more}
 use Rattle.xds_rules.proofs.LineTexts.{lines_feedless}
 use Rattle.xds_rules.proofs.Orderly.{nothing_yet, order_after, follows_same}
 

@@ -11,7 +11,7 @@ use Rattle.xds_resource.specs.Any.{write_type, stamped_write}
 use Rattle.xds_resource.specs.Resources.{from_value}
 use Rattle.xds_resource.specs.Types.{row}
 use Rattle.xds_json.specs.Spelling.{IsJson}
-use Rattle.xds_writes.specs.StampedWrites.{IsSpelledBy, write_object}
+use Rattle.xds_message.specs.StampedWrites.{IsSpelledBy, write_object}
 use Rattle.xds_message.specs.Messages.{Response, SpellsRequest, SpellsResponse}
 use Rattle.xds_message.specs.DeltaMessages.{VersionedResource, DeltaResponse, SpellsDeltaRequest, SpellsDeltaResponse}
 use Rattle.xds_message.specs.Written.{request_object, response_object}

@@ -5,7 +5,7 @@ ghost use Rattle.xds_resource.specs.declared.refusal.Refusal.TheVariants.{OutOfM
 ghost use Rattle.xds_resource.specs.Any.{write_type, stamped_write};
 ghost use Rattle.xds_resource.specs.Resources.{IsWritable};
 ghost use Rattle.xds_resource.specs.Stamps.{IsStamp};
-ghost use Rattle.xds_writes.specs.StampedWrites.{IsSpelledBy, write_object};
+ghost use Rattle.xds_message.specs.StampedWrites.{IsSpelledBy, write_object};
 ghost use Rattle.xds_rules.specs.declared.line.Line.TheVariants as lines;
 ghost use Rattle.xds_rules.specs.Texts.{IsJsonOf, SpellsAsking, SpellsAnswer, asking_json, answer_json, spaced, behind_text, line_text, verb_in, HasStream, SaysBehind, Says};
 

@@ -3,7 +3,7 @@ ghost use Rattle.std.specs.Prelude.{◌≡◌, ◌≢◌, Ok, Err, IfOk, IfErr, 
 ghost use Rattle.std.specs.Str.{IsUtf8};
 ghost use Rattle.xds_resource.specs.declared.refusal.Refusal.TheVariants.{OutOfMemory, BadTrace};
 ghost use Rattle.xds_resource.specs.Any.{write_type, stamped_write};
-ghost use Rattle.xds_writes.specs.StampedWrites.{IsSpelledBy};
+ghost use Rattle.xds_message.specs.StampedWrites.{IsSpelledBy};
 ghost use Rattle.xds_message.specs.Messages.{SpellsRequest, SpellsResponse};
 ghost use Rattle.xds_message.specs.DeltaMessages.{SpellsDeltaRequest, SpellsDeltaResponse};
 ghost use Rattle.xds_message.specs.Responses.{response_of, delta_response_of};

@@ -11,7 +11,7 @@ use Rattle.xds_resource.specs.Refusals.{unless_refused}
 use Rattle.xds_resource.specs.Resources.{NamedBody, named_type, parsed, value_of, type_text, has_type, resource_of, front_conditions, object_conditions, from_object}
 use Rattle.xds_resource.proofs.NameMaps.{bytes_eq_tells}
 use Rattle.xds_script.specs.Commands.{resource_in}
-use Rattle.xds_writes.proofs.StampedWriteLemmas.{type_of_url-url}
+use Rattle.xds_message.proofs.StampedWriteLemmas.{type_of_url-url}
 
 passed : {A : Type 0} (b : Bool) (e : Refusal) (r : Result A Refusal) (a : A) → cond b (Err e) r ≡ Ok a → r ≡ Ok a
 passed true e r a h = cc

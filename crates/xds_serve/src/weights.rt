@@ -1,11 +1,9 @@
 // About how much memory the records of a journal take: an estimate, of which nothing that is answered depends.
 use std::alloc::Global;
 use xds_core::{Event, Reply, Request};
-use xds_draft::{DeltaDraft, Draft, SotwDraft};
 use xds_json::Versions;
-use xds_message::{DeltaDiscoveryRequest, DiscoveryRequest};
+use xds_message::{Batch, DeltaDiscoveryRequest, DeltaDraft, DiscoveryRequest, Draft, SotwDraft};
 use xds_resource::{Refusal, ResourceType, Write};
-use xds_writes::Batch;
 
 // What a record, an entry of a list or a text takes beside its bytes: its place, and what the allocator adds.
 const PLACE: u64 = 64;

@@ -8,7 +8,7 @@ use Rattle.xds_resource.specs.Writes.{StampedWrite}
 use Rattle.xds_interest.specs.Interests.{Selection}
 use Rattle.xds_catalogue.specs.Holdings.{Holdings}
 use Rattle.xds_catalogue.specs.Content.{content}
-use Rattle.xds_draft.specs.Drafts.{Drafted}
+use Rattle.xds_message.specs.Drafts.{Drafted}
 use Rattle.xds_sotw.specs.Parts.{with_all}
 use Rattle.xds_sotw.proofs.Made.{with_bodies, body_of, bodies_step}
 

@@ -8,7 +8,7 @@ use Rattle.xds_resource.specs.Writes.{StampedWrite, text_cmp}
 use Rattle.xds_interest.specs.Asked.{Asked, sotw_asked}
 use Rattle.std.specs.FinSet as set
 use Rattle.xds_interest.specs.Touches.{Touch, sotw_touch}
-use Rattle.xds_draft.specs.Drafts.{Drafted, with_body}
+use Rattle.xds_message.specs.Drafts.{Drafted, with_body}
 use Rattle.xds_ledger.specs.declared.variant.VariantName.TheVariants.{StateOfTheWorld}
 use Rattle.xds_ledger.specs.Offers.{Offer}
 use Rattle.xds_ledger.specs.Ledgers.{Account, settled, touch, resume}

@@ -2,7 +2,7 @@
 use Rattle.std.specs.Prelude.{List, [], ◌∷◌, if◌then◌else◌, is_some}
 use Rattle.std.specs.FinMap as finmap
 use Rattle.xds_resource.specs.Writes.{StampedWrite}
-use Rattle.xds_draft.specs.Drafts.{Drafted, with_body}
+use Rattle.xds_message.specs.Drafts.{Drafted, with_body}
 use Rattle.xds_ledger.specs.Offers.{Offer}
 
 -- the response with the bodies of some writes behind its own

@@ -7,7 +7,7 @@ use Rattle.xds_interest.specs.Interests.{Selection, in_cluster}
 use Rattle.xds_interest.specs.SotW.{sotw_interest}
 use Rattle.xds_catalogue.specs.Holdings.{Holdings}
 use Rattle.xds_catalogue.specs.Content.{content}
-use Rattle.xds_draft.specs.Drafts.{Drafted}
+use Rattle.xds_message.specs.Drafts.{Drafted}
 use Rattle.xds_ledger.specs.Texts.{interest_version}
 
 -- the interest of a client of this cluster that sends one list of names

@@ -6,10 +6,10 @@ ghost use Rattle.xds_sotw.specs.Polls.{response as response_of};
 
 use std::alloc::Global;
 use xds_catalogue::Catalogue;
-use xds_draft::SotwDraft;
 use xds_interest::Interest;
 use xds_ledger::Due;
 use xds_ledger::texts::{interest_version, nonce_text};
+use xds_message::SotwDraft;
 use xds_resource::{NameMap, Refusal, ResourceType, Write};
 
 // Adds a write's body, if the offer speaks of its name.

@@ -8,9 +8,9 @@ ghost use Rattle.xds_sotw.specs.Rest.{asked_once, unless_present};
 
 use std::alloc::Global;
 use xds_catalogue::Catalogue;
-use xds_draft::SotwDraft;
 use xds_interest::{ClusterText, Interest};
 use xds_ledger::texts::interest_version;
+use xds_message::SotwDraft;
 use xds_resource::{Refusal, ResourceType, Write};
 
 /// What a client of this cluster is answered that sends one list of names and the version that it kept: all that it sees, for

@@ -16,10 +16,9 @@ use crate::response::response;
 use std::alloc::Global;
 use std::marker::Model;
 use xds_catalogue::Catalogue;
-use xds_draft::SotwDraft;
 use xds_interest::{ClusterText, SotwNames};
 use xds_ledger::{Due, Ledger, Nonces, Outcome, StateOfTheWorld};
-use xds_message::DiscoveryRequest;
+use xds_message::{DiscoveryRequest, SotwDraft};
 use xds_resource::{NameMap, Refusal, ResourceType};
 
 /// One type on one stream, in the state-of-the-world variant.

@@ -20,11 +20,11 @@ use std::alloc::Global;
 use std::marker::Model;
 use std::mem;
 use xds_catalogue::Catalogue;
+use xds_message::Batch;
 use xds_resource::{
     AnyResource, AnyWrite, Cluster, Endpoint, Groups, Listener, Refusal, ResourceType, Route,
     Secret, Stamp, TypeName, Write,
 };
-use xds_writes::Batch;
 
 /// How many writes added or replaced an entry, of each type.
 #[derive(Clone, Copy, Debug)]

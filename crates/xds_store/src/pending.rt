@@ -6,8 +6,8 @@ ghost use Rattle.xds_store.specs.Pendings.{befores, afters, growth};
 use crate::catalogues::Catalogues;
 use std::marker::Model;
 use xds_catalogue::PendingJoin;
+use xds_message::Batch;
 use xds_resource::{Cluster, Endpoint, Listener, Route, Secret};
-use xds_writes::Batch;
 
 #[derive(Drop)]
 pub(crate) struct Pending {

@@ -15,7 +15,7 @@ use Rattle.xds_resource.specs.Stamps.{max_counter}
 use Rattle.xds_resource.specs.Types.{types}
 use Rattle.xds_resource.proofs.Refusing.{memory_or_not, unless_refused-value}
 use Rattle.xds_catalogue.proofs.Lookups.{get-inserted}
-use Rattle.xds_draft.specs.declared.draft.Draft.{Draft}
+use Rattle.xds_message.specs.declared.draft.Draft.{Draft}
 use Rattle.xds_ledger.specs.Offers.{Offer}
 use Rattle.xds_store.specs.Stores.{Store}
 use Rattle.xds_streams.specs.Streams.{Stream, Message, opening, requested, answered, sessions_for, is_foreign, variant_of, polled_first, polled, responding, response_of, first_due, to_send, sent}

@@ -3,9 +3,9 @@ use Rattle.std.specs.Prelude.{◌≡◌, ◌⊎◌, ℕ, List, [], take, Result,
 use Rattle.std.specs.List.{flat_map}
 use Rattle.xds_resource.specs.declared.refusal.Refusal.{Refusal}
 use Rattle.xds_resource.specs.declared.refusal.Refusal.TheVariants.{FrameTooLong, OutOfMemory, Device as DeviceRefusal}
-use Rattle.xds_draft.specs.declared.draft.Draft.{Draft}
-use Rattle.xds_draft.specs.declared.draft.Draft.TheVariants as drafts
-use Rattle.xds_draft.specs.DraftTexts.{text_of}
+use Rattle.xds_message.specs.declared.draft.Draft.{Draft}
+use Rattle.xds_message.specs.declared.draft.Draft.TheVariants as drafts
+use Rattle.xds_message.specs.DraftTexts.{text_of}
 use Rattle.xds_frames.specs.declared.frame.FrameKind.{FrameKind}
 use Rattle.xds_frames.specs.declared.frame.FrameKind.TheVariants.{DiscoveryResponse, DeltaDiscoveryResponse}
 use Rattle.xds_frames.specs.Frames.{Framed, IsFrame, frame_bytes}

@@ -1,7 +1,7 @@
 -- Messages that were answered whole, and what a replica and a writer are then. This project's own.
 use Rattle.std.specs.Prelude.{◌≡◌, ℕ, List, All}
 use Rattle.std.specs.List.{flat_map}
-use Rattle.xds_draft.specs.declared.draft.Draft.{Draft}
+use Rattle.xds_message.specs.declared.draft.Draft.{Draft}
 use Rattle.xds_ledger.specs.declared.outcome.Outcome.{Outcome}
 use Rattle.xds_frames.specs.Frames.{Framed, IsFrame, frame_bytes}
 use Rattle.xds_frames.specs.Devices.{Device, Wrote}

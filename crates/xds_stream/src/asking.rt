@@ -9,7 +9,7 @@ ghost use Rattle.xds_stream.specs.Records.{Refuses};
 ghost use Rattle.xds_stream.specs.Turning.{IsOpen, draft_in, number_in, numbers_left};
 
 use xds_core::{Core, Event, Reply, Request};
-use xds_draft::Draft;
+use xds_message::Draft;
 use xds_resource::Refusal;
 
 // The number of the stream that was opened.

@@ -9,8 +9,8 @@ use crate::asking::{ask, poll};
 use std::alloc::Global;
 use std::io::Write;
 use xds_core::{Core, Request};
-use xds_draft::Draft;
 use xds_frames::{Counted, FrameKind, push_frame, write_bytes};
+use xds_message::Draft;
 use xds_resource::Refusal;
 
 fn kind_of(draft: &Draft) -> FrameKind

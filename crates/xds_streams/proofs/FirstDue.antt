@@ -6,7 +6,7 @@ use Rattle.xds_resource.specs.declared.types.TypeName.{TypeName}
 use Rattle.xds_resource.specs.declared.refusal.Refusal.{Refusal}
 use Rattle.xds_resource.specs.declared.refusal.Refusal.TheVariants.{OutOfMemory}
 use Rattle.xds_resource.specs.Refusals.{Gives}
-use Rattle.xds_draft.specs.declared.draft.Draft.{Draft}
+use Rattle.xds_message.specs.declared.draft.Draft.{Draft}
 use Rattle.xds_ledger.specs.Offers.{Offer}
 use Rattle.xds_store.specs.Stores.{Store}
 use Rattle.xds_streams.specs.Streams.{Stream, IsToRespond, opening, looked_at, to_send, responding, polled, polled_first}

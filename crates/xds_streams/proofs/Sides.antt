@@ -4,7 +4,7 @@ use Rattle.std.specs.Prelude.{IfOk, IfErr, MatchOption, option_map}
 use Rattle.xds_resource.specs.declared.types.TypeName.{TypeName}
 use Rattle.xds_resource.specs.declared.refusal.Refusal.{Refusal}
 use Rattle.xds_catalogue.specs.Holdings.{Holdings}
-use Rattle.xds_draft.specs.declared.draft.Draft.{Draft}
+use Rattle.xds_message.specs.declared.draft.Draft.{Draft}
 use Rattle.xds_ledger.specs.declared.variant.VariantName.{VariantName}
 use Rattle.xds_ledger.specs.Offers.{Offer}
 use Rattle.xds_ledger.specs.Sessions as sessions

@@ -8,7 +8,7 @@ use Rattle.xds_resource.specs.declared.refusal.Refusal.TheVariants.{OutOfMemory,
 use Rattle.xds_resource.specs.PerType.{at}
 use Rattle.xds_resource.specs.Refusals.{Gives}
 use Rattle.xds_resource.specs.Stamps.{max_counter}
-use Rattle.xds_draft.specs.declared.draft.Draft.{Draft}
+use Rattle.xds_message.specs.declared.draft.Draft.{Draft}
 use Rattle.xds_ledger.specs.declared.variant.VariantName.{VariantName}
 use Rattle.xds_ledger.specs.Offers.{Offer, offer}
 use Rattle.xds_catalogue.specs.Holdings.{Entries}

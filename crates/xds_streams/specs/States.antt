@@ -1,6 +1,6 @@
 -- How a session of the program is seen, in either variant. This project's own.
 use Rattle.std.specs.Prelude.{Option, option_map, Result, Ok, Err}
-use Rattle.xds_draft.specs.declared.draft.Draft.{Draft}
+use Rattle.xds_message.specs.declared.draft.Draft.{Draft}
 use Rattle.xds_ledger.specs.declared.variant.VariantName.TheVariants as variants
 use Rattle.xds_streams.specs.declared.session.Side.{Side}
 use Rattle.xds_streams.specs.declared.session.Side.TheVariants as sides

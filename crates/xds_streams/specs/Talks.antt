@@ -5,8 +5,8 @@ use Rattle.xds_resource.specs.declared.types.TypeName.{TypeName}
 use Rattle.xds_resource.specs.PerType.{PerType, per_type_code, at, each, with_at}
 use Rattle.xds_interest.specs.Interests.{Selection}
 use Rattle.xds_catalogue.specs.Holdings.{Holdings}
-use Rattle.xds_draft.specs.declared.draft.Draft.{Draft}
-use Rattle.xds_draft.specs.declared.draft.Draft.TheVariants as drafts
+use Rattle.xds_message.specs.declared.draft.Draft.{Draft}
+use Rattle.xds_message.specs.declared.draft.Draft.TheVariants as drafts
 use Rattle.xds_ledger.specs.Offers.{Offer, offer}
 use Rattle.xds_ledger.specs.declared.variant.VariantName.{VariantName}
 use Rattle.xds_ledger.specs.declared.variant.VariantName.TheVariants as variants

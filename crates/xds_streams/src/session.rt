@@ -3,7 +3,7 @@ ghost use Rattle.std.specs.Prelude.{◌≡◌, ◌<◌, ◌≤◌, ◌⊎◌, is
 ghost use Rattle.xds_resource.specs.Stamps.{max_counter};
 ghost use Rattle.xds_resource.specs.declared.refusal.Refusal.TheVariants.{OutOfMemory, NonceSpent};
 ghost use Rattle.xds_ledger.specs.Offers.{offer};
-ghost use Rattle.xds_draft.specs.declared.draft.Draft.TheVariants as drafts;
+ghost use Rattle.xds_message.specs.declared.draft.Draft.TheVariants as drafts;
 ghost use Rattle.xds_ledger.specs.Sessions as sessions;
 ghost use Rattle.xds_ledger.specs.Sessions.{outcome, HasPolled};
 ghost use Rattle.xds_ledger.specs.Lists.{SessionFits, StaysFit, new_kept};
@@ -16,9 +16,9 @@ use crate::request::Request;
 use std::alloc::Global;
 use std::marker::Model;
 use xds_catalogue::Catalogue;
-use xds_draft::{DeltaDraft, Draft, SotwDraft};
 use xds_interest::ClusterText;
 use xds_ledger::{Due, Nonces, Outcome, VariantName};
+use xds_message::{DeltaDraft, Draft, SotwDraft};
 use xds_resource::{NameMap, Refusal, ResourceType};
 
 enum Side<T: ResourceType> {

@@ -8,7 +8,7 @@ use Rattle.xds_resource.specs.declared.refusal.Refusal.TheVariants.{CounterSpent
 use Rattle.xds_resource.specs.Resources.{NamedBody}
 use Rattle.xds_resource.specs.Stamps.{max_counter}
 use Rattle.xds_resource.specs.Types.{types}
-use Rattle.xds_draft.specs.declared.draft.Draft.{Draft}
+use Rattle.xds_message.specs.declared.draft.Draft.{Draft}
 use Rattle.xds_ledger.specs.declared.outcome.Outcome.{Outcome}
 use Rattle.xds_store.specs.Stores.{Store, Batch, if_done, merging, putting_at, deleting_at}
 use Rattle.xds_streams.specs.Streams.{Stream, Message, opening, requested, looked_at, polled_first, owes_some}

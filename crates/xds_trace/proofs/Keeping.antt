@@ -13,7 +13,7 @@ use Rattle.xds_resource.specs.Types.{types}
 use Rattle.xds_resource.specs.Writes.{StampedWrite}
 use Rattle.xds_catalogue.specs.Joins.{joined}
 use Rattle.xds_catalogue.specs.Local.{next_counter}
-use Rattle.xds_draft.specs.declared.draft.Draft.{Draft}
+use Rattle.xds_message.specs.declared.draft.Draft.{Draft}
 use Rattle.xds_ledger.specs.declared.outcome.Outcome.{Outcome}
 use Rattle.xds_store.specs.Stores.{Store, Batch, if_done, merging, merged, grown, is_spent, putting_at, deleting_at}
 use Rattle.xds_streams.specs.Streams.{Stream, Message, opening, requested, looked_at, polled_first, owes_some, owes_of}

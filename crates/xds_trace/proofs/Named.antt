@@ -4,7 +4,7 @@ use Rattle.std.specs.Prelude.{IfSome}
 use Rattle.std.specs.Option.{ForSome}
 use Rattle.xds_resource.specs.declared.types.TypeName.{TypeName}
 use Rattle.xds_resource.specs.Resources.{NamedBody, IsCanonical}
-use Rattle.xds_writes.proofs.StampedWriteLemmas.{from_value-canonical}
+use Rattle.xds_message.proofs.StampedWriteLemmas.{from_value-canonical}
 use Rattle.xds_core.specs.Events.{Event, Open, Request, Poll, Owes, Close, Put, Delete, Merge, Snapshot, Rest, Since}
 use Rattle.xds_trace.specs.Making.{IsWellNamed, IsSound, name_read, own_names}
 use Rattle.xds_trace.specs.Claims.{EveryTraceKeepsTheRules, SoDoesOneWithIdleEnds}

@@ -17,7 +17,7 @@ use Rattle.xds_resource.specs.Types.{types}
 use Rattle.xds_resource.specs.Writes.{StampedWrite}
 use Rattle.xds_catalogue.proofs.Joining.{below_top}
 use Rattle.xds_catalogue.proofs.Lookups.{get-inserted, get-removed}
-use Rattle.xds_draft.specs.declared.draft.Draft.{Draft}
+use Rattle.xds_message.specs.declared.draft.Draft.{Draft}
 use Rattle.xds_ledger.specs.declared.outcome.Outcome.{Outcome}
 use Rattle.xds_store.specs.Stores.{Store, Batch, if_done, merging, putting_at, deleting_at}
 use Rattle.xds_streams.specs.Streams.{Stream, Message, opening, requested, looked_at, polled_first, owes_some}

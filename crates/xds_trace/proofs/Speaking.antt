@@ -12,7 +12,7 @@ use Rattle.xds_resource.specs.declared.types.TypeName.{TypeName}
 use Rattle.xds_resource.specs.PerType.{PerType, at}
 use Rattle.xds_resource.specs.Writes.{StampedWrite}
 use Rattle.xds_catalogue.proofs.Lookups.{get-inserted, get-removed}
-use Rattle.xds_draft.specs.declared.draft.Draft.{Draft}
+use Rattle.xds_message.specs.declared.draft.Draft.{Draft}
 use Rattle.xds_ledger.specs.declared.variant.VariantName.{VariantName}
 use Rattle.xds_ledger.specs.declared.variant.VariantName.TheVariants as variants
 use Rattle.xds_ledger.specs.Variants.{is_delta}

@@ -6,7 +6,7 @@ use Rattle.xds_resource.specs.declared.types.TypeName.{TypeName}
 use Rattle.xds_resource.specs.PerType.{at}
 use Rattle.xds_resource.specs.Stamps.{max_counter}
 use Rattle.xds_catalogue.specs.Holdings.{Entries}
-use Rattle.xds_draft.specs.declared.draft.Draft.{Draft}
+use Rattle.xds_message.specs.declared.draft.Draft.{Draft}
 use Rattle.xds_ledger.specs.declared.variant.VariantName.{VariantName}
 use Rattle.xds_ledger.specs.declared.variant.VariantName.TheVariants as variants
 use Rattle.xds_ledger.specs.Offers.{Offer}

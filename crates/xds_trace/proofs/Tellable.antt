@@ -20,13 +20,13 @@ use Rattle.xds_resource.specs.Writes.{StampedWrite}
 use Rattle.xds_resource.proofs.NameMaps.{bytes_eq_tells}
 use Rattle.xds_resource.proofs.Naming.{canonical-valid}
 use Rattle.xds_resource.proofs.TypesApart.{same_type}
-use Rattle.xds_writes.proofs.StampedWriteLemmas.{from_value-canonical}
+use Rattle.xds_message.proofs.StampedWriteLemmas.{from_value-canonical}
 use Rattle.xds_interest.proofs.Choices.{and_first}
 use Rattle.xds_catalogue.specs.Content.{is_live, if_live}
 use Rattle.xds_catalogue.specs.Joins.{joined}
 use Rattle.xds_catalogue.specs.Local.{has_live, deleting, next_counter, spent_conditions}
-use Rattle.xds_draft.specs.declared.draft.Draft.{Draft}
-use Rattle.xds_draft.specs.declared.draft.Draft.TheVariants as drafts
+use Rattle.xds_message.specs.declared.draft.Draft.{Draft}
+use Rattle.xds_message.specs.declared.draft.Draft.TheVariants as drafts
 use Rattle.xds_store.specs.Stores.{Batch, Store, deleting_at}
 use Rattle.xds_core.specs.Events.{Event, Open, Request, Poll, Owes, Close, Put, Delete, Merge, Snapshot, Rest, Since, Reply, Opened, Answered, Polled, Owed, Closed, Written, Merged, Entries, Rested, Changed}
 use Rattle.xds_core.specs.Steps.{Core, Step, step, fresh}

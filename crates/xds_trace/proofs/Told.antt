@@ -7,11 +7,11 @@ use Rattle.xds_resource.specs.declared.types.TypeName.{TypeName}
 use Rattle.xds_resource.specs.declared.refusal.Refusal.{Refusal}
 use Rattle.xds_resource.specs.Resources.{NamedBody, from_value, value_of, resource_of, value_conditions}
 use Rattle.xds_resource.proofs.Refusing.{unless_refused-value}
-use Rattle.xds_writes.proofs.StampedWriteLemmas.{url-injective}
+use Rattle.xds_message.proofs.StampedWriteLemmas.{url-injective}
 use Rattle.xds_message.specs.Messages.{Response}
 use Rattle.xds_message.specs.DeltaMessages.{DeltaResponse}
-use Rattle.xds_draft.specs.Drafts.{Drafted, DraftedDelta, DraftedResource, IsBodyText, message_of, delta_message_of, drafted_resource}
-use Rattle.xds_draft.specs.declared.draft.Draft.TheVariants as drafts
+use Rattle.xds_message.specs.Drafts.{Drafted, DraftedDelta, DraftedResource, IsBodyText, message_of, delta_message_of, drafted_resource}
+use Rattle.xds_message.specs.declared.draft.Draft.TheVariants as drafts
 use Rattle.xds_rules.specs.Answers.{Statement, Answer}
 use Rattle.xds_rules.specs.Texts.{IsStated, IsLabelled, IsSotwAnswer, IsDeltaAnswer}
 use Rattle.xds_rules.specs.Words.{Finds}

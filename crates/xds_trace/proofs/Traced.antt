@@ -13,7 +13,7 @@ use Rattle.xds_resource.specs.declared.refusal.Refusal.TheVariants.{OutOfMemory,
 use Rattle.xds_resource.proofs.Refusing.{memory_or_not}
 use Rattle.xds_resource.specs.Resources.{IsWritable}
 use Rattle.xds_resource.specs.Writes.{StampedWrite}
-use Rattle.xds_writes.proofs.BatchLemmas.{map-take-more}
+use Rattle.xds_message.proofs.BatchLemmas.{map-take-more}
 use Rattle.xds_core.specs.Events.{Event, Reply}
 use Rattle.xds_core.specs.Steps.{Core, fresh}
 use Rattle.xds_core.specs.Legal.{Record, IsLegal, after}

@@ -12,9 +12,9 @@ use Rattle.xds_resource.specs.PerType.{at}
 use Rattle.xds_resource.specs.Resources.{NamedBody, IsCanonical, IsWritable, written, deleted, from_value, value_of}
 use Rattle.xds_resource.specs.Types.{types}
 use Rattle.xds_resource.specs.Writes.{StampedWrite}
-use Rattle.xds_draft.specs.declared.draft.Draft.{Draft}
-use Rattle.xds_draft.specs.declared.draft.Draft.TheVariants as drafts
-use Rattle.xds_draft.specs.Drafts.{DraftedResource}
+use Rattle.xds_message.specs.declared.draft.Draft.{Draft}
+use Rattle.xds_message.specs.declared.draft.Draft.TheVariants as drafts
+use Rattle.xds_message.specs.Drafts.{DraftedResource}
 use Rattle.xds_ledger.specs.declared.variant.VariantName.TheVariants.{StateOfTheWorld, Delta}
 use Rattle.xds_store.specs.Stores.{Batch}
 use Rattle.xds_streams.specs.Streams as streams

@@ -11,7 +11,7 @@ use Rattle.xds_resource.specs.PerType.{PerType, each}
 use Rattle.xds_resource.specs.TypedWrites.{TypedWrite}
 use Rattle.xds_resource.specs.Writes.{StampedWrite}
 use Rattle.xds_frames.specs.Frames.{frame_bytes}
-use Rattle.xds_writes.specs.Batches.{in_order}
+use Rattle.xds_message.specs.Batches.{in_order}
 use Rattle.xds_outbox.specs.Parts.{IsNextPart, is_part, parts_behind, parts_of}
 use Rattle.xds_core.specs.Events.{Reply, Since}
 use Rattle.xds_core.specs.Legal.{Record}

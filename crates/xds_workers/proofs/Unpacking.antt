@@ -12,7 +12,7 @@ use Rattle.xds_frames.specs.declared.frame.FrameKind.TheVariants as kinds
 use Rattle.xds_frames.specs.Frames.{Framed}
 use Rattle.xds_frames.specs.Decoding.{GivesNext, framed}
 use Rattle.xds_frames.proofs.Standing.{found}
-use Rattle.xds_writes.specs.Batches.{SpellsBatch}
+use Rattle.xds_message.specs.Batches.{SpellsBatch}
 use Rattle.xds_workers.specs.Parcels.{IsFrameOf}
 
 abbrev Parts : Type 0

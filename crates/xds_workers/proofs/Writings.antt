@@ -7,7 +7,7 @@ use Rattle.std.proofs.lemmas.Grind.{flat_map-append}
 use Rattle.std.proofs.lemmas.List.Elements.{All-append, All-cons, All-nil}
 use Rattle.xds_resource.specs.declared.refusal.Refusal.{Refusal}
 use Rattle.xds_resource.specs.declared.refusal.Refusal.TheVariants.{NoStream, JournalFull}
-use Rattle.xds_draft.specs.declared.draft.Draft.{Draft}
+use Rattle.xds_message.specs.declared.draft.Draft.{Draft}
 use Rattle.xds_frames.specs.Devices.{Device}
 use Rattle.xds_frames.specs.Frames.{frame_bytes}
 use Rattle.xds_core.specs.Events.{Reply, Opened, Answered, Polled, Owed, Closed, Written, Merged, Entries, Rested, Changed, Poll}

@@ -3,7 +3,7 @@ ghost use Rattle.std.specs.Prelude.{◌≡◌, ◌⊎◌, ℕ, List, [], ◌∷�
 ghost use Rattle.xds_resource.specs.PerType.{PerType, each};
 ghost use Rattle.xds_resource.specs.declared.refusal.Refusal.TheVariants.{OutOfMemory};
 ghost use Rattle.xds_store.specs.Counts.{counts_of};
-ghost use Rattle.xds_writes.specs.Batches.{in_order};
+ghost use Rattle.xds_message.specs.Batches.{in_order};
 ghost use Rattle.xds_core.specs.Legal.{Record};
 ghost use Rattle.xds_core.specs.Seen.{reply_of};
 ghost use Rattle.xds_frames.specs.Frames.{IsFrame, frame_bytes};
@@ -20,9 +20,9 @@ use std::alloc::Global;
 use std::sync::Wait;
 use xds_core::{Event, Marks, Reply};
 use xds_link::{Incoming, Outgoing};
+use xds_message::Batch;
 use xds_outbox::Outbox;
 use xds_resource::Refusal;
-use xds_writes::Batch;
 
 /// The thread that tells another replica what changed here. It waits until the counts of changes differ from those that
 /// it saw, asks for what changed since the peer was told, puts that as parcels, and takes one receipt for them; where

@@ -9,8 +9,8 @@ ghost use Rattle.xds_workers.specs.Parcels.{batch_frame, IsFrameOf};
 use std::alloc::Global;
 use std::marker::Model;
 use xds_frames::{FrameKind, first_frame, write_frame};
+use xds_message::Batch;
 use xds_resource::Refusal;
-use xds_writes::Batch;
 
 /// The frame of a part of a batch, and whether it is the last one. Contracts see the frame's bytes.
 pub struct Parcel {

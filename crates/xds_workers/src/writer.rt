@@ -11,8 +11,8 @@ use std::alloc::Global;
 use std::io::Write;
 use std::sync::Wait;
 use xds_core::Event;
-use xds_draft::Draft;
 use xds_frames::Counted;
+use xds_message::Draft;
 use xds_resource::Refusal;
 use xds_stream::{draft_in, send};
 

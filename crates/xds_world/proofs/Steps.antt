@@ -7,7 +7,7 @@ use Rattle.xds_resource.specs.declared.refusal.Refusal.{Refusal}
 use Rattle.xds_resource.specs.declared.refusal.Refusal.TheVariants.{CounterSpent, NoStream}
 use Rattle.xds_resource.specs.declared.types.TypeName.{TypeName}
 use Rattle.xds_resource.specs.Stamps.{max_counter}
-use Rattle.xds_draft.specs.declared.draft.Draft.{Draft}
+use Rattle.xds_message.specs.declared.draft.Draft.{Draft}
 use Rattle.xds_core.specs.Stores.{Batch, if_done, all_entries}
 use Rattle.xds_core.specs.Streams.{Message, Stream, opening, looked_at, polled_first}
 use Rattle.xds_core.specs.Events as events

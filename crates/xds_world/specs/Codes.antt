@@ -12,8 +12,8 @@ use Rattle.xds_resource.specs.PerType.{PerType, per_type_code}
 use Rattle.xds_resource.specs.Refusals.{number_of}
 use Rattle.xds_resource.specs.Resources.{NamedBody, named_body_code}
 use Rattle.xds_resource.specs.Writes.{write_code}
-use Rattle.xds_draft.specs.declared.draft.Draft.{Draft}
-use Rattle.xds_draft.specs.Drafts.{Drafted}
+use Rattle.xds_message.specs.declared.draft.Draft.{Draft}
+use Rattle.xds_message.specs.Drafts.{Drafted}
 use Rattle.xds_ledger.specs.declared.outcome.Outcome.{Outcome}
 use Rattle.xds_ledger.specs.declared.outcome.Outcome.TheVariants.{Taken, Ignored}
 use Rattle.xds_core.specs.Stores.{Batch}

@@ -1,7 +1,7 @@
 -- What the parts of a world do, one by one: the answers of the functions that do it. This project's own.
 use Rattle.std.specs.Prelude.{ℕ, [], Option, Some, None, option_map, Ok, Err}
-use Rattle.xds_draft.specs.declared.draft.Draft.{Draft}
-use Rattle.xds_draft.specs.Drafts.{Drafted}
+use Rattle.xds_message.specs.declared.draft.Draft.{Draft}
+use Rattle.xds_message.specs.Drafts.{Drafted}
 use Rattle.xds_core.specs.Stores.{Batch}
 use Rattle.xds_core.specs.Events as events
 use Rattle.xds_core.specs.Events.{Event, Reply}

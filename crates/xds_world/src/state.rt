@@ -23,13 +23,11 @@ use std::alloc::Global;
 use std::marker::Model;
 use xds_cache::Accept;
 use xds_core::{Event, Numbered, Reply, Request};
-use xds_draft::{Draft, SotwDraft};
-use xds_message::{DiscoveryRequest, Node};
+use xds_message::{Batch, DiscoveryRequest, Draft, Node, SotwDraft};
 use xds_model::{Answer, ClientKind, Wish, WorldEvent};
 use xds_peer::parts::is_there;
 use xds_peer::{Link, Peer, Step};
 use xds_resource::{AnyResource, Groups, Refusal, TypeName};
-use xds_writes::Batch;
 
 /// Replicas, clients, and the batches that were taken.
 pub(crate) struct State<A: Accept> {

@@ -16,10 +16,10 @@ use std::alloc::Global;
 use std::marker::Model;
 use xds_cache::{Accept, Holding};
 use xds_core::Record;
+use xds_message::Batch;
 use xds_model::{ClientKind, WorldEvent};
 use xds_peer::Status;
 use xds_resource::{NameMap, Refusal, TypeName};
-use xds_writes::Batch;
 
 /// A world of replicas and clients, with the list of what happened in it. `A` is the clients' test of what they are sent.
 #[derive(Drop)]

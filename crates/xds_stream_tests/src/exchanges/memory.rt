@@ -7,8 +7,8 @@ use std::alloc::Global;
 use std::test::Fail;
 use xds_core::Core;
 use xds_exchange::{Outbox, Peer};
+use xds_message::Batch;
 use xds_resource::{Refusal, TypeName};
-use xds_writes::Batch;
 
 // Whether the first of two rounds was refused.
 fn told_again<S: Site>(alloc: Global) -> Result<bool, Fail> {

@@ -3,8 +3,8 @@ use std::alloc::Global;
 use std::test::Fail;
 use xds_cases::cases::{Outcome, hold, told, words_of};
 use xds_exchange::Outbox;
+use xds_message::Batch;
 use xds_resource::{AnyWrite, Groups, Refusal, Resource, ResourceType, Stamp, Write};
-use xds_writes::Batch;
 
 // How many writes the parts of a batch have. The batch is given as how many clusters it has and secrets, how many bytes
 // each body has at least, and of how many bytes each of its 64 groups is, where it has groups.

@@ -1,5 +1,5 @@
 use Rattle.std.proofs.Common.{◌≡◌, take, map}
-use Rattle.xds_writes.specs.Batches.{by_type}
+use Rattle.xds_message.specs.Batches.{by_type}
 use Rattle.xds_outbox.specs.Parts.{typed_write}
 use Rattle.xds_outbox.proofs.outbox.batch_of.Given as goal
 

@@ -1,6 +1,6 @@
 use Rattle.std.proofs.Common.{◌≡◌, ◌≤◌, take, map, All}
 use Rattle.std.specs.List.{sum_by}
-use Rattle.xds_writes.specs.Batches.{IsSound}
+use Rattle.xds_message.specs.Batches.{IsSound}
 use Rattle.xds_outbox.specs.Parts.{typed_write, weight, max_writes, max_bytes}
 use Rattle.xds_outbox.proofs.outbox.part_len.Given as goal
 

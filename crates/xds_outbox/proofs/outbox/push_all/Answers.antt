@@ -3,8 +3,8 @@ use Rattle.std.proofs.lemmas.List.{map-append}
 use Rattle.xds_resource.specs.Any.{stamped_write}
 use Rattle.xds_resource.specs.PerType.{at}
 use Rattle.xds_resource.specs.Writes.{StampedWrite}
-use Rattle.xds_writes.specs.Batches.{typed}
-use Rattle.xds_writes.proofs.BatchLemmas.{map-take-more}
+use Rattle.xds_message.specs.Batches.{typed}
+use Rattle.xds_message.proofs.BatchLemmas.{map-take-more}
 use Rattle.xds_outbox.specs.Parts.{typed_write}
 use Rattle.xds_outbox.proofs.outbox.push_all.Goals as goal
 

@@ -1,6 +1,6 @@
 use Rattle.std.proofs.Common.{◌≡◌, ◌++◌, take, map}
 use Rattle.xds_resource.specs.PerType.{at}
-use Rattle.xds_writes.specs.Batches.{typed}
+use Rattle.xds_message.specs.Batches.{typed}
 use Rattle.xds_outbox.specs.Parts.{typed_write}
 use Rattle.xds_outbox.proofs.outbox.push_all.Given as goal
 

@@ -1,6 +1,6 @@
 use Rattle.std.proofs.Common.{◌+◌, List, map, drop, string_bytes, subst}
 use Rattle.std.proofs.lemmas.List.{drop_all}
-use Rattle.xds_draft.proofs.JoinedLemmas.{drop_here}
+use Rattle.xds_message.proofs.JoinedLemmas.{drop_here}
 use Rattle.xds_script.specs.declared.command.Command.{Command}
 use Rattle.xds_script.specs.Commands.{said_of}
 use Rattle.xds_play.specs.Played.{Played, takes}

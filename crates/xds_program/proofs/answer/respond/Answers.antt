@@ -1,7 +1,7 @@
 use Rattle.std.proofs.Common.{◌≡◌, ap, ◌∙◌}
 use Rattle.std.specs.Option.{option_map}
 use Rattle.std.proofs.lemmas.Result.{IfOk-weaker}
-use Rattle.xds_draft.specs.Drafts.{message_of}
+use Rattle.xds_message.specs.Drafts.{message_of}
 use Rattle.xds_ledger.specs.Lists.{Kept}
 use Rattle.xds_ledger.specs.Sessions.{unopened}
 use Rattle.xds_sotw.specs.Polls.{HasPolled}

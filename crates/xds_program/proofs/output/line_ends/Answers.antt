@@ -1,6 +1,6 @@
 use Rattle.std.proofs.Common.{map, string_bytes}
-use Rattle.xds_draft.specs.Drafts.{body_text}
-use Rattle.xds_draft.specs.Joined.{with_commas}
+use Rattle.xds_message.specs.Drafts.{body_text}
+use Rattle.xds_message.specs.Joined.{with_commas}
 use Rattle.xds_program.proofs.Blocks.{lined}
 use Rattle.xds_program.proofs.output.line_ends.Goals as goal
 

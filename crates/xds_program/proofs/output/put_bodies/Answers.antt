@@ -1,5 +1,5 @@
 use Rattle.std.proofs.Common.{arith}
-use Rattle.xds_draft.proofs.JoinedLemmas.{drop_here}
+use Rattle.xds_message.proofs.JoinedLemmas.{drop_here}
 use Rattle.xds_program.proofs.Blocks.{put_more, put_none, put_part}
 use Rattle.xds_program.proofs.output.put_bodies.Goals as goal
 

@@ -1,5 +1,5 @@
 use Rattle.std.proofs.Common.{◌≡◌, ◌++◌, List, ℕ, ◌∙◌, subst}
-use Rattle.xds_draft.specs.Drafts.{body_text}
+use Rattle.xds_message.specs.Drafts.{body_text}
 use Rattle.xds_frames.specs.Devices.{WrotePart, seen}
 use Rattle.xds_program.specs.Blocks.{Passes, comma_before}
 use Rattle.xds_program.proofs.Blocks.{part_behind, part_longer, passes_more}

@@ -1,7 +1,7 @@
 use Rattle.std.proofs.Common.{List, ℕ, ◌++◌, map, string_bytes, subst}
 use Rattle.std.specs.Io.KnownBytes.{Appends}
-use Rattle.xds_draft.specs.Drafts.{body_text}
-use Rattle.xds_draft.specs.Joined.{with_commas}
+use Rattle.xds_message.specs.Drafts.{body_text}
+use Rattle.xds_message.specs.Joined.{with_commas}
 use Rattle.xds_frames.specs.Devices.{WrotePart, seen}
 use Rattle.xds_program.specs.Blocks.{Passes}
 use Rattle.xds_program.proofs.Blocks.{all_passes, bodies_part, last_part, tail_part, whole_wrote}

@@ -1,8 +1,8 @@
 use Rattle.std.proofs.Common.{arith}
 use Rattle.std.proofs.lemmas.Str.{IsUtf8-string_bytes}
 use Rattle.xds_resource.specs.Any.{write_type, stamped_write}
-use Rattle.xds_writes.specs.StampedWrites.{write_object}
-use Rattle.xds_writes.proofs.StampedWriteLemmas.{SpellsWrite-write_object}
+use Rattle.xds_message.specs.StampedWrites.{write_object}
+use Rattle.xds_message.proofs.StampedWriteLemmas.{SpellsWrite-write_object}
 use Rattle.xds_rules.proofs.line.write_json.Goals as goal
 
 pub returns-clause-reads_back : goal.returns-clause-reads_back

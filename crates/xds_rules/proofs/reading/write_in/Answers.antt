@@ -1,6 +1,6 @@
 use Rattle.std.proofs.Common.{ℕ, List, subst}
 use Rattle.xds_resource.specs.Any.{write_type, stamped_write}
-use Rattle.xds_writes.specs.StampedWrites.{IsSpelledBy}
+use Rattle.xds_message.specs.StampedWrites.{IsSpelledBy}
 use Rattle.xds_rules.specs.Texts.{IsJsonOf}
 use Rattle.xds_rules.specs.Words.{Finds}
 use Rattle.xds_rules.proofs.Finding.{message_found}

@@ -1,5 +1,5 @@
 use Rattle.std.proofs.Common.{◌+◌, map, drop, ap, ◌∙◌, arith}
-use Rattle.xds_writes.specs.Batches.{by_type}
+use Rattle.xds_message.specs.Batches.{by_type}
 use Rattle.xds_outbox.specs.Parts.{typed_write}
 use Rattle.xds_outbox.proofs.Cutting.{next_part_some, left_behind, part_taken, all_behind}
 use Rattle.xds_outbox.proofs.Framing.{fits_by}

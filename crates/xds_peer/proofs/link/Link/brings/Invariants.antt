@@ -2,7 +2,7 @@ use Rattle.std.proofs.Common.{◌≡◌}
 use Rattle.std.specs.List.{list_any}
 use Rattle.std.specs.VecDeque.Iter.{deque_iter_rest}
 use Rattle.xds_resource.specs.Types.{is_same_type}
-use Rattle.xds_draft.specs.DraftTexts.{kind_of}
+use Rattle.xds_message.specs.DraftTexts.{kind_of}
 use Rattle.xds_peer.proofs.link.Link.brings.Given as goal
 
 -- what is left decides

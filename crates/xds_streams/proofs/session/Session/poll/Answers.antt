@@ -1,5 +1,5 @@
 use Rattle.std.proofs.Common.{refl, sym, ap, ◌∙◌}
-use Rattle.xds_draft.specs.declared.draft.Draft.TheVariants as drafts
+use Rattle.xds_message.specs.declared.draft.Draft.TheVariants as drafts
 use Rattle.xds_ledger.specs.declared.variant.VariantName.TheVariants as variants
 use Rattle.xds_sotw.specs.Polls as sotw
 use Rattle.xds_delta.specs.Polls as delta

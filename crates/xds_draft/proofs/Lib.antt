@@ -1,2 +1,0 @@
-pub mod DraftLemmas
-pub mod JoinedLemmas

@@ -1,0 +1,284 @@
+// Responses of the incremental variant before they are written.
+ghost use Rattle.std.specs.Prelude.{◌≡◌, [], length, map, string_bytes, IfOk, IfErr, OnOk, OnErr, All};
+ghost use Rattle.serde_json.specs.Written.{compact_text};
+ghost use Rattle.xds_resource.specs.declared.refusal.Refusal.TheVariants.{OutOfMemory};
+ghost use Rattle.xds_message.specs.DeltaWritten.{resource_object, delta_response_object};
+ghost use Rattle.xds_message.specs.Drafts.{drafted_resource, delta_message_of, with_resource, with_removed, IsBodyText, IsSoundDelta};
+ghost use Rattle.xds_message.specs.Responses.{resource_of, delta_response_of};
+
+use crate::body::Body;
+use crate::delta_response::{DeltaDiscoveryResponse, DeltaResource};
+use crate::joining::{Join, join_list, join_member, join_text};
+use std::alloc::Global;
+use std::marker::Model;
+use std::sync::ArcStr;
+use xds_json::copy_texts;
+use xds_resource::{Refusal, ResourceType, TypeName, Write};
+
+// A resource, whose text is shared with the write that it stands in.
+struct DraftResource {
+    name: ArcStr<Global>,
+    version: String,
+    body: Body,
+}
+
+// Written out: docs/PROVING.md, "Drops".
+impl Drop for DraftResource {
+    fn drop(self) {
+        let DraftResource {
+            name: _,
+            version: _,
+            body: _,
+        } = self;
+    }
+}
+
+impl Model for DraftResource {
+    ghost use Rattle.std.specs.Prelude.{string_bytes};
+    ghost use Rattle.std.specs.Arc.{arc_str_bytes};
+    ghost use Rattle.xds_message.specs.Drafts.{DraftedResource};
+
+    ghost Value = { DraftedResource };
+
+    ghost view = { λ r. record { name = arc_str_bytes r.name; version = string_bytes r.version; body = r.body } };
+}
+
+impl Join for DraftResource {
+    ghost json = { λ r. resource_object (drafted_resource r) };
+
+    fn size(&self) -> usize {
+        let texts = self.name.len().saturating_add(self.version.as_str().len());
+        self.body.size().saturating_add(texts).saturating_add(40)
+    }
+
+    fn join(&self, alloc: Global, out: &mut String) -> Result<(), Refusal> {
+        out.push_str("{")?;
+        let later = join_text(alloc, out, false, "name", self.name.as_str())?;
+        let later = join_member(alloc, out, later, "resource", &self.body)?;
+        join_text(alloc, out, later, "version", self.version.as_str())?;
+        Ok(out.push_str("}")?)
+    }
+}
+
+impl DraftResource {
+    fn try_copy(&self, alloc: Global) -> Result<DraftResource, Refusal>
+        ensures ok { IfOk result (λ r. r ≡ self.now) }
+        ensures refused { IfErr result (λ e. e ≡ OutOfMemory) }
+    {
+        Ok(DraftResource {
+            name: self.name.clone()?,
+            version: String::from_str(alloc, self.version.as_str())?,
+            body: self.body.try_copy()?,
+        })
+    }
+
+    fn message(&self, alloc: Global) -> Result<DeltaResource, Refusal>
+        ensures ok { IfOk result (λ r. resource_of r ≡ drafted_resource self.now) }
+        ensures sound { OnOk result (IsBodyText self.now.body) }
+        ensures refused { IfErr result (λ e. e ≡ OutOfMemory) }
+    {
+        Ok(DeltaResource {
+            name: String::from_str(alloc, self.name.as_str())?,
+            version: String::from_str(alloc, self.version.as_str())?,
+            resource: self.body.value(alloc)?,
+        })
+    }
+}
+
+/// A [`DeltaDiscoveryResponse`] before it is written. Its resources are the stored texts of writes, which it shares.
+pub struct DeltaDraft {
+    kind: TypeName,
+    version: String,
+    nonce: String,
+    resources: Vec<DraftResource>,
+    removed: Vec<String>,
+}
+
+// Written out: docs/PROVING.md, "Drops".
+impl Drop for DeltaDraft {
+    fn drop(self) {
+        let DeltaDraft {
+            kind: _,
+            version: _,
+            nonce: _,
+            resources: _,
+            removed: _,
+        } = self;
+    }
+}
+
+impl Model for DeltaDraft {
+    ghost use Rattle.std.specs.Prelude.{map, string_bytes};
+    ghost use Rattle.xds_message.specs.Drafts.{DraftedDelta};
+
+    ghost Value = { DraftedDelta };
+
+    ghost view = { λ d. record {
+      kind = d.kind;
+      system_version_info = string_bytes d.version;
+      nonce = string_bytes d.nonce;
+      resources = d.resources.items;
+      removed_resources = map string_bytes d.removed.items;
+    } };
+}
+
+impl DeltaDraft {
+    /// A response of no resource and no name that is gone.
+    pub fn new(alloc: Global, kind: TypeName, version: String, nonce: String) -> DeltaDraft
+        ensures { result
+            ≡ record { kind = kind; system_version_info = string_bytes version; nonce = string_bytes nonce; resources = []; removed_resources = [] } }
+    {
+        DeltaDraft {
+            kind,
+            version,
+            nonce,
+            resources: Vec::new(alloc),
+            removed: Vec::new(alloc),
+        }
+    }
+
+    /// The type of the resources.
+    pub fn kind(&self) -> TypeName
+        ensures { result ≡ self.now.kind }
+    {
+        self.kind
+    }
+
+    /// The version of all that the server holds.
+    pub fn version(&self) -> &str
+        ensures { result.now ≡ self.now.system_version_info }
+    {
+        self.version.as_str()
+    }
+
+    /// What the client's next request names the response by.
+    pub fn nonce(&self) -> &str
+        ensures { result.now ≡ self.now.nonce }
+    {
+        self.nonce.as_str()
+    }
+
+    /// How many resources it states.
+    pub fn stated(&self) -> usize
+        ensures { result ≡ length self.now.resources }
+    {
+        self.resources.len()
+    }
+
+    /// The names that the client is to drop.
+    pub fn removed(&self) -> &[String]
+        ensures { map string_bytes result.now ≡ self.now.removed_resources }
+    {
+        self.removed.as_slice()
+    }
+
+    /// Adds the resource that a write puts, under its name and with its version, behind the others. A deletion adds
+    /// nothing. No body is copied.
+    pub fn push<T: ResourceType>(&mut self, alloc: Global, write: &Write<T>) -> Result<(), Refusal>
+        ensures ok { OnOk result (self.new ≡ with_resource self.old write.now write.now.body) }
+        ensures err { OnErr result (self.new ≡ self.old) }
+        ensures refused { IfErr result (λ e. e ≡ OutOfMemory) }
+    {
+        if let Some(text) = write.shared_body()? {
+            self.resources.push(DraftResource {
+                name: write.shared_name()?,
+                version: write.stamp().version_text(alloc)?,
+                body: Body::new(text),
+            })?;
+        }
+        Ok(())
+    }
+
+    /// Adds a name that the client is to drop, behind the others.
+    pub fn remove(&mut self, alloc: Global, name: &str) -> Result<(), Refusal>
+        ensures ok { OnOk result (self.new ≡ with_removed self.old name.now) }
+        ensures err { OnErr result (self.new ≡ self.old) }
+        ensures refused { IfErr result (λ e. e ≡ OutOfMemory) }
+    {
+        self.removed.push(String::from_str(alloc, name)?)?;
+        Ok(())
+    }
+
+    /// The response, whose resources are read again from their texts.
+    pub fn message(&self, alloc: Global) -> Result<DeltaDiscoveryResponse, Refusal>
+        ensures ok { IfOk result (λ r. delta_response_of r ≡ delta_message_of self.now) }
+        ensures sound { OnOk result (IsSoundDelta (delta_message_of self.now)) }
+        ensures texts { OnOk result (All (λ r. IsBodyText r.body) self.now.resources) }
+        ensures refused { IfErr result (λ e. e ≡ OutOfMemory) }
+    {
+        Ok(DeltaDiscoveryResponse {
+            system_version_info: String::from_str(alloc, self.version.as_str())?,
+            resources: resources_of(alloc, &self.resources)?,
+            type_url: String::from_str(alloc, self.kind.url())?,
+            nonce: String::from_str(alloc, self.nonce.as_str())?,
+            removed_resources: copy_texts(alloc, &self.removed)?,
+        })
+    }
+
+    /// The compact text of the response's object, as `DeltaDiscoveryResponse::write` gives it, joined from the stored
+    /// texts.
+    pub fn write(&self, alloc: Global) -> Result<String, Refusal>
+        ensures text { IfOk result
+            (λ s. string_bytes s ≡ compact_text (delta_response_object (delta_message_of self.now))) }
+        ensures refused { IfErr result (λ e. e ≡ OutOfMemory) }
+    {
+        let mut out = String::from_str(alloc, "{")?;
+        let later = join_text(alloc, &mut out, false, "nonce", self.nonce.as_str())?;
+        let later = join_list(alloc, &mut out, later, "removedResources", &self.removed)?;
+        let later = join_list(alloc, &mut out, later, "resources", &self.resources)?;
+        let later = join_text(
+            alloc,
+            &mut out,
+            later,
+            "systemVersionInfo",
+            self.version.as_str(),
+        )?;
+        join_text(alloc, &mut out, later, "typeUrl", self.kind.url())?;
+        out.push_str("}")?;
+        Ok(out)
+    }
+
+    /// An equal draft. No body is copied.
+    pub fn try_copy(&self, alloc: Global) -> Result<DeltaDraft, Refusal>
+        ensures ok { IfOk result (λ d. d ≡ self.now) }
+        ensures refused { IfErr result (λ e. e ≡ OutOfMemory) }
+    {
+        Ok(DeltaDraft {
+            kind: self.kind,
+            version: String::from_str(alloc, self.version.as_str())?,
+            nonce: String::from_str(alloc, self.nonce.as_str())?,
+            resources: copy_resources(alloc, &self.resources)?,
+            removed: copy_texts(alloc, &self.removed)?,
+        })
+    }
+}
+
+fn resources_of(
+    alloc: Global,
+    resources: &Vec<DraftResource>,
+) -> Result<Vec<DeltaResource>, Refusal>
+    ensures ok { IfOk result
+        (λ v. map resource_of v.items ≡ map drafted_resource resources.now.items) }
+    ensures sound { OnOk result (All (λ r. IsBodyText r.body) resources.now.items) }
+    ensures refused { IfErr result (λ e. e ≡ OutOfMemory) }
+{
+    let mut messages = Vec::new(alloc);
+    for resource in resources {
+        messages.push(resource.message(alloc)?)?;
+    }
+    Ok(messages)
+}
+
+fn copy_resources(
+    alloc: Global,
+    resources: &Vec<DraftResource>,
+) -> Result<Vec<DraftResource>, Refusal>
+    ensures ok { IfOk result (λ v. v.items ≡ resources.now.items) }
+    ensures refused { IfErr result (λ e. e ≡ OutOfMemory) }
+{
+    let mut copies = Vec::new(alloc);
+    for resource in resources {
+        copies.push(resource.try_copy(alloc)?)?;
+    }
+    Ok(copies)
+}

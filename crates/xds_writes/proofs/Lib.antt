@@ -1,5 +1,0 @@
-pub mod StampedWriteLemmas
-pub mod ReadGroups
-pub mod ReadWrites
-pub mod BatchLemmas
-mod InOrder

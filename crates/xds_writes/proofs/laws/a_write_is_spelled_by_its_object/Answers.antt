@@ -1,5 +1,0 @@
-use Rattle.xds_writes.proofs.StampedWriteLemmas.{SpellsWrite-write_object}
-use Rattle.xds_writes.proofs.laws.a_write_is_spelled_by_its_object.Goals as goal
-
-pub returns : goal.returns
-returns c = SpellsWrite-write_object

@@ -1,2 +1,0 @@
-pub mod StampedWrites
-pub mod Batches
