@@ -1,3 +1,10 @@
+pub mod Copies
+pub mod Walking
+pub mod Polling
+pub mod FirstDue
+pub mod StreamsFitting
+mod Sides
+pub mod Twice
 pub mod Numbers
 pub mod StreamSteps
 pub mod StepLaws

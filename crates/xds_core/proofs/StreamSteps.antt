@@ -10,9 +10,9 @@ use Rattle.xds_resource.specs.declared.refusal.Refusal.{Refusal}
 use Rattle.xds_resource.specs.declared.refusal.Refusal.TheVariants.{OutOfMemory, NoStream}
 use Rattle.xds_resource.specs.Refusals.{Gives}
 use Rattle.xds_catalogue.proofs.Lookups.{insert-insert, twice}
-use Rattle.xds_store.specs.Stores.{if_done}
+use Rattle.xds_core.specs.Stores.{if_done}
 use Rattle.xds_resource.specs.declared.types.TypeName.{TypeName}
-use Rattle.xds_streams.specs.Streams.{Stream, IsToRespond, looked_at}
+use Rattle.xds_core.specs.Streams.{Stream, IsToRespond, looked_at}
 use Rattle.xds_core.specs.Events.{Reply, Poll}
 use Rattle.xds_core.specs.declared.event.Reply as declared
 use Rattle.xds_core.specs.Seen.{reply_of}

@@ -8,9 +8,9 @@ use Rattle.xds_resource.specs.declared.refusal.Refusal.{Refusal}
 use Rattle.xds_resource.specs.declared.refusal.Refusal.TheVariants.{OutOfMemory, NoStream, CounterSpent}
 use Rattle.xds_resource.specs.Refusals.{Gives}
 use Rattle.xds_resource.specs.Stamps.{max_counter}
-use Rattle.xds_store.specs.Stores.{if_done, putting_at, deleting_at, merging}
-use Rattle.xds_streams.specs.States.{firsts}
-use Rattle.xds_streams.specs.Streams.{Stream, requested}
+use Rattle.xds_core.specs.Stores.{if_done, putting_at, deleting_at, merging}
+use Rattle.xds_core.specs.States.{firsts}
+use Rattle.xds_core.specs.Streams.{Stream, requested}
 use Rattle.xds_core.specs.Events.{Event, Open, Request, Poll, Owes, Close, Put, Delete, Merge, Snapshot, Rest, Since, Reply, Opened, Answered, Written, Merged}
 use Rattle.xds_core.specs.declared.event.Reply as declared
 use Rattle.xds_core.specs.Seen.{reply_of}

@@ -6,8 +6,8 @@ use Rattle.xds_resource.specs.Resources.{NamedBody}
 use Rattle.xds_message.specs.declared.draft.Draft.{Draft}
 use Rattle.xds_message.specs.Drafts.{Drafted}
 use Rattle.xds_ledger.specs.declared.outcome.Outcome.{Outcome}
-use Rattle.xds_store.specs.Stores.{Batch}
-use Rattle.xds_streams.specs.Streams.{Message}
+use Rattle.xds_core.specs.Stores.{Batch}
+use Rattle.xds_core.specs.Streams.{Message}
 
 -- Streams go by their numbers; a poll or a look at what is owed is of one type, or of all.
 pub data Event : Type 0 where

@@ -2,7 +2,7 @@
 use Rattle.std.specs.Prelude.{◌≡◌, List, [], ◌∷◌, Result, Ok, Err, IsOk, IsSomeAnd, ⊤}
 use Rattle.std.specs.FinMap as finmap
 use Rattle.xds_resource.specs.declared.refusal.Refusal.{Refusal}
-use Rattle.xds_streams.specs.Streams.{looked_at, IsToRespond}
+use Rattle.xds_core.specs.Streams.{looked_at, IsToRespond}
 use Rattle.xds_core.specs.Events.{Event, Poll, Owes, Close, Reply}
 use Rattle.xds_core.specs.Steps.{Core, Step, step}
 

@@ -1,5 +1,11 @@
-pub use Rattle.xds_store.specs.Stores
-pub use Rattle.xds_streams.specs.Streams
+pub mod Stores
+pub mod Pendings
+pub mod Since
+pub mod Counts
+pub mod Streams
+pub mod Talks
+pub mod StreamsSeen
+pub mod States
 pub mod Events
 pub mod Steps
 pub mod Seen

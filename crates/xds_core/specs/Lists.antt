@@ -7,9 +7,9 @@ use Rattle.xds_resource.specs.declared.types.TypeName.{TypeName}
 use Rattle.xds_resource.specs.PerType.{at}
 use Rattle.xds_catalogue.specs.Holdings.{IsCatalogue}
 use Rattle.xds_catalogue.specs.Tables.{by_number}
-use Rattle.xds_store.specs.Stores.{Store}
-use Rattle.xds_streams.specs.Streams.{Stream}
-use Rattle.xds_streams.specs.Talks.{Followed, StreamFits}
+use Rattle.xds_core.specs.Stores.{Store}
+use Rattle.xds_core.specs.Streams.{Stream}
+use Rattle.xds_core.specs.Talks.{Followed, StreamFits}
 
 -- the streams without their lists
 abbrev pub streams_of : finmap.FinMap nat_cmp Followed → finmap.FinMap nat_cmp Stream

@@ -1,8 +1,8 @@
 -- How the values of the program are seen as events, replies and records. This project's own.
 use Rattle.std.specs.Prelude.{map, string_bytes, Result, Ok, Err}
 use Rattle.xds_resource.specs.Any.{resource_type, named_body}
-pub use Rattle.xds_streams.specs.Seen.{message_of}
-use Rattle.xds_store.specs.Counts.{counts_of}
+pub use Rattle.xds_core.specs.StreamsSeen.{message_of}
+use Rattle.xds_core.specs.Counts.{counts_of}
 use Rattle.xds_core.specs.Events as events
 use Rattle.xds_core.specs.declared.event.Event.{Event}
 use Rattle.xds_core.specs.declared.event.Event.TheVariants as happenings

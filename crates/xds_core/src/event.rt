@@ -4,13 +4,13 @@ ghost use Rattle.xds_resource.specs.declared.refusal.Refusal.TheVariants.{OutOfM
 ghost use Rattle.xds_core.specs.Seen.{event_of, reply_of, answer_of};
 ghost use Rattle.xds_core.specs.Twice.{is_light, poll_in};
 
+use crate::catalogues::Marks;
+use crate::request::Request;
 use std::alloc::Global;
 use xds_json::copy_texts;
 use xds_ledger::Outcome;
 use xds_message::{Batch, Draft, SotwDraft};
 use xds_resource::{AnyResource, Groups, Refusal, Stamp, TypeName};
-use xds_store::Marks;
-use xds_streams::Request;
 
 /// What happens at a replica. Streams go by the numbers that `Open` gave them.
 #[derive(Drop)]

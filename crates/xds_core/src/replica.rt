@@ -10,15 +10,18 @@ ghost use Rattle.xds_core.specs.Events as events;
 ghost use Rattle.xds_core.specs.Legal.{IsShort};
 ghost use Rattle.xds_core.specs.Seen.{message_of, event_of, reply_of};
 ghost use Rattle.xds_core.specs.Steps.{fresh, step, rested};
-ghost use Rattle.xds_store.specs.Counts.{counts_of};
+ghost use Rattle.xds_core.specs.Counts.{counts_of};
 ghost use Rattle.xds_core.specs.Twice.{IsShortBeside, poll_in};
-ghost use Rattle.xds_store.specs.Stores.{if_done};
+ghost use Rattle.xds_core.specs.Stores.{if_done};
 ghost use Rattle.xds_core.specs.declared.event.Reply.TheVariants as replies;
-ghost use Rattle.xds_streams.specs.States.{firsts};
-ghost use Rattle.xds_streams.specs.Streams.{looked_at, owes_some, first_due};
+ghost use Rattle.xds_core.specs.States.{firsts};
+ghost use Rattle.xds_core.specs.Streams.{looked_at, owes_some, first_due};
 
+use crate::catalogues::{Catalogues, Marks};
 use crate::event::{Event, Reply};
 use crate::numbered::Numbered;
+use crate::request::Request;
+use crate::stream::Stream;
 use std::alloc::Global;
 use std::marker::Model;
 use xds_interest::ClusterText;
@@ -27,8 +30,6 @@ use xds_message::{Batch, Draft, SotwDraft};
 use xds_resource::stamp::MAX_COUNTER;
 use xds_resource::{AnyResource, Groups, Refusal, TypeName};
 use xds_sotw::rested;
-use xds_store::{Catalogues, Marks};
-use xds_streams::{Request, Stream};
 
 /// One replica: what it holds of each type, and its open streams.
 pub struct Core {

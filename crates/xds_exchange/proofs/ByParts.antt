@@ -10,7 +10,7 @@ use Rattle.xds_resource.proofs.Refusing.{memory_or_not}
 use Rattle.xds_catalogue.proofs.News.{changes_after-le}
 use Rattle.std.specs.FinMap as finmap
 use Rattle.xds_message.specs.Batches.{by_type}
-use Rattle.xds_store.specs.Stores.{Store, Batch, merged, grown, is_spent, if_done}
+use Rattle.xds_core.specs.Stores.{Store, Batch, merged, grown, is_spent, if_done}
 use Rattle.xds_core.specs.Events.{Merge, Reply, Merged}
 use Rattle.xds_core.specs.Steps.{Core, Step, step}
 use Rattle.xds_outbox.specs.Parts.{parts_behind, parts_of, is_part, IsNextPart}

@@ -19,8 +19,8 @@ use Rattle.xds_catalogue.specs.Joins.{join, joined, IsAbove}
 use Rattle.xds_catalogue.proofs.Catalogues.{get-catalogue_of, best-values}
 use Rattle.xds_catalogue.proofs.JoinLaws.{join_is_above}
 use Rattle.xds_message.proofs.BatchLemmas.{at-per_type}
-use Rattle.xds_store.specs.Since.{is_above, changed_after, changed_since}
-use Rattle.xds_store.specs.Stores.{Store, merged, all_entries}
+use Rattle.xds_core.specs.Since.{is_above, changed_after, changed_since}
+use Rattle.xds_core.specs.Stores.{Store, merged, all_entries}
 use Rattle.xds_exchange.specs.Laws.{ChangesAreAll, AllIsKnown, ZerosKnowNothing, MergesKeepKnowing}
 use Rattle.xds_exchange.specs.Rounds.{unchanged_after, Knows, IsKept}
 use Rattle.xds_exchange.proofs.OneMerge.{at-merged}

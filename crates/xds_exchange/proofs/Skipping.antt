@@ -18,7 +18,7 @@ use Rattle.xds_catalogue.proofs.Catalogues.{tie-bytes_eq, get-catalogue_of, best
 use Rattle.xds_catalogue.proofs.Joining.{joined_again}
 use Rattle.xds_catalogue.proofs.OneWrite.{joined-old}
 use Rattle.xds_catalogue.proofs.Surpassing.{surpasses-greater}
-use Rattle.xds_store.specs.Since.{is_above, changed_after}
+use Rattle.xds_core.specs.Since.{is_above, changed_after}
 use Rattle.xds_exchange.specs.Rounds.{unchanged_after}
 
 abbrev Entry : Type 0

@@ -21,8 +21,8 @@ use Rattle.xds_catalogue.proofs.Numbering.{entries_are_numbered}
 use Rattle.xds_ledger.specs.Listed.{IsPast, IsLater}
 use Rattle.xds_ledger.proofs.Later.{later_itself, joined_is_later, past_more}
 use Rattle.xds_message.proofs.BatchLemmas.{at-per_type}
-use Rattle.xds_store.specs.Since.{is_above, marks_of}
-use Rattle.xds_store.specs.Stores.{Store, merging, putting_at, deleting_at, is_spent, grown, merged, if_done}
+use Rattle.xds_core.specs.Since.{is_above, marks_of}
+use Rattle.xds_core.specs.Stores.{Store, merging, putting_at, deleting_at, is_spent, grown, merged, if_done}
 use Rattle.xds_core.specs.Events.{Event, Open, Request, Poll, Owes, Close, Put, Delete, Merge, Snapshot, Rest, Since, Reply, Written, Merged}
 use Rattle.xds_core.specs.Legal.{after, left_by}
 use Rattle.xds_core.specs.Steps.{Core}

@@ -4,8 +4,8 @@ use Rattle.std.specs.Prelude.{IfOk, OnErr}
 use Rattle.xds_resource.specs.declared.refusal.Refusal.{Refusal}
 use Rattle.xds_resource.specs.PerType.{PerType, at, each}
 use Rattle.xds_message.proofs.BatchLemmas.{by_type-in_order}
-use Rattle.xds_store.specs.Since.{changed_since}
-use Rattle.xds_store.specs.Stores.{Store, merged, grown, all_entries}
+use Rattle.xds_core.specs.Since.{changed_since}
+use Rattle.xds_core.specs.Stores.{Store, merged, grown, all_entries}
 use Rattle.xds_core.specs.Steps.{Core}
 use Rattle.xds_exchange.specs.Merges.{AllMerged}
 use Rattle.xds_exchange.specs.Rounds.{Knows, IsKept, HasAll, told}

@@ -4,8 +4,8 @@ use Rattle.xds_resource.specs.PerType.{PerType, each}
 use Rattle.xds_resource.specs.TypedWrites.{TypedWrite}
 use Rattle.xds_resource.specs.Writes.{StampedWrite}
 use Rattle.xds_message.specs.Batches.{by_type}
-use Rattle.xds_store.specs.Since.{changed_since, marks_of}
-use Rattle.xds_store.specs.Stores.{Store, grown, merged, all_entries}
+use Rattle.xds_core.specs.Since.{changed_since, marks_of}
+use Rattle.xds_core.specs.Stores.{Store, grown, merged, all_entries}
 use Rattle.xds_core.specs.Events.{Event}
 use Rattle.xds_core.specs.Legal.{after}
 use Rattle.xds_core.specs.Steps.{Core}

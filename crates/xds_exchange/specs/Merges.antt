@@ -4,7 +4,7 @@ use Rattle.xds_resource.specs.TypedWrites.{TypedWrite}
 use Rattle.xds_resource.specs.declared.refusal.Refusal.{Refusal}
 use Rattle.xds_resource.specs.declared.refusal.Refusal.TheVariants.{OutOfMemory}
 use Rattle.xds_message.specs.Batches.{by_type}
-use Rattle.xds_store.specs.Stores.{Store, grown, merged}
+use Rattle.xds_core.specs.Stores.{Store, grown, merged}
 use Rattle.xds_core.specs.Events.{Merge}
 use Rattle.xds_core.specs.Steps.{Core, step}
 use Rattle.xds_outbox.specs.Parts.{parts_of}

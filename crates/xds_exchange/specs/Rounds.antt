@@ -7,8 +7,8 @@ use Rattle.xds_resource.specs.TypedWrites.{TypedWrite}
 use Rattle.xds_message.specs.Batches.{in_order}
 use Rattle.xds_catalogue.specs.Holdings.{Entries, Holdings, IsCatalogue, IsNumbered}
 use Rattle.xds_catalogue.specs.Joins.{join, IsAbove}
-use Rattle.xds_store.specs.Since.{is_above, changed_since}
-use Rattle.xds_store.specs.Stores.{Store, merged, all_entries}
+use Rattle.xds_core.specs.Since.{is_above, changed_since}
+use Rattle.xds_core.specs.Stores.{Store, merged, all_entries}
 
 -- the entries whose latest change isn't above this number
 abbrev pub unchanged_after : Holdings → ℕ → Entries

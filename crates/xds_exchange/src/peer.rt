@@ -1,9 +1,9 @@
 // What a replica tells a peer: all that changed since the last time.
 ghost use Rattle.std.specs.Prelude.{◌≡◌, length, IfOk, IfErr, OnErr};
 ghost use Rattle.xds_resource.specs.PerType.{each};
-ghost use Rattle.xds_store.specs.Counts.{counts_of};
-ghost use Rattle.xds_store.specs.Since.{marks_of};
-ghost use Rattle.xds_store.specs.Stores.{grown, all_entries};
+ghost use Rattle.xds_core.specs.Counts.{counts_of};
+ghost use Rattle.xds_core.specs.Since.{marks_of};
+ghost use Rattle.xds_core.specs.Stores.{grown, all_entries};
 ghost use Rattle.xds_exchange.specs.Merges.{AllMerged, IsStopped};
 ghost use Rattle.xds_exchange.specs.Rounds.{Knows, told, IsKept, AreTaken, HasAll};
 ghost use Rattle.xds_catalogue.specs.Holdings.{IsCatalogue, IsNumbered};
@@ -35,7 +35,7 @@ impl Model for Peer {
     ghost use Rattle.std.specs.Prelude.{ℕ};
     ghost use Rattle.std.specs.Coded.{coded_ℕ};
     ghost use Rattle.xds_resource.specs.PerType.{PerType, per_type_code};
-    ghost use Rattle.xds_store.specs.Counts.{counts_of};
+    ghost use Rattle.xds_core.specs.Counts.{counts_of};
 
     ghost Value = { PerType ℕ };
 

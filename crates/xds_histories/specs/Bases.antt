@@ -6,7 +6,7 @@ use Rattle.xds_resource.specs.PerType.{at}
 use Rattle.xds_resource.specs.Resources.{is_valid_name}
 use Rattle.xds_resource.specs.Writes.{StampedWrite}
 use Rattle.xds_catalogue.specs.Holdings.{Entries, IsCatalogue}
-use Rattle.xds_store.specs.Stores.{Store}
+use Rattle.xds_core.specs.Stores.{Store}
 use Rattle.xds_core.specs.Legal.{Record, IsLegal}
 use Rattle.xds_core.specs.Steps.{Core}
 use Rattle.xds_trace.specs.Telling.{IsResource, IsTold, IsSoundRecord}

@@ -3,8 +3,8 @@ ghost use Rattle.std.specs.Prelude.{◌≡◌, ◌+◌, ◌<◌, ◌≤◌, ◌=
 ghost use Rattle.std.specs.List.{flat_map};
 ghost use Rattle.xds_resource.specs.Stamps.{max_counter};
 ghost use Rattle.xds_resource.specs.declared.refusal.Refusal.TheVariants.{OutOfMemory, CounterSpent, JournalFull};
-ghost use Rattle.xds_store.specs.Since.{marks_of};
-ghost use Rattle.xds_store.specs.Counts.{counts_of};
+ghost use Rattle.xds_core.specs.Since.{marks_of};
+ghost use Rattle.xds_core.specs.Counts.{counts_of};
 ghost use Rattle.xds_core.specs.Seen.{event_of, answer_of};
 ghost use Rattle.xds_tokens.specs.Entries.{AllBelow};
 ghost use Rattle.xds_tokens.specs.Holdings.{keeper};

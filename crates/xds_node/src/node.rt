@@ -2,7 +2,7 @@
 ghost use Rattle.std.specs.Prelude.{◌≡◌, ◌≢◌, ◌≤◌, ◌++◌, ◌==◌, length, true, MatchBool, IfOk, IfErr, IfSome, OnErr, IsPermutation};
 ghost use Rattle.std.specs.List.{flat_map};
 ghost use Rattle.xds_resource.specs.declared.refusal.Refusal.TheVariants.{OutOfMemory, CounterSpent};
-ghost use Rattle.xds_store.specs.Counts.{counts_of};
+ghost use Rattle.xds_core.specs.Counts.{counts_of};
 ghost use Rattle.xds_core.specs.Legal.{IsLegal};
 ghost use Rattle.xds_core.specs.Seen.{event_of, answer_of};
 ghost use Rattle.xds_node.specs.Pieces.{last_entries, StandsInStory, GoesOn, IsWhole};

@@ -18,7 +18,7 @@ use Rattle.xds_catalogue.specs.Content.{content}
 use Rattle.xds_message.specs.Messages.{Request, Response}
 use Rattle.xds_message.specs.Written.{response_object}
 use Rattle.xds_ledger.specs.Texts.{interest_version}
-use Rattle.xds_streams.specs.Streams.{cluster_in}
+use Rattle.xds_core.specs.Streams.{cluster_in}
 
 -- what is held of the type once these writes came, where nothing was held before
 abbrev pub held_of : List TypedWrite → TypeName → Holdings

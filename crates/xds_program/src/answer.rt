@@ -4,19 +4,19 @@ ghost use Rattle.std.specs.Option.{option_map};
 ghost use Rattle.xds_resource.specs.PerType.{at};
 ghost use Rattle.xds_catalogue.specs.Holdings.{IsCatalogue};
 ghost use Rattle.xds_message.specs.Drafts.{message_of};
-ghost use Rattle.xds_streams.specs.Streams.{cluster_in};
+ghost use Rattle.xds_core.specs.Streams.{cluster_in};
 ghost use Rattle.xds_program.specs.Answers.{response_to, response_by, answer_text};
 ghost use Rattle.xds_program.specs.Faults.{IsAnswer, IsFault};
 
 use crate::gathering::{Gathered, LineFault, gather, gather_freeing};
 use std::alloc::Global;
 use xds_catalogue::Catalogue;
+use xds_core::Catalogues;
 use xds_interest::ClusterText;
 use xds_ledger::Nonces;
 use xds_message::{DiscoveryRequest, SotwDraft};
 use xds_resource::{Refusal, ResourceType, TypeName};
 use xds_sotw::Session;
-use xds_store::Catalogues;
 
 /// Answers an input of stamped writes, a line each, and a `DiscoveryRequest` on the last line. The writes are joined
 /// in order. The output is the response that a fresh stream's first poll gives, and a line feed; or nothing, where the

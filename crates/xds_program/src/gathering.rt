@@ -9,10 +9,10 @@ ghost use Rattle.xds_program.specs.Faults.{IsWriteLine, IsRequestLine, RefusesWr
 ghost use Rattle.xds_program.specs.Gathered.{IsGathered, IsReadTo, WhereReadTo};
 
 use std::alloc::Global;
+use xds_core::Catalogues;
 use xds_message::{DiscoveryRequest, WriteReader};
 use xds_resource::Refusal;
 use xds_script::lines::{split_line, without_last_feed};
-use xds_store::Catalogues;
 
 /// Which line of an input is refused, and why.
 #[derive(Clone, Copy, Debug, PartialEq, Eq)]

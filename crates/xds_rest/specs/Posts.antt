@@ -9,7 +9,7 @@ use Rattle.xds_resource.specs.Types.{row}
 use Rattle.xds_resource.specs.Refusals.{number_of, name_of}
 use Rattle.xds_message.specs.Spelling.{IsJson}
 use Rattle.xds_message.specs.Messages.{Request, SpellsRequest}
-use Rattle.xds_streams.specs.Streams.{cluster_in}
+use Rattle.xds_core.specs.Streams.{cluster_in}
 use Rattle.xds_core.specs.Events as events
 use Rattle.xds_core.specs.Events.{Event}
 pub use Rattle.xds_polls.specs.Polls.{HttpReply, without_body, with_body, unavailable, without_query, type_of_path, max_body, admitted, addressed}

@@ -9,7 +9,7 @@ use Rattle.xds_message.specs.Written.{response_object}
 use Rattle.xds_message.specs.Drafts.{Drafted, message_of}
 use Rattle.xds_core.specs.Events as events
 use Rattle.xds_core.specs.Events.{Event, Reply}
-use Rattle.xds_streams.specs.Streams.{cluster_in}
+use Rattle.xds_core.specs.Streams.{cluster_in}
 use Rattle.xds_core.specs.Steps.{Core, rested}
 use Rattle.xds_rest.specs.Posts.{HttpReply, without_body, with_body, addressed, IsPoll, RefusesBody, refused_reply}
 

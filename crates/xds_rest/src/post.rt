@@ -3,7 +3,7 @@ ghost use Rattle.std.specs.Prelude.{◌≡◌, ◌≢◌, Ok, Err, IfOk, IfErr, 
 ghost use Rattle.xds_resource.specs.declared.types.TypeName.{TypeName as Kind};
 ghost use Rattle.xds_resource.specs.declared.refusal.Refusal.TheVariants.{OutOfMemory};
 ghost use Rattle.xds_message.specs.Messages.{Request as RequestValue};
-ghost use Rattle.xds_streams.specs.Streams.{cluster_in};
+ghost use Rattle.xds_core.specs.Streams.{cluster_in};
 ghost use Rattle.xds_core.specs.Seen.{event_of};
 ghost use Rattle.xds_rest.specs.Posts.{addressed as addressed_by, is_own as own, IsPoll, RefusesBody, IsReadAs, IsAsked, poll_of};
 ghost use Rattle.xds_rest.specs.Seen.{asked_of};

@@ -17,8 +17,8 @@ use Rattle.xds_resource.proofs.Refusing.{memory_or_not, unless_refused-value}
 use Rattle.xds_catalogue.proofs.Lookups.{get-inserted}
 use Rattle.xds_message.specs.declared.draft.Draft.{Draft}
 use Rattle.xds_ledger.specs.Offers.{Offer}
-use Rattle.xds_store.specs.Stores.{Store}
-use Rattle.xds_streams.specs.Streams.{Stream, Message, opening, requested, answered, sessions_for, is_foreign, variant_of, polled_first, polled, responding, response_of, first_due, to_send, sent}
+use Rattle.xds_core.specs.Stores.{Store}
+use Rattle.xds_core.specs.Streams.{Stream, Message, opening, requested, answered, sessions_for, is_foreign, variant_of, polled_first, polled, responding, response_of, first_due, to_send, sent}
 use Rattle.xds_core.specs.Events as events
 use Rattle.xds_core.specs.Events.{Event, Reply, Answered, Polled, Opened, Closed}
 use Rattle.xds_core.specs.declared.event.Reply as declared

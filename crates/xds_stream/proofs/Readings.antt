@@ -12,7 +12,7 @@ use Rattle.xds_frames.specs.declared.frame.Frame.{Frame}
 use Rattle.xds_message.specs.Spelling.{IsJson}
 use Rattle.xds_message.specs.Messages.{Request, SpellsRequest}
 use Rattle.xds_message.specs.DeltaMessages.{DeltaRequest, SpellsDeltaRequest}
-use Rattle.xds_streams.specs.Streams.{Message, Sotw, Delta}
+use Rattle.xds_core.specs.Streams.{Message, Sotw, Delta}
 use Rattle.xds_stream.specs.Requests.{Spells, SpellsAs}
 use Rattle.xds_stream.specs.Ending.{IsUnread}
 

@@ -11,9 +11,9 @@ use Rattle.xds_resource.specs.declared.refusal.Refusal.{Refusal}
 use Rattle.xds_message.specs.declared.draft.Draft.{Draft}
 use Rattle.xds_ledger.specs.declared.outcome.Outcome.{Outcome}
 use Rattle.xds_frames.specs.Frames.{Framed, IsFrame, IsFault, IsPartial, frame_bytes}
-use Rattle.xds_streams.specs.Seen.{message_of}
-use Rattle.xds_streams.specs.Streams.{Message}
-use Rattle.xds_streams.specs.declared.request.Request.{Request}
+use Rattle.xds_core.specs.StreamsSeen.{message_of}
+use Rattle.xds_core.specs.Streams.{Message}
+use Rattle.xds_core.specs.declared.request.Request.{Request}
 use Rattle.xds_core.specs.Events as events
 use Rattle.xds_core.specs.Steps.{Core, step}
 use Rattle.xds_core.specs.Legal.{Record, replayed}

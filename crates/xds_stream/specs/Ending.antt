@@ -7,7 +7,7 @@ use Rattle.xds_message.specs.declared.draft.Draft.{Draft}
 use Rattle.xds_ledger.specs.declared.outcome.Outcome.{Outcome}
 use Rattle.xds_frames.specs.Frames.{Framed, IsFrame, IsFault, IsPartial, frame_bytes}
 use Rattle.xds_frames.specs.Devices.{Device, HasFailed}
-use Rattle.xds_streams.specs.Streams.{Message}
+use Rattle.xds_core.specs.Streams.{Message}
 use Rattle.xds_core.specs.Events.{Request, Poll}
 use Rattle.xds_core.specs.Steps.{Core}
 use Rattle.xds_core.specs.Legal.{Record, IsShort, replayed}

@@ -4,7 +4,7 @@ use Rattle.xds_resource.specs.declared.refusal.Refusal.{Refusal}
 use Rattle.xds_resource.specs.declared.refusal.Refusal.TheVariants.{OutOfMemory}
 use Rattle.xds_message.specs.declared.draft.Draft.{Draft}
 use Rattle.xds_ledger.specs.declared.outcome.Outcome.{Outcome}
-use Rattle.xds_streams.specs.Streams.{Message}
+use Rattle.xds_core.specs.Streams.{Message}
 use Rattle.xds_core.specs.Events.{Event, Request, Poll, Answered, Polled}
 use Rattle.xds_core.specs.Steps.{Core, step}
 use Rattle.xds_core.specs.Legal.{Record, IsShort}

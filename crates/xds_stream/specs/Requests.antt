@@ -10,7 +10,7 @@ use Rattle.xds_frames.specs.Frames.{Framed}
 use Rattle.xds_message.specs.Spelling.{IsJson}
 use Rattle.xds_message.specs.Messages.{SpellsRequest}
 use Rattle.xds_message.specs.DeltaMessages.{SpellsDeltaRequest}
-use Rattle.xds_streams.specs.Streams.{Message, Sotw, Delta}
+use Rattle.xds_core.specs.Streams.{Message, Sotw, Delta}
 
 -- a client sends requests alone, of either variant
 abbrev pub IsAsking : FrameKind → Type 0

@@ -5,7 +5,7 @@ use Rattle.xds_message.specs.declared.draft.Draft.{Draft}
 use Rattle.xds_ledger.specs.declared.outcome.Outcome.{Outcome}
 use Rattle.xds_frames.specs.Frames.{Framed, IsFrame, frame_bytes}
 use Rattle.xds_frames.specs.Devices.{Device, Wrote}
-use Rattle.xds_streams.specs.Streams.{Message}
+use Rattle.xds_core.specs.Streams.{Message}
 use Rattle.xds_core.specs.Steps.{Core}
 use Rattle.xds_core.specs.Legal.{Record, IsLegal, replayed}
 use Rattle.xds_stream.specs.Requests.{Spells}

@@ -10,9 +10,9 @@ use Rattle.xds_message.specs.declared.draft.Draft.{Draft}
 use Rattle.xds_ledger.specs.declared.outcome.Outcome.{Outcome}
 use Rattle.xds_frames.specs.Frames.{Framed, IsFrame, IsFault, IsPartial, frame_bytes}
 use Rattle.xds_frames.specs.Devices.{Device, HasFailed, most_calls}
-use Rattle.xds_streams.specs.Seen.{message_of}
-use Rattle.xds_streams.specs.Streams.{Message}
-use Rattle.xds_streams.specs.declared.request.Request.{Request}
+use Rattle.xds_core.specs.StreamsSeen.{message_of}
+use Rattle.xds_core.specs.Streams.{Message}
+use Rattle.xds_core.specs.declared.request.Request.{Request}
 use Rattle.xds_core.specs.Events.{Reply, Opened, Polled}
 use Rattle.xds_core.specs.Steps.{Core}
 use Rattle.xds_core.specs.Legal.{Record}

@@ -1,6 +1,6 @@
 // A replica's answers to the events of a stream.
 ghost use Rattle.std.specs.Prelude.{◌≡◌, ◌<◌, IfOk, IfErr, IsSome, OnErr, Some, None, Ok};
-ghost use Rattle.xds_streams.specs.Seen.{message_of};
+ghost use Rattle.xds_core.specs.StreamsSeen.{message_of};
 ghost use Rattle.xds_ledger.specs.declared.outcome.Outcome.{Outcome};
 ghost use Rattle.xds_core.specs.Events as events;
 ghost use Rattle.xds_core.specs.Seen.{reply_of};

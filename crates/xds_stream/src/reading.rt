@@ -3,7 +3,7 @@ ghost use Rattle.std.specs.Prelude.{◌≡◌, ◌<◌, true, IfOk, IfErr, lengt
 ghost use Rattle.xds_resource.specs.declared.refusal.Refusal.TheVariants.{OutOfMemory};
 ghost use Rattle.xds_frames.specs.Devices.{seen};
 ghost use Rattle.xds_frames.specs.Frames.{IsPartial};
-ghost use Rattle.xds_streams.specs.Seen.{message_of};
+ghost use Rattle.xds_core.specs.StreamsSeen.{message_of};
 ghost use Rattle.xds_stream.specs.Ending.{IsUnread};
 ghost use Rattle.xds_stream.specs.Requests.{Spells};
 ghost use Rattle.xds_stream.specs.Turning.{Fills, GivesRequest, left_to_do};

@@ -1,7 +1,7 @@
 // Responses sent: each written as a frame.
 ghost use Rattle.std.specs.Prelude.{◌≡◌, Ok};
 ghost use Rattle.xds_frames.specs.Devices.{seen};
-ghost use Rattle.xds_streams.specs.Seen.{message_of};
+ghost use Rattle.xds_core.specs.StreamsSeen.{message_of};
 ghost use Rattle.xds_stream.specs.Sending.{Sends, kind_of};
 ghost use Rattle.xds_stream.specs.Turning.{AnswersOne, IsOpen, SendsDue};
 

@@ -14,8 +14,8 @@ use Rattle.xds_resource.specs.PerType.{at, each}
 use Rattle.xds_resource.specs.Writes.{StampedWrite, text_cmp}
 use Rattle.xds_catalogue.specs.Holdings.{nothing_held, catalogue_of}
 use Rattle.xds_catalogue.proofs.Lookups.{get-inserted, get-removed}
-use Rattle.xds_store.specs.Stores.{Store, Batch}
-use Rattle.xds_streams.specs.Streams.{Stream, opening}
+use Rattle.xds_core.specs.Stores.{Store, Batch}
+use Rattle.xds_core.specs.Streams.{Stream, opening}
 use Rattle.xds_core.specs.Events.{Event, Reply}
 use Rattle.xds_core.specs.Steps.{Core, fresh, with_stream}
 use Rattle.xds_rules.specs.declared.line.Line.{Line}

@@ -17,7 +17,7 @@ use Rattle.xds_interest.specs.Asked.{Asked, sotw_kept, delta_kept}
 use Rattle.xds_ledger.specs.declared.variant.VariantName.{VariantName}
 use Rattle.xds_ledger.specs.declared.variant.VariantName.TheVariants as variants
 use Rattle.xds_ledger.specs.Sessions.{Session}
-use Rattle.xds_streams.specs.Streams.{Stream}
+use Rattle.xds_core.specs.Streams.{Stream}
 use Rattle.xds_rules.specs.declared.asking.Asking.{Asking}
 use Rattle.xds_rules.specs.declared.line.Line.{Line}
 use Rattle.xds_rules.specs.declared.line.Line.TheVariants as lines

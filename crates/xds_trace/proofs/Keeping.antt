@@ -15,8 +15,8 @@ use Rattle.xds_catalogue.specs.Joins.{joined}
 use Rattle.xds_catalogue.specs.Local.{next_counter}
 use Rattle.xds_message.specs.declared.draft.Draft.{Draft}
 use Rattle.xds_ledger.specs.declared.outcome.Outcome.{Outcome}
-use Rattle.xds_store.specs.Stores.{Store, Batch, if_done, merging, merged, grown, is_spent, putting_at, deleting_at}
-use Rattle.xds_streams.specs.Streams.{Stream, Message, opening, requested, looked_at, polled_first, owes_some, owes_of}
+use Rattle.xds_core.specs.Stores.{Store, Batch, if_done, merging, merged, grown, is_spent, putting_at, deleting_at}
+use Rattle.xds_core.specs.Streams.{Stream, Message, opening, requested, looked_at, polled_first, owes_some, owes_of}
 use Rattle.xds_core.specs.Events.{Event, Open, Request, Poll, Owes, Close, Put, Delete, Merge, Snapshot, Rest, Since, Reply, Opened, Answered, Polled, Owed, Closed, Written, Merged}
 use Rattle.xds_core.specs.Steps.{Core, Step, step, with_stream}
 use Rattle.xds_core.proofs.StepLaws.{done_with, unless_once, put_is, delete_is}

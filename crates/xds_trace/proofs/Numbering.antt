@@ -19,8 +19,8 @@ use Rattle.xds_catalogue.proofs.Joining.{below_top}
 use Rattle.xds_catalogue.proofs.Lookups.{get-inserted, get-removed}
 use Rattle.xds_message.specs.declared.draft.Draft.{Draft}
 use Rattle.xds_ledger.specs.declared.outcome.Outcome.{Outcome}
-use Rattle.xds_store.specs.Stores.{Store, Batch, if_done, merging, putting_at, deleting_at}
-use Rattle.xds_streams.specs.Streams.{Stream, Message, opening, requested, looked_at, polled_first, owes_some}
+use Rattle.xds_core.specs.Stores.{Store, Batch, if_done, merging, putting_at, deleting_at}
+use Rattle.xds_core.specs.Streams.{Stream, Message, opening, requested, looked_at, polled_first, owes_some}
 use Rattle.xds_core.specs.Events.{Event, Open, Request, Poll, Owes, Close, Put, Delete, Merge, Snapshot, Rest, Since, Reply, Opened, Answered, Polled, Owed, Closed, Written, Merged}
 use Rattle.xds_core.specs.Steps.{Core, Step, step, fresh, with_stream}
 use Rattle.xds_core.specs.Legal.{Record, IsLegal, after, answer_of, left_by}

@@ -19,8 +19,8 @@ use Rattle.xds_ledger.specs.Variants.{is_delta}
 use Rattle.xds_ledger.specs.Offers.{Offer}
 use Rattle.xds_ledger.specs.declared.outcome.Outcome.{Outcome}
 use Rattle.xds_ledger.specs.Sessions.{Session}
-use Rattle.xds_store.specs.Stores.{Store, Batch}
-use Rattle.xds_streams.specs.Streams.{Stream, Message, Sotw, Delta, variant_of, is_foreign, is_same_variant, opening, requested, answered, sessions_for, response_of}
+use Rattle.xds_core.specs.Stores.{Store, Batch}
+use Rattle.xds_core.specs.Streams.{Stream, Message, Sotw, Delta, variant_of, is_foreign, is_same_variant, opening, requested, answered, sessions_for, response_of}
 use Rattle.xds_core.specs.Steps.{Core, with_stream}
 use Rattle.xds_core.proofs.StepLaws.{done_with}
 use Rattle.xds_rules.specs.declared.line.Line.{Line}

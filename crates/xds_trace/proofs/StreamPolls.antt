@@ -20,9 +20,9 @@ use Rattle.xds_ledger.specs.Ledgers as ledgers
 use Rattle.xds_ledger.specs.Ledgers.{Account, nonce_text, is_due, is_refused, send}
 use Rattle.xds_ledger.specs.Sessions as sessions
 use Rattle.xds_ledger.specs.Sessions.{Session}
-use Rattle.xds_store.specs.Stores.{Store}
-use Rattle.xds_streams.specs.Streams as streams
-use Rattle.xds_streams.specs.Streams.{Stream, to_send, response_of, responding, polled, first_due, polled_first}
+use Rattle.xds_core.specs.Stores.{Store}
+use Rattle.xds_core.specs.Streams as streams
+use Rattle.xds_core.specs.Streams.{Stream, to_send, response_of, responding, polled, first_due, polled_first}
 use Rattle.xds_trace.proofs.Accounts.{none_of}
 
 -- ---- nonces

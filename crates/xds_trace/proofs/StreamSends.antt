@@ -10,9 +10,9 @@ use Rattle.xds_message.specs.declared.draft.Draft.{Draft}
 use Rattle.xds_ledger.specs.declared.variant.VariantName.{VariantName}
 use Rattle.xds_ledger.specs.declared.variant.VariantName.TheVariants as variants
 use Rattle.xds_ledger.specs.Offers.{Offer}
-use Rattle.xds_store.specs.Stores.{Store}
-use Rattle.xds_streams.specs.Streams as streams
-use Rattle.xds_streams.specs.Streams.{Stream, response_of}
+use Rattle.xds_core.specs.Stores.{Store}
+use Rattle.xds_core.specs.Streams as streams
+use Rattle.xds_core.specs.Streams.{Stream, response_of}
 use Rattle.xds_rules.specs.declared.line.Line.{Line}
 use Rattle.xds_rules.specs.declared.line.Line.TheVariants as lines
 use Rattle.xds_rules.specs.Answers.{Answer}

@@ -27,7 +27,7 @@ use Rattle.xds_catalogue.specs.Joins.{joined}
 use Rattle.xds_catalogue.specs.Local.{has_live, deleting, next_counter, spent_conditions}
 use Rattle.xds_message.specs.declared.draft.Draft.{Draft}
 use Rattle.xds_message.specs.declared.draft.Draft.TheVariants as drafts
-use Rattle.xds_store.specs.Stores.{Batch, Store, deleting_at}
+use Rattle.xds_core.specs.Stores.{Batch, Store, deleting_at}
 use Rattle.xds_core.specs.Events.{Event, Open, Request, Poll, Owes, Close, Put, Delete, Merge, Snapshot, Rest, Since, Reply, Opened, Answered, Polled, Owed, Closed, Written, Merged, Entries, Rested, Changed}
 use Rattle.xds_core.specs.Steps.{Core, Step, step, fresh}
 use Rattle.xds_core.specs.Legal.{Record, IsLegal, after, answer_of, left_by}

@@ -5,7 +5,7 @@ use Rattle.std.specs.FinMap as finmap
 use Rattle.std.proofs.lemmas.List.{reverse-append}
 use Rattle.std.proofs.lemmas.List.Elements.{All-head, All-tail, All-weaker}
 use Rattle.xds_resource.specs.declared.types.TypeName.{TypeName}
-use Rattle.xds_streams.specs.Streams.{Stream, owes_of}
+use Rattle.xds_core.specs.Streams.{Stream, owes_of}
 use Rattle.xds_core.specs.Events.{Event}
 use Rattle.xds_core.specs.Steps.{Core, Step, step, fresh}
 use Rattle.xds_core.specs.Legal.{Record, IsLegal, replayed, after, answer_of, left_by}

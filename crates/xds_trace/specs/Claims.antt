@@ -2,7 +2,7 @@
 use Rattle.std.specs.Prelude.{◌≡◌, ℕ, List, ◌++◌, map, false, All, IsSomeAnd}
 use Rattle.std.specs.FinMap as finmap
 use Rattle.xds_resource.specs.declared.types.TypeName.{TypeName}
-use Rattle.xds_streams.specs.Streams.{owes_of}
+use Rattle.xds_core.specs.Streams.{owes_of}
 use Rattle.xds_core.specs.Steps.{Core, fresh}
 use Rattle.xds_core.specs.Legal.{Record, IsLegal, replayed}
 use Rattle.xds_rules.specs.declared.line.Line.TheVariants as lines

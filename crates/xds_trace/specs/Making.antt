@@ -16,9 +16,9 @@ use Rattle.xds_message.specs.declared.draft.Draft.{Draft}
 use Rattle.xds_message.specs.declared.draft.Draft.TheVariants as drafts
 use Rattle.xds_message.specs.Drafts.{DraftedResource}
 use Rattle.xds_ledger.specs.declared.variant.VariantName.TheVariants.{StateOfTheWorld, Delta}
-use Rattle.xds_store.specs.Stores.{Batch}
-use Rattle.xds_streams.specs.Streams as streams
-use Rattle.xds_streams.specs.Streams.{Message}
+use Rattle.xds_core.specs.Stores.{Batch}
+use Rattle.xds_core.specs.Streams as streams
+use Rattle.xds_core.specs.Streams.{Message}
 use Rattle.xds_core.specs.Events.{Event, Open, Request, Poll, Owes, Close, Put, Delete, Merge, Snapshot, Rest, Since, Reply, Opened, Polled, Owed, Written}
 use Rattle.xds_core.specs.Legal.{Record}
 use Rattle.xds_rules.specs.declared.asking.Asking.{Asking}

@@ -9,7 +9,7 @@ ghost use Rattle.xds_resource.specs.Resources.{is_valid_name as is_valid, writte
 ghost use Rattle.xds_resource.specs.Writes.{StampedWrite};
 ghost use Rattle.xds_message.specs.declared.draft.Draft.TheVariants as drafts;
 ghost use Rattle.xds_rules.specs.declared.line.Line.TheVariants as forms;
-ghost use Rattle.xds_streams.specs.Seen.{message_of};
+ghost use Rattle.xds_core.specs.StreamsSeen.{message_of};
 ghost use Rattle.xds_core.specs.Legal.{IsLegal};
 ghost use Rattle.xds_core.specs.Seen.{event_of, reply_of};
 ghost use Rattle.xds_core.specs.Steps.{fresh};

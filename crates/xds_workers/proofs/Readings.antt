@@ -10,9 +10,9 @@ use Rattle.std.proofs.lemmas.List.Elements.{All-append, All-cons, All-nil}
 use Rattle.xds_resource.specs.declared.refusal.Refusal.{Refusal}
 use Rattle.xds_frames.specs.Frames.{Framed, IsFrame, IsFault, IsPartial, frame_bytes}
 use Rattle.xds_frames.specs.Devices.{Device}
-use Rattle.xds_streams.specs.Seen.{message_of}
-use Rattle.xds_streams.specs.Streams.{Message}
-use Rattle.xds_streams.specs.declared.request.Request.{Request}
+use Rattle.xds_core.specs.StreamsSeen.{message_of}
+use Rattle.xds_core.specs.Streams.{Message}
+use Rattle.xds_core.specs.declared.request.Request.{Request}
 use Rattle.xds_core.specs.Events as events
 use Rattle.xds_core.specs.Legal.{Record}
 use Rattle.xds_core.specs.Seen.{answer_of, reply_of}

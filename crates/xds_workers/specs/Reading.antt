@@ -6,7 +6,7 @@ use Rattle.std.specs.Io.KnownBytes.{Consumes, IsAtEnd}
 use Rattle.xds_resource.specs.declared.refusal.Refusal.{Refusal}
 use Rattle.xds_frames.specs.Frames.{Framed, IsFrame, frame_bytes}
 use Rattle.xds_frames.specs.Devices.{Device}
-use Rattle.xds_streams.specs.Streams.{Message}
+use Rattle.xds_core.specs.Streams.{Message}
 use Rattle.xds_core.specs.Events.{Request}
 use Rattle.xds_core.specs.Legal.{Record}
 use Rattle.xds_node.specs.Told.{LeavesNoRecord}

@@ -2,7 +2,7 @@
 ghost use Rattle.std.specs.Prelude.{◌≡◌, ◌⊎◌, ℕ, List, [], ◌∷◌, ◌++◌, Bool, OnOk, OnErr, IfOk, IfErr, Result, Ok, Err};
 ghost use Rattle.xds_resource.specs.PerType.{PerType, each};
 ghost use Rattle.xds_resource.specs.declared.refusal.Refusal.TheVariants.{OutOfMemory};
-ghost use Rattle.xds_store.specs.Counts.{counts_of};
+ghost use Rattle.xds_core.specs.Counts.{counts_of};
 ghost use Rattle.xds_message.specs.Batches.{in_order};
 ghost use Rattle.xds_core.specs.Legal.{Record};
 ghost use Rattle.xds_core.specs.Seen.{reply_of};

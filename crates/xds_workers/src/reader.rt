@@ -2,7 +2,7 @@
 ghost use Rattle.std.specs.Prelude.{◌≡◌, ℕ, List, [], ◌++◌, IsOk, MatchResult, Result, Ok, Err};
 ghost use Rattle.xds_core.specs.Legal.{Record};
 ghost use Rattle.xds_frames.specs.Devices.{seen};
-ghost use Rattle.xds_streams.specs.Seen.{message_of};
+ghost use Rattle.xds_core.specs.StreamsSeen.{message_of};
 ghost use Rattle.xds_workers.specs.Reading.{Asks, HasRead, ReadsAll, TurnReads};
 
 use crate::calls::{answered, close};

@@ -1,5 +1,5 @@
 use Rattle.xds_frames.specs.Devices.{seen}
-use Rattle.xds_streams.specs.Seen.{message_of}
+use Rattle.xds_core.specs.StreamsSeen.{message_of}
 use Rattle.xds_stream.specs.Turning.{AnswersOne}
 use Rattle.xds_stream.proofs.Passing.{err_is}
 use Rattle.xds_stream.proofs.Turns.{answered_by, asked_err}

@@ -1,5 +1,5 @@
 use Rattle.std.proofs.Common.{List}
-use Rattle.xds_store.specs.Counts.{counts_of}
+use Rattle.xds_core.specs.Counts.{counts_of}
 use Rattle.xds_link.specs.Ends.{put_by, taken_by, IsSameEnd, IsSameSource}
 use Rattle.xds_workers.specs.Exchanging.{Turn}
 use Rattle.xds_workers.proofs.Tellings.{ByTurns}

@@ -3,8 +3,8 @@ use Rattle.std.specs.Prelude.{is_some}
 use Rattle.std.specs.Option.{option_map}
 use Rattle.std.specs.FinMap as finmap
 use Rattle.xds_resource.specs.Types.{types}
-use Rattle.xds_streams.specs.Streams.{first_due}
-use Rattle.xds_streams.specs.Talks.{Followed}
+use Rattle.xds_core.specs.Streams.{first_due}
+use Rattle.xds_core.specs.Talks.{Followed}
 use Rattle.xds_core.proofs.Fitting.{looked}
 use Rattle.xds_core.proofs.replica.Core.due.Goals as goal
 

@@ -4,9 +4,9 @@ use Rattle.std.specs.FinMap as finmap
 use Rattle.xds_core.specs.Events as events
 use Rattle.xds_core.specs.Seen.{message_of}
 use Rattle.xds_core.specs.declared.event.Reply.TheVariants as replies
-use Rattle.xds_streams.specs.Streams.{requested}
-use Rattle.xds_streams.specs.Talks.{StreamFits}
-use Rattle.xds_streams.proofs.Fitting.{opening_fits}
+use Rattle.xds_core.specs.Streams.{requested}
+use Rattle.xds_core.specs.Talks.{StreamFits}
+use Rattle.xds_core.proofs.StreamsFitting.{opening_fits}
 use Rattle.xds_core.specs.Lists.{AllFit, streams_of}
 use Rattle.xds_core.proofs.Fitting.{has_stream, none_there, not_open, puts_back, fits_back, after_request, stream_kept}
 use Rattle.xds_core.proofs.StreamSteps.{there, with_streams, step_gives, step_short, step_kept}

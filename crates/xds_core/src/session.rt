@@ -1,0 +1,219 @@
+// One type on one stream, in either variant.
+ghost use Rattle.std.specs.Prelude.{◌≡◌, ◌<◌, ◌≤◌, ◌⊎◌, is_some, IsSome, IfSome, IfOk, IfErr, OnOk, OnErr};
+ghost use Rattle.xds_resource.specs.Stamps.{max_counter};
+ghost use Rattle.xds_resource.specs.declared.refusal.Refusal.TheVariants.{OutOfMemory, NonceSpent};
+ghost use Rattle.xds_ledger.specs.Offers.{offer};
+ghost use Rattle.xds_message.specs.declared.draft.Draft.TheVariants as drafts;
+ghost use Rattle.xds_ledger.specs.Sessions as sessions;
+ghost use Rattle.xds_ledger.specs.Sessions.{outcome, HasPolled};
+ghost use Rattle.xds_ledger.specs.Lists.{SessionFits, StaysFit, new_kept};
+ghost use Rattle.xds_core.specs.StreamsSeen.{message_of};
+ghost use Rattle.xds_core.specs.States.{tagged};
+ghost use Rattle.xds_core.specs.Streams.{variant_of, nonce_of, session_after};
+ghost use Rattle.xds_core.specs.Talks.{drafted};
+
+use crate::request::Request;
+use std::alloc::Global;
+use std::marker::Model;
+use xds_catalogue::Catalogue;
+use xds_interest::ClusterText;
+use xds_ledger::{Due, Nonces, Outcome, VariantName};
+use xds_message::{DeltaDraft, Draft, SotwDraft};
+use xds_resource::{NameMap, Refusal, ResourceType};
+
+enum Side<T: ResourceType> {
+    Sotw(xds_sotw::Session<T>),
+    Delta(xds_delta::Session<T>),
+}
+
+// Written out: docs/PROVING.md, "Drops".
+impl<T: ResourceType> Drop for Side<T> {
+    fn drop(self) {
+        match self {
+            Side::Sotw(_) => {}
+            Side::Delta(_) => {}
+        }
+    }
+}
+
+/// A session of one type, of either variant. Contracts see its variant beside the session.
+pub(crate) struct Session<T: ResourceType> {
+    side: Side<T>,
+}
+
+// Written out: docs/PROVING.md, "Drops".
+impl<T: ResourceType> Drop for Session<T> {
+    fn drop(self) {
+        let Session { side: _ } = self;
+    }
+}
+
+impl<T: ResourceType> Model for Session<T> {
+    ghost use Rattle.xds_core.specs.Talks.{Spoken, spoken_code};
+    ghost use Rattle.xds_core.specs.States.{spoken_of};
+
+    ghost Value = { Spoken };
+
+    ghost coded = { spoken_code };
+
+    ghost view = { λ s. spoken_of s.side };
+}
+
+impl<T: ResourceType> Session<T> {
+    /// Before the first request, of a client with this cluster text.
+    pub(crate) fn new(alloc: Global, variant: VariantName, cluster: ClusterText) -> Session<T>
+        ensures { result ≡ record { variant = variant; kept = new_kept cluster } }
+    {
+        let side = match variant {
+            VariantName::StateOfTheWorld => Side::Sotw(xds_sotw::Session::new(alloc, cluster)),
+            VariantName::Delta => Side::Delta(xds_delta::Session::new(alloc, cluster)),
+        };
+        Session { side }
+    }
+
+    /// Takes a request of this type and of the session's variant. Refused only by `OutOfMemory`, and then nothing is
+    /// taken.
+    pub(crate) fn take(&mut self, alloc: Global, request: &Request) -> Result<Outcome, Refusal>
+        requires { variant_of (message_of request.now) ≡ self.old.variant }
+        ensures ok { OnOk result (self.new.kept.session ≡ session_after T.TYPE self.old.kept.session (message_of request.now)) }
+        ensures taken { IfOk result (λ o. o ≡ outcome self.old.kept.session (nonce_of (message_of request.now))) }
+        ensures variant { self.new.variant ≡ self.old.variant }
+        ensures fits { OnOk result (StaysFit self.old.variant T.TYPE self.old.kept self.new.kept) }
+        ensures err { OnErr result (self.new ≡ self.old) }
+        ensures refused { IfErr result (λ e. e ≡ OutOfMemory) }
+    {
+        match (&mut self.side, request) {
+            (Side::Sotw(session), Request::Sotw(request)) => session.take(alloc, request),
+            (Side::Delta(session), Request::Delta(request)) => session.take(alloc, request),
+            _ => unreachable!(),
+        }
+    }
+
+    /// Whether the client is owed something. It takes no memory.
+    pub(crate) fn owes(&self, catalogue: &Catalogue<T>) -> bool
+        requires { SessionFits self.now.variant T.TYPE catalogue.now self.now.kept }
+        ensures { result ≡ sessions.owes self.now.variant T.TYPE self.now.kept.session catalogue.now.entries }
+    {
+        match &self.side {
+            Side::Sotw(session) => session.owes(catalogue),
+            Side::Delta(session) => session.owes(catalogue),
+        }
+    }
+
+    /// Whether a response is to be sent. It takes no memory.
+    pub(crate) fn sends(&self, catalogue: &Catalogue<T>) -> bool
+        requires { SessionFits self.now.variant T.TYPE catalogue.now self.now.kept }
+        ensures { result ≡ is_some (sessions.sending self.now.variant T.TYPE self.now.kept.session catalogue.now.entries) }
+    {
+        match &self.side {
+            Side::Sotw(session) => session.sends(catalogue),
+            Side::Delta(session) => session.sends(catalogue),
+        }
+    }
+
+    /// Looks at what changed since, and lets the names go that are owed nothing, as far as there is memory for it.
+    pub(crate) fn tidy(&mut self, alloc: Global, catalogue: &Catalogue<T>)
+        requires { SessionFits self.old.variant T.TYPE catalogue.now self.old.kept }
+        ensures variant { self.new.variant ≡ self.old.variant }
+        ensures same { self.new.kept.session ≡ self.old.kept.session }
+        ensures fits { SessionFits self.old.variant T.TYPE catalogue.now self.new.kept }
+    {
+        match &mut self.side {
+            Side::Sotw(session) => session.tidy(alloc, catalogue),
+            Side::Delta(session) => session.tidy(alloc, catalogue),
+        }
+    }
+
+    /// The next response, if one is to be sent. Refused only where one is: by `NonceSpent` where the stream has no
+    /// number left, and else by `OutOfMemory`.
+    pub(crate) fn poll(
+        &mut self,
+        alloc: Global,
+        replica: u16,
+        catalogue: &Catalogue<T>,
+        nonces: &mut Nonces,
+    ) -> Result<Option<Draft>, Refusal>
+        requires { SessionFits self.old.variant T.TYPE catalogue.now self.old.kept }
+        ensures ok { IfOk result (λ answer. HasPolled self.old.variant T.TYPE catalogue.now.entries (drafted replica T.TYPE catalogue.now self.old.kept.session.asked.interest self.old.variant) self.old.kept.session nonces.old answer self.new.kept.session nonces.new) }
+        ensures bound { IfOk result (λ answer. IfSome answer (λ _. nonces.new ≤ max_counter)) }
+        ensures variant { self.new.variant ≡ self.old.variant }
+        ensures fits { SessionFits self.old.variant T.TYPE catalogue.now self.new.kept }
+        ensures err { OnErr result ((self.new.kept.session ≡ self.old.kept.session) × (nonces.new ≡ nonces.old)) }
+        ensures refused { IfErr result (λ e. IsSome (sessions.sending self.old.variant T.TYPE self.old.kept.session catalogue.now.entries) × (((e ≡ NonceSpent) × (nonces.old ≡ max_counter)) ⊎ ((e ≡ OutOfMemory) × (nonces.old < max_counter)))) }
+    {
+        match &mut self.side {
+            Side::Sotw(session) => sotw_draft(session.poll(alloc, replica, catalogue, nonces)),
+            Side::Delta(session) => delta_draft(session.poll(alloc, replica, catalogue, nonces)),
+        }
+    }
+
+    /// What a response says now, and that response as the one of this number, be one to be sent or not. Refused only by
+    /// `OutOfMemory`.
+    pub(crate) fn respond(
+        &self,
+        alloc: Global,
+        replica: u16,
+        catalogue: &Catalogue<T>,
+        number: u64,
+    ) -> Result<(NameMap<Due>, Draft), Refusal>
+        requires { SessionFits self.now.variant T.TYPE catalogue.now self.now.kept }
+        ensures offer { IfOk result (λ p. p.0 ≡ offer self.now.variant T.TYPE self.now.kept.session.asked.interest catalogue.now.entries self.now.kept.session.account.beliefs) }
+        ensures draft { IfOk result (λ p. p.1 ≡ drafted replica T.TYPE catalogue.now self.now.kept.session.asked.interest self.now.variant p.0 number) }
+        ensures refused { IfErr result (λ e. e ≡ OutOfMemory) }
+    {
+        match &self.side {
+            Side::Sotw(session) => {
+                let (offer, draft) = session.respond(alloc, replica, catalogue, number)?;
+                Ok((offer, Draft::Sotw(draft)))
+            }
+            Side::Delta(session) => {
+                let (offer, draft) = session.respond(alloc, replica, catalogue, number)?;
+                Ok((offer, Draft::Delta(draft)))
+            }
+        }
+    }
+
+    /// Notes that a response with this offer was sent, as the one of this number. It takes no memory.
+    pub(crate) fn send(&mut self, alloc: Global, offer: NameMap<Due>, number: u64)
+        ensures { self.new ≡ record self.old { kept = record self.old.kept { session = sessions.send self.old.kept.session offer number } } }
+    {
+        match &mut self.side {
+            Side::Sotw(session) => session.send(alloc, offer, number),
+            Side::Delta(session) => session.send(alloc, offer, number),
+        }
+    }
+
+    /// An equal session, with memory of its own. Refused only by `OutOfMemory`.
+    pub(crate) fn try_copy(&self, alloc: Global) -> Result<Session<T>, Refusal>
+        ensures ok { IfOk result (λ s. s ≡ self.now) }
+        ensures refused { IfErr result (λ e. e ≡ OutOfMemory) }
+    {
+        let side = match &self.side {
+            Side::Sotw(session) => Side::Sotw(session.try_copy(alloc)?),
+            Side::Delta(session) => Side::Delta(session.try_copy(alloc)?),
+        };
+        Ok(Session { side })
+    }
+}
+
+// A state-of-the-world response as one of either variant.
+fn sotw_draft(polled: Result<Option<SotwDraft>, Refusal>) -> Result<Option<Draft>, Refusal>
+    ensures { result ≡ tagged drafts.Sotw polled }
+{
+    match polled {
+        Ok(Some(draft)) => Ok(Some(Draft::Sotw(draft))),
+        Ok(None) => Ok(None),
+        Err(refusal) => Err(refusal),
+    }
+}
+
+// An incremental response as one of either variant.
+fn delta_draft(polled: Result<Option<DeltaDraft>, Refusal>) -> Result<Option<Draft>, Refusal>
+    ensures { result ≡ tagged drafts.Delta polled }
+{
+    match polled {
+        Ok(Some(draft)) => Ok(Some(Draft::Delta(draft))),
+        Ok(None) => Ok(None),
+        Err(refusal) => Err(refusal),
+    }
+}

@@ -1,4 +1,0 @@
-pub mod Stores
-pub mod Pendings
-pub mod Since
-pub mod Counts

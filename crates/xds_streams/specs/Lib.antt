@@ -1,4 +1,0 @@
-pub mod Streams
-pub mod Talks
-pub mod Seen
-pub mod States

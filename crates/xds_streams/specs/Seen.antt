@@ -1,9 +1,0 @@
--- How a request of the program is seen as a message. This project's own.
-use Rattle.xds_streams.specs.Streams as streams
-use Rattle.xds_streams.specs.Streams.{Message}
-use Rattle.xds_streams.specs.declared.request.Request.{Request}
-use Rattle.xds_streams.specs.declared.request.Request.TheVariants as requests
-
-abbrev pub message_of : Request → Message
-message_of (requests.Sotw m) = streams.Sotw m
-message_of (requests.Delta m) = streams.Delta m
