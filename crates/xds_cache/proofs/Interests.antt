@@ -14,10 +14,10 @@ use Rattle.xds_interest.specs.Delta.{Mention}
 use Rattle.xds_interest.specs.Asked.{star_after, names_after, nothing, everything, unasked, delta_asked}
 use Rattle.xds_interest.proofs.AskedLaws.{contains-names_after}
 use Rattle.xds_interest.proofs.Texts.{same_texts}
-use Rattle.xds_shelf.specs.Shelves.{Wants, texts, interest, wants_some, marked, wants_of, wants_after}
-use Rattle.xds_shelf.specs.Deliveries.{shown}
+use Rattle.xds_cache.specs.Shelves.{Wants, texts, interest, wants_some, marked, wants_of, wants_after}
+use Rattle.xds_cache.specs.Deliveries.{shown}
 use Rattle.xds_cache.specs.Laws.{WantsWhatIsReached, ListIsInterest, ListIsAsked, FirstIsAsked, FirstChangeIsAsked, ChangeIsAsked, HoldsWhatIsWanted, WantedByName, ShownByName, KeptByName}
-use Rattle.xds_shelf.proofs.Making.{get-wants_after, get-cache_after, get-kept_of}
+use Rattle.xds_cache.proofs.Making.{get-wants_after, get-cache_after, get-kept_of}
 
 pub wants_what_is_reached : WantsWhatIsReached
 wants_what_is_reached t cluster w name =

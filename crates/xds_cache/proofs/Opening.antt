@@ -3,7 +3,7 @@ use Rattle.std.proofs.Common.{◌≡◌, ℕ, ◌+◌, ◌<◌, ◌≤◌, List,
 use Rattle.std.specs.Prelude.{if◌then◌else◌}
 use Rattle.std.proofs.lemmas.List.{drop_more, drop_all, append-nil}
 use Rattle.xds_resource.specs.declared.types.TypeName.{TypeName}
-use Rattle.xds_shelf.specs.Shelves.{wants_some}
+use Rattle.xds_cache.specs.Shelves.{wants_some}
 use Rattle.xds_cache.specs.Clients.{Client, shelf}
 use Rattle.xds_cache.specs.Sends.{first_requests, is_greeted}
 

@@ -8,7 +8,7 @@ use Rattle.xds_resource.specs.declared.refusal.Refusal.TheVariants.{BadMessage, 
 use Rattle.xds_resource.specs.Types.{type_of_url}
 use Rattle.xds_resource.specs.PerType.{PerType, per_type_code, per_type, at, with_at, each}
 use Rattle.xds_message.specs.Messages.{Identity}
-use Rattle.xds_shelf.specs.Shelves.{Wants, Cache, Shelf, shelf_code, bare, wanting, wants_some, connected, lost}
+use Rattle.xds_cache.specs.Shelves.{Wants, Cache, Shelf, shelf_code, bare, wanting, wants_some, connected, lost}
 
 pub record Client : Type 0 where
   -- the name that it sends of itself

@@ -6,8 +6,8 @@ use Rattle.xds_resource.specs.declared.types.TypeName.{TypeName}
 use Rattle.xds_interest.specs.Interests.{reaches, in_cluster}
 use Rattle.xds_interest.specs.SotW.{listed}
 use Rattle.xds_interest.specs.Asked.{Asked, unasked, sotw_asked, delta_asked}
-use Rattle.xds_shelf.specs.Shelves.{Wants, Cache, texts, interest, is_wanted, wants_some, wants_of, wants_after, marked_after, kept, kept_of}
-use Rattle.xds_shelf.specs.Deliveries.{shown_after, cache_after}
+use Rattle.xds_cache.specs.Shelves.{Wants, Cache, texts, interest, is_wanted, wants_some, wants_of, wants_after, marked_after, kept, kept_of}
+use Rattle.xds_cache.specs.Deliveries.{shown_after, cache_after}
 
 -- what is wanted is what the interest reaches
 abbrev pub WantsWhatIsReached : Type 0

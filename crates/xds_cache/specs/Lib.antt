@@ -1,3 +1,8 @@
+pub mod Shelves
+pub mod Faults
+pub mod Deliveries
+pub mod Parts
+pub mod Marks
 pub mod Clients
 pub mod Sends
 pub mod Receives

@@ -6,9 +6,9 @@ use Rattle.xds_resource.specs.declared.refusal.Refusal.{Refusal}
 use Rattle.xds_resource.specs.declared.refusal.Refusal.TheVariants.{NoStream}
 use Rattle.xds_message.specs.Messages.{Request, Response}
 use Rattle.xds_message.specs.DeltaMessages.{DeltaRequest, DeltaResponse}
-use Rattle.xds_shelf.specs.Shelves.{Wants, wants_after}
-use Rattle.xds_shelf.specs.Faults.{Test}
-use Rattle.xds_shelf.specs.Deliveries.{sotw_delivery, delta_delivery, fault_in, delivered}
+use Rattle.xds_cache.specs.Shelves.{Wants, wants_after}
+use Rattle.xds_cache.specs.Faults.{Test}
+use Rattle.xds_cache.specs.Deliveries.{sotw_delivery, delta_delivery, fault_in, delivered}
 use Rattle.xds_cache.specs.Clients.{Client, shelf, with_shelf, node, is_sent, shelf_after, changed, addressing}
 use Rattle.xds_cache.specs.Sends.{sotw_request, delta_request, delta_answer}
 

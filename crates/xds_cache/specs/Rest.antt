@@ -6,9 +6,9 @@ use Rattle.xds_resource.specs.declared.types.TypeName.{TypeName}
 use Rattle.xds_resource.specs.declared.refusal.Refusal.TheVariants.{BadMessage}
 use Rattle.xds_resource.specs.Types.{row}
 use Rattle.xds_message.specs.Messages.{Request, Response}
-use Rattle.xds_shelf.specs.Shelves.{Wants, Shelf, wanting, wants_some}
-use Rattle.xds_shelf.specs.Faults.{Test}
-use Rattle.xds_shelf.specs.Deliveries.{Delivery, sotw_delivery, fault_in, taking}
+use Rattle.xds_cache.specs.Shelves.{Wants, Shelf, wanting, wants_some}
+use Rattle.xds_cache.specs.Faults.{Test}
+use Rattle.xds_cache.specs.Deliveries.{Delivery, sotw_delivery, fault_in, taking}
 use Rattle.xds_cache.specs.Clients.{Client, shelf, with_shelf, identity}
 use Rattle.xds_cache.specs.Sends.{sotw_request}
 use Rattle.xds_cache.specs.Receives.{Outcome}

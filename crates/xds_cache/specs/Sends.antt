@@ -6,8 +6,8 @@ use Rattle.xds_resource.specs.Types.{row}
 use Rattle.xds_message.specs.Messages.{Identity, Failure, Request}
 use Rattle.xds_message.specs.DeltaMessages.{DeltaRequest}
 use Rattle.xds_message.specs.Versions.{VersionMap}
-pub use Rattle.xds_shelf.specs.Shelves.{cached_version, cached_versions}
-use Rattle.xds_shelf.specs.Shelves.{Wants, Shelf, texts, wants_some, connected}
+pub use Rattle.xds_cache.specs.Shelves.{cached_version, cached_versions}
+use Rattle.xds_cache.specs.Shelves.{Wants, Shelf, texts, wants_some, connected}
 use Rattle.xds_cache.specs.Clients.{Client, shelf, node}
 
 -- why a response is rejected, as `INVALID_ARGUMENT` of google.rpc.Code

@@ -1,16 +1,16 @@
 // What clients of both variants share.
 ghost use Rattle.std.specs.Prelude.{◌≡◌, true, if◌then◌else◌, string_bytes, IfOk, IfErr};
 ghost use Rattle.xds_resource.specs.declared.refusal.Refusal.TheVariants.{OutOfMemory};
-ghost use Rattle.xds_shelf.specs.Shelves.{wanting as wanting_now, wants_some as some_wanted};
+ghost use Rattle.xds_cache.specs.Shelves.{wanting as wanting_now, wants_some as some_wanted};
 ghost use Rattle.xds_cache.specs.Clients.{fresh, shelf as shelf_of, with_shelf, node as node_of, is_sent as sent, changing, linked, unlinked, broken_off, addressing};
 
+use crate::shelf::Shelf;
 use crate::shelves::Shelves;
+use crate::wants::{Wants, wants_some};
 use std::alloc::Global;
 use std::marker::Model;
 use xds_message::Node;
 use xds_resource::{Refusal, TypeName};
-use xds_shelf::shelf::Shelf;
-use xds_shelf::wants::{Wants, wants_some};
 
 /// A client, whichever its variant, and whether it has a stream or not.
 pub(crate) struct Client {

@@ -6,21 +6,22 @@ ghost use Rattle.xds_resource.specs.Types.{types};
 ghost use Rattle.xds_resource.specs.declared.refusal.Refusal.{Refusal as RefusalValue};
 ghost use Rattle.xds_resource.specs.declared.refusal.Refusal.TheVariants.{OutOfMemory};
 ghost use Rattle.xds_message.specs.Responses.{delta_response_of};
-ghost use Rattle.xds_shelf.specs.Shelves.{wants_of as set_of, wants_some as some_wanted};
+ghost use Rattle.xds_cache.specs.Shelves.{wants_of as set_of, wants_some as some_wanted};
 ghost use Rattle.xds_cache.specs.Clients.{fresh, shelf as shelf_of, view as view_of, node as node_of, addressing, linked, unlinked, broken_off};
 ghost use Rattle.xds_cache.specs.Sends.{delta_request, delta_answer, cached_versions as versions_cached, delta_first, first_requests, is_greeted};
 ghost use Rattle.xds_cache.specs.Receives.{delta_change, delta_changed, delta_receive};
 
+use crate::accept::Accept;
 use crate::client::Client;
+use crate::delta_response::delivered_to;
+use crate::holding::Holding;
 use crate::link::{Down, Link, Up};
 use crate::rejection::rejection;
+use crate::wants::{Wants, texts_of, wants_after, wants_of};
 use std::alloc::Global;
 use std::marker::{Model, PhantomData};
-use xds_delivery::delta_response::delivered_to;
 use xds_message::{DeltaDiscoveryRequest, DeltaDiscoveryResponse, Node, Versions};
 use xds_resource::{NameMap, Refusal, TypeName};
-use xds_shelf::wants::{Wants, texts_of, wants_after, wants_of};
-use xds_shelf::{Accept, Holding};
 
 /// A client of the incremental variant, for all types. `A` is its test of what it is sent, and `L` says whether it is
 /// [`Down`] or [`Up`].

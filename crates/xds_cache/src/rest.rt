@@ -3,18 +3,19 @@ ghost use Rattle.std.specs.Prelude.{◌≡◌, ◌≢◌, [], map, true, false, 
 ghost use Rattle.std.specs.Option.{option_map};
 ghost use Rattle.xds_resource.specs.declared.refusal.Refusal.TheVariants.{OutOfMemory};
 ghost use Rattle.xds_message.specs.Responses.{response_of};
-ghost use Rattle.xds_shelf.specs.Shelves.{wants_of as set_of, wants_some as some_wanted};
+ghost use Rattle.xds_cache.specs.Shelves.{wants_of as set_of, wants_some as some_wanted};
 ghost use Rattle.xds_cache.specs.Clients.{fresh, shelf as shelf_of, view as view_of};
 ghost use Rattle.xds_cache.specs.Rest.{rest_request, rest_asking, rest_changed, rest_receive, rest_answered, answers_poll, has_body};
 
+use crate::accept::Accept;
 use crate::client::Client;
+use crate::holding::Holding;
+use crate::sotw_response::delivered_to;
+use crate::wants::{texts_of, wants_of};
 use std::alloc::Global;
 use std::marker::{Model, PhantomData};
-use xds_delivery::sotw_response::delivered_to;
 use xds_message::{DiscoveryRequest, DiscoveryResponse};
 use xds_resource::{NameMap, Refusal, TypeName};
-use xds_shelf::wants::{texts_of, wants_of};
-use xds_shelf::{Accept, Holding};
 
 /// A client that polls, for all types. `A` is its test of what it is sent. It has no stream: each poll of a type is one request
 /// and its answer.

@@ -1,12 +1,12 @@
 // The shelves of a client, one a type.
 ghost use Rattle.std.specs.Prelude.{◌≡◌};
 ghost use Rattle.xds_resource.specs.PerType.{at, with_at, each, per_type};
-ghost use Rattle.xds_shelf.specs.Shelves.{bare, connected, lost};
+ghost use Rattle.xds_cache.specs.Shelves.{bare, connected, lost};
 
+use crate::shelf::Shelf;
 use std::alloc::Global;
 use std::marker::Model;
 use xds_resource::TypeName;
-use xds_shelf::shelf::Shelf;
 
 pub(crate) struct Shelves {
     cluster: Shelf,
@@ -31,8 +31,8 @@ impl Drop for Shelves {
 
 impl Model for Shelves {
     ghost use Rattle.xds_resource.specs.PerType.{PerType, per_type_code};
-    ghost use Rattle.xds_shelf.specs.Shelves as shelves;
-    ghost use Rattle.xds_shelf.specs.Shelves.{shelf_code};
+    ghost use Rattle.xds_cache.specs.Shelves as shelves;
+    ghost use Rattle.xds_cache.specs.Shelves.{shelf_code};
 
     ghost Value = { PerType shelves.Shelf };
 

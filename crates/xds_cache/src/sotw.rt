@@ -5,22 +5,23 @@ ghost use Rattle.xds_resource.specs.Types.{types};
 ghost use Rattle.xds_resource.specs.declared.refusal.Refusal.{Refusal as RefusalValue};
 ghost use Rattle.xds_resource.specs.declared.refusal.Refusal.TheVariants.{OutOfMemory};
 ghost use Rattle.xds_message.specs.Responses.{response_of};
-ghost use Rattle.xds_shelf.specs.Shelves.{wants_of as set_of, wants_some as some_wanted};
+ghost use Rattle.xds_cache.specs.Shelves.{wants_of as set_of, wants_some as some_wanted};
 ghost use Rattle.xds_cache.specs.Clients.{fresh, shelf as shelf_of, view as view_of, node as node_of, addressing, linked, unlinked, broken_off};
 ghost use Rattle.xds_cache.specs.Sends.{sotw_request as request_of, sotw_first, first_requests, is_greeted};
 ghost use Rattle.xds_cache.specs.Receives.{sotw_change, sotw_receive};
 
+use crate::accept::Accept;
 use crate::client::Client;
+use crate::holding::Holding;
 use crate::link::{Down, Link, Up};
 use crate::rejection::rejection;
+use crate::shelf::Shelf;
+use crate::sotw_response::delivered_to;
+use crate::wants::{texts_of, wants_of};
 use std::alloc::Global;
 use std::marker::{Model, PhantomData};
-use xds_delivery::sotw_response::delivered_to;
 use xds_message::{DiscoveryRequest, DiscoveryResponse, Node};
 use xds_resource::{NameMap, Refusal, TypeName};
-use xds_shelf::shelf::Shelf;
-use xds_shelf::wants::{texts_of, wants_of};
-use xds_shelf::{Accept, Holding};
 
 /// A client of the state-of-the-world variant, for all types. `A` is its test of what it is sent, and `L` says whether it
 /// is [`Down`] or [`Up`].

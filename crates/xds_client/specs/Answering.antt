@@ -8,8 +8,8 @@ use Rattle.xds_frames.specs.Frames.{Framed}
 use Rattle.xds_json.specs.Spelling.{IsJson}
 use Rattle.xds_message.specs.Messages.{Request, Response, SpellsResponse}
 use Rattle.xds_message.specs.DeltaMessages.{DeltaRequest, DeltaResponse, SpellsDeltaResponse}
-use Rattle.xds_shelf.specs.Faults.{Test}
-use Rattle.xds_shelf.specs.Marks.{is_unmarked}
+use Rattle.xds_cache.specs.Faults.{Test}
+use Rattle.xds_cache.specs.Marks.{is_unmarked}
 use Rattle.xds_cache.specs.Clients.{Client}
 use Rattle.xds_cache.specs.Receives.{sotw_receive, delta_receive}
 use Rattle.xds_client.specs.declared.subscription.StreamVariant.{StreamVariant}

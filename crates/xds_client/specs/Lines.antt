@@ -3,7 +3,7 @@ use Rattle.std.specs.Prelude.{ℕ, List, ◌++◌, Bool, if◌then◌else◌, co
 use Rattle.std.specs.List.{flat_map}
 use Rattle.std.specs.FinMap as finmap
 use Rattle.xds_resource.specs.declared.types.TypeName.{TypeName}
-use Rattle.xds_shelf.specs.Shelves.{Cache, Holding}
+use Rattle.xds_cache.specs.Shelves.{Cache, Holding}
 use Rattle.xds_cache.specs.Clients.{view}
 use Rattle.xds_client.specs.declared.subscription.StreamVariant.{StreamVariant}
 use Rattle.xds_client.specs.declared.subscription.StreamVariant.TheVariants.{Sotw, Delta}

@@ -11,7 +11,7 @@ use Rattle.xds_message.specs.Messages.{Request}
 use Rattle.xds_message.specs.DeltaMessages.{DeltaRequest}
 use Rattle.xds_message.specs.Written.{request_object}
 use Rattle.xds_message.specs.DeltaWritten.{delta_request_object}
-use Rattle.xds_shelf.specs.Shelves.{wants_of}
+use Rattle.xds_cache.specs.Shelves.{wants_of}
 use Rattle.xds_cache.specs.Clients.{Client, fresh, linked}
 use Rattle.xds_cache.specs.Sends.{first_requests, sotw_first, delta_first, is_greeted}
 use Rattle.xds_cache.specs.Receives.{sotw_changed, delta_changed}

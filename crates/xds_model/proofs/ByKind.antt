@@ -14,8 +14,8 @@ use Rattle.xds_ledger.specs.declared.outcome.Outcome.{Outcome}
 use Rattle.xds_core.specs.Stores.{Store}
 use Rattle.xds_core.specs.Streams as streams
 use Rattle.xds_core.specs.Streams.{Stream, Message, variant_of, cluster_in, cluster_of, opening, requested, polled_first}
-use Rattle.xds_shelf.specs.Shelves.{Wants, Shelf, bare, wants_of, wants_after}
-use Rattle.xds_shelf.specs.Faults.{Test}
+use Rattle.xds_cache.specs.Shelves.{Wants, Shelf, bare, wants_of, wants_after}
+use Rattle.xds_cache.specs.Faults.{Test}
 use Rattle.xds_cache.specs.Clients as clients
 use Rattle.xds_cache.specs.Clients.{Client, shelf, shelf_after, identity, node, is_sent, unlinked}
 use Rattle.xds_cache.specs.Sends.{delta_request, sotw_request, sotw_first, delta_first, is_greeted}

@@ -9,7 +9,7 @@ use Rattle.xds_ledger.specs.declared.entry.Due.TheVariants.{Stated, Removed}
 use Rattle.xds_resource.proofs.NameMaps.{bytes_eq_tells}
 use Rattle.xds_ledger.specs.Owed.{owed}
 use Rattle.xds_ledger.specs.Believing.{believed_accepted, believed_touched}
-use Rattle.xds_shelf.specs.Shelves.{Holding}
+use Rattle.xds_cache.specs.Shelves.{Holding}
 
 -- what a client holds of a name after a response of which it takes everything
 abbrev pub held_after : Bool → Bool → Option Holding → Option Holding → Option Holding

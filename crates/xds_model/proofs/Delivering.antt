@@ -25,9 +25,9 @@ use Rattle.xds_ledger.specs.Offers.{Offer, offer}
 use Rattle.xds_ledger.proofs.ByName.{offer_says_it}
 use Rattle.xds_delta.specs.Polls.{is_statement, is_removal, names_where, resource_of as drafted_of, resource_at, response}
 use Rattle.xds_delta.proofs.Stating.{present_if_stated, kept_at}
-use Rattle.xds_shelf.specs.Shelves.{Holding, Cache, marked}
-use Rattle.xds_shelf.specs.Faults.{Stated as StatedResource, stated_by, and_stated}
-use Rattle.xds_shelf.specs.Deliveries.{delta_stated}
+use Rattle.xds_cache.specs.Shelves.{Holding, Cache, marked}
+use Rattle.xds_cache.specs.Faults.{Stated as StatedResource, stated_by, and_stated}
+use Rattle.xds_cache.specs.Deliveries.{delta_stated}
 use Rattle.xds_model.specs.Knows.{TypedWrite}
 use Rattle.xds_model.specs.Claims.{holding_of, shown_of}
 use Rattle.xds_model.proofs.Replicas.{some_is, ok_is, if_both}

@@ -19,8 +19,8 @@ use Rattle.xds_core.specs.Streams.{Stream, Message, opening, requested, polled_f
 use Rattle.xds_core.specs.Events as events
 use Rattle.xds_core.specs.Events.{Event, Reply, Opened, Answered, Polled, Owed, Closed, Written, Merged, Entries, Rested, Changed}
 use Rattle.xds_core.specs.Steps.{Core, fresh as fresh_core}
-use Rattle.xds_shelf.specs.Shelves.{bare}
-use Rattle.xds_shelf.specs.Faults.{Test}
+use Rattle.xds_cache.specs.Shelves.{bare}
+use Rattle.xds_cache.specs.Faults.{Test}
 use Rattle.xds_cache.specs.Clients as clients
 use Rattle.xds_cache.specs.Clients.{Client, shelf, unlinked}
 use Rattle.xds_cache.specs.Sends.{is_greeted}

@@ -6,7 +6,7 @@ use Rattle.xds_resource.specs.declared.types.TypeName.{TypeName}
 use Rattle.xds_resource.specs.declared.types.TypeName.TheVariants.{Cluster, Endpoint, Listener, Route, Secret}
 use Rattle.xds_resource.specs.Types.{types, is_same_type}
 use Rattle.xds_core.specs.Streams.{Message}
-use Rattle.xds_shelf.specs.Shelves.{wants_some}
+use Rattle.xds_cache.specs.Shelves.{wants_some}
 use Rattle.xds_cache.specs.Clients.{Client, shelf}
 use Rattle.xds_cache.specs.Sends.{first_requests}
 

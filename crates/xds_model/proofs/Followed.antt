@@ -21,11 +21,11 @@ use Rattle.xds_core.specs.Streams as streams
 use Rattle.xds_core.specs.Streams.{Message}
 use Rattle.xds_core.specs.Events as events
 use Rattle.xds_core.specs.Events.{Event, Reply}
-use Rattle.xds_shelf.specs.Shelves.{Wants, Shelf, bare, wants_of, wants_after}
-use Rattle.xds_shelf.specs.Faults.{Test}
+use Rattle.xds_cache.specs.Shelves.{Wants, Shelf, bare, wants_of, wants_after}
+use Rattle.xds_cache.specs.Faults.{Test}
 use Rattle.xds_cache.specs.Clients as clients
 use Rattle.xds_cache.specs.Clients.{Client, shelf, with_shelf, unlinked, shelf_after, addressing}
-use Rattle.xds_shelf.specs.Deliveries.{Delivery, delivered, fault_in, taking, rejecting, sotw_delivery, delta_delivery}
+use Rattle.xds_cache.specs.Deliveries.{Delivery, delivered, fault_in, taking, rejecting, sotw_delivery, delta_delivery}
 use Rattle.xds_cache.specs.Sends.{is_greeted}
 use Rattle.xds_cache.specs.Rest.{forgetting, rest_changed}
 use Rattle.xds_cache.specs.Receives.{sotw_change, sotw_changed, delta_change, delta_changed, sotw_answered, delta_answered, sotw_receive, delta_receive}

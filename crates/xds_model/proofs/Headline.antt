@@ -8,9 +8,9 @@ use Rattle.xds_resource.specs.PerType.{at}
 use Rattle.xds_resource.specs.Best.{best}
 use Rattle.xds_catalogue.proofs.Catalogues.{get-catalogue_of}
 use Rattle.xds_core.specs.Streams.{Stream, owes_of}
-use Rattle.xds_shelf.specs.Shelves.{interest, is_wanted}
+use Rattle.xds_cache.specs.Shelves.{interest, is_wanted}
 use Rattle.xds_cache.specs.Clients.{shelf}
-use Rattle.xds_shelf.specs.Faults.{Test}
+use Rattle.xds_cache.specs.Faults.{Test}
 use Rattle.xds_model.specs.Happenings.{Happening}
 use Rattle.xds_model.specs.Worlds.{Site, Link, Peer, World, empty_world, world}
 use Rattle.xds_model.specs.Knows.{TypedWrite, Knowledge, nothing_known, known_after, knows, made_after, wants, cluster as cluster_of, link}

@@ -32,9 +32,9 @@ use Rattle.xds_ledger.specs.Believing.{Sent, was_touched, touched_since, believe
 use Rattle.xds_ledger.specs.Sessions.{Session, Names, unopened, taken, is_taken, delta_names, send}
 use Rattle.xds_ledger.proofs.BeliefsByName.{accepted_by_name}
 use Rattle.xds_delta.specs.Polls.{take, mention, answer_in}
-use Rattle.xds_shelf.specs.Shelves.{Wants, Holding, Cache, Shelf, texts, interest, is_wanted, wants_of, wants_after, wanting, kept_of}
-use Rattle.xds_shelf.specs.Faults.{Test}
-use Rattle.xds_shelf.specs.Deliveries.{delta_delivery, fault_in, cache_after, taking, rejecting, delivered}
+use Rattle.xds_cache.specs.Shelves.{Wants, Holding, Cache, Shelf, texts, interest, is_wanted, wants_of, wants_after, wanting, kept_of}
+use Rattle.xds_cache.specs.Faults.{Test}
+use Rattle.xds_cache.specs.Deliveries.{delta_delivery, fault_in, cache_after, taking, rejecting, delivered}
 use Rattle.xds_cache.specs.Sends.{failure, delta_request, delta_answer}
 use Rattle.xds_cache.proofs.Interests.{wants_what_is_reached, shown_by_name, kept_by_name, holds_what_is_wanted, change_is_asked}
 use Rattle.xds_model.specs.Knows.{TypedWrite}

@@ -27,8 +27,8 @@ use Rattle.xds_ledger.specs.Sessions.{Session, Answer, Names, unopened, taken, i
 use Rattle.xds_ledger.proofs.BeliefsByName.{taken_by_name}
 use Rattle.xds_ledger.proofs.Made.{resumed_by_name}
 use Rattle.xds_delta.specs.Polls.{take, mention, answer_in}
-use Rattle.xds_shelf.specs.Shelves.{Wants, Holding, Cache, Shelf, texts, interest, is_wanted, wants_some, wants_of, wants_after}
-use Rattle.xds_shelf.specs.Deliveries.{delta_delivery, statements}
+use Rattle.xds_cache.specs.Shelves.{Wants, Holding, Cache, Shelf, texts, interest, is_wanted, wants_some, wants_of, wants_after}
+use Rattle.xds_cache.specs.Deliveries.{delta_delivery, statements}
 use Rattle.xds_cache.specs.Sends.{failure, delta_answer}
 use Rattle.xds_cache.proofs.Interests.{wanted_by_name, change_is_asked}
 use Rattle.xds_model.specs.Knows.{TypedWrite}

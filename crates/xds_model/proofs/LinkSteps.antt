@@ -33,7 +33,7 @@ use Rattle.xds_core.specs.Stores.{Store, if_done}
 use Rattle.xds_core.specs.Streams as streams
 use Rattle.xds_core.specs.Streams.{Stream, Message, cluster_of, is_foreign, sessions_for, answered_by, answered, requested, to_send, response_of, responding, sent, polled, first_due, polled_first}
 use Rattle.xds_core.proofs.StepLaws.{unless_once, done_with}
-use Rattle.xds_shelf.specs.Shelves.{Shelf}
+use Rattle.xds_cache.specs.Shelves.{Shelf}
 use Rattle.xds_cache.specs.Clients.{Client, shelf}
 use Rattle.xds_model.specs.Worlds.{Link}
 use Rattle.xds_model.specs.Knows.{TypedWrite}

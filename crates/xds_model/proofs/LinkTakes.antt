@@ -28,13 +28,13 @@ use Rattle.xds_ledger.specs.Sessions.{Session, unopened}
 use Rattle.xds_delta.specs.Polls.{take, mention}
 use Rattle.xds_core.specs.Streams as streams
 use Rattle.xds_core.specs.Streams.{Stream, Message, opening}
-use Rattle.xds_shelf.specs.Shelves.{Wants, Holding, Cache, Shelf, texts, interest, is_wanted, wants_some, wants_after, wanting, kept_of, connected, lost, bare}
-use Rattle.xds_shelf.specs.Faults.{Test}
+use Rattle.xds_cache.specs.Shelves.{Wants, Holding, Cache, Shelf, texts, interest, is_wanted, wants_some, wants_after, wanting, kept_of, connected, lost, bare}
+use Rattle.xds_cache.specs.Faults.{Test}
 use Rattle.xds_cache.specs.Clients.{Client, shelf, with_shelf, node, is_sent, shelf_after, changed, linked, unlinked, addressing, addressed_or, if_asked}
-use Rattle.xds_shelf.specs.Deliveries.{delta_delivery, fault_in, delivered}
+use Rattle.xds_cache.specs.Deliveries.{delta_delivery, fault_in, delivered}
 use Rattle.xds_cache.specs.Sends.{delta_request, delta_answer, delta_first}
-use Rattle.xds_shelf.specs.Shelves.{cached_version}
-use Rattle.xds_shelf.specs.Shelves.{cached_versions}
+use Rattle.xds_cache.specs.Shelves.{cached_version}
+use Rattle.xds_cache.specs.Shelves.{cached_versions}
 use Rattle.xds_cache.specs.Receives.{Outcome, delta_receive, delta_answered, if_addressed}
 use Rattle.xds_cache.proofs.Interests.{kept_by_name, holds_what_is_wanted, first_change_is_asked, first_is_asked}
 use Rattle.xds_model.specs.declared.event.ClientKind.TheVariants.{Delta}

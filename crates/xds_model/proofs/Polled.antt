@@ -22,9 +22,9 @@ use Rattle.xds_message.specs.Messages.{Request}
 use Rattle.xds_core.specs.Events as events
 use Rattle.xds_core.specs.Events.{Event, Reply}
 use Rattle.xds_core.specs.Steps.{step}
-use Rattle.xds_shelf.specs.Shelves.{Wants, Shelf, interest, is_wanted, wants_some, texts}
-use Rattle.xds_shelf.specs.Faults.{Test}
-use Rattle.xds_shelf.specs.Deliveries.{Delivery, sotw_delivery, fault_in}
+use Rattle.xds_cache.specs.Shelves.{Wants, Shelf, interest, is_wanted, wants_some, texts}
+use Rattle.xds_cache.specs.Faults.{Test}
+use Rattle.xds_cache.specs.Deliveries.{Delivery, sotw_delivery, fault_in}
 use Rattle.xds_cache.specs.Clients.{Client, shelf, with_shelf, view}
 use Rattle.xds_cache.specs.Rest.{rest_asking, rest_taking, rest_delivered, rest_answered, answers_poll, rest_receive}
 use Rattle.xds_model.specs.declared.event.Answer.{Answer}

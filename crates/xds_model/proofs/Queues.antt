@@ -20,7 +20,7 @@ use Rattle.xds_ledger.specs.Ledgers.{nonce_text}
 use Rattle.xds_ledger.specs.Sessions.{Session, unopened}
 use Rattle.xds_core.specs.Streams as streams
 use Rattle.xds_core.specs.Streams.{Stream, Message}
-use Rattle.xds_shelf.specs.Shelves.{Shelf}
+use Rattle.xds_cache.specs.Shelves.{Shelf}
 use Rattle.xds_cache.specs.Clients.{Client, shelf}
 use Rattle.xds_model.specs.Worlds.{Link, under_way}
 use Rattle.xds_model.specs.Knows.{TypedWrite}

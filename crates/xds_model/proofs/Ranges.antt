@@ -32,7 +32,7 @@ use Rattle.xds_core.specs.Events as events
 use Rattle.xds_core.specs.Events.{Event, Written}
 use Rattle.xds_core.specs.Steps.{fresh as fresh_core}
 use Rattle.xds_core.proofs.StepLaws.{done_with, put_is, delete_is}
-use Rattle.xds_shelf.specs.Faults.{Test}
+use Rattle.xds_cache.specs.Faults.{Test}
 use Rattle.xds_model.specs.Happenings.{Happening, AddReplica, AddClient, Put, Delete, Snapshot, Merge, Connect, Change, Up, Poll, Down, Lose, RestPoll}
 use Rattle.xds_model.specs.Worlds.{Site, World, empty_world, recorded, at_site, is_free, happens}
 use Rattle.xds_model.specs.Knows.{TypedWrite, Knowledge, made_now, made as made_of}

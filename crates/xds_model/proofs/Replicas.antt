@@ -32,7 +32,7 @@ use Rattle.xds_core.specs.Streams.{Message}
 use Rattle.xds_message.specs.declared.draft.Draft.{Draft}
 use Rattle.xds_message.specs.Drafts.{Drafted}
 use Rattle.xds_message.specs.Messages as messages
-use Rattle.xds_shelf.specs.Faults.{Test}
+use Rattle.xds_cache.specs.Faults.{Test}
 use Rattle.xds_cache.specs.Clients.{Client, unlinked}
 use Rattle.xds_core.specs.Steps.{Core, Step, step, fresh as fresh_core}
 use Rattle.xds_core.specs.Legal.{left_by}

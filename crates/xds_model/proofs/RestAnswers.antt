@@ -17,10 +17,10 @@ use Rattle.xds_catalogue.specs.Content.{is_live, is_shown, content}
 use Rattle.xds_ledger.specs.Texts.{interest_version}
 use Rattle.xds_sotw.specs.Rest.{asked_once, whole, is_present, unless_present}
 use Rattle.xds_message.specs.Drafts.{Drafted, message_of}
-use Rattle.xds_shelf.specs.Shelves.{Wants, Holding, Shelf, texts, interest, is_wanted, wants_some}
-use Rattle.xds_shelf.specs.Faults.{Test, stated_by}
-use Rattle.xds_shelf.specs.Deliveries.{Delivery, sotw_delivery, fault_in, statements, shown}
-use Rattle.xds_shelf.proofs.Making.{get-cache_after}
+use Rattle.xds_cache.specs.Shelves.{Wants, Holding, Shelf, texts, interest, is_wanted, wants_some}
+use Rattle.xds_cache.specs.Faults.{Test, stated_by}
+use Rattle.xds_cache.specs.Deliveries.{Delivery, sotw_delivery, fault_in, statements, shown}
+use Rattle.xds_cache.proofs.Making.{get-cache_after}
 use Rattle.xds_cache.specs.Rest.{rest_taking}
 use Rattle.xds_cache.proofs.Interests.{wants_what_is_reached, holds_what_is_wanted}
 use Rattle.xds_model.specs.Knows.{TypedWrite}

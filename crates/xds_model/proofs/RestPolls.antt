@@ -22,9 +22,9 @@ use Rattle.xds_core.specs.Streams.{Message, cluster_in}
 use Rattle.xds_core.specs.Events as events
 use Rattle.xds_core.specs.Events.{Event, Reply}
 use Rattle.xds_core.specs.Steps.{Core, rested as core_rested}
-use Rattle.xds_shelf.specs.Shelves.{Shelf, bare, interest, wants_some}
-use Rattle.xds_shelf.specs.Faults.{Test}
-use Rattle.xds_shelf.specs.Deliveries.{sotw_delivery, fault_in}
+use Rattle.xds_cache.specs.Shelves.{Shelf, bare, interest, wants_some}
+use Rattle.xds_cache.specs.Faults.{Test}
+use Rattle.xds_cache.specs.Deliveries.{sotw_delivery, fault_in}
 use Rattle.xds_cache.specs.Clients.{Client, shelf, with_shelf, unlinked}
 use Rattle.xds_cache.specs.Rest.{rest_asking, forgetting, rest_taking, rest_delivered}
 use Rattle.xds_model.specs.declared.event.Answer.{Answer}

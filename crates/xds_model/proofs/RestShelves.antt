@@ -9,9 +9,9 @@ use Rattle.xds_resource.specs.Types.{is_same_type}
 use Rattle.xds_resource.specs.PerType.{at, with_at}
 use Rattle.xds_resource.proofs.TypesApart.{same_type, at-with_at, at-with_at_other}
 use Rattle.xds_message.specs.Drafts.{Drafted, message_of}
-use Rattle.xds_shelf.specs.Shelves.{Wants, Shelf}
-use Rattle.xds_shelf.specs.Faults.{Test}
-use Rattle.xds_shelf.specs.Deliveries.{Delivery, sotw_delivery, fault_in, statements}
+use Rattle.xds_cache.specs.Shelves.{Wants, Shelf}
+use Rattle.xds_cache.specs.Faults.{Test}
+use Rattle.xds_cache.specs.Deliveries.{Delivery, sotw_delivery, fault_in, statements}
 use Rattle.xds_cache.specs.Clients.{Client, shelf, with_shelf}
 use Rattle.xds_cache.specs.Rest.{forgetting, rest_changed, rest_taking, rest_delivered, rest_answered}
 use Rattle.xds_cache.proofs.Interests.{holds_what_is_wanted}

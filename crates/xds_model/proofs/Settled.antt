@@ -32,7 +32,7 @@ use Rattle.xds_ledger.specs.Sessions.{Session, unopened}
 use Rattle.xds_ledger.proofs.ByName.{nothing_owed}
 use Rattle.xds_core.specs.Stores.{Store}
 use Rattle.xds_core.specs.Streams.{Stream, Message, owes_of}
-use Rattle.xds_shelf.specs.Shelves.{Holding, Shelf, interest}
+use Rattle.xds_cache.specs.Shelves.{Holding, Shelf, interest}
 use Rattle.xds_cache.proofs.Interests.{wants_what_is_reached}
 use Rattle.xds_model.specs.Knows.{TypedWrite}
 use Rattle.xds_cache.specs.Clients.{Client, shelf}

@@ -25,8 +25,8 @@ use Rattle.xds_delta.specs.Polls.{mention, answer_in}
 use Rattle.xds_core.specs.Stores.{Store}
 use Rattle.xds_core.specs.Streams as streams
 use Rattle.xds_core.specs.Streams.{Stream, Message, opening, session_after, requested, polled_first, response_of}
-use Rattle.xds_shelf.specs.Shelves.{wants_some}
-use Rattle.xds_shelf.specs.Faults.{Test}
+use Rattle.xds_cache.specs.Shelves.{wants_some}
+use Rattle.xds_cache.specs.Faults.{Test}
 use Rattle.xds_cache.specs.Clients.{Client, shelf, is_sent}
 use Rattle.xds_cache.specs.Sends.{sotw_first, delta_first}
 use Rattle.xds_model.specs.declared.event.ClientKind.{ClientKind}

@@ -14,7 +14,7 @@ use Rattle.xds_core.specs.Streams.{Stream, Message, opening, requested, polled_f
 use Rattle.xds_core.specs.Events as events
 use Rattle.xds_core.specs.Events.{Event, Reply, Answered, Polled}
 use Rattle.xds_core.specs.Steps.{Core, fresh as fresh_core}
-use Rattle.xds_shelf.specs.Faults.{Test}
+use Rattle.xds_cache.specs.Faults.{Test}
 use Rattle.xds_cache.specs.Clients.{Client, unlinked}
 use Rattle.xds_model.specs.declared.event.Answer.{Answer}
 use Rattle.xds_model.specs.Happenings.{Happening, Wish, AddReplica, AddClient, Put, Delete, Snapshot, Merge, Connect, Change, Up, Poll, Down, Lose, RestPoll}

@@ -35,9 +35,9 @@ use Rattle.xds_delta.specs.Polls as delta
 use Rattle.xds_delta.specs.Polls.{is_statement, is_removal, names_where, resource_of as drafted_of}
 use Rattle.xds_core.specs.Stores.{Store}
 use Rattle.xds_core.specs.Streams.{response_of}
-use Rattle.xds_shelf.specs.Shelves.{Cache, Wants, wants_of, marked}
-use Rattle.xds_shelf.specs.Faults.{Test, Stated as StatedResource, first_reason, is_misnamed, fault_by, fault_of, and_stated, first_fault, holding_of}
-use Rattle.xds_shelf.specs.Deliveries.{sotw_stated, sotw_delivery, delta_delivery, fault_in}
+use Rattle.xds_cache.specs.Shelves.{Cache, Wants, wants_of, marked}
+use Rattle.xds_cache.specs.Faults.{Test, Stated as StatedResource, first_reason, is_misnamed, fault_by, fault_of, and_stated, first_fault, holding_of}
+use Rattle.xds_cache.specs.Deliveries.{sotw_stated, sotw_delivery, delta_delivery, fault_in}
 use Rattle.xds_model.specs.Knows.{TypedWrite}
 use Rattle.xds_model.proofs.Replicas.{if_some, if_both}
 use Rattle.xds_delta.proofs.Stating.{present_if_stated, kept_at}

@@ -17,7 +17,7 @@ use Rattle.xds_core.specs.Stores.{Store}
 use Rattle.xds_core.specs.Streams.{Stream, Message, session_after, requested, polled_first, looked_at}
 use Rattle.xds_core.specs.Events as events
 use Rattle.xds_core.specs.Events.{Answered, Polled}
-use Rattle.xds_shelf.specs.Faults.{Test}
+use Rattle.xds_cache.specs.Faults.{Test}
 use Rattle.xds_cache.specs.Clients.{Client, shelf}
 use Rattle.xds_model.specs.Happenings.{Happening, Up, Poll, Down}
 use Rattle.xds_model.specs.Worlds.{Link, Peer, World, at_site, with_peer, up_taken, under_way, polled, received, taken_down, down_taken, happens}

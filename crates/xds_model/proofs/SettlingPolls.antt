@@ -4,7 +4,7 @@ use Rattle.std.specs.Prelude.{if◌then◌else◌}
 use Rattle.std.specs.Option.{option_map_or}
 use Rattle.std.specs.List.{list_any}
 use Rattle.xds_resource.specs.declared.types.TypeName.{TypeName}
-use Rattle.xds_shelf.specs.Faults.{Test}
+use Rattle.xds_cache.specs.Faults.{Test}
 use Rattle.xds_model.specs.Happenings.{Happening, Poll}
 use Rattle.xds_model.specs.Worlds.{World, empty_world, happens, world}
 use Rattle.xds_model.specs.Knows.{TypedWrite, Knowledge, nothing_known, known_after, made_after}

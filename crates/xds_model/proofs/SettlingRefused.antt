@@ -11,7 +11,7 @@ use Rattle.xds_ledger.specs.Ledgers.{is_due, is_refused}
 use Rattle.xds_ledger.specs.Sessions as sessions
 use Rattle.xds_ledger.specs.Sessions.{Session}
 use Rattle.xds_core.specs.Streams.{Stream}
-use Rattle.xds_shelf.specs.Faults.{Test}
+use Rattle.xds_cache.specs.Faults.{Test}
 use Rattle.xds_model.specs.Happenings.{Happening}
 use Rattle.xds_model.specs.Worlds.{Site, Link, World, happens, after, world}
 use Rattle.xds_model.specs.Claims.{PutResources, asks_for, is_quiet, is_settled}

@@ -27,7 +27,7 @@ use Rattle.xds_ledger.proofs.Made.{resumed_by_name}
 use Rattle.xds_ledger.proofs.SameOffers.{offers_are_told_apart}
 use Rattle.xds_sotw.specs.Polls.{take as sotw_take}
 use Rattle.xds_delta.specs.Polls.{take as delta_take, mention, answer_in}
-use Rattle.xds_shelf.specs.Shelves.{Shelf, texts, interest}
+use Rattle.xds_cache.specs.Shelves.{Shelf, texts, interest}
 use Rattle.xds_cache.specs.Sends.{failure, delta_answer}
 use Rattle.xds_model.specs.Knows.{TypedWrite}
 use Rattle.xds_model.proofs.Replicas.{some_is, if_some, if_both, both_parts}

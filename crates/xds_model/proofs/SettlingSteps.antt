@@ -30,10 +30,10 @@ use Rattle.xds_core.specs.Streams.{Stream, Message, url_of, variant_of, cluster_
 use Rattle.xds_core.specs.Events.{Event, Reply}
 use Rattle.xds_core.specs.Steps.{Core, step, stream_step}
 use Rattle.xds_core.proofs.StepLaws.{unless_once}
-use Rattle.xds_shelf.specs.Shelves.{Shelf, texts}
-use Rattle.xds_shelf.specs.Faults.{Test}
+use Rattle.xds_cache.specs.Shelves.{Shelf, texts}
+use Rattle.xds_cache.specs.Faults.{Test}
 use Rattle.xds_cache.specs.Clients.{Client, shelf, with_shelf}
-use Rattle.xds_shelf.specs.Deliveries.{Delivery, sotw_delivery, delta_delivery, fault_in, taking, rejecting, delivered}
+use Rattle.xds_cache.specs.Deliveries.{Delivery, sotw_delivery, delta_delivery, fault_in, taking, rejecting, delivered}
 use Rattle.xds_cache.specs.Sends.{failure}
 use Rattle.xds_model.specs.declared.event.ClientKind.{ClientKind}
 use Rattle.xds_model.specs.declared.event.ClientKind.TheVariants.{Sotw, Delta, Rest}

@@ -24,7 +24,7 @@ use Rattle.xds_core.specs.Streams.{Stream, Message, url_of, variant_of, is_same_
 use Rattle.xds_core.specs.Events as events
 use Rattle.xds_core.specs.Events.{Event, Reply, Answered, Polled}
 use Rattle.xds_core.specs.Steps.{Core, step, with_stream, stream_step}
-use Rattle.xds_shelf.specs.Faults.{Test}
+use Rattle.xds_cache.specs.Faults.{Test}
 use Rattle.xds_cache.specs.Clients.{Client, shelf, addressing, addressed_or, if_asked}
 use Rattle.xds_cache.specs.Receives.{if_addressed, sotw_answered, delta_answered}
 use Rattle.xds_model.specs.declared.event.ClientKind.{ClientKind}

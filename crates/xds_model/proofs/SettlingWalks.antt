@@ -1,7 +1,7 @@
 -- What was done to settle a client of a type while no poll gave nothing, and what may be done after it.
 use Rattle.std.proofs.Common.{◌≡◌, ℕ, List, [], ◌∷◌, ◌++◌, Bool, false, Option, Some, None, refl, sym, ap, subst, ◌∙◌}
 use Rattle.xds_resource.specs.declared.types.TypeName.{TypeName}
-use Rattle.xds_shelf.specs.Faults.{Test}
+use Rattle.xds_cache.specs.Faults.{Test}
 use Rattle.xds_model.specs.Happenings.{Happening}
 use Rattle.xds_model.specs.Worlds.{World, happens}
 use Rattle.xds_model.specs.Settling.{link_in, next_to_settle, gave_nothing, Then, Done}

@@ -22,9 +22,9 @@ use Rattle.xds_ledger.specs.Owed.{Beliefs, live_version, version_shown, present,
 use Rattle.xds_ledger.specs.Offers.{Offer, offer, stated_version}
 use Rattle.xds_ledger.proofs.ByName.{offer_says_it}
 use Rattle.xds_sotw.specs.Polls.{response, stated_writes}
-use Rattle.xds_shelf.specs.Shelves.{Holding, Cache}
-use Rattle.xds_shelf.specs.Faults.{Stated as StatedResource, stated_by, and_stated}
-use Rattle.xds_shelf.specs.Deliveries.{sotw_stated}
+use Rattle.xds_cache.specs.Shelves.{Holding, Cache}
+use Rattle.xds_cache.specs.Faults.{Stated as StatedResource, stated_by, and_stated}
+use Rattle.xds_cache.specs.Deliveries.{sotw_stated}
 use Rattle.xds_model.specs.Knows.{TypedWrite}
 use Rattle.xds_model.proofs.Replicas.{some_is, if_both}
 use Rattle.xds_delta.proofs.Stating.{present_if_stated}

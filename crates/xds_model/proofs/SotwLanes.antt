@@ -24,8 +24,8 @@ use Rattle.xds_ledger.specs.Ledgers.{Account, nonce_text, settled, answered}
 use Rattle.xds_ledger.specs.Believing.{Sent, was_touched, touched_since, believed_accepted}
 use Rattle.xds_ledger.specs.Sessions.{Session, Names, unopened, taken}
 use Rattle.xds_sotw.specs.Polls.{take}
-use Rattle.xds_shelf.specs.Shelves.{Wants, Holding, Cache, Shelf, texts, interest, is_wanted, wants_some}
-use Rattle.xds_shelf.specs.Deliveries.{sotw_delivery, statements}
+use Rattle.xds_cache.specs.Shelves.{Wants, Holding, Cache, Shelf, texts, interest, is_wanted, wants_some}
+use Rattle.xds_cache.specs.Deliveries.{sotw_delivery, statements}
 use Rattle.xds_model.specs.Knows.{TypedWrite}
 use Rattle.xds_model.proofs.ByOneName.{believed_after}
 use Rattle.xds_model.proofs.Lanes.{believed_by_name, nothing_resumed, settles, taken_if_sent}

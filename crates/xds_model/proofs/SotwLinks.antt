@@ -28,10 +28,10 @@ use Rattle.xds_core.specs.Stores.{Store}
 use Rattle.xds_core.specs.Streams as streams
 use Rattle.xds_core.specs.Streams.{Stream, Message, opening, cluster_of, is_foreign, sessions_for, answered_by, answered, requested, response_of}
 use Rattle.xds_core.proofs.StepLaws.{unless_once}
-use Rattle.xds_shelf.specs.Shelves.{Wants, Shelf, texts, is_wanted, wants_some, wanting, connected}
-use Rattle.xds_shelf.specs.Faults.{Test}
+use Rattle.xds_cache.specs.Shelves.{Wants, Shelf, texts, is_wanted, wants_some, wanting, connected}
+use Rattle.xds_cache.specs.Faults.{Test}
 use Rattle.xds_cache.specs.Clients.{Client, shelf, with_shelf, node, is_sent, shelf_after, changed, linked, unlinked, addressing, addressed_or, if_asked}
-use Rattle.xds_shelf.specs.Deliveries.{sotw_delivery, fault_in, taking, rejecting, delivered}
+use Rattle.xds_cache.specs.Deliveries.{sotw_delivery, fault_in, taking, rejecting, delivered}
 use Rattle.xds_cache.specs.Sends.{sotw_request, sotw_first}
 use Rattle.xds_cache.specs.Receives.{sotw_receive, sotw_answered}
 use Rattle.xds_cache.proofs.Interests.{kept_by_name, holds_what_is_wanted}

@@ -33,9 +33,9 @@ use Rattle.xds_ledger.specs.Sessions.{Session, Names, unopened, is_taken, taken,
 use Rattle.xds_ledger.specs.Laws.{with_sent}
 use Rattle.xds_ledger.proofs.BeliefsByName.{accepted_by_name}
 use Rattle.xds_sotw.specs.Polls.{take}
-use Rattle.xds_shelf.specs.Shelves.{Wants, Holding, Cache, Shelf, texts, interest, is_wanted, wants_some, wanting}
-use Rattle.xds_shelf.specs.Faults.{Test}
-use Rattle.xds_shelf.specs.Deliveries.{sotw_delivery, fault_in, cache_after, taking, rejecting, delivered}
+use Rattle.xds_cache.specs.Shelves.{Wants, Holding, Cache, Shelf, texts, interest, is_wanted, wants_some, wanting}
+use Rattle.xds_cache.specs.Faults.{Test}
+use Rattle.xds_cache.specs.Deliveries.{sotw_delivery, fault_in, cache_after, taking, rejecting, delivered}
 use Rattle.xds_cache.specs.Sends.{failure, sotw_request}
 use Rattle.xds_cache.proofs.Interests.{wants_what_is_reached, shown_by_name, kept_by_name, holds_what_is_wanted}
 use Rattle.xds_model.specs.Knows.{TypedWrite}

@@ -12,7 +12,7 @@ use Rattle.xds_ledger.specs.Sessions as sessions
 use Rattle.xds_ledger.specs.Sessions.{unopened}
 use Rattle.xds_core.specs.Stores.{Store, if_done}
 use Rattle.xds_core.specs.Streams.{Stream, Message, variant_of, cluster_of, is_foreign, sessions_for, answered, requested, owes_of, polled, first_due, polled_first}
-use Rattle.xds_shelf.specs.Shelves.{wants_some}
+use Rattle.xds_cache.specs.Shelves.{wants_some}
 use Rattle.xds_cache.specs.Clients.{Client, shelf, linked}
 use Rattle.xds_cache.specs.Sends.{is_greeted}
 use Rattle.xds_model.proofs.Replicas.{ok_is}

@@ -20,9 +20,9 @@ use Rattle.xds_core.specs.Events.{Reply}
 use Rattle.xds_core.specs.Streams.{Message, url_of, owes_of}
 use Rattle.xds_core.specs.Steps.{fresh as fresh_core}
 use Rattle.xds_core.specs.Legal.{IsLegal, replayed}
-use Rattle.xds_shelf.specs.Shelves.{Cache, Holding, Wants, interest, is_wanted, wants_some}
+use Rattle.xds_cache.specs.Shelves.{Cache, Holding, Wants, interest, is_wanted, wants_some}
 use Rattle.xds_cache.specs.Clients as clients
-use Rattle.xds_shelf.specs.Faults.{Test}
+use Rattle.xds_cache.specs.Faults.{Test}
 use Rattle.xds_cache.specs.Receives.{Outcome}
 use Rattle.xds_cache.specs.Rest.{rest_receive}
 use Rattle.xds_model.specs.declared.event.ClientKind.TheVariants.{Sotw, Delta, Rest}

@@ -9,8 +9,8 @@ use Rattle.xds_resource.specs.Resources.{written, deleted}
 use Rattle.xds_resource.specs.Writes.{StampedWrite}
 pub use Rattle.xds_resource.specs.TypedWrites.{TypedWrite}
 use Rattle.xds_core.specs.Events as events
-use Rattle.xds_shelf.specs.Faults.{Test}
-use Rattle.xds_shelf.specs.Shelves.{Wants, wants_of, wants_after}
+use Rattle.xds_cache.specs.Faults.{Test}
+use Rattle.xds_cache.specs.Shelves.{Wants, wants_of, wants_after}
 use Rattle.xds_model.specs.Happenings.{Wish, Names, Edits, Happening, AddClient, Put, Delete, Snapshot, Merge, Connect, Change, Lose}
 use Rattle.xds_model.specs.Worlds.{World, empty_world, at_site, happens, placed}
 

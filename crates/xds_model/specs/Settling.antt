@@ -14,7 +14,7 @@ use Rattle.xds_ledger.specs.Offers.{offer}
 use Rattle.xds_ledger.specs.Ledgers.{is_refused}
 use Rattle.xds_core.specs.Stores.{Store}
 use Rattle.xds_core.specs.Streams.{Stream, Message, to_send}
-use Rattle.xds_shelf.specs.Faults.{Test}
+use Rattle.xds_cache.specs.Faults.{Test}
 use Rattle.xds_model.specs.Happenings.{Happening, Up, Poll, Down}
 use Rattle.xds_model.specs.Worlds.{World, Site, Link, world, after, happens}
 use Rattle.xds_model.specs.Knows.{knows, wants, cluster, link}

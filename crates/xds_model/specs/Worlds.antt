@@ -18,8 +18,8 @@ use Rattle.xds_core.specs.Events.{Event, Reply}
 use Rattle.xds_core.specs.Steps.{Core, Step, step, fresh as fresh_core}
 use Rattle.xds_core.specs.Legal.{Record}
 use Rattle.xds_message.specs.Messages.{Request}
-use Rattle.xds_shelf.specs.Shelves.{wants_of}
-use Rattle.xds_shelf.specs.Faults.{Test}
+use Rattle.xds_cache.specs.Shelves.{wants_of}
+use Rattle.xds_cache.specs.Faults.{Test}
 use Rattle.xds_cache.specs.Clients as clients
 use Rattle.xds_cache.specs.Clients.{Client, linked, unlinked}
 use Rattle.xds_cache.specs.Sends.{sotw_first, delta_first, first_requests, is_greeted}

@@ -1,6 +1,6 @@
 // Laws of worlds, over every list of what may happen. Each is a function that does nothing, whose clause is the law.
 ghost use Rattle.std.specs.Prelude.{List};
-ghost use Rattle.xds_shelf.specs.Faults.{Test};
+ghost use Rattle.xds_cache.specs.Faults.{Test};
 ghost use Rattle.xds_model.specs.Happenings.{Happening};
 ghost use Rattle.xds_model.specs.Claims.{HoldsWhatItKnows, PutResources, SameKnowledgeSameHoldings, SettledIsExact, SettledAgrees, LinksAreFollowed, OneWriteAStamp, JournalsAreLegal, JournalsTellAll, PolledIsExact, PolledIsTaken, LostLeavesTheView, PollsArePossible, PollersHaveNoStream};
 ghost use Rattle.xds_model.specs.Settling.{TwoResponsesSuffice, QuietAtTheEnd, UnsettledHasRefused, StopsWhereSpent, SettlesWhereAllIsTaken};

@@ -4,7 +4,7 @@ use Rattle.std.specs.Option.{option_and_then}
 use Rattle.xds_resource.specs.declared.types.TypeName.{TypeName}
 use Rattle.xds_message.specs.declared.draft.Draft.{Draft}
 use Rattle.xds_message.specs.Drafts.{Drafted}
-use Rattle.xds_shelf.specs.Faults.{Test}
+use Rattle.xds_cache.specs.Faults.{Test}
 use Rattle.xds_cache.specs.Clients.{unlinked}
 use Rattle.xds_model.specs.Happenings.{Wish}
 use Rattle.xds_model.specs.Worlds.{Link, Peer, wish_taken, changed, received, taken_down, under_way, is_to_connect, connected_to}

@@ -2,7 +2,7 @@
 use Rattle.std.proofs.Common.{◌≡◌, ℕ, List, ◌++◌, map, All, Option, Some, None, refl, sym, ap, subst, ◌∙◌}
 use Rattle.std.specs.Prelude.{option_map}
 use Rattle.std.specs.FinMap as finmap
-use Rattle.xds_shelf.specs.Faults.{Test}
+use Rattle.xds_cache.specs.Faults.{Test}
 use Rattle.xds_core.specs.Steps.{Core, fresh}
 use Rattle.xds_core.specs.Legal.{Record, IsLegal, replayed}
 use Rattle.xds_model.specs.Happenings.{Happening}

@@ -1,7 +1,7 @@
 -- What playing a script does and prints, command by command. This project's own.
 use Rattle.std.specs.Prelude.{◌≡◌, ℕ, List, [], ◌∷◌, ◌++◌, Some, ⊤}
-use Rattle.xds_shelf.specs.Faults.{Test}
-use Rattle.xds_shelf.specs.Marks.{is_unmarked}
+use Rattle.xds_cache.specs.Faults.{Test}
+use Rattle.xds_cache.specs.Marks.{is_unmarked}
 use Rattle.xds_model.specs.Happenings.{Happening}
 use Rattle.xds_model.specs.Settling.{IsAddedToSettle}
 use Rattle.xds_model.specs.Worlds.{world}

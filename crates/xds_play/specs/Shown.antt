@@ -9,7 +9,7 @@ use Rattle.xds_resource.specs.PerType.{at}
 use Rattle.xds_resource.specs.Writes.{StampedWrite, version_of}
 use Rattle.xds_catalogue.specs.Holdings.{Holdings}
 use Rattle.xds_catalogue.specs.Content.{is_live}
-use Rattle.xds_shelf.specs.Shelves.{Cache, Holding}
+use Rattle.xds_cache.specs.Shelves.{Cache, Holding}
 use Rattle.xds_cache.specs.Clients as clients
 use Rattle.xds_model.specs.declared.event.ClientKind.{ClientKind}
 use Rattle.xds_model.specs.declared.event.ClientKind.TheVariants as kinds

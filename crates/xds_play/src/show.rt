@@ -3,7 +3,7 @@ ghost use Rattle.std.specs.Prelude.{◌≡◌, ◌++◌, IfOk, IfErr, OnOk, List
 ghost use Rattle.std.specs.FinMap as finmap;
 ghost use Rattle.xds_resource.specs.declared.refusal.Refusal.TheVariants.{OutOfMemory};
 ghost use Rattle.xds_resource.specs.Writes.{StampedWrite};
-ghost use Rattle.xds_shelf.specs.Shelves as shelves;
+ghost use Rattle.xds_cache.specs.Shelves as shelves;
 ghost use Rattle.xds_catalogue.specs.Content.{is_live};
 ghost use Rattle.xds_play.specs.Shown.{holding_line, holding_lines, view_head, view_text, write_line, write_lines, content_head, content_text};
 

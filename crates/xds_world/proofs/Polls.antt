@@ -12,8 +12,8 @@ use Rattle.xds_message.specs.Messages.{Request}
 use Rattle.xds_core.specs.Events as events
 use Rattle.xds_core.specs.Events.{Reply}
 use Rattle.xds_core.proofs.StreamSteps.{put_twice, put_back}
-use Rattle.xds_shelf.specs.Shelves.{wants_some}
-use Rattle.xds_shelf.specs.Faults.{Test}
+use Rattle.xds_cache.specs.Shelves.{wants_some}
+use Rattle.xds_cache.specs.Faults.{Test}
 use Rattle.xds_cache.specs.Clients.{Client, shelf}
 use Rattle.xds_model.specs.declared.event.Answer.{Answer}
 use Rattle.xds_model.specs.declared.event.Answer.TheVariants.{Arrives, Lost}

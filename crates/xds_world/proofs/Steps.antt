@@ -13,7 +13,7 @@ use Rattle.xds_core.specs.Streams.{Message, Stream, opening, looked_at, polled_f
 use Rattle.xds_core.specs.Events as events
 use Rattle.xds_core.specs.Events.{Event, Reply}
 use Rattle.xds_core.specs.Steps.{Core, with_stream}
-use Rattle.xds_shelf.specs.Faults.{Test}
+use Rattle.xds_cache.specs.Faults.{Test}
 use Rattle.xds_cache.specs.Clients.{unlinked}
 use Rattle.xds_model.specs.Happenings as happenings
 use Rattle.xds_model.specs.Worlds.{Peer, Link, World, at_site, happened_at, happens, with_peer, on_link, connected_to, opened, polled, under_way, up_taken, down_taken, taken_down, received, changed, wish_taken, is_to_connect}

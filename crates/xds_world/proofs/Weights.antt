@@ -8,7 +8,7 @@ use Rattle.xds_message.specs.declared.draft.Draft.{Draft}
 use Rattle.xds_core.specs.Streams.{Message}
 use Rattle.xds_core.specs.Events as events
 use Rattle.xds_core.specs.Events.{Reply}
-use Rattle.xds_shelf.specs.Faults.{Test}
+use Rattle.xds_cache.specs.Faults.{Test}
 use Rattle.xds_model.specs.Happenings.{Up, Poll, Down}
 use Rattle.xds_model.specs.Worlds.{World, Peer, Link, happens, at_site, with_peer, up_taken, polled, down_taken, taken_down, received, under_way}
 use Rattle.xds_model.specs.Settling.{link_in}

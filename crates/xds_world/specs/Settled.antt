@@ -1,7 +1,7 @@
 -- Why a client wasn't settled. This project's own.
 use Rattle.std.specs.Prelude.{◌≡◌, ℕ, List, Bool, true, false, Some, None, ⊤}
 use Rattle.xds_resource.specs.declared.types.TypeName.{TypeName}
-use Rattle.xds_shelf.specs.Faults.{Test}
+use Rattle.xds_cache.specs.Faults.{Test}
 use Rattle.xds_model.specs.Claims.{Headline, writes_of, TakesAll}
 use Rattle.xds_model.specs.Knows.{knows, cluster, wants, link}
 use Rattle.xds_model.specs.Worlds.{world}

@@ -1,5 +1,5 @@
 use Rattle.std.proofs.Common.{◌∙◌}
-use Rattle.xds_shelf.proofs.Making.{put_all-cached_versions}
+use Rattle.xds_cache.proofs.Making.{put_all-cached_versions}
 use Rattle.xds_cache.proofs.delta.cached_versions.Goals as goal
 
 pub returns-clause-ok : goal.returns-clause-ok

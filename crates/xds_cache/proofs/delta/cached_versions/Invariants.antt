@@ -1,7 +1,7 @@
 use Rattle.std.proofs.Common.{◌≡◌}
 use Rattle.std.specs.FinMap as finmap
 use Rattle.xds_resource.specs.Names.{pairs, put_all}
-use Rattle.xds_shelf.specs.Parts.{version_told}
+use Rattle.xds_cache.specs.Parts.{version_told}
 use Rattle.xds_cache.proofs.delta.cached_versions.Given as goal
 
 -- what is left decides

@@ -1,5 +1,5 @@
 use Rattle.std.proofs.Common.{◌≡◌, [], ap, ◌∙◌, false}
-use Rattle.xds_shelf.specs.Shelves.{wants_of}
+use Rattle.xds_cache.specs.Shelves.{wants_of}
 use Rattle.xds_cache.specs.Clients.{fresh}
 use Rattle.xds_cache.specs.Receives.{delta_changed}
 use Rattle.xds_client.specs.Subscribing.{names_of, node_id}
