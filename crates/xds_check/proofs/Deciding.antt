@@ -17,13 +17,13 @@ use Rattle.xds_ledger.specs.Offers.{Offer, same_offer}
 use Rattle.xds_ledger.specs.Variants.{is_whole}
 use Rattle.xds_ledger.proofs.Repeating.{named_passes, one_fails}
 use Rattle.xds_ledger.proofs.SameOffers.{offers_are_told_apart}
-use Rattle.xds_rules.specs.declared.line.Line.{Line}
-use Rattle.xds_rules.specs.declared.rule.Rule.{Rule}
-use Rattle.xds_rules.specs.declared.rule.Rule.TheVariants.{FreshNonce, BestResources, CoveredResources, WholeResponse, RightRemovals, OneAtATime, NothingRefusedAgain, NothingPending}
-use Rattle.xds_rules.specs.Answers.{Answer, stated_names}
-use Rattle.xds_rules.specs.Lines.{standing, live, interest, is_used, cluster_on, has_asked, taken, sent, is_pending, is_waiting, refused_offer, offer_at, speaks_delta, mentions, is_mentioned}
-use Rattle.xds_rules.specs.Lines as said
-use Rattle.xds_rules.specs.Rules.{place, is_put_by, HasStaleNonce, StatesAnother, StatesUncovered, LacksAName, RemovesShown, IsSecondAtATime, OffersRefused, LeavesPending, BreaksAtResponse}
+use Rattle.xds_check.specs.declared.line.Line.{Line}
+use Rattle.xds_check.specs.declared.rule.Rule.{Rule}
+use Rattle.xds_check.specs.declared.rule.Rule.TheVariants.{FreshNonce, BestResources, CoveredResources, WholeResponse, RightRemovals, OneAtATime, NothingRefusedAgain, NothingPending}
+use Rattle.xds_check.specs.Answers.{Answer, stated_names}
+use Rattle.xds_check.specs.Lines.{standing, live, interest, is_used, cluster_on, has_asked, taken, sent, is_pending, is_waiting, refused_offer, offer_at, speaks_delta, mentions, is_mentioned}
+use Rattle.xds_check.specs.Lines as said
+use Rattle.xds_check.specs.Rules.{place, is_put_by, HasStaleNonce, StatesAnother, StatesUncovered, LacksAName, RemovesShown, IsSecondAtATime, OffersRefused, LeavesPending, BreaksAtResponse}
 use Rattle.xds_check.specs.Kept.{Talk, Marks, is_marked, wanted, is_stale, states_another, states_uncovered, lacks_one, lacks_a_name, is_shown_in, removes_shown, offers_refused, is_missed, none_missed, least}
 use Rattle.xds_check.proofs.Talking.{wanted_is, stands_waits, stands_refused}
 use Rattle.xds_check.proofs.Lining.{IsSpokenBy, offer_same}

@@ -12,11 +12,11 @@ use Rattle.xds_resource.specs.declared.types.TypeName.{TypeName}
 use Rattle.xds_resource.specs.Writes.{text_cmp}
 use Rattle.xds_catalogue.specs.Holdings.{Entries, Holdings, nothing_held}
 use Rattle.xds_catalogue.proofs.Lookups.{get-inserted, get-removed}
-use Rattle.xds_rules.specs.declared.asking.Asking.{Asking}
-use Rattle.xds_rules.specs.declared.line.Line.{Line}
-use Rattle.xds_rules.specs.declared.line.Line.TheVariants as lines
-use Rattle.xds_rules.specs.declared.rule.Rule.{Rule}
-use Rattle.xds_rules.specs.Answers.{Answer}
+use Rattle.xds_check.specs.declared.asking.Asking.{Asking}
+use Rattle.xds_check.specs.declared.line.Line.{Line}
+use Rattle.xds_check.specs.declared.line.Line.TheVariants as lines
+use Rattle.xds_check.specs.declared.rule.Rule.{Rule}
+use Rattle.xds_check.specs.Answers.{Answer}
 use Rattle.xds_check.specs.Kept.{Talk, Talks, unheard, talk_at, asked, told, IsHeard, broken_in, held_after, is_missed, none_missed}
 use Rattle.xds_check.specs.Verdicts.{FirstOf, AllKeepOf}
 use Rattle.xds_check.proofs.Passing.{this_type, IsPassed, passed_none, passed_more, first_found, reverse-push}

@@ -4,11 +4,11 @@ use Rattle.std.specs.Prelude.{nat_lt, if◌then◌else◌}
 use Rattle.std.proofs.lemmas.List.{reverse-append}
 use Rattle.xds_resource.specs.declared.types.TypeName.{TypeName}
 use Rattle.xds_resource.specs.declared.types.TypeName.TheVariants.{Cluster, Endpoint, Listener, Route, Secret}
-use Rattle.xds_rules.specs.declared.line.Line.{Line}
-use Rattle.xds_rules.specs.declared.line.Line.TheVariants as lines
-use Rattle.xds_rules.specs.declared.rule.Rule.{Rule}
-use Rattle.xds_rules.specs.Rules.{KeepsRules, AllKeep}
-use Rattle.xds_rules.proofs.OneVerdict.{none_has_no_first, one_is_first}
+use Rattle.xds_check.specs.declared.line.Line.{Line}
+use Rattle.xds_check.specs.declared.line.Line.TheVariants as lines
+use Rattle.xds_check.specs.declared.rule.Rule.{Rule}
+use Rattle.xds_check.specs.Rules.{KeepsRules, AllKeep}
+use Rattle.xds_check.proofs.OneVerdict.{none_has_no_first, one_is_first}
 use Rattle.xds_check.specs.declared.checking.Broken.{Broken}
 use Rattle.xds_check.specs.Verdicts.{speaks_of, AllKeepOf, FirstOf, Found, found_of, earlier_of, TellsFirst, IsVerdict, TellsWell, TellsTheFirst}
 use Rattle.xds_check.proofs.Passing.{this_type}

@@ -15,11 +15,11 @@ use Rattle.xds_interest.proofs.Choices.{option_or-None}
 use Rattle.xds_catalogue.specs.Holdings.{Entries}
 use Rattle.xds_ledger.specs.declared.entry.Due.{Due}
 use Rattle.xds_ledger.specs.declared.entry.Due.TheVariants.{Stated, Removed}
-use Rattle.xds_rules.specs.declared.asking.Asking.{Asking}
-use Rattle.xds_rules.specs.declared.line.Line.{Line}
-use Rattle.xds_rules.specs.declared.line.Line.TheVariants as lines
-use Rattle.xds_rules.specs.Answers.{Answer, is_of, cluster_of, stated_names}
-use Rattle.xds_rules.specs.Lines.{Turn, Asks, Answers, Nothing, is_asking, has_asked, offered, offer_at, sent, sent_after, is_waiting, taken, taken_after, cluster_on, interest, is_pending, pending_after, is_used, standing}
+use Rattle.xds_check.specs.declared.asking.Asking.{Asking}
+use Rattle.xds_check.specs.declared.line.Line.{Line}
+use Rattle.xds_check.specs.declared.line.Line.TheVariants as lines
+use Rattle.xds_check.specs.Answers.{Answer, is_of, cluster_of, stated_names}
+use Rattle.xds_check.specs.Lines.{Turn, Asks, Answers, Nothing, is_asking, has_asked, offered, offer_at, sent, sent_after, is_waiting, taken, taken_after, cluster_on, interest, is_pending, pending_after, is_used, standing}
 use Rattle.xds_check.specs.Kept.{Talk, introduced, requested, asked, stated_due, offer_in, responded, with_nonce, told, heard}
 use Rattle.xds_check.proofs.Talking.{IsSpoken, wanted_is, introduced_spoken, requested_spoken, nonce_spoken, responded_spoken}
 

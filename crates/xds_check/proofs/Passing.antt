@@ -17,13 +17,13 @@ use Rattle.xds_catalogue.specs.Changes.{is_news}
 use Rattle.xds_catalogue.specs.Holdings.{Entries, Holdings, IsCatalogue, catalogue_of, nothing_held}
 use Rattle.xds_catalogue.specs.Joins.{joined}
 use Rattle.xds_catalogue.proofs.Catalogues.{get-catalogue_of, catalogue_of-IsCatalogue, catalogue_of-entries, same_catalogue, same_entries}
-use Rattle.xds_rules.specs.declared.line.Line.{Line}
-use Rattle.xds_rules.specs.declared.line.Line.TheVariants as lines
-use Rattle.xds_rules.specs.declared.rule.Rule.{Rule}
-use Rattle.xds_rules.specs.declared.rule.Rule.TheVariants.{FreshNonce, BestResources, CoveredResources, WholeResponse, RightRemovals, OneAtATime, NothingRefusedAgain, NothingPending}
-use Rattle.xds_rules.specs.Answers.{Answer}
-use Rattle.xds_rules.specs.Lines.{write_at, writes_in, standing, sent, is_waiting}
-use Rattle.xds_rules.specs.Rules.{place, Breaks, BreaksAtResponse, BreaksAtIdle, KeepsRules, LeavesPending}
+use Rattle.xds_check.specs.declared.line.Line.{Line}
+use Rattle.xds_check.specs.declared.line.Line.TheVariants as lines
+use Rattle.xds_check.specs.declared.rule.Rule.{Rule}
+use Rattle.xds_check.specs.declared.rule.Rule.TheVariants.{FreshNonce, BestResources, CoveredResources, WholeResponse, RightRemovals, OneAtATime, NothingRefusedAgain, NothingPending}
+use Rattle.xds_check.specs.Answers.{Answer}
+use Rattle.xds_check.specs.Lines.{write_at, writes_in, standing, sent, is_waiting}
+use Rattle.xds_check.specs.Rules.{place, Breaks, BreaksAtResponse, BreaksAtIdle, KeepsRules, LeavesPending}
 use Rattle.xds_check.specs.Kept.{Talk, Talks, unheard, talk_at, broken_in, least, none_missed, held_after, IsHeard}
 use Rattle.xds_check.specs.Verdicts.{speaks_of, AllKeepOf, FirstOf}
 use Rattle.xds_check.proofs.Deciding.{TellsLeast, never, judged, one_missed, none_pending}

@@ -14,10 +14,10 @@ use Rattle.xds_interest.specs.Asked.{unasked, sotw_kept, delta_kept, sotw_asked,
 use Rattle.xds_interest.proofs.AskedLaws.{sotw_is_kept, delta_is_kept}
 use Rattle.xds_catalogue.specs.Holdings.{Entries}
 use Rattle.xds_ledger.specs.Offers.{Offer}
-use Rattle.xds_rules.specs.declared.asking.Asking.{Asking}
-use Rattle.xds_rules.specs.declared.asking.Asking.TheVariants.{Sotw, Delta}
-use Rattle.xds_rules.specs.Answers.{Answer, nonce_of, rejects, lists_in, mentions_in, mention_in, stated_names}
-use Rattle.xds_rules.specs.Lines.{Sent, Unanswered, Accepted, Refused, is_unanswered, answered_by, is_waiting, last_nonce, refused_after, refused_offer, is_ignored, lists, mentions, interest_of, pending_taken, tells}
+use Rattle.xds_check.specs.declared.asking.Asking.{Asking}
+use Rattle.xds_check.specs.declared.asking.Asking.TheVariants.{Sotw, Delta}
+use Rattle.xds_check.specs.Answers.{Answer, nonce_of, rejects, lists_in, mentions_in, mention_in, stated_names}
+use Rattle.xds_check.specs.Lines.{Sent, Unanswered, Accepted, Refused, is_unanswered, answered_by, is_waiting, last_nonce, refused_after, refused_offer, is_ignored, lists, mentions, interest_of, pending_taken, tells}
 use Rattle.xds_check.specs.Kept.{Talk, unheard, wanted, introduced, ignores, is_marked, with_taken, is_answer, answered, begun_now, requested, with_nonce, responded, offer_in}
 use Rattle.xds_check.proofs.Waiting.{listed_waits, mentioned_waits, told_waits}
 

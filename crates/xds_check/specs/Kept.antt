@@ -22,14 +22,14 @@ use Rattle.xds_ledger.specs.declared.entry.Due.{Due}
 use Rattle.xds_ledger.specs.declared.entry.Due.TheVariants.{Stated, Removed}
 use Rattle.xds_ledger.specs.Offers.{Offer, due_code, same_offer}
 use Rattle.xds_ledger.specs.Variants.{is_whole}
-use Rattle.xds_rules.specs.declared.asking.Asking.{Asking}
-use Rattle.xds_rules.specs.declared.asking.Asking.TheVariants.{Sotw, Delta}
-use Rattle.xds_rules.specs.declared.line.Line.{Line}
-use Rattle.xds_rules.specs.declared.line.Line.TheVariants as lines
-use Rattle.xds_rules.specs.declared.rule.Rule.{Rule}
-use Rattle.xds_rules.specs.declared.rule.Rule.TheVariants.{FreshNonce, BestResources, CoveredResources, WholeResponse, RightRemovals, OneAtATime, NothingRefusedAgain, NothingPending}
-use Rattle.xds_rules.specs.Answers.{Statement, Answer, stated_names, is_of, nonce_of, rejects, cluster_of, mention_in}
-use Rattle.xds_rules.specs.Rules.{is_put_by}
+use Rattle.xds_check.specs.declared.asking.Asking.{Asking}
+use Rattle.xds_check.specs.declared.asking.Asking.TheVariants.{Sotw, Delta}
+use Rattle.xds_check.specs.declared.line.Line.{Line}
+use Rattle.xds_check.specs.declared.line.Line.TheVariants as lines
+use Rattle.xds_check.specs.declared.rule.Rule.{Rule}
+use Rattle.xds_check.specs.declared.rule.Rule.TheVariants.{FreshNonce, BestResources, CoveredResources, WholeResponse, RightRemovals, OneAtATime, NothingRefusedAgain, NothingPending}
+use Rattle.xds_check.specs.Answers.{Statement, Answer, stated_names, is_of, nonce_of, rejects, cluster_of, mention_in}
+use Rattle.xds_check.specs.Rules.{is_put_by}
 use Rattle.xds_check.specs.Writes.{write_of}
 
 -- names, each with whether it is marked

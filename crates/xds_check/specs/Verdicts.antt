@@ -1,10 +1,10 @@
 -- What the checker tells of the lines of some types alone: the first of them at which a rule is broken. This project's own.
 use Rattle.std.specs.Prelude.{◌≡◌, ◌<◌, ℕ, ◌+◌, List, [], ◌∷◌, ◌++◌, length, reverse, Bool, true, false, Option, Some, None, option_map, nat_lt, if◌then◌else◌, ⊤}
 use Rattle.xds_resource.specs.declared.types.TypeName.{TypeName}
-use Rattle.xds_rules.specs.declared.line.Line.{Line}
-use Rattle.xds_rules.specs.declared.line.Line.TheVariants as lines
-use Rattle.xds_rules.specs.declared.rule.Rule.{Rule}
-use Rattle.xds_rules.specs.Rules.{place, Breaks, KeepsRules, NoneBroken, FirstBroken}
+use Rattle.xds_check.specs.declared.line.Line.{Line}
+use Rattle.xds_check.specs.declared.line.Line.TheVariants as lines
+use Rattle.xds_check.specs.declared.rule.Rule.{Rule}
+use Rattle.xds_check.specs.Rules.{place, Breaks, KeepsRules, NoneBroken, FirstBroken}
 use Rattle.xds_check.specs.declared.checking.Broken.{Broken}
 
 -- whether a line can break a rule and is of one of some types

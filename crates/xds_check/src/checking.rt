@@ -10,17 +10,20 @@ ghost use Rattle.xds_check.specs.Kept.{unheard, talk_at, least, none_missed, bro
 ghost use Rattle.xds_check.specs.LiveNames.{AreLive, no_names};
 ghost use Rattle.xds_check.specs.Verdicts.{TellsFirst, found_of, earlier_of, IsVerdict, TellsWell, TellsTheFirst};
 
+use crate::answer::Answer;
+use crate::asking::Asking;
 use crate::by_stream::ByStream;
 use crate::by_type::ByType;
 use crate::judging;
+use crate::line::Line;
 use crate::live_names::LiveNames;
+use crate::rule::Rule;
 use crate::talk::Talk;
 use std::alloc::Global;
 use xds_catalogue::Catalogue;
 use xds_resource::{
     Cluster, Endpoint, Listener, Refusal, ResourceType, Route, Secret, TypeName, Write,
 };
-use xds_rules::{Answer, Asking, Line, Rule};
 
 /// The first line of a trace at which a rule is broken.
 #[derive(Clone, Copy, Debug, PartialEq, Eq)]

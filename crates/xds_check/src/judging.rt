@@ -7,21 +7,23 @@ ghost use Rattle.xds_resource.specs.declared.refusal.Refusal.TheVariants.{OutOfM
 ghost use Rattle.xds_resource.specs.Stamps.{version_text};
 ghost use Rattle.xds_interest.specs.Interests.{has_name};
 ghost use Rattle.xds_catalogue.specs.Content.{live_at};
-ghost use Rattle.xds_rules.specs.Rules as rules;
+ghost use Rattle.xds_check.specs.Rules as rules;
 ghost use Rattle.xds_check.specs.Kept as kept;
 ghost use Rattle.xds_check.specs.LiveNames as living;
 ghost use Rattle.xds_check.specs.LiveNames.{AreLive};
 ghost use Rattle.xds_check.specs.Kept.{is_best_in, is_covered_in, is_shown_in, least_by_names, least_by_order, least};
 
+use crate::answer::Answer;
 use crate::live_names::LiveNames;
 use crate::marks::is_marked;
 use crate::offering::{is_same, offer_of};
+use crate::rule::Rule;
+use crate::statement::{Label, Statement};
 use crate::talk::Talk;
 use std::alloc::Global;
 use xds_catalogue::Catalogue;
 use xds_interest::Interest;
 use xds_resource::{NameMap, Refusal, ResourceType, Stamp, Write};
-use xds_rules::{Answer, Label, Rule, Statement};
 
 // Whether a text is the version of a stamp. It takes no memory.
 fn is_version(text: &str, stamp: Stamp) -> bool

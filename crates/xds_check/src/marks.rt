@@ -8,11 +8,11 @@ ghost use Rattle.xds_interest.specs.Interests.{has_name, is_star as is_star_of};
 ghost use Rattle.xds_check.specs.Kept as kept;
 ghost use Rattle.xds_check.specs.Kept.{unmarked, listed_marks, mentioned_marks, left_marks, joined_mark};
 
+use crate::statement::Statement;
 use std::alloc::Global;
 use xds_interest::Interest;
 use xds_message::{DeltaDiscoveryRequest, Versions};
 use xds_resource::{NameMap, Refusal, ResourceType, TypeName};
-use xds_rules::Statement;
 
 // Whether a name is marked.
 pub(crate) fn is_marked(marks: &NameMap<bool>, name: &str) -> bool

@@ -7,11 +7,12 @@ ghost use Rattle.xds_ledger.specs.declared.entry.Due.TheVariants.{Removed};
 ghost use Rattle.xds_ledger.specs.Offers.{is_within as is_within_of, same_offer as is_same_offer};
 ghost use Rattle.xds_check.specs.Kept.{stated_due, offer_in};
 
+use crate::answer::Answer;
+use crate::statement::Statement;
 use std::alloc::Global;
 use xds_catalogue::Catalogue;
 use xds_ledger::{Due, Version};
 use xds_resource::{NameMap, Refusal, ResourceType};
-use xds_rules::{Answer, Statement};
 
 // What a response says of a name that it states: the version of its best write.
 fn due_of<T: ResourceType>(

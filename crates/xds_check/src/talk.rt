@@ -4,10 +4,12 @@ ghost use Rattle.std.specs.Option.{option_map_or};
 ghost use Rattle.xds_resource.specs.declared.refusal.Refusal.TheVariants.{OutOfMemory};
 ghost use Rattle.xds_interest.specs.Asked.{delta_asked};
 ghost use Rattle.xds_interest.specs.Delta.{mention_of};
-ghost use Rattle.xds_rules.specs.Answers.{is_of as is_of_type};
+ghost use Rattle.xds_check.specs.Answers.{is_of as is_of_type};
 ghost use Rattle.xds_check.specs.Kept as kept;
 ghost use Rattle.xds_check.specs.Kept.{unheard, wanted, listed_marks, mentioned_marks, introduced, ignores, waiting_after, with_asked, with_taken, is_answer, answered, begun_now, requested, responded, with_nonce};
 
+use crate::answer::Answer;
+use crate::asking::Asking;
 use crate::marks::{listed, mention, unmark, unmark_stated};
 use crate::offering::offer_of;
 use std::alloc::Global;
@@ -18,7 +20,6 @@ use xds_interest::{ClusterText, DeltaNames, Interest, SotwNames};
 use xds_ledger::Due;
 use xds_message::DeltaDiscoveryRequest;
 use xds_resource::{NameMap, Refusal, ResourceType, TypeName};
-use xds_rules::{Answer, Asking};
 
 /// What is kept of a stream, of the type `T`: what its client wants, its last response, the offers that count, the names that
 /// wait for an answer, and the nonces that were used. Contracts see the record of these.

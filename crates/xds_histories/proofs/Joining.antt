@@ -12,8 +12,8 @@ use Rattle.xds_tokens.specs.Entries.{records_of, Counted}
 use Rattle.xds_tokens.proofs.Numbers.{records_append, records_numbered}
 use Rattle.xds_node.specs.Pieces.{Piece, piece_entries, pieces_entries, Story, IsWhole}
 use Rattle.xds_node.proofs.Keeping.{legal_append}
-use Rattle.xds_rules.specs.declared.line.Line.{Line}
-use Rattle.xds_rules.specs.Rules.{NoneBroken}
+use Rattle.xds_check.specs.declared.line.Line.{Line}
+use Rattle.xds_check.specs.Rules.{NoneBroken}
 use Rattle.xds_trace.specs.Claims.{IsQuiet}
 use Rattle.xds_trace.specs.Making.{own_names, lines_of, trace_of}
 use Rattle.xds_trace.specs.Telling.{IsTold, IsSoundRecord, BeginsUntold, KeepsTheRules}

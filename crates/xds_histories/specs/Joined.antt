@@ -6,7 +6,7 @@ use Rattle.xds_resource.specs.declared.refusal.Refusal.TheVariants.{OutOfMemory,
 use Rattle.xds_core.specs.Legal.{Record}
 use Rattle.xds_tokens.specs.Entries.{Counted}
 use Rattle.xds_node.specs.Pieces.{Piece, pieces_entries, Story}
-use Rattle.xds_rules.specs.declared.line.Line.{Line}
+use Rattle.xds_check.specs.declared.line.Line.{Line}
 use Rattle.xds_trace.specs.Making.{trace_of}
 use Rattle.xds_trace.specs.Telling.{IsSoundRecord, BeginsUntold}
 

@@ -2,17 +2,17 @@
 ghost use Rattle.std.specs.Prelude.{◌≡◌, ◌≢◌, ◌⊎◌, [], ◌++◌, IfOk, IfErr};
 ghost use Rattle.xds_resource.specs.declared.refusal.Refusal.TheVariants.{OutOfMemory, Gap};
 ghost use Rattle.xds_node.specs.Pieces.{pieces_entries};
-ghost use Rattle.xds_rules.specs.Rules.{NoneBroken};
+ghost use Rattle.xds_check.specs.Rules.{NoneBroken};
 ghost use Rattle.xds_trace.specs.Making.{trace_of};
 ghost use Rattle.xds_core.specs.Legal.{IsLegal};
 ghost use Rattle.xds_histories.specs.Joined.{pieces_records, all_records, AddsTo, AddsAll, TellsJoined};
 
 use crate::bases::what_is_held_could_be_read;
 use std::alloc::Global;
+use xds_check::{Line as TraceLine, Trace};
 use xds_core::Core;
 use xds_node::{History, Line, NodeName, Segment};
 use xds_resource::Refusal;
-use xds_rules::{Line as TraceLine, Trace};
 use xds_trace::push_record;
 
 /// The trace of what the threads of a node did: the lines of each record of the segments, one after another, and then of the

@@ -8,9 +8,9 @@ use Rattle.xds_core.specs.Legal.{Record, IsLegal, replayed}
 use Rattle.xds_model.specs.Happenings.{Happening}
 use Rattle.xds_model.specs.Worlds.{Site, world}
 use Rattle.xds_model.specs.Claims.{JournalsAreLegal}
-use Rattle.xds_rules.specs.declared.line.Line.{Line}
-use Rattle.xds_rules.specs.declared.line.Line.TheVariants as lines
-use Rattle.xds_rules.specs.Rules.{NoneBroken}
+use Rattle.xds_check.specs.declared.line.Line.{Line}
+use Rattle.xds_check.specs.declared.line.Line.TheVariants as lines
+use Rattle.xds_check.specs.Rules.{NoneBroken}
 use Rattle.xds_trace.specs.Claims.{IsQuiet}
 use Rattle.xds_trace.specs.Making.{trace_of}
 use Rattle.xds_trace.specs.Telling.{KeepsTheRules}

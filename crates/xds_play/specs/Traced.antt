@@ -7,10 +7,10 @@ use Rattle.xds_model.specs.Worlds.{Site, world}
 use Rattle.xds_script.specs.Commands.{Said}
 use Rattle.xds_script.specs.Scripts.{IsScript}
 use Rattle.xds_play.specs.Played.{Played, PlaysAll, nothing_played, takes}
-use Rattle.xds_rules.specs.Texts.{trace_text}
-use Rattle.xds_rules.specs.declared.line.Line.{Line}
-use Rattle.xds_rules.specs.declared.line.Line.TheVariants as lines
-use Rattle.xds_rules.specs.Rules.{NoneBroken}
+use Rattle.xds_check.specs.Texts.{trace_text}
+use Rattle.xds_check.specs.declared.line.Line.{Line}
+use Rattle.xds_check.specs.declared.line.Line.TheVariants as lines
+use Rattle.xds_check.specs.Rules.{NoneBroken}
 use Rattle.xds_trace.specs.Making.{trace_of}
 use Rattle.xds_trace.specs.Claims.{IsQuiet}
 

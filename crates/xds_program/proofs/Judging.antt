@@ -3,7 +3,7 @@ use Rattle.std.proofs.Common.{◌≡◌, sym, refl, subst, Option, Some, None, I
 use Rattle.xds_resource.specs.declared.refusal.Refusal.{Refusal}
 use Rattle.xds_resource.specs.declared.refusal.Refusal.TheVariants.{Device as DeviceRefusal, OutOfMemory, BadTrace}
 use Rattle.xds_frames.specs.Devices.{Device, HasFailed, Stays, Tells, Wrote, WrotePart}
-use Rattle.xds_rules.specs.Texts.{IsFirstBad}
+use Rattle.xds_check.specs.Texts.{IsFirstBad}
 use Rattle.xds_program.specs.Judged.{TellsVerdict}
 use Rattle.xds_program.specs.Outcomes.{HasVerdict, MayTell, Prints, RunsCheck, fault_line, refusal_line}
 use Rattle.xds_program.proofs.Telling.{no_memory, of_input, part_written, unable}

@@ -1,8 +1,8 @@
 -- What `xds check` tells of the bytes of a trace, by the rules that every trace of a replica keeps. This project's own.
 use Rattle.std.specs.Prelude.{◌≡◌, ℕ, List, ◌++◌, Option, Some, None, codes, decimal, ⊤}
-use Rattle.xds_rules.specs.declared.line.Line.{Line}
-use Rattle.xds_rules.specs.Rules.{word_of}
-use Rattle.xds_rules.specs.Texts.{IsTrace, IsFirstBad}
+use Rattle.xds_check.specs.declared.line.Line.{Line}
+use Rattle.xds_check.specs.Rules.{word_of}
+use Rattle.xds_check.specs.Texts.{IsTrace, IsFirstBad}
 use Rattle.xds_check.specs.declared.checking.Broken.{Broken}
 use Rattle.xds_check.specs.Verdicts.{IsVerdict}
 use Rattle.xds_program.specs.declared.judge.Unjudged.{Unjudged}

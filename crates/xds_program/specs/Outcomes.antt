@@ -10,7 +10,7 @@ use Rattle.xds_program.specs.Faults.{IsAnswer, IsFault}
 use Rattle.xds_frames.specs.Devices.{Device, HasFailed, Stays, Tells, WrotePart, Wrote}
 use Rattle.xds_play.specs.declared.play.Unplayed.TheVariants as unplayed
 use Rattle.xds_play.specs.Played.{IsPlayed, IsUnplayed}
-use Rattle.xds_rules.specs.Texts.{IsFirstBad}
+use Rattle.xds_check.specs.Texts.{IsFirstBad}
 use Rattle.xds_play.specs.Traced.{IsTraced}
 use Rattle.xds_program.specs.Judged.{TellsVerdict}
 use Rattle.xds_program.specs.declared.tasks.Task.{Task}

@@ -4,9 +4,8 @@ ghost use Rattle.xds_resource.specs.declared.refusal.Refusal.TheVariants.{OutOfM
 ghost use Rattle.xds_program.specs.Judged.{IsJudged, IsUnjudged, TellsVerdict, broken_text, verdict_text};
 
 use std::alloc::Global;
-use xds_check::{Broken, check};
+use xds_check::{Broken, Trace, check};
 use xds_resource::Refusal;
-use xds_rules::Trace;
 
 /// Why there is no verdict.
 #[derive(Clone, Copy, Debug, PartialEq, Eq)]

@@ -4,8 +4,8 @@ ghost use Rattle.std.specs.Prelude.{◌<◌};
 use std::alloc::Global;
 use std::test::Fail;
 use xds_cases::cases::{Outcome, hold, replaced};
+use xds_check::{Trace, TraceFault};
 use xds_resource::Refusal;
-use xds_rules::{Trace, TraceFault};
 
 /// The line that a trace is refused at, and why.
 pub(crate) fn told_fault(alloc: Global, fault: TraceFault) -> Result<String, Refusal> {

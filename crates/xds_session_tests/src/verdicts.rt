@@ -3,8 +3,7 @@ use crate::traces::told_fault;
 use std::alloc::Global;
 use std::test::Fail;
 use xds_cases::cases::{Outcome, hold, replaced};
-use xds_check::check;
-use xds_rules::Trace;
+use xds_check::{Trace, check};
 
 // What is told of a trace, whose lines are ended by bars: that it is well, the first broken line and its rule, or its first
 // bad line.

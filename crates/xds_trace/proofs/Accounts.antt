@@ -15,9 +15,9 @@ use Rattle.xds_ledger.specs.declared.variant.VariantName.{VariantName}
 use Rattle.xds_ledger.specs.Offers.{Offer}
 use Rattle.xds_ledger.specs.Ledgers as ledgers
 use Rattle.xds_ledger.specs.Ledgers.{Account, untold, nonce_text, settled, answered, answers, is_stale, touch, resume, noted, touched_since, send}
-use Rattle.xds_rules.specs.declared.asking.Asking.{Asking}
-use Rattle.xds_rules.specs.Answers.{nonce_of, rejects}
-use Rattle.xds_rules.specs.Lines.{Fate, Unanswered, Accepted, Refused, is_unanswered, Sent, answered_by, is_waiting, last_nonce, refused_offer, is_ignored}
+use Rattle.xds_check.specs.declared.asking.Asking.{Asking}
+use Rattle.xds_check.specs.Answers.{nonce_of, rejects}
+use Rattle.xds_check.specs.Lines.{Fate, Unanswered, Accepted, Refused, is_unanswered, Sent, answered_by, is_waiting, last_nonce, refused_offer, is_ignored}
 
 -- what an account has unanswered is the last of the responses, and no other waits
 abbrev pub IsOpen : Option ledgers.Sent → ℕ → List Sent → Type 0

@@ -12,9 +12,9 @@ use Rattle.xds_ledger.specs.Variants.{is_delta}
 use Rattle.xds_ledger.specs.Ledgers.{Account, untold, settled, nonce_text, is_stale, touch, resume}
 use Rattle.xds_ledger.specs.Sessions as sessions
 use Rattle.xds_ledger.specs.Sessions.{Session, Names, unopened}
-use Rattle.xds_rules.specs.declared.asking.Asking.{Asking}
-use Rattle.xds_rules.specs.Answers.{nonce_of, rejects}
-use Rattle.xds_rules.specs.Lines.{Sent, answered_by, is_waiting, is_ignored, lists, mentions}
+use Rattle.xds_check.specs.declared.asking.Asking.{Asking}
+use Rattle.xds_check.specs.Answers.{nonce_of, rejects}
+use Rattle.xds_check.specs.Lines.{Sent, answered_by, is_waiting, is_ignored, lists, mentions}
 use Rattle.xds_trace.proofs.Accounts.{none_of, Tells, tells_nothing, waits_as, ignored_as, none_answered, told_settled, told_touched}
 use Rattle.xds_trace.proofs.Pending.{Waits}
 

@@ -17,8 +17,8 @@ use Rattle.xds_ledger.specs.declared.variant.VariantName.TheVariants.{StateOfThe
 use Rattle.xds_ledger.specs.declared.entry.Due.TheVariants.{Stated}
 use Rattle.xds_ledger.specs.Owed.{Beliefs}
 use Rattle.xds_ledger.specs.Offers.{Offer, offer}
-use Rattle.xds_rules.specs.Answers.{Statement}
-use Rattle.xds_rules.specs.Rules.{is_label_of}
+use Rattle.xds_check.specs.Answers.{Statement}
+use Rattle.xds_check.specs.Rules.{is_label_of}
 use Rattle.xds_ledger.proofs.SomethingOwed.{is_some_of}
 use Rattle.xds_trace.specs.Making.{Naming, IsCalled, statement_of}
 use Rattle.xds_ledger.proofs.Stored.{or_true}

@@ -18,10 +18,10 @@ use Rattle.xds_core.specs.Stores.{Store, Batch}
 use Rattle.xds_core.specs.Streams.{Stream, opening}
 use Rattle.xds_core.specs.Events.{Event, Reply}
 use Rattle.xds_core.specs.Steps.{Core, fresh, with_stream}
-use Rattle.xds_rules.specs.declared.line.Line.{Line}
-use Rattle.xds_rules.specs.declared.line.Line.TheVariants as lines
-use Rattle.xds_rules.specs.Lines.{write_at}
-use Rattle.xds_rules.specs.Rules.{KeepsRules, AllKeep}
+use Rattle.xds_check.specs.declared.line.Line.{Line}
+use Rattle.xds_check.specs.declared.line.Line.TheVariants as lines
+use Rattle.xds_check.specs.Lines.{write_at}
+use Rattle.xds_check.specs.Rules.{KeepsRules, AllKeep}
 use Rattle.xds_trace.specs.Making.{Naming, IsCalled, any_write, write_line, answered_lines}
 use Rattle.xds_trace.proofs.Writes.{Holds, holds_unwritten}
 use Rattle.xds_trace.proofs.Hearing.{IsNew, IsSilent, Follows, follows_after, new_after, silent_write, silent_open, silent_close}

@@ -18,11 +18,11 @@ use Rattle.xds_ledger.specs.declared.variant.VariantName.{VariantName}
 use Rattle.xds_ledger.specs.declared.variant.VariantName.TheVariants as variants
 use Rattle.xds_ledger.specs.Sessions.{Session}
 use Rattle.xds_core.specs.Streams.{Stream}
-use Rattle.xds_rules.specs.declared.asking.Asking.{Asking}
-use Rattle.xds_rules.specs.declared.line.Line.{Line}
-use Rattle.xds_rules.specs.declared.line.Line.TheVariants as lines
-use Rattle.xds_rules.specs.Answers.{Answer, is_of, cluster_of}
-use Rattle.xds_rules.specs.Lines.{Turn, Asks, Answers, Nothing, turn, is_asking, has_asked, sent, sent_after, taken, taken_after, is_pending, pending_after, cluster_at, cluster_on, is_used, has_nonce, interest_of, lists, mentions}
+use Rattle.xds_check.specs.declared.asking.Asking.{Asking}
+use Rattle.xds_check.specs.declared.line.Line.{Line}
+use Rattle.xds_check.specs.declared.line.Line.TheVariants as lines
+use Rattle.xds_check.specs.Answers.{Answer, is_of, cluster_of}
+use Rattle.xds_check.specs.Lines.{Turn, Asks, Answers, Nothing, turn, is_asking, has_asked, sent, sent_after, taken, taken_after, is_pending, pending_after, cluster_at, cluster_on, is_used, has_nonce, interest_of, lists, mentions}
 use Rattle.xds_trace.proofs.Agreeing.{HasAsked, Agrees}
 
 -- ---- what is kept

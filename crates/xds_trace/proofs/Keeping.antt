@@ -20,9 +20,9 @@ use Rattle.xds_core.specs.Streams.{Stream, Message, opening, requested, looked_a
 use Rattle.xds_core.specs.Events.{Event, Open, Request, Poll, Owes, Close, Put, Delete, Merge, Snapshot, Rest, Since, Reply, Opened, Answered, Polled, Owed, Closed, Written, Merged}
 use Rattle.xds_core.specs.Steps.{Core, Step, step, with_stream}
 use Rattle.xds_core.proofs.StepLaws.{done_with, unless_once, put_is, delete_is}
-use Rattle.xds_rules.specs.declared.line.Line.{Line}
-use Rattle.xds_rules.specs.declared.line.Line.TheVariants as lines
-use Rattle.xds_rules.specs.Rules.{KeepsRules, AllKeep}
+use Rattle.xds_check.specs.declared.line.Line.{Line}
+use Rattle.xds_check.specs.declared.line.Line.TheVariants as lines
+use Rattle.xds_check.specs.Rules.{KeepsRules, AllKeep}
 use Rattle.xds_trace.specs.Making.{Naming, IsCalled, IsWellNamed, asking_of, answer_of, write_line, batch_lines, answered_lines}
 use Rattle.xds_trace.proofs.Writes.{holds_one, holds_merged}
 use Rattle.xds_trace.proofs.Hearing.{silent_request, silent_response, silent_idle}

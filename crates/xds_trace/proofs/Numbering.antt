@@ -25,10 +25,10 @@ use Rattle.xds_core.specs.Events.{Event, Open, Request, Poll, Owes, Close, Put, 
 use Rattle.xds_core.specs.Steps.{Core, Step, step, fresh, with_stream}
 use Rattle.xds_core.specs.Legal.{Record, IsLegal, after, answer_of, left_by}
 use Rattle.xds_core.proofs.StepLaws.{done_with, unless_once}
-use Rattle.xds_rules.specs.declared.line.Line.{Line}
-use Rattle.xds_rules.specs.declared.line.Line.TheVariants as lines
-use Rattle.xds_rules.specs.Texts.{HasStream}
-use Rattle.xds_rules.specs.Words.{IsStream}
+use Rattle.xds_check.specs.declared.line.Line.{Line}
+use Rattle.xds_check.specs.declared.line.Line.TheVariants as lines
+use Rattle.xds_check.specs.Texts.{HasStream}
+use Rattle.xds_check.specs.Words.{IsStream}
 use Rattle.xds_trace.specs.Making as making
 use Rattle.xds_trace.specs.Making.{Naming, asking_of, write_line, sent_lines, idle_lines, answered_lines, lines_by, lines_of, trace_by}
 use Rattle.xds_trace.specs.Claims.{EveryStreamHasANumber}

@@ -24,10 +24,10 @@ use Rattle.xds_ledger.specs.declared.variant.VariantName.TheVariants.{StateOfThe
 use Rattle.xds_ledger.specs.Ledgers.{Account, settled}
 use Rattle.xds_ledger.specs.Sessions.{Session, Names, sotw_names, delta_names}
 use Rattle.xds_delta.specs.Polls.{mention}
-use Rattle.xds_rules.specs.declared.asking.Asking.{Asking}
-use Rattle.xds_rules.specs.declared.asking.Asking.TheVariants as askings
-use Rattle.xds_rules.specs.Answers.{lists_in, mentions_in}
-use Rattle.xds_rules.specs.Lines.{Sent, lists, mentions, pending_in_sotw, pending_in_delta}
+use Rattle.xds_check.specs.declared.asking.Asking.{Asking}
+use Rattle.xds_check.specs.declared.asking.Asking.TheVariants as askings
+use Rattle.xds_check.specs.Answers.{lists_in, mentions_in}
+use Rattle.xds_check.specs.Lines.{Sent, lists, mentions, pending_in_sotw, pending_in_delta}
 use Rattle.std.proofs.lemmas.List.Concat.{flat_map-append}
 use Rattle.xds_ledger.proofs.Stored.{or_true}
 use Rattle.xds_trace.proofs.Pending.{Waits, waits_settled, waits_on, waits_anew}

@@ -23,10 +23,10 @@ use Rattle.xds_core.specs.Stores.{Store, Batch}
 use Rattle.xds_core.specs.Streams.{Stream, Message, Sotw, Delta, variant_of, is_foreign, is_same_variant, opening, requested, answered, sessions_for, response_of}
 use Rattle.xds_core.specs.Steps.{Core, with_stream}
 use Rattle.xds_core.proofs.StepLaws.{done_with}
-use Rattle.xds_rules.specs.declared.line.Line.{Line}
-use Rattle.xds_rules.specs.declared.line.Line.TheVariants as lines
-use Rattle.xds_rules.specs.Answers as answers
-use Rattle.xds_rules.specs.Streams.{open_at, open_on, delta_at, delta_on, is_same, may_speak, may_follow, AllFollow}
+use Rattle.xds_check.specs.declared.line.Line.{Line}
+use Rattle.xds_check.specs.declared.line.Line.TheVariants as lines
+use Rattle.xds_check.specs.Answers as answers
+use Rattle.xds_check.specs.Streams.{open_at, open_on, delta_at, delta_on, is_same, may_speak, may_follow, AllFollow}
 use Rattle.xds_trace.specs.Making as making
 use Rattle.xds_trace.specs.Making.{Naming, any_write, asking_of, write_line, batch_lines, answered_lines, lines_by, lines_of, trace_by}
 use Rattle.xds_trace.proofs.Hearing.{itself, of_another}

@@ -33,12 +33,12 @@ use Rattle.xds_ledger.specs.Sessions.{Session}
 use Rattle.xds_core.specs.Stores.{Store}
 use Rattle.xds_core.specs.Streams as streams
 use Rattle.xds_core.specs.Streams.{Stream, response_of, owes_of}
-use Rattle.xds_rules.specs.declared.line.Line.{Line}
-use Rattle.xds_rules.specs.declared.line.Line.TheVariants as lines
-use Rattle.xds_rules.specs.declared.rule.Rule.TheVariants.{FreshNonce, BestResources, CoveredResources, WholeResponse, RightRemovals, OneAtATime, NothingRefusedAgain, NothingPending}
-use Rattle.xds_rules.specs.Answers.{Answer}
-use Rattle.xds_rules.specs.Lines.{Answers, Nothing, turn, has_asked, sent, taken, is_pending, interest, interest_of, mentions, is_mentioned, speaks_delta, standing, live, is_used, is_waiting, refused_offer, offer_at, tells, Unanswered}
-use Rattle.xds_rules.specs.Rules.{KeepsRules}
+use Rattle.xds_check.specs.declared.line.Line.{Line}
+use Rattle.xds_check.specs.declared.line.Line.TheVariants as lines
+use Rattle.xds_check.specs.declared.rule.Rule.TheVariants.{FreshNonce, BestResources, CoveredResources, WholeResponse, RightRemovals, OneAtATime, NothingRefusedAgain, NothingPending}
+use Rattle.xds_check.specs.Answers.{Answer}
+use Rattle.xds_check.specs.Lines.{Answers, Nothing, turn, has_asked, sent, taken, is_pending, interest, interest_of, mentions, is_mentioned, speaks_delta, standing, live, is_used, is_waiting, refused_offer, offer_at, tells, Unanswered}
+use Rattle.xds_check.specs.Rules.{KeepsRules}
 use Rattle.xds_trace.specs.Making.{Naming, answer_of}
 use Rattle.xds_trace.proofs.Accounts.{Tells, told_sent, waits_as}
 use Rattle.xds_trace.proofs.Pending.{IsUntold}

@@ -16,12 +16,12 @@ use Rattle.xds_ledger.specs.Sessions.{Session, unopened, sotw_names, delta_names
 use Rattle.xds_core.proofs.StepLaws.{done_with, unless_once}
 use Rattle.xds_delta.specs.Polls.{mention}
 use Rattle.xds_core.specs.Streams.{Stream, Message, Sotw, Delta, variant_of, url_of, cluster_of, is_same_variant, is_foreign, session_after, answered_by, answered, sessions_for, requested}
-use Rattle.xds_rules.specs.declared.asking.Asking.TheVariants as askings
-use Rattle.xds_rules.specs.declared.line.Line.{Line}
-use Rattle.xds_rules.specs.declared.line.Line.TheVariants as lines
-use Rattle.xds_rules.specs.Answers as answers
-use Rattle.xds_rules.specs.Answers.{is_of}
-use Rattle.xds_rules.specs.Lines.{Asks, Nothing, turn, has_asked, sent, taken, is_pending, cluster_on, interest, pending_in_sotw, pending_in_delta}
+use Rattle.xds_check.specs.declared.asking.Asking.TheVariants as askings
+use Rattle.xds_check.specs.declared.line.Line.{Line}
+use Rattle.xds_check.specs.declared.line.Line.TheVariants as lines
+use Rattle.xds_check.specs.Answers as answers
+use Rattle.xds_check.specs.Answers.{is_of}
+use Rattle.xds_check.specs.Lines.{Asks, Nothing, turn, has_asked, sent, taken, is_pending, cluster_on, interest, pending_in_sotw, pending_in_delta}
 use Rattle.xds_trace.specs.Making.{asking_of}
 use Rattle.xds_trace.proofs.Agreeing.{Agrees, agrees_unopened, asked_agrees}
 use Rattle.xds_trace.proofs.Requests.{sotw_names_agree, delta_names_agree}

@@ -13,10 +13,10 @@ use Rattle.xds_ledger.specs.Offers.{Offer}
 use Rattle.xds_core.specs.Stores.{Store}
 use Rattle.xds_core.specs.Streams as streams
 use Rattle.xds_core.specs.Streams.{Stream, response_of}
-use Rattle.xds_rules.specs.declared.line.Line.{Line}
-use Rattle.xds_rules.specs.declared.line.Line.TheVariants as lines
-use Rattle.xds_rules.specs.Answers.{Answer}
-use Rattle.xds_rules.specs.Rules.{KeepsRules}
+use Rattle.xds_check.specs.declared.line.Line.{Line}
+use Rattle.xds_check.specs.declared.line.Line.TheVariants as lines
+use Rattle.xds_check.specs.Answers.{Answer}
+use Rattle.xds_check.specs.Rules.{KeepsRules}
 use Rattle.xds_trace.specs.Making.{Naming, answer_of}
 use Rattle.xds_trace.proofs.Writes.{Holds}
 use Rattle.xds_trace.proofs.Hearing.{Hears, IsHeard, IsCounted, Follows}

@@ -32,12 +32,12 @@ use Rattle.xds_core.specs.Events.{Event, Open, Request, Poll, Owes, Close, Put, 
 use Rattle.xds_core.specs.Steps.{Core, Step, step, fresh}
 use Rattle.xds_core.specs.Legal.{Record, IsLegal, after, answer_of, left_by}
 use Rattle.xds_core.proofs.StepLaws.{done_with}
-use Rattle.xds_rules.specs.declared.line.Line.{Line}
-use Rattle.xds_rules.specs.declared.line.Line.TheVariants as lines
-use Rattle.xds_rules.specs.declared.rule.Rule.TheVariants.{BestResources}
-use Rattle.xds_rules.specs.Answers.{Statement}
-use Rattle.xds_rules.specs.Lines.{write_at, writes_in, standing}
-use Rattle.xds_rules.specs.Rules.{is_label_of, is_put_by, is_best, KeepsRules, AllKeep}
+use Rattle.xds_check.specs.declared.line.Line.{Line}
+use Rattle.xds_check.specs.declared.line.Line.TheVariants as lines
+use Rattle.xds_check.specs.declared.rule.Rule.TheVariants.{BestResources}
+use Rattle.xds_check.specs.Answers.{Statement}
+use Rattle.xds_check.specs.Lines.{write_at, writes_in, standing}
+use Rattle.xds_check.specs.Rules.{is_label_of, is_put_by, is_best, KeepsRules, AllKeep}
 use Rattle.xds_trace.specs.Making.{IsSound, own_names, statement_of, labelled_of, answer_of as told_answer, write_line, open_lines, put_lines, delete_lines, sent_lines, response_lines, idle_lines, answered_lines, lines_by}
 use Rattle.xds_trace.specs.Telling.{IsResource, HoldsResources, IsToldDeletion, IsToldResponse, IsToldAnswer, IsToldBy, IsTold, IsSoundRecord, EveryRecordIsTold}
 use Rattle.xds_trace.proofs.Writes.{held_is, held_catalogue, best_one}

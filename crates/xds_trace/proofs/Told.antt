@@ -12,9 +12,9 @@ use Rattle.xds_message.specs.Messages.{Response}
 use Rattle.xds_message.specs.DeltaMessages.{DeltaResponse}
 use Rattle.xds_message.specs.Drafts.{Drafted, DraftedDelta, DraftedResource, IsBodyText, message_of, delta_message_of, drafted_resource}
 use Rattle.xds_message.specs.declared.draft.Draft.TheVariants as drafts
-use Rattle.xds_rules.specs.Answers.{Statement, Answer}
-use Rattle.xds_rules.specs.Texts.{IsStated, IsLabelled, IsSotwAnswer, IsDeltaAnswer}
-use Rattle.xds_rules.specs.Words.{Finds}
+use Rattle.xds_check.specs.Answers.{Statement, Answer}
+use Rattle.xds_check.specs.Texts.{IsStated, IsLabelled, IsSotwAnswer, IsDeltaAnswer}
+use Rattle.xds_check.specs.Words.{Finds}
 use Rattle.xds_trace.specs.Making.{own_names, name_read, statement_of, labelled_of, answer_of}
 use Rattle.xds_trace.specs.Telling.{IsResource, HoldsResources, Tells}
 

@@ -18,9 +18,9 @@ use Rattle.xds_core.specs.Events.{Event, Reply}
 use Rattle.xds_core.specs.Steps.{Core, fresh}
 use Rattle.xds_core.specs.Legal.{Record, IsLegal, after}
 use Rattle.xds_core.specs.declared.event.Record as made
-use Rattle.xds_rules.specs.declared.line.Line.{Line}
-use Rattle.xds_rules.specs.declared.line.Line.TheVariants as lines
-use Rattle.xds_rules.specs.Rules.{NoneBroken}
+use Rattle.xds_check.specs.declared.line.Line.{Line}
+use Rattle.xds_check.specs.declared.line.Line.TheVariants as lines
+use Rattle.xds_check.specs.Rules.{NoneBroken}
 use Rattle.xds_trace.specs.Making.{IsSound, IsWellNamed, any_write, own_names, lines_of, trace_of, write_line}
 use Rattle.xds_trace.specs.Telling.{IsTold, IsSoundRecord, BeginsUntold, KeepsTheRules, record_of}
 use Rattle.xds_trace.proofs.Named.{well_named}

@@ -9,9 +9,9 @@ use Rattle.xds_core.specs.Streams.{Stream, owes_of}
 use Rattle.xds_core.specs.Events.{Event}
 use Rattle.xds_core.specs.Steps.{Core, Step, step, fresh}
 use Rattle.xds_core.specs.Legal.{Record, IsLegal, replayed, after, answer_of, left_by}
-use Rattle.xds_rules.specs.declared.line.Line.{Line}
-use Rattle.xds_rules.specs.declared.line.Line.TheVariants as lines
-use Rattle.xds_rules.specs.Rules.{AllKeep, NoneBroken}
+use Rattle.xds_check.specs.declared.line.Line.{Line}
+use Rattle.xds_check.specs.declared.line.Line.TheVariants as lines
+use Rattle.xds_check.specs.Rules.{AllKeep, NoneBroken}
 use Rattle.xds_trace.specs.Making.{Naming, IsWellNamed, lines_by, lines_of, trace_by}
 use Rattle.xds_trace.specs.Claims.{EveryLegalTraceKeepsTheRules, SoDoIdleEnds, IsQuiet}
 use Rattle.xds_trace.proofs.Following.{Keeps, keeps_fresh}

@@ -18,8 +18,8 @@ use Rattle.xds_catalogue.specs.Holdings.{Holdings, IsCatalogue, catalogue_of}
 use Rattle.xds_catalogue.specs.Joins.{joined}
 use Rattle.xds_catalogue.proofs.Catalogues.{get-catalogue_of, catalogue_of-IsCatalogue, same_catalogue, catalogue_of-entries}
 use Rattle.xds_core.specs.Stores.{Store, Batch, merged}
-use Rattle.xds_rules.specs.declared.line.Line.{Line}
-use Rattle.xds_rules.specs.Lines.{write_at, writes_in, standing}
+use Rattle.xds_check.specs.declared.line.Line.{Line}
+use Rattle.xds_check.specs.Lines.{write_at, writes_in, standing}
 use Rattle.xds_trace.specs.Making.{Naming, IsCalled, write_line, batch_lines}
 use Rattle.std.proofs.lemmas.List.Elements.{All-head, All-tail}
 use Rattle.std.proofs.lemmas.List.Concat.{flat_map-append}

@@ -5,10 +5,10 @@ use Rattle.xds_resource.specs.declared.types.TypeName.{TypeName}
 use Rattle.xds_core.specs.Streams.{owes_of}
 use Rattle.xds_core.specs.Steps.{Core, fresh}
 use Rattle.xds_core.specs.Legal.{Record, IsLegal, replayed}
-use Rattle.xds_rules.specs.declared.line.Line.TheVariants as lines
-use Rattle.xds_rules.specs.Rules.{NoneBroken}
-use Rattle.xds_rules.specs.Streams.{IsInOrder}
-use Rattle.xds_rules.specs.Texts.{HasStream}
+use Rattle.xds_check.specs.declared.line.Line.TheVariants as lines
+use Rattle.xds_check.specs.Rules.{NoneBroken}
+use Rattle.xds_check.specs.Streams.{IsInOrder}
+use Rattle.xds_check.specs.Texts.{HasStream}
 use Rattle.xds_trace.specs.Making.{Naming, IsWellNamed, IsSound, trace_by, trace_of}
 
 -- The trace of every legal list of records from a fresh replica, whoever sent the requests, breaks no rule.

@@ -21,11 +21,11 @@ use Rattle.xds_core.specs.Streams as streams
 use Rattle.xds_core.specs.Streams.{Message}
 use Rattle.xds_core.specs.Events.{Event, Open, Request, Poll, Owes, Close, Put, Delete, Merge, Snapshot, Rest, Since, Reply, Opened, Polled, Owed, Written}
 use Rattle.xds_core.specs.Legal.{Record}
-use Rattle.xds_rules.specs.declared.asking.Asking.{Asking}
-use Rattle.xds_rules.specs.declared.asking.Asking.TheVariants as askings
-use Rattle.xds_rules.specs.declared.line.Line.{Line}
-use Rattle.xds_rules.specs.declared.line.Line.TheVariants as lines
-use Rattle.xds_rules.specs.Answers.{Statement, Answer}
+use Rattle.xds_check.specs.declared.asking.Asking.{Asking}
+use Rattle.xds_check.specs.declared.asking.Asking.TheVariants as askings
+use Rattle.xds_check.specs.declared.line.Line.{Line}
+use Rattle.xds_check.specs.declared.line.Line.TheVariants as lines
+use Rattle.xds_check.specs.Answers.{Statement, Answer}
 
 -- ---- names
 

@@ -9,9 +9,9 @@ use Rattle.xds_message.specs.declared.draft.Draft.TheVariants as drafts
 use Rattle.xds_core.specs.Events.{Event, Poll, Delete, Reply, Polled, Written}
 use Rattle.xds_core.specs.Legal.{Record, IsLegal, replayed}
 use Rattle.xds_core.specs.Steps.{fresh}
-use Rattle.xds_rules.specs.declared.line.Line.{Line}
-use Rattle.xds_rules.specs.declared.line.Line.TheVariants as lines
-use Rattle.xds_rules.specs.Rules.{NoneBroken}
+use Rattle.xds_check.specs.declared.line.Line.{Line}
+use Rattle.xds_check.specs.declared.line.Line.TheVariants as lines
+use Rattle.xds_check.specs.Rules.{NoneBroken}
 use Rattle.xds_trace.specs.Making.{IsSound, trace_of}
 use Rattle.xds_trace.specs.Claims.{IsQuiet}
 use Rattle.xds_core.specs.Seen.{event_of, answer_of}

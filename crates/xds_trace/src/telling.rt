@@ -8,7 +8,7 @@ ghost use Rattle.xds_resource.specs.declared.types.TypeName.{TypeName};
 ghost use Rattle.xds_resource.specs.Resources.{is_valid_name as is_valid, written, deleted, IsCanonical, IsWritable};
 ghost use Rattle.xds_resource.specs.Writes.{StampedWrite};
 ghost use Rattle.xds_message.specs.declared.draft.Draft.TheVariants as drafts;
-ghost use Rattle.xds_rules.specs.declared.line.Line.TheVariants as forms;
+ghost use Rattle.xds_check.specs.declared.line.Line.TheVariants as forms;
 ghost use Rattle.xds_core.specs.StreamsSeen.{message_of};
 ghost use Rattle.xds_core.specs.Legal.{IsLegal};
 ghost use Rattle.xds_core.specs.Seen.{event_of, reply_of};
@@ -18,6 +18,7 @@ ghost use Rattle.xds_trace.specs.Telling.{HoldsResources, IsToldDeletion, IsTold
 
 use std::alloc::Global;
 use std::sync::ArcStr;
+use xds_check::{Answer, Asking, Line, Trace};
 use xds_core::{Event, Record, Reply, Request};
 use xds_message::{Batch, DeltaDraft, Draft, SotwDraft};
 use xds_resource::laws::resources_are_canonical;
@@ -25,7 +26,6 @@ use xds_resource::resource::is_valid_name;
 use xds_resource::{
     AnyResource, AnyWrite, Groups, Refusal, Resource, ResourceType, Stamp, TypeName, Write,
 };
-use xds_rules::{Answer, Asking, Line, Trace};
 
 // ---- values
 

@@ -7,9 +7,9 @@ ghost use Rattle.xds_play.specs.Traced.{trace_at, KeepsAt};
 
 use std::alloc::Global;
 use xds_cache::Accept;
+use xds_check::Trace;
 use xds_model::laws::journals_are_legal;
 use xds_resource::Refusal;
-use xds_rules::Trace;
 use xds_trace::trace_of;
 use xds_world::World;
 

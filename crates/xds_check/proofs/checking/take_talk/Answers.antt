@@ -1,6 +1,6 @@
 use Rattle.std.proofs.Common.{sym, subst}
 use Rattle.std.proofs.lemmas.Result.{on_ok_weaker}
-use Rattle.xds_rules.specs.declared.line.Line.{Line}
+use Rattle.xds_check.specs.declared.line.Line.{Line}
 use Rattle.xds_check.specs.Kept.{IsHeard}
 use Rattle.xds_check.proofs.Hearing.{request_heard, answer_heard}
 use Rattle.xds_check.proofs.checking.take_talk.Goals as goal

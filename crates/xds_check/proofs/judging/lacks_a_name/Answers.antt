@@ -3,7 +3,7 @@ use Rattle.std.specs.Prelude.{◌&&◌}
 use Rattle.xds_interest.specs.Interests.{has_name}
 use Rattle.xds_catalogue.specs.Content.{content}
 use Rattle.xds_ledger.specs.Variants.{is_whole}
-use Rattle.xds_rules.specs.Answers.{Statement, stated_names}
+use Rattle.xds_check.specs.Answers.{Statement, stated_names}
 use Rattle.xds_check.specs.Kept.{lacks_one}
 use Rattle.xds_check.proofs.Living.{judged}
 use Rattle.xds_check.proofs.judging.lacks_a_name.Goals as goal

@@ -1,9 +1,0 @@
-use Rattle.xds_message.specs.Responses.{delta_response_of}
-use Rattle.xds_rules.proofs.Lining.{delta_found}
-use Rattle.xds_rules.proofs.reading.delta_answer.Goals as goal
-
-pub returns-in-Ok : goal.returns-in-Ok
-returns-in-Ok c = delta_found c.args.json.now (delta_response_of c.in-Ok.response) c.of_delta.result c.in-Ok.ensures c.of_delta.ensures
-
-pub returns-in-Err : goal.returns-in-Err
-returns-in-Err c = λ other. let k = c.in-Err.ensures other in (k.0, λ a is. k.1 is.2.0 (is.0, is.1, is.2.1))

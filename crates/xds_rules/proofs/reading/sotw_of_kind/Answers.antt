@@ -1,5 +1,0 @@
-use Rattle.xds_rules.proofs.Lining.{sotw_of}
-use Rattle.xds_rules.proofs.reading.sotw_of_kind.Goals as goal
-
-pub returns : goal.returns
-returns c = sotw_of c.args.json.now c.sotw_answer.result c.sotw_answer.ensures

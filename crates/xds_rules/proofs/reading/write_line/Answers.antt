@@ -1,5 +1,0 @@
-use Rattle.xds_rules.proofs.Lining.{no_write}
-use Rattle.xds_rules.proofs.reading.write_line.Goals as goal
-
-pub returns-in-Err : goal.returns-in-Err
-returns-in-Err c = λ other. let r = c.in-Err.ensures other in (r.0, no_write c.args.rest.now r.1)

@@ -1,8 +1,0 @@
-pub mod Answers
-pub mod Lines
-pub mod Rules
-pub mod Streams
-pub mod Words
-pub mod Texts
-pub mod Orders
-pub mod Laws
