@@ -8,8 +8,8 @@ use Rattle.xds_resource.specs.declared.refusal.Refusal.{Refusal}
 use Rattle.xds_resource.specs.declared.refusal.Refusal.TheVariants.{OutOfMemory, BadTrace, Gap}
 use Rattle.xds_core.specs.Steps.{fresh}
 use Rattle.xds_core.specs.Legal.{Record, IsLegal, replayed}
-use Rattle.xds_tokens.specs.Entries.{records_of, Counted}
-use Rattle.xds_tokens.proofs.Numbers.{records_append, records_numbered}
+use Rattle.xds_node.specs.Entries.{records_of, Counted}
+use Rattle.xds_node.proofs.Numbers.{records_append, records_numbered}
 use Rattle.xds_node.specs.Pieces.{Piece, piece_entries, pieces_entries, Story, IsWhole}
 use Rattle.xds_node.proofs.Keeping.{legal_append}
 use Rattle.xds_check.specs.declared.line.Line.{Line}

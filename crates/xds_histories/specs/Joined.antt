@@ -4,7 +4,7 @@ use Rattle.std.specs.List.{flat_map}
 use Rattle.xds_resource.specs.declared.refusal.Refusal.{Refusal}
 use Rattle.xds_resource.specs.declared.refusal.Refusal.TheVariants.{OutOfMemory, BadTrace, Gap}
 use Rattle.xds_core.specs.Legal.{Record}
-use Rattle.xds_tokens.specs.Entries.{Counted}
+use Rattle.xds_node.specs.Entries.{Counted}
 use Rattle.xds_node.specs.Pieces.{Piece, pieces_entries, Story}
 use Rattle.xds_check.specs.declared.line.Line.{Line}
 use Rattle.xds_trace.specs.Making.{trace_of}

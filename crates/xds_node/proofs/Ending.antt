@@ -3,11 +3,11 @@ use Rattle.std.proofs.Common.{◌≡◌, ℕ, ◌+◌, List, ◌++◌, length, B
 use Rattle.std.specs.Prelude.{All, Contains, IsPermutation}
 use Rattle.xds_core.specs.Steps.{Core, fresh}
 use Rattle.xds_core.specs.Legal.{Record, replayed, IsLegal}
-use Rattle.xds_tokens.specs.declared.holding.Holding.{Holding}
-use Rattle.xds_tokens.specs.Entries.{numbered, records_of, Counted}
-use Rattle.xds_tokens.specs.Holdings.{with_seats, with_shares}
-use Rattle.xds_tokens.specs.Tally.{Known}
-use Rattle.xds_tokens.proofs.Steps.{keeper_closes, all_shares, all_pasts, cut_in_order, audited}
+use Rattle.xds_node.specs.declared.holding.Holding.{Holding}
+use Rattle.xds_node.specs.Entries.{numbered, records_of, Counted}
+use Rattle.xds_node.specs.Holdings.{with_seats, with_shares}
+use Rattle.xds_node.specs.Tally.{Known}
+use Rattle.xds_node.proofs.Steps.{keeper_closes, all_shares, all_pasts, cut_in_order, audited}
 use Rattle.xds_node.specs.Books.{IsKept}
 use Rattle.xds_node.specs.Told.{Calls}
 use Rattle.xds_node.specs.Pieces.{Piece, piece_entries, piece_before, pieces_entries, Story, last_entries, StandsInStory, BeginAsCut, IsStory}

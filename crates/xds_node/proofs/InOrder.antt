@@ -4,8 +4,8 @@ use Rattle.std.specs.Prelude.{MatchBool}
 use Rattle.std.proofs.lemmas.List.{drop_more}
 use Rattle.std.proofs.lemmas.Bool.Decides.{eqb_tells}
 use Rattle.xds_core.specs.Legal.{Record}
-use Rattle.xds_tokens.specs.Entries.{numbered, Counted}
-use Rattle.xds_tokens.proofs.Numbers.{length_numbered, counted_append, counted_rest, counted_numbered}
+use Rattle.xds_node.specs.Entries.{numbered, Counted}
+use Rattle.xds_node.proofs.Numbers.{length_numbered, counted_append, counted_rest, counted_numbered}
 use Rattle.xds_node.specs.Pieces.{Piece, piece_entries, pieces_entries}
 
 -- the entries are those of so many records, under the numbers from this one on

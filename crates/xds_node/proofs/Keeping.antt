@@ -8,11 +8,11 @@ use Rattle.xds_core.specs.Events.{Event, Reply}
 use Rattle.xds_core.specs.Steps.{Core, fresh, step}
 use Rattle.xds_core.specs.Legal.{Record, answer_of, after, replayed, IsLegal}
 use Rattle.xds_core.proofs.StepLaws.{number_stays}
-use Rattle.xds_tokens.specs.declared.holding.Holding.{Holding}
-use Rattle.xds_tokens.specs.Entries.{numbered, records_of, Counted}
-use Rattle.xds_tokens.specs.Holdings.{keeper, share_holding, recorded, past_of, IsKeeperOf}
-use Rattle.xds_tokens.proofs.Numbers.{records_append, records_numbered, numbered_append, numbered_records}
-use Rattle.xds_tokens.proofs.Steps.{keeper_tell, keeper_share, share_is, recorded_is, cut_many}
+use Rattle.xds_node.specs.declared.holding.Holding.{Holding}
+use Rattle.xds_node.specs.Entries.{numbered, records_of, Counted}
+use Rattle.xds_node.specs.Holdings.{keeper, share_holding, recorded, past_of, IsKeeperOf}
+use Rattle.xds_node.proofs.Numbers.{records_append, records_numbered, numbered_append, numbered_records}
+use Rattle.xds_node.proofs.Steps.{keeper_tell, keeper_share, share_is, recorded_is, cut_many}
 use Rattle.xds_node.specs.Books.{Books, most_records, base_of, present, after_cut, all_entries_of, IsKept}
 use Rattle.xds_node.specs.Told.{IsStepAt}
 use Rattle.xds_node.specs.Pieces.{piece_of, GoesOn, IsPiece}

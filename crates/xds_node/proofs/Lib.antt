@@ -1,3 +1,10 @@
+pub mod Weights
+pub mod Numbers
+pub mod Covering
+pub mod Pasts
+pub mod Balance
+pub mod Parts
+pub mod Steps
 pub mod Keeping
 pub mod InOrder
 pub mod Ending

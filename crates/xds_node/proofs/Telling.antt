@@ -5,7 +5,7 @@ use Rattle.xds_core.specs.Events.{Event}
 use Rattle.xds_core.specs.Legal.{Record}
 use Rattle.xds_core.specs.Seen.{answer_of}
 use Rattle.xds_core.specs.declared.event.Reply.{Reply}
-use Rattle.xds_tokens.specs.Entries.{AllBelow}
+use Rattle.xds_node.specs.Entries.{AllBelow}
 use Rattle.xds_node.specs.Books.{Books, next_number, record_of}
 use Rattle.xds_node.specs.Told.{Calls, also_told, IsTold}
 

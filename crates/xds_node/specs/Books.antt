@@ -5,9 +5,9 @@ use Rattle.xds_resource.specs.Stamps.{max_counter}
 use Rattle.xds_core.specs.Events.{Event}
 use Rattle.xds_core.specs.Steps.{Core, fresh, step}
 use Rattle.xds_core.specs.Legal.{Record, answer_of, replayed, IsLegal}
-use Rattle.xds_tokens.specs.declared.holding.Holding.{Holding}
-use Rattle.xds_tokens.specs.Entries.{numbered, records_of}
-use Rattle.xds_tokens.specs.Holdings.{IsKeeperOf}
+use Rattle.xds_node.specs.declared.holding.Holding.{Holding}
+use Rattle.xds_node.specs.Entries.{numbered, records_of}
+use Rattle.xds_node.specs.Holdings.{IsKeeperOf}
 
 -- how many records a journal may have
 abbrev pub most_records : ℕ

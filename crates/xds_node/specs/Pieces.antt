@@ -3,9 +3,9 @@ use Rattle.std.specs.Prelude.{◌≡◌, ℕ, ◌+◌, List, ◌++◌, length, B
 use Rattle.std.specs.List.{flat_map}
 use Rattle.xds_core.specs.Steps.{Core, fresh}
 use Rattle.xds_core.specs.Legal.{Record, replayed, IsLegal}
-use Rattle.xds_tokens.specs.declared.holding.Holding.{Holding}
-use Rattle.xds_tokens.specs.Entries.{numbered, records_of, Counted, IsBeginning}
-use Rattle.xds_tokens.specs.Holdings.{share_holding, IsClosed}
+use Rattle.xds_node.specs.declared.holding.Holding.{Holding}
+use Rattle.xds_node.specs.Entries.{numbered, records_of, Counted, IsBeginning}
+use Rattle.xds_node.specs.Holdings.{share_holding, IsClosed}
 use Rattle.xds_node.specs.Books.{Books, base_of}
 
 -- records that were cut: the replica before the first, that one's number, the records, and all that was cut before them

@@ -5,7 +5,7 @@ use Rattle.xds_resource.specs.declared.refusal.Refusal.TheVariants.{OutOfMemory,
 use Rattle.xds_core.specs.Events.{Event, Reply}
 use Rattle.xds_core.specs.Steps.{fresh, step}
 use Rattle.xds_core.specs.Legal.{Record, answer_of, replayed, IsLegal}
-use Rattle.xds_tokens.specs.Entries.{numbered, AllBelow}
+use Rattle.xds_node.specs.Entries.{numbered, AllBelow}
 
 -- All calls of a seat: the records that they were told, each with its number, and those that left no record, each as its event and
 -- its refusal; both in the order of the calls.

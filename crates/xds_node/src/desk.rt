@@ -6,8 +6,8 @@ ghost use Rattle.xds_resource.specs.declared.refusal.Refusal.TheVariants.{OutOfM
 ghost use Rattle.xds_core.specs.Since.{marks_of};
 ghost use Rattle.xds_core.specs.Counts.{counts_of};
 ghost use Rattle.xds_core.specs.Seen.{event_of, answer_of};
-ghost use Rattle.xds_tokens.specs.Entries.{AllBelow};
-ghost use Rattle.xds_tokens.specs.Holdings.{keeper};
+ghost use Rattle.xds_node.specs.Entries.{AllBelow};
+ghost use Rattle.xds_node.specs.Holdings.{keeper};
 ghost use Rattle.xds_node.specs.Books.{Books, most_records, opened_books, base_of, present, next_number, all_entries_of, record_of, with_record, with_seat, after_cut, IsFull};
 ghost use Rattle.xds_node.specs.Pieces.{piece_of, last_entries, StandsInStory, GoesOn, IsWhole};
 ghost use Rattle.xds_node.specs.Told.{no_calls, also_told, also_refused, IsStepAt, LeavesNoRecord};
@@ -15,8 +15,10 @@ ghost use Rattle.xds_node.specs.Wakes.{due_at, wait_ends};
 
 use crate::history::History;
 use crate::line::Line;
+use crate::rule::NodeName;
 use crate::seat::{Seat, Unrecorded, gather};
 use crate::segment::Segment;
+use crate::token::{Token, Tokens};
 use crate::twice::answered_twice;
 use crate::wakes::{Waiting, Wake};
 use std::alloc::Global;
@@ -25,7 +27,6 @@ use std::mem;
 use xds_core::{Core, Event, Marks, Reply};
 use xds_resource::Refusal;
 use xds_resource::stamp::MAX_COUNTER;
-use xds_tokens::{NodeName, Token, Tokens};
 
 /// What a wait for a stream ends by.
 #[derive(Clone, Copy, Debug, PartialEq, Eq, Drop)]

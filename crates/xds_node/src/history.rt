@@ -1,16 +1,17 @@
 // What a node leaves at its end.
 ghost use Rattle.std.specs.Prelude.{◌≡◌, ◌≢◌, ◌⊎◌, ◌+◌, ◌<◌, ◌≤◌, ◌++◌, true, length, All, Contains, MatchBool, MatchResult, IfSome, IfNone, IsPermutation};
 ghost use Rattle.xds_resource.specs.declared.refusal.Refusal.TheVariants.{Gap};
-ghost use Rattle.xds_tokens.specs.Entries.{Counted};
-ghost use Rattle.xds_tokens.specs.Holdings.{with_shares};
+ghost use Rattle.xds_node.specs.Entries.{Counted};
+ghost use Rattle.xds_node.specs.Holdings.{with_shares};
 ghost use Rattle.xds_node.specs.Pieces.{piece_entries, piece_before, pieces_entries, last_entries, StandsInStory, BeginAsCut, IsWhole};
 
 use crate::line::Line;
+use crate::rule::NodeName;
 use crate::segment::Segment;
+use crate::token::{Token, Tokens};
 use std::marker::Model;
 use xds_core::Core;
 use xds_resource::Refusal;
-use xds_tokens::{NodeName, Token, Tokens};
 
 /// What a node leaves at its end: the records since the last cut, and the replica before the first of them. Contracts see also all
 /// records that were cut, with their numbers, how many seats were made, whether all of them were handed in, and what those that were

@@ -1,13 +1,14 @@
 // A line of the journal.
 ghost use Rattle.std.specs.Prelude.{◌≡◌, Err};
 ghost use Rattle.xds_core.specs.Seen.{event_of, answer_of};
-ghost use Rattle.xds_tokens.specs.Holdings.{with_refused};
+ghost use Rattle.xds_node.specs.Holdings.{with_refused};
 
+use crate::rule::NodeName;
+use crate::token::{Token, Tokens};
 use std::marker::Model;
 use std::mem;
 use xds_core::{Event, Record, Reply};
 use xds_resource::Refusal;
-use xds_tokens::{NodeName, Token, Tokens};
 
 /// A line of the journal: an event, and what it was answered. Contracts see the record.
 pub struct Line {

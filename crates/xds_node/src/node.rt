@@ -11,14 +11,15 @@ ghost use Rattle.xds_node.specs.Told.{no_calls, also_refused, IsTold, IsStepAt, 
 use crate::desk::{Desk, Due};
 use crate::history::History;
 use crate::line::Line;
+use crate::rule::NodeName;
 use crate::seat::{Seat, Unrecorded};
 use crate::segment::Segment;
+use crate::token::{Opened, Tokens};
 use crate::wakes::{Lanes, Wake};
 use std::alloc::Global;
 use std::sync::{Mutex, Wait};
 use xds_core::{Event, Marks, Reply};
 use xds_resource::Refusal;
-use xds_tokens::{NodeName, Opened, Tokens};
 
 /// A replica that threads share: one lock round its state and its journal.
 pub struct Node<N: NodeName> {

@@ -1,14 +1,15 @@
 // The right to call a node, with what was told for it.
 ghost use Rattle.std.specs.Prelude.{◌≡◌, [], ◌∷◌, ◌++◌, All, Contains};
 ghost use Rattle.xds_core.specs.Seen.{event_of};
-ghost use Rattle.xds_tokens.specs.Holdings.{keeper, seat_holding, recorded, with_seats, IsAlone};
+ghost use Rattle.xds_node.specs.Holdings.{keeper, seat_holding, recorded, with_seats, IsAlone};
 ghost use Rattle.xds_node.specs.Told.{no_calls, also_told, also_refused};
 
 use crate::line::Line;
+use crate::rule::NodeName;
+use crate::token::{Token, Tokens};
 use std::marker::Model;
 use xds_core::Event;
 use xds_resource::Refusal;
-use xds_tokens::{NodeName, Token, Tokens};
 
 /// The right to call a node. It has no bytes. Contracts see all its calls: each record that they were told, with its number, and
 /// each event that left no record, with its refusal.
@@ -21,7 +22,7 @@ impl<N: NodeName> Model for Seat<N> {
     ghost use Rattle.std.specs.Prelude.{◌≡◌};
     ghost use Rattle.std.specs.Coded.{codes};
     ghost use Rattle.xds_json.specs.Versions.{version_map_code};
-    ghost use Rattle.xds_tokens.specs.Holdings.{seat_holding};
+    ghost use Rattle.xds_node.specs.Holdings.{seat_holding};
     ghost use Rattle.xds_node.specs.Told.{Calls};
 
     ghost Value = { Calls };

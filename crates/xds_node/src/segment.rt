@@ -4,9 +4,10 @@ ghost use Rattle.xds_core.specs.Legal.{IsLegal};
 ghost use Rattle.xds_node.specs.Pieces.{GoesOn};
 
 use crate::line::Line;
+use crate::rule::NodeName;
+use crate::token::Token;
 use std::marker::Model;
 use xds_core::Core;
-use xds_tokens::{NodeName, Token};
 
 /// Records that a node handed out, and the replica before the first of them. Contracts see also all that the node had handed out
 /// before; those records make of a replica at which nothing happened this one.
@@ -22,7 +23,7 @@ impl<N: NodeName> Model for Segment<N> {
     ghost use Rattle.std.specs.Coded.{codes};
     ghost use Rattle.xds_json.specs.Versions.{version_map_code};
     ghost use Rattle.xds_core.specs.Steps.{core_code};
-    ghost use Rattle.xds_tokens.specs.Holdings.{past_of};
+    ghost use Rattle.xds_node.specs.Holdings.{past_of};
     ghost use Rattle.xds_node.specs.Pieces.{Piece, IsPiece};
 
     ghost Value = { Piece };

@@ -1,6 +1,6 @@
 use Rattle.std.proofs.Common.{[], ◌∷◌, ◌∙◌, length, ap, append_assoc, arith}
-use Rattle.xds_tokens.specs.Holdings.{share_holding}
-use Rattle.xds_tokens.proofs.Steps.{shares_one}
+use Rattle.xds_node.specs.Holdings.{share_holding}
+use Rattle.xds_node.proofs.Steps.{shares_one}
 use Rattle.xds_node.specs.Pieces.{piece_entries, piece_before}
 use Rattle.xds_node.proofs.history.share.Goals as goal
 

@@ -1,6 +1,6 @@
 use Rattle.std.proofs.Common.{◌≡◌, ◌++◌, length}
 use Rattle.std.specs.Vec.Iter.{into_iter_items, into_iter_len}
-use Rattle.xds_tokens.specs.Holdings.{with_shares}
+use Rattle.xds_node.specs.Holdings.{with_shares}
 use Rattle.xds_node.specs.Pieces.{piece_entries, piece_before}
 use Rattle.xds_node.proofs.history.share.Given as goal
 

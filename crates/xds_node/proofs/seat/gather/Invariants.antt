@@ -1,6 +1,6 @@
 use Rattle.std.proofs.Common.{◌≡◌, ◌++◌, length}
 use Rattle.std.specs.Vec.Iter.{into_iter_items, into_iter_len}
-use Rattle.xds_tokens.specs.Holdings.{with_seats}
+use Rattle.xds_node.specs.Holdings.{with_seats}
 use Rattle.xds_node.proofs.seat.gather.Given as goal
 
 abbrev pub invariant-loop-seat : goal.invariant-loop-seat

@@ -2,7 +2,7 @@ use Rattle.std.proofs.Common.{◌≡◌, ◌+◌, [], ◌∷◌, ◌++◌, ◌�
 use Rattle.xds_core.specs.Legal as legal
 use Rattle.xds_core.specs.Steps.{step}
 use Rattle.xds_core.specs.Seen.{event_of}
-use Rattle.xds_tokens.proofs.Steps.{below_next}
+use Rattle.xds_node.proofs.Steps.{below_next}
 use Rattle.xds_node.specs.Books.{next_number}
 use Rattle.xds_node.specs.Told.{Calls}
 use Rattle.xds_node.proofs.Keeping.{kept_one, stands_now, step_told}

@@ -1,5 +1,5 @@
 use Rattle.std.proofs.Common.{◌∙◌, ap}
-use Rattle.xds_tokens.specs.Holdings.{past_of}
+use Rattle.xds_node.specs.Holdings.{past_of}
 use Rattle.xds_node.proofs.Keeping.{kept_cut, goes_on, piece_kept, piece_is, left_is}
 use Rattle.xds_node.proofs.desk.Desk.cut.Goals as goal
 

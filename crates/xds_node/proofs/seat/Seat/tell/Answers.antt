@@ -1,6 +1,6 @@
 use Rattle.std.proofs.Common.{subst}
 use Rattle.std.specs.Prelude.{All, Contains}
-use Rattle.xds_tokens.specs.Holdings.{recorded}
+use Rattle.xds_node.specs.Holdings.{recorded}
 use Rattle.xds_node.specs.Told.{Calls}
 use Rattle.xds_node.proofs.seat.Seat.tell.Goals as goal
 

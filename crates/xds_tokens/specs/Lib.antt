@@ -1,4 +1,0 @@
-pub mod Names
-pub mod Entries
-pub mod Holdings
-pub mod Tally
