@@ -13,8 +13,8 @@ use Rattle.xds_message.specs.Batches.{by_type}
 use Rattle.xds_core.specs.Stores.{Store, Batch, merged, grown, is_spent, if_done}
 use Rattle.xds_core.specs.Events.{Merge, Reply, Merged}
 use Rattle.xds_core.specs.Steps.{Core, Step, step}
-use Rattle.xds_outbox.specs.Parts.{parts_behind, parts_of, is_part, IsNextPart}
-use Rattle.xds_outbox.proofs.Cutting.{parts_joined}
+use Rattle.xds_exchange.specs.Parts.{parts_behind, parts_of, is_part, IsNextPart}
+use Rattle.xds_exchange.proofs.Cutting.{parts_joined}
 use Rattle.xds_exchange.specs.Merges.{merged_by, grown_by, holding, AllMerged, IsStopped}
 
 -- ---- a step

@@ -1,3 +1,8 @@
+pub mod Relays
+pub mod Weights
+pub mod Cutting
+pub mod Lengths
+pub mod Framing
 pub mod Skipping
 pub mod OneMerge
 pub mod Knowing

@@ -16,8 +16,8 @@ use Rattle.xds_catalogue.proofs.OneWrite.{joined-none}
 use Rattle.xds_message.specs.Batches.{by_type}
 use Rattle.xds_message.proofs.BatchLemmas.{at-per_type, writes_of-append}
 use Rattle.xds_core.specs.Stores.{Store, Batch, merged, grown}
-use Rattle.xds_outbox.specs.Parts.{parts_of}
-use Rattle.xds_outbox.proofs.Cutting.{parts_joined}
+use Rattle.xds_exchange.specs.Parts.{parts_of}
+use Rattle.xds_exchange.proofs.Cutting.{parts_joined}
 use Rattle.xds_exchange.specs.Laws.{PartsAreOneMerge}
 use Rattle.xds_exchange.specs.Merges.{merged_by, grown_by}
 

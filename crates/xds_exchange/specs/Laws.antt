@@ -9,7 +9,7 @@ use Rattle.xds_core.specs.Stores.{Store, grown, merged, all_entries}
 use Rattle.xds_core.specs.Events.{Event}
 use Rattle.xds_core.specs.Legal.{after}
 use Rattle.xds_core.specs.Steps.{Core}
-use Rattle.xds_outbox.specs.Parts.{parts_of}
+use Rattle.xds_exchange.specs.Parts.{parts_of}
 use Rattle.xds_exchange.specs.Merges.{merged_by, grown_by}
 use Rattle.xds_exchange.specs.Rounds.{Knows, IsKept, AreTaken}
 

@@ -1,4 +1,7 @@
-pub use Rattle.xds_outbox.specs.Parts
+pub mod Relays
+pub mod Ends
+pub mod Parts
+pub mod OutboxLaws
 pub mod Merges
 pub mod Rounds
 pub mod Laws

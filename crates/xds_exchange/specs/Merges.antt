@@ -7,7 +7,7 @@ use Rattle.xds_message.specs.Batches.{by_type}
 use Rattle.xds_core.specs.Stores.{Store, grown, merged}
 use Rattle.xds_core.specs.Events.{Merge}
 use Rattle.xds_core.specs.Steps.{Core, step}
-use Rattle.xds_outbox.specs.Parts.{parts_of}
+use Rattle.xds_exchange.specs.Parts.{parts_of}
 
 -- what is held once the parts came, one after another
 abbrev pub merged_by : Store → List (List TypedWrite) → Store

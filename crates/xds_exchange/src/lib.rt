@@ -1,12 +1,22 @@
 // What replicas tell each other: batches in parts, each of which fits a frame, and what changed since the last time.
+// A channel of 16 from one thread to another: what is taken is a beginning of what was put, in order, each item once.
+// Batches cut into parts, each of which fits a frame.
 #![tactic(auto)]
 
+pub mod ends;
 pub mod laws;
 pub mod merging;
+pub mod moves;
+pub mod outbox;
+pub mod outbox_laws;
 pub mod outcome;
 pub mod peer;
+pub mod rule;
+mod weighing;
 
+pub use ends::{Incoming, Outgoing, Taken, Unlinked};
 pub use merging::apply;
+pub use moves::link;
+pub use outbox::Outbox;
 pub use outcome::Round;
 pub use peer::{Peer, round};
-pub use xds_outbox::Outbox;

@@ -7,9 +7,9 @@ ghost use Rattle.xds_core.specs.Legal.{IsShort};
 ghost use Rattle.xds_core.specs.Steps.{step};
 ghost use Rattle.xds_exchange.specs.Merges.{AllMerged, IsStopped};
 
+use crate::outbox::Outbox;
 use xds_core::{Core, Event, Reply};
 use xds_message::Batch;
-use xds_outbox::Outbox;
 use xds_resource::Refusal;
 
 /// Merges a batch, whole or not at all, as one event of the replica. Answers by how much the changes grew, over all

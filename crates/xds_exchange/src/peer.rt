@@ -10,13 +10,13 @@ ghost use Rattle.xds_catalogue.specs.Holdings.{IsCatalogue, IsNumbered};
 ghost use Rattle.xds_resource.specs.declared.refusal.Refusal.TheVariants.{OutOfMemory};
 
 use crate::merging::apply_all;
+use crate::outbox::Outbox;
 use crate::outcome::Round;
 use std::alloc::Global;
 use std::marker::Model;
 use std::mem;
 use xds_catalogue::Catalogue;
 use xds_core::{Core, Marks};
-use xds_outbox::Outbox;
 use xds_resource::{Refusal, ResourceType};
 
 /// What a peer was told: for each type, the count of changes up to which it was told all.

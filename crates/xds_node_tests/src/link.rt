@@ -3,7 +3,7 @@ use std::alloc::{AllocError, Global};
 use std::sync::Wait;
 use std::thread;
 use std::thread::Threads;
-use xds_link::{Incoming, Outgoing, Unlinked, link};
+use xds_exchange::{Incoming, Outgoing, Unlinked, link};
 
 // Puts the numbers from 0 up to this one, and the end; answers how many were put.
 fn put_all<R: Wait>(rt: &R, mut outgoing: Outgoing<u64>, count: u64) -> u64 {

@@ -13,8 +13,8 @@ use std::thread;
 use std::thread::Threads;
 use std::time::Clock;
 use xds_core::Event;
+use xds_exchange::{Incoming, Outgoing};
 use xds_http::{Replies, serve_on};
-use xds_link::{Incoming, Outgoing};
 use xds_resource::Refusal;
 use xds_workers::{Host, Parcel, Receipt, called, exchange_in, exchange_out};
 

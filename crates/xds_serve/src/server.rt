@@ -15,8 +15,8 @@ use std::sync::{Arc, Wait};
 use std::thread::Threads;
 use std::time::Clock;
 use xds_core::Event;
+use xds_exchange::link;
 use xds_frames::Counted;
-use xds_link::link;
 use xds_resource::Refusal;
 
 /// What a server is asked for.

@@ -3,10 +3,10 @@ use Rattle.std.proofs.Common.{◌≡◌, ℕ, List, [], ◌∷◌, ◌++◌, Boo
 use Rattle.crossbeam_channel.specs.Ends.{sends_on, receives_on}
 use Rattle.xds_resource.specs.declared.refusal.Refusal.{Refusal}
 use Rattle.xds_core.specs.Legal.{Record}
-use Rattle.xds_link.specs.Ends.{AreEnds, Begins, IsOf, IsSameEnd, IsSameSource}
-use Rattle.xds_link.specs.declared.ends.Incoming.{Incoming}
-use Rattle.xds_link.specs.declared.ends.Outgoing.{Outgoing}
-use Rattle.xds_link.specs.declared.ends.Taken.{Taken}
+use Rattle.xds_exchange.specs.Ends.{AreEnds, Begins, IsOf, IsSameEnd, IsSameSource}
+use Rattle.xds_exchange.specs.declared.ends.Incoming.{Incoming}
+use Rattle.xds_exchange.specs.declared.ends.Outgoing.{Outgoing}
+use Rattle.xds_exchange.specs.declared.ends.Taken.{Taken}
 use Rattle.xds_workers.specs.declared.exchange.Ended.{Ended}
 use Rattle.xds_workers.specs.declared.parcels.Receipt.{Receipt}
 use Rattle.xds_workers.specs.Whole.{Exchange, IsExchange, MergesAll, TellsAll}

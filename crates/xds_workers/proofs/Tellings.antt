@@ -12,10 +12,10 @@ use Rattle.xds_resource.specs.TypedWrites.{TypedWrite}
 use Rattle.xds_resource.specs.Writes.{StampedWrite}
 use Rattle.xds_frames.specs.Frames.{frame_bytes}
 use Rattle.xds_message.specs.Batches.{in_order}
-use Rattle.xds_outbox.specs.Parts.{IsNextPart, is_part, parts_behind, parts_of}
+use Rattle.xds_exchange.specs.Parts.{IsNextPart, is_part, parts_behind, parts_of}
 use Rattle.xds_core.specs.Events.{Reply, Since}
 use Rattle.xds_core.specs.Legal.{Record}
-use Rattle.xds_link.specs.Ends.{Begins}
+use Rattle.xds_exchange.specs.Ends.{Begins}
 use Rattle.xds_workers.specs.declared.exchange.Ended.{Ended}
 use Rattle.xds_workers.specs.declared.exchange.Ended.TheVariants as ended
 use Rattle.xds_workers.specs.declared.exchange.Unsent.{Unsent}

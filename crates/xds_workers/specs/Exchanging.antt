@@ -8,7 +8,7 @@ use Rattle.xds_resource.specs.PerType.{PerType, each}
 use Rattle.xds_resource.specs.Writes.{StampedWrite}
 use Rattle.xds_core.specs.Events.{Since, Merge}
 use Rattle.xds_core.specs.Legal.{Record}
-use Rattle.xds_link.specs.Ends.{Begins}
+use Rattle.xds_exchange.specs.Ends.{Begins}
 use Rattle.xds_node.specs.Told.{LeavesNoRecord}
 use Rattle.xds_workers.specs.declared.exchange.Ended.{Ended}
 use Rattle.xds_workers.specs.declared.exchange.Ended.TheVariants.{Stopped, Unlinked}

@@ -8,8 +8,8 @@ use Rattle.xds_frames.specs.declared.frame.FrameKind.TheVariants as kinds
 use Rattle.xds_frames.specs.Frames.{IsFrame, frame_bytes}
 use Rattle.xds_message.specs.Spelling.{IsJson}
 use Rattle.xds_message.specs.Batches.{by_type, in_order, SpellsBatch}
-pub use Rattle.xds_outbox.specs.Parts.{batch_frame}
-use Rattle.xds_outbox.specs.Parts.{parts_of}
+pub use Rattle.xds_exchange.specs.Parts.{batch_frame}
+use Rattle.xds_exchange.specs.Parts.{parts_of}
 use Rattle.xds_core.specs.Events.{Reply, Changed}
 
 -- the parcels of some parts: of each its frame's bytes, and whether it is the last one

@@ -2,7 +2,7 @@
 use Rattle.std.specs.Prelude.{◌≡◌, ℕ, List, ◌++◌, Bool, Result}
 use Rattle.xds_resource.specs.declared.refusal.Refusal.{Refusal}
 use Rattle.xds_core.specs.Legal.{Record}
-use Rattle.xds_link.specs.Ends.{Begins}
+use Rattle.xds_exchange.specs.Ends.{Begins}
 use Rattle.xds_workers.specs.declared.exchange.Ended.{Ended}
 use Rattle.xds_workers.specs.declared.parcels.Receipt.{Receipt}
 use Rattle.xds_workers.specs.Exchanging.{HasMerged, HasTold}

@@ -1,7 +1,7 @@
 // The thread that merges what another replica tells.
 ghost use Rattle.std.specs.Prelude.{◌≡◌, ℕ, List, [], ◌∷◌, ◌++◌, Bool};
 ghost use Rattle.xds_core.specs.Legal.{Record};
-ghost use Rattle.xds_link.specs.Ends.{put_by, taken_by, IsSameEnd, IsSameSource};
+ghost use Rattle.xds_exchange.specs.Ends.{put_by, taken_by, IsSameEnd, IsSameSource};
 ghost use Rattle.xds_workers.specs.Exchanging.{Acknowledges, HasMerged, IsMerging, receipt_for};
 ghost use Rattle.xds_workers.specs.declared.parcels.Receipt.{Receipt};
 
@@ -11,7 +11,7 @@ use crate::parcels::{Parcel, Receipt};
 use std::alloc::Global;
 use std::sync::Wait;
 use xds_core::Event;
-use xds_link::{Incoming, Outgoing};
+use xds_exchange::{Incoming, Outgoing};
 
 /// As many parcels as may be dropped.
 pub const MOST_DROPPED: u64 = 9_223_372_036_854_775_807;

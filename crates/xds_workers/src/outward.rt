@@ -7,7 +7,7 @@ ghost use Rattle.xds_message.specs.Batches.{in_order};
 ghost use Rattle.xds_core.specs.Legal.{Record};
 ghost use Rattle.xds_core.specs.Seen.{reply_of};
 ghost use Rattle.xds_frames.specs.Frames.{IsFrame, frame_bytes};
-ghost use Rattle.xds_link.specs.Ends.{put_by, taken_by, IsSameEnd, IsSameSource, Begins};
+ghost use Rattle.xds_exchange.specs.Ends.{put_by, taken_by, IsSameEnd, IsSameSource, Begins};
 ghost use Rattle.xds_workers.specs.Exchanging.{Turn, TurnEnds, HasTold, Puts, Settles, given_up};
 ghost use Rattle.xds_workers.specs.Parcels.{batch_frame, changed_in, parcels_of};
 ghost use Rattle.xds_workers.specs.declared.parcels.Receipt.{Receipt};
@@ -19,9 +19,8 @@ use crate::parcels::{Parcel, Receipt};
 use std::alloc::Global;
 use std::sync::Wait;
 use xds_core::{Event, Marks, Reply};
-use xds_link::{Incoming, Outgoing};
+use xds_exchange::{Incoming, Outbox, Outgoing};
 use xds_message::Batch;
-use xds_outbox::Outbox;
 use xds_resource::Refusal;
 
 /// The thread that tells another replica what changed here. It waits until the counts of changes differ from those that

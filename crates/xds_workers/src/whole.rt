@@ -1,6 +1,6 @@
 // An exchange as a whole: the worker at each of two nodes, and the channels between them.
 ghost use Rattle.std.specs.Prelude.{◌≡◌, [], ◌++◌};
-ghost use Rattle.xds_link.specs.Ends.{put_by, taken_by, taken_of, AreEnds, IsOf, IsSameEnd};
+ghost use Rattle.xds_exchange.specs.Ends.{put_by, taken_by, taken_of, AreEnds, IsOf, IsSameEnd};
 ghost use Rattle.xds_workers.specs.Whole.{Exchange, IsExchange, MergesAll, TellsAll};
 
 use crate::exchange::Ended;
@@ -11,7 +11,7 @@ use crate::parcels::{Parcel, Receipt};
 use std::alloc::Global;
 use std::sync::Wait;
 use std::thread::{Threads, join};
-use xds_link::{Incoming, Outgoing, Taken};
+use xds_exchange::{Incoming, Outgoing, Taken};
 use xds_node::{Node, NodeName, Seat, Segment};
 use xds_resource::Refusal;
 

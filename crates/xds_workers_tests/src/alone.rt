@@ -9,8 +9,8 @@ use std::alloc::Global;
 use std::sync::Wait;
 use std::test::Fail;
 use xds_core::{Event, Request};
+use xds_exchange::{Incoming, Outgoing, link};
 use xds_frames::{Counted, Faulty, FrameKind, write_frame};
-use xds_link::{Incoming, Outgoing, link};
 use xds_message::DiscoveryRequest;
 use xds_resource::Refusal;
 use xds_workers::{

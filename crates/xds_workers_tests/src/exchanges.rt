@@ -12,7 +12,7 @@ use std::sync::Wait;
 use std::test::Fail;
 use std::thread::{Threads, join};
 use xds_core::Marks;
-use xds_link::{Incoming, Outgoing, link};
+use xds_exchange::{Incoming, Outgoing, link};
 use xds_node::{Line, Node, NodeName, Opened};
 use xds_resource::Refusal;
 use xds_workers::{Ended, Host, Parcel, Receipt, exchange_both, exchange_in, exchange_out};

@@ -12,7 +12,7 @@ use std::thread;
 use std::thread::{Threads, join};
 use std::time::{Clock, Duration};
 use xds_core::{Event, Marks, Request};
-use xds_link::{Incoming, Outgoing, link};
+use xds_exchange::{Incoming, Outgoing, link};
 use xds_message::DeltaDiscoveryRequest;
 use xds_node::{Due, Line, Node, NodeName, Opened};
 use xds_resource::Refusal;

@@ -1,5 +1,5 @@
 use Rattle.std.proofs.Common.{◌<◌}
-use Rattle.xds_link.specs.Ends.{put_by, taken_by, IsSameEnd, IsSameSource}
+use Rattle.xds_exchange.specs.Ends.{put_by, taken_by, IsSameEnd, IsSameSource}
 use Rattle.xds_workers.proofs.Mergings.{Merges}
 use Rattle.xds_workers.proofs.inward.exchange_in.Given as goal
 

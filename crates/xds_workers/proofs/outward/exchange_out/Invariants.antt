@@ -1,6 +1,6 @@
 use Rattle.std.proofs.Common.{List}
 use Rattle.xds_core.specs.Counts.{counts_of}
-use Rattle.xds_link.specs.Ends.{put_by, taken_by, IsSameEnd, IsSameSource}
+use Rattle.xds_exchange.specs.Ends.{put_by, taken_by, IsSameEnd, IsSameSource}
 use Rattle.xds_workers.specs.Exchanging.{Turn}
 use Rattle.xds_workers.proofs.Tellings.{ByTurns}
 use Rattle.xds_workers.proofs.outward.exchange_out.Given as goal

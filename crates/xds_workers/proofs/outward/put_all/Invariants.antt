@@ -1,4 +1,4 @@
-use Rattle.xds_link.specs.Ends.{put_by, IsSameEnd}
+use Rattle.xds_exchange.specs.Ends.{put_by, IsSameEnd}
 use Rattle.xds_workers.specs.Parcels.{parcels_of}
 use Rattle.xds_workers.proofs.Tellings.{IsPut}
 use Rattle.xds_workers.proofs.outward.put_all.Given as goal

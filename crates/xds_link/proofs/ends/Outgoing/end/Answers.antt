@@ -1,6 +1,0 @@
-use Rattle.std.proofs.Common.{rules}
-use Rattle.xds_link.proofs.Relays.{puts}
-use Rattle.xds_link.proofs.ends.Outgoing.end.Goals as goal
-
-pub send_as-requires-clause-rule : goal.send_as-requires-clause-rule
-send_as-requires-clause-rule g c = (puts _ _ _ _ c.args.self.now.may, search rules)

@@ -1,2 +1,0 @@
-pub mod Relays
-pub mod Ends

@@ -1,4 +1,0 @@
-pub mod Weights
-pub mod Cutting
-pub mod Lengths
-pub mod Framing

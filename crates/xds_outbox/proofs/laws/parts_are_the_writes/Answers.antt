@@ -1,5 +1,0 @@
-use Rattle.xds_outbox.proofs.Cutting.{parts_joined}
-use Rattle.xds_outbox.proofs.laws.parts_are_the_writes.Goals as goal
-
-pub returns : goal.returns
-returns c = parts_joined

@@ -1,5 +1,0 @@
-use Rattle.xds_outbox.proofs.Cutting.{parts_within}
-use Rattle.xds_outbox.proofs.laws.parts_are_within_bounds.Goals as goal
-
-pub returns : goal.returns
-returns c = parts_within
