@@ -4,8 +4,8 @@ use std::sync::Wait;
 use xds_http::Replies;
 use xds_node::{Node, NodeName, Seat};
 use xds_polls::HttpReply;
-use xds_posts::reply_at;
 use xds_resource::Refusal;
+use xds_rest::reply_at;
 
 /// A node that posts ask, each by a seat of its own.
 pub(crate) struct Asked<N: NodeName> {
@@ -21,7 +21,7 @@ impl<N: NodeName> Drop for Asked<N> {
 impl<N: NodeName> Replies for Asked<N> {
     ghost use Rattle.std.specs.Prelude.{◌≡◌, codes};
     ghost use Rattle.xds_node.specs.Told.{no_calls};
-    ghost use Rattle.xds_posts.specs.Posted.{IsReplyOrUnavailable};
+    ghost use Rattle.xds_rest.specs.Posted.{IsReplyOrUnavailable};
 
     type Seat = Seat<N>;
 

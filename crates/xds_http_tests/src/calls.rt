@@ -9,8 +9,8 @@ use std::test::Fail;
 use xds_cases::cases::written_out;
 use xds_node::{Line, Node, NodeName, Opened, Seat};
 use xds_polls::HttpReply;
-use xds_posts::{answer_at, reply_at};
 use xds_resource::Refusal;
+use xds_rest::{answer_at, reply_at};
 
 /// A reply as its status, and its body behind a space where it has one.
 pub(crate) fn shown(alloc: Global, reply: HttpReply) -> Result<String, Refusal> {

@@ -9,8 +9,8 @@ use std::sync::Wait;
 use std::test::Fail;
 use xds_core::Event;
 use xds_node::{Line, MOST_RECORDS, Node, NodeName, Opened, Seat};
-use xds_posts::answer_at;
 use xds_resource::Refusal;
+use xds_rest::answer_at;
 
 // Whether a call left no record.
 fn is_lost<T: Drop, E: Drop>(answer: Result<T, E>) -> bool {

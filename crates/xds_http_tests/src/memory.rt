@@ -10,8 +10,8 @@ use std::sync::Wait;
 use std::test::Fail;
 use xds_node::{Line, Node, NodeName, Opened, Seat};
 use xds_polls::HttpReply;
-use xds_posts::{answer_at, reply_at};
 use xds_resource::Refusal;
+use xds_rest::{answer_at, reply_at};
 
 const PATH: &str = "/v3/discovery:secrets";
 

@@ -1,3 +1,4 @@
 pub mod Posts
 pub mod Replies
 pub mod Seen
+pub mod Posted

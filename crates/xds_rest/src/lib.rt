@@ -1,11 +1,16 @@
 // The REST variant: what a post asks for, and the reply to it.
+// Polls over HTTP at a node that threads share, without a socket.
 #![tactic(auto)]
 
 pub mod answering;
+pub mod by_seat;
 pub mod path;
 pub mod post;
+pub mod posts;
 pub mod reply;
 
 pub use answering::answer;
+pub use by_seat::{answer_at, reply_at};
 pub use post::{Asked, ask};
+pub use posts::Posts;
 pub use reply::{HttpReply, reply_of};

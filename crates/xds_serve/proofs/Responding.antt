@@ -3,7 +3,7 @@ use Rattle.std.proofs.Common.{◌≡◌, inl, inr, ℕ, List, subst, codes}
 use Rattle.http.specs.declared.response.Response.{Response}
 use Rattle.http_body_util.specs.declared.full.Full.{Full}
 use Rattle.xds_node.specs.Told.{Calls, no_calls}
-use Rattle.xds_posts.specs.Posted.{IsReplyOrUnavailable}
+use Rattle.xds_rest.specs.Posted.{IsReplyOrUnavailable}
 use Rattle.xds_http.specs.Carried.{IsAnswer}
 use Rattle.xds_serve.specs.Responses.{IsResponseAt}
 

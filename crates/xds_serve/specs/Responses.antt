@@ -4,7 +4,7 @@ use Rattle.http.specs.declared.response.Response.{Response}
 use Rattle.http_body_util.specs.declared.full.Full.{Full}
 use Rattle.xds_node.specs.Told.{Calls, no_calls}
 use Rattle.xds_polls.specs.Polls.{HttpReply, unavailable}
-use Rattle.xds_posts.specs.Posted.{IsReplyOrUnavailable}
+use Rattle.xds_rest.specs.Posted.{IsReplyOrUnavailable}
 use Rattle.xds_http.specs.Carried.{Carries, CarriesOrNone}
 
 -- The response to a post at a path with a body: it carries the reply of the replica of this number, by a seat that made no call before;

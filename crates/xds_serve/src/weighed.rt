@@ -7,8 +7,8 @@ use xds_core::{Event, Marks, Reply};
 use xds_http::Replies;
 use xds_node::{Due, Unrecorded};
 use xds_polls::HttpReply;
-use xds_posts::Posts;
 use xds_resource::Refusal;
+use xds_rest::Posts;
 use xds_workers::Host;
 
 /// About how many bytes the records of a journal may take: 256 MiB. A journal with more of them is cut, whatever its length.
@@ -135,7 +135,7 @@ impl<A: Served> Posts for Weighed<A> {
 impl<A: Served> Replies for Weighed<A> {
     ghost use Rattle.std.specs.Prelude.{◌≡◌, codes};
     ghost use Rattle.xds_node.specs.Told.{no_calls};
-    ghost use Rattle.xds_posts.specs.Posted.{IsReplyOrUnavailable};
+    ghost use Rattle.xds_rest.specs.Posted.{IsReplyOrUnavailable};
 
     type Seat = A::PostSeat;
 

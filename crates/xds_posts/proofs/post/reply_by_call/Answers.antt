@@ -1,7 +1,0 @@
-use Rattle.xds_core.specs.Seen.{event_of, answer_of}
-use Rattle.xds_posts.proofs.Polled.{step_rests}
-use Rattle.xds_posts.proofs.post.reply_by_call.Goals as goal
-
-pub reply_by_answer-requires : goal.reply_by_answer-requires
-reply_by_answer-requires g c =
-    step_rests g.N.NodeName.replica c.args.seat.now c.call.new.seat (event_of c.args.event) (answer_of c.in-Ok.answer) c.requires c.in-Ok.ensures.step
