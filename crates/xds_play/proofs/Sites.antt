@@ -5,9 +5,9 @@ use Rattle.std.specs.FinMap as finmap
 use Rattle.xds_cache.specs.Faults.{Test}
 use Rattle.xds_core.specs.Steps.{Core, fresh}
 use Rattle.xds_core.specs.Legal.{Record, IsLegal, replayed}
-use Rattle.xds_model.specs.Happenings.{Happening}
-use Rattle.xds_model.specs.Worlds.{Site, world}
-use Rattle.xds_model.specs.Claims.{JournalsAreLegal}
+use Rattle.xds_world.specs.Happenings.{Happening}
+use Rattle.xds_world.specs.Worlds.{Site, world}
+use Rattle.xds_world.specs.Claims.{JournalsAreLegal}
 use Rattle.xds_check.specs.declared.line.Line.{Line}
 use Rattle.xds_check.specs.declared.line.Line.TheVariants as lines
 use Rattle.xds_check.specs.Rules.{NoneBroken}

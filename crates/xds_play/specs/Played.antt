@@ -2,9 +2,9 @@
 use Rattle.std.specs.Prelude.{◌≡◌, ℕ, List, [], ◌∷◌, ◌++◌, Some, ⊤}
 use Rattle.xds_cache.specs.Faults.{Test}
 use Rattle.xds_cache.specs.Marks.{is_unmarked}
-use Rattle.xds_model.specs.Happenings.{Happening}
-use Rattle.xds_model.specs.Settling.{IsAddedToSettle}
-use Rattle.xds_model.specs.Worlds.{world}
+use Rattle.xds_world.specs.Happenings.{Happening}
+use Rattle.xds_world.specs.Settling.{IsAddedToSettle}
+use Rattle.xds_world.specs.Worlds.{world}
 use Rattle.xds_script.specs.Lines.{lines}
 use Rattle.xds_script.specs.Commands.{Said, Happens, Settles, Shows, Lists}
 use Rattle.xds_script.specs.Scripts.{IsScript, first_bad}

@@ -11,10 +11,10 @@ use Rattle.xds_catalogue.specs.Holdings.{Holdings}
 use Rattle.xds_catalogue.specs.Content.{is_live}
 use Rattle.xds_cache.specs.Shelves.{Cache, Holding}
 use Rattle.xds_cache.specs.Clients as clients
-use Rattle.xds_model.specs.declared.event.ClientKind.{ClientKind}
-use Rattle.xds_model.specs.declared.event.ClientKind.TheVariants as kinds
-use Rattle.xds_model.specs.Worlds.{World, Peer}
-use Rattle.xds_model.specs.Claims.{is_settled}
+use Rattle.xds_world.specs.declared.event.ClientKind.{ClientKind}
+use Rattle.xds_world.specs.declared.event.ClientKind.TheVariants as kinds
+use Rattle.xds_world.specs.Worlds.{World, Peer}
+use Rattle.xds_world.specs.Claims.{is_settled}
 use Rattle.xds_world.specs.declared.peer.Status.{Status}
 use Rattle.xds_world.specs.declared.peer.Status.TheVariants.{Up, Down, Rest}
 use Rattle.xds_world.specs.Statuses.{status_of}

@@ -3,7 +3,7 @@ use Rattle.std.specs.Prelude.{◌≡◌, ℕ, List, [], ◌++◌, map, All, opti
 use Rattle.std.specs.Option.{option_map_or}
 use Rattle.std.specs.FinMap as finmap
 use Rattle.xds_resource.specs.declared.types.TypeName.{TypeName}
-use Rattle.xds_model.specs.Worlds.{Site, world}
+use Rattle.xds_world.specs.Worlds.{Site, world}
 use Rattle.xds_script.specs.Commands.{Said}
 use Rattle.xds_script.specs.Scripts.{IsScript}
 use Rattle.xds_play.specs.Played.{Played, PlaysAll, nothing_played, takes}

@@ -2,9 +2,9 @@
 ghost use Rattle.std.specs.Prelude.{◌≡◌, ◌++◌, IfOk, IfErr, OnOk, List, map, string_bytes};
 ghost use Rattle.xds_resource.specs.declared.refusal.Refusal.TheVariants.{OutOfMemory};
 ghost use Rattle.xds_resource.specs.PerType.{at};
-ghost use Rattle.xds_model.specs.Happenings.{Happening};
-ghost use Rattle.xds_model.specs.Settling.{IsAddedToSettle};
-ghost use Rattle.xds_model.specs.Worlds.{world as world_of};
+ghost use Rattle.xds_world.specs.Happenings.{Happening};
+ghost use Rattle.xds_world.specs.Settling.{IsAddedToSettle};
+ghost use Rattle.xds_world.specs.Worlds.{world as world_of};
 ghost use Rattle.xds_script.specs.Commands.{said_of};
 ghost use Rattle.xds_play.specs.Shown.{view_shown, content_shown, content_text, none_text, state_of};
 ghost use Rattle.xds_play.specs.Played.{Plays, PlaysAll, Prints, IsPlayed, IsUnplayed, nothing_played, takes};
@@ -14,10 +14,9 @@ use std::alloc::Global;
 use std::slice;
 use xds_cache::Marked;
 use xds_message::Batch;
-use xds_model::WorldEvent;
 use xds_resource::{Refusal, TypeName};
 use xds_script::{Command, read_script};
-use xds_world::{Status, Unsettled, World, more, play, settle};
+use xds_world::{Status, Unsettled, World, WorldEvent, more, play, settle};
 
 /// Why a script isn't played.
 #[derive(Clone, Copy, Debug, PartialEq, Eq)]

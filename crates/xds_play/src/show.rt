@@ -9,8 +9,8 @@ ghost use Rattle.xds_play.specs.Shown.{holding_line, holding_lines, view_head, v
 
 use std::alloc::Global;
 use xds_cache::Holding;
-use xds_model::ClientKind;
 use xds_resource::{NameMap, Refusal, ResourceType, TypeName, Write};
+use xds_world::ClientKind;
 
 /// Adds a client's view of a type to the text. `state` is the word for how the client stands to the type.
 pub fn show_view(

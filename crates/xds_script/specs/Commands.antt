@@ -7,12 +7,12 @@ use Rattle.xds_resource.specs.declared.types.TypeName.{TypeName}
 use Rattle.xds_resource.specs.Types.{type_of_word}
 use Rattle.xds_resource.specs.Groups.{groups_of}
 use Rattle.xds_resource.specs.Resources.{NamedBody, named_type, parsed, value_of}
-use Rattle.xds_model.specs.declared.event.ClientKind.{ClientKind}
-use Rattle.xds_model.specs.declared.event.ClientKind.TheVariants as kinds
-use Rattle.xds_model.specs.declared.event.Answer.TheVariants.{Arrives, Lost}
-use Rattle.xds_model.specs.Happenings as happenings
-use Rattle.xds_model.specs.Happenings.{Happening, Wish}
-use Rattle.xds_model.specs.Seen.{happening_of}
+use Rattle.xds_world.specs.declared.event.ClientKind.{ClientKind}
+use Rattle.xds_world.specs.declared.event.ClientKind.TheVariants as kinds
+use Rattle.xds_world.specs.declared.event.Answer.TheVariants.{Arrives, Lost}
+use Rattle.xds_world.specs.Happenings as happenings
+use Rattle.xds_world.specs.Happenings.{Happening, Wish}
+use Rattle.xds_world.specs.ModelSeen.{happening_of}
 use Rattle.xds_script.specs.declared.command.Command.{Command}
 use Rattle.xds_script.specs.declared.command.Command.TheVariants as commands
 use Rattle.xds_script.specs.declared.command.Verb.{Verb}

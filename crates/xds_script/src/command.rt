@@ -2,8 +2,8 @@
 ghost use Rattle.std.specs.Prelude.{◌≡◌};
 ghost use Rattle.xds_script.specs.Commands.{verb_of};
 
-use xds_model::WorldEvent;
 use xds_resource::TypeName;
+use xds_world::WorldEvent;
 
 /// What a line of a script says.
 #[derive(Drop)]

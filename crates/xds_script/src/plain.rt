@@ -9,8 +9,8 @@ ghost use Rattle.xds_script.specs.Commands.{read_two, read_first, only_replica, 
 use crate::command::Command;
 use crate::numbers::{replica_number, whole_number};
 use crate::words::Words;
-use xds_model::{Answer, WorldEvent};
 use xds_resource::TypeName;
+use xds_world::{Answer, WorldEvent};
 
 // A replica alone.
 fn only_replica(words: Words) -> Option<u16>

@@ -4,7 +4,7 @@ ghost use Rattle.std.specs.Option.{option_map, ok_or, option_to_list};
 ghost use Rattle.xds_resource.specs.declared.refusal.Refusal.TheVariants.{BadScript, OutOfMemory};
 ghost use Rattle.xds_resource.specs.Refusals.{Gives};
 ghost use Rattle.xds_resource.specs.Any.{resource_type, named_body};
-ghost use Rattle.xds_model.specs.Seen.{wish_of};
+ghost use Rattle.xds_world.specs.ModelSeen.{wish_of};
 ghost use Rattle.xds_script.specs.declared.command.Verb.TheVariants as verbs;
 ghost use Rattle.xds_script.specs.Lines.{pieces};
 ghost use Rattle.xds_script.specs.Commands.{cluster_if_any, comma, groups_in, groups_and_resource, kind_of_word, kind_and_cluster, resource_behind, name_in, name_behind, names_in, edits_in, is_edit, subscribed_in, unsubscribed_in, said_of, says};
@@ -13,8 +13,8 @@ use crate::command::Command;
 use crate::numbers::{replica_number, whole_number};
 use crate::words::Words;
 use std::alloc::Global;
-use xds_model::{ClientKind, Wish, WorldEvent};
 use xds_resource::{AnyResource, Groups, Refusal, TypeName};
+use xds_world::{ClientKind, Wish, WorldEvent};
 
 // The name that the word is.
 fn name_in(alloc: Global, word: &str) -> Result<String, Refusal>

@@ -3,14 +3,14 @@ ghost use Rattle.std.specs.Prelude.{◌≡◌, Some};
 ghost use Rattle.std.specs.Option.{option_map, ok_or};
 ghost use Rattle.xds_resource.specs.declared.refusal.Refusal.TheVariants.{BadScript};
 ghost use Rattle.xds_resource.specs.Refusals.{Gives};
-ghost use Rattle.xds_model.specs.Seen.{happening_of};
+ghost use Rattle.xds_world.specs.ModelSeen.{happening_of};
 ghost use Rattle.xds_serve.specs.Changes.{change_of, change_said, change_in, write_of};
 
 use std::alloc::Global;
 use xds_core::Event;
-use xds_model::WorldEvent;
 use xds_resource::Refusal;
 use xds_script::{Command, read_line};
+use xds_world::WorldEvent;
 
 /// A write that a line of the input makes at a replica.
 #[derive(Drop)]

@@ -13,9 +13,9 @@ use Rattle.xds_core.specs.Seen.{reply_of}
 use Rattle.xds_core.specs.Steps.{Step, step}
 use Rattle.xds_core.proofs.StreamSteps.{put_twice, put_back}
 use Rattle.xds_cache.specs.Clients.{unlinked}
-use Rattle.xds_model.specs.Worlds.{Site, Link, Peer, World, with_peer, answered_at, at_site}
-use Rattle.xds_peer.specs.Calls.{Gave, Happened}
-use Rattle.xds_peer.specs.Peers.{peer_lost}
+use Rattle.xds_world.specs.Worlds.{Site, Link, Peer, World, with_peer, answered_at, at_site}
+use Rattle.xds_world.specs.Calls.{Gave, Happened}
+use Rattle.xds_world.specs.Peers.{peer_lost}
 use Rattle.xds_world.specs.Parts.{answered, if_answered, peer_event}
 
 abbrev pub with_peers : World → FinMap nat_cmp Peer → World

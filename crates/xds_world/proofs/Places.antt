@@ -1,6 +1,6 @@
 -- Places of a list, from 1.
 use Rattle.std.proofs.Common.{◌≡◌, ℕ, zero, suc, ◌-◌, ◌<◌, ◌≤◌, List, [], ◌∷◌, length, slice_index_or, Some, None, refl, sym, ap, subst, arith}
-use Rattle.xds_model.specs.Worlds.{placed}
+use Rattle.xds_world.specs.Worlds.{placed}
 
 pub placed_zero : {X : Type 0} (xs : List X) → placed xs 0 ≡ None
 placed_zero [] = refl

@@ -15,18 +15,18 @@ use Rattle.xds_core.proofs.StreamSteps.{put_twice, put_back}
 use Rattle.xds_cache.specs.Shelves.{wants_some}
 use Rattle.xds_cache.specs.Faults.{Test}
 use Rattle.xds_cache.specs.Clients.{Client, shelf}
-use Rattle.xds_model.specs.declared.event.Answer.{Answer}
-use Rattle.xds_model.specs.declared.event.Answer.TheVariants.{Arrives, Lost}
-use Rattle.xds_model.specs.declared.event.ClientKind.{ClientKind}
-use Rattle.xds_model.specs.declared.event.ClientKind.TheVariants.{Sotw, Delta, Rest}
-use Rattle.xds_model.specs.Happenings as happenings
-use Rattle.xds_model.specs.Worlds.{Peer, World, with_peer, at_site, poll_of, poll_event, answer_taken, rested, rest_polled, happens}
-use Rattle.xds_model.proofs.EveryEvent.{polls_as}
-use Rattle.xds_model.proofs.RestPolls.{asked_is, poll_says, answer_kind}
-use Rattle.xds_model.proofs.Polled.{takes_some}
-use Rattle.xds_peer.specs.AnyClients.{answering}
-use Rattle.xds_peer.specs.Calls.{Gave, Happened}
-use Rattle.xds_peer.specs.Peers.{peer_answered}
+use Rattle.xds_world.specs.declared.event.Answer.{Answer}
+use Rattle.xds_world.specs.declared.event.Answer.TheVariants.{Arrives, Lost}
+use Rattle.xds_world.specs.declared.event.ClientKind.{ClientKind}
+use Rattle.xds_world.specs.declared.event.ClientKind.TheVariants.{Sotw, Delta, Rest}
+use Rattle.xds_world.specs.Happenings as happenings
+use Rattle.xds_world.specs.Worlds.{Peer, World, with_peer, at_site, poll_of, poll_event, answer_taken, rested, rest_polled, happens}
+use Rattle.xds_world.proofs.EveryEvent.{polls_as}
+use Rattle.xds_world.proofs.RestPolls.{asked_is, poll_says, answer_kind}
+use Rattle.xds_world.proofs.Polled.{takes_some}
+use Rattle.xds_world.specs.AnyClients.{answering}
+use Rattle.xds_world.specs.Calls.{Gave, Happened}
+use Rattle.xds_world.specs.Peers.{peer_answered}
 use Rattle.xds_world.specs.Parts.{peer_event, rested_in}
 use Rattle.xds_world.proofs.Steps.{read_reply, peers_stay, edited}
 

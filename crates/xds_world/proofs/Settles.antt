@@ -6,26 +6,26 @@ use Rattle.std.proofs.lemmas.List.Folds.{list_any-append}
 use Rattle.std.proofs.Math.Seq.{drop-append_seam}
 use Rattle.xds_resource.specs.declared.types.TypeName.{TypeName}
 use Rattle.xds_cache.specs.Faults.{Test}
-use Rattle.xds_model.specs.Happenings.{Happening, Up, Poll, Down}
-use Rattle.xds_model.specs.Worlds.{World, happens, empty_world, after, world}
-use Rattle.xds_model.specs.Claims.{PutResources, PutsAResource, is_settled}
-use Rattle.xds_model.specs.Settling.{next_to_settle, gave_nothing, link_in, is_held_back, taken_now, responses_taken, Then, Done, IsAtEnd, IsAtStop, IsSettling, IsStopped, HasSettled, HasStopped, IsQuietFor}
-use Rattle.xds_model.proofs.SettlingWalks.{Walked, walked_then, walked_more}
-use Rattle.xds_model.proofs.SettlingEnds.{two_responses_suffice, quiet_at_the_end}
-use Rattle.xds_model.proofs.SettlingMoves.{is_poll}
-use Rattle.xds_model.proofs.SettlingStops.{stops_where_spent}
-use Rattle.xds_model.proofs.SettlingSettles.{settles_where_all_is_taken}
-use Rattle.xds_model.proofs.SettlingRefused.{unsettled_has_refused}
-use Rattle.xds_model.proofs.SettlingPolls.{walked_takes_two, taken_more, polls, second_poll_is_the_last}
-use Rattle.xds_peer.specs.declared.link.Step.{Step}
-use Rattle.xds_peer.specs.declared.link.Step.TheVariants as steps
+use Rattle.xds_world.specs.Happenings.{Happening, Up, Poll, Down}
+use Rattle.xds_world.specs.Worlds.{World, happens, empty_world, after, world}
+use Rattle.xds_world.specs.Claims.{PutResources, PutsAResource, is_settled}
+use Rattle.xds_world.specs.Settling.{next_to_settle, gave_nothing, link_in, is_held_back, taken_now, responses_taken, Then, Done, IsAtEnd, IsAtStop, IsSettling, IsStopped, HasSettled, HasStopped, IsQuietFor}
+use Rattle.xds_world.proofs.SettlingWalks.{Walked, walked_then, walked_more}
+use Rattle.xds_world.proofs.SettlingEnds.{two_responses_suffice, quiet_at_the_end}
+use Rattle.xds_world.proofs.SettlingMoves.{is_poll}
+use Rattle.xds_world.proofs.SettlingStops.{stops_where_spent}
+use Rattle.xds_world.proofs.SettlingSettles.{settles_where_all_is_taken}
+use Rattle.xds_world.proofs.SettlingRefused.{unsettled_has_refused}
+use Rattle.xds_world.proofs.SettlingPolls.{walked_takes_two, taken_more, polls, second_poll_is_the_last}
+use Rattle.xds_world.specs.declared.link.Step.{Step}
+use Rattle.xds_world.specs.declared.link.Step.TheVariants as steps
 use Rattle.xds_world.specs.Settled.{IsSettledByTaking, IsSettledOrHeldBack}
-use Rattle.xds_peer.specs.Steps.{event_for}
+use Rattle.xds_world.specs.Steps.{event_for}
 use Rattle.xds_world.specs.Played.{IsWorldOf, HasStepped}
 use Rattle.xds_world.proofs.Plays.{played_one, after_both}
 use Rattle.xds_world.proofs.Weights.{weight, up_lightens, down_lightens, poll_burdens}
 use Rattle.xds_ledger.proofs.SomethingOwed.{is_some_of}
-use Rattle.xds_model.proofs.SettlingSessions.{never_both}
+use Rattle.xds_world.proofs.SettlingSessions.{never_both}
 use Rattle.xds_ledger.proofs.Stored.{or_true}
 use Rattle.xds_interest.proofs.Listed.{or-false}
 

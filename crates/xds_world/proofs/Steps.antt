@@ -15,14 +15,14 @@ use Rattle.xds_core.specs.Events.{Event, Reply}
 use Rattle.xds_core.specs.Steps.{Core, with_stream}
 use Rattle.xds_cache.specs.Faults.{Test}
 use Rattle.xds_cache.specs.Clients.{unlinked}
-use Rattle.xds_model.specs.Happenings as happenings
-use Rattle.xds_model.specs.Worlds.{Peer, Link, World, at_site, happened_at, happens, with_peer, on_link, connected_to, opened, polled, under_way, up_taken, down_taken, taken_down, received, changed, wish_taken, is_to_connect}
-use Rattle.xds_model.specs.Settling.{link_in}
-use Rattle.xds_model.proofs.Replicas.{answered, some_is, ok_is}
-use Rattle.xds_peer.specs.Calls.{Gave, Happened}
-use Rattle.xds_model.specs.Journal.{oldest}
-use Rattle.xds_peer.specs.Links.{link_up}
-use Rattle.xds_peer.specs.Peers.{peer_up, peer_polled, peer_lost, peer_connected, peer_down, peer_changed, link_down}
+use Rattle.xds_world.specs.Happenings as happenings
+use Rattle.xds_world.specs.Worlds.{Peer, Link, World, at_site, happened_at, happens, with_peer, on_link, connected_to, opened, polled, under_way, up_taken, down_taken, taken_down, received, changed, wish_taken, is_to_connect}
+use Rattle.xds_world.specs.Settling.{link_in}
+use Rattle.xds_world.proofs.Replicas.{answered, some_is, ok_is}
+use Rattle.xds_world.specs.Calls.{Gave, Happened}
+use Rattle.xds_world.specs.Journal.{oldest}
+use Rattle.xds_world.specs.Links.{link_up}
+use Rattle.xds_world.specs.Peers.{peer_up, peer_polled, peer_lost, peer_connected, peer_down, peer_changed, link_down}
 use Rattle.xds_world.specs.Parts.{peer_event, leads, draft_in, stream_in, batch_in}
 
 -- ---- replies

@@ -9,11 +9,11 @@ use Rattle.xds_core.specs.Streams.{Message}
 use Rattle.xds_core.specs.Events as events
 use Rattle.xds_core.specs.Events.{Reply}
 use Rattle.xds_cache.specs.Faults.{Test}
-use Rattle.xds_model.specs.Happenings.{Up, Poll, Down}
-use Rattle.xds_model.specs.Worlds.{World, Peer, Link, happens, at_site, with_peer, up_taken, polled, down_taken, taken_down, received, under_way}
-use Rattle.xds_model.specs.Settling.{link_in}
-use Rattle.xds_model.proofs.Replicas.{some_is, bound_some, mapped_some}
-use Rattle.xds_model.proofs.EveryEvent.{link_there, get_put}
+use Rattle.xds_world.specs.Happenings.{Up, Poll, Down}
+use Rattle.xds_world.specs.Worlds.{World, Peer, Link, happens, at_site, with_peer, up_taken, polled, down_taken, taken_down, received, under_way}
+use Rattle.xds_world.specs.Settling.{link_in}
+use Rattle.xds_world.proofs.Replicas.{some_is, bound_some, mapped_some}
+use Rattle.xds_world.proofs.EveryEvent.{link_there, get_put}
 
 abbrev pub weight_on : Link → ℕ
 weight_on l = length l.up + (length l.down + length l.down)

@@ -22,8 +22,8 @@ use Rattle.xds_core.specs.Events as events
 use Rattle.xds_core.specs.Events.{Event, Reply}
 use Rattle.xds_core.specs.Legal.{Record}
 use Rattle.xds_core.specs.Steps.{Core, core_code}
-use Rattle.xds_model.specs.Worlds.{Site, Peer, World}
-use Rattle.xds_peer.specs.Codes.{text_code, type_code, message_code, drafted_code, draft_code, peer_code}
+use Rattle.xds_world.specs.Worlds.{Site, Peer, World}
+use Rattle.xds_world.specs.PeerCodes.{text_code, type_code, message_code, drafted_code, draft_code, peer_code}
 
 -- ---- choices without fields, by number
 

@@ -2,10 +2,10 @@
 use Rattle.std.specs.Prelude.{◌≡◌, ℕ, List, [], ◌∷◌, ◌++◌, Bool, true, false, Option, Some, None}
 use Rattle.xds_resource.specs.declared.types.TypeName.{TypeName}
 use Rattle.xds_cache.specs.Faults.{Test}
-use Rattle.xds_model.specs.Happenings.{Happening}
-use Rattle.xds_model.specs.Worlds.{World, world, happens}
-use Rattle.xds_model.specs.Claims.{PutResources}
-use Rattle.xds_model.specs.Settling.{HasSettled, HasStopped}
+use Rattle.xds_world.specs.Happenings.{Happening}
+use Rattle.xds_world.specs.Worlds.{World, world, happens}
+use Rattle.xds_world.specs.Claims.{PutResources}
+use Rattle.xds_world.specs.Settling.{HasSettled, HasStopped}
 
 -- the world is the one that the list leads to, in which what is put are resources
 pub record IsWorldOf (test : Test) (w : World) (hs : List Happening) : Type 0 where

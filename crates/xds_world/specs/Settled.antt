@@ -2,11 +2,11 @@
 use Rattle.std.specs.Prelude.{◌≡◌, ℕ, List, Bool, true, false, Some, None, ⊤}
 use Rattle.xds_resource.specs.declared.types.TypeName.{TypeName}
 use Rattle.xds_cache.specs.Faults.{Test}
-use Rattle.xds_model.specs.Claims.{Headline, writes_of, TakesAll}
-use Rattle.xds_model.specs.Knows.{knows, cluster, wants, link}
-use Rattle.xds_model.specs.Worlds.{world}
-use Rattle.xds_model.specs.Settling.{link_in, is_held_back, HasStopped}
-use Rattle.xds_model.specs.Happenings.{Happening}
+use Rattle.xds_world.specs.Claims.{Headline, writes_of, TakesAll}
+use Rattle.xds_world.specs.Knows.{knows, cluster, wants, link}
+use Rattle.xds_world.specs.Worlds.{world}
+use Rattle.xds_world.specs.Settling.{link_in, is_held_back, HasStopped}
+use Rattle.xds_world.specs.Happenings.{Happening}
 use Rattle.xds_world.specs.declared.settling.Unsettled.{Unsettled}
 use Rattle.xds_world.specs.declared.settling.Unsettled.TheVariants as unsettled
 

@@ -2,8 +2,8 @@
 ghost use Rattle.std.specs.Prelude.{◌≡◌, ◌≤◌, ◌++◌, [], ◌∷◌, map, Ok, IfOk, IfErr, OnOk};
 ghost use Rattle.xds_resource.specs.declared.refusal.Refusal.TheVariants.{OutOfMemory};
 ghost use Rattle.xds_core.specs.Seen.{event_of, reply_of};
-ghost use Rattle.xds_model.specs.Claims.{owes_nothing};
-ghost use Rattle.xds_peer.specs.Calls.{Gave};
+ghost use Rattle.xds_world.specs.Claims.{owes_nothing};
+ghost use Rattle.xds_world.specs.Calls.{Gave};
 ghost use Rattle.xds_world.specs.Parts.{fresh_site, answered};
 ghost use Rattle.xds_world.specs.Seen.{record_of};
 
@@ -30,7 +30,7 @@ impl Drop for Site {
 
 impl Model for Site {
     ghost use Rattle.std.specs.Prelude.{map};
-    ghost use Rattle.xds_model.specs.Worlds as worlds;
+    ghost use Rattle.xds_world.specs.Worlds as worlds;
     ghost use Rattle.xds_world.specs.Codes.{site_code};
     ghost use Rattle.xds_world.specs.Seen.{record_of};
 

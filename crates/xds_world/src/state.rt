@@ -7,26 +7,27 @@ ghost use Rattle.xds_resource.specs.declared.refusal.Refusal.TheVariants.{OutOfM
 ghost use Rattle.xds_core.specs.Events as events;
 ghost use Rattle.xds_core.specs.Seen.{message_of, event_of, reply_of};
 ghost use Rattle.xds_core.specs.Streams.{cluster_in};
-ghost use Rattle.xds_model.specs.Claims.{is_settled_on, is_settled};
-ghost use Rattle.xds_model.specs.Happenings as happenings;
-ghost use Rattle.xds_model.specs.Seen.{happening_of, wish_of};
-ghost use Rattle.xds_model.specs.Settling.{link_in, next_to_settle, taken_now, gave_nothing};
-ghost use Rattle.xds_model.specs.Worlds.{empty_world, at_site, happened_at, happens, placed, is_to_connect, poll_of, poll_event};
-ghost use Rattle.xds_peer.specs.Calls.{Gave, Happened};
-ghost use Rattle.xds_model.specs.Journal.{oldest};
-ghost use Rattle.xds_peer.specs.Peers.{peer_up, peer_polled, peer_lost, peer_connected, peer_answered};
-ghost use Rattle.xds_peer.specs.Steps.{event_for};
+ghost use Rattle.xds_world.specs.Claims.{is_settled_on, is_settled};
+ghost use Rattle.xds_world.specs.Happenings as happenings;
+ghost use Rattle.xds_world.specs.ModelSeen.{happening_of, wish_of};
+ghost use Rattle.xds_world.specs.Settling.{link_in, next_to_settle, taken_now, gave_nothing};
+ghost use Rattle.xds_world.specs.Worlds.{empty_world, at_site, happened_at, happens, placed, is_to_connect, poll_of, poll_event};
+ghost use Rattle.xds_world.specs.Calls.{Gave, Happened};
+ghost use Rattle.xds_world.specs.Journal.{oldest};
+ghost use Rattle.xds_world.specs.Peers.{peer_up, peer_polled, peer_lost, peer_connected, peer_answered};
+ghost use Rattle.xds_world.specs.Steps.{event_for};
 ghost use Rattle.xds_world.specs.Parts.{blank, leads, draft_in, stream_in, batch_in, rested_in, peer_event};
 
+use crate::event::{Answer, ClientKind, Wish, WorldEvent};
+use crate::link::{Link, Step};
+use crate::parts::is_there;
+use crate::peer::Peer;
 use crate::site::Site;
 use std::alloc::Global;
 use std::marker::Model;
 use xds_cache::Accept;
 use xds_core::{Event, Numbered, Reply, Request};
 use xds_message::{Batch, DiscoveryRequest, Draft, Node, SotwDraft};
-use xds_model::{Answer, ClientKind, Wish, WorldEvent};
-use xds_peer::parts::is_there;
-use xds_peer::{Link, Peer, Step};
 use xds_resource::{AnyResource, Groups, Refusal, TypeName};
 
 /// Replicas, clients, and the batches that were taken.
@@ -48,7 +49,7 @@ impl<A: Accept> Drop for State<A> {
 }
 
 impl<A: Accept> Model for State<A> {
-    ghost use Rattle.xds_model.specs.Worlds as worlds;
+    ghost use Rattle.xds_world.specs.Worlds as worlds;
     ghost use Rattle.xds_world.specs.Codes.{world_code};
 
     ghost Value = { worlds.World };

@@ -5,20 +5,20 @@ ghost use Rattle.std.specs.FinMap as finmap;
 ghost use Rattle.xds_resource.specs.declared.refusal.Refusal.TheVariants.{OutOfMemory};
 ghost use Rattle.xds_resource.specs.PerType.{at, each, with_at};
 ghost use Rattle.xds_cache.specs.Clients.{view as view_of};
-ghost use Rattle.xds_model.specs.Claims.{Headline, is_settled_on};
-ghost use Rattle.xds_model.specs.Seen.{happening_of};
-ghost use Rattle.xds_model.specs.Worlds.{Site as SiteValue, world as world_of};
-ghost use Rattle.xds_peer.specs.Statuses.{status_of};
+ghost use Rattle.xds_world.specs.Claims.{Headline, is_settled_on};
+ghost use Rattle.xds_world.specs.ModelSeen.{happening_of};
+ghost use Rattle.xds_world.specs.Worlds.{Site as SiteValue, world as world_of};
+ghost use Rattle.xds_world.specs.Statuses.{status_of};
 ghost use Rattle.xds_world.specs.Seen.{record_of};
 
+use crate::event::{ClientKind, WorldEvent};
+use crate::peer::Status;
 use crate::run::Run;
 use std::alloc::Global;
 use std::marker::Model;
 use xds_cache::{Accept, Holding};
 use xds_core::Record;
 use xds_message::Batch;
-use xds_model::{ClientKind, WorldEvent};
-use xds_peer::Status;
 use xds_resource::{NameMap, Refusal, TypeName};
 
 /// A world of replicas and clients, with the list of what happened in it. `A` is the clients' test of what they are sent.
@@ -29,8 +29,8 @@ pub struct World<A: Accept> {
 
 impl<A: Accept> Model for World<A> {
     ghost use Rattle.std.specs.Prelude.{◌≡◌, List, map};
-    ghost use Rattle.xds_model.specs.Happenings.{Happening};
-    ghost use Rattle.xds_model.specs.Seen.{happening_of};
+    ghost use Rattle.xds_world.specs.Happenings.{Happening};
+    ghost use Rattle.xds_world.specs.ModelSeen.{happening_of};
     ghost use Rattle.xds_world.specs.Played.{IsWorldOf};
 
     ghost Value = { List Happening };

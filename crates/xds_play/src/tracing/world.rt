@@ -2,16 +2,16 @@
 ghost use Rattle.std.specs.Prelude.{◌≡◌, IfOk, IfErr};
 ghost use Rattle.std.specs.FinMap as finmap;
 ghost use Rattle.xds_resource.specs.declared.refusal.Refusal.TheVariants.{OutOfMemory};
-ghost use Rattle.xds_model.specs.Worlds.{world as world_of};
+ghost use Rattle.xds_world.specs.Worlds.{world as world_of};
 ghost use Rattle.xds_play.specs.Traced.{trace_at, KeepsAt};
 
 use std::alloc::Global;
 use xds_cache::Accept;
 use xds_check::Trace;
-use xds_model::laws::journals_are_legal;
 use xds_resource::Refusal;
 use xds_trace::trace_of;
 use xds_world::World;
+use xds_world::laws::journals_are_legal;
 
 /// The trace of what happened at a replica, none where there is no such replica. It breaks no rule, also with lines at its end which
 /// say of each stream and type to which nothing is owed then that it is so. Refused only by `OutOfMemory`.

@@ -1,7 +1,7 @@
 use Rattle.std.proofs.Common.{◌≡◌, Some, ap, sym, ◌∙◌}
 use Rattle.std.specs.Option.{option_map}
 use Rattle.std.proofs.lemmas.Result.{err_from_is_err_and}
-use Rattle.xds_model.specs.Happenings as happenings
+use Rattle.xds_world.specs.Happenings as happenings
 use Rattle.xds_script.specs.Words.{split_first, replica_number}
 use Rattle.xds_script.specs.Commands.{Happens, read_first, groups_in, groups_and_resource, resource_behind}
 use Rattle.xds_script.proofs.Behind.{read_so, made_refused, behind_refused}

@@ -1,9 +1,9 @@
 use Rattle.std.proofs.Common.{map, ap, subst, ◌∙◌}
 use Rattle.std.specs.Prelude.{is_some}
-use Rattle.xds_model.specs.Seen.{happening_of}
-use Rattle.xds_model.specs.Settling.{HasStopped, link_in}
-use Rattle.xds_model.specs.Worlds.{world}
-use Rattle.xds_model.proofs.Headline.{headline}
+use Rattle.xds_world.specs.ModelSeen.{happening_of}
+use Rattle.xds_world.specs.Settling.{HasStopped, link_in}
+use Rattle.xds_world.specs.Worlds.{world}
+use Rattle.xds_world.proofs.Headline.{headline}
 use Rattle.xds_world.specs.Played.{HasEnded}
 use Rattle.xds_world.specs.Settled.{IsSettledByTaking}
 use Rattle.xds_world.proofs.Settles.{settled_few, settled_quiet, settled_taking, settled_or_held_back}

@@ -1,6 +1,6 @@
 use Rattle.std.proofs.Common.{map}
-use Rattle.xds_model.specs.Seen.{happening_of}
-use Rattle.xds_model.proofs.Headline.{headline}
+use Rattle.xds_world.specs.ModelSeen.{happening_of}
+use Rattle.xds_world.proofs.Headline.{headline}
 use Rattle.xds_world.proofs.world.more.Goals as goal
 
 pub returns-clause-headline : goal.returns-clause-headline

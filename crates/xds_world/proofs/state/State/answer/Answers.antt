@@ -2,8 +2,8 @@ use Rattle.std.proofs.Common.{◌≡◌, Some, sym, ap, subst, ◌∙◌}
 use Rattle.std.specs.Prelude.{IsSome, IfOk, option_map}
 use Rattle.std.specs.FinMap as finmap
 use Rattle.xds_core.proofs.StreamSteps.{there}
-use Rattle.xds_peer.specs.Calls.{Happened}
-use Rattle.xds_peer.specs.Peers.{peer_answered}
+use Rattle.xds_world.specs.Calls.{Happened}
+use Rattle.xds_world.specs.Peers.{peer_answered}
 use Rattle.xds_world.proofs.Edits.{with_peers, put_peers}
 use Rattle.xds_world.proofs.state.State.answer.Goals as goal
 

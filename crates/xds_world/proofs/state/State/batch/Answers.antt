@@ -1,6 +1,6 @@
 use Rattle.std.proofs.Common.{◌<◌, ◌≤◌, ◌-◌, Some, sym, ap, subst, ◌∙◌}
 use Rattle.std.specs.Prelude.{option_map}
-use Rattle.xds_model.specs.Worlds.{placed}
+use Rattle.xds_world.specs.Worlds.{placed}
 use Rattle.xds_world.proofs.Places.{placed_zero, beyond, within}
 use Rattle.xds_world.proofs.state.State.batch.Goals as goal
 

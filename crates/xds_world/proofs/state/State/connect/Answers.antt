@@ -1,7 +1,7 @@
 use Rattle.std.proofs.Common.{sym, subst, ◌∙◌}
 use Rattle.xds_core.specs.Events as events
-use Rattle.xds_model.specs.Worlds.{at_site}
-use Rattle.xds_peer.specs.Calls.{Gave}
+use Rattle.xds_world.specs.Worlds.{at_site}
+use Rattle.xds_world.specs.Calls.{Gave}
 use Rattle.xds_world.proofs.Steps.{connect_within}
 use Rattle.xds_world.proofs.state.State.connect.Goals as goal
 

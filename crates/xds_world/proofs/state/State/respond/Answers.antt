@@ -2,7 +2,7 @@ use Rattle.std.proofs.Common.{◌≡◌, Some, sym, ap, subst, ◌∙◌}
 use Rattle.std.specs.Prelude.{IsSome}
 use Rattle.std.specs.FinMap as finmap
 use Rattle.xds_core.proofs.StreamSteps.{there}
-use Rattle.xds_peer.specs.Peers.{peer_polled}
+use Rattle.xds_world.specs.Peers.{peer_polled}
 use Rattle.xds_world.proofs.Edits.{with_peers, put_peers}
 use Rattle.xds_world.proofs.state.State.respond.Goals as goal
 

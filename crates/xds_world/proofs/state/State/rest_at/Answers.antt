@@ -4,8 +4,8 @@ use Rattle.xds_core.specs.Events as events
 use Rattle.xds_core.specs.Events.{Event}
 use Rattle.xds_core.specs.Seen.{reply_of}
 use Rattle.xds_core.specs.Streams.{cluster_in}
-use Rattle.xds_model.specs.Worlds.{at_site, poll_event}
-use Rattle.xds_peer.specs.Calls.{Gave}
+use Rattle.xds_world.specs.Worlds.{at_site, poll_event}
+use Rattle.xds_world.specs.Calls.{Gave}
 use Rattle.xds_world.proofs.Polls.{rest_read}
 use Rattle.xds_world.proofs.state.State.rest_at.Goals as goal
 

@@ -1,10 +1,10 @@
 use Rattle.std.proofs.Common.{true, sym, subst, ◌∙◌}
 use Rattle.std.specs.Prelude.{IfOk}
 use Rattle.xds_core.specs.Events as events
-use Rattle.xds_model.specs.declared.event.Answer.{Answer}
-use Rattle.xds_model.specs.Happenings as happenings
-use Rattle.xds_model.specs.Worlds.{at_site, poll_event, happens}
-use Rattle.xds_peer.specs.Calls.{Gave, Happened}
+use Rattle.xds_world.specs.declared.event.Answer.{Answer}
+use Rattle.xds_world.specs.Happenings as happenings
+use Rattle.xds_world.specs.Worlds.{at_site, poll_event, happens}
+use Rattle.xds_world.specs.Calls.{Gave, Happened}
 use Rattle.xds_world.proofs.Polls.{rest_within, rest_lost}
 use Rattle.xds_world.proofs.state.State.rest_poll.Goals as goal
 

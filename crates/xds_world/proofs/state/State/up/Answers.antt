@@ -2,8 +2,8 @@ use Rattle.std.proofs.Common.{Bool, sym, ap, subst, ◌∙◌}
 use Rattle.std.specs.Prelude.{option_map}
 use Rattle.xds_core.specs.Events as events
 use Rattle.xds_core.specs.Seen.{message_of}
-use Rattle.xds_model.specs.Worlds.{happened_at}
-use Rattle.xds_peer.specs.Calls.{Happened}
+use Rattle.xds_world.specs.Worlds.{happened_at}
+use Rattle.xds_world.specs.Calls.{Happened}
 use Rattle.xds_world.proofs.Steps.{up_done}
 use Rattle.xds_world.proofs.state.State.up.Goals as goal
 

@@ -1,5 +1,0 @@
-use Rattle.xds_model.proofs.Followed.{links_are_followed}
-use Rattle.xds_model.proofs.laws.links_are_followed.Goals as goal
-
-pub returns : goal.returns
-returns c = links_are_followed

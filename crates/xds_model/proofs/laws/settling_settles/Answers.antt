@@ -1,5 +1,0 @@
-use Rattle.xds_model.proofs.SettlingSettles.{settles_where_all_is_taken}
-use Rattle.xds_model.proofs.laws.settling_settles.Goals as goal
-
-pub returns : goal.returns
-returns c = settles_where_all_is_taken

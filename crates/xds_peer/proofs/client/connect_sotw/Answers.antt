@@ -1,7 +1,0 @@
-use Rattle.xds_peer.proofs.client.connect_sotw.Goals as goal
-
-pub returns-clause-up : goal.returns-clause-up
-returns-clause-up g c = tt
-
-pub returns-clause-requests : goal.returns-clause-requests
-returns-clause-requests g c = tt

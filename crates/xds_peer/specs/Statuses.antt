@@ -1,8 +1,0 @@
--- Whether a client is up or down, or one that polls. This project's own.
-use Rattle.std.specs.Prelude.{if◌then◌else◌, is_some}
-use Rattle.xds_model.specs.Worlds.{Peer, has_streams}
-use Rattle.xds_peer.specs.declared.peer.Status.{Status}
-use Rattle.xds_peer.specs.declared.peer.Status.TheVariants.{Up, Down, Rest}
-
-abbrev pub status_of : Peer → Status
-status_of p = if has_streams p.kind then (if is_some p.link then Up else Down) else Rest

@@ -1,0 +1,249 @@
+-- What keeps the link of a client, whichever variant it speaks.
+use Rattle.std.proofs.Common.{◌≡◌, ℕ, List, [], ◌∷◌, ◌++◌, Bool, true, false, ◌&&◌, Option, Some, None, Ok, Err, refl, sym, ap, subst, ◌∙◌, append-nil}
+use Rattle.std.specs.Prelude.{if◌then◌else◌, option_map}
+use Rattle.std.specs.FinMap as finmap
+use Rattle.xds_resource.specs.declared.types.TypeName.{TypeName}
+use Rattle.xds_resource.specs.declared.refusal.Refusal.TheVariants.{NoStream}
+use Rattle.xds_resource.specs.PerType.{at}
+use Rattle.xds_resource.specs.Types.{types}
+use Rattle.xds_resource.specs.Writes.{text_cmp}
+use Rattle.xds_message.specs.Messages as messages
+use Rattle.xds_message.specs.DeltaMessages.{DeltaRequest}
+use Rattle.xds_message.specs.declared.draft.Draft.{Draft}
+use Rattle.xds_ledger.specs.declared.outcome.Outcome.{Outcome}
+use Rattle.xds_core.specs.Stores.{Store}
+use Rattle.xds_core.specs.Streams as streams
+use Rattle.xds_core.specs.Streams.{Stream, Message, variant_of, cluster_in, cluster_of, opening, requested, polled_first}
+use Rattle.xds_cache.specs.Shelves.{Wants, Shelf, bare, wants_of, wants_after}
+use Rattle.xds_cache.specs.Faults.{Test}
+use Rattle.xds_cache.specs.Clients as clients
+use Rattle.xds_cache.specs.Clients.{Client, shelf, shelf_after, identity, node, is_sent, unlinked}
+use Rattle.xds_cache.specs.Sends.{delta_request, sotw_request, sotw_first, delta_first, is_greeted}
+use Rattle.xds_cache.specs.Rest.{rest_changed}
+use Rattle.xds_cache.specs.Receives.{Outcome as ClientOutcome, sotw_change, sotw_changed, delta_change, delta_changed}
+use Rattle.xds_world.specs.declared.event.ClientKind.{ClientKind}
+use Rattle.xds_world.specs.declared.event.ClientKind.TheVariants.{Sotw, Delta, Rest}
+use Rattle.xds_world.specs.Happenings.{Wish, Names, Edits}
+use Rattle.xds_world.specs.Worlds.{Link, Peer, opening_requests, has_streams, with_request, changed_by, wish_of, under_way, received_in}
+use Rattle.xds_world.specs.Knows.{TypedWrite}
+use Rattle.xds_world.proofs.Replicas.{some_is, never}
+use Rattle.xds_world.proofs.Queues as queues
+use Rattle.xds_world.proofs.Queues.{started}
+use Rattle.xds_world.proofs.Starting.{started_decided, requested_started, requested_decides, polled_variant, polled_started, IsGreeting, Greets, oldest_greets, greeting_more, first_greets}
+use Rattle.xds_world.proofs.LinkSteps as deltas
+use Rattle.xds_world.proofs.LinkSteps.{poll_sent, poll_quiet}
+use Rattle.xds_world.proofs.LinkTakes as takes
+use Rattle.xds_world.proofs.Delivering.{AllKnown}
+use Rattle.xds_world.proofs.SotwLinks as sotws
+use Rattle.xds_world.proofs.RestShelves.{rests_forgotten}
+
+-- The link of a client of each variant, by the stream as it is for its client; and what the client keeps without a link.
+abbrev pub LinkedAs : ClientKind → List TypedWrite → Client → Link → Stream → Type 0
+LinkedAs Sotw all c l x = sotws.Linked all c l x
+LinkedAs Delta all c l x = queues.Linked all c l x
+-- one that polls has none
+LinkedAs Rest all c l x = ⊥
+
+abbrev pub RestsAs : ClientKind → List TypedWrite → TypeName → Shelf → Type 0
+RestsAs Sotw all t f = sotws.Rests t f
+RestsAs Delta all t f = takes.Rests all t f
+RestsAs Rest all t f = sotws.Rests t f
+
+-- and by the stream as its replica has it: while the variant isn't decided, the next request that comes says the client's cluster
+abbrev pub LinkedTo : ClientKind → List TypedWrite → Client → Link → Stream → Type 0
+LinkedTo k all c l x = Greets c x l.up × LinkedAs k all c l (started c.cluster x)
+
+-- a client that takes a response stays of its cluster, and of use
+pub received_stays : (k : ClientKind) (test : Test) (c : Client) (d : Draft) (q : Client × Message) → received_in test k c d ≡ Some q → (q.0.cluster ≡ c.cluster) × (q.0.broken ≡ c.broken)
+received_stays Sotw test c d q is = let left = (sotws.received_is test c d q is).left in (ap (λ p. p.0.cluster) left, ap (λ p. p.0.broken) left)
+received_stays Delta test c d q is = let left = (takes.received_is test c d q is).left in (ap (λ p. p.0.cluster) left, ap (λ p. p.0.broken) left)
+received_stays Rest test c d q is = absurd (never q is)
+
+module _ (all : List TypedWrite) where
+  up_as : (k : ClientKind) (c : Client) (l : Link) (x : Stream) (m : Message) (rest : List Message) (z : Outcome × Stream) → l.up ≡ m ∷ rest → (x.variant ≡ None → cluster_of m ≡ c.cluster) → requested x m ≡ Ok z → LinkedAs k all c l x
+      → LinkedAs k all c (record l { up = rest }) z.1
+  up_as Sotw c l x m rest z up says is linked = sotws.linked_up all c l x m rest z up says is linked
+  up_as Delta c l x m rest z up says is linked = deltas.linked_up all c l x m rest z up says is linked
+  up_as Rest c l x m rest z up says is linked = absurd linked
+
+  -- the replica took the oldest request
+  pub up_to : (k : ClientKind) (c : Client) (l : Link) (x : Stream) (m : Message) (rest : List Message) (z : Outcome × Stream) → l.up ≡ m ∷ rest → requested x m ≡ Ok z → LinkedTo k all c l x → LinkedTo k all c (record l { up = rest }) z.1
+  up_to k c l x m rest z up is linked =
+      let decided = requested_decides x m z is in (
+        λ none. absurd (never (variant_of m) (sym none ∙ decided)),
+        subst (LinkedAs k all c (record l { up = rest })) (sym (started_decided c.cluster z.1 (variant_of m) decided))
+            (up_as k c l (started c.cluster x) m rest z up (oldest_greets c x l.up m rest up linked.0) (requested_started c.cluster x m ∙ is) linked.1),
+      )
+
+  sent_as : (k : ClientKind) (replica : ℕ) (store : Store) (c : Client) (l : Link) (x y : Stream) (d : Draft) → ((t : TypeName) → AllKnown all t (at store t).entries) → deltas.IsSent replica store x y d → LinkedAs k all c l x
+      → LinkedAs k all c (record l { down = l.down ++ d ∷ [] }) y
+  sent_as Sotw replica store c l x y d known is linked = sotws.linked_polled all replica store c l x y d known is linked
+  sent_as Delta replica store c l x y d known is linked = deltas.linked_polled all replica store c l x y d known is linked
+  sent_as Rest replica store c l x y d known is linked = absurd linked
+
+  poll_as : (k : ClientKind) (replica : ℕ) (store : Store) (c : Client) (l : Link) (x y : Stream) (ts : List TypeName) (o : Option Draft) → ((t : TypeName) → AllKnown all t (at store t).entries) → polled_first replica store x ts ≡ Ok (o, y) → LinkedAs k all c l x
+      → LinkedAs k all c (record l { down = l.down ++ under_way o }) y
+  poll_as k replica store c l x y ts None known is linked =
+      subst (LinkedAs k all c (record l { down = l.down ++ [] })) (sym (poll_quiet replica store x y ts is)) (subst (λ ds. LinkedAs k all c (record l { down = ds }) x) (sym (append-nil l.down)) linked)
+  poll_as k replica store c l x y ts (Some d) known is linked = sent_as k replica store c l x y d known (poll_sent replica store x y ts d is) linked
+
+  -- a response was sent, or none
+  pub poll_to : (k : ClientKind) (replica : ℕ) (store : Store) (c : Client) (l : Link) (x y : Stream) (ts : List TypeName) (o : Option Draft) → ((t : TypeName) → AllKnown all t (at store t).entries) → polled_first replica store x ts ≡ Ok (o, y) → LinkedTo k all c l x
+      → LinkedTo k all c (record l { down = l.down ++ under_way o }) y
+  poll_to k replica store c l x y ts o known is linked = (
+    λ none. linked.0 (sym (polled_variant replica store x y ts o is) ∙ none),
+    poll_as k replica store c l (started c.cluster x) (started c.cluster y) ts o known (polled_started replica store c.cluster x y ts o is) linked.1,
+  )
+
+  down_as : (k : ClientKind) (test : Test) (c : Client) (l : Link) (x : Stream) (d : Draft) (rest : List Draft) (q : Client × Message) → l.down ≡ d ∷ rest → received_in test k c d ≡ Some q → LinkedAs k all c l x
+      → LinkedAs k all q.0 (record l { up = l.up ++ q.1 ∷ []; down = rest }) x
+  down_as Sotw test c l x d rest q down is linked = sotws.linked_down all test c l x d rest q down (sotws.received_is test c d q is) linked
+  down_as Delta test c l x d rest q down is linked = takes.linked_down all test c l x d rest q down (takes.received_is test c d q is) linked
+  down_as Rest test c l x d rest q down is linked = absurd linked
+
+  -- while the stream's variant isn't decided, no response is under way
+  pub none_brought : (k : ClientKind) (c : Client) (l : Link) (x : Stream) (d : Draft) (rest : List Draft) → l.down ≡ d ∷ rest → x.variant ≡ None → LinkedAs k all c l x → ⊥
+  none_brought Sotw c l x d rest down none linked = sotws.none_brought all c l x d rest down none linked
+  none_brought Delta c l x d rest down none linked = takes.none_brought all c l x d rest down none linked
+  none_brought Rest c l x d rest down none linked = linked
+
+  -- the client took the oldest response
+  pub down_to : (k : ClientKind) (test : Test) (c : Client) (l : Link) (x : Stream) (d : Draft) (rest : List Draft) (q : Client × Message) → l.down ≡ d ∷ rest → received_in test k c d ≡ Some q → LinkedTo k all c l x
+      → LinkedTo k all q.0 (record l { up = l.up ++ q.1 ∷ []; down = rest }) x
+  down_to k test c l x d rest q down is linked = (
+    λ none. absurd (none_brought k c l (started c.cluster x) d rest down none linked.1),
+    subst (λ cluster. LinkedAs k all q.0 (record l { up = l.up ++ q.1 ∷ []; down = rest }) (started cluster x)) (sym (received_stays k test c d q is).0) (down_as k test c l (started c.cluster x) d rest q down is linked.1),
+  )
+
+  opened_as : (k : ClientKind) (c : Client) (r n : ℕ) (greeted : Bool) → has_streams k ≡ true → ((t : TypeName) → RestsAs k all t (shelf c t))
+      → LinkedAs k all (clients.linked greeted c) (record { replica = r; stream = n; up = opening_requests k c; down = [] }) (started c.cluster opening)
+  opened_as Sotw c r n greeted has rests = sotws.linked_opened all c r n greeted rests
+  opened_as Delta c r n greeted has rests = takes.linked_opened all c r n greeted rests
+  opened_as Rest c r n greeted has rests = absurd cc
+
+  opening_greets : (k : ClientKind) (c : Client) → has_streams k ≡ true → IsGreeting (clients.linked (is_greeted c false types) c) (opening_requests k c)
+  opening_greets Sotw c has = first_greets streams.Sotw (sotw_first c) c (λ t. refl) types
+  opening_greets Delta c has = first_greets streams.Delta (delta_first c) c (λ t. refl) types
+  opening_greets Rest c has = absurd cc
+
+  -- the client connected
+  pub opened_to : (k : ClientKind) (c : Client) (r n : ℕ) → has_streams k ≡ true → ((t : TypeName) → RestsAs k all t (shelf c t))
+      → LinkedTo k all (clients.linked (is_greeted c false types) c) (record { replica = r; stream = n; up = opening_requests k c; down = [] }) opening
+  opened_to k c r n has rests = (λ none. opening_greets k c has, opened_as k c r n (is_greeted c false types) has rests)
+
+  lost_as : (k : ClientKind) (c : Client) (l : Link) (x : Stream) → LinkedAs k all c l x → (t : TypeName) → RestsAs k all t (shelf (unlinked c) t)
+  lost_as Sotw c l x linked t = sotws.rests_lost all c l x linked t
+  lost_as Delta c l x linked t = takes.rests_lost all c l x linked t
+  lost_as Rest c l x linked t = absurd linked
+
+  pub lost_to : (k : ClientKind) (c : Client) (l : Link) (x : Stream) → LinkedTo k all c l x → (t : TypeName) → RestsAs k all t (shelf (unlinked c) t)
+  lost_to k c l x linked = lost_as k c l (started c.cluster x) linked.1
+
+  pub fresh_as : (k : ClientKind) (t : TypeName) → RestsAs k all t bare
+  fresh_as Sotw t = λ name unwanted. finmap.get-empty text_cmp name
+  fresh_as Delta t = takes.rests_fresh all t
+  fresh_as Rest t = λ name unwanted. finmap.get-empty text_cmp name
+
+-- ---- Change
+
+pub changed_ok : {X : Type 0} (tag : X → Message) (r : ClientOutcome (Option X)) (q : Client × Option Message) → changed_by tag r ≡ Some q → (y : Client × Option X) × (r ≡ Ok y) × (q ≡ (y.0, option_map tag y.1))
+changed_ok tag (Ok y) q is = (y, refl, sym (some_is (y.0, option_map tag y.1) q is))
+changed_ok tag (Err e) q is = absurd cc
+
+pub changed_once : {X : Type 0} (broken : Bool) (y z : Client × Option X) → ◌≡◌ {A = ClientOutcome (Option X)} (if broken then Err NoStream else Ok y) (Ok z) → z ≡ y
+changed_once true y z is = absurd cc
+changed_once false y z is = cc
+
+pub tagged_if : {X : Type 0} (tag : X → Message) (b : Bool) (m : X) → option_map tag (if b then Some m else None) ≡ (if b then Some (tag m) else None)
+tagged_if tag true m = refl
+tagged_if tag false m = refl
+
+sent_on : (l : Link) (b : Bool) (m : Message) → with_request (if b then Some m else None) l ≡ record l { up = l.up ++ (if b then m ∷ [] else []) }
+sent_on l true m = refl
+sent_on l false m = λ i. record l { up = sym (append-nil l.up) i }
+
+-- what a client on streams is after a change, and what it sends
+pub record IsWished (k : ClientKind) (p : Peer) (up : Bool) (t : TypeName) (wish : Wish) (q : Client × Option Message) : Type 0 where
+  pub wants : Wants
+  pub message : Message
+  pub left : q.0 ≡ clients.changed up t wants p.client
+  pub sent : q.1 ≡ (if is_sent up (shelf p.client t) wants then Some message else None)
+  pub greets : p.client.greeted ≡ false → cluster_of message ≡ p.client.cluster
+
+abbrev pub wished_is : (k : ClientKind) → has_streams k ≡ true → (p : Peer) (up : Bool) (t : TypeName) (wish : Wish) (q : Client × Option Message) → wish_of k p up t wish ≡ Some q → IsWished k p up t wish q
+wished_is Sotw has p up t (Names names) q is =
+    let w : Wants = wants_of names in
+    let m : messages.Request = sotw_request t (node p.client.greeted p.client) (shelf_after up t w p.client) None in
+    let made = changed_ok streams.Sotw (sotw_change up t w p.client) q is in
+    let once = changed_once (up && p.client.broken) (sotw_changed up t w p.client) made.0 made.1 in
+    record {
+      wants = w;
+      message = streams.Sotw m;
+      left = ap (λ y. y.0) made.2 ∙ ap (λ y. y.0) once;
+      sent = ap (λ y. y.1) made.2 ∙ ap (λ y. option_map streams.Sotw y.1) once ∙ tagged_if streams.Sotw (is_sent up (shelf p.client t) w) m;
+      greets = λ new. ap (λ b. cluster_in (if b then None else Some (identity p.client.node_id p.client.cluster))) new;
+    }
+wished_is Sotw has p up t (Edits subscribe unsubscribe) q is = absurd cc
+wished_is Delta has p up t (Names names) q is = absurd cc
+wished_is Delta has p up t (Edits subscribe unsubscribe) q is =
+    let s : Wants = wants_of subscribe in
+    let u : Wants = wants_of unsubscribe in
+    let w : Wants = wants_after s u (shelf p.client t).wants in
+    let m : DeltaRequest = delta_request t (node p.client.greeted p.client) s u finmap.empty in
+    let made = changed_ok streams.Delta (delta_change up t s u p.client) q is in
+    let once = changed_once (up && p.client.broken) (delta_changed up t s u p.client) made.0 made.1 in
+    record {
+      wants = w;
+      message = streams.Delta m;
+      left = ap (λ y. y.0) made.2 ∙ ap (λ y. y.0) once;
+      sent = ap (λ y. y.1) made.2 ∙ ap (λ y. option_map streams.Delta y.1) once ∙ tagged_if streams.Delta (is_sent up (shelf p.client t) w) m;
+      greets = λ new. ap (λ b. cluster_in (if b then None else Some (identity p.client.node_id p.client.cluster))) new;
+    }
+wished_is Rest has p up t wish q is = absurd cc
+
+-- a client that polls sends nothing
+pub rest_wished : (p : Peer) (up : Bool) (t : TypeName) (wish : Wish) (q : Client × Option Message) → wish_of Rest p up t wish ≡ Some q → (w : Wants) × (q ≡ (rest_changed t w p.client, None))
+rest_wished p up t (Names names) q is = (wants_of names, sym (some_is (rest_changed t (wants_of names) p.client, None) q is))
+rest_wished p up t (Edits subscribe unsubscribe) q is = absurd (never q is)
+
+-- whatever a client is told to want, it stays of its cluster, and of use
+pub wished_stays : (k : ClientKind) (p : Peer) (up : Bool) (t : TypeName) (wish : Wish) (q : Client × Option Message) → wish_of k p up t wish ≡ Some q → (q.0.cluster ≡ p.client.cluster) × (q.0.broken ≡ p.client.broken)
+wished_stays Sotw p up t wish q is = let left = (wished_is Sotw refl p up t wish q is).left in (ap (λ (c : Client). c.cluster) left, ap (λ (c : Client). c.broken) left)
+wished_stays Delta p up t wish q is = let left = (wished_is Delta refl p up t wish q is).left in (ap (λ (c : Client). c.cluster) left, ap (λ (c : Client). c.broken) left)
+wished_stays Rest p up t wish q is = let made = rest_wished p up t wish q is in (ap (λ (y : Client × Option Message). y.0.cluster) made.1, ap (λ (y : Client × Option Message). y.0.broken) made.1)
+
+module _ (all : List TypedWrite) where
+  changed_as : (k : ClientKind) (p : Peer) (l : Link) (x : Stream) (t : TypeName) (wish : Wish) (q : Client × Option Message) → wish_of k p true t wish ≡ Some q → LinkedAs k all p.client l x → LinkedAs k all q.0 (with_request q.1 l) x
+  changed_as Rest p l x t wish q is linked = absurd linked
+  changed_as Sotw p l x t (Edits subscribe unsubscribe) q is linked = absurd cc
+  changed_as Delta p l x t (Names names) q is linked = absurd cc
+  changed_as Sotw p l x t (Names names) q is linked =
+      let made = wished_is Sotw refl p true t (Names names) q is in
+      subst (λ y. sotws.Linked all q.0 y x) (sym (sent_on l (is_sent true (shelf p.client t) made.wants) made.message) ∙ ap (λ o. with_request o l) (sym made.sent))
+      (subst (λ y. sotws.Linked all y (record l { up = l.up ++ (if is_sent true (shelf p.client t) made.wants then made.message ∷ [] else []) }) x) (sym made.left) (sotws.linked_changed all p.client l x t made.wants linked))
+  changed_as Delta p l x t (Edits subscribe unsubscribe) q is linked =
+      let made = wished_is Delta refl p true t (Edits subscribe unsubscribe) q is in
+      subst (λ y. queues.Linked all q.0 y x) (sym (sent_on l (is_sent true (shelf p.client t) made.wants) made.message) ∙ ap (λ o. with_request o l) (sym made.sent))
+      (subst (λ y. queues.Linked all y (record l { up = l.up ++ (if is_sent true (shelf p.client t) made.wants then made.message ∷ [] else []) }) x) (sym made.left)
+      (takes.linked_changed all p.client l x t (wants_of subscribe) (wants_of unsubscribe) linked))
+
+  changed_on : (k : ClientKind) → has_streams k ≡ true → (p : Peer) (l : Link) (x : Stream) (t : TypeName) (wish : Wish) (q : Client × Option Message) → wish_of k p true t wish ≡ Some q → LinkedTo k all p.client l x → LinkedTo k all q.0 (with_request q.1 l) x
+  changed_on k has p l x t wish q is linked =
+      let made = wished_is k has p true t wish q is in
+      let sent : Bool = is_sent true (shelf p.client t) made.wants in
+      let same : q.0.cluster ≡ p.client.cluster = ap (λ (c : Client). c.cluster) made.left in (
+        λ none. subst (λ (m : Link). IsGreeting q.0 m.up) (sym (sent_on l sent made.message) ∙ ap (λ o. with_request o l) (sym made.sent))
+            (greeting_more p.client q.0 l.up sent made.message same (λ unsent. ap (λ (c : Client). c.greeted) made.left ∙ ap (λ b. if b then true else p.client.greeted) unsent) made.greets (linked.0 none)),
+        subst (λ cluster. LinkedAs k all q.0 (with_request q.1 l) (started cluster x)) (sym same) (changed_as k p l (started p.client.cluster x) t wish q is linked.1),
+      )
+
+  -- the client wants something else of a type
+  pub changed_to : (k : ClientKind) (p : Peer) (l : Link) (x : Stream) (t : TypeName) (wish : Wish) (q : Client × Option Message) → wish_of k p true t wish ≡ Some q → LinkedTo k all p.client l x → LinkedTo k all q.0 (with_request q.1 l) x
+  changed_to Sotw p l x t wish q is linked = changed_on Sotw refl p l x t wish q is linked
+  changed_to Delta p l x t wish q is linked = changed_on Delta refl p l x t wish q is linked
+  changed_to Rest p l x t wish q is linked = absurd linked.1
+
+  pub rests_as : (k : ClientKind) (p : Peer) (t : TypeName) (wish : Wish) (q : Client × Option Message) → wish_of k p false t wish ≡ Some q → ((u : TypeName) → RestsAs k all u (shelf p.client u)) → (u : TypeName) → RestsAs k all u (shelf q.0 u)
+  rests_as Sotw p t wish q is rests u = let made = wished_is Sotw refl p false t wish q is in subst (λ y. sotws.Rests u (shelf y u)) (sym made.left) (sotws.rests_changed p.client t made.wants rests u)
+  rests_as Delta p t wish q is rests u = let made = wished_is Delta refl p false t wish q is in subst (λ y. takes.Rests all u (shelf y u)) (sym made.left) (takes.rests_changed all p.client t made.wants rests u)
+  rests_as Rest p t wish q is rests u = let made = rest_wished p false t wish q is in subst (λ (y : Client × Option Message). sotws.Rests u (shelf y.0 u)) (sym made.1) (rests_forgotten p.client t made.0 rests u)

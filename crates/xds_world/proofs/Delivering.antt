@@ -1,0 +1,211 @@
+-- What a response of the incremental variant says of each name: what its offer says.
+use Rattle.std.proofs.Common.{◌≡◌, ℕ, List, [], ◌∷◌, map, Bool, true, false, cond, ◌&&◌, ◌||◌, not, Option, Some, None, Ok, refl, sym, ap, ◌∙◌}
+use Rattle.std.specs.Prelude.{bytes_eq, if◌then◌else◌, is_some, option_map, Contains}
+use Rattle.std.specs.Option.{option_or, option_and_then, option_map_or, ForSome}
+use Rattle.std.specs.List.{filter, filter_map, cons_option}
+use Rattle.std.specs.FinMap as finmap
+use Rattle.xds_resource.specs.declared.types.TypeName.{TypeName}
+use Rattle.xds_resource.specs.declared.refusal.Refusal.{Refusal}
+use Rattle.xds_resource.specs.declared.refusal.Refusal.TheVariants.{BadResource, BadName}
+use Rattle.xds_resource.specs.Refusals.{unless_refused}
+use Rattle.xds_resource.specs.Resources.{NamedBody, IsCanonical, value_of, resource_of, is_resource, is_valid_name, name_or_empty}
+use Rattle.xds_resource.specs.Writes.{StampedWrite, text_cmp, version_of}
+use Rattle.xds_resource.proofs.NameMaps.{has_text, get-insert, get-tabulate, has_text-keys, bytes_eq_tells, bytes_eq_swap}
+use Rattle.xds_resource.proofs.MadeMaps.{EachFound, each_found}
+use Rattle.xds_interest.specs.Interests.{Selection, reaches, covers}
+use Rattle.xds_interest.proofs.Reaching.{covered_is_reached}
+use Rattle.xds_catalogue.specs.Holdings.{Holdings, Entries}
+use Rattle.xds_message.specs.Drafts.{DraftedResource, drafted_resource}
+use Rattle.xds_ledger.specs.declared.variant.VariantName.TheVariants.{Delta}
+use Rattle.xds_ledger.specs.declared.entry.Due.{Due}
+use Rattle.xds_ledger.specs.declared.entry.Due.TheVariants.{Stated, Removed}
+use Rattle.xds_ledger.specs.Variants.{is_told}
+use Rattle.xds_ledger.specs.Owed.{Beliefs, live_version, version_shown, present, owed_of}
+use Rattle.xds_ledger.specs.Offers.{Offer, offer}
+use Rattle.xds_ledger.proofs.ByName.{offer_says_it}
+use Rattle.xds_delta.specs.Polls.{is_statement, is_removal, names_where, resource_of as drafted_of, resource_at, response}
+use Rattle.xds_delta.proofs.Stating.{present_if_stated, kept_at}
+use Rattle.xds_cache.specs.Shelves.{Holding, Cache, marked}
+use Rattle.xds_cache.specs.Faults.{Stated as StatedResource, stated_by, and_stated}
+use Rattle.xds_cache.specs.Deliveries.{delta_stated}
+use Rattle.xds_world.specs.Knows.{TypedWrite}
+use Rattle.xds_world.specs.Claims.{holding_of, shown_of}
+use Rattle.xds_world.proofs.Replicas.{some_is, ok_is, if_both}
+use Rattle.xds_world.proofs.ByOneName.{Says}
+use Rattle.xds_world.proofs.Lanes.{IsMade, stated_in, is_removed_in}
+
+-- ---- what a catalogue holds
+
+-- what is known of the write under a name: it has that name, it was made, and what it puts is a resource
+pub record IsKnown (all : List TypedWrite) (t : TypeName) (name : List ℕ) (w : StampedWrite) : Type 0 where
+  pub named : w.name ≡ name
+  pub made : Contains all (t, w)
+  pub canonical : ForSome w.body (λ b. IsCanonical t (record { name = w.name; body = b }))
+
+abbrev pub AllKnown : List TypedWrite → TypeName → Entries → Type 0
+AllKnown all t m = (name : List ℕ) (w : StampedWrite) → finmap.get m name ≡ Some w → IsKnown all t name w
+
+-- what is live under a name
+abbrev pub live : Entries → List ℕ → Option Holding
+live m name = option_and_then holding_of (finmap.get m name)
+
+-- what of that an interest covers
+abbrev pub shown_in : Selection → Entries → List ℕ → Option Holding
+shown_in s m name = option_and_then (shown_of s name) (finmap.get m name)
+
+-- ---- a canonical body is the resource that it was
+
+unrefused : (b c : Bool) (e f : Refusal) (x y : NamedBody) → unless_refused ((b, e) ∷ (c, f) ∷ []) x ≡ Ok y → x ≡ y
+unrefused true c e f x y is = absurd cc
+unrefused false true e f x y is = absurd cc
+unrefused false false e f x y is = ok_is x y is
+
+pub canonical_is : (t : TypeName) (r : NamedBody) → IsCanonical t r → resource_of t (value_of r.body) ≡ r
+canonical_is t r is =
+    unrefused (not (is_resource t (value_of r.body))) (not (is_valid_name (name_or_empty t (value_of r.body)))) BadResource BadName (resource_of t (value_of r.body)) r is.object
+
+-- ---- the resources that are stated
+
+abbrev pub listed : Entries → List (List ℕ) → List StatedResource
+listed m ns = map delta_stated (map drafted_resource (filter_map (resource_at m) ns))
+
+abbrev pub with_first : Option DraftedResource → Entries → List (List ℕ) → List StatedResource
+with_first r m ns = map delta_stated (map drafted_resource (cons_option r (filter_map (resource_at m) ns)))
+
+-- what the names behind state, over what was stated before
+abbrev StatesBehind : TypeName → Entries → List (List ℕ) → List ℕ → Type 0
+StatesBehind t m ns q = (before : Cache) → finmap.get (stated_by t before (listed m ns)) q ≡ option_or (cond (has_text ns q) (live m q) None) (finmap.get before q)
+
+skipped : (same has : Bool) (l old : Option Holding) → (same ≡ true → l ≡ None) → option_or (cond has l None) old ≡ option_or (cond (same || has) l None) old
+skipped true true l old is = refl
+skipped true false l old is = ap (λ o. option_or o old) (sym (is refl))
+skipped false has l old is = refl
+
+put_on : (same has : Bool) (l old : Option Holding) (h : Holding) → (same ≡ true → l ≡ Some h) → option_or (cond has l None) (cond same (Some h) old) ≡ option_or (cond (same || has) l None) old
+put_on true true l old h is = ap (λ o. option_or o (Some h)) (is refl) ∙ ap (λ o. option_or o old) (sym (is refl))
+put_on true false l old h is = ap (λ o. option_or o old) (sym (is refl))
+put_on false has l old h is = refl
+
+stated_body : (all : List TypedWrite) (t : TypeName) (m : Entries) (n q : List ℕ) (ns : List (List ℕ)) (w : StampedWrite) (before : Cache) (b : Option (List ℕ)) → w.body ≡ b → finmap.get m n ≡ Some w → IsKnown all t n w → StatesBehind t m ns q
+    → finmap.get (stated_by t before (with_first (option_map (λ body. record { name = w.name; version = version_of w; body = body }) b) m ns)) q ≡ option_or (cond (bytes_eq q n || has_text ns q) (live m q) None) (finmap.get before q)
+stated_body all t m n q ns w before None is has known behind =
+    behind before ∙ skipped (bytes_eq q n) (has_text ns q) (live m q) (finmap.get before q)
+    (λ same. ap (live m) (bytes_eq_tells q n same) ∙ ap (option_and_then holding_of) has ∙ ap (option_map (λ body. record { version = version_of w; body = body })) is)
+stated_body all t m n q ns w before (Some body) is has known behind =
+    let h : Holding = record { version = version_of w; body = body } in
+    let r : StatedResource = record { named = Some w.name; version = version_of w; resource = value_of body } in
+    let same : resource_of t (value_of body) ≡ record { name = w.name; body = body } = canonical_is t (record { name = w.name; body = body }) (known.canonical body is) in
+    let stated : finmap.get (and_stated t before r) q ≡ cond (bytes_eq q n) (Some h) (finmap.get before q) =
+    ap (λ (x : NamedBody). finmap.get (finmap.insert before x.name (record { version = version_of w; body = x.body })) q) same ∙ get-insert before w.name h q
+    ∙ ap (λ b. cond b (Some h) (finmap.get before q)) (ap (λ x. bytes_eq x q) known.named ∙ bytes_eq_swap n q) in
+    behind (and_stated t before r) ∙ ap (option_or (cond (has_text ns q) (live m q) None)) stated
+    ∙ put_on (bytes_eq q n) (has_text ns q) (live m q) (finmap.get before q) h
+    (λ equal. ap (live m) (bytes_eq_tells q n equal) ∙ ap (option_and_then holding_of) has ∙ ap (option_map (λ x. record { version = version_of w; body = x })) is)
+
+stated_name : (all : List TypedWrite) (t : TypeName) (m : Entries) (n q : List ℕ) (ns : List (List ℕ)) (before : Cache) (o : Option StampedWrite) → finmap.get m n ≡ o → AllKnown all t m → StatesBehind t m ns q
+    → finmap.get (stated_by t before (with_first (option_and_then drafted_of o) m ns)) q ≡ option_or (cond (bytes_eq q n || has_text ns q) (live m q) None) (finmap.get before q)
+stated_name all t m n q ns before None has known behind =
+    behind before ∙ skipped (bytes_eq q n) (has_text ns q) (live m q) (finmap.get before q) (λ same. ap (live m) (bytes_eq_tells q n same) ∙ ap (option_and_then holding_of) has)
+stated_name all t m n q ns before (Some w) has known behind = stated_body all t m n q ns w before w.body refl has (known n w has) behind
+
+stated_names : (all : List TypedWrite) (t : TypeName) (m : Entries) (ns : List (List ℕ)) (q : List ℕ) → AllKnown all t m → StatesBehind t m ns q
+stated_names all t m [] q known before = refl
+stated_names all t m (n ∷ ns) q known before =
+    ap (λ o. finmap.get (stated_by t before (with_first (option_and_then drafted_of o) m ns)) q) refl ∙ stated_name all t m n q ns before (finmap.get m n) refl known (stated_names all t m ns q known)
+
+-- ---- the names of which an offer says something
+
+picked : (b same has says x : Bool) → x ≡ (has && says) → (same ≡ true → says ≡ b) → cond b (same || x) x ≡ ((same || has) && says)
+picked true true has says x is at = sym (at refl)
+picked true false has says x is at = is
+picked false true true says x is at = is
+picked false true false says x is at = is ∙ sym (at refl)
+picked false false has says x is at = is
+
+kept_name : (b : Bool) (e : List ℕ × Due) (es : List (List ℕ × Due)) (q : List ℕ) → has_text (map (λ x. x.0) (if b then e ∷ es else es)) q ≡ cond b (bytes_eq q e.0 || has_text (map (λ x. x.0) es) q) (has_text (map (λ x. x.0) es) q)
+kept_name true e es q = refl
+kept_name false e es q = refl
+
+found_where : (says : Due → Bool) (o : Offer) (es : List (List ℕ × Due)) (q : List ℕ) → EachFound o es
+    → has_text (map (λ e. e.0) (filter (λ e. says e.1) es)) q ≡ (has_text (map (λ e. e.0) es) q && option_map_or says (finmap.get o q) false)
+found_where says o [] q found = refl
+found_where says o (e ∷ es) q found =
+    kept_name (says e.1) e (filter (λ x. says x.1) es) q
+    ∙ picked (says e.1) (bytes_eq q e.0) (has_text (map (λ x. x.0) es) q) (option_map_or says (finmap.get o q) false) (has_text (map (λ x. x.0) (filter (λ x. says x.1) es)) q) (found_where says o es q found.1)
+    (λ same. ap (λ x. option_map_or says (finmap.get o x) false) (bytes_eq_tells q e.0 same) ∙ ap (λ x. option_map_or says x false) found.0)
+
+only_there : (says : Due → Bool) (x : Option Due) → (is_some x && option_map_or says x false) ≡ option_map_or says x false
+only_there says None = refl
+only_there says (Some d) = refl
+
+names_there : (says : Due → Bool) (o : Offer) (q : List ℕ) → has_text (names_where says o) q ≡ option_map_or says (finmap.get o q) false
+names_there says o q = found_where says o (finmap.entries o) q (each_found o) ∙ ap (λ b. b && option_map_or says (finmap.get o q) false) (has_text-keys o q) ∙ only_there says (finmap.get o q)
+
+-- ---- the response
+
+stated_there : (all : List TypedWrite) (replica : ℕ) (t : TypeName) (h : Holdings) (o : Offer) (number : ℕ) (q : List ℕ) → AllKnown all t h.entries
+    → finmap.get (stated_in t (response replica t h o number)) q ≡ option_or (cond (option_map_or is_statement (finmap.get o q) false) (live h.entries q) None) None
+stated_there all replica t h o number q known =
+    stated_names all t h.entries (names_where is_statement o) q known finmap.empty ∙ (λ i. option_or (cond (names_there is_statement o q i) (live h.entries q) None) (finmap.get-empty text_cmp q i))
+
+marked_there : (b : Bool) → is_some (cond {A = Option (Unit {0})} b (Some tt) None) ≡ b
+marked_there true = refl
+marked_there false = refl
+
+removed_there : (replica : ℕ) (t : TypeName) (h : Holdings) (o : Offer) (number : ℕ) (q : List ℕ) → is_removed_in (response replica t h o number) q ≡ option_map_or is_removal (finmap.get o q) false
+removed_there replica t h o number q = ap is_some (get-tabulate marked (names_where is_removal o) q) ∙ marked_there (has_text (names_where is_removal o) q) ∙ names_there is_removal o q
+
+-- ---- what is offered is present
+
+present_at : (s : Selection) (m : Entries) (b : Beliefs) (t : TypeName) (q version : List ℕ) → finmap.get (offer Delta t s m b) q ≡ Some (Stated version) → present s m q ≡ Some version
+present_at s m b t q version is =
+    present_if_stated (finmap.get b q) (present s m q) version (kept_at (option_map_or (is_told Delta t) (owed_of s m b q) false) (owed_of s m b q) version (sym (offer_says_it Delta t s m b q) ∙ is))
+
+live_body : (w : StampedWrite) (version : List ℕ) (b : Option (List ℕ)) → (if is_some b then Some (version_of w) else None) ≡ Some version
+    → (h : Holding) × (option_map (λ body. record { version = version_of w; body = body }) b ≡ Some h) × (h.version ≡ version)
+live_body w version None is = absurd cc
+live_body w version (Some body) is = (record { version = version_of w; body = body }, refl, some_is (version_of w) version is)
+
+-- what is present is reached, and live at that version
+pub live_at : (s : Selection) (q : List ℕ) (o : Option StampedWrite) (version : List ℕ) → option_and_then (version_shown s q) o ≡ Some version
+    → (reaches s q ≡ true) × (h : Holding) × (option_and_then holding_of o ≡ Some h) × (h.version ≡ version)
+live_at s q None version is = absurd cc
+live_at s q (Some w) version is =
+    let shown = if_both (covers s q w.groups) (live_version w) version is in
+    let body = live_body w version w.body shown.1 in (covered_is_reached s q w.groups shown.0, body.0, body.1, body.2)
+
+-- ---- what a response says
+
+says_by : (s : Selection) (m : Entries) (b : Beliefs) (t : TypeName) (q : List ℕ) (x : Option Due) (removed : Bool) (stated : Option Holding) → finmap.get (offer Delta t s m b) q ≡ x → removed ≡ option_map_or is_removal x false
+    → stated ≡ option_or (cond (option_map_or is_statement x false) (live m q) None) None → Says x removed stated
+says_by s m b t q None removed stated is gone states = (states, gone)
+says_by s m b t q (Some (Stated version)) removed stated is gone states =
+    let at = live_at s q (finmap.get m q) version (present_at s m b t q version is) in
+    (at.1, states ∙ ap (λ o. option_or o None) at.2, at.3)
+says_by s m b t q (Some Removed) removed stated is gone states = (states, gone)
+
+pub response_says : (all : List TypedWrite) (replica : ℕ) (t : TypeName) (h : Holdings) (s : Selection) (b : Beliefs) (number : ℕ) (q : List ℕ) → AllKnown all t h.entries
+    → let o : Offer = offer Delta t s h.entries b in Says (finmap.get o q) (is_removed_in (response replica t h o number) q) (finmap.get (stated_in t (response replica t h o number)) q)
+response_says all replica t h s b number q known =
+    let o : Offer = offer Delta t s h.entries b in
+    says_by s h.entries b t q (finmap.get o q) (is_removed_in (response replica t h o number) q) (finmap.get (stated_in t (response replica t h o number)) q) refl (removed_there replica t h o number q)
+    (stated_there all replica t h o number q known)
+
+only_live : (b : Bool) (l : Option Holding) (h : Holding) → option_or (cond b l None) None ≡ Some h → l ≡ Some h
+only_live true None h is = absurd cc
+only_live true (Some x) h is = is
+only_live false l h is = absurd cc
+
+-- what is live was made
+pub live_made : (all : List TypedWrite) (t : TypeName) (m : Entries) (q : List ℕ) (h : Holding) (o : Option StampedWrite) → finmap.get m q ≡ o → AllKnown all t m → option_and_then holding_of o ≡ Some h → IsMade all t q h
+live_made all t m q h None has known is = absurd cc
+live_made all t m q h (Some w) has known is = let of = known q w has in (w, of.made, of.named, is)
+
+pub response_made : (all : List TypedWrite) (replica : ℕ) (t : TypeName) (h : Holdings) (o : Offer) (number : ℕ) (q : List ℕ) (x : Holding) → AllKnown all t h.entries
+    → finmap.get (stated_in t (response replica t h o number)) q ≡ Some x → IsMade all t q x
+response_made all replica t h o number q x known is =
+    live_made all t h.entries q x (finmap.get h.entries q) refl known (only_live (option_map_or is_statement (finmap.get o q) false) (live h.entries q) x (sym (stated_there all replica t h o number q known) ∙ is))
+
+-- what is stated is reached
+pub stated_is_reached : (s : Selection) (m : Entries) (b : Beliefs) (t : TypeName) (q version : List ℕ) → finmap.get (offer Delta t s m b) q ≡ Some (Stated version) → reaches s q ≡ true
+stated_is_reached s m b t q version is = (live_at s q (finmap.get m q) version (present_at s m b t q version is)).0

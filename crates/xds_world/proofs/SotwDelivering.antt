@@ -1,0 +1,213 @@
+-- What a response of the state of the world says of each name: what its offer says.
+use Rattle.std.proofs.Common.{◌≡◌, ℕ, List, [], ◌∷◌, map, Bool, true, false, cond, ◌&&◌, ◌||◌, Option, Some, None, refl, sym, ap, ◌∙◌}
+use Rattle.std.specs.Prelude.{bytes_eq, if◌then◌else◌, is_some, option_map}
+use Rattle.std.specs.Option.{option_or, option_and_then, option_map_or}
+use Rattle.std.specs.List.{filter, filter_map, cons_option}
+use Rattle.std.specs.FinMap as finmap
+use Rattle.xds_resource.specs.declared.types.TypeName.{TypeName}
+use Rattle.xds_resource.specs.Types.{row}
+use Rattle.xds_resource.specs.Resources.{NamedBody, value_of, resource_of}
+use Rattle.xds_resource.specs.Writes.{StampedWrite, text_cmp, version_of}
+use Rattle.xds_resource.proofs.NameMaps.{has_text, get-insert, has_text-keys, bytes_eq_tells, bytes_eq_swap}
+use Rattle.xds_resource.proofs.MadeMaps.{EachFound, each_found}
+use Rattle.xds_interest.specs.Interests.{Selection, reaches, covers}
+use Rattle.xds_catalogue.specs.Holdings.{Holdings, Entries}
+use Rattle.xds_catalogue.specs.Content.{is_shown, content}
+use Rattle.xds_ledger.specs.declared.variant.VariantName.TheVariants.{StateOfTheWorld}
+use Rattle.xds_ledger.specs.declared.entry.Entry.{Entry}
+use Rattle.xds_ledger.specs.declared.entry.Due.{Due}
+use Rattle.xds_ledger.specs.declared.entry.Due.TheVariants.{Stated, Removed}
+use Rattle.xds_ledger.specs.Variants.{is_told}
+use Rattle.xds_ledger.specs.Owed.{Beliefs, live_version, version_shown, present, owed}
+use Rattle.xds_ledger.specs.Offers.{Offer, offer, stated_version}
+use Rattle.xds_ledger.proofs.ByName.{offer_says_it}
+use Rattle.xds_sotw.specs.Polls.{response, stated_writes}
+use Rattle.xds_cache.specs.Shelves.{Holding, Cache}
+use Rattle.xds_cache.specs.Faults.{Stated as StatedResource, stated_by, and_stated}
+use Rattle.xds_cache.specs.Deliveries.{sotw_stated}
+use Rattle.xds_world.specs.Knows.{TypedWrite}
+use Rattle.xds_world.proofs.Replicas.{some_is, if_both}
+use Rattle.xds_delta.proofs.Stating.{present_if_stated}
+use Rattle.xds_world.proofs.Delivering.{IsKnown, AllKnown, canonical_is, live_at}
+use Rattle.xds_world.proofs.SotwLanes.{IsHeld, Says, stated_in}
+
+-- ---- what is stated of a list of writes
+
+abbrev pub listed : List StampedWrite → List StatedResource
+listed ws = map sotw_stated (map value_of (filter_map (λ w. w.body) ws))
+
+-- one write more in front, if it is picked
+abbrev next : Bool → Option (List ℕ) → List StatedResource → List StatedResource
+next picked None rest = rest
+next picked (Some body) rest = if picked then sotw_stated (value_of body) ∷ rest else rest
+
+listed_body : (b : Option (List ℕ)) (ws : List StampedWrite) → map sotw_stated (map value_of (cons_option b (filter_map (λ w. w.body) ws))) ≡ next true b (listed ws)
+listed_body None ws = refl
+listed_body (Some body) ws = refl
+
+not_picked : (b : Option (List ℕ)) (rest : List StatedResource) → rest ≡ next false b rest
+not_picked None rest = refl
+not_picked (Some body) rest = refl
+
+picked_next : (p : StampedWrite → Bool) (w : StampedWrite) (ws : List StampedWrite) (shown offered : Bool) → p w ≡ offered → listed (filter p (if shown then w ∷ ws else ws)) ≡ next (shown && offered) w.body (listed (filter p ws))
+picked_next p w ws false offered is = not_picked w.body (listed (filter p ws))
+picked_next p w ws true true is = ap (λ b. listed (if b then w ∷ filter p ws else filter p ws)) is ∙ listed_body w.body (filter p ws)
+picked_next p w ws true false is = ap (λ b. listed (if b then w ∷ filter p ws else filter p ws)) is ∙ not_picked w.body (listed (filter p ws))
+
+-- ---- name by name
+
+-- what is held of a write that is picked
+abbrev pub held_of : Bool → Option (List ℕ) → Option Holding
+held_of picked b = if picked then option_map (λ body. record { version = []; body = body }) b else None
+
+-- of the writes that are shown, those that p picks
+module _ (all : List TypedWrite) (t : TypeName) (m : Entries) (s : Selection) (p : StampedWrite → Bool) (known : AllKnown all t m) where
+  abbrev picks : StampedWrite → Bool
+  picks w = is_shown s w && p w
+
+  -- what is stated of a name
+  abbrev told_of : List ℕ → Option Holding
+  told_of q = option_and_then (λ w. held_of (picks w) w.body) (finmap.get m q)
+
+  abbrev behind : List (List ℕ × StampedWrite) → List StatedResource
+  behind es = listed (filter p (filter (is_shown s) (map (λ e. e.1) es)))
+
+  skipped : (same has : Bool) (l old : Option Holding) → (same ≡ true → l ≡ None) → option_or (cond has l None) old ≡ option_or (cond (same || has) l None) old
+  skipped true true l old is = refl
+  skipped true false l old is = ap (λ x. option_or x old) (sym (is refl))
+  skipped false has l old is = refl
+
+  put_on : (same has : Bool) (l old : Option Holding) (h : Holding) → (same ≡ true → l ≡ Some h) → option_or (cond has l None) (cond same (Some h) old) ≡ option_or (cond (same || has) l None) old
+  put_on true true l old h is = ap (λ x. option_or x (Some h)) (is refl) ∙ ap (λ x. option_or x old) (sym (is refl))
+  put_on true false l old h is = ap (λ x. option_or x old) (sym (is refl))
+  put_on false has l old h is = refl
+
+  abbrev StatesBehind : List (List ℕ × StampedWrite) → List ℕ → Type 0
+  StatesBehind es q = (before : Cache) → finmap.get (stated_by t before (behind es)) q ≡ option_or (cond (has_text (map (λ e. e.0) es) q) (told_of q) None) (finmap.get before q)
+
+  states_next : (n q : List ℕ) (w : StampedWrite) (es : List (List ℕ × StampedWrite)) (picked : Bool) (b : Option (List ℕ)) → picks w ≡ picked → w.body ≡ b → finmap.get m n ≡ Some w → StatesBehind es q → (before : Cache)
+      → finmap.get (stated_by t before (next picked b (behind es))) q ≡ option_or (cond (bytes_eq q n || has_text (map (λ e. e.0) es) q) (told_of q) None) (finmap.get before q)
+  states_next n q w es picked None picks_it body found rest before =
+      rest before ∙ skipped (bytes_eq q n) (has_text (map (λ e. e.0) es) q) (told_of q) (finmap.get before q)
+      (λ same. ap told_of (bytes_eq_tells q n same) ∙ ap (option_and_then (λ (x : StampedWrite). held_of (picks x) x.body)) found ∙ ap (held_of (picks w)) body ∙ nothing (picks w))
+    where
+      nothing : (c : Bool) → held_of c None ≡ None
+      nothing true = refl
+      nothing false = refl
+  states_next n q w es false (Some x) picks_it body found rest before =
+      rest before ∙ skipped (bytes_eq q n) (has_text (map (λ e. e.0) es) q) (told_of q) (finmap.get before q)
+      (λ same. ap told_of (bytes_eq_tells q n same) ∙ ap (option_and_then (λ (y : StampedWrite). held_of (picks y) y.body)) found ∙ ap (λ c. held_of c w.body) picks_it)
+  states_next n q w es true (Some x) picks_it body found rest before =
+      let h : Holding = record { version = []; body = x } in
+      let r : StatedResource = sotw_stated (value_of x) in
+      let of = known n w found in
+      let same : resource_of t (value_of x) ≡ record { name = w.name; body = x } = canonical_is t (record { name = w.name; body = x }) (of.canonical x body) in
+      let stated : finmap.get (and_stated t before r) q ≡ cond (bytes_eq q n) (Some h) (finmap.get before q) =
+      ap (λ (y : NamedBody). finmap.get (finmap.insert before y.name (record { version = []; body = y.body })) q) same ∙ get-insert before w.name h q
+      ∙ ap (λ c. cond c (Some h) (finmap.get before q)) (ap (λ y. bytes_eq y q) of.named ∙ bytes_eq_swap n q) in
+      rest (and_stated t before r) ∙ ap (option_or (cond (has_text (map (λ e. e.0) es) q) (told_of q) None)) stated
+      ∙ put_on (bytes_eq q n) (has_text (map (λ e. e.0) es) q) (told_of q) (finmap.get before q) h
+      (λ equal. ap told_of (bytes_eq_tells q n equal) ∙ ap (option_and_then (λ (y : StampedWrite). held_of (picks y) y.body)) found ∙ ap (λ c. held_of c w.body) picks_it ∙ ap (held_of true) body)
+
+  states_all : (es : List (List ℕ × StampedWrite)) (q : List ℕ) → EachFound m es → StatesBehind es q
+  states_all [] q found before = refl
+  states_all (e ∷ es) q found before =
+      ap (λ l. finmap.get (stated_by t before l) q) (picked_next p e.1 (filter (is_shown s) (map (λ x. x.1) es)) (is_shown s e.1) (p e.1) refl)
+      ∙ states_next e.0 q e.1 es (picks e.1) e.1.body refl refl found.0 (states_all es q found.1) before
+
+  -- what is stated of a name where these are stated
+  pub picked_is : (q : List ℕ) → finmap.get (stated_by t finmap.empty (listed (filter p (content m s)))) q ≡ option_or (cond (is_some (finmap.get m q)) (told_of q) None) None
+  picked_is q = states_all (finmap.entries m) q (each_found m) finmap.empty ∙ (λ i. option_or (cond (has_text-keys m q i) (told_of q) None) (finmap.get-empty text_cmp q i))
+
+module _ (all : List TypedWrite) (t : TypeName) (m : Entries) (s : Selection) (o : Offer) (known : AllKnown all t m) where
+  abbrev offers : StampedWrite → Bool
+  offers w = is_shown s w && is_some (finmap.get o w.name)
+
+  -- what the response states of a name
+  pub stated_is : (replica number : ℕ) (h : Holdings) (q : List ℕ) → h.entries ≡ m → finmap.get (stated_in t (response replica t h s o number)) q ≡ option_or (cond (is_some (finmap.get m q)) (option_and_then (λ w. held_of (offers w) w.body) (finmap.get m q)) None) None
+  stated_is replica number h q same = ap (λ e. finmap.get (stated_by t finmap.empty (listed (stated_writes e s o))) q) same ∙ picked_is all t m s (λ w. is_some (finmap.get o w.name)) known q
+
+  -- a write that is offered
+  says_stated : (q version : List ℕ) (stated : Option Holding) (x : Option StampedWrite) → finmap.get m q ≡ x → stated ≡ option_or (cond (is_some x) (option_and_then (λ w. held_of (offers w) w.body) x) None) None
+      → option_and_then (version_shown s q) x ≡ Some version → is_some (finmap.get o q) ≡ true → IsHeld all t q version stated
+  says_stated q version stated None found states is offered = absurd cc
+  says_stated q version stated (Some w) found states is offered = by_body w.body refl
+    where
+      of : IsKnown all t q w
+      of = known q w found
+
+      shown : (covers s q w.groups ≡ true) × (live_version w ≡ Some version)
+      shown = if_both (covers s q w.groups) (live_version w) version is
+
+      by_body : (b : Option (List ℕ)) → w.body ≡ b → IsHeld all t q version stated
+      by_body None body = let never : None ≡ Some version = sym (ap (λ b. if is_some b then Some (version_of w) else None) body) ∙ shown.1 in absurd cc
+      by_body (Some x) body = (
+        w,
+        record { version = []; body = x },
+        of.made,
+        of.named,
+        some_is (version_of w) version (sym (ap (λ b. if is_some b then Some (version_of w) else None) body) ∙ shown.1),
+        body,
+        states
+            ∙ (λ i. option_or (held_of ((is_some (body i) && (ap (λ n. covers s n w.groups) of.named ∙ shown.0) i) && (ap (λ n. is_some (finmap.get o n)) of.named ∙ offered) i) (body i)) None),
+      )
+
+  -- and one that isn't
+  says_nothing : (q : List ℕ) (stated : Option Holding) (x : Option StampedWrite) → finmap.get m q ≡ x → stated ≡ option_or (cond (is_some x) (option_and_then (λ w. held_of (offers w) w.body) x) None) None → is_some (finmap.get o q) ≡ false → stated ≡ None
+  says_nothing q stated None found states offered = states
+  says_nothing q stated (Some w) found states offered =
+      states ∙ ap (λ c. option_or (held_of (is_shown s w && c) w.body) None) (ap (λ n. is_some (finmap.get o n)) (known q w found).named ∙ offered) ∙ not_shown (is_shown s w)
+    where
+      not_shown : (c : Bool) → option_or (held_of (c && false) w.body) None ≡ None
+      not_shown true = refl
+      not_shown false = refl
+
+-- ---- what is offered
+
+offered_by : (t : TypeName) (complete : Bool) (e : Option Entry) (p : Option (List ℕ)) (tells : Due → Bool) (d : Due) → (complete ≡ false → tells Removed ≡ false) → (if complete then option_map Stated p else if option_map_or tells (owed e p) false then owed e p else None) ≡ Some d
+    → (version : List ℕ) × (d ≡ Stated version) × (p ≡ Some version)
+offered_by t true e None tells d partial is = absurd cc
+offered_by t true e (Some version) tells d partial is = (version, due_is (Stated version) d is, refl)
+  where
+    due_is : (x y : Due) → ◌≡◌ {A = Option Due} (Some x) (Some y) → y ≡ x
+    due_is x y s = cc
+offered_by t false e p tells d partial is = by_owed (owed e p) refl is
+  where
+    due_is : (x y : Due) → ◌≡◌ {A = Option Due} (Some x) (Some y) → y ≡ x
+    due_is x y s = cc
+
+    kept : (b : Bool) (x : Due) → (if b then Some x else None) ≡ Some d → (b ≡ true) × (d ≡ x)
+    kept true x s = (refl, due_is x d s)
+    kept false x s = absurd cc
+
+    by_owed : (x : Option Due) → owed e p ≡ x → (if option_map_or tells x false then x else None) ≡ Some d → (version : List ℕ) × (d ≡ Stated version) × (p ≡ Some version)
+    by_owed None owes s = absurd cc
+    by_owed (Some (Stated version)) owes s = (version, (kept (tells (Stated version)) (Stated version) s).1, present_if_stated e p version (ap (option_and_then stated_version) owes))
+    by_owed (Some Removed) owes s = let never : false ≡ true = sym (partial refl) ∙ (kept (tells Removed) Removed s).0 in absurd cc
+
+pub offered_is : (t : TypeName) (s : Selection) (m : Entries) (b : Beliefs) (q : List ℕ) (d : Due) → finmap.get (offer StateOfTheWorld t s m b) q ≡ Some d → (version : List ℕ) × (d ≡ Stated version) × (present s m q ≡ Some version)
+offered_is t s m b q d is = offered_by t (row t).is_complete (finmap.get b q) (present s m q) (is_told StateOfTheWorld t) d (λ partial. partial) (sym (offer_says_it StateOfTheWorld t s m b q) ∙ is)
+
+-- what is stated is reached
+pub stated_is_reached : (t : TypeName) (s : Selection) (m : Entries) (b : Beliefs) (q version : List ℕ) → finmap.get (offer StateOfTheWorld t s m b) q ≡ Some (Stated version) → reaches s q ≡ true
+stated_is_reached t s m b q version is = let made = offered_is t s m b q (Stated version) is in (live_at s q (finmap.get m q) made.0 made.2).0
+
+stated_same : (u v : List ℕ) → ◌≡◌ {A = Due} (Stated u) (Stated v) → v ≡ u
+stated_same u v e = cc
+
+stated_only : (v : List ℕ) → ◌≡◌ {A = Due} Removed (Stated v) → ⊥
+stated_only v e = cc
+
+says_by : (all : List TypedWrite) (t : TypeName) (h : Holdings) (s : Selection) (b : Beliefs) (known : AllKnown all t h.entries) (q : List ℕ) (stated : Option Holding) (x : Option Due) → finmap.get (offer StateOfTheWorld t s h.entries b) q ≡ x
+    → stated ≡ option_or (cond (is_some (finmap.get h.entries q)) (option_and_then (λ w. held_of (is_shown s w && is_some (finmap.get (offer StateOfTheWorld t s h.entries b) w.name)) w.body) (finmap.get h.entries q)) None) None → Says all t q x stated
+says_by all t h s b known q stated None is states = says_nothing all t h.entries s (offer StateOfTheWorld t s h.entries b) known q stated (finmap.get h.entries q) refl states (ap is_some is)
+says_by all t h s b known q stated (Some (Stated version)) is states =
+    let made = offered_is t s h.entries b q (Stated version) is in
+    says_stated all t h.entries s (offer StateOfTheWorld t s h.entries b) known q version stated (finmap.get h.entries q) refl states (made.2 ∙ ap Some (sym (stated_same made.0 version (sym made.1)))) (ap is_some is)
+says_by all t h s b known q stated (Some Removed) is states = let made = offered_is t s h.entries b q Removed is in absurd (stated_only made.0 made.1)
+
+pub response_says : (all : List TypedWrite) (replica : ℕ) (t : TypeName) (h : Holdings) (s : Selection) (b : Beliefs) (number : ℕ) (q : List ℕ) → AllKnown all t h.entries
+    → let o : Offer = offer StateOfTheWorld t s h.entries b in Says all t q (finmap.get o q) (finmap.get (stated_in t (response replica t h s o number)) q)
+response_says all replica t h s b number q known =
+    let o : Offer = offer StateOfTheWorld t s h.entries b in
+    says_by all t h s b known q (finmap.get (stated_in t (response replica t h s o number)) q) (finmap.get o q) refl (stated_is all t h.entries s o known replica number h q refl)
