@@ -13,7 +13,7 @@ use Rattle.xds_resource.specs.Refusals.{unless_refused}
 use Rattle.xds_resource.specs.Stamps.{max_counter}
 use Rattle.xds_catalogue.specs.Holdings.{Holdings, holdings_code, nothing_held}
 use Rattle.xds_message.specs.Drafts.{Drafted}
-use Rattle.xds_sotw.specs.Rest.{asked_once, unless_present}
+use Rattle.xds_sessions.specs.Rest.{asked_once, unless_present}
 use Rattle.xds_core.specs.Stores.{Store, Batch, merging, putting_at, deleting_at, all_entries, if_done}
 use Rattle.xds_core.specs.Since.{changed_since, marks_of}
 use Rattle.xds_core.specs.Streams.{Stream, stream_code, opening, requested, looked_at, polled_first, owes_some}

@@ -25,8 +25,8 @@ use Rattle.xds_ledger.specs.Offers.{Offer}
 use Rattle.xds_ledger.specs.Variants.{is_delta}
 use Rattle.xds_ledger.specs.Sessions as sessions
 use Rattle.xds_ledger.specs.Sessions.{Session, session_code, unopened}
-use Rattle.xds_sotw.specs.Polls as sotw
-use Rattle.xds_delta.specs.Polls as delta
+use Rattle.xds_sessions.specs.SotwPolls as sotw
+use Rattle.xds_sessions.specs.DeltaPolls as delta
 use Rattle.xds_core.specs.Stores.{Store, if_done}
 
 pub record Stream : Type 0 where

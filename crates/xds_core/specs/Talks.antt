@@ -10,8 +10,8 @@ use Rattle.xds_message.specs.declared.draft.Draft.TheVariants as drafts
 use Rattle.xds_ledger.specs.Offers.{Offer, offer}
 use Rattle.xds_ledger.specs.declared.variant.VariantName.{VariantName}
 use Rattle.xds_ledger.specs.declared.variant.VariantName.TheVariants as variants
-use Rattle.xds_sotw.specs.Polls as sotw
-use Rattle.xds_delta.specs.Polls as delta
+use Rattle.xds_sessions.specs.SotwPolls as sotw
+use Rattle.xds_sessions.specs.DeltaPolls as delta
 use Rattle.xds_ledger.specs.Listed.{Listed, listed_code, unlisted}
 use Rattle.xds_ledger.specs.Lists.{Kept, kept_code, SessionFits}
 use Rattle.xds_ledger.specs.Sessions.{Session, session_code, unopened, send}

@@ -29,7 +29,7 @@ use xds_ledger::Outcome;
 use xds_message::{Batch, Draft, SotwDraft};
 use xds_resource::stamp::MAX_COUNTER;
 use xds_resource::{AnyResource, Groups, Refusal, TypeName};
-use xds_sotw::rested;
+use xds_sessions::rested;
 
 /// One replica: what it holds of each type, and its open streams.
 pub struct Core {

@@ -22,8 +22,8 @@ use xds_message::{DeltaDraft, Draft, SotwDraft};
 use xds_resource::{NameMap, Refusal, ResourceType};
 
 enum Side<T: ResourceType> {
-    Sotw(xds_sotw::Session<T>),
-    Delta(xds_delta::Session<T>),
+    Sotw(xds_sessions::sotw_session::Session<T>),
+    Delta(xds_sessions::delta_session::Session<T>),
 }
 
 // Written out: docs/PROVING.md, "Drops".
@@ -65,8 +65,12 @@ impl<T: ResourceType> Session<T> {
         ensures { result ≡ record { variant = variant; kept = new_kept cluster } }
     {
         let side = match variant {
-            VariantName::StateOfTheWorld => Side::Sotw(xds_sotw::Session::new(alloc, cluster)),
-            VariantName::Delta => Side::Delta(xds_delta::Session::new(alloc, cluster)),
+            VariantName::StateOfTheWorld => Side::Sotw(xds_sessions::sotw_session::Session::new(
+                alloc, cluster,
+            )),
+            VariantName::Delta => Side::Delta(xds_sessions::delta_session::Session::new(
+                alloc, cluster,
+            )),
         };
         Session { side }
     }

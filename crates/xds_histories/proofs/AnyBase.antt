@@ -33,8 +33,8 @@ use Rattle.xds_ledger.specs.declared.variant.VariantName.{VariantName}
 use Rattle.xds_ledger.specs.declared.variant.VariantName.TheVariants as variants
 use Rattle.xds_ledger.specs.Offers.{Offer}
 use Rattle.xds_ledger.proofs.LookedAt.{LookedAt, one_looked_at, all_looked_at}
-use Rattle.xds_sotw.specs.Polls.{stated_writes}
-use Rattle.xds_delta.specs.Polls.{resource_of, resource_at, names_where, is_statement}
+use Rattle.xds_sessions.specs.SotwPolls.{stated_writes}
+use Rattle.xds_sessions.specs.DeltaPolls.{resource_of, resource_at, names_where, is_statement}
 use Rattle.xds_ledger.specs.Sessions.{Session}
 use Rattle.xds_core.specs.Stores.{Batch, Store, merging, putting_at, deleting_at, is_spent, grown, merged, if_done}
 use Rattle.xds_core.specs.Streams.{Stream, response_of, responding, to_send, polled, first_due, polled_first, looked_at, sent}

@@ -37,7 +37,7 @@ use Rattle.xds_ledger.proofs.BeliefsByName.{taken_by_name}
 use Rattle.xds_ledger.proofs.Choosing.{none_passes, listed_fails}
 use Rattle.xds_ledger.proofs.Made.{resumed_by_name}
 use Rattle.xds_core.specs.Streams.{cluster_in}
-use Rattle.xds_sotw.specs.Polls.{take, sending, response, stated_writes, HasPolled}
+use Rattle.xds_sessions.specs.SotwPolls.{take, sending, response, stated_writes, HasPolled}
 use Rattle.xds_program.specs.Answers.{objects_of, response_with, response_to}
 use Rattle.xds_ledger.proofs.Stored.{or_true}
 

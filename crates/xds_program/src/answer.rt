@@ -16,7 +16,7 @@ use xds_interest::ClusterText;
 use xds_ledger::Nonces;
 use xds_message::{DiscoveryRequest, SotwDraft};
 use xds_resource::{Refusal, ResourceType, TypeName};
-use xds_sotw::Session;
+use xds_sessions::sotw_session::Session;
 
 /// Answers an input of stamped writes, a line each, and a `DiscoveryRequest` on the last line. The writes are joined
 /// in order. The output is the response that a fresh stream's first poll gives, and a line feed; or nothing, where the

@@ -8,11 +8,11 @@ use crate::stories::{Actor, change, hold, keep, text};
 use std::alloc::Global;
 use std::test::Fail;
 use xds_catalogue::Catalogue;
-use xds_delta::Session;
 use xds_interest::ClusterText;
 use xds_ledger::{Nonces, Outcome};
 use xds_message::DeltaDiscoveryRequest;
 use xds_resource::{Cluster, Refusal, ResourceType, Route};
+use xds_sessions::delta_session::Session;
 
 #[derive(Drop)]
 struct Server<T: ResourceType> {

@@ -13,7 +13,7 @@ use xds_interest::ClusterText;
 use xds_ledger::{Nonces, Outcome};
 use xds_message::DiscoveryRequest;
 use xds_resource::{Cluster, Refusal, ResourceType, Route, Secret};
-use xds_sotw::Session;
+use xds_sessions::sotw_session::Session;
 
 // What the replica holds of a type, and one stream's session of that type.
 #[derive(Drop)]

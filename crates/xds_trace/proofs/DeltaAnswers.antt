@@ -15,7 +15,7 @@ use Rattle.xds_ledger.specs.declared.entry.Due.{Due}
 use Rattle.xds_ledger.specs.declared.entry.Due.TheVariants.{Stated, Removed}
 use Rattle.xds_ledger.specs.Owed.{Beliefs}
 use Rattle.xds_ledger.specs.Offers.{Offer, offer}
-use Rattle.xds_delta.specs.Polls.{is_statement, is_removal, resource_of, resource_at}
+use Rattle.xds_sessions.specs.DeltaPolls.{is_statement, is_removal, resource_of, resource_at}
 use Rattle.xds_check.specs.Answers.{Statement}
 use Rattle.xds_ledger.proofs.SomethingOwed.{is_some_of}
 use Rattle.xds_trace.specs.Making.{Naming, labelled_of}

@@ -23,7 +23,7 @@ use Rattle.xds_message.specs.DeltaMessages.{DeltaRequest}
 use Rattle.xds_ledger.specs.declared.variant.VariantName.TheVariants.{StateOfTheWorld, Delta}
 use Rattle.xds_ledger.specs.Ledgers.{Account, settled}
 use Rattle.xds_ledger.specs.Sessions.{Session, Names, sotw_names, delta_names}
-use Rattle.xds_delta.specs.Polls.{mention}
+use Rattle.xds_sessions.specs.DeltaPolls.{mention}
 use Rattle.xds_check.specs.declared.asking.Asking.{Asking}
 use Rattle.xds_check.specs.declared.asking.Asking.TheVariants as askings
 use Rattle.xds_check.specs.Answers.{lists_in, mentions_in}

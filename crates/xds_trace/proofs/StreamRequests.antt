@@ -14,7 +14,7 @@ use Rattle.xds_ledger.specs.declared.variant.VariantName.TheVariants as variants
 use Rattle.xds_ledger.specs.declared.outcome.Outcome.{Outcome}
 use Rattle.xds_ledger.specs.Sessions.{Session, unopened, sotw_names, delta_names}
 use Rattle.xds_core.proofs.StepLaws.{done_with, unless_once}
-use Rattle.xds_delta.specs.Polls.{mention}
+use Rattle.xds_sessions.specs.DeltaPolls.{mention}
 use Rattle.xds_core.specs.Streams.{Stream, Message, Sotw, Delta, variant_of, url_of, cluster_of, is_same_variant, is_foreign, session_after, answered_by, answered, sessions_for, requested}
 use Rattle.xds_check.specs.declared.asking.Asking.TheVariants as askings
 use Rattle.xds_check.specs.declared.line.Line.{Line}

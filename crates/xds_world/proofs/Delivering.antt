@@ -23,8 +23,8 @@ use Rattle.xds_ledger.specs.Variants.{is_told}
 use Rattle.xds_ledger.specs.Owed.{Beliefs, live_version, version_shown, present, owed_of}
 use Rattle.xds_ledger.specs.Offers.{Offer, offer}
 use Rattle.xds_ledger.proofs.ByName.{offer_says_it}
-use Rattle.xds_delta.specs.Polls.{is_statement, is_removal, names_where, resource_of as drafted_of, resource_at, response}
-use Rattle.xds_delta.proofs.Stating.{present_if_stated, kept_at}
+use Rattle.xds_sessions.specs.DeltaPolls.{is_statement, is_removal, names_where, resource_of as drafted_of, resource_at, response}
+use Rattle.xds_sessions.proofs.Stating.{present_if_stated, kept_at}
 use Rattle.xds_cache.specs.Shelves.{Holding, Cache, marked}
 use Rattle.xds_cache.specs.Faults.{Stated as StatedResource, stated_by, and_stated}
 use Rattle.xds_cache.specs.Deliveries.{delta_stated}

@@ -12,7 +12,7 @@ use Rattle.xds_ledger.specs.Believing.{Sent, touched_since}
 use Rattle.xds_ledger.specs.Sessions.{Session, Answer, Names, taken, is_taken, delta_names}
 use Rattle.xds_ledger.specs.Laws.{with_sent}
 use Rattle.xds_ledger.proofs.Settling.{sending_commutes}
-use Rattle.xds_delta.specs.Polls.{take, mention, answer_in}
+use Rattle.xds_sessions.specs.DeltaPolls.{take, mention, answer_in}
 
 -- the session after these requests
 abbrev pub folded : TypeName → Session → List DeltaRequest → Session

@@ -31,7 +31,7 @@ use Rattle.xds_ledger.specs.Ledgers.{Account, nonce_text, settled, answered}
 use Rattle.xds_ledger.specs.Believing.{Sent, was_touched, touched_since, believed_accepted}
 use Rattle.xds_ledger.specs.Sessions.{Session, Names, unopened, taken, is_taken, delta_names, send}
 use Rattle.xds_ledger.proofs.BeliefsByName.{accepted_by_name}
-use Rattle.xds_delta.specs.Polls.{take, mention, answer_in}
+use Rattle.xds_sessions.specs.DeltaPolls.{take, mention, answer_in}
 use Rattle.xds_cache.specs.Shelves.{Wants, Holding, Cache, Shelf, texts, interest, is_wanted, wants_of, wants_after, wanting, kept_of}
 use Rattle.xds_cache.specs.Faults.{Test}
 use Rattle.xds_cache.specs.Deliveries.{delta_delivery, fault_in, cache_after, taking, rejecting, delivered}

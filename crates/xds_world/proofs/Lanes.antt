@@ -26,7 +26,7 @@ use Rattle.xds_ledger.specs.Believing.{Sent, was_touched, touched_since, beliefs
 use Rattle.xds_ledger.specs.Sessions.{Session, Answer, Names, unopened, taken, is_taken, delta_names}
 use Rattle.xds_ledger.proofs.BeliefsByName.{taken_by_name}
 use Rattle.xds_ledger.proofs.Made.{resumed_by_name}
-use Rattle.xds_delta.specs.Polls.{take, mention, answer_in}
+use Rattle.xds_sessions.specs.DeltaPolls.{take, mention, answer_in}
 use Rattle.xds_cache.specs.Shelves.{Wants, Holding, Cache, Shelf, texts, interest, is_wanted, wants_some, wants_of, wants_after}
 use Rattle.xds_cache.specs.Deliveries.{delta_delivery, statements}
 use Rattle.xds_cache.specs.Sends.{failure, delta_answer}

@@ -28,7 +28,7 @@ use Rattle.xds_ledger.specs.Ledgers as ledgers
 use Rattle.xds_ledger.specs.Ledgers.{is_due, is_refused}
 use Rattle.xds_ledger.specs.Sessions as sessions
 use Rattle.xds_ledger.specs.Sessions.{Session, unopened, send}
-use Rattle.xds_delta.specs.Polls.{take, mention, response}
+use Rattle.xds_sessions.specs.DeltaPolls.{take, mention, response}
 use Rattle.xds_core.specs.Stores.{Store, if_done}
 use Rattle.xds_core.specs.Streams as streams
 use Rattle.xds_core.specs.Streams.{Stream, Message, cluster_of, is_foreign, sessions_for, answered_by, answered, requested, to_send, response_of, responding, sent, polled, first_due, polled_first}

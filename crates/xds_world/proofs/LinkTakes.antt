@@ -25,7 +25,7 @@ use Rattle.xds_message.specs.DraftTexts.{kind_of}
 use Rattle.xds_ledger.specs.declared.variant.VariantName.TheVariants as variants
 use Rattle.xds_ledger.specs.declared.entry.Entry.TheVariants.{Told}
 use Rattle.xds_ledger.specs.Sessions.{Session, unopened}
-use Rattle.xds_delta.specs.Polls.{take, mention}
+use Rattle.xds_sessions.specs.DeltaPolls.{take, mention}
 use Rattle.xds_core.specs.Streams as streams
 use Rattle.xds_core.specs.Streams.{Stream, Message, opening}
 use Rattle.xds_cache.specs.Shelves.{Wants, Holding, Cache, Shelf, texts, interest, is_wanted, wants_some, wants_after, wanting, kept_of, connected, lost, bare}

@@ -16,7 +16,7 @@ use Rattle.xds_resource.proofs.TypesApart.{at-with_at}
 use Rattle.xds_interest.specs.Interests.{Selection}
 use Rattle.xds_catalogue.specs.Holdings.{Holdings, Entries}
 use Rattle.xds_catalogue.proofs.Catalogues.{get-catalogue_of}
-use Rattle.xds_sotw.specs.Rest.{whole, asked_once}
+use Rattle.xds_sessions.specs.Rest.{whole, asked_once}
 use Rattle.xds_message.specs.Drafts.{Drafted, message_of}
 use Rattle.xds_message.specs.Messages.{Request}
 use Rattle.xds_core.specs.Events as events

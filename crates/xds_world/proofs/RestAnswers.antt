@@ -15,7 +15,7 @@ use Rattle.xds_interest.specs.SotW.{listed as listed_interest, unnamed}
 use Rattle.xds_catalogue.specs.Holdings.{Holdings, Entries}
 use Rattle.xds_catalogue.specs.Content.{is_live, is_shown, content}
 use Rattle.xds_ledger.specs.Texts.{interest_version}
-use Rattle.xds_sotw.specs.Rest.{asked_once, whole, is_present, unless_present}
+use Rattle.xds_sessions.specs.Rest.{asked_once, whole, is_present, unless_present}
 use Rattle.xds_message.specs.Drafts.{Drafted, message_of}
 use Rattle.xds_cache.specs.Shelves.{Wants, Holding, Shelf, texts, interest, is_wanted, wants_some}
 use Rattle.xds_cache.specs.Faults.{Test, stated_by}

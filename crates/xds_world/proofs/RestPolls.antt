@@ -15,7 +15,7 @@ use Rattle.xds_catalogue.specs.Holdings.{Holdings, IsCatalogue}
 use Rattle.xds_catalogue.proofs.Catalogues.{catalogue_of-IsCatalogue}
 use Rattle.xds_catalogue.proofs.Lookups.{get-inserted}
 use Rattle.xds_ledger.specs.Texts.{interest_version}
-use Rattle.xds_sotw.specs.Rest.{asked_once, whole, unless_present}
+use Rattle.xds_sessions.specs.Rest.{asked_once, whole, unless_present}
 use Rattle.xds_message.specs.Drafts.{Drafted, message_of}
 use Rattle.xds_message.specs.Messages.{Request}
 use Rattle.xds_core.specs.Streams.{Message, cluster_in}

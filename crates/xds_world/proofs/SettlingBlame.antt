@@ -21,7 +21,7 @@ use Rattle.xds_ledger.specs.Believing.{Sent, touched_since}
 use Rattle.xds_ledger.specs.Sessions as sessions
 use Rattle.xds_ledger.specs.Sessions.{Session, Answer, Names, unopened, is_taken, taken, send, sotw_names, delta_names}
 use Rattle.xds_ledger.specs.Laws.{with_sent}
-use Rattle.xds_delta.specs.Polls.{mention, answer_in}
+use Rattle.xds_sessions.specs.DeltaPolls.{mention, answer_in}
 use Rattle.xds_core.specs.Stores.{Store}
 use Rattle.xds_core.specs.Streams as streams
 use Rattle.xds_core.specs.Streams.{Stream, Message, opening, session_after, requested, polled_first, response_of}

@@ -30,9 +30,9 @@ use Rattle.xds_ledger.specs.Offers.{Offer, offer, stated_version}
 use Rattle.xds_ledger.specs.Sessions as sessions
 use Rattle.xds_ledger.specs.Sessions.{Session}
 use Rattle.xds_ledger.proofs.ByName.{offer_says_it}
-use Rattle.xds_sotw.specs.Polls as sotw
-use Rattle.xds_delta.specs.Polls as delta
-use Rattle.xds_delta.specs.Polls.{is_statement, is_removal, names_where, resource_of as drafted_of}
+use Rattle.xds_sessions.specs.SotwPolls as sotw
+use Rattle.xds_sessions.specs.DeltaPolls as delta
+use Rattle.xds_sessions.specs.DeltaPolls.{is_statement, is_removal, names_where, resource_of as drafted_of}
 use Rattle.xds_core.specs.Stores.{Store}
 use Rattle.xds_core.specs.Streams.{response_of}
 use Rattle.xds_cache.specs.Shelves.{Cache, Wants, wants_of, marked}
@@ -40,7 +40,7 @@ use Rattle.xds_cache.specs.Faults.{Test, Stated as StatedResource, first_reason,
 use Rattle.xds_cache.specs.Deliveries.{sotw_stated, sotw_delivery, delta_delivery, fault_in}
 use Rattle.xds_world.specs.Knows.{TypedWrite}
 use Rattle.xds_world.proofs.Replicas.{if_some, if_both}
-use Rattle.xds_delta.proofs.Stating.{present_if_stated, kept_at}
+use Rattle.xds_sessions.proofs.Stating.{present_if_stated, kept_at}
 use Rattle.xds_world.proofs.Delivering as delivering
 use Rattle.xds_world.proofs.Delivering.{IsKnown, AllKnown, canonical_is}
 use Rattle.xds_world.proofs.LinkSteps.{sending_facts}

@@ -25,8 +25,8 @@ use Rattle.xds_ledger.proofs.Settling.{accepted_owes_nothing}
 use Rattle.xds_ledger.proofs.BeliefsByName.{untouched_keeps_belief}
 use Rattle.xds_ledger.proofs.Made.{resumed_by_name}
 use Rattle.xds_ledger.proofs.SameOffers.{offers_are_told_apart}
-use Rattle.xds_sotw.specs.Polls.{take as sotw_take}
-use Rattle.xds_delta.specs.Polls.{take as delta_take, mention, answer_in}
+use Rattle.xds_sessions.specs.SotwPolls.{take as sotw_take}
+use Rattle.xds_sessions.specs.DeltaPolls.{take as delta_take, mention, answer_in}
 use Rattle.xds_cache.specs.Shelves.{Shelf, texts, interest}
 use Rattle.xds_cache.specs.Sends.{failure, delta_answer}
 use Rattle.xds_world.specs.Knows.{TypedWrite}

@@ -21,13 +21,13 @@ use Rattle.xds_ledger.specs.Variants.{is_told}
 use Rattle.xds_ledger.specs.Owed.{Beliefs, live_version, version_shown, present, owed}
 use Rattle.xds_ledger.specs.Offers.{Offer, offer, stated_version}
 use Rattle.xds_ledger.proofs.ByName.{offer_says_it}
-use Rattle.xds_sotw.specs.Polls.{response, stated_writes}
+use Rattle.xds_sessions.specs.SotwPolls.{response, stated_writes}
 use Rattle.xds_cache.specs.Shelves.{Holding, Cache}
 use Rattle.xds_cache.specs.Faults.{Stated as StatedResource, stated_by, and_stated}
 use Rattle.xds_cache.specs.Deliveries.{sotw_stated}
 use Rattle.xds_world.specs.Knows.{TypedWrite}
 use Rattle.xds_world.proofs.Replicas.{some_is, if_both}
-use Rattle.xds_delta.proofs.Stating.{present_if_stated}
+use Rattle.xds_sessions.proofs.Stating.{present_if_stated}
 use Rattle.xds_world.proofs.Delivering.{IsKnown, AllKnown, canonical_is, live_at}
 use Rattle.xds_world.proofs.SotwLanes.{IsHeld, Says, stated_in}
 

@@ -21,7 +21,7 @@ use Rattle.xds_ledger.specs.Believing.{Sent, touched_since}
 use Rattle.xds_ledger.specs.Sessions.{Session, Answer, Names, taken, is_taken, sotw_names}
 use Rattle.xds_ledger.specs.Laws.{with_sent}
 use Rattle.xds_ledger.proofs.Settling.{sending_commutes}
-use Rattle.xds_sotw.specs.Polls.{take}
+use Rattle.xds_sessions.specs.SotwPolls.{take}
 use Rattle.xds_world.proofs.ByOneName.{believed_after}
 use Rattle.xds_world.proofs.Folding.{taken_meanwhile}
 use Rattle.xds_world.proofs.Lanes.{believed_by_name, nothing_resumed}

@@ -23,7 +23,7 @@ use Rattle.xds_ledger.specs.declared.entry.Due.TheVariants.{Stated, Removed}
 use Rattle.xds_ledger.specs.Ledgers.{Account, nonce_text, settled, answered}
 use Rattle.xds_ledger.specs.Believing.{Sent, was_touched, touched_since, believed_accepted}
 use Rattle.xds_ledger.specs.Sessions.{Session, Names, unopened, taken}
-use Rattle.xds_sotw.specs.Polls.{take}
+use Rattle.xds_sessions.specs.SotwPolls.{take}
 use Rattle.xds_cache.specs.Shelves.{Wants, Holding, Cache, Shelf, texts, interest, is_wanted, wants_some}
 use Rattle.xds_cache.specs.Deliveries.{sotw_delivery, statements}
 use Rattle.xds_world.specs.Knows.{TypedWrite}

@@ -23,7 +23,7 @@ use Rattle.xds_ledger.specs.Offers.{Offer}
 use Rattle.xds_ledger.specs.Ledgers.{nonce_text}
 use Rattle.xds_ledger.specs.Sessions as sessions
 use Rattle.xds_ledger.specs.Sessions.{Session, unopened, send}
-use Rattle.xds_sotw.specs.Polls.{take, response}
+use Rattle.xds_sessions.specs.SotwPolls.{take, response}
 use Rattle.xds_core.specs.Stores.{Store}
 use Rattle.xds_core.specs.Streams as streams
 use Rattle.xds_core.specs.Streams.{Stream, Message, opening, cluster_of, is_foreign, sessions_for, answered_by, answered, requested, response_of}

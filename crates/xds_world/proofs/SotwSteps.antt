@@ -32,7 +32,7 @@ use Rattle.xds_ledger.specs.Believing.{Sent, was_touched, touched_since, believe
 use Rattle.xds_ledger.specs.Sessions.{Session, Names, unopened, is_taken, taken, send}
 use Rattle.xds_ledger.specs.Laws.{with_sent}
 use Rattle.xds_ledger.proofs.BeliefsByName.{accepted_by_name}
-use Rattle.xds_sotw.specs.Polls.{take}
+use Rattle.xds_sessions.specs.SotwPolls.{take}
 use Rattle.xds_cache.specs.Shelves.{Wants, Holding, Cache, Shelf, texts, interest, is_wanted, wants_some, wanting}
 use Rattle.xds_cache.specs.Faults.{Test}
 use Rattle.xds_cache.specs.Deliveries.{sotw_delivery, fault_in, cache_after, taking, rejecting, delivered}

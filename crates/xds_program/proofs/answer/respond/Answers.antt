@@ -4,7 +4,7 @@ use Rattle.std.proofs.lemmas.Result.{IfOk-weaker}
 use Rattle.xds_message.specs.Drafts.{message_of}
 use Rattle.xds_ledger.specs.Lists.{Kept}
 use Rattle.xds_ledger.specs.Sessions.{unopened}
-use Rattle.xds_sotw.specs.Polls.{HasPolled}
+use Rattle.xds_sessions.specs.SotwPolls.{HasPolled}
 use Rattle.xds_program.specs.Answers.{response_to}
 use Rattle.xds_program.proofs.FirstPoll.{first_poll_by}
 use Rattle.xds_program.proofs.answer.respond.Goals as goal

@@ -1,8 +1,8 @@
 use Rattle.std.proofs.Common.{refl, sym, ap, ◌∙◌}
 use Rattle.xds_message.specs.declared.draft.Draft.TheVariants as drafts
 use Rattle.xds_ledger.specs.declared.variant.VariantName.TheVariants as variants
-use Rattle.xds_sotw.specs.Polls as sotw
-use Rattle.xds_delta.specs.Polls as delta
+use Rattle.xds_sessions.specs.SotwPolls as sotw
+use Rattle.xds_sessions.specs.DeltaPolls as delta
 use Rattle.xds_core.specs.States.{spoken_of}
 use Rattle.xds_core.proofs.Sides.{side_polled, side_refused}
 use Rattle.xds_ledger.specs.declared.variant.VariantName.TheVariants.{StateOfTheWorld, Delta}

@@ -1,5 +1,0 @@
-use Rattle.xds_delta.proofs.Stating.{response_states_the_offer}
-use Rattle.xds_delta.proofs.laws.responses_state_what_is_offered.Goals as goal
-
-pub returns : goal.returns
-returns c = response_states_the_offer

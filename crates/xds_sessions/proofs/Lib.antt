@@ -1,0 +1,5 @@
+pub mod SotwMade
+pub mod Bodies
+pub mod DeltaMade
+pub mod Stating
+mod InPlace

@@ -1,0 +1,67 @@
+// What a client is answered that polls without a stream.
+ghost use Rattle.std.specs.Prelude.{◌≡◌, [], map, string_bytes, IfOk, IfErr};
+ghost use Rattle.std.specs.List.{filter_map};
+ghost use Rattle.xds_resource.specs.declared.refusal.Refusal.TheVariants.{OutOfMemory};
+ghost use Rattle.xds_catalogue.specs.Content.{content};
+ghost use Rattle.xds_sessions.specs.SotwParts.{with_all};
+ghost use Rattle.xds_sessions.specs.Rest.{asked_once, unless_present};
+
+use std::alloc::Global;
+use xds_catalogue::Catalogue;
+use xds_interest::{ClusterText, Interest};
+use xds_ledger::texts::interest_version;
+use xds_message::SotwDraft;
+use xds_resource::{Refusal, ResourceType, Write};
+
+/// What a client of this cluster is answered that sends one list of names and the version that it kept: all that it sees, for
+/// all types alike, without a nonce; or none where it wants all of the type and that version is the present one. `replica`
+/// is the number of this replica. Refused only by `OutOfMemory`.
+pub fn rested<T: ResourceType>(
+    alloc: Global,
+    replica: u16,
+    catalogue: &Catalogue<T>,
+    names: &[String],
+    version: &str,
+    cluster: ClusterText,
+) -> Result<Option<SotwDraft>, Refusal>
+    ensures ok { IfOk result (λ d. d ≡ unless_present replica T.TYPE catalogue.now (asked_once T.TYPE (map string_bytes names.now) cluster) version.now) }
+    ensures refused { IfErr result (λ e. e ≡ OutOfMemory) }
+{
+    let interest = Interest::of_list(alloc, names, cluster)?;
+    let present = interest_version(alloc, replica, catalogue.changes(), &interest)?;
+    if interest.has_star() && version == present.as_str() {
+        return Ok(None);
+    }
+    let draft = whole(alloc, catalogue, &interest, present)?;
+    Ok(Some(draft))
+}
+
+// All that a client of this interest sees, as of this version.
+fn whole<T: ResourceType>(
+    alloc: Global,
+    catalogue: &Catalogue<T>,
+    interest: &Interest<T>,
+    version: String,
+) -> Result<SotwDraft, Refusal>
+    ensures ok { IfOk result (λ d. d ≡ record { kind = T.TYPE; version_info = string_bytes version; nonce = []; bodies = filter_map (λ w. w.body) (content catalogue.now.entries interest.now) }) }
+    ensures refused { IfErr result (λ e. e ≡ OutOfMemory) }
+{
+    let shown = catalogue.content(alloc, interest)?;
+    let draft = SotwDraft::new(alloc, T::TYPE, version, String::new(alloc));
+    push_bodies(draft, &shown)
+}
+
+// Adds the bodies of writes.
+fn push_bodies<T: ResourceType>(
+    draft: SotwDraft,
+    writes: &[&Write<T>],
+) -> Result<SotwDraft, Refusal>
+    ensures ok { IfOk result (λ d. d ≡ with_all draft (map (λ w. w.now) writes.now)) }
+    ensures refused { IfErr result (λ e. e ≡ OutOfMemory) }
+{
+    let mut all = draft;
+    for write in writes {
+        all.push(write)?;
+    }
+    Ok(all)
+}

@@ -1,3 +1,0 @@
-pub mod Polls
-pub mod Parts
-pub mod Rest
