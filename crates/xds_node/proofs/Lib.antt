@@ -1,3 +1,8 @@
+pub mod Passing
+pub mod Sendings
+pub mod Askings
+pub mod StreamReadings
+pub mod Turns
 pub mod Weights
 pub mod Numbers
 pub mod Covering
@@ -9,3 +14,11 @@ pub mod Keeping
 pub mod InOrder
 pub mod Ending
 pub mod Telling
+pub mod Callings
+pub mod Writings
+pub mod WorkersReadings
+pub mod Tellings
+pub mod Mergings
+pub mod Unpacking
+pub mod Comparing
+pub mod Packing

@@ -1,3 +1,10 @@
+pub mod Requests
+pub mod Records
+pub mod Sending
+pub mod Serving
+pub mod Ending
+pub mod Running
+pub mod Turning
 pub mod Names
 pub mod Entries
 pub mod Holdings
@@ -6,3 +13,9 @@ pub mod Books
 pub mod Told
 pub mod Pieces
 pub mod Wakes
+pub mod WorkersTold
+pub mod Writing
+pub mod Reading
+pub mod Parcels
+pub mod Exchanging
+pub mod Whole

@@ -1,26 +1,56 @@
 // A replica that many threads share: one lock, one journal, and seats that were told what stands in it.
 // The tokens of a locked node: what seats were told weighs as much as what was recorded, and what segments hold as much as what was
 // cut. Nothing above this crate names the table that keeps them.
+// A stream on one thread: from the bytes of its requests to the bytes of its responses.
+// The threads round a node: a stream's reader and writer, and those by which replicas tell each other what changed. They know a
+// node as a `Host` alone.
 #![tactic(auto)]
 
+pub mod asking;
+pub mod calls;
 pub mod desk;
+pub mod exchange;
 pub mod history;
 pub mod holding;
+pub mod hosts;
+pub mod inward;
 pub mod line;
 pub mod node;
+pub mod nodes;
+pub mod outward;
+pub mod parcels;
+pub mod reader;
+pub mod reading;
 pub mod rule;
+pub mod running;
 pub mod seat;
 pub mod segment;
+pub mod sending;
 pub mod token;
 pub mod twice;
 pub mod wakes;
+pub mod whole;
+pub mod writer;
 
+pub use asking::draft_in;
+pub use calls::called;
 pub use desk::{Desk, Due, MOST_RECORDS};
+pub use exchange::Ended;
 pub use history::History;
 pub use holding::Holding;
+pub use hosts::{Gate, Host, Place};
+pub use inward::exchange_in;
 pub use line::Line;
 pub use node::Node;
+pub use outward::exchange_out;
+pub use parcels::{Parcel, Receipt};
+pub use reader::serve_reader;
+pub use reading::{fill, next_request};
 pub use rule::NodeName;
+pub use running::run_stream;
 pub use seat::{Seat, Unrecorded};
 pub use segment::Segment;
+pub use sending::send;
 pub use token::{Opened, Token, Tokens};
+pub use whole::{Exchanged, exchange_both};
+pub use writer::serve_writer;

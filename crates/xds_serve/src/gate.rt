@@ -1,6 +1,6 @@
 // The server's gate, which holds nobody up, and keeps no segment.
 use std::sync::Wait;
-use xds_workers::{Gate, Place};
+use xds_node::{Gate, Place};
 
 /// Lets everyone pass at once, and drops what was cut.
 #[derive(Clone, Copy, Debug, Drop)]

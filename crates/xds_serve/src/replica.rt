@@ -15,8 +15,8 @@ use std::time::Clock;
 use xds_core::Event;
 use xds_exchange::{Incoming, Outgoing};
 use xds_http::{Replies, serve_on};
+use xds_node::{Host, Parcel, Receipt, called, exchange_in, exchange_out};
 use xds_resource::Refusal;
-use xds_workers::{Host, Parcel, Receipt, called, exchange_in, exchange_out};
 
 /// Ends of the channels by which a replica tells another what changed: for what it tells, and for what becomes of it.
 pub type Sends = (Outgoing<Parcel>, Incoming<Receipt>);

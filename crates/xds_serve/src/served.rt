@@ -1,9 +1,8 @@
 // A node, as the server knows it.
 use std::sync::Wait;
-use xds_node::{Node, NodeName, Seat};
+use xds_node::{Host, Node, NodeName, Seat};
 use xds_resource::Refusal;
 use xds_rest::Posts;
-use xds_workers::Host;
 
 /// A replica that a server runs: its worker threads call it by seats, and posts ask it. [`Node`] is one.
 pub trait Served: Host + Posts {

@@ -19,9 +19,8 @@ use std::thread::Threads;
 use std::time::Clock;
 use xds_core::Event;
 use xds_http::Replies;
-use xds_node::{Line, Node, NodeName, Opened};
+use xds_node::{Host, Line, Node, NodeName, Opened};
 use xds_resource::Refusal;
-use xds_workers::Host;
 
 /// Starts the thread of the replica behind so many others. Its node has a name of its own.
 pub(crate) fn start_replica<R>(

@@ -5,11 +5,10 @@ use std::alloc::Global;
 use std::sync::{Mutex, Wait};
 use xds_core::{Event, Marks, Reply};
 use xds_http::Replies;
-use xds_node::{Due, Unrecorded};
+use xds_node::{Due, Host, Unrecorded};
 use xds_polls::HttpReply;
 use xds_resource::Refusal;
 use xds_rest::Posts;
-use xds_workers::Host;
 
 /// About how many bytes the records of a journal may take: 256 MiB. A journal with more of them is cut, whatever its length.
 pub const MOST_BYTES: u64 = 268_435_456;

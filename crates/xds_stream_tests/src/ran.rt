@@ -7,8 +7,8 @@ use xds_cases::cases::written_out;
 use xds_core::{Core, Event, Request};
 use xds_frames::{Counted, Faulty};
 use xds_message::DiscoveryRequest;
+use xds_node::run_stream;
 use xds_resource::Refusal;
-use xds_stream::run_stream;
 
 /// A reader that gives its bytes in pieces of one size.
 #[derive(Drop)]

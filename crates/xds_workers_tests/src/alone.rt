@@ -12,11 +12,11 @@ use xds_core::{Event, Request};
 use xds_exchange::{Incoming, Outgoing, link};
 use xds_frames::{Counted, Faulty, FrameKind, write_frame};
 use xds_message::DiscoveryRequest;
-use xds_resource::Refusal;
-use xds_workers::{
+use xds_node::{
     Ended, Gate, Host, Parcel, Receipt, called, exchange_in, exchange_out, serve_reader,
     serve_writer,
 };
+use xds_resource::Refusal;
 
 /// The refusal, if it is one.
 pub(crate) fn outcome<T: Drop>(answer: Result<T, Refusal>) -> Result<(), Refusal> {

@@ -14,9 +14,8 @@ use std::test::Fail;
 use std::thread::{Threads, join};
 use xds_core::Event;
 use xds_frames::{FrameKind, write_frame};
-use xds_node::{Line, MOST_RECORDS, Node, NodeName, Opened};
+use xds_node::{Host, Line, MOST_RECORDS, Node, NodeName, Opened};
 use xds_resource::Refusal;
-use xds_workers::Host;
 
 const WITH_A: &[u8] =
     b"{\"nonce\":\"1\",\"resources\":[{\"@type\":\"type.googleapis.com/envoy.config.cluster.v3.Cluster\",\"name\":\"a\"}],\"typeUrl\":\"type.googleapis.com/envoy.config.cluster.v3.Cluster\",\"versionInfo\":\"1.1\"}";

@@ -4,9 +4,8 @@ use std::alloc::Global;
 use std::sync::Wait;
 use std::test::Fail;
 use xds_core::{Event, Reply};
-use xds_node::Unrecorded;
+use xds_node::{Host, Unrecorded, called};
 use xds_resource::{AnyResource, Groups, Refusal};
-use xds_workers::{Host, called};
 
 /// What is looked for in what a call of a node answers. It is told by reference, and dropped by a function that doesn't know the
 /// type.

@@ -9,9 +9,8 @@ use std::sync::Wait;
 use std::test::Fail;
 use std::thread::{Threads, map_vec};
 use xds_core::Event;
-use xds_node::{History, Line, Node, NodeName, Opened, Seat, Segment};
+use xds_node::{History, Host, Line, Node, NodeName, Opened, Seat, Segment};
 use xds_resource::Refusal;
-use xds_workers::Host;
 
 const SEATS: usize = 4;
 

@@ -13,9 +13,11 @@ use std::test::Fail;
 use std::thread::{Threads, join};
 use xds_core::Marks;
 use xds_exchange::{Incoming, Outgoing, link};
-use xds_node::{Line, Node, NodeName, Opened};
+use xds_node::{
+    Ended, Host, Line, Node, NodeName, Opened, Parcel, Receipt, exchange_both, exchange_in,
+    exchange_out,
+};
 use xds_resource::Refusal;
-use xds_workers::{Ended, Host, Parcel, Receipt, exchange_both, exchange_in, exchange_out};
 
 /// The marks of a node that holds nothing.
 pub(crate) const NOTHING: Marks = Marks {

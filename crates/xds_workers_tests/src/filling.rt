@@ -2,8 +2,8 @@
 use crate::calls::refused;
 use std::sync::Wait;
 use xds_core::Event;
+use xds_node::Host;
 use xds_resource::Refusal;
-use xds_workers::Host;
 
 // No stream has this number.
 const NO_STREAM: u64 = 0;

@@ -3,9 +3,8 @@ use crate::calls::Told;
 use crate::filling::fill;
 use std::sync::{Condvar, Mutex, Wait};
 use xds_core::{Event, Marks, Reply};
-use xds_node::{Due, MOST_RECORDS, Unrecorded};
+use xds_node::{Due, Host, MOST_RECORDS, Unrecorded};
 use xds_resource::Refusal;
-use xds_workers::Host;
 
 // How often the first merge is tried, in vain.
 const TRIES: u64 = 2;

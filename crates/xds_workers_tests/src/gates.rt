@@ -1,6 +1,6 @@
 // Gates of the tests.
 use std::sync::{Condvar, Mutex, Wait};
-use xds_workers::{Gate, Place};
+use xds_node::{Gate, Place};
 
 /// Lets every thread pass.
 pub(crate) struct Open;

@@ -14,9 +14,8 @@ use std::time::{Clock, Duration};
 use xds_core::{Event, Marks, Request};
 use xds_exchange::{Incoming, Outgoing, link};
 use xds_message::DeltaDiscoveryRequest;
-use xds_node::{Due, Line, Node, NodeName, Opened};
+use xds_node::{Due, Host, Line, Node, NodeName, Opened};
 use xds_resource::Refusal;
-use xds_workers::Host;
 
 // How often a thread looks before it gives up, and how long it sleeps before each look: ten seconds in all.
 const MOST_LOOKS: u64 = 1_000;

@@ -16,9 +16,8 @@ use std::test::Fail;
 use std::thread::{Threads, join};
 use xds_exchange::{Incoming, Outgoing, link};
 use xds_frames::{FrameKind, write_frame};
-use xds_node::{Line, NodeName, Opened};
+use xds_node::{Host, Line, NodeName, Opened, Parcel, Receipt, exchange_in};
 use xds_resource::Refusal;
-use xds_workers::{Host, Parcel, Receipt, exchange_in};
 
 // Puts two batches of one parcel each, and then no more.
 fn puts_both<R: Wait>(rt: &R, out: &mut Outgoing<Parcel>, first: Vec<u8>, second: Vec<u8>) {

@@ -3,8 +3,8 @@ use crate::alone::outcome;
 use std::alloc::Global;
 use std::test::Fail;
 use xds_message::Batch;
+use xds_node::Parcel;
 use xds_resource::Refusal;
-use xds_workers::Parcel;
 
 // Fails unless these bytes, as a parcel, are what is wanted.
 fn tells(alloc: Global, bytes: &[u8], wanted: Result<(), Refusal>) -> Result<(), Fail> {

@@ -7,8 +7,8 @@ use std::alloc::Global;
 use std::sync::{Mutex, Wait};
 use std::test::Fail;
 use xds_core::Event;
+use xds_node::{Gate, Host, Place, called};
 use xds_resource::Refusal;
-use xds_workers::{Gate, Host, Place, called};
 
 // How often a gate was passed before a read and before a write, and how many segments it was given.
 #[derive(Clone, Copy, Debug, PartialEq, Eq, Drop)]

@@ -3,9 +3,8 @@ use crate::filling::fill;
 use crate::sites::Site;
 use std::sync::{Mutex, Wait};
 use xds_core::{Event, Marks, Reply};
-use xds_node::{Due, MOST_RECORDS, Unrecorded};
+use xds_node::{Due, Host, MOST_RECORDS, Unrecorded};
 use xds_resource::Refusal;
-use xds_workers::Host;
 
 #[derive(Drop)]
 struct Filler<S> {

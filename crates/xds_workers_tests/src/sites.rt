@@ -4,9 +4,8 @@ ghost use Rattle.std.specs.Prelude.{◌≡◌};
 use std::alloc::Global;
 use std::marker::Brand;
 use std::sync::Wait;
-use xds_node::{Line, Node, NodeName, Opened, Seat};
+use xds_node::{Host, Line, Node, NodeName, Opened, Seat};
 use xds_resource::Refusal;
-use xds_workers::Host;
 
 /// What a test asks of a node beside what its worker threads do.
 pub(crate) trait Site: Host + Drop {

@@ -12,9 +12,8 @@ use std::sync::Wait;
 use std::test::Fail;
 use std::thread::{Threads, join};
 use xds_frames::{Counted, FrameKind, write_frame};
-use xds_node::{Line, Node, NodeName, Opened};
+use xds_node::{Host, Line, Node, NodeName, Opened, serve_reader, serve_writer};
 use xds_resource::Refusal;
-use xds_workers::{Host, serve_reader, serve_writer};
 
 pub(crate) const REQUEST: &[u8] =
     b"{\"typeUrl\":\"type.googleapis.com/envoy.config.cluster.v3.Cluster\"}";

@@ -1,0 +1,71 @@
+// What a worker thread knows of a node and of what stands round it.
+
+use crate::desk::Due;
+use crate::seat::Unrecorded;
+use std::sync::Wait;
+use xds_core::{Event, Marks, Reply};
+use xds_resource::Refusal;
+
+/// A replica that threads share, as its worker threads know it. [`crate::node::Node`] is one.
+pub trait Host {
+    ghost use Rattle.std.specs.Prelude.{◌≡◌, ℕ, List, [], ◌∷◌, ◌++◌, IfOk, IfErr, OnOk, OnErr};
+    ghost use Rattle.xds_core.specs.Legal.{Record};
+    ghost use Rattle.xds_core.specs.Seen.{event_of, answer_of};
+    ghost use Rattle.xds_node.specs.Told.{IsTold, LeavesNoRecord};
+    ghost use Rattle.xds_node.specs.WorkersTold.{in_vain};
+
+    /// The right to call it.
+    type Seat: Drop;
+    /// Records that it handed out.
+    type Segment: Drop;
+
+    // What a seat was told: each record of its calls, with its number.
+    ghost told: { Self.Seat → List (ℕ × Record) };
+
+    // Its calls that left no record: of each the event, and why, as its answer.
+    ghost refused: { Self.Seat → List Record };
+
+    /// One event of a seat, and one record of it. An event that leaves no record comes back: the journal is full
+    /// (`JournalFull`), or there was no memory (`OutOfMemory`). Contracts see the call among those that the seat was refused.
+    fn call<R: Wait>(
+        &self,
+        rt: &R,
+        seat: &mut Self::Seat,
+        event: Event,
+    ) -> Result<Result<Reply, Refusal>, Unrecorded>
+        ensures told { IfOk result (λ a. IsTold (told seat.old) (told seat.new) (event_of event) (answer_of a)) }
+        ensures back { IfErr result (λ e. (e.event ≡ event) × LeavesNoRecord e.refusal) }
+        ensures err { OnErr result (told seat.new ≡ told seat.old) }
+        ensures granted { OnOk result (refused seat.new ≡ refused seat.old) }
+        ensures refused { IfErr result
+            (λ e. refused seat.new ≡ refused seat.old ++ in_vain (event_of event) e.refusal ∷ []) };
+
+    /// Hands out the records of the journal, which is empty then.
+    fn cut<R: Wait>(&self, rt: &R) -> Result<Self::Segment, Refusal>;
+
+    /// Waits until a poll of a stream would give something, or the stream isn't open. It is no event.
+    fn wait_due<R: Wait>(&self, rt: &R, stream: u64) -> Due;
+
+    /// Waits until the counts of changes differ from these, and answers them; none once the node was stopped. It is no
+    /// event.
+    fn wait_changed<R: Wait>(&self, rt: &R, seen: Marks) -> Option<Marks>;
+}
+
+/// Where a worker thread of a stream stands.
+#[derive(Clone, Copy, Debug, PartialEq, Eq, Drop)]
+pub enum Place {
+    /// Before a read.
+    BeforeRead,
+    /// Before the frame of a response is written.
+    BeforeWrite,
+}
+
+/// What stands round worker threads: it may hold a stream's thread before it reads or writes, and it takes the segments
+/// that they had to cut.
+pub trait Gate<S: Drop> {
+    /// Lets the thread of a stream pass, at once or later.
+    fn pass<R: Wait>(&self, rt: &R, place: Place, stream: u64);
+
+    /// Takes records that were cut.
+    fn keep<R: Wait>(&self, rt: &R, segment: S);
+}

@@ -1,0 +1,119 @@
+// The reading thread of a stream.
+ghost use Rattle.std.specs.Prelude.{◌≡◌, ℕ, List, [], ◌++◌, IsOk, MatchResult, Result, Ok, Err};
+ghost use Rattle.xds_core.specs.Legal.{Record};
+ghost use Rattle.xds_frames.specs.Devices.{seen};
+ghost use Rattle.xds_core.specs.StreamsSeen.{message_of};
+ghost use Rattle.xds_node.specs.Reading.{Asks, HasRead, ReadsAll, TurnReads};
+
+use crate::calls::{answered, close};
+use crate::hosts::{Gate, Host, Place};
+use crate::reading::{fill, next_request};
+use std::alloc::Global;
+use std::io::Read;
+use std::sync::Wait;
+use xds_core::{Event, Request};
+use xds_frames::{Counted, Decoder};
+use xds_resource::Refusal;
+
+/// The reading thread of a stream: it reads frames, and makes of each the request that it spells. The last thing that it
+/// asks for is the close of the stream, whatever happened before; it leaves a record, or was refused one (`JournalFull`
+/// in spite of a cut, `OutOfMemory`), and then the stream may stay open. The gate is passed before each read.
+///
+/// It answers `Ok` where the input ends between frames and nothing was refused, and else the first refusal: of a frame or
+/// of its message, as `run_stream` tells them, of the request, and `NoStream` where the stream was closed meanwhile;
+/// `JournalFull` and `OutOfMemory` where a request left no record.
+pub fn serve_reader<H: Host, G: Gate<H::Segment>, D: Read, R: Wait>(
+    rt: &R,
+    alloc: Global,
+    node: &H,
+    seat: &mut H::Seat,
+    stream: u64,
+    reader: &mut Counted<D>,
+    gate: &G,
+) -> Result<(), Refusal>
+    ensures { (told : List (ℕ × Record)) × (tried : List Record) × (H.told seat.new ≡ H.told seat.old ++ told)
+        × (H.refused seat.new ≡ H.refused seat.old ++ tried)
+        × ReadsAll stream told tried (seen D.remaining reader.old reader.new) result }
+{
+    let served = read_requests(rt, alloc, node, seat, stream, reader, gate);
+    close(rt, node, gate, seat, stream);
+    served
+}
+
+// Reads and asks to the end of the input, or the first refusal.
+fn read_requests<H: Host, G: Gate<H::Segment>, D: Read, R: Wait>(
+    rt: &R,
+    alloc: Global,
+    node: &H,
+    seat: &mut H::Seat,
+    stream: u64,
+    reader: &mut Counted<D>,
+    gate: &G,
+) -> Result<(), Refusal>
+    ensures { (told : List (ℕ × Record)) × (tried : List Record) × (H.told seat.new ≡ H.told seat.old ++ told)
+        × (H.refused seat.new ≡ H.refused seat.old ++ tried)
+        × HasRead stream told tried [] (seen D.remaining reader.old reader.new) result }
+{
+    let mut decoder = Decoder::new(alloc);
+    for _ in rt.forever() {
+        match turn(rt, alloc, node, seat, stream, &mut decoder, reader, gate) {
+            Ok(true) => {}
+            Ok(false) => return Ok(()),
+            Err(refusal) => return Err(refusal),
+        }
+    }
+    unreachable!()
+}
+
+// Asks for the next frame, or reads a piece where none is there whole. Answers whether there is more to be done.
+fn turn<H: Host, G: Gate<H::Segment>, D: Read, R: Wait>(
+    rt: &R,
+    alloc: Global,
+    node: &H,
+    seat: &mut H::Seat,
+    stream: u64,
+    decoder: &mut Decoder,
+    reader: &mut Counted<D>,
+    gate: &G,
+) -> Result<bool, Refusal>
+    ensures { (told : List (ℕ × Record)) × (tried : List Record) × (H.told seat.new ≡ H.told seat.old ++ told)
+        × (H.refused seat.new ≡ H.refused seat.old ++ tried)
+        × TurnReads stream told tried decoder.old (seen D.remaining reader.old reader.new) result decoder.new }
+{
+    match next_request(alloc, decoder) {
+        Ok(Some(request)) => match ask(rt, node, gate, seat, stream, request) {
+            Ok(()) => Ok(true),
+            Err(refusal) => Err(refusal),
+        },
+        Ok(None) => {
+            gate.pass(rt, Place::BeforeRead, stream);
+            fill(decoder, reader)
+        }
+        Err(refusal) => Err(refusal),
+    }
+}
+
+// Hands a request to the node.
+fn ask<H: Host, G: Gate<H::Segment>, R: Wait>(
+    rt: &R,
+    node: &H,
+    gate: &G,
+    seat: &mut H::Seat,
+    stream: u64,
+    request: Request,
+) -> Result<(), Refusal>
+    ensures { (tries : List Record) × (H.refused seat.new ≡ H.refused seat.old ++ tries)
+        × Asks stream (message_of request) (H.told seat.old) (H.told seat.new) tries result }
+{
+    granted(answered(rt, node, gate, seat, Event::Request(stream, request)))
+}
+
+// Whether an event was answered, without its reply.
+fn granted<T: Drop>(answer: Result<T, Refusal>) -> Result<(), Refusal>
+    ensures { MatchResult result (λ _. IsOk answer) (λ e. answer ≡ Err e) }
+{
+    match answer {
+        Ok(_) => Ok(()),
+        Err(refusal) => Err(refusal),
+    }
+}

@@ -1,8 +1,0 @@
-use Rattle.xds_workers.proofs.Writings.{turn_refused, turn_stopped}
-use Rattle.xds_workers.proofs.writer.turn.Goals as goal
-
-pub returns-in-Err-respond : goal.returns-in-Err-respond
-returns-in-Err-respond g c = turn_stopped _ _ _ _ _ _ c.draft_in.result _ _ _ _ _ c.in-Ok.ensures c.draft_in.ensures c.in-Err-respond.ensures
-
-pub returns-else-is_closed : goal.returns-else-is_closed
-returns-else-is_closed g c = turn_refused _ _ _ _ _ _ _ _ c.if-is_closed.ensures c.in-Err.ensures

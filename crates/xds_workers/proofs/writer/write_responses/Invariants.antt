@@ -1,9 +1,0 @@
-use Rattle.xds_frames.specs.Devices.{seen}
-use Rattle.xds_workers.specs.Writing.{IsWritten}
-use Rattle.xds_workers.proofs.Callings.{Told}
-use Rattle.xds_workers.proofs.writer.write_responses.Given as goal
-
-abbrev pub invariant-loop : goal.invariant-loop
-invariant-loop g l =
-    Told (g.H.Host.told l.initial.seat) (g.H.Host.told l.seat) (g.H.Host.refused l.initial.seat) (g.H.Host.refused l.seat)
-    (λ told tried. IsWritten l.stream told tried (seen g.W.Write.contents l.initial.writer l.writer))
