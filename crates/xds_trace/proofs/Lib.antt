@@ -22,3 +22,5 @@ pub mod Numbering
 pub mod Told
 pub mod Tellable
 pub mod Traced
+mod Joining
+mod AnyBase

@@ -1,3 +1,5 @@
 pub mod Making
 pub mod Claims
 pub mod Telling
+pub mod Joined
+pub mod Bases

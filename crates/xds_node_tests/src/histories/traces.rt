@@ -7,9 +7,9 @@ use std::marker::Brand;
 use std::sync::Wait;
 use std::test::Fail;
 use xds_check::{Trace, check};
-use xds_histories::{of_audited, of_history};
 use xds_node::{History, Line, Node, NodeName, Opened, Segment};
 use xds_resource::Refusal;
+use xds_trace::{of_audited, of_history};
 
 // How the segments are handed in.
 #[derive(Clone, Copy)]

@@ -1,5 +1,0 @@
-use Rattle.xds_histories.proofs.AnyBase.{told_from_base}
-use Rattle.xds_histories.proofs.laws.every_record_is_told_from_its_base.Goals as goal
-
-pub returns : goal.returns
-returns c = told_from_base
