@@ -4,8 +4,8 @@ use Rattle.std.specs.Option.{option_map_or}
 use Rattle.std.specs.FinMap as finmap
 use Rattle.xds_resource.specs.declared.types.TypeName.{TypeName}
 use Rattle.xds_world.specs.Worlds.{Site, world}
-use Rattle.xds_script.specs.Commands.{Said}
-use Rattle.xds_script.specs.Scripts.{IsScript}
+use Rattle.xds_world.specs.Commands.{Said}
+use Rattle.xds_world.specs.Scripts.{IsScript}
 use Rattle.xds_play.specs.Played.{Played, PlaysAll, nothing_played, takes}
 use Rattle.xds_check.specs.Texts.{trace_text}
 use Rattle.xds_check.specs.declared.line.Line.{Line}

@@ -5,7 +5,7 @@ ghost use Rattle.xds_resource.specs.PerType.{at};
 ghost use Rattle.xds_world.specs.Happenings.{Happening};
 ghost use Rattle.xds_world.specs.Settling.{IsAddedToSettle};
 ghost use Rattle.xds_world.specs.Worlds.{world as world_of};
-ghost use Rattle.xds_script.specs.Commands.{said_of};
+ghost use Rattle.xds_world.specs.Commands.{said_of};
 ghost use Rattle.xds_play.specs.Shown.{view_shown, content_shown, content_text, none_text, state_of};
 ghost use Rattle.xds_play.specs.Played.{Plays, PlaysAll, Prints, IsPlayed, IsUnplayed, nothing_played, takes};
 
@@ -15,8 +15,7 @@ use std::slice;
 use xds_cache::Marked;
 use xds_message::Batch;
 use xds_resource::{Refusal, TypeName};
-use xds_script::{Command, read_script};
-use xds_world::{Status, Unsettled, World, WorldEvent, more, play, settle};
+use xds_world::{Command, Status, Unsettled, World, WorldEvent, more, play, read_script, settle};
 
 /// Why a script isn't played.
 #[derive(Clone, Copy, Debug, PartialEq, Eq)]

@@ -23,7 +23,7 @@ use Rattle.xds_catalogue.proofs.Catalogues.{catalogue_of-IsCatalogue}
 use Rattle.xds_catalogue.proofs.Joining.{joined_again}
 use Rattle.xds_catalogue.proofs.OneWrite.{joined-nothing}
 use Rattle.xds_message.specs.Messages.{Request}
-use Rattle.xds_script.specs.Lines.{feed, pieces, without_last_feed}
+use Rattle.xds_world.specs.Lines.{feed, pieces, without_last_feed}
 use Rattle.xds_program.specs.Answers.{held_of, response_by, answer_text}
 use Rattle.xds_program.specs.Faults.{IsWriteLine, IsRequestLine, AreWriteLines, RefusesWrite, RefusesRequest, IsAnswer, IsFault}
 use Rattle.xds_program.specs.Gathered.{IsReadTo, IsGathered, WhereReadTo}

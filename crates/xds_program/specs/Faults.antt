@@ -13,7 +13,7 @@ use Rattle.xds_message.specs.Messages.{Request, SpellsRequest}
 use Rattle.xds_message.specs.StampedWrites.{SpellsWrite}
 use Rattle.xds_catalogue.specs.Holdings.{Holdings}
 use Rattle.xds_catalogue.specs.Joins.{joined}
-use Rattle.xds_script.specs.Lines.{lines}
+use Rattle.xds_world.specs.Lines.{lines}
 use Rattle.xds_program.specs.Answers.{held_of, answer}
 
 -- the line is JSON that spells the write

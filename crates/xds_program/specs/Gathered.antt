@@ -5,7 +5,7 @@ use Rattle.xds_resource.specs.declared.refusal.Refusal.TheVariants.{OutOfMemory}
 use Rattle.xds_resource.specs.TypedWrites.{TypedWrite}
 use Rattle.xds_catalogue.specs.Holdings.{Holdings, IsCatalogue}
 use Rattle.xds_message.specs.Messages.{Request}
-use Rattle.xds_script.specs.Lines.{feed, lines, pieces}
+use Rattle.xds_world.specs.Lines.{feed, lines, pieces}
 use Rattle.xds_program.specs.Answers.{held_of, response_by, answer_text}
 use Rattle.xds_program.specs.Faults.{AreWriteLines, IsAnswer, IsFault}
 

@@ -4,7 +4,7 @@ ghost use Rattle.xds_resource.specs.PerType.{at, with_at, each};
 ghost use Rattle.xds_resource.specs.TypedWrites.{TypedWrite};
 ghost use Rattle.xds_catalogue.specs.Holdings.{nothing_held};
 ghost use Rattle.xds_catalogue.specs.Joins.{joined};
-ghost use Rattle.xds_script.specs.Lines.{feed, pieces};
+ghost use Rattle.xds_world.specs.Lines.{feed, pieces};
 ghost use Rattle.xds_program.specs.Faults.{IsWriteLine, IsRequestLine, RefusesWrite, RefusesRequest, IsFault};
 ghost use Rattle.xds_program.specs.Gathered.{IsGathered, IsReadTo, WhereReadTo};
 
@@ -12,7 +12,7 @@ use std::alloc::Global;
 use xds_core::Catalogues;
 use xds_message::{DiscoveryRequest, WriteReader};
 use xds_resource::Refusal;
-use xds_script::lines::{split_line, without_last_feed};
+use xds_world::lines::{split_line, without_last_feed};
 
 /// Which line of an input is refused, and why.
 #[derive(Clone, Copy, Debug, PartialEq, Eq)]

@@ -4,8 +4,8 @@ use Rattle.std.specs.Prelude.{is_err}
 use Rattle.std.specs.Option.{option_map, option_to_list, ok_or}
 use Rattle.xds_resource.specs.declared.refusal.Refusal.{Refusal}
 use Rattle.xds_resource.specs.declared.refusal.Refusal.TheVariants.{OutOfMemory, BadScript}
-use Rattle.xds_script.specs.Commands.{Said}
-use Rattle.xds_script.specs.Scripts.{line_says}
+use Rattle.xds_world.specs.Commands.{Said}
+use Rattle.xds_world.specs.Scripts.{line_says}
 use Rattle.xds_serve.specs.Changes.{Written, written_by, only_change, change_in}
 use Rattle.xds_serve.specs.Inputs.{brought, is_wrong}
 

@@ -10,7 +10,7 @@ use Rattle.std.proofs.lemmas.Grind.{flat_map-append}
 use Rattle.xds_resource.specs.Refusals.{Gives}
 use Rattle.xds_resource.specs.declared.refusal.Refusal.{Refusal}
 use Rattle.xds_resource.specs.declared.refusal.Refusal.TheVariants.{OutOfMemory, BadScript, Device}
-use Rattle.xds_script.specs.Lines.{feed, pieces}
+use Rattle.xds_world.specs.Lines.{feed, pieces}
 use Rattle.xds_serve.specs.declared.change.Change.{Change}
 use Rattle.xds_serve.specs.declared.ending.End.{End}
 use Rattle.xds_serve.specs.declared.ending.End.TheVariants.{Line, Refused}

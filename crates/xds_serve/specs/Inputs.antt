@@ -4,7 +4,7 @@ use Rattle.std.specs.Option.{option_to_list}
 use Rattle.std.specs.List.{flat_map}
 use Rattle.xds_resource.specs.declared.refusal.Refusal.{Refusal}
 use Rattle.xds_resource.specs.declared.refusal.Refusal.TheVariants.{OutOfMemory, BadScript}
-use Rattle.xds_script.specs.Lines.{feed, pieces}
+use Rattle.xds_world.specs.Lines.{feed, pieces}
 use Rattle.xds_serve.specs.Changes.{Written, change_in}
 
 -- the write that was read, if any

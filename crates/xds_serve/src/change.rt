@@ -9,8 +9,7 @@ ghost use Rattle.xds_serve.specs.Changes.{change_of, change_said, change_in, wri
 use std::alloc::Global;
 use xds_core::Event;
 use xds_resource::Refusal;
-use xds_script::{Command, read_line};
-use xds_world::WorldEvent;
+use xds_world::{Command, WorldEvent, read_line};
 
 /// A write that a line of the input makes at a replica.
 #[derive(Drop)]

@@ -18,3 +18,7 @@ pub mod Seen
 pub mod Parts
 pub mod Played
 pub mod Settled
+pub mod Lines
+pub mod Words
+pub mod Commands
+pub mod Scripts

@@ -1,5 +1,5 @@
 use Rattle.std.proofs.Common.{[], ◌++◌, length, map, refl}
-use Rattle.xds_script.specs.Lines.{feed, pieces}
+use Rattle.xds_world.specs.Lines.{feed, pieces}
 use Rattle.xds_serve.specs.Changes.{change_of}
 use Rattle.xds_serve.proofs.Takings.{no_memory, taken_more, taken_refused}
 use Rattle.xds_serve.proofs.held.Held.take.Goals as goal

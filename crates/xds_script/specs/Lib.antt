@@ -1,4 +1,0 @@
-pub mod Lines
-pub mod Words
-pub mod Commands
-pub mod Scripts
