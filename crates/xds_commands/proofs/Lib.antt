@@ -1,0 +1,4 @@
+mod Changing
+mod Handings
+mod Takings
+mod Responding

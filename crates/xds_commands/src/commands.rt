@@ -1,5 +1,6 @@
 // A run of the program with a network beside it.
 use crate::polling::poll_once;
+use crate::server::{Serving, serve};
 use crate::watching::watch;
 use std::alloc::AllocGlobal;
 use std::io::{Read, Write};
@@ -11,7 +12,6 @@ use std::time::Clock;
 use xds_frames::Counted;
 use xds_program::ServeTask;
 use xds_program::run::Ran;
-use xds_serve::{Serving, serve};
 
 /// Runs the program with these words, the first of which is its name, and answers the status. The words are looked at before
 /// any input, and before any connection. A server takes the input in a thread of its own, and its threads go on until the

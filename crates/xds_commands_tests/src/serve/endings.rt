@@ -3,8 +3,8 @@ use crate::serve::clients::connected;
 use crate::serve::servers::{comes_to, ends_well, serving, started};
 use std::net::{Ipv4Addr, SocketAddrV4, TcpListener};
 use std::test::Fail;
+use xds_commands::{End, Ending};
 use xds_resource::Refusal;
-use xds_serve::{End, Ending};
 
 #[test]
 fn a_port_in_use_is_told(rt: HostRuntime) -> Result<(), Fail> {

@@ -5,8 +5,8 @@ use std::net::{Net, TcpListener, TcpStream};
 use std::test::Fail;
 use std::thread::JoinHandle;
 use std::{str, thread};
+use xds_commands::{Serving, serve};
 use xds_frames::Counted;
-use xds_serve::{Serving, serve};
 
 /// What a server came to: its status, and what it told on the error output.
 #[derive(Drop)]

@@ -5,10 +5,10 @@ use std::alloc::{AllocGlobal, Global};
 use std::marker::Brand;
 use std::sync::Wait;
 use std::test::Fail;
+use xds_commands::{Served, Weighed};
 use xds_core::Event;
 use xds_node::{Host, Line, Node, NodeName, Opened};
 use xds_resource::{AnyResource, Groups, Refusal};
-use xds_serve::{Served, Weighed};
 
 // A cluster whose body has somewhat more than a million bytes.
 fn long_cluster(alloc: Global) -> Result<AnyResource, Refusal> {

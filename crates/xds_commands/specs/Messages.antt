@@ -1,0 +1,33 @@
+-- What a server writes on its error output, and how it ends. This project's own.
+use Rattle.std.specs.Prelude.{ℕ, List, ◌++◌, ◌-◌, ◌==◌, if◌then◌else◌, Option, Some, None, codes, decimal}
+use Rattle.xds_resource.specs.declared.refusal.Refusal.{Refusal}
+use Rattle.xds_resource.specs.Refusals.{number_of, name_of}
+use Rattle.xds_commands.specs.declared.ending.End.{End}
+use Rattle.xds_commands.specs.declared.ending.End.TheVariants.{Streams}
+
+-- the line of a refusal
+abbrev pub refusal_line : Refusal → List ℕ
+refusal_line refusal = decimal (number_of refusal) ++ codes " " ++ name_of refusal ++ codes "\n"
+
+-- the line of a refused line of the input
+abbrev pub fault_line : ℕ → Refusal → List ℕ
+fault_line line refusal = codes "line " ++ decimal line ++ codes ": " ++ refusal_line refusal
+
+-- the line of a port that can't be bound
+abbrev pub port_line : ℕ → List ℕ
+port_line port = codes "127.0.0.1:" ++ decimal port ++ codes ": 19 Device\n"
+
+-- the line of a replica: its number, and its ports
+abbrev pub replica_line : ℕ → ℕ → ℕ → List ℕ
+replica_line number port rest_port =
+    codes "replica " ++ (decimal number ++ (codes ": streams on 127.0.0.1:" ++ (decimal port ++ (codes ", REST on 127.0.0.1:" ++ (decimal rest_port ++ codes "\n")))))
+
+-- what the end was told to be first stays
+abbrev pub first_end : Option End → End → Option End
+first_end None end = Some end
+first_end (Some told) end = Some told
+
+-- the end once a stream more has ended, of those that are still to end
+abbrev pub counted_end : Option ℕ → Option End → Option End
+counted_end None end = end
+counted_end (Some left) end = if left - 1 == 0 then first_end end Streams else end

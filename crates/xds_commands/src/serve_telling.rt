@@ -1,0 +1,102 @@
+// What a server tells on its error output.
+ghost use Rattle.std.specs.Prelude.{◌≡◌, ◌+◌, string_bytes, IfOk};
+ghost use Rattle.xds_commands.specs.Messages.{refusal_line, fault_line, port_line, replica_line};
+
+use std::alloc::Global;
+use std::io::Write;
+use xds_frames::{Counted, write_whole};
+use xds_resource::Refusal;
+
+/// The status of a server that ended by a refusal.
+pub(crate) const REFUSED: u8 = 1;
+
+// The line of a refusal.
+fn refusal_line(alloc: Global, refusal: Refusal) -> Result<String, Refusal>
+    ensures { IfOk result (λ t. string_bytes t ≡ refusal_line refusal) }
+{
+    let number = refusal.number();
+    let name = refusal.name();
+    Ok(format!(in alloc; "{number} {name}\n")?)
+}
+
+// The line of a line of the input that is refused.
+fn fault_line(alloc: Global, line: u64, refusal: Refusal) -> Result<String, Refusal>
+    ensures { IfOk result (λ t. string_bytes t ≡ fault_line line refusal) }
+{
+    let number = refusal.number();
+    let name = refusal.name();
+    Ok(format!(in alloc; "line {line}: {number} {name}\n")?)
+}
+
+// The line of a port that can't be bound.
+fn port_line(alloc: Global, port: u16) -> Result<String, Refusal>
+    ensures { IfOk result (λ t. string_bytes t ≡ port_line port) }
+{
+    Ok(format!(in alloc; "127.0.0.1:{port}: 19 Device\n")?)
+}
+
+// The line of a replica.
+fn replica_line(alloc: Global, number: u16, port: u16, rest_port: u16) -> Result<String, Refusal>
+    ensures { IfOk result (λ t. string_bytes t ≡ replica_line number port rest_port) }
+{
+    Ok(format!(in alloc;
+        "replica {number}: streams on 127.0.0.1:{port}, REST on 127.0.0.1:{rest_port}\n"
+    )?)
+}
+
+// Writes a text, if there was memory for it. An error output that fails is passed over.
+fn put<E: Write>(errors: &mut Counted<E>, text: Result<String, Refusal>) {
+    match text {
+        Ok(text) => {
+            let _ = write_whole(errors, text.as_bytes());
+        }
+        Err(_) => {
+            let _ = write_whole(errors, b"8 OutOfMemory\n");
+        }
+    }
+}
+
+/// Tells a refusal, and answers the status.
+pub(crate) fn tell<E: Write>(alloc: Global, errors: &mut Counted<E>, refusal: Refusal) -> u8
+    ensures { result ≡ 1 }
+{
+    put(errors, refusal_line(alloc, refusal));
+    REFUSED
+}
+
+/// Tells a line of the input that is refused, and answers the status.
+pub(crate) fn tell_line<E: Write>(
+    alloc: Global,
+    errors: &mut Counted<E>,
+    line: u64,
+    refusal: Refusal,
+) -> u8
+    ensures { result ≡ 1 }
+{
+    put(errors, fault_line(alloc, line, refusal));
+    REFUSED
+}
+
+/// Tells a port that can't be bound, and answers the status.
+pub(crate) fn tell_port<E: Write>(alloc: Global, errors: &mut Counted<E>, port: u16) -> u8
+    ensures { result ≡ 1 }
+{
+    put(errors, port_line(alloc, port));
+    REFUSED
+}
+
+/// Tells what is served where, a line a replica: so many of them, from these ports on.
+pub(crate) fn tell_replicas<E: Write>(
+    alloc: Global,
+    errors: &mut Counted<E>,
+    replicas: u16,
+    port: u16,
+    rest_port: u16,
+) {
+    for index in 0..replicas {
+        let number = index.wrapping_add(1);
+        let port = port.wrapping_add(index);
+        let rest_port = rest_port.wrapping_add(index);
+        put(errors, replica_line(alloc, number, port, rest_port));
+    }
+}

@@ -1,0 +1,213 @@
+// A server of some replicas, from its first line to its end.
+ghost use Rattle.std.specs.Prelude.{◌≤◌};
+
+use crate::ending::{End, Ending};
+use crate::replica::{Sends, Sockets, Takes};
+use crate::serve_telling::{tell, tell_line, tell_port, tell_replicas};
+use crate::starting::{start_input, start_replica};
+use crate::wires::{Wires, both, crossed, kept};
+use crossbeam_channel::{Receiver, Sender, unbounded};
+use std::alloc::{AllocError, AllocGlobal, Global};
+use std::io::{Read, Write};
+use std::net::{Ipv4Addr, Net, SocketAddrV4, TcpListener, TcpStream};
+use std::random::RandomSource;
+use std::sync::{Arc, Wait};
+use std::thread::Threads;
+use std::time::Clock;
+use xds_core::Event;
+use xds_exchange::link;
+use xds_frames::Counted;
+use xds_resource::Refusal;
+
+/// What a server is asked for.
+#[derive(Clone, Copy, Debug, PartialEq, Eq)]
+pub struct Serving {
+    /// How many replicas there are, from 1 to 16.
+    pub replicas: u16,
+    /// The port of the first replica's streams. The others have the next ones.
+    pub port: u16,
+    /// The port of the first replica's polls. The others have the next ones.
+    pub rest_port: u16,
+    /// After how many ended streams the server ends; never, where none is said.
+    pub streams: Option<u16>,
+}
+
+// What the replicas are started with, and what changes of the input are sent by.
+type Wiring = Wires<Sockets, Sender<Event>, Receiver<Event>, Sends, Takes>;
+
+/// Serves until so many streams have ended as are asked for, or a line of the input is refused, and answers the status: 0,
+/// or 1 with the refusal on the error output. All ports are bound before anything is read; one that can't be is told with
+/// its address as 19 Device. What is served where is told on the error output, a line a replica.
+///
+/// The input is read in a thread of its own, so it is handed over by value. Its end ends nothing. Threads that still wait
+/// at the end are left: they end with the process.
+pub fn serve<R, I, E>(rt: &R, input: I, errors: &mut Counted<E>, serving: Serving) -> u8
+where
+    R: Wait
+        + Threads
+        + Clock
+        + Net<Listener = TcpListener, Stream = TcpStream>
+        + RandomSource
+        + AllocGlobal
+        + Copy
+        + Drop
+        + Send
+        + Sync
+        + 'static,
+    I: Read + Drop + Send + 'static,
+    E: Write,
+    ensures { result ≤ 1 }
+{
+    let alloc = rt.alloc();
+    let ended = match bound(rt, alloc, serving) {
+        Ok(sockets) => {
+            let Serving {
+                replicas,
+                port,
+                rest_port,
+                streams,
+            } = serving;
+            tell_replicas(alloc, errors, replicas, port, rest_port);
+            run(rt, alloc, input, sockets, streams)
+        }
+        Err(Unbound::Port(port)) => {
+            drop(input);
+            return tell_port(alloc, errors, port);
+        }
+        Err(Unbound::Refused(refusal)) => {
+            drop(input);
+            Err(refusal)
+        }
+    };
+    tell_end(alloc, errors, ended)
+}
+
+// Tells why a server ended, where that is a refusal, and answers the status.
+fn tell_end<E: Write>(alloc: Global, errors: &mut Counted<E>, ended: Result<End, Refusal>) -> u8
+    ensures { result ≤ 1 }
+{
+    match ended {
+        Ok(End::Streams) => 0,
+        Ok(End::Line(line, refusal)) => tell_line(alloc, errors, line, refusal),
+        Ok(End::Refused(refusal)) => tell(alloc, errors, refusal),
+        Err(refusal) => tell(alloc, errors, refusal),
+    }
+}
+
+// Why the ports aren't bound.
+#[derive(Clone, Copy)]
+enum Unbound {
+    Port(u16),
+    Refused(Refusal),
+}
+
+// All sockets, replica by replica.
+fn bound<R>(rt: &R, alloc: Global, serving: Serving) -> Result<Vec<Sockets>, Unbound>
+where
+    R: Net<Listener = TcpListener, Stream = TcpStream>,
+{
+    let mut sockets = Vec::new(alloc);
+    for index in 0..serving.replicas {
+        let streams = bind(rt, serving.port, index)?;
+        let polls = bind(rt, serving.rest_port, index)?;
+        match sockets.push(Sockets { streams, polls }) {
+            Ok(()) => {}
+            Err(_) => return Err(Unbound::Refused(Refusal::OutOfMemory)),
+        }
+    }
+    Ok(sockets)
+}
+
+fn bind<R>(rt: &R, first: u16, index: u16) -> Result<TcpListener, Unbound>
+where
+    R: Net<Listener = TcpListener, Stream = TcpStream>,
+{
+    let port = first.wrapping_add(index);
+    match TcpListener::bind(rt, SocketAddrV4::new(Ipv4Addr::LOCALHOST, port)) {
+        Ok(listener) => Ok(listener),
+        Err(_) => Err(Unbound::Port(port)),
+    }
+}
+
+// Serves to the end.
+fn run<R, I>(
+    rt: &R,
+    alloc: Global,
+    input: I,
+    sockets: Vec<Sockets>,
+    streams: Option<u16>,
+) -> Result<End, Refusal>
+where
+    R: Wait
+        + Threads
+        + Clock
+        + Net<Listener = TcpListener, Stream = TcpStream>
+        + RandomSource
+        + AllocGlobal
+        + Copy
+        + Drop
+        + Send
+        + Sync
+        + 'static,
+    I: Read + Drop + Send + 'static,
+{
+    let wires = wired(alloc, sockets)?;
+    let ending = Arc::new(alloc, Ending::after(streams))?;
+    start(rt, alloc, input, wires, &ending)?;
+    Ok(ending.wait(rt))
+}
+
+// Starts the replicas, and the thread that takes the input.
+fn start<R, I>(
+    rt: &R,
+    alloc: Global,
+    input: I,
+    wires: Wiring,
+    ending: &Arc<Ending>,
+) -> Result<(), Refusal>
+where
+    R: Wait
+        + Threads
+        + Clock
+        + Net<Listener = TcpListener, Stream = TcpStream>
+        + RandomSource
+        + AllocGlobal
+        + Copy
+        + Drop
+        + Send
+        + Sync
+        + 'static,
+    I: Read + Drop + Send + 'static,
+{
+    let (senders, replicas) = wires.apart();
+    let mut done = start_input(rt, alloc, input, senders, ending);
+    let mut index = 0u16;
+    for replica in replicas {
+        done = both(done, start_replica(rt, alloc, index, replica, ending));
+        index = index.saturating_add(1);
+    }
+    done
+}
+
+// What each replica's thread is started with, and what hands it the changes of the input.
+fn wired(alloc: Global, sockets: Vec<Sockets>) -> Result<Wiring, Refusal> {
+    let mut wires = Wires::new(alloc);
+    let mut done = Ok(());
+    let count = sockets.len();
+    for sockets in sockets {
+        done = both(done, wires.add(alloc, sockets, unbounded(alloc)));
+    }
+    for from in 0..count {
+        for to in 0..count {
+            if from != to {
+                done = both(done, wires.join(from, to, ends(alloc)));
+            }
+        }
+    }
+    kept(wires, done)
+}
+
+// The ends of two channels from a replica to another: for what it tells, and for what becomes of that.
+fn ends(alloc: Global) -> Result<(Sends, Takes), AllocError> {
+    crossed(link(alloc), link(alloc))
+}

@@ -1,4 +1,0 @@
-mod Changing
-mod Handings
-mod Takings
-mod Responding

@@ -1,5 +1,0 @@
-pub mod Changes
-pub mod Handing
-pub mod Inputs
-pub mod Messages
-pub mod Responses
