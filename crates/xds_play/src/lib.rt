@@ -6,5 +6,4 @@ pub mod show;
 pub mod tracing;
 
 pub use play::{Play, Unplayed, play_all, play_commands, play_script};
-pub use tracing::script::{trace_commands, trace_script};
-pub use tracing::world::of_world;
+pub use tracing::{trace_commands, trace_script};

@@ -24,3 +24,4 @@ pub mod Tellable
 pub mod Traced
 mod Joining
 mod AnyBase
+mod Sites

@@ -3,3 +3,4 @@ pub mod Claims
 pub mod Telling
 pub mod Joined
 pub mod Bases
+pub mod Sites

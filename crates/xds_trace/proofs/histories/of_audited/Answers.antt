@@ -1,6 +1,6 @@
 use Rattle.std.proofs.Common.{inr}
 use Rattle.xds_trace.proofs.Joining.{audited_told, audited_keeps, audited_refused}
-use Rattle.xds_trace.proofs.histories_telling.of_audited.Goals as goal
+use Rattle.xds_trace.proofs.histories.of_audited.Goals as goal
 
 pub returns-in-Ok-clause-told : goal.returns-in-Ok-clause-told
 returns-in-Ok-clause-told g c = audited_told c.as_slice.result.now c.args.segments.items c.args.history c.of_history-trace.result c.as_slice.ensures.value c.of_history-trace.ensures.told

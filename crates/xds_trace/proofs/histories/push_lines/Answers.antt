@@ -1,7 +1,7 @@
 use Rattle.std.proofs.Common.{◌<◌, length, arith}
 use Rattle.xds_trace.specs.Telling.{record_of}
 use Rattle.xds_trace.proofs.Joining.{records_more, sound_more, untold_at}
-use Rattle.xds_trace.proofs.histories_telling.push_lines.Goals as goal
+use Rattle.xds_trace.proofs.histories.push_lines.Goals as goal
 
 pub loop-line-preserved : goal.loop-line-preserved
 loop-line-preserved c =

@@ -14,7 +14,7 @@ use Rattle.xds_check.specs.Rules.{NoneBroken}
 use Rattle.xds_trace.specs.Claims.{IsQuiet}
 use Rattle.xds_trace.specs.Making.{trace_of}
 use Rattle.xds_trace.specs.Telling.{KeepsTheRules}
-use Rattle.xds_play.specs.Traced.{KeepsAt}
+use Rattle.xds_trace.specs.Sites.{KeepsAt}
 
 site_there : (o : Option Site) (rs : List Record) → Some rs ≡ option_map (λ (s : Site). s.journal) o → (s : Site) × (o ≡ Some s) × (s.journal ≡ rs)
 site_there None rs is = absurd cc

@@ -4,7 +4,7 @@ use Rattle.xds_trace.specs.Making.{trace_of}
 use Rattle.xds_trace.specs.Telling.{IsSoundRecord}
 use Rattle.xds_trace.specs.Joined.{pieces_records}
 use Rattle.xds_trace.proofs.Joining.{added}
-use Rattle.xds_trace.proofs.histories_telling.all_lines.Goals as goal
+use Rattle.xds_trace.proofs.histories.all_lines.Goals as goal
 
 pub returns-in-Ok-push_legal : goal.returns-in-Ok-push_legal
 returns-in-Ok-push_legal g c =

@@ -1,6 +1,6 @@
 use Rattle.std.proofs.Common.{◌<◌, length, arith}
 use Rattle.xds_trace.proofs.Joining.{pieces_more, pieces_sound}
-use Rattle.xds_trace.proofs.histories_telling.push_segments.Goals as goal
+use Rattle.xds_trace.proofs.histories.push_segments.Goals as goal
 
 pub loop-segment-preserved : goal.loop-segment-preserved
 loop-segment-preserved g c =

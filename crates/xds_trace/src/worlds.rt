@@ -3,13 +3,13 @@ ghost use Rattle.std.specs.Prelude.{◌≡◌, IfOk, IfErr};
 ghost use Rattle.std.specs.FinMap as finmap;
 ghost use Rattle.xds_resource.specs.declared.refusal.Refusal.TheVariants.{OutOfMemory};
 ghost use Rattle.xds_world.specs.Worlds.{world as world_of};
-ghost use Rattle.xds_play.specs.Traced.{trace_at, KeepsAt};
+ghost use Rattle.xds_trace.specs.Sites.{trace_at, KeepsAt};
 
 use std::alloc::Global;
 use xds_cache::Accept;
 use xds_check::Trace;
 use xds_resource::Refusal;
-use xds_trace::trace_of;
+use crate::telling::trace_of;
 use xds_world::World;
 use xds_world::laws::journals_are_legal;
 

@@ -1,7 +1,7 @@
 use Rattle.std.proofs.Common.{Some, map, ap, ◌∙◌}
 use Rattle.xds_trace.specs.Telling.{record_of}
-use Rattle.xds_play.proofs.Sites.{journal_legal, journal_keeps}
-use Rattle.xds_play.proofs.tracing.world.of_world.Goals as goal
+use Rattle.xds_trace.proofs.Sites.{journal_legal, journal_keeps}
+use Rattle.xds_trace.proofs.worlds.of_world.Goals as goal
 
 pub returns-in-Ok-clause-keeps : goal.returns-in-Ok-clause-keeps
 returns-in-Ok-clause-keeps g c =

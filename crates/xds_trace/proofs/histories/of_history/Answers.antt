@@ -1,6 +1,6 @@
 use Rattle.std.proofs.Common.{refl, inl, inr, ◌∙◌}
 use Rattle.xds_trace.proofs.Joining.{joins_all, told_all, keeps_all, none_cut}
-use Rattle.xds_trace.proofs.histories_telling.of_history.Goals as goal
+use Rattle.xds_trace.proofs.histories.of_history.Goals as goal
 
 pub returns-then-not-follows-clause-told : goal.returns-then-not-follows-clause-told
 returns-then-not-follows-clause-told g c = inl (refl, λ joins. c.if-not-follows.ensures joins.0 joins.1)

@@ -1,7 +1,7 @@
 use Rattle.std.proofs.Common.{◌≡◌, ◌++◌, take, All}
 use Rattle.xds_trace.specs.Making.{trace_of}
 use Rattle.xds_trace.specs.Telling.{IsSoundRecord}
-use Rattle.xds_trace.proofs.histories_telling.push_lines.Given as goal
+use Rattle.xds_trace.proofs.histories.push_lines.Given as goal
 
 abbrev pub invariant-loop-line : goal.invariant-loop-line
 invariant-loop-line l =
