@@ -23,8 +23,8 @@ use Rattle.xds_check.specs.declared.rule.Rule.TheVariants.{FreshNonce, BestResou
 use Rattle.xds_check.specs.Answers.{Answer, stated_names}
 use Rattle.xds_check.specs.Lines.{standing, live, interest, is_used, cluster_on, has_asked, taken, sent, is_pending, is_waiting, refused_offer, offer_at, speaks_delta, mentions, is_mentioned}
 use Rattle.xds_check.specs.Lines as said
-use Rattle.xds_check.specs.Rules.{place, is_put_by, HasStaleNonce, StatesAnother, StatesUncovered, LacksAName, RemovesShown, IsSecondAtATime, OffersRefused, LeavesPending, BreaksAtResponse}
-use Rattle.xds_check.specs.Kept.{Talk, Marks, is_marked, wanted, is_stale, states_another, states_uncovered, lacks_one, lacks_a_name, is_shown_in, removes_shown, offers_refused, is_missed, none_missed, least}
+use Rattle.xds_check.specs.Rules.{place, is_put_by, HasReusedNonce, BreaksBestResources, StatesUncovered, LacksAName, RemovesShown, IsSecondAtATime, OffersRefused, LeavesPending, BreaksAtResponse}
+use Rattle.xds_check.specs.Kept.{Talk, Marks, is_marked, wanted, is_reused, breaks_best_resources, states_uncovered, lacks_one, lacks_a_name, is_shown_in, removes_shown, offers_refused, is_missed, none_missed, least}
 use Rattle.xds_check.proofs.Talking.{wanted_is, stands_waits, stands_refused}
 use Rattle.xds_check.proofs.Lining.{IsSpokenBy, offer_same}
 
@@ -274,10 +274,10 @@ module _ (s : ℕ) (e : List Line) (held : Entries) (k : Talk) (a : Answer) (spo
   shown_is : (q : List ℕ) → is_shown_in held (wanted k) q ≡ said.is_shown s a.kind e q
   shown_is q = (λ i. is_some (option_and_then if_live (same q i)) && option_map_or (λ w. covers (want i) q w.groups) (same q i) false)
 
-  tells_nonce : Tells (is_stale k a.nonce) (HasStaleNonce e s a)
+  tells_nonce : Tells (is_reused k a.nonce) (HasReusedNonce e s a)
   tells_nonce = tells_same _ _ (ap (λ b. bytes_eq a.nonce [] || b) (spoken.used a.nonce))
 
-  tells_best : Tells (states_another held a) (StatesAnother e a)
+  tells_best : Tells (breaks_best_resources held a) (BreaksBestResources e a)
   tells_best = tells_same _ _ (λ i. list_any (λ x. not (option_map_or (is_put_by x) (option_and_then if_live (same x.name i)) false)) a.statements)
 
   tells_covered : Tells (states_uncovered held (wanted k) a) (StatesUncovered e s a)
@@ -304,7 +304,7 @@ module _ (s : ℕ) (e : List Line) (held : Entries) (k : Talk) (a : Answer) (spo
 
   pub judged : TellsLeast (λ r. BreaksAtResponse r e s a) (least a.kind held k a)
   judged =
-      first_told (λ r. BreaksAtResponse r e s a) (is_stale k a.nonce) (states_another held a) (states_uncovered held (wanted k) a) (lacks_a_name a.kind held (wanted k) a) (removes_shown held (wanted k) a)
+      first_told (λ r. BreaksAtResponse r e s a) (is_reused k a.nonce) (breaks_best_resources held a) (states_uncovered held (wanted k) a) (lacks_a_name a.kind held (wanted k) a) (removes_shown held (wanted k) a)
       (is_some k.unanswered) (offers_refused held k a) tells_nonce tells_best tells_covered tells_whole tells_removals tells_order tells_refused (λ b. b)
 
 -- ---- a name whose answer is missed

@@ -17,8 +17,9 @@ use Rattle.xds_ledger.specs.Offers.{Offer}
 use Rattle.xds_check.specs.declared.asking.Asking.{Asking}
 use Rattle.xds_check.specs.declared.asking.Asking.TheVariants.{Sotw, Delta}
 use Rattle.xds_check.specs.Answers.{Answer, nonce_of, rejects, lists_in, mentions_in, mention_in, stated_names}
-use Rattle.xds_check.specs.Lines.{Sent, Unanswered, Accepted, Refused, is_unanswered, answered_by, is_waiting, last_nonce, refused_after, refused_offer, is_ignored, lists, mentions, interest_of, pending_taken, tells}
-use Rattle.xds_check.specs.Kept.{Talk, unheard, wanted, introduced, ignores, is_marked, with_taken, is_answer, answered, begun_now, requested, with_nonce, responded, offer_in}
+use Rattle.xds_check.specs.Lines as lines
+use Rattle.xds_check.specs.Lines.{Sent, Unanswered, Accepted, Refused, is_unanswered, answered_by, is_waiting, last_nonce, refused_after, refused_offer, lists, mentions, interest_of, pending_taken, tells}
+use Rattle.xds_check.specs.Kept.{Talk, unheard, wanted, introduced, is_stale, is_marked, with_taken, is_answer, answered, begun_now, requested, with_nonce, responded, offer_in}
 use Rattle.xds_check.proofs.Waiting.{listed_waits, mentioned_waits, told_waits}
 
 pub neither : (a b : Bool) → (a || b) ≡ false → (a ≡ false) × (b ≡ false)
@@ -233,7 +234,7 @@ begun_spoken t cluster begun requests responses pends uses k s =
     record { known = s.known; begun_is = refl; sotw = s.sotw; delta = s.delta; strange = s.strange; last = s.last; stands = s.stands; waiting = s.waiting; used = s.used }
 
 ignored_same : (t : TypeName) (cluster : Option (List ℕ)) (begun : Bool) (requests : List Asking) (responses : List Sent) (pends uses : List ℕ → Bool) (k : Talk) (m : Asking)
-    → IsSpoken t cluster begun requests responses pends uses k → ignores k m ≡ is_ignored begun responses m
+    → IsSpoken t cluster begun requests responses pends uses k → is_stale k m ≡ lines.is_stale begun responses m
 ignored_same t cluster begun requests responses pends uses k m s =
     (λ i. s.begun_is i && not (bytes_eq (nonce_of m) []) && not (stands_waits responses k.unanswered k.refused s.stands i) && not (option_map_or (bytes_eq (nonce_of m)) (s.last i) false))
 
@@ -251,12 +252,12 @@ requested_case t c begun requests responses pends uses k old m false s names =
 -- a request of the type
 pub requested_spoken : (t : TypeName) (c : List ℕ) (begun : Bool) (requests : List Asking) (responses : List Sent) (pends uses : List ℕ → Bool) (k : Talk) (old : Selection) (m : Asking)
     → IsSpoken t (Some c) begun requests responses pends uses k → (wanted k).names ≡ old.names
-    → IsSpoken t (Some c) true (if is_ignored begun responses m then requests else requests ++ m ∷ []) (answered_list begun m responses)
-    (λ name. if is_ignored begun responses m then pends name else pending_taken t begun old m name (pends name)) uses (requested t m k)
+    → IsSpoken t (Some c) true (if lines.is_stale begun responses m then requests else requests ++ m ∷ []) (answered_list begun m responses)
+    (λ name. if lines.is_stale begun responses m then pends name else pending_taken t begun old m name (pends name)) uses (requested t m k)
 requested_spoken t c begun requests responses pends uses k old m s names =
-    subst (λ (b : Bool). IsSpoken t (Some c) true (if is_ignored begun responses m then requests else requests ++ m ∷ []) (answered_list begun m responses)
-    (λ name. if is_ignored begun responses m then pends name else pending_taken t begun old m name (pends name)) uses (begun_now (answered m (if b then k else with_taken t m k))))
-    (sym (ignored_same t (Some c) begun requests responses pends uses k m s)) (requested_case t c begun requests responses pends uses k old m (is_ignored begun responses m) s names)
+    subst (λ (b : Bool). IsSpoken t (Some c) true (if lines.is_stale begun responses m then requests else requests ++ m ∷ []) (answered_list begun m responses)
+    (λ name. if lines.is_stale begun responses m then pends name else pending_taken t begun old m name (pends name)) uses (begun_now (answered m (if b then k else with_taken t m k))))
+    (sym (ignored_same t (Some c) begun requests responses pends uses k m s)) (requested_case t c begun requests responses pends uses k old m (lines.is_stale begun responses m) s names)
 
 used_case : (here : Bool) (o : Option Bool) → is_some (cond here (Some true) o) ≡ (here || is_some o)
 used_case true o = refl

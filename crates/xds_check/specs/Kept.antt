@@ -98,9 +98,9 @@ wanted k = if k.delta.begun then k.delta.interest else k.sotw.interest
 abbrev pub introduced : List ℕ → Talk → Talk
 introduced cluster k = if k.known then k else record k { known = true; sotw = unasked cluster; delta = unasked cluster }
 
--- whether a request is one that is ignored
-abbrev pub ignores : Talk → Asking → Bool
-ignores k m = k.begun && not (bytes_eq (nonce_of m) []) && not (is_some k.unanswered) && not (option_map_or (bytes_eq (nonce_of m)) k.last false)
+-- whether the nonce of a request is stale, so that the request is ignored
+abbrev pub is_stale : Talk → Asking → Bool
+is_stale k m = k.begun && not (bytes_eq (nonce_of m) []) && not (is_some k.unanswered) && not (option_map_or (bytes_eq (nonce_of m)) k.last false)
 
 -- what a request of the state of the world says of a name that it lists
 abbrev pub listed_mark : TypeName → Selection → Marks → List ℕ → Option Bool
@@ -148,7 +148,7 @@ begun_now k = record k { begun = true }
 
 -- once a request of the type came
 abbrev pub requested : TypeName → Asking → Talk → Talk
-requested t m k = begun_now (answered m (if ignores k m then k else with_taken t m k))
+requested t m k = begun_now (answered m (if is_stale k m then k else with_taken t m k))
 
 -- once a request of whatever type came
 abbrev pub asked : TypeName → Asking → Talk → Talk
@@ -192,15 +192,16 @@ heard t m s (lines.Idle r u) k = k
 
 -- ---- what breaks the rules, by what is kept
 
-abbrev pub is_stale : Talk → List ℕ → Bool
-is_stale k nonce = bytes_eq nonce [] || is_some (finmap.get k.used nonce)
+-- whether a response has no nonce, or one that was used before
+abbrev pub is_reused : Talk → List ℕ → Bool
+is_reused k nonce = bytes_eq nonce [] || is_some (finmap.get k.used nonce)
 
 -- whether a resource is that of the best live write of its name
 abbrev pub is_best_in : Entries → Statement → Bool
 is_best_in m x = option_map_or (is_put_by x) (live_at m x.name) false
 
-abbrev pub states_another : Entries → Answer → Bool
-states_another m a = list_any (λ x. not (is_best_in m x)) a.statements
+abbrev pub breaks_best_resources : Entries → Answer → Bool
+breaks_best_resources m a = list_any (λ x. not (is_best_in m x)) a.statements
 
 -- whether a name that has a best write is covered
 abbrev pub is_covered_in : Entries → Selection → List ℕ → Bool
@@ -229,7 +230,7 @@ offers_refused m k a = option_map_or (same_offer (offer_in m a)) k.refused false
 -- the least rule that a response breaks, of those that look at what it says of names
 abbrev pub least_by_names : TypeName → Entries → Selection → Answer → Option Rule
 least_by_names t m s a =
-    if states_another m a then Some BestResources
+    if breaks_best_resources m a then Some BestResources
     else if states_uncovered m s a then Some CoveredResources
     else if lacks_a_name t m s a then Some WholeResponse
     else if removes_shown m s a then Some RightRemovals else None
@@ -241,7 +242,7 @@ least_by_order m k a =
 
 -- the least rule that a response breaks
 abbrev pub least : TypeName → Entries → Talk → Answer → Option Rule
-least t m k a = if is_stale k a.nonce then Some FreshNonce else option_or (least_by_names t m (wanted k) a) (least_by_order m k a)
+least t m k a = if is_reused k a.nonce then Some FreshNonce else option_or (least_by_names t m (wanted k) a) (least_by_order m k a)
 
 -- whether a name waits whose answer is missed
 abbrev pub is_missed : Entries → Talk → List ℕ → Bool

@@ -140,14 +140,14 @@ refused_offer (r ∷ responses) = refused_after r.fate r.offer (refused_offer re
 
 -- ---- requests that are taken
 
--- A request is ignored where it isn't the first of its type, has a nonce, no response of the type is unanswered, and its nonce
--- isn't that of the last response.
-abbrev pub is_ignored : Bool → List Sent → Asking → Bool
-is_ignored begun responses m =
+-- The nonce of a request is stale, and the request ignored, where it isn't the first of its type, has a nonce, no response of the
+-- type is unanswered, and its nonce isn't that of the last response.
+abbrev pub is_stale : Bool → List Sent → Asking → Bool
+is_stale begun responses m =
     begun && not (bytes_eq (nonce_of m) []) && not (is_waiting responses) && not (option_map_or (bytes_eq (nonce_of m)) (last_nonce responses) false)
 
 abbrev pub taken_after : Bool → List Sent → Turn → List Asking → List Asking
-taken_after begun responses (Asks m) before = if is_ignored begun responses m then before else before ++ m ∷ []
+taken_after begun responses (Asks m) before = if is_stale begun responses m then before else before ++ m ∷ []
 taken_after begun responses (Answers a) before = before
 taken_after begun responses Nothing before = before
 
@@ -228,7 +228,7 @@ tells a name = has_name (stated_names a) name || has_name a.removed name
 
 abbrev pub pending_after : ℕ → TypeName → List Line → Turn → List ℕ → Bool → Bool
 pending_after s t earlier (Asks m) name before =
-    if is_ignored (has_asked s t earlier) (sent s t earlier) m then before else pending_taken t (has_asked s t earlier) (interest s t earlier) m name before
+    if is_stale (has_asked s t earlier) (sent s t earlier) m then before else pending_taken t (has_asked s t earlier) (interest s t earlier) m name before
 pending_after s t earlier (Answers a) name before = before && not (tells a name)
 pending_after s t earlier Nothing name before = before
 

@@ -39,8 +39,8 @@ word_of NothingPending = codes "P8"
 -- ---- what breaks each
 
 -- P1: a response's nonce is empty, or was used before on its stream
-abbrev pub HasStaleNonce : List Line → ℕ → Answer → Type 0
-HasStaleNonce earlier s a = (bytes_eq a.nonce [] || is_used s earlier a.nonce) ≡ true
+abbrev pub HasReusedNonce : List Line → ℕ → Answer → Type 0
+HasReusedNonce earlier s a = (bytes_eq a.nonce [] || is_used s earlier a.nonce) ≡ true
 
 -- whether a label is that of a write: its name, and its version
 abbrev pub is_label_of : StampedWrite → Label → Bool
@@ -55,8 +55,8 @@ abbrev pub is_best : TypeName → List Line → Statement → Bool
 is_best t earlier x = option_map_or (is_put_by x) (live t earlier x.name) false
 
 -- P2: a response's resource isn't that of the best live write of its name
-abbrev pub StatesAnother : List Line → Answer → Type 0
-StatesAnother earlier a = list_any (λ x. not (is_best a.kind earlier x)) a.statements ≡ true
+abbrev pub BreaksBestResources : List Line → Answer → Type 0
+BreaksBestResources earlier a = list_any (λ x. not (is_best a.kind earlier x)) a.statements ≡ true
 
 -- P3: a response's resource isn't covered by the interest
 abbrev pub StatesUncovered : List Line → ℕ → Answer → Type 0
@@ -88,8 +88,8 @@ pub record LeavesPending (earlier : List Line) (s : ℕ) (t : TypeName) : Type 0
 
 -- what breaks a rule at a response
 abbrev pub BreaksAtResponse : Rule → List Line → ℕ → Answer → Type 0
-BreaksAtResponse FreshNonce earlier s a = HasStaleNonce earlier s a
-BreaksAtResponse BestResources earlier s a = StatesAnother earlier a
+BreaksAtResponse FreshNonce earlier s a = HasReusedNonce earlier s a
+BreaksAtResponse BestResources earlier s a = BreaksBestResources earlier a
 BreaksAtResponse CoveredResources earlier s a = StatesUncovered earlier s a
 BreaksAtResponse WholeResponse earlier s a = LacksAName earlier s a
 BreaksAtResponse RightRemovals earlier s a = RemovesShown earlier s a

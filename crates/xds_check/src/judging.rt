@@ -84,7 +84,7 @@ fn is_best<T: ResourceType>(catalogue: &Catalogue<T>, statement: &Statement) -> 
 }
 
 // Whether a resource isn't that of the best live write of its name.
-fn states_another<T: ResourceType>(catalogue: &Catalogue<T>, statements: &[Statement]) -> bool
+fn breaks_best_resources<T: ResourceType>(catalogue: &Catalogue<T>, statements: &[Statement]) -> bool
     ensures { result ≡ list_any (λ x. not (is_best_in catalogue.now.entries x)) statements.now }
 {
     for statement in statements {
@@ -217,8 +217,8 @@ fn removes_shown<T: ResourceType>(
 }
 
 // Whether a nonce is empty or was used.
-fn is_stale<T: ResourceType>(talk: &Talk<T>, nonce: &str) -> bool
-    ensures { result ≡ kept.is_stale talk.now nonce.now }
+fn is_reused<T: ResourceType>(talk: &Talk<T>, nonce: &str) -> bool
+    ensures { result ≡ kept.is_reused talk.now nonce.now }
 {
     nonce.is_empty() || talk.used.contains(nonce)
 }
@@ -254,7 +254,7 @@ fn broken_by_names<T: ResourceType>(
     ensures ok { IfOk result (λ r. r ≡ least_by_names T.TYPE catalogue.now.entries interest.now answer.now) }
     ensures refused { IfErr result (λ e. e ≡ OutOfMemory) }
 {
-    if states_another(catalogue, answer.statements()) {
+    if breaks_best_resources(catalogue, answer.statements()) {
         return Ok(Some(Rule::BestResources));
     }
     if states_uncovered(catalogue, interest, answer.statements()) {
@@ -300,7 +300,7 @@ pub(crate) fn broken_by<T: ResourceType>(
     ensures ok { IfOk result (λ r. r ≡ least T.TYPE catalogue.now.entries talk.now answer.now) }
     ensures refused { IfErr result (λ e. e ≡ OutOfMemory) }
 {
-    if is_stale(talk, answer.nonce()) {
+    if is_reused(talk, answer.nonce()) {
         return Ok(Some(Rule::FreshNonce));
     }
     if let Some(rule) = broken_by_names(alloc, catalogue, live_names, talk.wanted(), answer)? {

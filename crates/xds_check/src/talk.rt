@@ -6,7 +6,7 @@ ghost use Rattle.xds_interest.specs.Asked.{delta_asked};
 ghost use Rattle.xds_interest.specs.Delta.{mention_of};
 ghost use Rattle.xds_check.specs.Answers.{is_of as is_of_type};
 ghost use Rattle.xds_check.specs.Kept as kept;
-ghost use Rattle.xds_check.specs.Kept.{unheard, wanted, listed_marks, mentioned_marks, introduced, ignores, waiting_after, with_asked, with_taken, is_answer, answered, begun_now, requested, responded, with_nonce};
+ghost use Rattle.xds_check.specs.Kept.{unheard, wanted, listed_marks, mentioned_marks, introduced, is_stale, waiting_after, with_asked, with_taken, is_answer, answered, begun_now, requested, responded, with_nonce};
 
 use crate::answer::Answer;
 use crate::asking::Asking;
@@ -177,8 +177,8 @@ impl<T: ResourceType> Talk<T> {
     }
 
     // Whether a request is one that is ignored.
-    fn ignores(&self, asking: &Asking) -> bool
-        ensures { result ≡ ignores self.now asking.now }
+    fn is_stale(&self, asking: &Asking) -> bool
+        ensures { result ≡ is_stale self.now asking.now }
     {
         self.begun
             && !asking.nonce().is_empty()
@@ -277,7 +277,7 @@ impl<T: ResourceType> Talk<T> {
         ensures ok { OnOk result (self.new ≡ requested T.TYPE asking.now self.old) }
         ensures refused { IfErr result (λ e. e ≡ OutOfMemory) }
     {
-        if !self.ignores(asking) {
+        if !self.is_stale(asking) {
             self.take(alloc, asking)?;
         }
         self.settle(asking);

@@ -15,7 +15,7 @@ use Rattle.xds_ledger.specs.declared.outcome.Outcome.{Outcome}
 use Rattle.xds_ledger.specs.declared.outcome.Outcome.TheVariants.{Taken, Ignored}
 use Rattle.xds_ledger.specs.Offers.{Offer}
 use Rattle.xds_ledger.specs.Ledgers as ledgers
-use Rattle.xds_ledger.specs.Ledgers.{Account, account_code, untold, is_stale, settled, touch, resume}
+use Rattle.xds_ledger.specs.Ledgers.{Account, account_code, untold, settled, touch, resume}
 
 pub record Session : Type 0 where
   pub asked : Asked
@@ -57,9 +57,9 @@ delta_names t before m versions =
       versions = if before.begun then finmap.empty else versions;
     }
 
--- whether a request with this nonce is taken: the first one is, and else one that isn't out of date
-abbrev pub is_taken : Session → List ℕ → Bool
-is_taken s nonce = not (s.asked.begun && is_stale s.account nonce)
+-- whether a request with this nonce is stale, so that it is ignored: the first request never is
+abbrev pub is_stale : Session → List ℕ → Bool
+is_stale s nonce = s.asked.begun && ledgers.is_stale s.account nonce
 
 -- after a request that is taken: it settles the response that it answers, and then its names are taken
 abbrev pub taken : VariantName → TypeName → Session → Answer → Names → Session
@@ -70,11 +70,11 @@ taken v t s answer names = record {
 
 -- what became of a request with this nonce
 abbrev pub outcome : Session → List ℕ → Outcome
-outcome s nonce = if is_taken s nonce then Taken else Ignored
+outcome s nonce = if not (is_stale s nonce) then Taken else Ignored
 
 -- after a request
 abbrev pub take : VariantName → TypeName → Session → Answer → Names → Session
-take v t s answer names = if is_taken s answer.nonce then taken v t s answer names else s
+take v t s answer names = if not (is_stale s answer.nonce) then taken v t s answer names else s
 
 -- whether the client is owed something, by a replica that holds these entries
 abbrev pub owes : VariantName → TypeName → Session → Entries → Bool

@@ -12,7 +12,7 @@ use Rattle.xds_message.specs.Drafts.{Drafted, with_body}
 use Rattle.xds_ledger.specs.declared.variant.VariantName.TheVariants.{StateOfTheWorld}
 use Rattle.xds_ledger.specs.Offers.{Offer}
 use Rattle.xds_ledger.specs.Ledgers.{Account, settled, touch, resume}
-use Rattle.xds_ledger.specs.Sessions.{Session, is_taken}
+use Rattle.xds_ledger.specs.Sessions.{Session, is_stale}
 use Rattle.xds_interest.specs.Interests.{Selection}
 use Rattle.xds_ledger.specs.Texts.{interest_version}
 use Rattle.xds_catalogue.specs.Holdings.{Holdings}
@@ -44,7 +44,7 @@ pushed_together o [] d = λ i. record d { bodies = sym (append-nil d.bodies) i }
 pushed_together o (w ∷ ws) d = push_step o d w ws (offered o w) (pushed_together o ws)
 
 -- a request that is taken leaves what is kept of the names, and the account with its names taken
-pub list_taken : (t : TypeName) (s : Session) (nonce : List ℕ) (rejects : Bool) (names : List (List ℕ)) (asked : Asked) (account : Account) → is_taken s nonce ≡ true → asked ≡ sotw_asked t s.asked names
+pub list_taken : (t : TypeName) (s : Session) (nonce : List ℕ) (rejects : Bool) (names : List (List ℕ)) (asked : Asked) (account : Account) → not (is_stale s nonce) ≡ true → asked ≡ sotw_asked t s.asked names
     → account ≡ resume (touch (settled StateOfTheWorld t s.account nonce rejects) asked.interest (sotw_touch s.asked.interest asked.interest) asked.interest.names) finmap.empty
     → ◌≡◌ {A = Session} (record { asked = asked; account = account }) (take_list t s nonce rejects names)
 list_taken t s nonce rejects names asked account holds is left =
@@ -55,7 +55,7 @@ list_taken t s nonce rejects names asked account holds is left =
 
 -- the same from what the calls ensure
 pub list_taken_by : (t : TypeName) (s before : Session) (nonce : List ℕ) (rejects : Bool) (names : List (List ℕ)) (asked : Asked) (account : Account) (interest : Selection) (touched : Touch) (mentioned : set.FinSet text_cmp)
-    → before ≡ s → is_taken s nonce ≡ true → asked ≡ sotw_asked t before.asked names → interest ≡ asked.interest → touched ≡ sotw_touch before.asked.interest interest → mentioned ≡ interest.names
+    → before ≡ s → not (is_stale s nonce) ≡ true → asked ≡ sotw_asked t before.asked names → interest ≡ asked.interest → touched ≡ sotw_touch before.asked.interest interest → mentioned ≡ interest.names
     → account ≡ resume (touch (settled StateOfTheWorld t before.account nonce rejects) interest touched mentioned) finmap.empty
     → ◌≡◌ {A = Session} (record { asked = asked; account = account }) (take_list t s nonce rejects names)
 list_taken_by t s before nonce rejects names asked account interest touched mentioned same holds kept covers touches says left =
@@ -63,7 +63,7 @@ list_taken_by t s before nonce rejects names asked account interest touched ment
     (left ∙ (λ i. resume (touch (settled StateOfTheWorld t (same i).account nonce rejects) (covers i) ((touches ∙ (λ j. sotw_touch (same j).asked.interest (covers j))) i) ((says ∙ (λ j. (covers j).names)) i)) finmap.empty))
 
 -- and one that isn't leaves the session
-pub list_ignored : (t : TypeName) (s : Session) (nonce : List ℕ) (rejects : Bool) (names : List (List ℕ)) → is_taken s nonce ≡ false → s ≡ take_list t s nonce rejects names
+pub list_ignored : (t : TypeName) (s : Session) (nonce : List ℕ) (rejects : Bool) (names : List (List ℕ)) → not (is_stale s nonce) ≡ false → s ≡ take_list t s nonce rejects names
 list_ignored t s nonce rejects names no_longer =
     let a : Asked = sotw_asked t s.asked names in
     let all : Session =

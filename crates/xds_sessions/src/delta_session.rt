@@ -6,7 +6,7 @@ ghost use Rattle.xds_resource.specs.declared.refusal.Refusal.TheVariants.{OutOfM
 ghost use Rattle.xds_interest.specs.Touches.{delta_touch};
 ghost use Rattle.xds_ledger.specs.Offers.{offer};
 ghost use Rattle.xds_ledger.specs.declared.variant.VariantName.TheVariants as variants;
-ghost use Rattle.xds_ledger.specs.Sessions.{is_taken, outcome, send};
+ghost use Rattle.xds_ledger.specs.Sessions.{is_stale, outcome, send};
 ghost use Rattle.xds_ledger.specs.Lists.{FitsNext, SessionFits, StaysFit, new_kept};
 ghost use Rattle.xds_catalogue.specs.Holdings.{Holdings};
 ghost use Rattle.xds_ledger.specs.Listed.{changed_since};
@@ -150,7 +150,7 @@ impl<T: ResourceType> Session<T> {
         ensures err { OnErr result (self.new ≡ self.old) }
         ensures refused { IfErr result (λ e. e ≡ OutOfMemory) }
     {
-        if !self.takes(request.response_nonce.as_str()) {
+        if self.is_stale(request.response_nonce.as_str()) {
             return Ok(Outcome::Ignored);
         }
         let subscribe = &request.resource_names_subscribe;
@@ -214,11 +214,11 @@ impl<T: ResourceType> Session<T> {
         Ok(())
     }
 
-    // Whether a request with this nonce is taken.
-    fn takes(&self, nonce: &str) -> bool
-        ensures { result ≡ is_taken self.now.session nonce.now }
+    // Whether a request with this nonce is stale, so that it is ignored.
+    fn is_stale(&self, nonce: &str) -> bool
+        ensures { result ≡ is_stale self.now.session nonce.now }
     {
-        !(self.names.has_begun() && self.ledger.is_stale(nonce))
+        self.names.has_begun() && self.ledger.is_stale(nonce)
     }
 
     /// Whether the client is owed something: a response of the type is unanswered or due. It takes no memory.

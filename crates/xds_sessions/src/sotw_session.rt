@@ -5,7 +5,7 @@ ghost use Rattle.xds_resource.specs.Stamps.{max_counter};
 ghost use Rattle.xds_resource.specs.declared.refusal.Refusal.TheVariants.{OutOfMemory, NonceSpent};
 ghost use Rattle.xds_ledger.specs.Offers.{offer};
 ghost use Rattle.xds_ledger.specs.declared.variant.VariantName.TheVariants as variants;
-ghost use Rattle.xds_ledger.specs.Sessions.{is_taken, outcome, send};
+ghost use Rattle.xds_ledger.specs.Sessions.{is_stale, outcome, send};
 ghost use Rattle.xds_ledger.specs.Lists.{SessionFits, StaysFit, new_kept};
 ghost use Rattle.xds_catalogue.specs.Holdings.{Holdings};
 ghost use Rattle.xds_ledger.specs.Listed.{changed_since};
@@ -77,11 +77,11 @@ impl<T: ResourceType> Session<T> {
         )
     }
 
-    // Whether a request with this nonce is taken.
-    fn takes(&self, nonce: &str) -> bool
-        ensures { result ≡ is_taken self.now.session nonce.now }
+    // Whether a request with this nonce is stale, so that it is ignored.
+    fn is_stale(&self, nonce: &str) -> bool
+        ensures { result ≡ is_stale self.now.session nonce.now }
     {
-        !(self.names.has_begun() && self.ledger.is_stale(nonce))
+        self.names.has_begun() && self.ledger.is_stale(nonce)
     }
 
     // Takes a request with this nonce, with or without an error, and with this list of names.
@@ -98,7 +98,7 @@ impl<T: ResourceType> Session<T> {
         ensures fits { OnOk result (StaysFit variants.StateOfTheWorld T.TYPE self.old self.new) }
         ensures refused { IfErr result (λ e. e ≡ OutOfMemory) }
     {
-        if !self.takes(nonce) {
+        if self.is_stale(nonce) {
             return Ok(Outcome::Ignored);
         }
         let names = self.names.after(alloc, list)?;

@@ -17,7 +17,8 @@ use Rattle.xds_ledger.specs.Ledgers as ledgers
 use Rattle.xds_ledger.specs.Ledgers.{Account, untold, nonce_text, settled, answered, answers, is_stale, touch, resume, noted, touched_since, send}
 use Rattle.xds_check.specs.declared.asking.Asking.{Asking}
 use Rattle.xds_check.specs.Answers.{nonce_of, rejects}
-use Rattle.xds_check.specs.Lines.{Fate, Unanswered, Accepted, Refused, is_unanswered, Sent, answered_by, is_waiting, last_nonce, refused_offer, is_ignored}
+use Rattle.xds_check.specs.Lines as told_of
+use Rattle.xds_check.specs.Lines.{Fate, Unanswered, Accepted, Refused, is_unanswered, Sent, answered_by, is_waiting, last_nonce, refused_offer}
 
 -- what an account has unanswered is the last of the responses, and no other waits
 abbrev pub IsOpen : Option ledgers.Sent → ℕ → List Sent → Type 0
@@ -57,7 +58,7 @@ stale_by true false false n None text is same = ap not (sym is ∙ ap (bytes_eq 
 stale_by true false false n (Some z) text is same = ap (λ x. not (bytes_eq n x)) same
 
 -- a request is ignored by the lines just where it is out of date by the account
-pub ignored_as : (begun : Bool) (k : Account) (rs : List Sent) (m : Asking) → Tells k rs → is_ignored begun rs m ≡ (begun && is_stale k (nonce_of m))
+pub ignored_as : (begun : Bool) (k : Account) (rs : List Sent) (m : Asking) → Tells k rs → told_of.is_stale begun rs m ≡ (begun && is_stale k (nonce_of m))
 ignored_as begun k rs m told =
     stale_by begun (bytes_eq (nonce_of m) []) (is_waiting rs) (nonce_of m) (last_nonce rs) (nonce_text k.nonce) refl told.nonce
     ∙ ap (λ b. begun && (b && not (bytes_eq (nonce_of m) []) && not (bytes_eq (nonce_of m) (nonce_text k.nonce)))) (ap not (waits_as k.sent k.nonce rs told.waiting) ∙ is_none_not k.sent)

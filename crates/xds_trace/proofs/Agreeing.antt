@@ -14,7 +14,8 @@ use Rattle.xds_ledger.specs.Sessions as sessions
 use Rattle.xds_ledger.specs.Sessions.{Session, Names, unopened}
 use Rattle.xds_check.specs.declared.asking.Asking.{Asking}
 use Rattle.xds_check.specs.Answers.{nonce_of, rejects}
-use Rattle.xds_check.specs.Lines.{Sent, answered_by, is_waiting, is_ignored, lists, mentions}
+use Rattle.xds_check.specs.Lines as told_of
+use Rattle.xds_check.specs.Lines.{Sent, answered_by, is_waiting, lists, mentions}
 use Rattle.xds_trace.proofs.Accounts.{none_of, Tells, tells_nothing, waits_as, ignored_as, none_answered, told_settled, told_touched}
 use Rattle.xds_trace.proofs.Pending.{Waits}
 
@@ -106,10 +107,10 @@ module _ (v : VariantName) (cluster : List ℕ) (t : TypeName) (x : Session) (ha
 
   -- a request changes the session as it changes what the lines say
   pub asked_agrees : (Q : List ℕ → Bool) → NamesAgree Q
-      → Agrees v cluster t (session_asked v t x m names) true (sent_asked has m rs) (if is_ignored has rs m then qs else qs ++ m ∷ []) (λ name. if is_ignored has rs m then P name else Q name)
+      → Agrees v cluster t (session_asked v t x m names) true (sent_asked has m rs) (if told_of.is_stale has rs m then qs else qs ++ m ∷ []) (λ name. if told_of.is_stale has rs m then P name else Q name)
   asked_agrees Q after =
       let old : (has && is_stale x.account (nonce_of m)) ≡ (x.asked.begun && is_stale x.account (nonce_of m)) = ap (λ b. b && is_stale x.account (nonce_of m)) (sym agrees.begun) in
-      let said : (has && is_stale x.account (nonce_of m)) ≡ is_ignored has rs m = sym (ignored_as has x.account rs m agrees.told) in
+      let said : (has && is_stale x.account (nonce_of m)) ≡ told_of.is_stale has rs m = sym (ignored_as has x.account rs m agrees.told) in
       subst (λ s. Agrees v cluster t (session_asked v t x m names) true (sent_asked has m rs) (if s then qs else qs ++ m ∷ []) (λ name. if s then P name else Q name)) said
       (subst (λ s. Agrees v cluster t (if not s then sessions.taken v t x (record { nonce = nonce_of m; rejects = rejects m }) names else x) true (sent_asked has m rs)
       (if has && is_stale x.account (nonce_of m) then qs else qs ++ m ∷ []) (λ name. if has && is_stale x.account (nonce_of m) then P name else Q name)) old

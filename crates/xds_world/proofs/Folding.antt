@@ -9,7 +9,7 @@ use Rattle.xds_ledger.specs.declared.variant.VariantName.TheVariants.{Delta}
 use Rattle.xds_ledger.specs.Offers.{Offer}
 use Rattle.xds_ledger.specs.Ledgers.{Account, nonce_text, settled, answered}
 use Rattle.xds_ledger.specs.Believing.{Sent, touched_since}
-use Rattle.xds_ledger.specs.Sessions.{Session, Answer, Names, taken, is_taken, delta_names}
+use Rattle.xds_ledger.specs.Sessions.{Session, Answer, Names, taken, is_stale, delta_names}
 use Rattle.xds_ledger.specs.Laws.{with_sent}
 use Rattle.xds_ledger.proofs.Settling.{sending_commutes}
 use Rattle.xds_sessions.specs.DeltaPolls.{take, mention, answer_in}
@@ -22,7 +22,7 @@ folded t s (m ∷ ms) = folded t (take t s m) ms
 -- each request is taken when its turn comes
 abbrev pub AllTaken : TypeName → Session → List DeltaRequest → Type 0
 AllTaken t s [] = ⊤
-AllTaken t s (m ∷ ms) = (is_taken s m.response_nonce ≡ true) × AllTaken t (take t s m) ms
+AllTaken t s (m ∷ ms) = (not (is_stale s m.response_nonce) ≡ true) × AllTaken t (take t s m) ms
 
 -- none of them has this nonce
 abbrev pub NoneAnswers : ℕ → List DeltaRequest → Type 0
@@ -38,11 +38,11 @@ pub folded_more : (t : TypeName) (s : Session) (ms : List DeltaRequest) (m : Del
 folded_more t s [] m = refl
 folded_more t s (x ∷ ms) m = folded_more t (take t s x) ms m
 
-pub taken_more : (t : TypeName) (s : Session) (ms : List DeltaRequest) (m : DeltaRequest) → AllTaken t s ms → is_taken (folded t s ms) m.response_nonce ≡ true → AllTaken t s (ms ++ m ∷ [])
+pub taken_more : (t : TypeName) (s : Session) (ms : List DeltaRequest) (m : DeltaRequest) → AllTaken t s ms → not (is_stale (folded t s ms) m.response_nonce) ≡ true → AllTaken t s (ms ++ m ∷ [])
 taken_more t s [] m all last = (last, tt)
 taken_more t s (x ∷ ms) m all last = (all.0, taken_more t (take t s x) ms m all.1 last)
 
-pub take_is : (t : TypeName) (s : Session) (m : DeltaRequest) → is_taken s m.response_nonce ≡ true → take t s m ≡ taken Delta t s (answer_in m) (delta_names t s.asked (mention m) m.initial_resource_versions)
+pub take_is : (t : TypeName) (s : Session) (m : DeltaRequest) → not (is_stale s m.response_nonce) ≡ true → take t s m ≡ taken Delta t s (answer_in m) (delta_names t s.asked (mention m) m.initial_resource_versions)
 take_is t s m is = ap (λ b. if b then taken Delta t s (answer_in m) (delta_names t s.asked (mention m) m.initial_resource_versions) else s) is
 
 unsettled : (t : TypeName) (a : Account) (nonce : List ℕ) (rejects : Bool) → a.sent ≡ None → settled Delta t a nonce rejects ≡ a
@@ -59,7 +59,7 @@ taken_quiet t s answer names none =
 -- while nothing is unanswered, taking a request leaves it so
 pub still_none : (t : TypeName) (s : Session) (m : DeltaRequest) → s.account.sent ≡ None → (take t s m).account.sent ≡ None
 still_none t s m none =
-    quiet_either (is_taken s m.response_nonce) (taken Delta t s (answer_in m) (delta_names t s.asked (mention m) m.initial_resource_versions)) s
+    quiet_either (not (is_stale s m.response_nonce)) (taken Delta t s (answer_in m) (delta_names t s.asked (mention m) m.initial_resource_versions)) s
     (taken_quiet t s (answer_in m) (delta_names t s.asked (mention m) m.initial_resource_versions) none) none
 
 pub never_stale : (b : Bool) → not (b && false) ≡ true
@@ -67,10 +67,10 @@ never_stale true = refl
 never_stale false = refl
 
 -- a request that comes while a response is unanswered is taken
-pub taken_meanwhile : (s : Session) (o : Offer) (since : List Touch) (n : ℕ) (nonce : List ℕ) → is_taken (with_sent s o since n) nonce ≡ true
+pub taken_meanwhile : (s : Session) (o : Offer) (since : List Touch) (n : ℕ) (nonce : List ℕ) → not (is_stale (with_sent s o since n) nonce) ≡ true
 taken_meanwhile s o since n nonce = never_stale s.asked.begun
 
-sent_once : (t : TypeName) (s : Session) (o : Offer) (since : List Touch) (n : ℕ) (m : DeltaRequest) → s.account.sent ≡ None → is_taken s m.response_nonce ≡ true → bytes_eq m.response_nonce (nonce_text n) ≡ false
+sent_once : (t : TypeName) (s : Session) (o : Offer) (since : List Touch) (n : ℕ) (m : DeltaRequest) → s.account.sent ≡ None → not (is_stale s m.response_nonce) ≡ true → bytes_eq m.response_nonce (nonce_text n) ≡ false
     → take t (with_sent s o since n) m ≡ with_sent (take t s m) o (since ++ delta_touch t (mention m) ∷ []) n
 sent_once t s o since n m none is apart =
     take_is t (with_sent s o since n) m (taken_meanwhile s o since n m.response_nonce) ∙ sending_commutes Delta t s o since n (answer_in m) (delta_names t s.asked (mention m) m.initial_resource_versions) none apart

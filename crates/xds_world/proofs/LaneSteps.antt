@@ -29,7 +29,7 @@ use Rattle.xds_ledger.specs.declared.entry.Due.TheVariants.{Stated}
 use Rattle.xds_ledger.specs.Offers.{Offer}
 use Rattle.xds_ledger.specs.Ledgers.{Account, nonce_text, settled, answered}
 use Rattle.xds_ledger.specs.Believing.{Sent, was_touched, touched_since, believed_accepted}
-use Rattle.xds_ledger.specs.Sessions.{Session, Names, unopened, taken, is_taken, delta_names, send}
+use Rattle.xds_ledger.specs.Sessions.{Session, Names, unopened, taken, is_stale, delta_names, send}
 use Rattle.xds_ledger.proofs.BeliefsByName.{accepted_by_name}
 use Rattle.xds_sessions.specs.DeltaPolls.{take, mention, answer_in}
 use Rattle.xds_cache.specs.Shelves.{Wants, Holding, Cache, Shelf, texts, interest, is_wanted, wants_of, wants_after, wanting, kept_of}
@@ -105,7 +105,7 @@ abreast_delivered cluster all t test s f d lane =
     (after_answer cluster t f.wants s d.nonce fault sent.0 asked.1 sent.1 (ap (λ x. bytes_eq x (nonce_text s.account.nonce)) sent.2.nonce ∙ bytes_eq_same (nonce_text s.account.nonce))) lane
 
 -- and its answer is taken
-pub taken_delivered : (cluster : List ℕ) (all : List TypedWrite) (t : TypeName) (s : Session) (f : Shelf) (d : DraftedDelta) (nonce : List ℕ) → Abreast cluster all t s (Some d) f → is_taken s nonce ≡ true
+pub taken_delivered : (cluster : List ℕ) (all : List TypedWrite) (t : TypeName) (s : Session) (f : Shelf) (d : DraftedDelta) (nonce : List ℕ) → Abreast cluster all t s (Some d) f → not (is_stale s nonce) ≡ true
 taken_delivered cluster all t s f d nonce lane = let sent = awaited all t s.account.nonce s.account.sent f.wants d lane.awaits in taken_if_sent s nonce sent.0 sent.1
 
 -- ---- a change
@@ -218,7 +218,7 @@ begun_folded : (t : TypeName) (s : Session) (ms : List DeltaRequest) → s.asked
 begun_folded t s [] begun = begun
 begun_folded t s (m ∷ ms) begun =
     begun_folded t (take t s m) ms
-    (begun_either (is_taken s m.response_nonce) (taken Delta t s (answer_in m) (delta_names t s.asked (mention m) m.initial_resource_versions)) s refl begun)
+    (begun_either (not (is_stale s m.response_nonce)) (taken Delta t s (answer_in m) (delta_names t s.asked (mention m) m.initial_resource_versions)) s refl begun)
 
 -- a name that requests don't touch is reached as before
 untouched_folded : (t : TypeName) (s : Session) (ms : List DeltaRequest) (name : List ℕ) → s.asked.begun ≡ true → IsStarOfComplete t s.asked → AllTaken t s ms → list_any (λ x. touches x name) (touched_by t ms) ≡ false

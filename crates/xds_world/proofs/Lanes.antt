@@ -23,7 +23,7 @@ use Rattle.xds_ledger.specs.declared.entry.Due.TheVariants.{Stated}
 use Rattle.xds_ledger.specs.Owed.{Beliefs}
 use Rattle.xds_ledger.specs.Ledgers.{Account, nonce_text, settled, answered}
 use Rattle.xds_ledger.specs.Believing.{Sent, was_touched, touched_since, beliefs_taken}
-use Rattle.xds_ledger.specs.Sessions.{Session, Answer, Names, unopened, taken, is_taken, delta_names}
+use Rattle.xds_ledger.specs.Sessions.{Session, Answer, Names, unopened, taken, is_stale, delta_names}
 use Rattle.xds_ledger.proofs.BeliefsByName.{taken_by_name}
 use Rattle.xds_ledger.proofs.Made.{resumed_by_name}
 use Rattle.xds_sessions.specs.DeltaPolls.{take, mention, answer_in}
@@ -123,7 +123,7 @@ nothing_resumed b q = ap (λ o. resumed_after o b) (finmap.get-empty text_cmp q)
 pub settles : (v : VariantName) (t : TypeName) (a : Account) (nonce : List ℕ) (rejects : Bool) (sent : Sent) → a.sent ≡ Some sent → bytes_eq nonce (nonce_text a.nonce) ≡ true → settled v t a nonce rejects ≡ answered v t a sent rejects
 settles v t a nonce rejects sent has same = λ i. if is_some (has i) && same i then option_map_or (λ x. answered v t a x rejects) (has i) a else a
 
-pub taken_if_sent : (s : Session) (nonce : List ℕ) (sent : Sent) → s.account.sent ≡ Some sent → is_taken s nonce ≡ true
+pub taken_if_sent : (s : Session) (nonce : List ℕ) (sent : Sent) → s.account.sent ≡ Some sent → not (is_stale s nonce) ≡ true
 taken_if_sent s nonce sent has = ap (λ o. not (s.asked.begun && (is_none o && not (bytes_eq nonce []) && not (bytes_eq nonce (nonce_text s.account.nonce))))) has ∙ never_stale s.asked.begun
 
 plain : (b c d : Bool) → not (b && (c && false && d)) ≡ true
@@ -132,7 +132,7 @@ plain true false d = refl
 plain false c d = refl
 
 -- a request with no nonce is taken
-pub taken_if_plain : (s : Session) → is_taken s [] ≡ true
+pub taken_if_plain : (s : Session) → not (is_stale s []) ≡ true
 taken_if_plain s = plain s.asked.begun (is_none s.account.sent) (not (bytes_eq [] (nonce_text s.account.nonce)))
 
 -- ---- a request without names

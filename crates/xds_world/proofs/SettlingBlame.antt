@@ -19,7 +19,7 @@ use Rattle.xds_ledger.specs.Offers.{Offer}
 use Rattle.xds_ledger.specs.Ledgers.{Account, settled, answers, answered}
 use Rattle.xds_ledger.specs.Believing.{Sent, touched_since}
 use Rattle.xds_ledger.specs.Sessions as sessions
-use Rattle.xds_ledger.specs.Sessions.{Session, Answer, Names, unopened, is_taken, taken, send, sotw_names, delta_names}
+use Rattle.xds_ledger.specs.Sessions.{Session, Answer, Names, unopened, is_stale, taken, send, sotw_names, delta_names}
 use Rattle.xds_ledger.specs.Laws.{with_sent}
 use Rattle.xds_sessions.specs.DeltaPolls.{mention, answer_in}
 use Rattle.xds_core.specs.Stores.{Store}
@@ -97,10 +97,10 @@ rejects_in (streams.Delta m) = is_some m.error_detail
 
 softer_after : (t : TypeName) (s : Session) (m : Message) → rejects_in m ≡ false → Softer s.account (session_after t s m).account
 softer_after t s (streams.Sotw m) accepts =
-    softer_take (is_taken s m.response_nonce) s (taken variants.StateOfTheWorld t s (record { nonce = m.response_nonce; rejects = is_some m.error_detail }) (sotw_names t s.asked m.resource_names))
+    softer_take (not (is_stale s m.response_nonce)) s (taken variants.StateOfTheWorld t s (record { nonce = m.response_nonce; rejects = is_some m.error_detail }) (sotw_names t s.asked m.resource_names))
     (softer_taken variants.StateOfTheWorld t s (record { nonce = m.response_nonce; rejects = is_some m.error_detail }) (sotw_names t s.asked m.resource_names) accepts)
 softer_after t s (streams.Delta m) accepts =
-    softer_take (is_taken s m.response_nonce) s (taken variants.Delta t s (answer_in m) (delta_names t s.asked (mention m) m.initial_resource_versions))
+    softer_take (not (is_stale s m.response_nonce)) s (taken variants.Delta t s (answer_in m) (delta_names t s.asked (mention m) m.initial_resource_versions))
     (softer_taken variants.Delta t s (answer_in m) (delta_names t s.asked (mention m) m.initial_resource_versions) accepts)
 
 fair_soft : (all : List TypedWrite) (test : Test) (t : TypeName) (a b : Session) (downs : List Draft) → Softer a.account b.account → IsFair all test t a downs → IsFair all test t b downs

@@ -18,7 +18,7 @@ use Rattle.xds_ledger.specs.declared.entry.Entry.TheVariants.{Told}
 use Rattle.xds_ledger.specs.Offers.{Offer}
 use Rattle.xds_ledger.specs.Ledgers.{Account, nonce_text, settled, answered}
 use Rattle.xds_ledger.specs.Believing.{Sent, touched_since}
-use Rattle.xds_ledger.specs.Sessions.{Session, Answer, Names, taken, is_taken, sotw_names}
+use Rattle.xds_ledger.specs.Sessions.{Session, Answer, Names, taken, is_stale, sotw_names}
 use Rattle.xds_ledger.specs.Laws.{with_sent}
 use Rattle.xds_ledger.proofs.Settling.{sending_commutes}
 use Rattle.xds_sessions.specs.SotwPolls.{take}
@@ -41,7 +41,7 @@ folded t s (m ∷ ms) = folded t (take t s m) ms
 -- each request is taken when its turn comes
 abbrev pub AllTaken : TypeName → Session → List Request → Type 0
 AllTaken t s [] = ⊤
-AllTaken t s (m ∷ ms) = (is_taken s m.response_nonce ≡ true) × AllTaken t (take t s m) ms
+AllTaken t s (m ∷ ms) = (not (is_stale s m.response_nonce) ≡ true) × AllTaken t (take t s m) ms
 
 -- none of them has this nonce
 abbrev pub NoneAnswers : ℕ → List Request → Type 0
@@ -58,11 +58,11 @@ pub folded_more : (t : TypeName) (s : Session) (ms : List Request) (m : Request)
 folded_more t s [] m = refl
 folded_more t s (x ∷ ms) m = folded_more t (take t s x) ms m
 
-pub taken_more : (t : TypeName) (s : Session) (ms : List Request) (m : Request) → AllTaken t s ms → is_taken (folded t s ms) m.response_nonce ≡ true → AllTaken t s (ms ++ m ∷ [])
+pub taken_more : (t : TypeName) (s : Session) (ms : List Request) (m : Request) → AllTaken t s ms → not (is_stale (folded t s ms) m.response_nonce) ≡ true → AllTaken t s (ms ++ m ∷ [])
 taken_more t s [] m all last = (last, tt)
 taken_more t s (x ∷ ms) m all last = (all.0, taken_more t (take t s x) ms m all.1 last)
 
-pub take_is : (t : TypeName) (s : Session) (m : Request) → is_taken s m.response_nonce ≡ true → take t s m ≡ taken StateOfTheWorld t s (answer_of m) (names_of t s.asked m)
+pub take_is : (t : TypeName) (s : Session) (m : Request) → not (is_stale s m.response_nonce) ≡ true → take t s m ≡ taken StateOfTheWorld t s (answer_of m) (names_of t s.asked m)
 take_is t s m is = ap (λ b. if b then taken StateOfTheWorld t s (answer_of m) (names_of t s.asked m) else s) is
 
 pub unsettled : (t : TypeName) (a : Account) (nonce : List ℕ) (rejects : Bool) → a.sent ≡ None → settled StateOfTheWorld t a nonce rejects ≡ a
@@ -73,14 +73,14 @@ taken_quiet t s m none =
     ap (λ (a : Account). option_map (λ sent. touched_since sent (names_of t s.asked m).touched) a.sent) (unsettled t s.account m.response_nonce (is_some m.error_detail) none) ∙ ap (option_map (λ sent. touched_since sent (names_of t s.asked m).touched)) none
 
 -- while nothing is unanswered, taking a request leaves it so
-pub still_none : (t : TypeName) (s : Session) (m : Request) → is_taken s m.response_nonce ≡ true → s.account.sent ≡ None → (take t s m).account.sent ≡ None
+pub still_none : (t : TypeName) (s : Session) (m : Request) → not (is_stale s m.response_nonce) ≡ true → s.account.sent ≡ None → (take t s m).account.sent ≡ None
 still_none t s m is none = ap (λ x. x.account.sent) (take_is t s m is) ∙ taken_quiet t s m none
 
 pub quiet_folded : (t : TypeName) (s : Session) (ms : List Request) → AllTaken t s ms → s.account.sent ≡ None → (folded t s ms).account.sent ≡ None
 quiet_folded t s [] all none = none
 quiet_folded t s (m ∷ ms) all none = quiet_folded t (take t s m) ms all.1 (still_none t s m all.0 none)
 
-sent_once : (t : TypeName) (s : Session) (o : Offer) (since : List Touch) (n : ℕ) (m : Request) → s.account.sent ≡ None → is_taken s m.response_nonce ≡ true → bytes_eq m.response_nonce (nonce_text n) ≡ false
+sent_once : (t : TypeName) (s : Session) (o : Offer) (since : List Touch) (n : ℕ) (m : Request) → s.account.sent ≡ None → not (is_stale s m.response_nonce) ≡ true → bytes_eq m.response_nonce (nonce_text n) ≡ false
     → take t (with_sent s o since n) m ≡ with_sent (take t s m) o (since ++ (names_of t s.asked m).touched ∷ []) n
 sent_once t s o since n m none is apart =
     take_is t (with_sent s o since n) m (taken_meanwhile s o since n m.response_nonce) ∙ sending_commutes StateOfTheWorld t s o since n (answer_of m) (names_of t s.asked m) none apart
@@ -104,7 +104,7 @@ taken_meanwhile_all t s o since n (m ∷ ms) none all apart = (
 )
 
 -- what is believed of a name after a request that settles nothing
-pub believed_quiet : (t : TypeName) (s : Session) (m : Request) (q : List ℕ) → settled StateOfTheWorld t s.account m.response_nonce (is_some m.error_detail) ≡ s.account → is_taken s m.response_nonce ≡ true
+pub believed_quiet : (t : TypeName) (s : Session) (m : Request) (q : List ℕ) → settled StateOfTheWorld t s.account m.response_nonce (is_some m.error_detail) ≡ s.account → not (is_stale s m.response_nonce) ≡ true
     → let names = names_of t s.asked m in
     finmap.get (take t s m).account.beliefs q ≡ believed_after (touches names.touched q) (reaches names.asked.interest q) (set.contains names.mentioned q) (finmap.get s.account.beliefs q)
 believed_quiet t s m q quiet is =

@@ -29,7 +29,7 @@ use Rattle.xds_ledger.specs.declared.entry.Due.TheVariants.{Stated}
 use Rattle.xds_ledger.specs.Offers.{Offer}
 use Rattle.xds_ledger.specs.Ledgers.{Account, nonce_text, settled, answered}
 use Rattle.xds_ledger.specs.Believing.{Sent, was_touched, touched_since, believed_accepted}
-use Rattle.xds_ledger.specs.Sessions.{Session, Names, unopened, is_taken, taken, send}
+use Rattle.xds_ledger.specs.Sessions.{Session, Names, unopened, is_stale, taken, send}
 use Rattle.xds_ledger.specs.Laws.{with_sent}
 use Rattle.xds_ledger.proofs.BeliefsByName.{accepted_by_name}
 use Rattle.xds_sessions.specs.SotwPolls.{take}
@@ -111,7 +111,7 @@ abreast_delivered cluster all t test s f d lane =
 -- ---- Change
 
 -- a client's last nonce is in date
-pub taken_last : (all : List TypedWrite) (t : TypeName) (s : Session) (f : Shelf) (down : Option Drafted) → Awaits all t s.account.nonce s.account.sent f.wants f.nonce down → is_taken s f.nonce ≡ true
+pub taken_last : (all : List TypedWrite) (t : TypeName) (s : Session) (f : Shelf) (down : Option Drafted) → Awaits all t s.account.nonce s.account.sent f.wants f.nonce down → not (is_stale s f.nonce) ≡ true
 taken_last all t s f down is = by_sent s.account.sent refl is
   where
     in_date : (b c d : Bool) → not (b && (c && d && false)) ≡ true
@@ -124,7 +124,7 @@ taken_last all t s f down is = by_sent s.account.sent refl is
     in_time true = refl
     in_time false = refl
 
-    by_sent : (o : Option Sent) → s.account.sent ≡ o → Awaits all t s.account.nonce o f.wants f.nonce down → is_taken s f.nonce ≡ true
+    by_sent : (o : Option Sent) → s.account.sent ≡ o → Awaits all t s.account.nonce o f.wants f.nonce down → not (is_stale s f.nonce) ≡ true
     by_sent None has awaits =
         ap (λ b. not (s.asked.begun && (is_none s.account.sent && not (bytes_eq f.nonce []) && not b))) (ap (λ x. bytes_eq x (nonce_text s.account.nonce)) (nothing_sent all t s.account.nonce None f.wants f.nonce down refl awaits).1 ∙ bytes_eq_same (nonce_text s.account.nonce))
         ∙ in_date s.asked.begun (is_none s.account.sent) (not (bytes_eq f.nonce []))
@@ -212,7 +212,7 @@ abreast_changed cluster all t who w s down f asked lane =
     let names : Names = names_of t s.asked q in
     let before : s.asked ≡ naming cluster t f.wants = asked_of cluster t s f asked lane.asks in
     let after : names.asked ≡ naming cluster t w = ap (λ a. sotw_asked t a (texts w)) before in
-    let in_time : is_taken s f.nonce ≡ true = taken_last all t s f down lane.awaits in
+    let in_time : not (is_stale s f.nonce) ≡ true = taken_last all t s f down lane.awaits in
     let account : settled StateOfTheWorld t s.account f.nonce false ≡ s.account = unsettled_last all t s.account f.wants f.nonce down false s.account.sent refl lane.awaits in
     let is : take t s q ≡ taken StateOfTheWorld t s (answer_of q) names = take_is t s q in_time in
     let same : (name : List ℕ) → touches names.touched name ≡ false → is_wanted t w name ≡ is_wanted t f.wants name =
@@ -309,7 +309,7 @@ abreast_first cluster all t m f asked lists some nonce within =
 begun_folded : (t : TypeName) (s : Session) (ms : List Request) → s.asked.begun ≡ true → (folded t s ms).asked.begun ≡ true
 begun_folded t s [] begun = begun
 begun_folded t s (m ∷ ms) begun =
-    begun_folded t (take t s m) ms (begun_either (is_taken s m.response_nonce) (taken StateOfTheWorld t s (answer_of m) (names_of t s.asked m)) s refl begun)
+    begun_folded t (take t s m) ms (begun_either (not (is_stale s m.response_nonce)) (taken StateOfTheWorld t s (answer_of m) (names_of t s.asked m)) s refl begun)
 
 asks_begun : (cluster : List ℕ) (t : TypeName) (s : Session) (f : Shelf) → s.asked.begun ≡ true → Asks cluster t s f → (f.asked ≡ true) × (s.asked ≡ naming cluster t f.wants)
 asks_begun cluster t s f begun (inl asked) = asked

@@ -1,7 +1,7 @@
 use Rattle.std.proofs.Common.{◌≡◌, drop, not}
 use Rattle.std.specs.List.{list_any}
 use Rattle.xds_check.specs.Kept.{is_best_in}
-use Rattle.xds_check.proofs.judging.states_another.Given as goal
+use Rattle.xds_check.proofs.judging.breaks_best_resources.Given as goal
 
 -- what is left decides
 abbrev pub invariant-loop-statement : goal.invariant-loop-statement
