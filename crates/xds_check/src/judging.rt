@@ -84,7 +84,10 @@ fn is_best<T: ResourceType>(catalogue: &Catalogue<T>, statement: &Statement) -> 
 }
 
 // Whether a resource isn't that of the best live write of its name.
-fn breaks_best_resources<T: ResourceType>(catalogue: &Catalogue<T>, statements: &[Statement]) -> bool
+fn breaks_best_resources<T: ResourceType>(
+    catalogue: &Catalogue<T>,
+    statements: &[Statement],
+) -> bool
     ensures { result ≡ list_any (λ x. not (is_best_in catalogue.now.entries x)) statements.now }
 {
     for statement in statements {

@@ -1,5 +1,5 @@
-// The commands of a replicated xDS control plane, those that need a network among them.
-// The server: replicas that proxies connect to, in one process.
+// The commands of a replicated xDS control plane, those that need a network among them, and the server: replicas that proxies
+// connect to, in one process.
 #![tactic(auto)]
 
 pub mod change;

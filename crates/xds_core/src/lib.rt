@@ -1,6 +1,5 @@
-// Everything that a replica decides, as one step: an event in, a reply or a refusal out.
-// What a replica holds of all types: own writes, and batches that are taken whole or not at all.
-// The streams of a replica: what becomes of a request, and what is sent.
+// Everything that a replica decides, as one step: an event in, a reply or a refusal out. Below the step stand what a replica holds
+// of all types, and its streams: what becomes of a request, and what is sent.
 #![tactic(auto)]
 
 pub mod catalogues;

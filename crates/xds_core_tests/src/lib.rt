@@ -1,6 +1,5 @@
-// Tests of a replica's step and of its replies to polls: stories of streams and writes, with the replies as the protocol has
-// them. Nothing else stands here.
-// Tests of a stream on one thread, with worked examples in bytes, and of what replicas tell each other. Nothing else stands here.
+// Tests of a replica's step and of its replies to polls, of a stream on one thread, and of what replicas tell each other: stories
+// with the replies that the protocol has, and worked examples in bytes. Nothing else stands here.
 #![tactic(auto)]
 
 #[cfg(test)]

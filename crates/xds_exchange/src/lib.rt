@@ -1,6 +1,5 @@
-// What replicas tell each other: batches in parts, each of which fits a frame, and what changed since the last time.
-// A channel of 16 from one thread to another: what is taken is a beginning of what was put, in order, each item once.
-// Batches cut into parts, each of which fits a frame.
+// What replicas tell each other: batches in parts, each of which fits a frame, and what changed since the last time; and the
+// channel of 16 between two threads, on which what is taken is a beginning of what was put.
 #![tactic(auto)]
 
 pub mod ends;

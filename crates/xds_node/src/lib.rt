@@ -1,9 +1,6 @@
-// A replica that many threads share: one lock, one journal, and seats that were told what stands in it.
-// The tokens of a locked node: what seats were told weighs as much as what was recorded, and what segments hold as much as what was
-// cut. Nothing above this crate names the table that keeps them.
-// A stream on one thread: from the bytes of its requests to the bytes of its responses.
-// The threads round a node: a stream's reader and writer, and those by which replicas tell each other what changed. They know a
-// node as a `Host` alone.
+// A replica that many threads share. The node: one lock, one journal, seats that were told what stands in it, and the tokens that
+// show this. A stream on one thread, from the bytes of its requests to those of its responses. And the threads round a node, which
+// know it as a `Host` alone: a stream's reader and writer, and those by which replicas tell each other what changed.
 #![tactic(auto)]
 
 pub mod asking;

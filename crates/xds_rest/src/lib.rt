@@ -1,5 +1,5 @@
-// The REST variant: what a post asks for, and the reply to it.
-// Polls over HTTP at a node that threads share, without a socket.
+// The REST variant: what a post asks for, and the reply to it, by a replica and by a node that threads share. The server that reads
+// posts from sockets stands in xds_http, which needs no replica; it is passed on here.
 #![tactic(auto)]
 
 pub mod answering;
@@ -14,3 +14,4 @@ pub use by_seat::{answer_at, reply_at};
 pub use post::{Asked, ask};
 pub use posts::Posts;
 pub use reply::{HttpReply, reply_of};
+pub use xds_http::serve_http;

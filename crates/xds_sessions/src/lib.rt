@@ -1,5 +1,5 @@
-// A state-of-the-world session: one type on one stream; and what a client is answered that polls without one.
-// An incremental (delta) session: one type on one stream.
+// Sessions: one type on one stream, in both variants (state of the world, and incremental); and what a client is answered that
+// polls without one.
 #![tactic(auto)]
 
 mod delta_response;

@@ -3,8 +3,8 @@
 #![tactic(auto)]
 
 mod bases;
-pub mod histories_laws;
 pub mod histories;
+pub mod histories_laws;
 pub mod laws;
 pub mod telling;
 pub mod worlds;

@@ -5,11 +5,11 @@ ghost use Rattle.xds_resource.specs.declared.refusal.Refusal.TheVariants.{OutOfM
 ghost use Rattle.xds_world.specs.Worlds.{world as world_of};
 ghost use Rattle.xds_trace.specs.Sites.{trace_at, KeepsAt};
 
+use crate::telling::trace_of;
 use std::alloc::Global;
 use xds_cache::Accept;
 use xds_check::Trace;
 use xds_resource::Refusal;
-use crate::telling::trace_of;
 use xds_world::World;
 use xds_world::laws::journals_are_legal;
 

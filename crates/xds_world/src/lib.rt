@@ -1,8 +1,5 @@
-// A world that runs: replicas and clients, what is under way between them, and what happened.
-// A world of replicas and clients: what may happen in it, and what holds of it whatever does.
-// Clients of either variant, each on its stream to a replica: what is under way there, and what becomes of both; and clients that
-// poll.
-// Scripts of worlds: what each line says, as a command.
+// Worlds of replicas and clients: what may happen in one, and what holds of it whatever does (the headline); a world that runs, with
+// the clients on their streams and those that poll; and the scripts that a world is read from.
 #![tactic(auto)]
 
 mod client;
