@@ -24,7 +24,7 @@ from stream import made_in
 CLUSTERS = "type.googleapis.com/envoy.config.cluster.v3.Cluster"
 ENDPOINTS = "type.googleapis.com/envoy.config.endpoint.v3.ClusterLoadAssignment"
 HELD, SIZE = 1000, 600
-NEEDS = "xds_node xds_core xds_tokens xds_message xds_resource"
+NEEDS = "xds_node xds_core xds_message xds_resource"
 
 PROGRAM = r"""// Gives events to a replica, or to a node from several threads.
 #![tactic(auto)]

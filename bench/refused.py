@@ -72,13 +72,13 @@ LOOKED_AT = {
         "caches::memory::changing_what_is_polled_without_memory": {"": "RestClient::change"},
         "caches::memory::polling_without_memory": {"": "RestClient::receive"},
     },
-    "xds_stream_tests": {
+    "xds_core_tests": {
         "memory::a_stream_without_memory": {"": "run_stream"},
         "exchanges::memory::rounds_without_memory": {"": "round"},
         "exchanges::memory::parts_without_memory": {"fill": "Outbox::fill", "next_part": "Outbox::next_part"},
     },
     "xds_node_tests": {"memory::a_node_without_memory": {"call": "Node::call", "cut": "Node::cut"}},
-    "xds_http_tests": {"memory::a_poll_without_memory": {"": "answer_at of xds_posts"}},
+    "xds_http_tests": {"memory::a_poll_without_memory": {"": "answer_at of xds_rest"}},
 }
 # Calls that take no memory as these tests make them: there is room for one entry more in a row of a map.
 NONE_TAKEN = {"Core::step, Put for groups", "Core::step, Delete", "Core::step, Open", "Catalogue::delete"}
