@@ -24,7 +24,7 @@ TESTS = {
         "caches::memory::polling_without_memory",
         "caches::memory::changing_what_is_polled_without_memory",
     ],
-    "xds_core_tests": ["memory::a_stream_without_memory", "exchanges::memory::rounds_without_memory"],
+    "xds_core_tests": ["stream_tests_memory::a_stream_without_memory", "exchanges::memory::rounds_without_memory"],
 }
 WENT_ON = b"refused, and went on\n"
 # The last is what the tests of streams say of their own input, where there was no memory to decode it.

@@ -61,6 +61,9 @@ LOOKED_AT = {
             "close": None,
         },
         "rest::memory::a_poll_without_memory": {"": "answer of xds_rest"},
+        "stream_tests_memory::a_stream_without_memory": {"": "run_stream"},
+        "exchanges::memory::rounds_without_memory": {"": "round"},
+        "exchanges::memory::parts_without_memory": {"fill": "Outbox::fill", "next_part": "Outbox::next_part"},
     },
     "xds_client_tests": {
         "caches::memory::connecting_in_state_of_the_world_without_memory": {"": "SotwClient::connect"},
@@ -71,11 +74,6 @@ LOOKED_AT = {
         "caches::memory::delta_without_memory": {"": "DeltaClient::receive"},
         "caches::memory::changing_what_is_polled_without_memory": {"": "RestClient::change"},
         "caches::memory::polling_without_memory": {"": "RestClient::receive"},
-    },
-    "xds_core_tests": {
-        "memory::a_stream_without_memory": {"": "run_stream"},
-        "exchanges::memory::rounds_without_memory": {"": "round"},
-        "exchanges::memory::parts_without_memory": {"fill": "Outbox::fill", "next_part": "Outbox::next_part"},
     },
     "xds_node_tests": {"memory::a_node_without_memory": {"call": "Node::call", "cut": "Node::cut"}},
     "xds_http_tests": {"memory::a_poll_without_memory": {"": "answer_at of xds_rest"}},
