@@ -1,4 +1,4 @@
--- Cases as lines of a text: how a line is written out, and when a case holds. This project's own.
+-- Cases as lines of a text, or as some lines each: how a case is written out, and when a case holds. This project's own.
 use Rattle.std.specs.Prelude.{◌≡◌, ◌≢◌, ℕ, ◌^◌, List, [], ◌∷◌, ◌++◌, length, Bool, ◌&&◌, Option, Some, None, if◌then◌else◌, nat_lt, option_and_then, replicate, IsSomeAnd, Result, Ok, Err, codes, decimal}
 use Rattle.std.specs.Option.{option_map, option_map_or}
 use Rattle.std.specs.List.{concat}
@@ -10,6 +10,10 @@ use Rattle.xds_resource.specs.declared.refusal.Refusal.{Refusal}
 use Rattle.xds_resource.specs.declared.refusal.Refusal.TheVariants.{OutOfMemory, BadScript}
 use Rattle.xds_resource.specs.declared.types.TypeName.TheVariants.{Cluster, Endpoint, Listener, Route, Secret}
 use Rattle.xds_cases.specs.Texts.{Text, around, pieces, replaced}
+
+-- a text with each line that begins with four spaces joined to the line before it
+unfoldable pub unfolded : Text → Text
+unfolded text = replaced (codes "\n    ") [] text
 
 -- a text with the types' URLs in place of their short names
 unfoldable pub with_urls : Text → Text
@@ -54,11 +58,11 @@ repeated text = option_map_or (λ p. option_map (λ repeats. p.0 ++ repeats) (re
 unfoldable pub written_out : Text → Option Text
 written_out text = repeated (with_urls text)
 
--- the case that a line writes: what is given, and what is wanted of it
+-- the case that a text writes: what is given, and what is wanted of it
 unfoldable pub case_of : Text → Option (Text × Text)
 case_of line = option_and_then (around (codes " => ")) (written_out line)
 
--- A line writes a case, and what is wanted is something that may be made of what is given.
+-- A text writes a case, and what is wanted is something that may be made of what is given.
 abbrev pub Holds : (Text → Text → Type 0) → Text → Type 0
 Holds may_make line = IsSomeAnd (case_of line) (λ c. may_make c.0 c.1)
 

@@ -1,6 +1,7 @@
--- Cases whose given text is a script: its steps, and their answers. This project's own.
+-- Stories: steps that are each answered, a line each. This project's own.
 use Rattle.std.specs.Prelude.{◌≡◌, List, [], ◌∷◌, unwrap_or, IsSomeAnd, codes}
-use Rattle.xds_cases.specs.Texts.{Text, around, pieces, joined}
+use Rattle.std.specs.Str.Lines.{lines}
+use Rattle.xds_cases.specs.Texts.{Text, around}
 use Rattle.xds_cases.specs.Cases.{case_of}
 
 -- a step's verb and what stands behind it; a step of one word is its verb
@@ -11,17 +12,15 @@ parts_of step = unwrap_or (around (codes " ") step) (step, [])
 abbrev pub Answers : Type 0 → Type 1
 Answers S = S → Text → Text → Text → S → Type 0
 
--- steps from one script to another, and what each is told
-abbrev pub AreAnswered : {S : Type 0} → Answers S → S → List Text → List Text → S → Type 0
-AreAnswered may_answer start [] told end = (told ≡ []) × (end ≡ start)
-AreAnswered may_answer start (step ∷ steps) [] end = ⊥
-AreAnswered {S} may_answer start (step ∷ steps) (answer ∷ told) end = (next : S) × may_answer start (parts_of step).0 (parts_of step).1 answer next × AreAnswered may_answer next steps told end
+-- A line writes a step and its answer, by which the script before the step may be the one after it.
+abbrev pub IsAnswered : {S : Type 0} → Answers S → S → Text → S → Type 0
+IsAnswered may_answer before line after = IsSomeAnd (case_of line) (λ c. may_answer before (parts_of c.0).0 (parts_of c.0).1 c.1 after)
 
--- a text that a script may be told: from a beginning, the answers to its steps, apart by spaces
-abbrev pub MayTell : {S : Type 0} → (S → Type 0) → Answers S → Text → Text → Type 0
-MayTell {S} may_begin may_answer script text = (start : S) × (end : S) × (told : List Text) × may_begin start
-    × AreAnswered may_answer start (pieces (codes "; ") script) told end × (text ≡ joined (codes " ") told)
+-- lines that each write a step and its answer, from one script to another
+abbrev pub AreAnswered : {S : Type 0} → Answers S → S → List Text → S → Type 0
+AreAnswered may_answer start [] end = end ≡ start
+AreAnswered {S} may_answer start (line ∷ more) end = (next : S) × IsAnswered may_answer start line next × AreAnswered may_answer next more end
 
--- A line writes a case, and what is wanted is something that the given script may be told.
+-- The lines of a story are answered as it says, from a beginning.
 abbrev pub IsFollowed : {S : Type 0} → (S → Type 0) → Answers S → Text → Type 0
-IsFollowed may_begin may_answer line = IsSomeAnd (case_of line) (λ c. MayTell may_begin may_answer c.0 c.1)
+IsFollowed {S} may_begin may_answer story = (start : S) × (end : S) × may_begin start × AreAnswered may_answer start (lines story) end

@@ -1,12 +1,12 @@
-// Cases as texts, one a line: what is given, ` => `, and the outcome that is wanted.
+// Cases as texts: what is given, ` => `, and the outcome that is wanted.
 ghost use Rattle.std.specs.Prelude.{◌≡◌, ◌<◌, length, All, IfOk, IfErr, OnOk, map, string_bytes, Ok, ok_or, codes};
 ghost use Rattle.std.specs.Option.{option_map};
 ghost use Rattle.std.specs.Result.{result_ok};
 ghost use Rattle.std.specs.Str.Lines.{lines};
 ghost use Rattle.xds_resource.specs.declared.refusal.Refusal.TheVariants.{OutOfMemory, BadScript};
 ghost use Rattle.xds_resource.specs.Refusals.{Gives};
-ghost use Rattle.xds_cases.specs.Texts.{around, replaced, AreWords};
-ghost use Rattle.xds_cases.specs.Cases.{with_urls, number_in, repetition, repeat_of, repeated, written_out, IsWritten, IsRefusal, Holds, told_by};
+ghost use Rattle.xds_cases.specs.Texts.{around, pieces, replaced, AreWords};
+ghost use Rattle.xds_cases.specs.Cases.{unfolded, with_urls, number_in, repetition, repeat_of, repeated, written_out, IsWritten, IsRefusal, Holds, told_by};
 
 use std::alloc::Global;
 use std::test::Fail;
@@ -23,15 +23,36 @@ pub trait Outcome {
         ensures { IfOk result (λ made. may_make given.now (string_bytes made)) };
 }
 
-/// Compares each case's outcome with the one that is wanted. In a case `CDS`, `EDS`, `LDS`, `RDS` and `SDS` stand for
-/// the URLs of the types, and `<[*3>` stands for `[[[`.
+/// Compares each case's outcome with the one that is wanted, a case a line. A line that begins with
+/// four spaces goes on with the line before it. In a case `CDS`, `EDS`, `LDS`, `RDS` and `SDS`
+/// stand for the URLs of the types, and `<[*3>` stands for `[[[`.
 pub fn hold<O: Outcome, R: AllocGlobal>(rt: &R, cases: &str) -> Result<(), Fail>
-    ensures { OnOk result (All (Holds O.may_make) (lines cases.now)) }
+    ensures { OnOk result (All (Holds O.may_make) (lines (unfolded cases.now))) }
 {
-    for case in cases.lines() {
+    let whole = unfolded(rt.alloc(), cases)?;
+    for case in whole.as_str().lines() {
         hold_one::<O>(rt.alloc(), case)?;
     }
     Ok(())
+}
+
+/// The same of cases of some lines each, with an empty line between two of them.
+pub fn hold_stories<O: Outcome, R: AllocGlobal>(rt: &R, stories: &str) -> Result<(), Fail>
+    ensures { OnOk result (All (Holds O.may_make) (pieces (codes "\n\n") (unfolded stories.now))) }
+{
+    let whole = unfolded(rt.alloc(), stories)?;
+    for story in whole.as_str().split("\n\n") {
+        hold_one::<O>(rt.alloc(), story)?;
+    }
+    Ok(())
+}
+
+/// The text, with each line that begins with four spaces joined to the line before it, without the
+/// spaces. `OutOfMemory` where no text could be made.
+pub fn unfolded(alloc: Global, text: &str) -> Result<String, Refusal>
+    ensures { Gives string_bytes result (Ok (unfolded text.now)) }
+{
+    replaced(alloc, text, "\n    ", "")
 }
 
 fn hold_one<O: Outcome>(alloc: Global, case: &str) -> Result<(), Fail>
@@ -54,7 +75,8 @@ pub(crate) fn same(found: &str, wanted: &str, given: &str) -> Result<(), Fail>
     }
 }
 
-/// The text that a call answers, or its refusal, as `4 BadResource`. `OutOfMemory` where no text could be made.
+/// The text that a call answers, or its refusal, as `4 BadResource`. `OutOfMemory` where no text
+/// could be made.
 pub fn told(alloc: Global, answered: Result<String, Refusal>) -> Result<String, Refusal>
     ensures { Gives string_bytes result (Ok (told_by string_bytes answered)) }
 {
@@ -83,7 +105,8 @@ pub(crate) fn cut<'a>(text: &'a str, word: &str) -> Option<(&'a str, &'a str)>
     text.split_once(word)
 }
 
-/// The words that stand in a text, apart by white space. `OutOfMemory` where they could not be copied.
+/// The words that stand in a text, apart by white space. `OutOfMemory` where they could not be
+/// copied.
 pub fn words_of(alloc: Global, text: &str) -> Result<Vec<String>, Refusal>
     ensures words { IfOk result (λ words. AreWords text.now (map string_bytes words.items)) }
     ensures refused { IfErr result (λ e. e ≡ OutOfMemory) }
@@ -95,7 +118,8 @@ pub fn words_of(alloc: Global, text: &str) -> Result<Vec<String>, Refusal>
     Ok(words)
 }
 
-/// The text, with `by` in place of `word`. The empty word stands nowhere. `OutOfMemory` where no text could be made.
+/// The text, with `by` in place of `word`. The empty word stands nowhere. `OutOfMemory` where no
+/// text could be made.
 pub fn replaced(alloc: Global, text: &str, word: &str, by: &str) -> Result<String, Refusal>
     ensures { Gives string_bytes result (Ok (replaced word.now by.now text.now)) }
 {
@@ -105,8 +129,8 @@ pub fn replaced(alloc: Global, text: &str, word: &str, by: &str) -> Result<Strin
     Ok(text.replace(alloc, word, by)?)
 }
 
-/// The text, with what its abbreviations stand for. `BadScript` where a `<` begins no repeat, and `OutOfMemory` where no
-/// text could be made.
+/// The text, with what its abbreviations stand for. `BadScript` where a `<` begins no repeat, and
+/// `OutOfMemory` where no text could be made.
 pub fn written_out(alloc: Global, text: &str) -> Result<String, Refusal>
     ensures { Gives string_bytes result (ok_or (written_out text.now) BadScript) }
 {

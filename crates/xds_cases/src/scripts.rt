@@ -1,10 +1,11 @@
-// Cases as texts, one a line: the steps of a script, apart by `; `, then ` => `, and the answers that are wanted.
-ghost use Rattle.std.specs.Prelude.{◌≡◌, All, IfOk, OnOk, string_bytes, Ok, if◌then◌else◌};
-ghost use Rattle.std.specs.Str.Lines.{lines};
+// Stories as texts, a step a line: the step, ` => `, and the answer that is wanted.
+ghost use Rattle.std.specs.Prelude.{◌≡◌, All, IfOk, OnOk, string_bytes, Ok, if◌then◌else◌, codes};
 ghost use Rattle.xds_resource.specs.Refusals.{Gives};
-ghost use Rattle.xds_cases.specs.Scripts.{parts_of, MayTell, IsFollowed};
+ghost use Rattle.xds_cases.specs.Texts.{pieces};
+ghost use Rattle.xds_cases.specs.Cases.{unfolded};
+ghost use Rattle.xds_cases.specs.Scripts.{parts_of, IsAnswered, IsFollowed};
 
-use crate::cases::{cut, same, told, written_out};
+use crate::cases::{cut, same, told, unfolded, written_out};
 use std::alloc::Global;
 use std::test::Fail;
 use xds_resource::Refusal;
@@ -17,7 +18,8 @@ pub trait Script: Drop {
     // Holds of what a script may begin as.
     ghost may_begin: { Self → Type 0 } = { λ _. ⊤ };
 
-    // Holds of a script, a verb and the rest of its step, what may be told of the answer, and the script after it.
+    // Holds of a script, a verb and the rest of its step, what may be told of the answer, and the
+    // script after it.
     ghost may_answer: { Self → List ℕ → List ℕ → List ℕ → Self → Type 0 } = { λ _ _ _ _ _. ⊤ };
 
     fn begin(alloc: Global) -> Self
@@ -27,39 +29,37 @@ pub trait Script: Drop {
         ensures { may_answer self.old verb.now rest.now (told_by string_bytes result) self.new };
 }
 
-/// Compares each case's answers with those that are wanted. In a case the types' URLs are written short, as in `hold`.
-pub fn follow<S: Script, R: AllocGlobal>(rt: &R, cases: &str) -> Result<(), Fail>
-    ensures { OnOk result (All (IsFollowed S.may_begin S.may_answer) (lines cases.now)) }
+/// Compares the answer to each step with the one that is wanted, a step a line: the step, ` => `,
+/// and the answer. An empty line stands between two stories, and each begins anew. As in `hold`, a
+/// line that begins with four spaces goes on with the line before it, and the types' URLs are
+/// written short.
+pub fn follow<S: Script, R: AllocGlobal>(rt: &R, stories: &str) -> Result<(), Fail>
+    ensures { OnOk result (All (IsFollowed S.may_begin S.may_answer) (pieces (codes "\n\n") (unfolded stories.now))) }
 {
-    for case in cases.lines() {
-        follow_one::<S>(rt.alloc(), case)?;
+    let whole = unfolded(rt.alloc(), stories)?;
+    for story in whole.as_str().split("\n\n") {
+        follow_one::<S>(rt.alloc(), story)?;
     }
     Ok(())
 }
 
-fn follow_one<S: Script>(alloc: Global, case: &str) -> Result<(), Fail>
-    ensures { OnOk result (IsFollowed S.may_begin S.may_answer case.now) }
-{
-    let case = written_out(alloc, case)?;
-    let (given, wanted) = cut(case.as_str(), " => ").ok_or("a case has no outcome")?;
-    let found = answers::<S>(alloc, given)?;
-    same(found.as_str(), wanted, given)
-}
-
-// The answers to the steps, apart by spaces.
-fn answers<S: Script>(alloc: Global, steps: &str) -> Result<String, Fail>
-    ensures { IfOk result (λ all. MayTell S.may_begin S.may_answer steps.now (string_bytes all)) }
+fn follow_one<S: Script>(alloc: Global, story: &str) -> Result<(), Fail>
+    ensures { OnOk result (IsFollowed S.may_begin S.may_answer story.now) }
 {
     let mut script = S::begin(alloc);
-    let mut all = String::new(alloc);
-    let mut gap = "";
-    for step in steps.split("; ") {
-        let answer = answer::<S>(alloc, &mut script, step)?;
-        all.push_str(gap)?;
-        all.push_str(answer.as_str())?;
-        gap = " ";
+    for line in story.lines() {
+        follow_line::<S>(alloc, &mut script, line)?;
     }
-    Ok(all)
+    Ok(())
+}
+
+fn follow_line<S: Script>(alloc: Global, script: &mut S, line: &str) -> Result<(), Fail>
+    ensures { OnOk result (IsAnswered S.may_answer script.old line.now script.new) }
+{
+    let line = written_out(alloc, line)?;
+    let (step, wanted) = cut(line.as_str(), " => ").ok_or("a step has no answer")?;
+    let found = answer::<S>(alloc, script, step)?;
+    same(found.as_str(), wanted, step)
 }
 
 // What is told of the answer to a step.

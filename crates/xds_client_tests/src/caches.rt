@@ -1,5 +1,5 @@
-// Tests of the clients' public calls: worked examples, and what no clause says, as that calls succeed where memory is
-// ample.
+// Tests of the clients' public calls: worked examples, and what no clause says, as that calls
+// succeed where memory is ample.
 
 mod clients;
 mod delta;

@@ -11,12 +11,13 @@ const SAID: &str = r#"1 {"node":{"cluster":"g","id":"xds"},"resourceNames":["*"]
 
 const RESPONSE: &str = r#"2 {"nonce":"1","typeUrl":"CDS","versionInfo":"1.0"}"#;
 
-const ALL: &str =
-    r#"1 {"node":{"cluster":"g","id":"xds"},"resourceNames":["*"],"typeUrl":"CDS"}; 1 {"resourceNames":["*"],"responseNonce":"1","typeUrl":"CDS","versionInfo":"1.0"}"#;
+const ALL: &str = r#"1 {"node":{"cluster":"g","id":"xds"},"resourceNames":["*"],"typeUrl":"CDS"}
+1 {"resourceNames":["*"],"responseNonce":"1","typeUrl":"CDS","versionInfo":"1.0"}"#;
 
 const LINE: &[u8] = b"taken 1\n";
 
-// Runs a client that wants one response. Fails unless it comes to this answer, says this and prints these lines.
+// Runs a client that wants one response. Fails unless it comes to this answer, says this and prints
+// these lines.
 fn comes_to(
     alloc: Global,
     ends: &mut Ends<'_>,

@@ -1,5 +1,5 @@
-// Tests of caches and of a client on one stream: worked examples, cut and failing devices, connections, and that calls succeed
-// where memory is ample. Nothing else stands here.
+// Tests of caches and of a client on one stream: worked examples, cut and failing devices,
+// connections, and that calls succeed where memory is ample. Nothing else stands here.
 #![tactic(auto)]
 
 #[cfg(test)]

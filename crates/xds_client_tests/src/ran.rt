@@ -46,7 +46,8 @@ impl Write for Taking {
     }
 }
 
-/// How many bytes a reader or a writer passes at most in a call, and which call of it fails, where any does.
+/// How many bytes a reader or a writer passes at most in a call, and which call of it fails, where
+/// any does.
 #[derive(Clone, Copy)]
 pub(crate) struct Device {
     pub(crate) size: usize,
@@ -124,10 +125,11 @@ pub(crate) fn run(
     )
 }
 
-/// The bytes of items that stand apart by `; `: the number of a kind and a text, which are a frame, or hex digits.
+/// The bytes of items, an item a line: the number of a kind and a text, which are a frame, or hex
+/// digits.
 pub(crate) fn bytes_of(alloc: Global, items: &str) -> Result<Vec<u8>, Fail> {
     let mut bytes = Vec::new(alloc);
-    for item in items.split("; ") {
+    for item in items.lines() {
         push_item(alloc, &mut bytes, item)?;
     }
     Ok(bytes)

@@ -1,5 +1,6 @@
-// Tests of runs with a network, in one process, and of the server as a whole, over sockets. Each test has ports of its own: those
-// of servers from 18300, those of runs from 18600. Nothing else stands here.
+// Tests of runs with a network, in one process, and of the server as a whole, over sockets. Each
+// test has ports of its own: those of servers from 18300, those of runs from 18600. Nothing else
+// stands here.
 #![tactic(auto)]
 
 #[cfg(test)]

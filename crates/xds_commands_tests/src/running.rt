@@ -28,7 +28,8 @@ where
     R: Wait + Threads + Clock + RandomSource + AllocGlobal + Copy + Drop + Send + Sync + 'static,
 {}
 
-/// The status of a run over these words and this input, its output and its error output, with `~` for a line feed.
+/// The status of a run over these words and this input, its output and its error output, with `~`
+/// for a line feed.
 pub(crate) fn ran<R: Machine + Net<Listener = TcpListener, Stream = TcpStream>>(
     rt: &R,
     line: &str,

@@ -15,7 +15,8 @@ const MOST_TURNS: u32 = 1_000_000;
 const NO_INPUT: &[u8] = b"";
 
 const A_ROUTE: &[u8] =
-    b"put 1 {\"@type\":\"type.googleapis.com/envoy.config.route.v3.RouteConfiguration\",\"name\":\"q\"}\n";
+    b"put 1 {\"@type\":\"type.googleapis.com/envoy.config.route.v3.RouteConfiguration\",\
+     \"name\":\"q\"}\n";
 
 const A_CLUSTER: &[u8] =
     b"put 1 {\"@type\":\"type.googleapis.com/envoy.config.cluster.v3.Cluster\",\"name\":\"a\"}\n";
@@ -152,7 +153,8 @@ fn is_polled<R: Machine + Net<Listener = TcpListener, Stream = TcpStream>>(
     is_told(
         rt.alloc(),
         told.as_str(),
-        "0 200~{\"resources\":[{\"@type\":\"CDS\",\"name\":\"a\"}],\"typeUrl\":\"CDS\",\"versionInfo\":\"1.1.named\"}~",
+        "0 200~{\"resources\":[{\"@type\":\"CDS\",\"name\":\"a\"}],\"typeUrl\":\"CDS\",\
+         \"versionInfo\":\"1.1.named\"}~",
     )
 }
 

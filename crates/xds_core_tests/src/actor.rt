@@ -6,8 +6,9 @@ use std::alloc::Global;
 use xds_core::{Core, Event, Record, Reply};
 use xds_resource::Refusal;
 
-/// The first replica. Its steps are events, events behind `twice` that are answered twice, and looks at what is `due` or `owed` to a stream, at the `marks` of all types or
-/// at the `entries` of one.
+/// The first replica. Its steps are events, events behind `twice` that are answered twice, and
+/// looks at what is `due` or `owed` to a stream, at the `marks` of all types or at the `entries` of
+/// one.
 impl Actor for Core {
     fn begin(alloc: Global) -> Core {
         Core::new(alloc, 1)

@@ -7,9 +7,10 @@ use xds_core::{Event, Marks, Request};
 use xds_message::{DeltaDiscoveryRequest, DiscoveryRequest};
 use xds_resource::{AnyResource, Groups, Refusal, TypeName};
 
-/// The event of `open`, `sotw STREAM MESSAGE`, `delta STREAM MESSAGE`, `poll STREAM [TYPE]`, `owes STREAM [TYPE]`,
-/// `close STREAM`, `put RESOURCE`, `putin GROUP,GROUP.. RESOURCE`, `delete TYPE NAME`, `merge [WRITE ..]`, `snapshot`,
-/// `rest TYPE VERSION CLUSTER [NAME ..]`, where `-` is an empty text, or `since` with five counts.
+/// The event of `open`, `sotw STREAM MESSAGE`, `delta STREAM MESSAGE`, `poll STREAM [TYPE]`, `owes
+/// STREAM [TYPE]`, `close STREAM`, `put RESOURCE`, `putin GROUP,GROUP.. RESOURCE`, `delete TYPE
+/// NAME`, `merge [WRITE ..]`, `snapshot`, `rest TYPE VERSION CLUSTER [NAME ..]`, where `-` is an
+/// empty text, or `since` with five counts.
 pub(crate) fn event_of(alloc: Global, verb: &str, rest: &str) -> Result<Event, Refusal> {
     match verb {
         "open" => Ok(Event::Open),

@@ -4,10 +4,12 @@ use std::alloc::Global;
 use std::test::Fail;
 use xds_resource::Refusal;
 
-// A request, 70 bytes as a frame, and the response, 102 bytes. The same request once more is answered by nothing.
+// A request, 70 bytes as a frame, and the response, 102 bytes. The same request once more is
+// answered by nothing.
 const ASKED: &str = r#"0000004201 {"typeUrl":"CDS"}"#;
 
-const ASKED_TWICE: &str = r#"0000004201 {"typeUrl":"CDS"}; 0000004201 {"typeUrl":"CDS"}"#;
+const ASKED_TWICE: &str = r#"0000004201 {"typeUrl":"CDS"}
+0000004201 {"typeUrl":"CDS"}"#;
 
 const ANSWERED: &str = r#"0000006202 {"nonce":"1","typeUrl":"CDS","versionInfo":"1.0"}"#;
 
@@ -26,8 +28,8 @@ fn comes_to(
     Err(Fail::new(format_args!("{found:?} and not {answer:?}, closed: {closed}, written: {put:?}")))
 }
 
-// A beginning of the two requests, in pieces of this size, is answered well where it ends between frames, and the first
-// request once it is there whole.
+// A beginning of the two requests, in pieces of this size, is answered well where it ends between
+// frames, and the first request once it is there whole.
 fn ends_so(alloc: Global, input: &[u8], size: usize, response: &[u8]) -> Result<(), Fail> {
     let answer = if input.len() % 70 == 0 {
         Ok(())

@@ -1,5 +1,6 @@
-// Tests of a replica's step and of its replies to polls, of a stream on one thread, and of what replicas tell each other: stories
-// with the replies that the protocol has, and worked examples in bytes. Nothing else stands here.
+// Tests of a replica's step and of its replies to polls, of a stream on one thread, and of what
+// replicas tell each other: stories with the replies that the protocol has, and worked examples in
+// bytes. Nothing else stands here.
 #![tactic(auto)]
 
 #[cfg(test)]

@@ -7,11 +7,19 @@ use xds_core::Core;
 
 const STREAMS: u64 = 10000;
 
-// What happens to each stream, a stage a line, its steps apart by `; `. The number of the stream stands for `#`.
+// What happens to each stream, a step a line, with an empty line between two stages. The number of
+// the stream stands for `#`.
 const STAGES: &str = r##"open => #
-sotw # {"typeUrl":"CDS"} => taken; poll # => {"nonce":"1","resources":[{"@type":"CDS","name":"a"}],"typeUrl":"CDS","versionInfo":"1.1"}
-owed # => yes; sotw # {"responseNonce":"1","typeUrl":"CDS"} => taken; owed # => no
-close # => closed; due # => none"##;
+
+sotw # {"typeUrl":"CDS"} => taken
+poll # => {"nonce":"1","resources":[{"@type":"CDS","name":"a"}],"typeUrl":"CDS","versionInfo":"1.1"}
+
+owed # => yes
+sotw # {"responseNonce":"1","typeUrl":"CDS"} => taken
+owed # => no
+
+close # => closed
+due # => none"##;
 
 // What was before the streams.
 const BEFORE: &str = r#"put {"@type":"CDS","name":"a"} => 1-1"#;
@@ -20,7 +28,7 @@ const BEFORE: &str = r#"put {"@type":"CDS","name":"a"} => 1-1"#;
 fn pass<A: Actor>(alloc: Global) -> Result<(), Fail> {
     let mut actor = A::begin(alloc);
     play_on(alloc, &mut actor, BEFORE)?;
-    for stage in STAGES.lines() {
+    for stage in STAGES.split("\n\n") {
         pass_stage(alloc, &mut actor, stage)?;
     }
     Ok(())
@@ -36,7 +44,7 @@ fn pass_stage<A: Actor>(alloc: Global, actor: &mut A, stage: &str) -> Result<(),
 fn pass_one<A: Actor>(alloc: Global, actor: &mut A, stage: &str, number: u64) -> Result<(), Fail> {
     let number = number_text(alloc, u128::from(number))?;
     let stage = stage.replace(alloc, "#", number.as_str())?;
-    for step in stage.as_str().split("; ") {
+    for step in stage.as_str().lines() {
         play_line(alloc, actor, step)?;
     }
     Ok(())

@@ -1,5 +1,5 @@
-// Values with many parts. Of a type parameter, a drop is one step to the proof, and of an event or a replica it is many.
-// So where such values are dropped, it is here.
+// Values with many parts. Of a type parameter, a drop is one step to the proof, and of an event or
+// a replica it is many. So where such values are dropped, it is here.
 use std::alloc::Global;
 use std::mem;
 use xds_core::{Core, Event, Record};
@@ -56,7 +56,8 @@ pub(crate) fn text_of<V: Told>(alloc: Global, value: V) -> Result<String, Refusa
     value.text(alloc)
 }
 
-/// The texts of two values, with `and` between them, or that of the refusal. That no memory was found is no answer.
+/// The texts of two values, with `and` between them, or that of the refusal. That no memory was
+/// found is no answer.
 pub(crate) fn texts_of<V: Told>(
     alloc: Global,
     both: Result<(V, V), Refusal>,

@@ -3,7 +3,7 @@ use std::alloc::Global;
 use std::io;
 use std::io::{ErrorKind, Read, Write};
 use std::test::Fail;
-use xds_cases::cases::written_out;
+use xds_cases::cases::{unfolded, written_out};
 use xds_core::{Core, Event, Request};
 use xds_frames::{Counted, Faulty};
 use xds_message::DiscoveryRequest;
@@ -121,10 +121,10 @@ pub(crate) fn run(alloc: Global, ends: &mut Ends<'_>) -> Result<Ran, Refusal> {
     ran
 }
 
-/// The bytes of items that stand apart by `; `: hex digits, and where a space follows them a text.
+/// The bytes of items, an item a line: hex digits, and where a space follows them a text.
 pub(crate) fn bytes_of(alloc: Global, items: &str) -> Result<Vec<u8>, Fail> {
     let mut bytes = Vec::new(alloc);
-    for item in items.split("; ") {
+    for item in items.lines() {
         push_item(alloc, &mut bytes, item)?;
     }
     Ok(bytes)
@@ -141,8 +141,10 @@ fn push_item(alloc: Global, bytes: &mut Vec<u8>, item: &str) -> Result<(), Fail>
     Ok(())
 }
 
-/// The same, with the short names of types written out.
+/// The same, with the short names of types written out. A line that begins with four spaces goes on
+/// with the line before it.
 pub(crate) fn written_bytes(alloc: Global, items: &str) -> Result<Vec<u8>, Fail> {
-    let items = written_out(alloc, items)?;
+    let items = unfolded(alloc, items)?;
+    let items = written_out(alloc, items.as_str())?;
     bytes_of(alloc, items.as_str())
 }

@@ -48,7 +48,8 @@ impl Told for Reply {
     }
 }
 
-/// The text of the reply, or of the refusal. That no memory was found is no answer, but ends the test.
+/// The text of the reply, or of the refusal. That no memory was found is no answer, but ends the
+/// test.
 impl Told for Record {
     fn text(&self, alloc: Global) -> Result<String, Refusal> {
         match &self.answer {

@@ -1,4 +1,5 @@
-// Tests of replies to polls: worked examples, and what no clause says, as that a poll succeeds where memory is ample.
+// Tests of replies to polls: worked examples, and what no clause says, as that a poll succeeds
+// where memory is ample.
 
 mod memory;
 mod parts;

@@ -1,11 +1,11 @@
 // Stories as texts, one step a line: what happens, ` => `, and what is answered.
 use std::alloc::Global;
 use std::test::Fail;
-use xds_cases::cases::written_out;
+use xds_cases::cases::{unfolded, written_out};
 use xds_resource::Refusal;
 
-/// To whom stories happen. Of a type parameter, a drop is one step to the proof, and of a replica it is many, on each way
-/// out: so only functions over a type parameter hold one.
+/// To whom stories happen. Of a type parameter, a drop is one step to the proof, and of a replica
+/// it is many, on each way out: so only functions over a type parameter hold one.
 pub trait Actor: Drop + Sized {
     fn begin(alloc: Global) -> Self;
 
@@ -25,16 +25,19 @@ pub(crate) fn play<A: Actor, R: AllocGlobal>(rt: &R, story: &str) -> Result<(), 
     play_on(rt.alloc(), &mut actor, story)
 }
 
-/// Plays a story on. Each step happens to a copy of the actor, which then stands for it.
+/// Plays a story on. Each step happens to a copy of the actor, which then stands for it. A line
+/// that begins with four spaces goes on with the line before it.
 pub(crate) fn play_on<A: Actor>(alloc: Global, actor: &mut A, story: &str) -> Result<(), Fail> {
-    for line in story.lines() {
+    let story = unfolded(alloc, story)?;
+    for line in story.as_str().lines() {
         actor.renew(alloc)?;
         play_line(alloc, actor, line)?;
     }
     Ok(())
 }
 
-/// Does one step, and compares. In a story `CDS`, `EDS`, `LDS`, `RDS` and `SDS` stand for the URLs of the types.
+/// Does one step, and compares. In a story `CDS`, `EDS`, `LDS`, `RDS` and `SDS` stand for the URLs
+/// of the types.
 pub(crate) fn play_line<A: Actor>(alloc: Global, actor: &mut A, line: &str) -> Result<(), Fail> {
     let line = written_out(alloc, line)?;
     let (step, wanted) = line

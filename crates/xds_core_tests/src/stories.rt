@@ -95,8 +95,15 @@ put {"@type":"RDS","name":"q"} => 2-1
 marks => 1 1 1 2 0
 delete route r => 3-1
 marks => 1 1 1 3 0
-entries route => {"body":{"@type":"RDS","name":"q"},"counter":2,"name":"q","typeUrl":"RDS","writer":1} {"counter":3,"name":"r","typeUrl":"RDS","writer":1}
-snapshot => {"body":{"@type":"CDS","name":"a","x":1},"counter":1,"name":"a","typeUrl":"CDS","writer":1} {"body":{"@type":"EDS","clusterName":"e"},"counter":1,"name":"e","typeUrl":"EDS","writer":1} {"body":{"@type":"LDS","name":"l"},"counter":1,"name":"l","typeUrl":"LDS","writer":1} {"body":{"@type":"RDS","name":"q"},"counter":2,"name":"q","typeUrl":"RDS","writer":1} {"counter":3,"name":"r","typeUrl":"RDS","writer":1}
+entries route => {"body":{"@type":"RDS","name":"q"},"counter":2,"name":"q","typeUrl":"RDS",
+    "writer":1}
+     {"counter":3,"name":"r","typeUrl":"RDS","writer":1}
+snapshot => {"body":{"@type":"CDS","name":"a","x":1},"counter":1,"name":"a","typeUrl":"CDS",
+    "writer":1}
+     {"body":{"@type":"EDS","clusterName":"e"},"counter":1,"name":"e","typeUrl":"EDS","writer":1}
+     {"body":{"@type":"LDS","name":"l"},"counter":1,"name":"l","typeUrl":"LDS","writer":1}
+     {"body":{"@type":"RDS","name":"q"},"counter":2,"name":"q","typeUrl":"RDS","writer":1}
+     {"counter":3,"name":"r","typeUrl":"RDS","writer":1}
 open => 1
 due 1 => no
 owed 1 => no
@@ -111,7 +118,8 @@ owes 1 => yes
 owes 1 route => yes
 owes 1 listener => no
 poll 1 cluster => none
-poll 1 => {"nonce":"1","resources":[{"@type":"RDS","name":"q"}],"typeUrl":"RDS","versionInfo":"1.3.named"}
+poll 1 => {"nonce":"1","resources":[{"@type":"RDS","name":"q"}],"typeUrl":"RDS",
+    "versionInfo":"1.3.named"}
 due 1 => no
 owed 1 => yes
 owes 1 route => yes
@@ -120,9 +128,11 @@ sotw 1 {"resourceNames":["q"],"responseNonce":"1","typeUrl":"RDS"} => taken
 owed 1 => no
 owes 1 => no
 sotw 1 {"resourceNames":["r"],"responseNonce":"9","typeUrl":"RDS"} => ignored
-merge {"body":{"@type":"RDS","name":"q","x":2},"counter":5,"name":"q","typeUrl":"RDS","writer":2} {"counter":1,"name":"e","typeUrl":"EDS","writer":2} => 2
+merge {"body":{"@type":"RDS","name":"q","x":2},"counter":5,"name":"q","typeUrl":"RDS","writer":2}
+     {"counter":1,"name":"e","typeUrl":"EDS","writer":2} => 2
 marks => 1 2 1 4 0
-poll 1 route => {"nonce":"2","resources":[{"@type":"RDS","name":"q","x":2}],"typeUrl":"RDS","versionInfo":"1.4.named"}
+poll 1 route => {"nonce":"2","resources":[{"@type":"RDS","name":"q","x":2}],"typeUrl":"RDS",
+    "versionInfo":"1.4.named"}
 put {"@type":"RDS","name":"z"} => 6-1
 delete endpoint e => 9 NotFound
 close 1 => closed
@@ -138,21 +148,34 @@ fn a_batch_is_joined_once(rt: HostRuntime) -> Result<(), Fail> {
         r#"put {"@type":"CDS","name":"a","x":1} => 1-1
 open => 1
 sotw 1 {"typeUrl":"CDS"} => taken
-merge {"body":{"@type":"CDS","name":"a","x":2},"counter":1,"name":"a","typeUrl":"CDS","writer":2} => 1
-merge {"body":{"@type":"CDS","name":"a","x":2},"counter":1,"name":"a","typeUrl":"CDS","writer":2} => 0
-merge {"body":{"@type":"CDS","name":"a","x":1},"counter":1,"name":"a","typeUrl":"CDS","writer":1} => 0
+merge {"body":{"@type":"CDS","name":"a","x":2},"counter":1,"name":"a","typeUrl":"CDS",
+    "writer":2} => 1
+merge {"body":{"@type":"CDS","name":"a","x":2},"counter":1,"name":"a","typeUrl":"CDS",
+    "writer":2} => 0
+merge {"body":{"@type":"CDS","name":"a","x":1},"counter":1,"name":"a","typeUrl":"CDS",
+    "writer":1} => 0
 marks => 2 0 0 0 0
 merge => 0
-poll 1 => {"nonce":"1","resources":[{"@type":"CDS","name":"a","x":2}],"typeUrl":"CDS","versionInfo":"1.2"}
+poll 1 => {"nonce":"1","resources":[{"@type":"CDS","name":"a","x":2}],"typeUrl":"CDS",
+    "versionInfo":"1.2"}
 sotw 1 {"responseNonce":"1","typeUrl":"CDS"} => taken
-merge {"body":{"@type":"LDS","name":"l"},"counter":7,"name":"l","typeUrl":"LDS","writer":3} {"counter":4,"name":"b","typeUrl":"CDS","writer":2} {"body":{"@type":"CDS","name":"b"},"counter":3,"name":"b","typeUrl":"CDS","writer":9} => 2
+merge {"body":{"@type":"LDS","name":"l"},"counter":7,"name":"l","typeUrl":"LDS","writer":3}
+     {"counter":4,"name":"b","typeUrl":"CDS","writer":2}
+     {"body":{"@type":"CDS","name":"b"},"counter":3,"name":"b","typeUrl":"CDS","writer":9} => 2
 marks => 3 0 1 0 0
-entries cluster => {"body":{"@type":"CDS","name":"a","x":2},"counter":1,"name":"a","typeUrl":"CDS","writer":2} {"counter":4,"name":"b","typeUrl":"CDS","writer":2}
+entries cluster => {"body":{"@type":"CDS","name":"a","x":2},"counter":1,"name":"a","typeUrl":"CDS",
+    "writer":2}
+     {"counter":4,"name":"b","typeUrl":"CDS","writer":2}
 delete cluster b => 9 NotFound
 delete cluster a => 5-1
-merge {"body":{"@type":"CDS","name":"a","x":2},"counter":1,"name":"a","typeUrl":"CDS","writer":2} => 0
-merge {"body":{"@type":"CDS","name":"c"},"counter":1,"name":"c","typeUrl":"CDS","writer":2} {"body":{"@type":"CDS","name":"c"},"counter":1,"name":"c","typeUrl":"CDS","writer":2} => 1
-snapshot => {"counter":5,"name":"a","typeUrl":"CDS","writer":1} {"counter":4,"name":"b","typeUrl":"CDS","writer":2} {"body":{"@type":"CDS","name":"c"},"counter":1,"name":"c","typeUrl":"CDS","writer":2} {"body":{"@type":"LDS","name":"l"},"counter":7,"name":"l","typeUrl":"LDS","writer":3}
+merge {"body":{"@type":"CDS","name":"a","x":2},"counter":1,"name":"a","typeUrl":"CDS",
+    "writer":2} => 0
+merge {"body":{"@type":"CDS","name":"c"},"counter":1,"name":"c","typeUrl":"CDS","writer":2}
+     {"body":{"@type":"CDS","name":"c"},"counter":1,"name":"c","typeUrl":"CDS","writer":2} => 1
+snapshot => {"counter":5,"name":"a","typeUrl":"CDS","writer":1}
+     {"counter":4,"name":"b","typeUrl":"CDS","writer":2}
+     {"body":{"@type":"CDS","name":"c"},"counter":1,"name":"c","typeUrl":"CDS","writer":2}
+     {"body":{"@type":"LDS","name":"l"},"counter":7,"name":"l","typeUrl":"LDS","writer":3}
 poll 1 => {"nonce":"2","resources":[{"@type":"CDS","name":"c"}],"typeUrl":"CDS","versionInfo":"1.5"}
 put {"@type":"CDS","name":"b"} => 6-1
 put {"@type":"LDS","name":"k"} => 8-1"#,
@@ -164,12 +187,16 @@ fn the_greatest_counter_ends_writes(rt: HostRuntime) -> Result<(), Fail> {
     play::<Core, HostRuntime>(
         &rt,
         r#"put {"@type":"LDS","name":"k"} => 1-1
-merge {"body":{"@type":"LDS","name":"z"},"counter":9223372036854775807,"name":"z","typeUrl":"LDS","writer":9} => 1
+merge {"body":{"@type":"LDS","name":"z"},"counter":9223372036854775807,"name":"z","typeUrl":"LDS",
+    "writer":9} => 1
 put {"@type":"LDS","name":"l"} => 10 CounterSpent
 delete listener k => 10 CounterSpent
 delete listener l => 9 NotFound
 marks => 0 0 2 0 0
-entries listener => {"body":{"@type":"LDS","name":"k"},"counter":1,"name":"k","typeUrl":"LDS","writer":1} {"body":{"@type":"LDS","name":"z"},"counter":9223372036854775807,"name":"z","typeUrl":"LDS","writer":9}
+entries listener => {"body":{"@type":"LDS","name":"k"},"counter":1,"name":"k","typeUrl":"LDS",
+    "writer":1}
+     {"body":{"@type":"LDS","name":"z"},"counter":9223372036854775807,"name":"z",
+    "typeUrl":"LDS","writer":9}
 put {"@type":"CDS","name":"l"} => 1-1
 merge {"counter":2,"name":"k","typeUrl":"LDS","writer":1} => 1
 marks => 1 0 3 0 0"#,
@@ -197,10 +224,13 @@ sotw 1 {"typeUrl":"LDS"} => taken
 sotw 1 {"resourceNames":["e"],"typeUrl":"EDS"} => taken
 sotw 1 {"typeUrl":"CDS"} => taken
 poll 1 => {"nonce":"1","resources":[{"@type":"CDS","name":"c"}],"typeUrl":"CDS","versionInfo":"1.1"}
-poll 1 => {"nonce":"2","resources":[{"@type":"EDS","clusterName":"e"}],"typeUrl":"EDS","versionInfo":"1.1.named"}
+poll 1 => {"nonce":"2","resources":[{"@type":"EDS","clusterName":"e"}],"typeUrl":"EDS",
+    "versionInfo":"1.1.named"}
 poll 1 => {"nonce":"3","resources":[{"@type":"LDS","name":"l"}],"typeUrl":"LDS","versionInfo":"1.1"}
-poll 1 => {"nonce":"4","resources":[{"@type":"RDS","name":"r"}],"typeUrl":"RDS","versionInfo":"1.1.named"}
-poll 1 => {"nonce":"5","resources":[{"@type":"SDS","name":"s"}],"typeUrl":"SDS","versionInfo":"1.1.named"}
+poll 1 => {"nonce":"4","resources":[{"@type":"RDS","name":"r"}],"typeUrl":"RDS",
+    "versionInfo":"1.1.named"}
+poll 1 => {"nonce":"5","resources":[{"@type":"SDS","name":"s"}],"typeUrl":"SDS",
+    "versionInfo":"1.1.named"}
 poll 1 => none
 sotw 1 {"resourceNames":["r"],"responseNonce":"4","typeUrl":"RDS"} => taken
 sotw 1 {"responseNonce":"1","typeUrl":"CDS"} => taken
@@ -213,7 +243,11 @@ owes 1 => yes
 due 1 => no
 sotw 1 {"resourceNames":["s"],"responseNonce":"5","typeUrl":"SDS"} => taken
 owes 1 => no
-snapshot => {"body":{"@type":"CDS","name":"c"},"counter":1,"name":"c","typeUrl":"CDS","writer":1} {"body":{"@type":"EDS","clusterName":"e"},"counter":1,"name":"e","typeUrl":"EDS","writer":1} {"body":{"@type":"LDS","name":"l"},"counter":1,"name":"l","typeUrl":"LDS","writer":1} {"body":{"@type":"RDS","name":"r"},"counter":1,"name":"r","typeUrl":"RDS","writer":1} {"body":{"@type":"SDS","name":"s"},"counter":1,"name":"s","typeUrl":"SDS","writer":1}
+snapshot => {"body":{"@type":"CDS","name":"c"},"counter":1,"name":"c","typeUrl":"CDS","writer":1}
+     {"body":{"@type":"EDS","clusterName":"e"},"counter":1,"name":"e","typeUrl":"EDS","writer":1}
+     {"body":{"@type":"LDS","name":"l"},"counter":1,"name":"l","typeUrl":"LDS","writer":1}
+     {"body":{"@type":"RDS","name":"r"},"counter":1,"name":"r","typeUrl":"RDS","writer":1}
+     {"body":{"@type":"SDS","name":"s"},"counter":1,"name":"s","typeUrl":"SDS","writer":1}
 open => 2
 sotw 2 {"typeUrl":"SDS"} => taken
 poll 2 => none
@@ -236,8 +270,12 @@ put {"@type":"CDS","name":"a"} => 1-1
 put {"@type":"CDS","name":"b"} => 2-1
 sotw 1 {"node":{"id":"n"},"resourceNames":["*"],"typeUrl":"CDS"} => taken
 delta 2 {"node":{"id":"m"},"resourceNamesSubscribe":["*"],"typeUrl":"CDS"} => taken
-poll 1 => {"nonce":"1","resources":[{"@type":"CDS","name":"a"},{"@type":"CDS","name":"b"}],"typeUrl":"CDS","versionInfo":"1.2"}
-poll 2 => {"nonce":"1","resources":[{"name":"a","resource":{"@type":"CDS","name":"a"},"version":"1-1"},{"name":"b","resource":{"@type":"CDS","name":"b"},"version":"2-1"}],"systemVersionInfo":"1.2","typeUrl":"CDS"}
+poll 1 => {"nonce":"1","resources":[{"@type":"CDS","name":"a"},{"@type":"CDS","name":"b"}],
+    "typeUrl":"CDS","versionInfo":"1.2"}
+poll 2 => {"nonce":"1",
+    "resources":[{"name":"a","resource":{"@type":"CDS","name":"a"},"version":"1-1"},
+    {"name":"b","resource":{"@type":"CDS","name":"b"},"version":"2-1"}],"systemVersionInfo":"1.2",
+    "typeUrl":"CDS"}
 sotw 1 {"resourceNames":["*"],"responseNonce":"1","typeUrl":"CDS","versionInfo":"1.2"} => taken
 delta 2 {"responseNonce":"1","typeUrl":"CDS"} => taken
 owes 1 => no
@@ -249,38 +287,51 @@ delta 2 {"resourceNamesSubscribe":["e"],"typeUrl":"EDS"} => taken
 poll 2 => {"nonce":"2","removedResources":["e"],"systemVersionInfo":"1.0","typeUrl":"EDS"}
 put {"@type":"EDS","clusterName":"e"} => 1-1
 poll 2 endpoint => none
-poll 1 => {"nonce":"2","resources":[{"@type":"EDS","clusterName":"e"}],"typeUrl":"EDS","versionInfo":"1.1.named"}
+poll 1 => {"nonce":"2","resources":[{"@type":"EDS","clusterName":"e"}],"typeUrl":"EDS",
+    "versionInfo":"1.1.named"}
 delta 2 {"responseNonce":"2","typeUrl":"EDS"} => taken
-poll 2 => {"nonce":"3","resources":[{"name":"e","resource":{"@type":"EDS","clusterName":"e"},"version":"1-1"}],"systemVersionInfo":"1.1","typeUrl":"EDS"}
+poll 2 => {"nonce":"3",
+    "resources":[{"name":"e","resource":{"@type":"EDS","clusterName":"e"},"version":"1-1"}],
+    "systemVersionInfo":"1.1","typeUrl":"EDS"}
 delete cluster a => 3-1
 put {"@type":"LDS","name":"l"} => 1-1
 delta 2 {"typeUrl":"LDS"} => taken
 poll 2 => {"nonce":"4","removedResources":["a"],"systemVersionInfo":"1.3","typeUrl":"CDS"}
-poll 2 listener => {"nonce":"5","resources":[{"name":"l","resource":{"@type":"LDS","name":"l"},"version":"1-1"}],"systemVersionInfo":"1.1","typeUrl":"LDS"}
+poll 2 listener => {"nonce":"5",
+    "resources":[{"name":"l","resource":{"@type":"LDS","name":"l"},"version":"1-1"}],
+    "systemVersionInfo":"1.1","typeUrl":"LDS"}
 poll 2 => none
-poll 1 cluster => {"nonce":"3","resources":[{"@type":"CDS","name":"b"}],"typeUrl":"CDS","versionInfo":"1.3"}
-sotw 1 {"errorDetail":{"code":3,"message":"test: b"},"resourceNames":["*"],"responseNonce":"3","typeUrl":"CDS","versionInfo":"1.2"} => taken
+poll 1 cluster => {"nonce":"3","resources":[{"@type":"CDS","name":"b"}],"typeUrl":"CDS",
+    "versionInfo":"1.3"}
+sotw 1 {"errorDetail":{"code":3,"message":"test: b"},"resourceNames":["*"],"responseNonce":"3",
+    "typeUrl":"CDS","versionInfo":"1.2"} => taken
 poll 1 => none
 owes 1 cluster => yes
 due 1 => no
 put {"@type":"CDS","name":"b","x":1} => 4-1
 due 1 => yes
-poll 1 => {"nonce":"4","resources":[{"@type":"CDS","name":"b","x":1}],"typeUrl":"CDS","versionInfo":"1.4"}
+poll 1 => {"nonce":"4","resources":[{"@type":"CDS","name":"b","x":1}],"typeUrl":"CDS",
+    "versionInfo":"1.4"}
 sotw 1 {"resourceNames":["*"],"responseNonce":"4","typeUrl":"CDS","versionInfo":"1.4"} => taken
-sotw 1 {"resourceNames":["e"],"responseNonce":"2","typeUrl":"EDS","versionInfo":"1.1.named"} => taken
+sotw 1 {"resourceNames":["e"],"responseNonce":"2","typeUrl":"EDS",
+    "versionInfo":"1.1.named"} => taken
 owes 1 => no
 delta 2 {"responseNonce":"4","typeUrl":"CDS"} => taken
-poll 2 => {"nonce":"6","resources":[{"name":"b","resource":{"@type":"CDS","name":"b","x":1},"version":"4-1"}],"systemVersionInfo":"1.4","typeUrl":"CDS"}
+poll 2 => {"nonce":"6",
+    "resources":[{"name":"b","resource":{"@type":"CDS","name":"b","x":1},"version":"4-1"}],
+    "systemVersionInfo":"1.4","typeUrl":"CDS"}
 delta 2 {"resourceNamesUnsubscribe":["*"],"typeUrl":"CDS"} => taken
 poll 2 cluster => none
 delta 2 {"responseNonce":"6","typeUrl":"CDS"} => taken
 poll 2 => {"nonce":"7","removedResources":["b"],"systemVersionInfo":"1.4","typeUrl":"CDS"}
 delta 2 {"responseNonce":"7","typeUrl":"CDS"} => taken
 owes 2 cluster => no
-merge {"body":{"@type":"RDS","name":"q"},"counter":7,"name":"q","typeUrl":"RDS","writer":2} {"body":{"@type":"CDS","name":"c"},"counter":9,"name":"c","typeUrl":"CDS","writer":2} => 2
+merge {"body":{"@type":"RDS","name":"q"},"counter":7,"name":"q","typeUrl":"RDS","writer":2}
+     {"body":{"@type":"CDS","name":"c"},"counter":9,"name":"c","typeUrl":"CDS","writer":2} => 2
 marks => 5 1 1 1 0
 owes 2 cluster => no
-poll 1 => {"nonce":"5","resources":[{"@type":"CDS","name":"b","x":1},{"@type":"CDS","name":"c"}],"typeUrl":"CDS","versionInfo":"1.5"}
+poll 1 => {"nonce":"5","resources":[{"@type":"CDS","name":"b","x":1},{"@type":"CDS","name":"c"}],
+    "typeUrl":"CDS","versionInfo":"1.5"}
 put {"@type":"CDS","name":"d"} => 10-1
 close 1 => closed
 poll 1 => 12 NoStream
@@ -291,6 +342,12 @@ delta 2 {"responseNonce":"5","typeUrl":"LDS"} => taken
 owes 2 => no
 close 2 => closed
 open => 3
-snapshot => {"counter":3,"name":"a","typeUrl":"CDS","writer":1} {"body":{"@type":"CDS","name":"b","x":1},"counter":4,"name":"b","typeUrl":"CDS","writer":1} {"body":{"@type":"CDS","name":"c"},"counter":9,"name":"c","typeUrl":"CDS","writer":2} {"body":{"@type":"CDS","name":"d"},"counter":10,"name":"d","typeUrl":"CDS","writer":1} {"body":{"@type":"EDS","clusterName":"e"},"counter":1,"name":"e","typeUrl":"EDS","writer":1} {"body":{"@type":"LDS","name":"l"},"counter":1,"name":"l","typeUrl":"LDS","writer":1} {"body":{"@type":"RDS","name":"q"},"counter":7,"name":"q","typeUrl":"RDS","writer":2}"#,
+snapshot => {"counter":3,"name":"a","typeUrl":"CDS","writer":1}
+     {"body":{"@type":"CDS","name":"b","x":1},"counter":4,"name":"b","typeUrl":"CDS","writer":1}
+     {"body":{"@type":"CDS","name":"c"},"counter":9,"name":"c","typeUrl":"CDS","writer":2}
+     {"body":{"@type":"CDS","name":"d"},"counter":10,"name":"d","typeUrl":"CDS","writer":1}
+     {"body":{"@type":"EDS","clusterName":"e"},"counter":1,"name":"e","typeUrl":"EDS","writer":1}
+     {"body":{"@type":"LDS","name":"l"},"counter":1,"name":"l","typeUrl":"LDS","writer":1}
+     {"body":{"@type":"RDS","name":"q"},"counter":7,"name":"q","typeUrl":"RDS","writer":2}"#,
     )
 }

@@ -1,15 +1,19 @@
-// A stream that finds no memory. `bench/fail_each.py` runs this test with each allocation failing in turn: where one fails
-// while the stream is served, a beginning of the responses was written, and the stream is closed.
+// A stream that finds no memory. `bench/fail_each.py` runs this test with each allocation failing
+// in turn: where one fails while the stream is served, a beginning of the responses was written,
+// and the stream is closed.
 use crate::ran::{Ends, Ran, serve, written_bytes};
 use std::alloc::Global;
 use std::test::Fail;
 use xds_core::{Core, Event};
 use xds_resource::{AnyResource, Groups, Refusal};
 
-const REQUESTS: &str = r#"0000004201 {"typeUrl":"CDS"}; 0000004401 {"typeUrl":"LDS"}"#;
+const REQUESTS: &str = r#"0000004201 {"typeUrl":"CDS"}
+0000004401 {"typeUrl":"LDS"}"#;
 
 const RESPONSES: &str =
-    r#"000000bb02 {"nonce":"1","resources":[{"@type":"CDS","name":"a"}],"typeUrl":"CDS","versionInfo":"1.1"}; 0000006402 {"nonce":"2","typeUrl":"LDS","versionInfo":"1.0"}"#;
+    r#"000000bb02 {"nonce":"1","resources":[{"@type":"CDS","name":"a"}],"typeUrl":"CDS",
+    "versionInfo":"1.1"}
+0000006402 {"nonce":"2","typeUrl":"LDS","versionInfo":"1.0"}"#;
 
 // A replica takes a cluster.
 fn put_a_cluster(alloc: Global, core: &mut Core) -> Result<(), Fail> {
@@ -20,7 +24,8 @@ fn put_a_cluster(alloc: Global, core: &mut Core) -> Result<(), Fail> {
     Ok(())
 }
 
-// Whether the stream was refused memory. It is closed, and a beginning of the responses was written; all, where it wasn't.
+// Whether the stream was refused memory. It is closed, and a beginning of the responses was
+// written; all, where it wasn't.
 fn is_refused(ran: Result<Ran, Refusal>, written: &[u8], responses: &[u8]) -> Result<bool, Fail> {
     let ran = ran?;
     let refused = ran.answer == Err(Refusal::OutOfMemory);

@@ -6,7 +6,7 @@ use std::alloc::Global;
 use std::marker::Brand;
 use std::sync::Wait;
 use std::test::Fail;
-use xds_cases::cases::written_out;
+use xds_cases::cases::{unfolded, written_out};
 use xds_node::{Line, Node, NodeName, Opened, Seat};
 use xds_polls::HttpReply;
 use xds_resource::Refusal;
@@ -59,8 +59,8 @@ pub(crate) fn by_node<N: NodeName, R: Wait>(
     reply
 }
 
-const CASES: &str =
-    r#"POST /v3/discovery:clusters {} => 200 {"resources":[{"@type":"CDS","name":"a"}],"typeUrl":"CDS","versionInfo":"1.1"}
+const CASES: &str = r#"POST /v3/discovery:clusters {}
+     => 200 {"resources":[{"@type":"CDS","name":"a"}],"typeUrl":"CDS","versionInfo":"1.1"}
 POST /v3/discovery:clusters {"versionInfo":"1.1"} => 304
 GET /v3/discovery:clusters {} => 405
 POST /v3/discovery:clusters => 400 {"code":1,"name":"NotJson"}"#;
@@ -91,7 +91,8 @@ fn hold<N: NodeName, R: Wait>(
     node: &Node<N>,
     seat: &mut Seat<N>,
 ) -> Result<(), Fail> {
-    for case in CASES.lines() {
+    let cases = unfolded(alloc, CASES)?;
+    for case in cases.as_str().lines() {
         answers(rt, alloc, node, seat, case)?;
     }
     Ok(())

@@ -50,7 +50,8 @@ fn refused<N: NodeName, R: Wait>(
     refused
 }
 
-// How many records stand once the node was asked at a full journal, after a call alone found no room there.
+// How many records stand once the node was asked at a full journal, after a call alone found no
+// room there.
 fn cut_for_a_request<N: NodeName, R: Wait>(
     rt: &R,
     alloc: Global,
@@ -61,7 +62,8 @@ fn cut_for_a_request<N: NodeName, R: Wait>(
     }
     let found = by_node(rt, alloc, node, "POST /v3/discovery:secrets {}")?;
     let wanted =
-        "200 {\"typeUrl\":\"type.googleapis.com/envoy.extensions.transport_sockets.tls.v3.Secret\",\"versionInfo\":\"1.0.named\"}";
+        "200 {\"typeUrl\":\"type.googleapis.com/envoy.extensions.transport_sockets.tls.v3.Secret\",\
+         \"versionInfo\":\"1.0.named\"}";
     same(found.as_str(), wanted, "a full journal")?;
     Ok(standing(rt, node)?)
 }

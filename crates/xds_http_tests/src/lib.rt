@@ -1,4 +1,5 @@
-// Tests of polls at a node that threads share, by its calls and over a socket. Nothing else stands here.
+// Tests of polls at a node that threads share, by its calls and over a socket. Nothing else stands
+// here.
 #![tactic(auto)]
 
 #[cfg(test)]

@@ -1,5 +1,6 @@
-// A poll for which no memory is found. With ample memory it is answered at once; `rt try --test --fail-alloc N` refuses the N-th
-// allocation. The poll that comes again is answered as if the first had not been.
+// A poll for which no memory is found. With ample memory it is answered at once; `rt try --test
+// --fail-alloc N` refuses the N-th allocation. The poll that comes again is answered as if the
+// first had not been.
 ghost use Rattle.std.specs.Prelude.{◌≡◌};
 
 use crate::calls::shown;
@@ -16,7 +17,8 @@ use xds_rest::{answer_at, reply_at};
 const PATH: &str = "/v3/discovery:secrets";
 
 const NONE_HELD: &str =
-    "200 {\"typeUrl\":\"type.googleapis.com/envoy.extensions.transport_sockets.tls.v3.Secret\",\"versionInfo\":\"1.0.named\"}";
+    "200 {\"typeUrl\":\"type.googleapis.com/envoy.extensions.transport_sockets.tls.v3.Secret\",\
+     \"versionInfo\":\"1.0.named\"}";
 
 // That a reply tells that there are no secrets.
 fn tells_none(alloc: Global, reply: HttpReply) -> Result<(), Fail> {

@@ -60,7 +60,8 @@ where
 {
     let url = TypeName::Cluster.url();
     let wanted = format!(in rt.alloc();
-        "200\n{{\"resources\":[{{\"@type\":\"{url}\",\"name\":\"a\"}}],\"typeUrl\":\"{url}\",\"versionInfo\":\"{version}\"}}\n"
+        "200\n{{\"resources\":[{{\"@type\":\"{url}\",\"name\":\"a\"}}],\"typeUrl\":\"{url}\",\
+         \"versionInfo\":\"{version}\"}}\n"
     )?;
     shows(rt, server, asked, wanted.as_str())
 }

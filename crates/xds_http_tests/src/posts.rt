@@ -2,11 +2,13 @@
 use crate::server::{answers, started, written};
 use std::net::SocketAddr;
 use std::test::Fail;
-use xds_cases::cases::written_out;
+use xds_cases::cases::{unfolded, written_out};
 
-// Sends each request, and compares its reply with what is wanted.
+// Sends each request, and compares its reply with what is wanted. A line that begins with four
+// spaces goes on with the line before it.
 pub(crate) fn hold(rt: &HostRuntime, server: SocketAddr, cases: &str) -> Result<(), Fail> {
-    for case in cases.lines() {
+    let cases = unfolded(rt.alloc(), cases)?;
+    for case in cases.as_str().lines() {
         hold_one(rt, server, case)?;
     }
     Ok(())
@@ -20,10 +22,11 @@ fn hold_one(rt: &HostRuntime, server: SocketAddr, case: &str) -> Result<(), Fail
 }
 
 // Replica 1 holds the cluster `a`, put once.
-const POSTS: &str =
-    r#"POST /v3/discovery:clusters {} => 200 {"resources":[{"@type":"CDS","name":"a"}],"typeUrl":"CDS","versionInfo":"1.1"}
+const POSTS: &str = r#"POST /v3/discovery:clusters {}
+     => 200 {"resources":[{"@type":"CDS","name":"a"}],"typeUrl":"CDS","versionInfo":"1.1"}
 POST /v3/discovery:clusters {"versionInfo":"1.1"} => 304
-POST /v3/discovery:clusters {"resourceNames":["a"],"versionInfo":"1.1"} => 200 {"resources":[{"@type":"CDS","name":"a"}],"typeUrl":"CDS","versionInfo":"1.1.named"}
+POST /v3/discovery:clusters {"resourceNames":["a"],"versionInfo":"1.1"}
+     => 200 {"resources":[{"@type":"CDS","name":"a"}],"typeUrl":"CDS","versionInfo":"1.1.named"}
 POST /v3/discovery:clusters {"resourceNames":["*"],"versionInfo":"1.1"} => 304
 POST /v3/discovery:clusters {"resourceNames":["*","a"],"versionInfo":"1.1"} => 304
 POST /v3/discovery:clusters {"node":{"cluster":"g1","id":"1"},"versionInfo":"1.1@g1"} => 304
@@ -32,7 +35,8 @@ PUT /v3/discovery:clusters {} => 405
 HEAD /v3/discovery:clusters => 405
 POST /v3/discovery:scoped {} => 404
 GET / => 404
-POST /v3/discovery:clusters?x=1 {} => 200 {"resources":[{"@type":"CDS","name":"a"}],"typeUrl":"CDS","versionInfo":"1.1"}
+POST /v3/discovery:clusters?x=1 {}
+     => 200 {"resources":[{"@type":"CDS","name":"a"}],"typeUrl":"CDS","versionInfo":"1.1"}
 POST /v3/discovery:clusters => 400 {"code":1,"name":"NotJson"}
 POST /v3/discovery:clusters [] => 400 {"code":7,"name":"BadMessage"}
 POST /v3/discovery:clusters {"typeUrl":"RDS"} => 400 {"code":7,"name":"BadMessage"}

@@ -17,7 +17,8 @@ use xds_http::{Replies, serve_on};
 use xds_node::{Line, Node, NodeName, Opened, Seat, Unrecorded};
 use xds_resource::{AnyResource, Groups, Refusal, TypeName};
 
-// What is looked for in what a call of a node answers. It is told by reference, and dropped by a function that doesn't know the type.
+// What is looked for in what a call of a node answers. It is told by reference, and dropped by a
+// function that doesn't know the type.
 trait Answered: Drop {
     fn is_written(&self) -> bool;
 }
@@ -102,7 +103,8 @@ where
     Ok(())
 }
 
-// Serves such a node in a thread of its own, at a port that the system picks, until the process ends.
+// Serves such a node in a thread of its own, at a port that the system picks, until the process
+// ends.
 fn begin<N, R>(rt: &R, opened: Opened<Line>) -> Result<SocketAddr, Fail>
 where
     N: NodeName + Send + Sync + 'static,
@@ -127,7 +129,8 @@ where
     Ok(server)
 }
 
-/// Serves a new node of replica 1, at which the cluster `a` was put, until the process ends, and answers where.
+/// Serves a new node of replica 1, at which the cluster `a` was put, until the process ends, and
+/// answers where.
 pub(crate) fn started<R>(rt: &R) -> Result<SocketAddr, Fail>
 where
     R: Wait
@@ -223,7 +226,8 @@ pub(crate) fn written(alloc: Global, request: &str, last: bool) -> Result<String
     let connection = if last { "close" } else { "keep-alive" };
     let length = body.len();
     Ok(format!(in alloc;
-        "{method} {path} HTTP/1.1\r\nhost: h\r\nconnection: {connection}\r\ncontent-length: {length}\r\n\r\n{body}"
+        "{method} {path} HTTP/1.1\r\nhost: h\r\nconnection: {connection}\r\n\
+         content-length: {length}\r\n\r\n{body}"
     )?)
 }
 

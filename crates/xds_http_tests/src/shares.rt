@@ -27,7 +27,8 @@ fn three(alloc: Global) -> Result<String, Fail> {
 
 // What a poll for secrets is told.
 const SECRETS: &str =
-    "200 {\"typeUrl\":\"type.googleapis.com/envoy.extensions.transport_sockets.tls.v3.Secret\",\"versionInfo\":\"1.0.named\"}";
+    "200 {\"typeUrl\":\"type.googleapis.com/envoy.extensions.transport_sockets.tls.v3.Secret\",\
+     \"versionInfo\":\"1.0.named\"}";
 
 fn in_one_go(rt: &HostRuntime, server: SocketAddr) -> Result<(), Fail> {
     let sent = three(rt.alloc())?;
@@ -47,7 +48,8 @@ fn three_requests_in_one_go_are_answered_in_order(rt: HostRuntime) -> Result<(),
 const HALF_A_HEAD: &[u8] = b"POST /v3/discovery:secrets HTTP/1.1\r\nhost: h\r\nconte";
 
 const HALF_A_BODY: &[u8] =
-    b"POST /v3/discovery:secrets HTTP/1.1\r\nhost: h\r\nconnection: close\r\ncontent-length: 2\r\n\r\n{";
+    b"POST /v3/discovery:secrets HTTP/1.1\r\nhost: h\r\nconnection: close\r\ncontent-length: 2\r\n\
+     \r\n{";
 
 // Eight connections with half a head, and eight with half a body.
 fn halves(rt: &HostRuntime, server: SocketAddr) -> Result<Vec<TcpStream>, Fail> {
@@ -65,7 +67,8 @@ fn beside_half(rt: &HostRuntime, server: SocketAddr) -> Result<(), Fail> {
     hold(
         rt,
         server,
-        "GET / => 404\nPOST /v3/discovery:secrets {} => 200 {\"typeUrl\":\"SDS\",\"versionInfo\":\"1.0.named\"}",
+        "GET / => 404\n\
+         POST /v3/discovery:secrets {} => 200 {\"typeUrl\":\"SDS\",\"versionInfo\":\"1.0.named\"}",
     )?;
     std::io::Write::write_all(&mut waiting, b"}")?;
     tells(rt.alloc(), waiting, SECRETS, "the rest of a body")
@@ -80,11 +83,11 @@ fn half_a_request_holds_up_no_other(rt: HostRuntime) -> Result<(), Fail> {
     done
 }
 
-const CODED: &[u8] =
-    b"POST /v3/discovery:secrets HTTP/1.1\r\nhost: h\r\nconnection: close\r\ntransfer-encoding: gzip, chunked\r\n\r\n2\r\n{}\r\n0\r\n\r\n";
+const CODED: &[u8] = b"POST /v3/discovery:secrets HTTP/1.1\r\nhost: h\r\nconnection: close\r\n\
+     transfer-encoding: gzip, chunked\r\n\r\n2\r\n{}\r\n0\r\n\r\n";
 
-const CHUNKED: &[u8] =
-    b"POST /v3/discovery:secrets HTTP/1.1\r\nhost: h\r\nconnection: close\r\ntransfer-encoding: Chunked\r\n\r\n1\r\n{\r\n1\r\n}\r\n0\r\n\r\n";
+const CHUNKED: &[u8] = b"POST /v3/discovery:secrets HTTP/1.1\r\nhost: h\r\nconnection: close\r\n\
+     transfer-encoding: Chunked\r\n\r\n1\r\n{\r\n1\r\n}\r\n0\r\n\r\n";
 
 #[test]
 fn no_coding_but_chunks_is_taken(rt: HostRuntime) -> Result<(), Fail> {

@@ -21,7 +21,8 @@ fn write_body(alloc: Global, socket: &mut TcpStream) -> Result<(), Fail> {
     Ok(())
 }
 
-// Sends this head, as many bytes as a body may have, and this, and compares what is told with what is wanted.
+// Sends this head, as many bytes as a body may have, and this, and compares what is told with what
+// is wanted.
 fn sent(
     rt: &HostRuntime,
     server: SocketAddr,
@@ -35,15 +36,15 @@ fn sent(
     tells(rt.alloc(), socket, wanted, behind)
 }
 
-const AS_LONG: &str =
-    "POST /v3/discovery:clusters HTTP/1.1\r\nhost: h\r\nconnection: close\r\ncontent-length: 4194304\r\n\r\n";
+const AS_LONG: &str = "POST /v3/discovery:clusters HTTP/1.1\r\nhost: h\r\nconnection: close\r\n\
+     content-length: 4194304\r\n\r\n";
 
-const LONGER: &str =
-    "POST /v3/discovery:clusters HTTP/1.1\r\nhost: h\r\nconnection: close\r\ncontent-length: 4194305\r\n\r\n";
+const LONGER: &str = "POST /v3/discovery:clusters HTTP/1.1\r\nhost: h\r\nconnection: close\r\n\
+     content-length: 4194305\r\n\r\n";
 
 // The first chunk has as many bytes as a body may have.
-const CHUNKS: &str =
-    "POST /v3/discovery:clusters HTTP/1.1\r\nhost: h\r\nconnection: close\r\ntransfer-encoding: chunked\r\n\r\n400000\r\n";
+const CHUNKS: &str = "POST /v3/discovery:clusters HTTP/1.1\r\nhost: h\r\nconnection: close\r\n\
+     transfer-encoding: chunked\r\n\r\n400000\r\n";
 
 const NOT_JSON: &str = "400 {\"code\":1,\"name\":\"NotJson\"}";
 

@@ -29,12 +29,36 @@ fn batches_are_read(rt: HostRuntime) -> Result<(), Fail> {
 {"writes":null} => {}
 {"writes":[]} => {}
 {"write":[1],"x":1.5} => {}
-{"writes":[{"counter":1,"name":"a","typeUrl":"CDS","writer":1}]} => {"writes":[{"counter":1,"name":"a","typeUrl":"CDS","writer":1}]}
-{"writes":[{"body":{"@type":"CDS","name":"b"},"counter":3,"name":"b","typeUrl":"CDS","writer":2},{"counter":1,"name":"a","typeUrl":"CDS","writer":1}]} => {"writes":[{"body":{"@type":"CDS","name":"b"},"counter":3,"name":"b","typeUrl":"CDS","writer":2},{"counter":1,"name":"a","typeUrl":"CDS","writer":1}]}
-{"writes":[{"counter":1,"name":"a","typeUrl":"CDS","writer":1},{"counter":1,"name":"a","typeUrl":"CDS","writer":1}]} => {"writes":[{"counter":1,"name":"a","typeUrl":"CDS","writer":1},{"counter":1,"name":"a","typeUrl":"CDS","writer":1}]}
-{"writes":[{"counter":1,"name":"s","typeUrl":"SDS","writer":1},{"counter":1,"name":"r","typeUrl":"RDS","writer":1},{"counter":2,"name":"y","typeUrl":"CDS","writer":1},{"counter":1,"name":"l","typeUrl":"LDS","writer":1},{"counter":1,"name":"e","typeUrl":"EDS","writer":1},{"counter":1,"name":"x","typeUrl":"CDS","writer":1}]} => {"writes":[{"counter":2,"name":"y","typeUrl":"CDS","writer":1},{"counter":1,"name":"x","typeUrl":"CDS","writer":1},{"counter":1,"name":"e","typeUrl":"EDS","writer":1},{"counter":1,"name":"l","typeUrl":"LDS","writer":1},{"counter":1,"name":"r","typeUrl":"RDS","writer":1},{"counter":1,"name":"s","typeUrl":"SDS","writer":1}]}
-{"writes":[{"body":{"name":"a","@type":"LDS"},"counter":1,"groups":["b","a"],"name":"a","typeUrl":"LDS","weight":1,"writer":1}]} => {"writes":[{"body":{"@type":"LDS","name":"a"},"counter":1,"groups":["a","b"],"name":"a","typeUrl":"LDS","writer":1}]}
-{"writes":[{"body":{"@type":"CDS","name":"a","x":<[*98><]*98>},"counter":1,"name":"a","typeUrl":"CDS","writer":1}]} => {"writes":[{"body":{"@type":"CDS","name":"a","x":<[*98><]*98>},"counter":1,"name":"a","typeUrl":"CDS","writer":1}]}"#,
+{"writes":[{"counter":1,"name":"a","typeUrl":"CDS","writer":1}]}
+     => {"writes":[{"counter":1,"name":"a","typeUrl":"CDS","writer":1}]}
+{"writes":[{"body":{"@type":"CDS","name":"b"},"counter":3,"name":"b","typeUrl":"CDS","writer":2},
+    {"counter":1,"name":"a","typeUrl":"CDS","writer":1}]}
+     => {"writes":[{"body":{"@type":"CDS","name":"b"},"counter":3,"name":"b","typeUrl":"CDS",
+    "writer":2},{"counter":1,"name":"a","typeUrl":"CDS","writer":1}]}
+{"writes":[{"counter":1,"name":"a","typeUrl":"CDS","writer":1},
+    {"counter":1,"name":"a","typeUrl":"CDS","writer":1}]}
+     => {"writes":[{"counter":1,"name":"a","typeUrl":"CDS","writer":1},
+    {"counter":1,"name":"a","typeUrl":"CDS","writer":1}]}
+{"writes":[{"counter":1,"name":"s","typeUrl":"SDS","writer":1},
+    {"counter":1,"name":"r","typeUrl":"RDS","writer":1},
+    {"counter":2,"name":"y","typeUrl":"CDS","writer":1},
+    {"counter":1,"name":"l","typeUrl":"LDS","writer":1},
+    {"counter":1,"name":"e","typeUrl":"EDS","writer":1},
+    {"counter":1,"name":"x","typeUrl":"CDS","writer":1}]}
+     => {"writes":[{"counter":2,"name":"y","typeUrl":"CDS","writer":1},
+    {"counter":1,"name":"x","typeUrl":"CDS","writer":1},
+    {"counter":1,"name":"e","typeUrl":"EDS","writer":1},
+    {"counter":1,"name":"l","typeUrl":"LDS","writer":1},
+    {"counter":1,"name":"r","typeUrl":"RDS","writer":1},
+    {"counter":1,"name":"s","typeUrl":"SDS","writer":1}]}
+{"writes":[{"body":{"name":"a","@type":"LDS"},"counter":1,"groups":["b","a"],"name":"a",
+    "typeUrl":"LDS","weight":1,"writer":1}]}
+     => {"writes":[{"body":{"@type":"LDS","name":"a"},"counter":1,"groups":["a","b"],"name":"a",
+    "typeUrl":"LDS","writer":1}]}
+{"writes":[{"body":{"@type":"CDS","name":"a","x":<[*98><]*98>},"counter":1,"name":"a",
+    "typeUrl":"CDS","writer":1}]}
+     => {"writes":[{"body":{"@type":"CDS","name":"a","x":<[*98><]*98>},"counter":1,"name":"a",
+    "typeUrl":"CDS","writer":1}]}"#,
     )
 }
 
@@ -56,9 +80,12 @@ null => 7 BadMessage
 {"writes":[[]]} => 7 BadMessage
 {"writes":[{}]} => 7 BadMessage
 {"writes":[{"counter":1,"name":"a","typeUrl":"CDS","writer":1},null]} => 7 BadMessage
-{"writes":[{"counter":1,"name":"a","typeUrl":"CDS","writer":1},{"counter":0,"name":"b","typeUrl":"CDS","writer":1}]} => 7 BadMessage
-{"writes":[{"counter":1,"name":"a","typeUrl":"t","writer":1},{"counter":1,"name":"b","typeUrl":"CDS","writer":1}]} => 7 BadMessage
+{"writes":[{"counter":1,"name":"a","typeUrl":"CDS","writer":1},
+    {"counter":0,"name":"b","typeUrl":"CDS","writer":1}]} => 7 BadMessage
+{"writes":[{"counter":1,"name":"a","typeUrl":"t","writer":1},
+    {"counter":1,"name":"b","typeUrl":"CDS","writer":1}]} => 7 BadMessage
 {"writes":[{"counter":1,"groups":["g"],"name":"a","typeUrl":"CDS","writer":1}]} => 7 BadMessage
-{"writes":[{"body":{"@type":"CDS","name":"a","x":1.5},"counter":1,"name":"a","typeUrl":"CDS","writer":1}]} => 7 BadMessage"#,
+{"writes":[{"body":{"@type":"CDS","name":"a","x":1.5},"counter":1,"name":"a","typeUrl":"CDS",
+    "writer":1}]} => 7 BadMessage"#,
     )
 }

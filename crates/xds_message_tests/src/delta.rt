@@ -1,4 +1,5 @@
-// Spellings of the incremental variant's messages, from `discovery.proto` and the proto3 JSON mapping.
+// Spellings of the incremental variant's messages, from `discovery.proto` and the proto3 JSON
+// mapping.
 use std::alloc::Global;
 use std::test::Fail;
 use xds_cases::cases::{Outcome, hold, told};
@@ -28,11 +29,25 @@ fn rewritten(alloc: Global, text: &str) -> Result<String, Refusal> {
 fn reads_requests(rt: HostRuntime) -> Result<(), Fail> {
     hold::<RequestAgain, HostRuntime>(
         &rt,
-        r#"{"node":{"id":"envoy-1"},"typeUrl":"t","resourceNamesSubscribe":["a","*"],"resourceNamesUnsubscribe":["c"],"initialResourceVersions":{"b":"","a":"1-1"},"responseNonce":"7","errorDetail":{"code":3}} => {"errorDetail":{"code":3},"initialResourceVersions":{"a":"1-1","b":""},"node":{"id":"envoy-1"},"resourceNamesSubscribe":["a","*"],"resourceNamesUnsubscribe":["c"],"responseNonce":"7","typeUrl":"t"}
-{"node":{"id":"envoy-1"},"type_url":"t","resource_names_subscribe":["a","*"],"resource_names_unsubscribe":["c"],"initial_resource_versions":{"a":"1-1","b":""},"response_nonce":"7","error_detail":{"code":"3"},"resource_locators_subscribe":[{"name":"x"}]} => {"errorDetail":{"code":3},"initialResourceVersions":{"a":"1-1","b":""},"node":{"id":"envoy-1"},"resourceNamesSubscribe":["a","*"],"resourceNamesUnsubscribe":["c"],"responseNonce":"7","typeUrl":"t"}
-{"initialResourceVersions":{"a":"1-1"},"initial_resource_versions":7,"resourceNamesSubscribe":null,"resource_names_subscribe":["a"]} => {"initialResourceVersions":{"a":"1-1"}}
+        r#"{"node":{"id":"envoy-1"},"typeUrl":"t","resourceNamesSubscribe":["a","*"],
+    "resourceNamesUnsubscribe":["c"],"initialResourceVersions":{"b":"","a":"1-1"},
+    "responseNonce":"7","errorDetail":{"code":3}}
+     => {"errorDetail":{"code":3},"initialResourceVersions":{"a":"1-1","b":""},
+    "node":{"id":"envoy-1"},"resourceNamesSubscribe":["a","*"],"resourceNamesUnsubscribe":["c"],
+    "responseNonce":"7","typeUrl":"t"}
+{"node":{"id":"envoy-1"},"type_url":"t","resource_names_subscribe":["a","*"],
+    "resource_names_unsubscribe":["c"],"initial_resource_versions":{"a":"1-1","b":""},
+    "response_nonce":"7","error_detail":{"code":"3"},"resource_locators_subscribe":[{"name":"x"}]}
+     => {"errorDetail":{"code":3},"initialResourceVersions":{"a":"1-1","b":""},
+    "node":{"id":"envoy-1"},"resourceNamesSubscribe":["a","*"],"resourceNamesUnsubscribe":["c"],
+    "responseNonce":"7","typeUrl":"t"}
+{"initialResourceVersions":{"a":"1-1"},"initial_resource_versions":7,"resourceNamesSubscribe":null,
+    "resource_names_subscribe":["a"]}
+     => {"initialResourceVersions":{"a":"1-1"}}
 {"initialResourceVersions":{"é\"":"\n"}} => {"initialResourceVersions":{"é\"":"\n"}}
-{"node":null,"typeUrl":null,"resourceNamesSubscribe":[],"resourceNamesUnsubscribe":null,"initialResourceVersions":{},"responseNonce":null,"errorDetail":null} => {}
+{"node":null,"typeUrl":null,"resourceNamesSubscribe":[],"resourceNamesUnsubscribe":null,
+    "initialResourceVersions":{},"responseNonce":null,"errorDetail":null}
+     => {}
 {"initialResourceVersions":null} => {}"#,
     )
 }
@@ -70,10 +85,22 @@ fn response_rewritten(alloc: Global, text: &str) -> Result<String, Refusal> {
 fn reads_responses(rt: HostRuntime) -> Result<(), Fail> {
     hold::<ResponseAgain, HostRuntime>(
         &rt,
-        r#"{"systemVersionInfo":"1.2","resources":[{"version":"1-1","name":"a","resource":{"x":1,"@type":"t"},"ttl":"1.5s"}],"typeUrl":"t","nonce":"1","removedResources":["b"],"controlPlane":{}} => {"nonce":"1","removedResources":["b"],"resources":[{"name":"a","resource":{"@type":"t","x":1},"version":"1-1"}],"systemVersionInfo":"1.2","typeUrl":"t"}
-{"system_version_info":"1.2","resources":[{"version":"1-1","name":"a","resource":{"@type":"t","x":1}}],"type_url":"t","nonce":"1","removed_resources":["b"]} => {"nonce":"1","removedResources":["b"],"resources":[{"name":"a","resource":{"@type":"t","x":1},"version":"1-1"}],"systemVersionInfo":"1.2","typeUrl":"t"}
+        r#"{"systemVersionInfo":"1.2",
+    "resources":[{"version":"1-1","name":"a","resource":{"x":1,"@type":"t"},"ttl":"1.5s"}],
+    "typeUrl":"t","nonce":"1","removedResources":["b"],"controlPlane":{}}
+     => {"nonce":"1","removedResources":["b"],
+    "resources":[{"name":"a","resource":{"@type":"t","x":1},"version":"1-1"}],
+    "systemVersionInfo":"1.2","typeUrl":"t"}
+{"system_version_info":"1.2",
+    "resources":[{"version":"1-1","name":"a","resource":{"@type":"t","x":1}}],"type_url":"t",
+    "nonce":"1","removed_resources":["b"]}
+     => {"nonce":"1","removedResources":["b"],
+    "resources":[{"name":"a","resource":{"@type":"t","x":1},"version":"1-1"}],
+    "systemVersionInfo":"1.2","typeUrl":"t"}
 {"resources":[{"resource":{}}]} => {"resources":[{"resource":{}}]}
-{"systemVersionInfo":null,"resources":null,"typeUrl":null,"nonce":null,"removedResources":null,"removed_resources":["b"]} => {}"#,
+{"systemVersionInfo":null,"resources":null,"typeUrl":null,"nonce":null,"removedResources":null,
+    "removed_resources":["b"]}
+     => {}"#,
     )
 }
 

@@ -6,8 +6,8 @@ use xds_message::{DeltaDraft, Draft, Response, SotwDraft};
 use xds_resource::{Cluster, Groups, Refusal, Resource, Stamp, TypeName, Write};
 
 // A cluster whose name and whose other field need escapes.
-const BODY: &str =
-    "{\"@type\":\"type.googleapis.com/envoy.config.cluster.v3.Cluster\",\"name\":\"q\\\"\\\\\\u0001é\",\"x\":[-7,\"\\n\"]}";
+const BODY: &str = "{\"@type\":\"type.googleapis.com/envoy.config.cluster.v3.Cluster\",\
+     \"name\":\"q\\\"\\\\\\u0001é\",\"x\":[-7,\"\\n\"]}";
 
 fn put(alloc: Global, stamp: Stamp, text: &str) -> Result<Write<Cluster>, Refusal> {
     let resource = Resource::parse(alloc, text)?;
@@ -26,7 +26,8 @@ fn told(alloc: Global, draft: &Draft) -> Result<String, Refusal> {
     }
 }
 
-// What a copy of a draft shows: its type, its nonce, what it is written as, and what its message is written as.
+// What a copy of a draft shows: its type, its nonce, what it is written as, and what its message is
+// written as.
 fn copy_shown(alloc: Global, draft: Draft) -> Result<String, Refusal> {
     let copy = draft.try_copy(alloc);
     drop(draft);
@@ -64,8 +65,8 @@ fn put_together(alloc: Global, draft: &SotwDraft) -> Result<String, Refusal> {
     Ok(text)
 }
 
-// What an empty draft is put together as, its type and version, and what it is put together as, and what a copy of it shows, once a
-// cluster stands in it twice.
+// What an empty draft is put together as, its type and version, and what it is put together as, and
+// what a copy of it shows, once a cluster stands in it twice.
 fn filled(alloc: Global, draft: &mut SotwDraft) -> Result<String, Refusal> {
     let empty = put_together(alloc, draft)?;
     push(alloc, draft, Stamp::new(1, 1))?;
@@ -87,10 +88,13 @@ fn state_of_the_world_drafts_are_joined(rt: HostRuntime) -> Result<(), Fail> {
     drop(draft);
     let told = told?;
     let want = format!(in alloc;
-        "{{\"nonce\":\"1\",\"resources\":[{BODY},{BODY}],\"typeUrl\":\"type.googleapis.com/envoy.config.cluster.v3.Cluster\",\"versionInfo\":\"1.2\"}}"
+        "{{\"nonce\":\"1\",\"resources\":[{BODY},{BODY}],\
+         \"typeUrl\":\"type.googleapis.com/envoy.config.cluster.v3.Cluster\",\
+         \"versionInfo\":\"1.2\"}}"
     )?;
     let empty =
-        "{\"nonce\":\"1\",\"typeUrl\":\"type.googleapis.com/envoy.config.cluster.v3.Cluster\",\"versionInfo\":\"1.2\"}";
+        "{\"nonce\":\"1\",\"typeUrl\":\"type.googleapis.com/envoy.config.cluster.v3.Cluster\",\
+         \"versionInfo\":\"1.2\"}";
     let all = format!(in alloc; "{empty} cluster 1.2 {want} cluster 1 {want} {want}")?;
     assert_eq!(rt; told.as_str(), all.as_str());
     Ok(())
@@ -112,8 +116,8 @@ fn remove_both(alloc: Global, draft: &mut DeltaDraft) -> Result<(), Refusal> {
     draft.remove(alloc, "s")
 }
 
-// The version and the nonce of a draft, how many it states and removes, and what a copy of it shows once it has a cluster, a deletion, which adds nothing, and two
-// removals.
+// The version and the nonce of a draft, how many it states and removes, and what a copy of it shows
+// once it has a cluster, a deletion, which adds nothing, and two removals.
 fn delta_filled(alloc: Global, draft: &mut DeltaDraft) -> Result<String, Refusal> {
     push_both(alloc, draft)?;
     remove_both(alloc, draft)?;
@@ -134,7 +138,11 @@ fn delta_drafts_are_joined(rt: HostRuntime) -> Result<(), Fail> {
     drop(draft);
     let told = told?;
     let want = format!(in alloc;
-        "{{\"nonce\":\"1\",\"removedResources\":[\"r\\t\u{1f600}\",\"s\"],\"resources\":[{{\"name\":\"q\\\"\\\\\\u0001é\",\"resource\":{BODY},\"version\":\"2-1\"}}],\"systemVersionInfo\":\"1.2\",\"typeUrl\":\"type.googleapis.com/envoy.config.cluster.v3.Cluster\"}}"
+        "{{\"nonce\":\"1\",\"removedResources\":[\"r\\t\u{1f600}\",\"s\"],\
+         \"resources\":[{{\"name\":\"q\\\"\\\\\\u0001é\",\
+         \"resource\":{BODY},\"version\":\"2-1\"}}],\
+         \"systemVersionInfo\":\"1.2\",\
+         \"typeUrl\":\"type.googleapis.com/envoy.config.cluster.v3.Cluster\"}}"
     )?;
     let all = format!(in alloc; "1.2 1 1 2 cluster 1 {want} {want}")?;
     assert_eq!(rt; told.as_str(), all.as_str());

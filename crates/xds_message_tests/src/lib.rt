@@ -1,5 +1,6 @@
-// Tests of the public calls of resources and interests, of frames, of JSON in order, and of messages, writes and drafts: worked
-// examples, and what no clause says, as that calls succeed where memory is ample. Nothing else stands here.
+// Tests of the public calls of resources and interests, of frames, of JSON in order, and of
+// messages, writes and drafts: worked examples, and what no clause says, as that calls succeed
+// where memory is ample. Nothing else stands here.
 #![tactic(auto)]
 
 #[cfg(test)]

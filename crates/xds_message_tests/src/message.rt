@@ -33,11 +33,23 @@ fn requests_are_read(rt: HostRuntime) -> Result<(), Fail> {
     assert_eq!(rt; stray.err(), Some(Refusal::NotJson));
     hold::<RequestAgain, HostRuntime>(
         &rt,
-        r#"{"versionInfo":"3-1","node":{"id":"envoy-1","cluster":"edge","metadata":{"weight":0.5}},"resourceNames":["a","b"],"typeUrl":"t","responseNonce":"7","errorDetail":{"code":3,"message":"no name","details":[]}} => {"errorDetail":{"code":3,"message":"no name"},"node":{"cluster":"edge","id":"envoy-1"},"resourceNames":["a","b"],"responseNonce":"7","typeUrl":"t","versionInfo":"3-1"}
- { "version_info": "3-1", "node": {"id": "envoy-1", "cluster": "edge"}, "resource_names": ["a", "b"], "type_url": "t", "response_nonce": "7", "error_detail": {"code": "3", "message": "no name"}}  => {"errorDetail":{"code":3,"message":"no name"},"node":{"cluster":"edge","id":"envoy-1"},"resourceNames":["a","b"],"responseNonce":"7","typeUrl":"t","versionInfo":"3-1"}
-{"typeUrl":"t","type_url":[],"resourceNames":["a"],"resource_names":{},"errorDetail":{},"error_detail":5} => {"errorDetail":{},"resourceNames":["a"],"typeUrl":"t"}
+        r#"{"versionInfo":"3-1","node":{"id":"envoy-1","cluster":"edge","metadata":{"weight":0.5}},
+    "resourceNames":["a","b"],"typeUrl":"t","responseNonce":"7",
+    "errorDetail":{"code":3,"message":"no name","details":[]}}
+     => {"errorDetail":{"code":3,"message":"no name"},"node":{"cluster":"edge","id":"envoy-1"},
+    "resourceNames":["a","b"],"responseNonce":"7","typeUrl":"t","versionInfo":"3-1"}
+ { "version_info": "3-1", "node": {"id": "envoy-1", "cluster": "edge"},
+     "resource_names": ["a", "b"], "type_url": "t", "response_nonce": "7",
+     "error_detail": {"code": "3", "message": "no name"}}  => {"errorDetail":{"code":3,
+    "message":"no name"},"node":{"cluster":"edge","id":"envoy-1"},"resourceNames":["a","b"],
+    "responseNonce":"7","typeUrl":"t","versionInfo":"3-1"}
+{"typeUrl":"t","type_url":[],"resourceNames":["a"],"resource_names":{},"errorDetail":{},
+    "error_detail":5}
+     => {"errorDetail":{},"resourceNames":["a"],"typeUrl":"t"}
 {"typeUrl":null,"type_url":"t"} => {}
-{"versionInfo":null,"node":null,"resourceNames":null,"typeUrl":null,"responseNonce":null,"errorDetail":null} => {}
+{"versionInfo":null,"node":null,"resourceNames":null,"typeUrl":null,"responseNonce":null,
+    "errorDetail":null}
+     => {}
 {"node":{"id":null},"resourceNames":[]} => {"node":{}}
 {"x":1.5} => {}
 {"x":<[*126><]*126>} => {}
@@ -109,7 +121,8 @@ fn responses_are_written(rt: HostRuntime) -> Result<(), Fail> {
     hold::<Response, HostRuntime>(
         &rt,
         r#" => {"nonce":"1","typeUrl":"t","versionInfo":"1.0"}
-{"name":"a","@type":"t"} => {"nonce":"1","resources":[{"@type":"t","name":"a"}],"typeUrl":"t","versionInfo":"1.0"}
+{"name":"a","@type":"t"}
+     => {"nonce":"1","resources":[{"@type":"t","name":"a"}],"typeUrl":"t","versionInfo":"1.0"}
 {} {"x":[1]} => {"nonce":"1","resources":[{},{"x":[1]}],"typeUrl":"t","versionInfo":"1.0"}"#,
     )
 }
@@ -131,8 +144,11 @@ fn response_rewritten(alloc: Global, text: &str) -> Result<String, Refusal> {
 fn reads_responses(rt: HostRuntime) -> Result<(), Fail> {
     hold::<ResponseAgain, HostRuntime>(
         &rt,
-        r#"{"versionInfo":"1.2","resources":[{"x":null,"@type":"t"},{}],"canary":true,"typeUrl":"t","nonce":"1"} => {"nonce":"1","resources":[{"@type":"t","x":null},{}],"typeUrl":"t","versionInfo":"1.2"}
-{"version_info":"1.2","resources":[{"@type":"t","x":null},{}],"type_url":"t","nonce":"1"} => {"nonce":"1","resources":[{"@type":"t","x":null},{}],"typeUrl":"t","versionInfo":"1.2"}
+        r#"{"versionInfo":"1.2","resources":[{"x":null,"@type":"t"},{}],"canary":true,
+    "typeUrl":"t","nonce":"1"}
+     => {"nonce":"1","resources":[{"@type":"t","x":null},{}],"typeUrl":"t","versionInfo":"1.2"}
+{"version_info":"1.2","resources":[{"@type":"t","x":null},{}],"type_url":"t","nonce":"1"}
+     => {"nonce":"1","resources":[{"@type":"t","x":null},{}],"typeUrl":"t","versionInfo":"1.2"}
 {"versionInfo":null,"version_info":"1","resources":null,"typeUrl":null,"nonce":null} => {}"#,
     )
 }

@@ -31,14 +31,25 @@ fn writes_are_read(rt: HostRuntime) -> Result<(), Fail> {
     assert_eq!(rt; latin.err(), Some(Refusal::NotJson));
     hold::<WriteAgain, HostRuntime>(
         &rt,
-        r#"{"body":{"@type":"CDS","name":"a","x":1},"counter":1,"name":"a","typeUrl":"CDS","writer":1} => {"body":{"@type":"CDS","name":"a","x":1},"counter":1,"name":"a","typeUrl":"CDS","writer":1}
-{"body":{"@type":"EDS","clusterName":"a"},"counter":2,"name":"a","typeUrl":"EDS","writer":3} => {"body":{"@type":"EDS","clusterName":"a"},"counter":2,"name":"a","typeUrl":"EDS","writer":3}
-{"body":{"@type":"LDS","address":{},"name":"b"},"counter":10,"name":"b","typeUrl":"LDS","writer":12} => {"body":{"@type":"LDS","address":{},"name":"b"},"counter":10,"name":"b","typeUrl":"LDS","writer":12}
-{"body":{"@type":"RDS","name":"**"},"counter":1,"name":"**","typeUrl":"RDS","writer":1} => {"body":{"@type":"RDS","name":"**"},"counter":1,"name":"**","typeUrl":"RDS","writer":1}
-{"body":{"@type":"SDS","name":"s"},"counter":1,"name":"s","typeUrl":"SDS","writer":1} => {"body":{"@type":"SDS","name":"s"},"counter":1,"name":"s","typeUrl":"SDS","writer":1}
-{"counter":9223372036854775807,"name":"a","typeUrl":"EDS","writer":65535} => {"counter":9223372036854775807,"name":"a","typeUrl":"EDS","writer":65535}
- { "writer": 1, "weight": 0.5, "typeUrl": "CDS", "name": "\u0061", "counter": 1, "body": {"x": 1, "name": "a", "@type": "CDS"} }  => {"body":{"@type":"CDS","name":"a","x":1},"counter":1,"name":"a","typeUrl":"CDS","writer":1}
-{"body":null,"counter":9223372036854775807,"name":"a","typeUrl":"EDS","writer":65535} => {"counter":9223372036854775807,"name":"a","typeUrl":"EDS","writer":65535}
+        r#"{"body":{"@type":"CDS","name":"a","x":1},"counter":1,"name":"a",
+    "typeUrl":"CDS","writer":1}
+     => {"body":{"@type":"CDS","name":"a","x":1},"counter":1,"name":"a","typeUrl":"CDS","writer":1}
+{"body":{"@type":"EDS","clusterName":"a"},"counter":2,"name":"a","typeUrl":"EDS","writer":3}
+     => {"body":{"@type":"EDS","clusterName":"a"},"counter":2,"name":"a","typeUrl":"EDS","writer":3}
+{"body":{"@type":"LDS","address":{},"name":"b"},"counter":10,"name":"b","typeUrl":"LDS","writer":12}
+     => {"body":{"@type":"LDS","address":{},"name":"b"},"counter":10,"name":"b",
+    "typeUrl":"LDS","writer":12}
+{"body":{"@type":"RDS","name":"**"},"counter":1,"name":"**","typeUrl":"RDS","writer":1}
+     => {"body":{"@type":"RDS","name":"**"},"counter":1,"name":"**","typeUrl":"RDS","writer":1}
+{"body":{"@type":"SDS","name":"s"},"counter":1,"name":"s","typeUrl":"SDS","writer":1}
+     => {"body":{"@type":"SDS","name":"s"},"counter":1,"name":"s","typeUrl":"SDS","writer":1}
+{"counter":9223372036854775807,"name":"a","typeUrl":"EDS","writer":65535}
+     => {"counter":9223372036854775807,"name":"a","typeUrl":"EDS","writer":65535}
+ { "writer": 1, "weight": 0.5, "typeUrl": "CDS", "name": "\u0061", "counter": 1,
+     "body": {"x": 1, "name": "a", "@type": "CDS"} }  => {"body":{"@type":"CDS","name":"a","x":1},
+    "counter":1,"name":"a","typeUrl":"CDS","writer":1}
+{"body":null,"counter":9223372036854775807,"name":"a","typeUrl":"EDS","writer":65535}
+     => {"counter":9223372036854775807,"name":"a","typeUrl":"EDS","writer":65535}
  => 1 NotJson
 { => 1 NotJson
 {} {} => 1 NotJson"#,
@@ -65,11 +76,16 @@ fn other_values_are_no_writes(rt: HostRuntime) -> Result<(), Fail> {
 {"counter":1,"name":"*","typeUrl":"CDS","writer":1} => 7 BadMessage
 {"counter":1,"name":"a","typeUrl":"CDSs","writer":1} => 7 BadMessage
 {"counter":1,"name":"a","type_url":"CDS","writer":1} => 7 BadMessage
-{"body":{"@type":"CDS","name":"a"},"counter":1,"name":"b","typeUrl":"CDS","writer":1} => 7 BadMessage
-{"body":{"@type":"CDSs","name":"a"},"counter":1,"name":"a","typeUrl":"CDS","writer":1} => 7 BadMessage
-{"body":{"@type":"CDS","name":"a"},"counter":1,"name":"a","typeUrl":"LDS","writer":1} => 7 BadMessage
-{"body":{"@type":"CDS","weight":0.5,"name":"a"},"counter":1,"name":"a","typeUrl":"CDS","writer":1} => 7 BadMessage
-{"body":{"@type":"CDS","name":"*"},"counter":1,"name":"*","typeUrl":"CDS","writer":1} => 7 BadMessage
+{"body":{"@type":"CDS","name":"a"},"counter":1,"name":"b","typeUrl":"CDS","writer":1}
+     => 7 BadMessage
+{"body":{"@type":"CDSs","name":"a"},"counter":1,"name":"a","typeUrl":"CDS","writer":1}
+     => 7 BadMessage
+{"body":{"@type":"CDS","name":"a"},"counter":1,"name":"a","typeUrl":"LDS","writer":1}
+     => 7 BadMessage
+{"body":{"@type":"CDS","weight":0.5,"name":"a"},"counter":1,"name":"a","typeUrl":"CDS","writer":1}
+     => 7 BadMessage
+{"body":{"@type":"CDS","name":"*"},"counter":1,"name":"*","typeUrl":"CDS","writer":1}
+     => 7 BadMessage
 {"body":"a","counter":1,"name":"a","typeUrl":"CDS","writer":1} => 7 BadMessage
 {"body":[],"counter":1,"name":"a","typeUrl":"CDS","writer":1} => 7 BadMessage
 [] => 7 BadMessage
@@ -83,24 +99,57 @@ null => 7 BadMessage
 fn groups_are_read(rt: HostRuntime) -> Result<(), Fail> {
     hold::<WriteAgain, HostRuntime>(
         &rt,
-        r#"{"body":{"@type":"CDS","name":"a"},"counter":1,"groups":["b","a","a"],"name":"a","typeUrl":"CDS","writer":1} => {"body":{"@type":"CDS","name":"a"},"counter":1,"groups":["a","b"],"name":"a","typeUrl":"CDS","writer":1}
-{"body":{"@type":"CDS","name":"a"},"counter":1,"groups":["é","e","E"],"name":"a","typeUrl":"CDS","writer":1} => {"body":{"@type":"CDS","name":"a"},"counter":1,"groups":["E","e","é"],"name":"a","typeUrl":"CDS","writer":1}
-{"body":{"@type":"CDS","name":"a"},"counter":1,"groups":null,"name":"a","typeUrl":"CDS","writer":1} => {"body":{"@type":"CDS","name":"a"},"counter":1,"name":"a","typeUrl":"CDS","writer":1}
-{"body":{"@type":"CDS","name":"a"},"counter":1,"groups":[],"name":"a","typeUrl":"CDS","writer":1} => {"body":{"@type":"CDS","name":"a"},"counter":1,"name":"a","typeUrl":"CDS","writer":1}
-{"counter":1,"groups":null,"name":"a","typeUrl":"CDS","writer":1} => {"counter":1,"name":"a","typeUrl":"CDS","writer":1}
-{"counter":1,"groups":[],"name":"a","typeUrl":"CDS","writer":1} => {"counter":1,"name":"a","typeUrl":"CDS","writer":1}
-{"body":{"@type":"CDS","name":"a"},"counter":1,"groups":["00","01","02","03","04","05","06","07","08","09","10","11","12","13","14","15","16","17","18","19","20","21","22","23","24","25","26","27","28","29","30","31","32","33","34","35","36","37","38","39","40","41","42","43","44","45","46","47","48","49","50","51","52","53","54","55","56","57","58","59","60","61","62","63","07"],"name":"a","typeUrl":"CDS","writer":1} => {"body":{"@type":"CDS","name":"a"},"counter":1,"groups":["00","01","02","03","04","05","06","07","08","09","10","11","12","13","14","15","16","17","18","19","20","21","22","23","24","25","26","27","28","29","30","31","32","33","34","35","36","37","38","39","40","41","42","43","44","45","46","47","48","49","50","51","52","53","54","55","56","57","58","59","60","61","62","63"],"name":"a","typeUrl":"CDS","writer":1}
-{"body":{"@type":"CDS","name":"a"},"counter":1,"groups":["<a*1024>"],"name":"a","typeUrl":"CDS","writer":1} => {"body":{"@type":"CDS","name":"a"},"counter":1,"groups":["<a*1024>"],"name":"a","typeUrl":"CDS","writer":1}
+        r#"{"body":{"@type":"CDS","name":"a"},"counter":1,"groups":["b","a","a"],"name":"a",
+    "typeUrl":"CDS","writer":1}
+     => {"body":{"@type":"CDS","name":"a"},"counter":1,"groups":["a","b"],"name":"a",
+    "typeUrl":"CDS","writer":1}
+{"body":{"@type":"CDS","name":"a"},"counter":1,"groups":["é","e","E"],"name":"a",
+    "typeUrl":"CDS","writer":1}
+     => {"body":{"@type":"CDS","name":"a"},"counter":1,"groups":["E","e","é"],"name":"a",
+    "typeUrl":"CDS","writer":1}
+{"body":{"@type":"CDS","name":"a"},"counter":1,"groups":null,"name":"a","typeUrl":"CDS","writer":1}
+     => {"body":{"@type":"CDS","name":"a"},"counter":1,"name":"a","typeUrl":"CDS","writer":1}
+{"body":{"@type":"CDS","name":"a"},"counter":1,"groups":[],"name":"a","typeUrl":"CDS","writer":1}
+     => {"body":{"@type":"CDS","name":"a"},"counter":1,"name":"a","typeUrl":"CDS","writer":1}
+{"counter":1,"groups":null,"name":"a","typeUrl":"CDS","writer":1}
+     => {"counter":1,"name":"a","typeUrl":"CDS","writer":1}
+{"counter":1,"groups":[],"name":"a","typeUrl":"CDS","writer":1}
+     => {"counter":1,"name":"a","typeUrl":"CDS","writer":1}
+{"body":{"@type":"CDS","name":"a"},"counter":1,"groups":["00","01","02","03","04","05","06","07",
+    "08","09","10","11","12","13","14","15","16","17","18","19","20","21","22","23","24","25","26",
+    "27","28","29","30","31","32","33","34","35","36","37","38","39","40","41","42","43","44","45",
+    "46","47","48","49","50","51","52","53","54","55","56","57","58","59","60","61","62","63","07"],
+    "name":"a","typeUrl":"CDS","writer":1}
+     => {"body":{"@type":"CDS","name":"a"},"counter":1,"groups":["00","01","02","03","04","05","06",
+    "07","08","09","10","11","12","13","14","15","16","17","18","19","20","21","22","23","24","25",
+    "26","27","28","29","30","31","32","33","34","35","36","37","38","39","40","41","42","43","44",
+    "45","46","47","48","49","50","51","52","53","54","55","56","57","58","59","60","61","62","63"],
+    "name":"a","typeUrl":"CDS","writer":1}
+{"body":{"@type":"CDS","name":"a"},"counter":1,"groups":["<a*1024>"],"name":"a",
+    "typeUrl":"CDS","writer":1}
+     => {"body":{"@type":"CDS","name":"a"},"counter":1,"groups":["<a*1024>"],"name":"a",
+    "typeUrl":"CDS","writer":1}
 {"counter":1,"groups":["a"],"name":"a","typeUrl":"CDS","writer":1} => 7 BadMessage
 {"body":null,"counter":1,"groups":["a"],"name":"a","typeUrl":"CDS","writer":1} => 7 BadMessage
-{"body":{"@type":"CDS","name":"a"},"counter":1,"groups":"a","name":"a","typeUrl":"CDS","writer":1} => 7 BadMessage
-{"body":{"@type":"CDS","name":"a"},"counter":1,"groups":{},"name":"a","typeUrl":"CDS","writer":1} => 7 BadMessage
-{"body":{"@type":"CDS","name":"a"},"counter":1,"groups":["a",null],"name":"a","typeUrl":"CDS","writer":1} => 7 BadMessage
-{"body":{"@type":"CDS","name":"a"},"counter":1,"groups":["a",1],"name":"a","typeUrl":"CDS","writer":1} => 7 BadMessage
-{"body":{"@type":"CDS","name":"a"},"counter":1,"groups":["a",""],"name":"a","typeUrl":"CDS","writer":1} => 7 BadMessage
-{"body":{"@type":"CDS","name":"a"},"counter":1,"groups":["<a*1025>"],"name":"a","typeUrl":"CDS","writer":1} => 7 BadMessage
-{"body":{"@type":"CDS","name":"a"},"counter":1,"groups":[["a"]],"name":"a","typeUrl":"CDS","writer":1} => 7 BadMessage
-{"body":{"@type":"CDS","name":"a"},"counter":1,"groups":["00","01","02","03","04","05","06","07","08","09","10","11","12","13","14","15","16","17","18","19","20","21","22","23","24","25","26","27","28","29","30","31","32","33","34","35","36","37","38","39","40","41","42","43","44","45","46","47","48","49","50","51","52","53","54","55","56","57","58","59","60","61","62","63","64"],"name":"a","typeUrl":"CDS","writer":1} => 7 BadMessage
+{"body":{"@type":"CDS","name":"a"},"counter":1,"groups":"a","name":"a","typeUrl":"CDS","writer":1}
+     => 7 BadMessage
+{"body":{"@type":"CDS","name":"a"},"counter":1,"groups":{},"name":"a","typeUrl":"CDS","writer":1}
+     => 7 BadMessage
+{"body":{"@type":"CDS","name":"a"},"counter":1,"groups":["a",null],"name":"a","typeUrl":"CDS",
+    "writer":1} => 7 BadMessage
+{"body":{"@type":"CDS","name":"a"},"counter":1,"groups":["a",1],"name":"a","typeUrl":"CDS",
+    "writer":1} => 7 BadMessage
+{"body":{"@type":"CDS","name":"a"},"counter":1,"groups":["a",""],"name":"a","typeUrl":"CDS",
+    "writer":1} => 7 BadMessage
+{"body":{"@type":"CDS","name":"a"},"counter":1,"groups":["<a*1025>"],"name":"a","typeUrl":"CDS",
+    "writer":1} => 7 BadMessage
+{"body":{"@type":"CDS","name":"a"},"counter":1,"groups":[["a"]],"name":"a","typeUrl":"CDS",
+    "writer":1} => 7 BadMessage
+{"body":{"@type":"CDS","name":"a"},"counter":1,"groups":["00","01","02","03","04","05","06","07",
+    "08","09","10","11","12","13","14","15","16","17","18","19","20","21","22","23","24","25","26",
+    "27","28","29","30","31","32","33","34","35","36","37","38","39","40","41","42","43","44","45",
+    "46","47","48","49","50","51","52","53","54","55","56","57","58","59","60","61","62","63","64"],
+    "name":"a","typeUrl":"CDS","writer":1} => 7 BadMessage
 {"counter":1,"groups":[null],"name":"a","typeUrl":"CDS","writer":1} => 7 BadMessage"#,
     )
 }
@@ -149,7 +198,8 @@ fn value_text(alloc: Global, write: &AnyWrite) -> Result<Option<String>, Refusal
 fn writes_show_what_they_hold(rt: HostRuntime) -> Result<(), Fail> {
     hold::<Shown, HostRuntime>(
         &rt,
-        r#"{"body":{"@type":"CDS","name":"a"},"counter":12,"name":"a","typeUrl":"CDS","writer":3} => cluster a 12-3 {"@type":"CDS","name":"a"} {"@type":"CDS","name":"a"}
+        r#"{"body":{"@type":"CDS","name":"a"},"counter":12,"name":"a","typeUrl":"CDS","writer":3}
+     => cluster a 12-3 {"@type":"CDS","name":"a"} {"@type":"CDS","name":"a"}
 {"counter":1,"name":"q","typeUrl":"RDS","writer":2} => route q 1-2 -"#,
     )
 }

@@ -3,8 +3,8 @@ use xds_core::{Event, Marks, Reply};
 use xds_node::Unrecorded;
 use xds_resource::{Refusal, Stamp};
 
-/// What is looked for in what a call of a node answers. It is told by reference, and dropped by a function that doesn't know the
-/// type.
+/// What is looked for in what a call of a node answers. It is told by reference, and dropped by a
+/// function that doesn't know the type.
 pub(crate) trait Told: Drop {
     /// An event that comes back.
     type Event: Drop;

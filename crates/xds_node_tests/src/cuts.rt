@@ -1,4 +1,5 @@
-// A node that is cut again and again: each record is handed out once, and each segment begins where the one before it ends.
+// A node that is cut again and again: each record is handed out once, and each segment begins where
+// the one before it ends.
 ghost use Rattle.std.specs.Prelude.{◌≡◌};
 
 use crate::ends::put_and_cut;
@@ -19,8 +20,8 @@ struct Outcome {
     // How many records the history has, and how many were cut before.
     records: usize,
     before: u64,
-    // Whether the first segment's replica has no cluster, the second's is what the first segment's records make of that one, and the
-    // history's what the second's make of it.
+    // Whether the first segment's replica has no cluster, the second's is what the first segment's
+    // records make of that one, and the history's what the second's make of it.
     is_empty: bool,
     is_joined: bool,
     is_ended: bool,

@@ -55,7 +55,8 @@ fn ordered<P: Drop>(segments: &mut Vec<P>, order: Order) {
     }
 }
 
-// What an audit answers where the segments are all, where the last is missing, or where they are the other way round.
+// What an audit answers where the segments are all, where the last is missing, or where they are
+// the other way round.
 fn audited<A: Site, R: Wait>(
     rt: &R,
     alloc: Global,

@@ -1,5 +1,5 @@
-// Tests of a node that threads share: what their seats are told, what is left of it, and the traces of that; and of the channel
-// between two threads. Nothing else stands here.
+// Tests of a node that threads share: what their seats are told, what is left of it, and the traces
+// of that; and of the channel between two threads. Nothing else stands here.
 #![tactic(auto)]
 
 #[cfg(test)]

@@ -1,5 +1,6 @@
-// A node that finds no memory. `bench/refused.py` runs this test with each allocation failing in turn: a call that was refused
-// left no record and gives its event back, and a cut that was refused has cut nothing.
+// A node that finds no memory. `bench/refused.py` runs this test with each allocation failing in
+// turn: a call that was refused left no record and gives its event back, and a cut that was refused
+// has cut nothing.
 ghost use Rattle.std.specs.Prelude.{◌≡◌};
 
 use crate::calls::{Told, counter};

@@ -1,4 +1,5 @@
-// Nodes, as these tests know them: by traits alone, so that to drop one, or a value with many parts, is a single step of a proof.
+// Nodes, as these tests know them: by traits alone, so that to drop one, or a value with many
+// parts, is a single step of a proof.
 use crate::calls::{Told, counter};
 use std::alloc::Global;
 use std::sync::Wait;
@@ -26,9 +27,8 @@ pub(crate) trait Happens: Drop + Sized {
 
 impl Happens for Event {
     fn put(alloc: Global, name: &str) -> Result<Event, Refusal> {
-        let text = format!(in alloc;
-            "{{\"@type\":\"type.googleapis.com/envoy.config.cluster.v3.Cluster\",\"name\":\"{name}\"}}"
-        )?;
+        let url = TypeName::Cluster.url();
+        let text = format!(in alloc; r#"{{"@type":"{url}","name":"{name}"}}"#)?;
         let resource = AnyResource::parse(alloc, text.as_str())?;
         Ok(Event::Put(resource, Groups::none()))
     }

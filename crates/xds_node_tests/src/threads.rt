@@ -1,5 +1,5 @@
-// What threads of a node do at once. That it may be sent to a thread is known of a node, and not of what these tests know of it by
-// traits.
+// What threads of a node do at once. That it may be sent to a thread is known of a node, and not of
+// what these tests know of it by traits.
 use crate::calls::refused;
 use crate::seats::{Worker, worked, workers};
 use crate::sites::Site;

@@ -14,8 +14,8 @@ use xds_node::{Due, Line, Node, NodeName, Opened};
 use xds_resource::Refusal;
 
 // A client that wants all clusters.
-const WANTS_ALL: &[u8] =
-    b"{\"node\":{\"id\":\"c\"},\"resourceNamesSubscribe\":[\"*\"],\"typeUrl\":\"type.googleapis.com/envoy.config.cluster.v3.Cluster\"}";
+const WANTS_ALL: &[u8] = b"{\"node\":{\"id\":\"c\"},\"resourceNamesSubscribe\":[\"*\"],\
+     \"typeUrl\":\"type.googleapis.com/envoy.config.cluster.v3.Cluster\"}";
 
 // What the waiting threads saw.
 #[derive(Clone, Copy)]
@@ -40,7 +40,8 @@ fn opened_stream<A: Site, R: Wait>(
     Ok(number)
 }
 
-// Has a stream told what changed, once the call that changed it went well. Answers the seat, and the event that closes the stream.
+// Has a stream told what changed, once the call that changed it went well. Answers the seat, and
+// the event that closes the stream.
 fn told<A: Site, R: Wait>(
     rt: &R,
     node: &A,

@@ -1,4 +1,5 @@
-// Answers that are longer than what is written at once, over inputs that are let go of as they are read.
+// Answers that are longer than what is written at once, over inputs that are let go of as they are
+// read.
 use crate::program::{end_over, told};
 use std::alloc::Global;
 use std::io;
@@ -7,6 +8,7 @@ use std::test::Fail;
 use xds_cases::cases::{Outcome, hold, replaced};
 use xds_frames::Counted;
 use xds_program::answer_lines;
+use xds_resource::TypeName;
 
 fn filler_of(alloc: Global, bytes: usize) -> Result<String, Fail> {
     let mut filler = String::new(alloc);
@@ -18,13 +20,17 @@ fn filler_of(alloc: Global, bytes: usize) -> Result<String, Fail> {
 
 // Adds a line that puts a cluster with this number and a text.
 fn push_line(alloc: Global, input: &mut String, line: usize, filler: &str) -> Result<(), Fail> {
+    let url = TypeName::Cluster.url();
+    let body = format!(in alloc; r#"{{"@type":"{url}","name":"n{line}","x":"{filler}"}}"#)?;
     let text = format!(in alloc;
-        "{{\"body\":{{\"@type\":\"type.googleapis.com/envoy.config.cluster.v3.Cluster\",\"name\":\"n{line}\",\"x\":\"{filler}\"}},\"counter\":{line},\"name\":\"n{line}\",\"typeUrl\":\"type.googleapis.com/envoy.config.cluster.v3.Cluster\",\"writer\":1}}\n"
+        r#"{{"body":{body},"counter":{line},"name":"n{line}","typeUrl":"{url}","writer":1}}"#
     )?;
-    Ok(input.push_str(text.as_str())?)
+    input.push_str(text.as_str())?;
+    Ok(input.push_str("\n")?)
 }
 
-// So many lines, each of which puts a cluster with a text of so many bytes, and a request for all of them.
+// So many lines, each of which puts a cluster with a text of so many bytes, and a request for all
+// of them.
 fn input_of(alloc: Global, lines: usize, bytes: usize) -> Result<String, Fail> {
     let filler = filler_of(alloc, bytes)?;
     let mut input = String::new(alloc);
@@ -45,7 +51,8 @@ fn numbers(given: &str) -> Result<(usize, usize), Fail> {
     Ok((number(lines)?, number(bytes)?))
 }
 
-// For so many clusters with a text of so many bytes: how long the answer is, and whether it is the text of the whole answer.
+// For so many clusters with a text of so many bytes: how long the answer is, and whether it is the
+// text of the whole answer.
 struct Long;
 
 impl Outcome for Long {
@@ -105,8 +112,9 @@ impl Write for Calls {
     }
 }
 
-// For so many clusters with a text of so many bytes, over a writer of which so many calls are taken: the status, how many bytes
-// were taken, and whether these are a beginning of the whole answer.
+// For so many clusters with a text of so many bytes, over a writer of which so many calls are
+// taken: the status, how many bytes were taken, and whether these are a beginning of the whole
+// answer.
 struct Cut;
 
 impl Outcome for Cut {

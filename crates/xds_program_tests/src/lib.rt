@@ -1,5 +1,5 @@
-// Tests of the programs, over readers and writers in memory, and of the worlds that scripts are played in. Nothing else stands
-// here.
+// Tests of the programs, over readers and writers in memory, and of the worlds that scripts are
+// played in. Nothing else stands here.
 #![tactic(auto)]
 
 #[cfg(test)]

@@ -3,7 +3,7 @@ use std::alloc::Global;
 use std::io;
 use std::io::{ErrorKind, Read, Write};
 use std::test::Fail;
-use xds_cases::cases::{Outcome, hold, replaced, words_of, written_out};
+use xds_cases::cases::{Outcome, hold, hold_stories, replaced, unfolded, words_of, written_out};
 use xds_frames::Counted;
 use xds_program::run::{Ran, run};
 use xds_program::{LineFault, answer_lines};
@@ -42,17 +42,20 @@ pub(crate) fn end_over<I: Read, O: Write, E: Write>(
     end
 }
 
-// The status of a run over words and the input after a `|`, its output and its error output. `~` is a line feed, and
-// `A!`, `B!` and `Q!` are lines that put the clusters `a` and `b` and the route `q`, and `G!` lines that put clusters in groups.
+// The status of a run over the words of the first line and the input on the lines behind it, its
+// output and its error output. `~` is a line feed, and `A!`, `B!` and `Q!` are lines that put the
+// clusters `a` and `b` and the route `q`, and `G!` lines that put clusters in groups. An input
+// whose last line is ended has the outcome on a line of its own.
 pub(crate) struct Run;
 
 impl Outcome for Run {
     fn of(alloc: Global, given: &str) -> Result<String, Fail> {
-        let (given, input) = given.split_once('|').ok_or("no input")?;
+        let (given, input) = given.split_once('\n').ok_or("no input")?;
         let input = replaced(alloc, input, "A!", A)?;
         let input = replaced(alloc, input.as_str(), "B!", B)?;
         let input = replaced(alloc, input.as_str(), "Q!", Q)?;
-        let input = replaced(alloc, input.as_str(), "G!", GROUPED)?;
+        let grouped = unfolded(alloc, GROUPED)?;
+        let input = replaced(alloc, input.as_str(), "G!", grouped.as_str())?;
         let input = replaced(alloc, input.as_str(), "~", "\n")?;
         let input = written_out(alloc, input.as_str())?;
         told(alloc, given, input.as_bytes())
@@ -78,7 +81,8 @@ fn told_over(
     Ok(replaced(alloc, told.as_str(), "\n", "~")?)
 }
 
-// The status of a run over words and an input, its output and its error output, with `~` for a line feed.
+// The status of a run over words and an input, its output and its error output, with `~` for a line
+// feed.
 pub(crate) fn told(alloc: Global, given: &str, input: &[u8]) -> Result<String, Fail> {
     let mut output = Counted::new(Vec::new(alloc));
     let mut errors = Counted::new(Vec::new(alloc));
@@ -99,64 +103,194 @@ const Q: &str =
 
 #[test]
 fn requests_are_answered(rt: HostRuntime) -> Result<(), Fail> {
-    hold::<Run, HostRuntime>(
+    hold_stories::<Run, HostRuntime>(
         &rt,
-        r#"answer|{"typeUrl":"CDS"} => 0 {"nonce":"1","typeUrl":"CDS","versionInfo":"1.0"}~
-answer|{"typeUrl":"CDS"}~ => 0 {"nonce":"1","typeUrl":"CDS","versionInfo":"1.0"}~
-answer|{"node":{"id":"n","metadata":{"load":1.5}},"typeUrl":"CDS","x":[1e9]}~ => 0 {"nonce":"1","typeUrl":"CDS","versionInfo":"1.0"}~
-answer|A!B!{"resourceNames":["*","b"],"typeUrl":"CDS"}~ => 0 {"nonce":"1","resources":[{"@type":"CDS","name":"a"},{"@type":"CDS","name":"b"}],"typeUrl":"CDS","versionInfo":"1.2"}~
-answer|B!A!{"typeUrl":"CDS"}~ => 0 {"nonce":"1","resources":[{"@type":"CDS","name":"a"},{"@type":"CDS","name":"b"}],"typeUrl":"CDS","versionInfo":"1.2"}~
-answer|A!B!{"resourceNames":["b","zz"],"typeUrl":"CDS"}~ => 0 {"nonce":"1","resources":[{"@type":"CDS","name":"b"}],"typeUrl":"CDS","versionInfo":"1.2.named"}~
-answer|A!A!A!{"resourceNames":["a"],"typeUrl":"CDS"}~ => 0 {"nonce":"1","resources":[{"@type":"CDS","name":"a"}],"typeUrl":"CDS","versionInfo":"1.1.named"}~
-answer|{"resourceNames":["q"],"typeUrl":"RDS"} => 0 
-answer|Q!{"typeUrl":"RDS"}~ => 0 
-answer|Q!A!{"resourceNames":["*","q"],"typeUrl":"RDS"}~ => 0 {"nonce":"1","resources":[{"@type":"RDS","name":"q"}],"typeUrl":"RDS","versionInfo":"1.1.named"}~
-answer|A!{"typeUrl":"type.googleapis.com/x"}~ => 0 
-answer|{"body":{"@type":"EDS","cluster_name":"x","clusterName":"e"},"counter":1,"name":"e","typeUrl":"EDS","writer":1}~{"resource_names":["e"],"type_url":"EDS"}~ => 0 {"nonce":"1","resources":[{"@type":"EDS","clusterName":"e","cluster_name":"x"}],"typeUrl":"EDS","versionInfo":"1.1.named"}~
-answer|{"writer":1,"typeUrl":"LDS","name":"\u00e9/\ud83d\ude00","counter":7,"body":{"z":"\u0001\/","@type":"LDS","name":"\u00e9\/\ud83d\ude00","a":{"d":[],"c":-9223372036854775808}}}~{"typeUrl":"LDS"}~ => 0 {"nonce":"1","resources":[{"@type":"LDS","a":{"c":-9223372036854775808,"d":[]},"name":"é/😀","z":"\u0001/"}],"typeUrl":"LDS","versionInfo":"1.1"}~"#,
+        r#"answer
+{"typeUrl":"CDS"} => 0 {"nonce":"1","typeUrl":"CDS","versionInfo":"1.0"}~
+
+answer
+{"typeUrl":"CDS"}
+ => 0 {"nonce":"1","typeUrl":"CDS","versionInfo":"1.0"}~
+
+answer
+{"node":{"id":"n","metadata":{"load":1.5}},"typeUrl":"CDS","x":[1e9]}
+ => 0 {"nonce":"1","typeUrl":"CDS","versionInfo":"1.0"}~
+
+answer
+A!B!{"resourceNames":["*","b"],"typeUrl":"CDS"}
+ => 0 {"nonce":"1","resources":[{"@type":"CDS","name":"a"},{"@type":"CDS","name":"b"}],
+    "typeUrl":"CDS","versionInfo":"1.2"}~
+
+answer
+B!A!{"typeUrl":"CDS"}
+ => 0 {"nonce":"1","resources":[{"@type":"CDS","name":"a"},{"@type":"CDS","name":"b"}],
+    "typeUrl":"CDS","versionInfo":"1.2"}~
+
+answer
+A!B!{"resourceNames":["b","zz"],"typeUrl":"CDS"}
+ => 0 {"nonce":"1","resources":[{"@type":"CDS","name":"b"}],"typeUrl":"CDS",
+    "versionInfo":"1.2.named"}~
+
+answer
+A!A!A!{"resourceNames":["a"],"typeUrl":"CDS"}
+ => 0 {"nonce":"1","resources":[{"@type":"CDS","name":"a"}],"typeUrl":"CDS",
+    "versionInfo":"1.1.named"}~
+
+answer
+{"resourceNames":["q"],"typeUrl":"RDS"} => 0 
+
+answer
+Q!{"typeUrl":"RDS"}
+ => 0 
+
+answer
+Q!A!{"resourceNames":["*","q"],"typeUrl":"RDS"}
+ => 0 {"nonce":"1","resources":[{"@type":"RDS","name":"q"}],"typeUrl":"RDS",
+    "versionInfo":"1.1.named"}~
+
+answer
+A!{"typeUrl":"type.googleapis.com/x"}
+ => 0 
+
+answer
+{"body":{"@type":"EDS","cluster_name":"x","clusterName":"e"},"counter":1,"name":"e",
+    "typeUrl":"EDS","writer":1}
+{"resource_names":["e"],"type_url":"EDS"}
+ => 0 {"nonce":"1","resources":[{"@type":"EDS","clusterName":"e","cluster_name":"x"}],
+    "typeUrl":"EDS","versionInfo":"1.1.named"}~
+
+answer
+{"writer":1,"typeUrl":"LDS","name":"\u00e9/\ud83d\ude00","counter":7,"body":{"z":"\u0001\/",
+    "@type":"LDS","name":"\u00e9\/\ud83d\ude00","a":{"d":[],"c":-9223372036854775808}}}
+{"typeUrl":"LDS"}
+ => 0 {"nonce":"1",
+    "resources":[{"@type":"LDS","a":{"c":-9223372036854775808,"d":[]},"name":"é/😀","z":"\u0001/"}],
+    "typeUrl":"LDS","versionInfo":"1.1"}~"#,
     )
 }
 
 #[test]
 fn the_greatest_write_of_a_name_stands(rt: HostRuntime) -> Result<(), Fail> {
-    hold::<Run, HostRuntime>(
+    hold_stories::<Run, HostRuntime>(
         &rt,
-        r#"answer|{"body":{"@type":"CDS","name":"a","x":1},"counter":1,"name":"a","typeUrl":"CDS","writer":1}~{"body":{"@type":"CDS","name":"a","x":2},"counter":1,"name":"a","typeUrl":"CDS","writer":2}~B!{"counter":3,"name":"b","typeUrl":"CDS","writer":1}~{"typeUrl":"CDS"}~ => 0 {"nonce":"1","resources":[{"@type":"CDS","name":"a","x":2}],"typeUrl":"CDS","versionInfo":"1.4"}~
-answer|A!{"counter":1,"name":"a","typeUrl":"CDS","writer":1}~{"typeUrl":"CDS"}~ => 0 {"nonce":"1","resources":[{"@type":"CDS","name":"a"}],"typeUrl":"CDS","versionInfo":"1.1"}~
-answer|{"body":{"@type":"CDS","name":"a","x":9},"counter":1,"name":"a","typeUrl":"CDS","writer":1}~{"body":{"@type":"CDS","name":"a","x":10},"counter":1,"name":"a","typeUrl":"CDS","writer":1}~{"typeUrl":"CDS"}~ => 0 {"nonce":"1","resources":[{"@type":"CDS","name":"a","x":9}],"typeUrl":"CDS","versionInfo":"1.1"}~"#,
+        r#"answer
+{"body":{"@type":"CDS","name":"a","x":1},"counter":1,"name":"a","typeUrl":"CDS","writer":1}
+{"body":{"@type":"CDS","name":"a","x":2},"counter":1,"name":"a","typeUrl":"CDS","writer":2}
+B!{"counter":3,"name":"b","typeUrl":"CDS","writer":1}
+{"typeUrl":"CDS"}
+ => 0 {"nonce":"1","resources":[{"@type":"CDS","name":"a","x":2}],"typeUrl":"CDS",
+    "versionInfo":"1.4"}~
+
+answer
+A!{"counter":1,"name":"a","typeUrl":"CDS","writer":1}
+{"typeUrl":"CDS"}
+ => 0 {"nonce":"1","resources":[{"@type":"CDS","name":"a"}],"typeUrl":"CDS","versionInfo":"1.1"}~
+
+answer
+{"body":{"@type":"CDS","name":"a","x":9},"counter":1,"name":"a","typeUrl":"CDS","writer":1}
+{"body":{"@type":"CDS","name":"a","x":10},"counter":1,"name":"a","typeUrl":"CDS","writer":1}
+{"typeUrl":"CDS"}
+ => 0 {"nonce":"1","resources":[{"@type":"CDS","name":"a","x":9}],"typeUrl":"CDS",
+    "versionInfo":"1.1"}~"#,
     )
 }
 
 // Clusters `a` in the group g1, `b` in none, and `c` in the group g2.
-const GROUPED: &str =
-    r#"{"body":{"@type":"CDS","name":"a"},"counter":1,"groups":["g1"],"name":"a","typeUrl":"CDS","writer":1}~{"body":{"@type":"CDS","name":"b"},"counter":2,"name":"b","typeUrl":"CDS","writer":1}~{"body":{"@type":"CDS","name":"c"},"counter":3,"groups":["g2"],"name":"c","typeUrl":"CDS","writer":1}~"#;
+const GROUPED: &str = r#"{"body":{"@type":"CDS","name":"a"},"counter":1,"groups":["g1"],"name":"a",
+    "typeUrl":"CDS","writer":1}~
+    {"body":{"@type":"CDS","name":"b"},"counter":2,"name":"b","typeUrl":"CDS","writer":1}~
+    {"body":{"@type":"CDS","name":"c"},"counter":3,"groups":["g2"],"name":"c",
+    "typeUrl":"CDS","writer":1}~"#;
 
 #[test]
 fn the_star_covers_what_is_open_to_the_cluster(rt: HostRuntime) -> Result<(), Fail> {
-    hold::<Run, HostRuntime>(
+    hold_stories::<Run, HostRuntime>(
         &rt,
-        r#"answer|G!{"node":{"cluster":"g1"},"typeUrl":"CDS"}~ => 0 {"nonce":"1","resources":[{"@type":"CDS","name":"a"},{"@type":"CDS","name":"b"}],"typeUrl":"CDS","versionInfo":"1.3@g1"}~
-answer|G!{"node":{"cluster":"g1","id":"n"},"resourceNames":["*"],"typeUrl":"CDS"}~ => 0 {"nonce":"1","resources":[{"@type":"CDS","name":"a"},{"@type":"CDS","name":"b"}],"typeUrl":"CDS","versionInfo":"1.3@g1"}~
-answer|G!{"typeUrl":"CDS"}~ => 0 {"nonce":"1","resources":[{"@type":"CDS","name":"b"}],"typeUrl":"CDS","versionInfo":"1.3"}~
-answer|G!{"node":{"cluster":"","id":"g1"},"typeUrl":"CDS"}~ => 0 {"nonce":"1","resources":[{"@type":"CDS","name":"b"}],"typeUrl":"CDS","versionInfo":"1.3"}~
-answer|G!{"node":{"cluster":"g3"},"typeUrl":"CDS"}~ => 0 {"nonce":"1","resources":[{"@type":"CDS","name":"b"}],"typeUrl":"CDS","versionInfo":"1.3@g3"}~
-answer|G!{"node":{"cluster":"g1"},"resourceNames":["c"],"typeUrl":"CDS"}~ => 0 {"nonce":"1","resources":[{"@type":"CDS","name":"c"}],"typeUrl":"CDS","versionInfo":"1.3.named"}~
-answer --replica 7|G!{"node":{"cluster":"g1"},"resourceNames":["*","c"],"typeUrl":"CDS"}~ => 0 {"nonce":"1","resources":[{"@type":"CDS","name":"a"},{"@type":"CDS","name":"b"},{"@type":"CDS","name":"c"}],"typeUrl":"CDS","versionInfo":"7.3@g1"}~
-answer|{"body":{"@type":"CDS","name":"a"},"counter":1,"groups":["z","g1","z"],"name":"a","typeUrl":"CDS","writer":1}~{"node":{"cluster":"z"},"typeUrl":"CDS"}~ => 0 {"nonce":"1","resources":[{"@type":"CDS","name":"a"}],"typeUrl":"CDS","versionInfo":"1.1@z"}~
-answer|{"body":{"@type":"CDS","name":"a"},"counter":1,"groups":null,"name":"a","typeUrl":"CDS","writer":1}~{"counter":1,"groups":[],"name":"b","typeUrl":"CDS","writer":1}~{"typeUrl":"CDS"}~ => 0 {"nonce":"1","resources":[{"@type":"CDS","name":"a"}],"typeUrl":"CDS","versionInfo":"1.2"}~
-answer|{"body":{"@type":"CDS","name":"a"},"counter":1,"groups":["g1","g2"],"name":"a","typeUrl":"CDS","writer":1}~{"body":{"@type":"CDS","name":"a"},"counter":1,"groups":["g2"],"name":"a","typeUrl":"CDS","writer":1}~{"body":{"@type":"CDS","name":"a"},"counter":1,"groups":["g1","g9"],"name":"a","typeUrl":"CDS","writer":1}~{"node":{"cluster":"g2"},"typeUrl":"CDS"}~ => 0 {"nonce":"1","resources":[{"@type":"CDS","name":"a"}],"typeUrl":"CDS","versionInfo":"1.2@g2"}~
-answer|{"body":{"@type":"CDS","name":"a"},"counter":1,"groups":[""],"name":"a","typeUrl":"CDS","writer":1}~{"typeUrl":"CDS"}~ => 1 line 1: 7 BadMessage~
-answer|{"body":{"@type":"CDS","name":"a"},"counter":1,"groups":"g1","name":"a","typeUrl":"CDS","writer":1}~{"typeUrl":"CDS"}~ => 1 line 1: 7 BadMessage~
-answer|{"counter":1,"groups":["g1"],"name":"a","typeUrl":"CDS","writer":1}~{"typeUrl":"CDS"}~ => 1 line 1: 7 BadMessage~"#,
+        r#"answer
+G!{"node":{"cluster":"g1"},"typeUrl":"CDS"}
+ => 0 {"nonce":"1","resources":[{"@type":"CDS","name":"a"},{"@type":"CDS","name":"b"}],
+    "typeUrl":"CDS","versionInfo":"1.3@g1"}~
+
+answer
+G!{"node":{"cluster":"g1","id":"n"},"resourceNames":["*"],"typeUrl":"CDS"}
+ => 0 {"nonce":"1","resources":[{"@type":"CDS","name":"a"},{"@type":"CDS","name":"b"}],
+    "typeUrl":"CDS","versionInfo":"1.3@g1"}~
+
+answer
+G!{"typeUrl":"CDS"}
+ => 0 {"nonce":"1","resources":[{"@type":"CDS","name":"b"}],"typeUrl":"CDS","versionInfo":"1.3"}~
+
+answer
+G!{"node":{"cluster":"","id":"g1"},"typeUrl":"CDS"}
+ => 0 {"nonce":"1","resources":[{"@type":"CDS","name":"b"}],"typeUrl":"CDS","versionInfo":"1.3"}~
+
+answer
+G!{"node":{"cluster":"g3"},"typeUrl":"CDS"}
+ => 0 {"nonce":"1","resources":[{"@type":"CDS","name":"b"}],"typeUrl":"CDS","versionInfo":"1.3@g3"}~
+
+answer
+G!{"node":{"cluster":"g1"},"resourceNames":["c"],"typeUrl":"CDS"}
+ => 0 {"nonce":"1","resources":[{"@type":"CDS","name":"c"}],"typeUrl":"CDS",
+    "versionInfo":"1.3.named"}~
+
+answer --replica 7
+G!{"node":{"cluster":"g1"},"resourceNames":["*","c"],"typeUrl":"CDS"}
+ => 0 {"nonce":"1","resources":[{"@type":"CDS","name":"a"},{"@type":"CDS","name":"b"},
+    {"@type":"CDS","name":"c"}],"typeUrl":"CDS","versionInfo":"7.3@g1"}~
+
+answer
+{"body":{"@type":"CDS","name":"a"},"counter":1,"groups":["z","g1","z"],"name":"a",
+    "typeUrl":"CDS","writer":1}
+{"node":{"cluster":"z"},"typeUrl":"CDS"}
+ => 0 {"nonce":"1","resources":[{"@type":"CDS","name":"a"}],"typeUrl":"CDS","versionInfo":"1.1@z"}~
+
+answer
+{"body":{"@type":"CDS","name":"a"},"counter":1,"groups":null,"name":"a","typeUrl":"CDS","writer":1}
+{"counter":1,"groups":[],"name":"b","typeUrl":"CDS","writer":1}
+{"typeUrl":"CDS"}
+ => 0 {"nonce":"1","resources":[{"@type":"CDS","name":"a"}],"typeUrl":"CDS","versionInfo":"1.2"}~
+
+answer
+{"body":{"@type":"CDS","name":"a"},"counter":1,"groups":["g1","g2"],"name":"a",
+    "typeUrl":"CDS","writer":1}
+{"body":{"@type":"CDS","name":"a"},"counter":1,"groups":["g2"],"name":"a",
+    "typeUrl":"CDS","writer":1}
+{"body":{"@type":"CDS","name":"a"},"counter":1,"groups":["g1","g9"],"name":"a",
+    "typeUrl":"CDS","writer":1}
+{"node":{"cluster":"g2"},"typeUrl":"CDS"}
+ => 0 {"nonce":"1","resources":[{"@type":"CDS","name":"a"}],"typeUrl":"CDS","versionInfo":"1.2@g2"}~
+
+answer
+{"body":{"@type":"CDS","name":"a"},"counter":1,"groups":[""],"name":"a","typeUrl":"CDS","writer":1}
+{"typeUrl":"CDS"}
+ => 1 line 1: 7 BadMessage~
+
+answer
+{"body":{"@type":"CDS","name":"a"},"counter":1,"groups":"g1","name":"a","typeUrl":"CDS","writer":1}
+{"typeUrl":"CDS"}
+ => 1 line 1: 7 BadMessage~
+
+answer
+{"counter":1,"groups":["g1"],"name":"a","typeUrl":"CDS","writer":1}
+{"typeUrl":"CDS"}
+ => 1 line 1: 7 BadMessage~"#,
     )
 }
 
 #[test]
 fn secrets_are_answered_by_name(rt: HostRuntime) -> Result<(), Fail> {
-    hold::<Run, HostRuntime>(
+    hold_stories::<Run, HostRuntime>(
         &rt,
-        r#"answer|{"body":{"@type":"SDS","name":"s"},"counter":1,"name":"s","typeUrl":"SDS","writer":1}~{"resourceNames":["s"],"typeUrl":"SDS"}~ => 0 {"nonce":"1","resources":[{"@type":"SDS","name":"s"}],"typeUrl":"SDS","versionInfo":"1.1.named"}~
-answer|{"body":{"@type":"SDS","name":"s"},"counter":1,"name":"s","typeUrl":"SDS","writer":1}~{"typeUrl":"SDS"}~ => 0 "#,
+        r#"answer
+{"body":{"@type":"SDS","name":"s"},"counter":1,"name":"s","typeUrl":"SDS","writer":1}
+{"resourceNames":["s"],"typeUrl":"SDS"}
+ => 0 {"nonce":"1","resources":[{"@type":"SDS","name":"s"}],"typeUrl":"SDS",
+    "versionInfo":"1.1.named"}~
+
+answer
+{"body":{"@type":"SDS","name":"s"},"counter":1,"name":"s","typeUrl":"SDS","writer":1}
+{"typeUrl":"SDS"}
+ => 0 "#,
     )
 }
 
@@ -171,34 +305,80 @@ fn the_first_bad_line_is_told(rt: HostRuntime) -> Result<(), Fail> {
             refusal: Refusal::NotJson
         })
     );
-    hold::<Run, HostRuntime>(
+    hold_stories::<Run, HostRuntime>(
         &rt,
-        r#"answer| => 1 line 1: 1 NotJson~
-answer|~ => 1 line 1: 1 NotJson~
-answer|{}~ => 1 line 1: 7 BadMessage~
-answer|[] => 1 line 1: 7 BadMessage~
-answer|{"counter":0,"name":"b","typeUrl":"CDS","writer":1}~{"typeUrl":"CDS"} => 1 line 1: 7 BadMessage~
-answer|{"counter":1,"name":"b","typeUrl":"CDS","writer":1}~~{"typeUrl":"CDS"}~ => 1 line 2: 1 NotJson~
-answer|{"counter":1,"name":"b","typeUrl":"CDS","writer":1}~{"typeUrl":"CDS"}~~ => 1 line 2: 7 BadMessage~
-answer|{"body":{"@type":"CDS","name":"b"},"counter":1,"name":"a","typeUrl":"CDS","writer":1}~{"typeUrl":"CDS"}~ => 1 line 1: 7 BadMessage~
-answer|{"body":{"@type":"CDS","name":"a","x":1.5},"counter":1,"name":"a","typeUrl":"CDS","writer":1}~{"typeUrl":"CDS"}~ => 1 line 1: 7 BadMessage~"#,
+        r#"answer
+ => 1 line 1: 1 NotJson~
+
+answer
+~
+     => 1 line 1: 1 NotJson~
+
+answer
+{}
+ => 1 line 1: 7 BadMessage~
+
+answer
+[] => 1 line 1: 7 BadMessage~
+
+answer
+{"counter":0,"name":"b","typeUrl":"CDS","writer":1}
+{"typeUrl":"CDS"} => 1 line 1: 7 BadMessage~
+
+answer
+{"counter":1,"name":"b","typeUrl":"CDS","writer":1}~
+{"typeUrl":"CDS"}
+ => 1 line 2: 1 NotJson~
+
+answer
+{"counter":1,"name":"b","typeUrl":"CDS","writer":1}
+{"typeUrl":"CDS"}~
+ => 1 line 2: 7 BadMessage~
+
+answer
+{"body":{"@type":"CDS","name":"b"},"counter":1,"name":"a","typeUrl":"CDS","writer":1}
+{"typeUrl":"CDS"}
+ => 1 line 1: 7 BadMessage~
+
+answer
+{"body":{"@type":"CDS","name":"a","x":1.5},"counter":1,"name":"a","typeUrl":"CDS","writer":1}
+{"typeUrl":"CDS"}
+ => 1 line 1: 7 BadMessage~"#,
     )
 }
 
 #[test]
 fn right_words_name_the_replica(rt: HostRuntime) -> Result<(), Fail> {
-    hold::<Run, HostRuntime>(
+    hold_stories::<Run, HostRuntime>(
         &rt,
-        r#"answer --|{"typeUrl":"CDS"}~ => 0 {"nonce":"1","typeUrl":"CDS","versionInfo":"1.0"}~
-answer --replica 7|{"typeUrl":"CDS"}~ => 0 {"nonce":"1","typeUrl":"CDS","versionInfo":"7.0"}~
-answer --replica 65535|{"typeUrl":"CDS"}~ => 0 {"nonce":"1","typeUrl":"CDS","versionInfo":"65535.0"}~
-answer --replica=65535|{"typeUrl":"CDS"}~ => 0 {"nonce":"1","typeUrl":"CDS","versionInfo":"65535.0"}~
-answer --replica=+7 --|{"typeUrl":"CDS"}~ => 0 {"nonce":"1","typeUrl":"CDS","versionInfo":"7.0"}~
-answer --replica 007 --|{"typeUrl":"CDS"}~ => 0 {"nonce":"1","typeUrl":"CDS","versionInfo":"7.0"}~"#,
+        r#"answer --
+{"typeUrl":"CDS"}
+ => 0 {"nonce":"1","typeUrl":"CDS","versionInfo":"1.0"}~
+
+answer --replica 7
+{"typeUrl":"CDS"}
+ => 0 {"nonce":"1","typeUrl":"CDS","versionInfo":"7.0"}~
+
+answer --replica 65535
+{"typeUrl":"CDS"}
+ => 0 {"nonce":"1","typeUrl":"CDS","versionInfo":"65535.0"}~
+
+answer --replica=65535
+{"typeUrl":"CDS"}
+ => 0 {"nonce":"1","typeUrl":"CDS","versionInfo":"65535.0"}~
+
+answer --replica=+7 --
+{"typeUrl":"CDS"}
+ => 0 {"nonce":"1","typeUrl":"CDS","versionInfo":"7.0"}~
+
+answer --replica 007 --
+{"typeUrl":"CDS"}
+ => 0 {"nonce":"1","typeUrl":"CDS","versionInfo":"7.0"}~"#,
     )
 }
 
-// Where a run over words and no answer tells something, its status, and how much of the input it left.
+// Where a run over words and no answer tells something, its status, and how much of the input it
+// left.
 struct Aside;
 
 impl Outcome for Aside {
@@ -361,7 +541,8 @@ impl Sink for Stuck {
     }
 }
 
-// What a run tells over these devices: its end, what was written to the two, and how many calls of each failed.
+// What a run tells over these devices: its end, what was written to the two, and how many calls of
+// each failed.
 fn told_of<I: Read, O: Sink, E: Sink>(
     alloc: Global,
     input: &mut Counted<I>,
@@ -395,7 +576,8 @@ fn told_of_new<I: Read + Drop, O: Sink, E: Sink>(
 
 const REQUEST: &[u8] = b"{\"typeUrl\":\"type.googleapis.com/envoy.config.cluster.v3.Cluster\"}\n";
 
-// Which device fails: the reader, the output after some bytes, the output where it is flushed, or the error output.
+// Which device fails: the reader, the output after some bytes, the output where it is flushed, or
+// the error output.
 struct Failing;
 
 impl Outcome for Failing {

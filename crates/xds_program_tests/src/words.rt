@@ -146,10 +146,14 @@ serve --help => help",
 fn words_ask_for_clients(rt: HostRuntime) -> Result<(), Fail> {
     hold::<Asked, HostRuntime>(
         &rt,
-        "client --addr 127.0.0.1:18000 --variant sotw --type route --responses 1 q => client 127.0.0.1:18000 Sotw Route 1 () q
-client --addr=10.0.0.255:1 --variant=delta --type=secret --responses=65535 --cluster=g1 b a b => client 10.0.0.255:1 Delta Secret 65535 (g1) b a b
-client a --responses 2 --type cluster --addr 0.0.0.0:0 --variant delta * -- --type => client 0.0.0.0:0 Delta Cluster 2 () a * --type
-client --addr 127.0.0.1:18000 --variant sotw --type listener --responses 1 --cluster g:1 endpoint => client 127.0.0.1:18000 Sotw Listener 1 (g:1) endpoint
+        "client --addr 127.0.0.1:18000 --variant sotw --type route --responses 1 q
+     => client 127.0.0.1:18000 Sotw Route 1 () q
+client --addr=10.0.0.255:1 --variant=delta --type=secret --responses=65535 --cluster=g1 b a b
+     => client 10.0.0.255:1 Delta Secret 65535 (g1) b a b
+client a --responses 2 --type cluster --addr 0.0.0.0:0 --variant delta * -- --type
+     => client 0.0.0.0:0 Delta Cluster 2 () a * --type
+client --addr 127.0.0.1:18000 --variant sotw --type listener --responses 1 --cluster g:1 endpoint
+     => client 127.0.0.1:18000 Sotw Listener 1 (g:1) endpoint
 client --addr 127.0.0.1:18000 --variant sotw --type route --responses 1 => wrong
 client --addr 127.0.0.1:18000 --variant sotw --type route q => wrong
 client --addr 127.0.0.1:18000 --variant sotw --responses 1 q => wrong
@@ -166,7 +170,8 @@ client --addr 127.0.0.1:18000 --variant sotw --type routes --responses 1 q => wr
 client --addr 127.0.0.1:18000 --variant sotw --type route --responses 0 q => wrong
 client --addr 127.0.0.1:18000 --variant sotw --type route --responses 65536 q => wrong
 client --addr 127.0.0.1:18000 --variant sotw --type route --responses 1 --version 1.0 q => wrong
-client --addr 127.0.0.1:18000 --addr 127.0.0.1:18000 --variant sotw --type route --responses 1 q => wrong
+client --addr 127.0.0.1:18000 --addr 127.0.0.1:18000 --variant sotw --type route --responses 1 q
+     => wrong
 client --help => help",
     )
 }
@@ -176,7 +181,8 @@ fn words_ask_for_polls(rt: HostRuntime) -> Result<(), Fail> {
     hold::<Asked, HostRuntime>(
         &rt,
         "poll --addr 127.0.0.1:18100 --type cluster => poll 127.0.0.1:18100 Cluster () ()
-poll --type endpoint --version 1.1.named --addr 127.0.0.1:18101 --cluster g1 a b => poll 127.0.0.1:18101 Endpoint (1.1.named) (g1) a b
+poll --type endpoint --version 1.1.named --addr 127.0.0.1:18101 --cluster g1 a b
+     => poll 127.0.0.1:18101 Endpoint (1.1.named) (g1) a b
 poll --addr 127.0.0.1:18100 a --type cluster b => poll 127.0.0.1:18100 Cluster () () a b
 poll --addr 127.0.0.1:18100 => wrong
 poll --type cluster => wrong

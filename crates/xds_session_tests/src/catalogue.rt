@@ -1,4 +1,4 @@
-// What one replica holds, by scripts whose steps are apart by `; `, and what two replicas tell each other.
+// What one replica holds, by stories, and what two replicas tell each other.
 ghost use Rattle.std.specs.Prelude.{◌≤◌};
 
 use std::alloc::Global;
@@ -107,8 +107,8 @@ fn join_text<T: ResourceType>(
     count_text(alloc, catalogue.join_write(write)?)
 }
 
-// The write of a version that puts a body with the groups of a list, or that deletes `a` where `-` stands in the body's
-// place.
+// The write of a version that puts a body with the groups of a list, or that deletes `a` where `-`
+// stands in the body's place.
 fn write_of<T: ResourceType>(
     alloc: Global,
     listed: &str,
@@ -213,16 +213,85 @@ fn names_shown<T: ResourceType>(
 fn a_replica_keeps_the_greatest_write(rt: HostRuntime) -> Result<(), Fail> {
     follow::<Replica<Cluster>, HostRuntime>(
         &rt,
-        r#"put {"@type":"CDS","name":"a"}; delete a; join 1-1 {"@type":"CDS","name":"a"}; join 1-1 {"@type":"CDS","name":"a"}; get a; want ; delete a; delete b => 1-1 2-1 0 0 2-1-  9 NotFound 9 NotFound
-put {"@type":"CDS","name":"a"}; delete a; put {"@type":"CDS","name":"a"}; put {"@type":"CDS","name":"a"}; copy a; changes  => 1-1 2-1 3-1 4-1 4-1{"@type":"CDS","name":"a"} 4
-join 9223372036854775807-9 {"@type":"CDS","name":"a"}; put {"@type":"CDS","name":"b"}; delete a; delete b; get a; get b; changes  => 1 10 CounterSpent 10 CounterSpent 9 NotFound 9223372036854775807-9{"@type":"CDS","name":"a"} none 1
-join 1-1 {"@type":"CDS","name":"a"}; join 1-2 {"@type":"CDS","name":"a"}; join 2-1 -; join 2-1 {"@type":"CDS","name":"a","x":1}; get a; changes  => 1 1 1 1 2-1{"@type":"CDS","name":"a","x":1} 4
-join 2-1 {"@type":"CDS","name":"a","x":1}; join 2-1 -; join 1-2 {"@type":"CDS","name":"a"}; join 1-1 {"@type":"CDS","name":"a"}; get a; changes  => 1 0 0 0 2-1{"@type":"CDS","name":"a","x":1} 1
-join 1-2 {"@type":"CDS","name":"a"}; join 2-1 {"@type":"CDS","name":"a","x":1}; join 1-1 {"@type":"CDS","name":"a"}; join 2-1 -; get a; changes  => 1 1 0 0 2-1{"@type":"CDS","name":"a","x":1} 2
-join 2-1 -; join 2-1 -; join 1-1 {"@type":"CDS","name":"a"}; join 2-1 {"@type":"CDS","name":"a","x":1}; get a; want a => 1 0 0 1 2-1{"@type":"CDS","name":"a","x":1} a
-put {"@type":"CDS","name":"b"}; put {"@type":"CDS","name":"a"}; want ; want * c; want b c; want c => 1-1 2-1 ab ab b 
-next 0; put {"@type":"CDS","name":"b"}; put {"@type":"CDS","name":"a"}; next 0; next 1; put {"@type":"CDS","name":"b"}; join 1-1 -; next 0; next 2; next 3; next 18446744073709551615 => none 1-1 2-1 1b 2a 3-1 0 2a 3b none none
-delete a; put {"@type":"CDS","name":"a"}; delete a; next 0; next 1; next 2; copy a; want a => 9 NotFound 1-1 2-1 2a 2a none 2-1- "#,
+        r#"put {"@type":"CDS","name":"a"} => 1-1
+delete a => 2-1
+join 1-1 {"@type":"CDS","name":"a"} => 0
+join 1-1 {"@type":"CDS","name":"a"} => 0
+get a => 2-1-
+want  => 
+delete a => 9 NotFound
+delete b => 9 NotFound
+
+put {"@type":"CDS","name":"a"} => 1-1
+delete a => 2-1
+put {"@type":"CDS","name":"a"} => 3-1
+put {"@type":"CDS","name":"a"} => 4-1
+copy a => 4-1{"@type":"CDS","name":"a"}
+changes  => 4
+
+join 9223372036854775807-9 {"@type":"CDS","name":"a"} => 1
+put {"@type":"CDS","name":"b"} => 10 CounterSpent
+delete a => 10 CounterSpent
+delete b => 9 NotFound
+get a => 9223372036854775807-9{"@type":"CDS","name":"a"}
+get b => none
+changes  => 1
+
+join 1-1 {"@type":"CDS","name":"a"} => 1
+join 1-2 {"@type":"CDS","name":"a"} => 1
+join 2-1 - => 1
+join 2-1 {"@type":"CDS","name":"a","x":1} => 1
+get a => 2-1{"@type":"CDS","name":"a","x":1}
+changes  => 4
+
+join 2-1 {"@type":"CDS","name":"a","x":1} => 1
+join 2-1 - => 0
+join 1-2 {"@type":"CDS","name":"a"} => 0
+join 1-1 {"@type":"CDS","name":"a"} => 0
+get a => 2-1{"@type":"CDS","name":"a","x":1}
+changes  => 1
+
+join 1-2 {"@type":"CDS","name":"a"} => 1
+join 2-1 {"@type":"CDS","name":"a","x":1} => 1
+join 1-1 {"@type":"CDS","name":"a"} => 0
+join 2-1 - => 0
+get a => 2-1{"@type":"CDS","name":"a","x":1}
+changes  => 2
+
+join 2-1 - => 1
+join 2-1 - => 0
+join 1-1 {"@type":"CDS","name":"a"} => 0
+join 2-1 {"@type":"CDS","name":"a","x":1} => 1
+get a => 2-1{"@type":"CDS","name":"a","x":1}
+want a => a
+
+put {"@type":"CDS","name":"b"} => 1-1
+put {"@type":"CDS","name":"a"} => 2-1
+want  => ab
+want * c => ab
+want b c => b
+want c => 
+
+next 0 => none
+put {"@type":"CDS","name":"b"} => 1-1
+put {"@type":"CDS","name":"a"} => 2-1
+next 0 => 1b
+next 1 => 2a
+put {"@type":"CDS","name":"b"} => 3-1
+join 1-1 - => 0
+next 0 => 2a
+next 2 => 3b
+next 3 => none
+next 18446744073709551615 => none
+
+delete a => 9 NotFound
+put {"@type":"CDS","name":"a"} => 1-1
+delete a => 2-1
+next 0 => 2a
+next 1 => 2a
+next 2 => none
+copy a => 2-1-
+want a => "#,
     )
 }
 
@@ -246,7 +315,8 @@ fn exchanged(
     Ok((gained, second.join_all(from_first)?))
 }
 
-// What two replicas answer that put one text each, hand each other their entries, and hand them on again.
+// What two replicas answer that put one text each, hand each other their entries, and hand them on
+// again.
 fn told_of_exchange(
     alloc: Global,
     first: &mut Catalogue<Cluster>,
@@ -282,7 +352,8 @@ impl Outcome for Exchange {
 fn two_replicas_agree(rt: HostRuntime) -> Result<(), Fail> {
     hold::<Exchange, HostRuntime>(
         &rt,
-        r#"{"@type":"CDS","name":"a"} and {"@type":"CDS","name":"a","x":1} => 1 0 0 1-2{"@type":"CDS","name":"a","x":1} 1-2{"@type":"CDS","name":"a","x":1}"#,
+        r#"{"@type":"CDS","name":"a"} and {"@type":"CDS","name":"a","x":1}
+     => 1 0 0 1-2{"@type":"CDS","name":"a","x":1} 1-2{"@type":"CDS","name":"a","x":1}"#,
     )
 }
 
@@ -290,12 +361,54 @@ fn two_replicas_agree(rt: HostRuntime) -> Result<(), Fail> {
 fn groups_narrow_the_star_alone(rt: HostRuntime) -> Result<(), Fail> {
     follow::<Replica<Cluster>, HostRuntime>(
         &rt,
-        r#"putin g1 {"@type":"CDS","name":"a"}; put {"@type":"CDS","name":"b"}; putin g2 {"@type":"CDS","name":"c"}; wantin g1; want ; wantin g2; wantin g1 c; wantin g1 * c; want c; wantin g => 1-1 2-1 3-1 ab b bc c abc c b
-putin g1 {"@type":"CDS","name":"a"}; putin g2 {"@type":"CDS","name":"a"}; wantin g1; wantin g2; groups a; put {"@type":"CDS","name":"a"}; wantin g1; groups a; changes  => 1-1 2-1  a g2, 3-1 a  3
-putin g2,g1,g2 {"@type":"CDS","name":"a"}; groups a; delete a; groups a; wantin g1; put {"@type":"CDS","name":"a"}; want  => 1-1 g1,g2, 2-1   3-1 a
-putin g1,, {"@type":"CDS","name":"a"}; groups a; changes  => 24 BadGroup 9 NotFound 0
-join 1-1 {"@type":"CDS","name":"a"}; joinin g2 1-1 {"@type":"CDS","name":"a"}; joinin g1 1-1 {"@type":"CDS","name":"a"}; joinin g1,g3 1-1 {"@type":"CDS","name":"a"}; groups a; joinin g2,g1 1-1 {"@type":"CDS","name":"a"}; joinin g3 1-1 {"@type":"CDS","name":"a"}; groups a; changes  => 1 1 0 0 g2, 0 1 g3, 3
-joinin g9 1-1 {"@type":"CDS","name":"a","x":1}; join 1-1 {"@type":"CDS","name":"a"}; groups a; joinin g1 1-1 -; want  => 1 1  0 a"#,
+        r#"putin g1 {"@type":"CDS","name":"a"} => 1-1
+put {"@type":"CDS","name":"b"} => 2-1
+putin g2 {"@type":"CDS","name":"c"} => 3-1
+wantin g1 => ab
+want  => b
+wantin g2 => bc
+wantin g1 c => c
+wantin g1 * c => abc
+want c => c
+wantin g => b
+
+putin g1 {"@type":"CDS","name":"a"} => 1-1
+putin g2 {"@type":"CDS","name":"a"} => 2-1
+wantin g1 => 
+wantin g2 => a
+groups a => g2,
+put {"@type":"CDS","name":"a"} => 3-1
+wantin g1 => a
+groups a => 
+changes  => 3
+
+putin g2,g1,g2 {"@type":"CDS","name":"a"} => 1-1
+groups a => g1,g2,
+delete a => 2-1
+groups a => 
+wantin g1 => 
+put {"@type":"CDS","name":"a"} => 3-1
+want  => a
+
+putin g1,, {"@type":"CDS","name":"a"} => 24 BadGroup
+groups a => 9 NotFound
+changes  => 0
+
+join 1-1 {"@type":"CDS","name":"a"} => 1
+joinin g2 1-1 {"@type":"CDS","name":"a"} => 1
+joinin g1 1-1 {"@type":"CDS","name":"a"} => 0
+joinin g1,g3 1-1 {"@type":"CDS","name":"a"} => 0
+groups a => g2,
+joinin g2,g1 1-1 {"@type":"CDS","name":"a"} => 0
+joinin g3 1-1 {"@type":"CDS","name":"a"} => 1
+groups a => g3,
+changes  => 3
+
+joinin g9 1-1 {"@type":"CDS","name":"a","x":1} => 1
+join 1-1 {"@type":"CDS","name":"a"} => 1
+groups a => 
+joinin g1 1-1 - => 0
+want  => a"#,
     )
 }
 
@@ -303,7 +416,11 @@ joinin g9 1-1 {"@type":"CDS","name":"a","x":1}; join 1-1 {"@type":"CDS","name":"
 fn secrets_are_seen_by_name_alone(rt: HostRuntime) -> Result<(), Fail> {
     follow::<Replica<Secret>, HostRuntime>(
         &rt,
-        r#"putin g1 {"@type":"SDS","name":"s"}; want ; wantin g1 *; want s; put {"@type":"RDS","name":"s"} => 1-1   s 4 BadResource"#,
+        r#"putin g1 {"@type":"SDS","name":"s"} => 1-1
+want  => 
+wantin g1 * => 
+want s => s
+put {"@type":"RDS","name":"s"} => 4 BadResource"#,
     )
 }
 
@@ -311,6 +428,9 @@ fn secrets_are_seen_by_name_alone(rt: HostRuntime) -> Result<(), Fail> {
 fn routes_are_seen_by_name_alone(rt: HostRuntime) -> Result<(), Fail> {
     follow::<Replica<Route>, HostRuntime>(
         &rt,
-        r#"put {"@type":"RDS","name":"r"}; want ; want *; want r => 1-1   r"#,
+        r#"put {"@type":"RDS","name":"r"} => 1-1
+want  => 
+want * => 
+want r => r"#,
     )
 }

@@ -1,4 +1,5 @@
-// Stories of an incremental client and one replica. A step is done on a copy of the session, which then stands for it.
+// Stories of an incremental client and one replica. A step is done on a copy of the session, which
+// then stands for it.
 ghost use Rattle.std.proofs.Props.{props};
 ghost use Rattle.xds_catalogue.specs.Holdings.{IsCatalogue};
 ghost use Rattle.xds_ledger.specs.declared.variant.VariantName.TheVariants as variants;
@@ -165,22 +166,32 @@ fn interests_change_by_what_requests_mention(rt: HostRuntime) -> Result<(), Fail
         r#"put {"@type":"CDS","name":"A"} => 1-1
 put {"@type":"CDS","name":"B"} => 2-1
 take {"typeUrl":"CDS"} => taken
-poll => {"nonce":"1","resources":[{"name":"A","resource":{"@type":"CDS","name":"A"},"version":"1-1"},{"name":"B","resource":{"@type":"CDS","name":"B"},"version":"2-1"}],"systemVersionInfo":"1.2","typeUrl":"CDS"}
+poll => {"nonce":"1",
+    "resources":[{"name":"A","resource":{"@type":"CDS","name":"A"},"version":"1-1"},
+    {"name":"B","resource":{"@type":"CDS","name":"B"},"version":"2-1"}],"systemVersionInfo":"1.2",
+    "typeUrl":"CDS"}
 take {"responseNonce":"1","typeUrl":"CDS"} => taken
 poll => none
 take {"resourceNamesSubscribe":["A"],"typeUrl":"CDS"} => taken
-poll => {"nonce":"2","resources":[{"name":"A","resource":{"@type":"CDS","name":"A"},"version":"1-1"}],"systemVersionInfo":"1.2","typeUrl":"CDS"}
+poll => {"nonce":"2",
+    "resources":[{"name":"A","resource":{"@type":"CDS","name":"A"},"version":"1-1"}],
+    "systemVersionInfo":"1.2","typeUrl":"CDS"}
 take {"responseNonce":"2","typeUrl":"CDS"} => taken
 poll => none
 take {"resourceNamesUnsubscribe":["*"],"typeUrl":"CDS"} => taken
-poll => {"nonce":"3","resources":[{"name":"A","resource":{"@type":"CDS","name":"A"},"version":"1-1"}],"systemVersionInfo":"1.2","typeUrl":"CDS"}
+poll => {"nonce":"3",
+    "resources":[{"name":"A","resource":{"@type":"CDS","name":"A"},"version":"1-1"}],
+    "systemVersionInfo":"1.2","typeUrl":"CDS"}
 take {"responseNonce":"3","typeUrl":"CDS"} => taken
 poll => none
 take {"resourceNamesUnsubscribe":["A"],"typeUrl":"CDS"} => taken
 poll => none
 owes => no
 take {"resourceNamesSubscribe":["*"],"typeUrl":"CDS"} => taken
-poll => {"nonce":"4","resources":[{"name":"A","resource":{"@type":"CDS","name":"A"},"version":"1-1"},{"name":"B","resource":{"@type":"CDS","name":"B"},"version":"2-1"}],"systemVersionInfo":"1.2","typeUrl":"CDS"}
+poll => {"nonce":"4",
+    "resources":[{"name":"A","resource":{"@type":"CDS","name":"A"},"version":"1-1"},
+    {"name":"B","resource":{"@type":"CDS","name":"B"},"version":"2-1"}],"systemVersionInfo":"1.2",
+    "typeUrl":"CDS"}
 take {"responseNonce":"4","typeUrl":"CDS"} => taken
 owes => no"#,
     )
@@ -193,7 +204,9 @@ fn a_name_touched_meanwhile_is_told_again(rt: HostRuntime) -> Result<(), Fail> {
         1,
         r#"put {"@type":"CDS","name":"n"} => 1-1
 take {"resourceNamesSubscribe":["*"],"typeUrl":"CDS"} => taken
-poll => {"nonce":"1","resources":[{"name":"n","resource":{"@type":"CDS","name":"n"},"version":"1-1"}],"systemVersionInfo":"1.1","typeUrl":"CDS"}
+poll => {"nonce":"1",
+    "resources":[{"name":"n","resource":{"@type":"CDS","name":"n"},"version":"1-1"}],
+    "systemVersionInfo":"1.1","typeUrl":"CDS"}
 delete n => 2-1
 take {"resourceNamesUnsubscribe":["*"],"typeUrl":"CDS"} => taken
 take {"resourceNamesSubscribe":["*"],"typeUrl":"CDS"} => taken
@@ -211,16 +224,22 @@ fn a_refused_offer_waits_until_it_differs(rt: HostRuntime) -> Result<(), Fail> {
         1,
         r#"put {"@type":"CDS","name":"B"} => 1-1
 take {"resourceNamesSubscribe":["*"],"typeUrl":"CDS"} => taken
-poll => {"nonce":"1","resources":[{"name":"B","resource":{"@type":"CDS","name":"B"},"version":"1-1"}],"systemVersionInfo":"1.1","typeUrl":"CDS"}
+poll => {"nonce":"1",
+    "resources":[{"name":"B","resource":{"@type":"CDS","name":"B"},"version":"1-1"}],
+    "systemVersionInfo":"1.1","typeUrl":"CDS"}
 take {"responseNonce":"1","typeUrl":"CDS"} => taken
 put {"@type":"CDS","name":"A","reject":true} => 2-1
 delete B => 3-1
-poll => {"nonce":"2","removedResources":["B"],"resources":[{"name":"A","resource":{"@type":"CDS","name":"A","reject":true},"version":"2-1"}],"systemVersionInfo":"1.3","typeUrl":"CDS"}
+poll => {"nonce":"2","removedResources":["B"],
+    "resources":[{"name":"A","resource":{"@type":"CDS","name":"A","reject":true},"version":"2-1"}],
+    "systemVersionInfo":"1.3","typeUrl":"CDS"}
 take {"errorDetail":{"code":3,"message":"test: A"},"responseNonce":"2","typeUrl":"CDS"} => taken
 poll => none
 owes => yes
 put {"@type":"CDS","name":"A"} => 4-1
-poll => {"nonce":"3","removedResources":["B"],"resources":[{"name":"A","resource":{"@type":"CDS","name":"A"},"version":"4-1"}],"systemVersionInfo":"1.4","typeUrl":"CDS"}
+poll => {"nonce":"3","removedResources":["B"],
+    "resources":[{"name":"A","resource":{"@type":"CDS","name":"A"},"version":"4-1"}],
+    "systemVersionInfo":"1.4","typeUrl":"CDS"}
 take {"responseNonce":"3","typeUrl":"CDS"} => taken
 owes => no"#,
     )
@@ -232,8 +251,11 @@ fn a_client_resumes_at_a_replica_that_lags(rt: HostRuntime) -> Result<(), Fail> 
         rt.alloc(),
         2,
         r#"join 2-1 {"@type":"CDS","name":"A"} => 1
-take {"initialResourceVersions":{"A":"5-1","B":"6-1"},"resourceNamesSubscribe":["*"],"typeUrl":"CDS"} => taken
-poll => {"nonce":"1","removedResources":["B"],"resources":[{"name":"A","resource":{"@type":"CDS","name":"A"},"version":"2-1"}],"systemVersionInfo":"2.1","typeUrl":"CDS"}
+take {"initialResourceVersions":{"A":"5-1","B":"6-1"},"resourceNamesSubscribe":["*"],
+    "typeUrl":"CDS"} => taken
+poll => {"nonce":"1","removedResources":["B"],
+    "resources":[{"name":"A","resource":{"@type":"CDS","name":"A"},"version":"2-1"}],
+    "systemVersionInfo":"2.1","typeUrl":"CDS"}
 take {"initialResourceVersions":{"A":"5-1"},"responseNonce":"1","typeUrl":"CDS"} => taken
 owes => no
 poll => none"#,
@@ -247,10 +269,14 @@ fn what_a_client_holds_is_not_sent_again(rt: HostRuntime) -> Result<(), Fail> {
         1,
         r#"put {"@type":"RDS","name":"q"} => 1-1
 put {"@type":"RDS","name":"r"} => 2-1
-take {"initialResourceVersions":{"q":"1-1","s":"1-1"},"resourceNamesSubscribe":["q","*"],"responseNonce":"7","typeUrl":"RDS"} => taken
+take {"initialResourceVersions":{"q":"1-1","s":"1-1"},"resourceNamesSubscribe":["q","*"],
+    "responseNonce":"7","typeUrl":"RDS"} => taken
 poll => {"nonce":"1","removedResources":["*","s"],"systemVersionInfo":"1.2","typeUrl":"RDS"}
-take {"resourceNamesSubscribe":["r"],"resourceNamesUnsubscribe":["r"],"responseNonce":"1","typeUrl":"RDS"} => taken
-poll => {"nonce":"2","resources":[{"name":"r","resource":{"@type":"RDS","name":"r"},"version":"2-1"}],"systemVersionInfo":"1.2","typeUrl":"RDS"}
+take {"resourceNamesSubscribe":["r"],"resourceNamesUnsubscribe":["r"],"responseNonce":"1",
+    "typeUrl":"RDS"} => taken
+poll => {"nonce":"2",
+    "resources":[{"name":"r","resource":{"@type":"RDS","name":"r"},"version":"2-1"}],
+    "systemVersionInfo":"1.2","typeUrl":"RDS"}
 take {"responseNonce":"2","typeUrl":"RDS"} => taken
 owes => no"#,
     )
@@ -266,10 +292,15 @@ putin g1 {"@type":"CDS","name":"a"} => 1-1
 put {"@type":"CDS","name":"b"} => 2-1
 putin g2 {"@type":"CDS","name":"c"} => 3-1
 take {"resourceNamesSubscribe":["*"],"typeUrl":"CDS"} => taken
-poll => {"nonce":"1","resources":[{"name":"a","resource":{"@type":"CDS","name":"a"},"version":"1-1"},{"name":"b","resource":{"@type":"CDS","name":"b"},"version":"2-1"}],"systemVersionInfo":"1.3","typeUrl":"CDS"}
+poll => {"nonce":"1",
+    "resources":[{"name":"a","resource":{"@type":"CDS","name":"a"},"version":"1-1"},
+    {"name":"b","resource":{"@type":"CDS","name":"b"},"version":"2-1"}],"systemVersionInfo":"1.3",
+    "typeUrl":"CDS"}
 take {"responseNonce":"1","typeUrl":"CDS"} => taken
 take {"resourceNamesSubscribe":["c"],"typeUrl":"CDS"} => taken
-poll => {"nonce":"2","resources":[{"name":"c","resource":{"@type":"CDS","name":"c"},"version":"3-1"}],"systemVersionInfo":"1.3","typeUrl":"CDS"}
+poll => {"nonce":"2",
+    "resources":[{"name":"c","resource":{"@type":"CDS","name":"c"},"version":"3-1"}],
+    "systemVersionInfo":"1.3","typeUrl":"CDS"}
 take {"responseNonce":"2","typeUrl":"CDS"} => taken
 take {"resourceNamesUnsubscribe":["c"],"typeUrl":"CDS"} => taken
 poll => {"nonce":"3","removedResources":["c"],"systemVersionInfo":"1.3","typeUrl":"CDS"}
@@ -300,7 +331,9 @@ owes => yes
 refresh => 1
 refresh => 0
 owes => yes
-poll => {"nonce":"2","resources":[{"name":"7","resource":{"@type":"CDS","name":"7"},"version":"1001-1"}],"systemVersionInfo":"1.1001","typeUrl":"CDS"}
+poll => {"nonce":"2",
+    "resources":[{"name":"7","resource":{"@type":"CDS","name":"7"},"version":"1001-1"}],
+    "systemVersionInfo":"1.1001","typeUrl":"CDS"}
 delete 8 => 1002-1
 take {"responseNonce":"2","typeUrl":"CDS"} => taken
 refresh => 1

@@ -150,9 +150,42 @@ impl<V: Variant> Script for Client<V> {
 fn a_whole_response_tells_all(rt: HostRuntime) -> Result<(), Fail> {
     follow::<Client<StateOfTheWorld>, HostRuntime>(
         &rt,
-        r#"owes; due; answers 1; stale ; stale 1; sending => yes yes no no yes {}
-take; put {"@type":"CDS","name":"A"}; sending; send 1; owes; sending; answers 1; answers 2; stale 2; ack 1; owes; due; stale 2; stale 1 => taken 1-1 {A=1-1,} sent yes none yes no no taken no no yes no
-take; put {"@type":"CDS","name":"A"}; send 1; nack 1; owes; offer; sending; put {"@type":"CDS","name":"B"}; sending; send 2; ack 2; delete A; offer; due => taken 1-1 sent taken yes {A=1-1,} none 2-1 {A=1-1,B=2-1,} sent taken 3-1 {B=2-1,} yes"#,
+        r#"owes => yes
+due => yes
+answers 1 => no
+stale  => no
+stale 1 => yes
+sending => {}
+
+take => taken
+put {"@type":"CDS","name":"A"} => 1-1
+sending => {A=1-1,}
+send 1 => sent
+owes => yes
+sending => none
+answers 1 => yes
+answers 2 => no
+stale 2 => no
+ack 1 => taken
+owes => no
+due => no
+stale 2 => yes
+stale 1 => no
+
+take => taken
+put {"@type":"CDS","name":"A"} => 1-1
+send 1 => sent
+nack 1 => taken
+owes => yes
+offer => {A=1-1,}
+sending => none
+put {"@type":"CDS","name":"B"} => 2-1
+sending => {A=1-1,B=2-1,}
+send 2 => sent
+ack 2 => taken
+delete A => 3-1
+offer => {B=2-1,}
+due => yes"#,
     )
 }
 
@@ -160,10 +193,36 @@ take; put {"@type":"CDS","name":"A"}; send 1; nack 1; owes; offer; sending; put 
 fn a_response_tells_what_differs(rt: HostRuntime) -> Result<(), Fail> {
     follow::<Client<Delta>, HostRuntime>(
         &rt,
-        r#"owes; take *; put {"@type":"CDS","name":"A"}; put {"@type":"CDS","name":"B"}; sending; send 1; ack 1 *; owes; delete A; sending; send 2; take * A; ack 2 * A; sending; send 3; ack 3 * A; owes => no taken 1-1 2-1 {A=1-1,B=2-1,} sent taken no 3-1 {A-,} sent taken taken {A-,} sent taken no
-put {"@type":"CDS","name":"A"}; resume A 1-1; owes; sending => 1-1 taken no none
-put {"@type":"CDS","name":"A"}; resume A 9-1; owes; sending => 1-1 taken yes {A=1-1,}
-resume B 7-2; sending => taken {B-,}"#,
+        r#"owes => no
+take * => taken
+put {"@type":"CDS","name":"A"} => 1-1
+put {"@type":"CDS","name":"B"} => 2-1
+sending => {A=1-1,B=2-1,}
+send 1 => sent
+ack 1 * => taken
+owes => no
+delete A => 3-1
+sending => {A-,}
+send 2 => sent
+take * A => taken
+ack 2 * A => taken
+sending => {A-,}
+send 3 => sent
+ack 3 * A => taken
+owes => no
+
+put {"@type":"CDS","name":"A"} => 1-1
+resume A 1-1 => taken
+owes => no
+sending => none
+
+put {"@type":"CDS","name":"A"} => 1-1
+resume A 9-1 => taken
+owes => yes
+sending => {A=1-1,}
+
+resume B 7-2 => taken
+sending => {B-,}"#,
     )
 }
 

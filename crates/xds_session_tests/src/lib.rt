@@ -1,5 +1,6 @@
-// Tests of catalogues, of sessions of both variants with the ledger below them, and of traces with the verdict on each: worked
-// stories, and each public call once where memory is ample. Nothing else stands here.
+// Tests of catalogues, of sessions of both variants with the ledger below them, and of traces with
+// the verdict on each: worked stories, and each public call once where memory is ample. Nothing
+// else stands here.
 #![tactic(auto)]
 
 #[cfg(test)]

@@ -2,14 +2,13 @@
 use std::alloc::Global;
 use std::test::Fail;
 use xds_catalogue::Catalogue;
-use xds_resource::{Cluster, Groups, Refusal, Resource, Stamp, Write};
+use xds_resource::{Cluster, Groups, Refusal, Resource, Stamp, TypeName, Write};
 
 // One of 10,000 writes: of 2,500 names, each with four counters, by counter and then by name.
 fn numbered(alloc: Global, number: u64) -> Result<Write<Cluster>, Refusal> {
     let (name, counter) = (number % 2_500, number / 2_500 % 4 + 1);
-    let body = format!(in alloc;
-        "{{\"@type\":\"type.googleapis.com/envoy.config.cluster.v3.Cluster\",\"name\":\"{name}\",\"x\":{counter}}}"
-    )?;
+    let url = TypeName::Cluster.url();
+    let body = format!(in alloc; r#"{{"@type":"{url}","name":"{name}","x":{counter}}}"#)?;
     Ok(Write::put(
         Stamp::new(counter, 1),
         Resource::parse(alloc, body.as_str())?,
@@ -40,7 +39,8 @@ fn same_entries(
     Ok(same)
 }
 
-// How many entries `next_change` walks over, or none where a number doesn't ascend or a name doesn't stand under it.
+// How many entries `next_change` walks over, or none where a number doesn't ascend or a name
+// doesn't stand under it.
 fn walked(catalogue: &Catalogue<Cluster>) -> Option<u64> {
     let mut after = 0;
     for count in 0..10_001_u64 {
@@ -63,7 +63,8 @@ fn is_numbered(alloc: Global, write: &Write<Cluster>, number: u64) -> Result<boo
     Ok(same)
 }
 
-// Whether the next changes of a catalogue, from the first on, are the last write of each name, in order.
+// Whether the next changes of a catalogue, from the first on, are the last write of each name, in
+// order.
 fn ends_in_order(alloc: Global, sorted: &Catalogue<Cluster>) -> Result<bool, Refusal> {
     let mut after = 0;
     for place in 0..2_500_u64 {
@@ -78,8 +79,8 @@ fn ends_in_order(alloc: Global, sorted: &Catalogue<Cluster>) -> Result<bool, Ref
     Ok(true)
 }
 
-// Of the 10,000 writes in two orders: whether the same stand, how many changed in their own order, how many each walk
-// finds, and whether the last ones stand in order.
+// Of the 10,000 writes in two orders: whether the same stand, how many changed in their own order,
+// how many each walk finds, and whether the last ones stand in order.
 fn told_of_orders(
     alloc: Global,
     sorted: &Catalogue<Cluster>,
@@ -218,7 +219,8 @@ fn changes(alloc: Global, catalogue: &mut Catalogue<Cluster>, verb: &str) -> Res
     is_short(catalogue.join_all(more))
 }
 
-// Whether a change found no memory at first. It has changed nothing then, and is made when it comes again.
+// Whether a change found no memory at first. It has changed nothing then, and is made when it comes
+// again.
 fn changes_again(
     alloc: Global,
     catalogue: &mut Catalogue<Cluster>,
@@ -241,7 +243,8 @@ fn is_refused(alloc: Global, verb: &str) -> Result<bool, Refusal> {
     changes_again(alloc, &mut catalogue, &before, verb)
 }
 
-// With ample memory each change is made at once; `bench/refused.py` refuses one allocation after another.
+// With ample memory each change is made at once; `bench/refused.py` refuses one allocation after
+// another.
 #[test]
 fn each_change_without_memory(rt: HostRuntime) -> Result<(), Fail> {
     for verb in ["put", "delete", "join_write", "join_all"] {

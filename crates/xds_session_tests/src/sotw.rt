@@ -92,11 +92,69 @@ fn outcome_text(alloc: Global, outcome: Result<Outcome, Refusal>) -> Result<Stri
 fn clusters_are_told(rt: HostRuntime) -> Result<(), Fail> {
     follow::<Stream<Cluster>, HostRuntime>(
         &rt,
-        r#"take {"typeUrl":"CDS"}; poll => taken {"nonce":"1","typeUrl":"CDS","versionInfo":"1.0"}
-put {"@type":"CDS","name":"A"}; put {"@type":"CDS","name":"B"}; take {"typeUrl":"CDS"}; poll; take {"responseNonce":"1","typeUrl":"CDS"}; poll; take {"resourceNames":["*","A"],"responseNonce":"1","typeUrl":"CDS"}; poll; take {"resourceNames":["*","A"],"responseNonce":"2","typeUrl":"CDS"}; poll; take {"resourceNames":["A"],"responseNonce":"2","typeUrl":"CDS"}; poll; take {"resourceNames":["A"],"responseNonce":"3","typeUrl":"CDS"}; poll; take {"responseNonce":"3","typeUrl":"CDS"}; poll; owes => 1-1 2-1 taken {"nonce":"1","resources":[{"@type":"CDS","name":"A"},{"@type":"CDS","name":"B"}],"typeUrl":"CDS","versionInfo":"1.2"} taken none taken {"nonce":"2","resources":[{"@type":"CDS","name":"A"},{"@type":"CDS","name":"B"}],"typeUrl":"CDS","versionInfo":"1.2"} taken none taken {"nonce":"3","resources":[{"@type":"CDS","name":"A"}],"typeUrl":"CDS","versionInfo":"1.2.named"} taken none taken none quiet
-put {"@type":"CDS","name":"A"}; put {"@type":"CDS","name":"B"}; take {"typeUrl":"CDS"}; poll; take {"resourceNames":["*","A"],"responseNonce":"1","typeUrl":"CDS"}; poll; take {"resourceNames":["A"],"responseNonce":"2","typeUrl":"CDS"}; poll; take {"responseNonce":"3","typeUrl":"CDS"}; poll; owes => 1-1 2-1 taken {"nonce":"1","resources":[{"@type":"CDS","name":"A"},{"@type":"CDS","name":"B"}],"typeUrl":"CDS","versionInfo":"1.2"} taken {"nonce":"2","resources":[{"@type":"CDS","name":"A"},{"@type":"CDS","name":"B"}],"typeUrl":"CDS","versionInfo":"1.2"} taken {"nonce":"3","resources":[{"@type":"CDS","name":"A"}],"typeUrl":"CDS","versionInfo":"1.2.named"} taken none quiet
-owes; poll; take {"typeUrl":"CDS"}; owes; poll; owes; take {"responseNonce":"1","typeUrl":"CDS"}; owes; take {"responseNonce":"1","typeUrl":"CDS"}; owes; poll; take {"responseNonce":"9","typeUrl":"CDS"}; poll => quiet none taken owes {"nonce":"1","typeUrl":"CDS","versionInfo":"1.0"} owes taken quiet taken quiet none ignored none
-put {"@type":"CDS","name":"A"}; take {"errorDetail":{},"responseNonce":"9","typeUrl":"CDS"}; poll; take {"errorDetail":{"code":3},"responseNonce":"1","typeUrl":"CDS"}; owes; poll; put {"@type":"CDS","name":"B"}; delete A; poll => 1-1 taken {"nonce":"1","resources":[{"@type":"CDS","name":"A"}],"typeUrl":"CDS","versionInfo":"1.1"} taken owes none 2-1 3-1 {"nonce":"2","resources":[{"@type":"CDS","name":"B"}],"typeUrl":"CDS","versionInfo":"1.3"}"#,
+        r#"take {"typeUrl":"CDS"} => taken
+poll => {"nonce":"1","typeUrl":"CDS","versionInfo":"1.0"}
+
+put {"@type":"CDS","name":"A"} => 1-1
+put {"@type":"CDS","name":"B"} => 2-1
+take {"typeUrl":"CDS"} => taken
+poll => {"nonce":"1","resources":[{"@type":"CDS","name":"A"},{"@type":"CDS","name":"B"}],
+    "typeUrl":"CDS","versionInfo":"1.2"}
+take {"responseNonce":"1","typeUrl":"CDS"} => taken
+poll => none
+take {"resourceNames":["*","A"],"responseNonce":"1","typeUrl":"CDS"} => taken
+poll => {"nonce":"2","resources":[{"@type":"CDS","name":"A"},{"@type":"CDS","name":"B"}],
+    "typeUrl":"CDS","versionInfo":"1.2"}
+take {"resourceNames":["*","A"],"responseNonce":"2","typeUrl":"CDS"} => taken
+poll => none
+take {"resourceNames":["A"],"responseNonce":"2","typeUrl":"CDS"} => taken
+poll => {"nonce":"3","resources":[{"@type":"CDS","name":"A"}],"typeUrl":"CDS",
+    "versionInfo":"1.2.named"}
+take {"resourceNames":["A"],"responseNonce":"3","typeUrl":"CDS"} => taken
+poll => none
+take {"responseNonce":"3","typeUrl":"CDS"} => taken
+poll => none
+owes => quiet
+
+put {"@type":"CDS","name":"A"} => 1-1
+put {"@type":"CDS","name":"B"} => 2-1
+take {"typeUrl":"CDS"} => taken
+poll => {"nonce":"1","resources":[{"@type":"CDS","name":"A"},{"@type":"CDS","name":"B"}],
+    "typeUrl":"CDS","versionInfo":"1.2"}
+take {"resourceNames":["*","A"],"responseNonce":"1","typeUrl":"CDS"} => taken
+poll => {"nonce":"2","resources":[{"@type":"CDS","name":"A"},{"@type":"CDS","name":"B"}],
+    "typeUrl":"CDS","versionInfo":"1.2"}
+take {"resourceNames":["A"],"responseNonce":"2","typeUrl":"CDS"} => taken
+poll => {"nonce":"3","resources":[{"@type":"CDS","name":"A"}],"typeUrl":"CDS",
+    "versionInfo":"1.2.named"}
+take {"responseNonce":"3","typeUrl":"CDS"} => taken
+poll => none
+owes => quiet
+
+owes => quiet
+poll => none
+take {"typeUrl":"CDS"} => taken
+owes => owes
+poll => {"nonce":"1","typeUrl":"CDS","versionInfo":"1.0"}
+owes => owes
+take {"responseNonce":"1","typeUrl":"CDS"} => taken
+owes => quiet
+take {"responseNonce":"1","typeUrl":"CDS"} => taken
+owes => quiet
+poll => none
+take {"responseNonce":"9","typeUrl":"CDS"} => ignored
+poll => none
+
+put {"@type":"CDS","name":"A"} => 1-1
+take {"errorDetail":{},"responseNonce":"9","typeUrl":"CDS"} => taken
+poll => {"nonce":"1","resources":[{"@type":"CDS","name":"A"}],"typeUrl":"CDS","versionInfo":"1.1"}
+take {"errorDetail":{"code":3},"responseNonce":"1","typeUrl":"CDS"} => taken
+owes => owes
+poll => none
+put {"@type":"CDS","name":"B"} => 2-1
+delete A => 3-1
+poll => {"nonce":"2","resources":[{"@type":"CDS","name":"B"}],"typeUrl":"CDS",
+    "versionInfo":"1.3"}"#,
     )
 }
 
@@ -104,9 +162,38 @@ put {"@type":"CDS","name":"A"}; take {"errorDetail":{},"responseNonce":"9","type
 fn routes_are_told(rt: HostRuntime) -> Result<(), Fail> {
     follow::<Stream<Route>, HostRuntime>(
         &rt,
-        r#"take {"resourceNames":["q"],"typeUrl":"RDS"}; poll; put {"@type":"RDS","name":"q"}; poll => taken none 1-1 {"nonce":"1","resources":[{"@type":"RDS","name":"q"}],"typeUrl":"RDS","versionInfo":"1.1.named"}
-put {"@type":"RDS","name":"a"}; put {"@type":"RDS","name":"b"}; take {"resourceNames":["a"],"typeUrl":"RDS"}; poll; take {"resourceNames":["a"],"responseNonce":"1","typeUrl":"RDS"}; put {"@type":"RDS","name":"a"}; poll; take {"resourceNames":["a","b"],"responseNonce":"1","typeUrl":"RDS"}; poll; take {"resourceNames":["a","b"],"responseNonce":"2","typeUrl":"RDS"}; poll => 1-1 2-1 taken {"nonce":"1","resources":[{"@type":"RDS","name":"a"}],"typeUrl":"RDS","versionInfo":"1.2.named"} taken 3-1 {"nonce":"2","resources":[{"@type":"RDS","name":"a"}],"typeUrl":"RDS","versionInfo":"1.3.named"} taken none taken {"nonce":"3","resources":[{"@type":"RDS","name":"b"}],"typeUrl":"RDS","versionInfo":"1.3.named"}
-put {"@type":"RDS","name":"a"}; take {"resourceNames":["a"],"typeUrl":"RDS"}; poll; take {"resourceNames":["a"],"responseNonce":"1","typeUrl":"RDS"}; delete a; owes; poll; take {"typeUrl":"RDS"}; take {"responseNonce":"7","typeUrl":"RDS"}; poll => 1-1 taken {"nonce":"1","resources":[{"@type":"RDS","name":"a"}],"typeUrl":"RDS","versionInfo":"1.1.named"} taken 2-1 quiet none taken ignored none"#,
+        r#"take {"resourceNames":["q"],"typeUrl":"RDS"} => taken
+poll => none
+put {"@type":"RDS","name":"q"} => 1-1
+poll => {"nonce":"1","resources":[{"@type":"RDS","name":"q"}],"typeUrl":"RDS",
+    "versionInfo":"1.1.named"}
+
+put {"@type":"RDS","name":"a"} => 1-1
+put {"@type":"RDS","name":"b"} => 2-1
+take {"resourceNames":["a"],"typeUrl":"RDS"} => taken
+poll => {"nonce":"1","resources":[{"@type":"RDS","name":"a"}],"typeUrl":"RDS",
+    "versionInfo":"1.2.named"}
+take {"resourceNames":["a"],"responseNonce":"1","typeUrl":"RDS"} => taken
+put {"@type":"RDS","name":"a"} => 3-1
+poll => {"nonce":"2","resources":[{"@type":"RDS","name":"a"}],"typeUrl":"RDS",
+    "versionInfo":"1.3.named"}
+take {"resourceNames":["a","b"],"responseNonce":"1","typeUrl":"RDS"} => taken
+poll => none
+take {"resourceNames":["a","b"],"responseNonce":"2","typeUrl":"RDS"} => taken
+poll => {"nonce":"3","resources":[{"@type":"RDS","name":"b"}],"typeUrl":"RDS",
+    "versionInfo":"1.3.named"}
+
+put {"@type":"RDS","name":"a"} => 1-1
+take {"resourceNames":["a"],"typeUrl":"RDS"} => taken
+poll => {"nonce":"1","resources":[{"@type":"RDS","name":"a"}],"typeUrl":"RDS",
+    "versionInfo":"1.1.named"}
+take {"resourceNames":["a"],"responseNonce":"1","typeUrl":"RDS"} => taken
+delete a => 2-1
+owes => quiet
+poll => none
+take {"typeUrl":"RDS"} => taken
+take {"responseNonce":"7","typeUrl":"RDS"} => ignored
+poll => none"#,
     )
 }
 
@@ -114,10 +201,39 @@ put {"@type":"RDS","name":"a"}; take {"resourceNames":["a"],"typeUrl":"RDS"}; po
 fn a_star_covers_the_groups_of_its_cluster(rt: HostRuntime) -> Result<(), Fail> {
     follow::<Stream<Cluster>, HostRuntime>(
         &rt,
-        r#"putin g1 {"@type":"CDS","name":"a"}; put {"@type":"CDS","name":"b"}; putin g2 {"@type":"CDS","name":"c"}; cluster g1; take {"typeUrl":"CDS"}; poll => 1-1 2-1 3-1 of taken {"nonce":"1","resources":[{"@type":"CDS","name":"a"},{"@type":"CDS","name":"b"}],"typeUrl":"CDS","versionInfo":"1.3@g1"}
-putin g1 {"@type":"CDS","name":"a"}; put {"@type":"CDS","name":"b"}; putin g2 {"@type":"CDS","name":"c"}; take {"typeUrl":"CDS"}; poll => 1-1 2-1 3-1 taken {"nonce":"1","resources":[{"@type":"CDS","name":"b"}],"typeUrl":"CDS","versionInfo":"1.3"}
-putin g1 {"@type":"CDS","name":"a"}; put {"@type":"CDS","name":"b"}; putin g2 {"@type":"CDS","name":"c"}; cluster g1; take {"resourceNames":["c"],"typeUrl":"CDS"}; poll => 1-1 2-1 3-1 of taken {"nonce":"1","resources":[{"@type":"CDS","name":"c"}],"typeUrl":"CDS","versionInfo":"1.3.named"}
-putin g1,g2 {"@type":"CDS","name":"a"}; cluster g2; take {"typeUrl":"CDS"}; poll; take {"responseNonce":"1","typeUrl":"CDS"}; owes; putin g1 {"@type":"CDS","name":"a"}; poll; take {"responseNonce":"2","typeUrl":"CDS"}; owes => 1-1 of taken {"nonce":"1","resources":[{"@type":"CDS","name":"a"}],"typeUrl":"CDS","versionInfo":"1.1@g2"} taken quiet 2-1 {"nonce":"2","typeUrl":"CDS","versionInfo":"1.2@g2"} taken quiet"#,
+        r#"putin g1 {"@type":"CDS","name":"a"} => 1-1
+put {"@type":"CDS","name":"b"} => 2-1
+putin g2 {"@type":"CDS","name":"c"} => 3-1
+cluster g1 => of
+take {"typeUrl":"CDS"} => taken
+poll => {"nonce":"1","resources":[{"@type":"CDS","name":"a"},{"@type":"CDS","name":"b"}],
+    "typeUrl":"CDS","versionInfo":"1.3@g1"}
+
+putin g1 {"@type":"CDS","name":"a"} => 1-1
+put {"@type":"CDS","name":"b"} => 2-1
+putin g2 {"@type":"CDS","name":"c"} => 3-1
+take {"typeUrl":"CDS"} => taken
+poll => {"nonce":"1","resources":[{"@type":"CDS","name":"b"}],"typeUrl":"CDS","versionInfo":"1.3"}
+
+putin g1 {"@type":"CDS","name":"a"} => 1-1
+put {"@type":"CDS","name":"b"} => 2-1
+putin g2 {"@type":"CDS","name":"c"} => 3-1
+cluster g1 => of
+take {"resourceNames":["c"],"typeUrl":"CDS"} => taken
+poll => {"nonce":"1","resources":[{"@type":"CDS","name":"c"}],"typeUrl":"CDS",
+    "versionInfo":"1.3.named"}
+
+putin g1,g2 {"@type":"CDS","name":"a"} => 1-1
+cluster g2 => of
+take {"typeUrl":"CDS"} => taken
+poll => {"nonce":"1","resources":[{"@type":"CDS","name":"a"}],"typeUrl":"CDS",
+    "versionInfo":"1.1@g2"}
+take {"responseNonce":"1","typeUrl":"CDS"} => taken
+owes => quiet
+putin g1 {"@type":"CDS","name":"a"} => 2-1
+poll => {"nonce":"2","typeUrl":"CDS","versionInfo":"1.2@g2"}
+take {"responseNonce":"2","typeUrl":"CDS"} => taken
+owes => quiet"#,
     )
 }
 
@@ -125,7 +241,14 @@ putin g1,g2 {"@type":"CDS","name":"a"}; cluster g2; take {"typeUrl":"CDS"}; poll
 fn secrets_are_told_by_name(rt: HostRuntime) -> Result<(), Fail> {
     follow::<Stream<Secret>, HostRuntime>(
         &rt,
-        r#"put {"@type":"SDS","name":"s"}; take {"resourceNames":["s"],"typeUrl":"SDS"}; poll => 1-1 taken {"nonce":"1","resources":[{"@type":"SDS","name":"s"}],"typeUrl":"SDS","versionInfo":"1.1.named"}
-put {"@type":"SDS","name":"s"}; take {"typeUrl":"SDS"}; poll; owes => 1-1 taken none quiet"#,
+        r#"put {"@type":"SDS","name":"s"} => 1-1
+take {"resourceNames":["s"],"typeUrl":"SDS"} => taken
+poll => {"nonce":"1","resources":[{"@type":"SDS","name":"s"}],"typeUrl":"SDS",
+    "versionInfo":"1.1.named"}
+
+put {"@type":"SDS","name":"s"} => 1-1
+take {"typeUrl":"SDS"} => taken
+poll => none
+owes => quiet"#,
     )
 }

@@ -6,7 +6,7 @@ ghost use Rattle.xds_ledger.specs.Listed.{IsLater};
 use std::alloc::Global;
 use std::mem;
 use std::test::Fail;
-use xds_cases::cases::{replaced, told, words_of, written_out};
+use xds_cases::cases::{replaced, told, unfolded, words_of, written_out};
 use xds_catalogue::Catalogue;
 use xds_resource::{Groups, Refusal, Resource, ResourceType, Stamp, Write};
 
@@ -17,11 +17,13 @@ pub trait Actor {
     fn answer(&mut self, alloc: Global, verb: &str, rest: &str) -> Result<String, Refusal>;
 }
 
-/// Compares the answer to each step with the one that is wanted, where the steps are done in their order. In a story the
-/// types' URLs are written short, as in a table of cases.
+/// Compares the answer to each step with the one that is wanted, where the steps are done in their
+/// order. As in a table of cases, a line that begins with four spaces goes on with the line before
+/// it, and the types' URLs are written short.
 pub(crate) fn hold<A: Actor + Drop>(alloc: Global, replica: u16, story: &str) -> Result<(), Fail> {
     let mut actor = A::new(alloc, replica);
-    for line in story.lines() {
+    let story = unfolded(alloc, story)?;
+    for line in story.as_str().lines() {
         hold_one(alloc, &mut actor, line)?;
     }
     Ok(())
@@ -59,7 +61,8 @@ pub(crate) fn text(alloc: Global, text: &str) -> Result<String, Refusal> {
     Ok(String::from_str(alloc, text)?)
 }
 
-/// What a step that changes a catalogue answers: the version of a local write, or by how much the changes grew.
+/// What a step that changes a catalogue answers: the version of a local write, or by how much the
+/// changes grew.
 pub(crate) fn change<T: ResourceType>(
     alloc: Global,
     catalogue: &mut Catalogue<T>,

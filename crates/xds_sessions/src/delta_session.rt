@@ -1,53 +1,24 @@
 // What an incremental (delta) client asked for of one type, and what it was told.
-ghost use Rattle.std.specs.Prelude.{◌≡◌, ◌<◌, ◌≤◌, ◌⊎◌, true, false, if◌then◌else◌, is_some, IsSome, IfSome, IfOk, IfErr, OnOk, OnErr};
+ghost use Rattle.std.specs.Prelude.{◌≡◌, true, false, IfOk, IfErr, OnOk, OnErr};
 ghost use Rattle.std.specs.FinMap as finmap;
-ghost use Rattle.xds_resource.specs.Stamps.{max_counter};
-ghost use Rattle.xds_resource.specs.declared.refusal.Refusal.TheVariants.{OutOfMemory, NonceSpent};
+ghost use Rattle.xds_resource.specs.declared.refusal.Refusal.TheVariants.{OutOfMemory};
 ghost use Rattle.xds_interest.specs.Touches.{delta_touch};
-ghost use Rattle.xds_ledger.specs.Offers.{offer};
 ghost use Rattle.xds_ledger.specs.declared.variant.VariantName.TheVariants as variants;
-ghost use Rattle.xds_ledger.specs.Sessions.{is_stale, outcome, send};
-ghost use Rattle.xds_ledger.specs.Lists.{FitsNext, SessionFits, StaysFit, new_kept};
-ghost use Rattle.xds_catalogue.specs.Holdings.{Holdings};
-ghost use Rattle.xds_ledger.specs.Listed.{changed_since};
+ghost use Rattle.xds_ledger.specs.Sessions.{outcome};
+ghost use Rattle.xds_ledger.specs.Lists.{FitsNext, StaysFit};
 ghost use Rattle.xds_sessions.specs.DeltaParts.{account_after, account_taken, session_taken};
 ghost use Rattle.xds_sessions.specs.DeltaPolls as polls;
-ghost use Rattle.xds_sessions.specs.DeltaPolls.{HasPolled, mention, sending, response as response_of};
+ghost use Rattle.xds_sessions.specs.DeltaPolls.{mention};
 
-use crate::delta_response::response;
+use crate::session;
 use std::alloc::Global;
-use std::marker::Model;
-use xds_catalogue::Catalogue;
-use xds_interest::{ClusterText, DeltaNames, Interest, Touched};
-use xds_ledger::{Delta, Due, Ledger, Nonces, Outcome};
-use xds_message::{DeltaDiscoveryRequest, DeltaDraft};
-use xds_resource::{NameMap, Refusal, ResourceType};
+use xds_interest::{DeltaNames, Interest, Touched};
+use xds_ledger::{Delta, Ledger, Outcome};
+use xds_message::DeltaDiscoveryRequest;
+use xds_resource::{Refusal, ResourceType};
 
 /// One type on one stream, in the incremental variant.
-pub struct Session<T: ResourceType> {
-    names: DeltaNames<T>,
-    ledger: Ledger<T, Delta>,
-}
-
-// Written out: docs/PROVING.md, "Drops".
-impl<T: ResourceType> Drop for Session<T> {
-    fn drop(self) {
-        let Session {
-            names: _,
-            ledger: _,
-        } = self;
-    }
-}
-
-impl<T: ResourceType> Model for Session<T> {
-    ghost use Rattle.xds_ledger.specs.Lists.{Kept, kept_code};
-
-    ghost Value = { Kept };
-
-    ghost coded = { kept_code };
-
-    ghost view = { λ s. record { session = record { asked = s.names; account = s.ledger.account }; listed = s.ledger.listed } };
-}
+pub type Session<T> = session::Session<T, Delta>;
 
 // Takes the first request's names: those that it subscribes are mentioned, and it says which versions the client holds.
 fn take_first<T: ResourceType>(
@@ -124,18 +95,7 @@ fn take_names<T: ResourceType>(
     }
 }
 
-impl<T: ResourceType> Session<T> {
-    /// Before the first request, of a client with this cluster text. It is owed nothing.
-    pub fn new(alloc: Global, cluster: ClusterText) -> Session<T>
-        ensures new { result ≡ new_kept cluster }
-        ensures fits { (h : Holdings) → SessionFits variants.Delta T.TYPE h result }
-    {
-        Session {
-            names: DeltaNames::new(alloc, cluster),
-            ledger: Ledger::new(alloc),
-        }
-    }
-
+impl<T: ResourceType> session::Session<T, Delta> {
     /// Takes a request of this type: it settles the response that it answers, and its names are taken. One whose
     /// nonce is out of date is ignored; the first is taken in any case, and it alone says which versions the client
     /// holds. Refused only by `OutOfMemory`, and then nothing is taken.
@@ -212,143 +172,5 @@ impl<T: ResourceType> Session<T> {
         }
         self.names.narrow(&wanted, unsubscribe);
         Ok(())
-    }
-
-    // Whether a request with this nonce is stale, so that it is ignored.
-    fn is_stale(&self, nonce: &str) -> bool
-        ensures { result ≡ is_stale self.now.session nonce.now }
-    {
-        self.names.has_begun() && self.ledger.is_stale(nonce)
-    }
-
-    /// Whether the client is owed something: a response of the type is unanswered or due. It takes no memory.
-    pub fn owes(&self, catalogue: &Catalogue<T>) -> bool
-        requires { SessionFits variants.Delta T.TYPE catalogue.now self.now }
-        ensures { result ≡ polls.owes T.TYPE self.now.session catalogue.now.entries }
-    {
-        self.names.has_begun() && self.ledger.owes(self.names.interest(), catalogue)
-    }
-
-    /// Whether `poll` has a response to send, be there a nonce for it or not. It takes no memory.
-    pub fn sends(&self, catalogue: &Catalogue<T>) -> bool
-        requires { SessionFits variants.Delta T.TYPE catalogue.now self.now }
-        ensures { result ≡ is_some (sending T.TYPE self.now.session catalogue.now.entries) }
-    {
-        self.names.has_begun() && self.ledger.sends(self.names.interest(), catalogue)
-    }
-
-    /// What a response says now, and that response as the one of this number, be one to be sent or not. Refused only by
-    /// `OutOfMemory`.
-    pub fn respond(
-        &self,
-        alloc: Global,
-        replica: u16,
-        catalogue: &Catalogue<T>,
-        number: u64,
-    ) -> Result<(NameMap<Due>, DeltaDraft), Refusal>
-        requires { SessionFits variants.Delta T.TYPE catalogue.now self.now }
-        ensures offer { IfOk result (λ p. p.0 ≡ offer variants.Delta T.TYPE self.now.session.asked.interest catalogue.now.entries self.now.session.account.beliefs) }
-        ensures draft { IfOk result (λ p. p.1 ≡ response_of replica T.TYPE catalogue.now p.0 number) }
-        ensures refused { IfErr result (λ e. e ≡ OutOfMemory) }
-    {
-        let interest = self.names.interest();
-        let offer = self.ledger.offer(alloc, interest, catalogue)?;
-        let draft = response(alloc, replica, catalogue, &offer, number)?;
-        Ok((offer, draft))
-    }
-
-    /// Lists the names that changed since the session was refreshed last, and answers how many these are; none before the
-    /// first request. Refused only by `OutOfMemory`, and then the session is as it was.
-    pub fn refresh(&mut self, alloc: Global, catalogue: &Catalogue<T>) -> Result<u64, Refusal>
-        requires { SessionFits variants.Delta T.TYPE catalogue.now self.old }
-        ensures same { self.new.session ≡ self.old.session }
-        ensures fits { SessionFits variants.Delta T.TYPE catalogue.now self.new }
-        ensures count { IfOk result (λ n. n ≡ (if self.old.session.asked.begun then finmap.len (changed_since catalogue.now self.old.listed.mark) else 0)) }
-        ensures mark { OnOk result (self.old.session.asked.begun ≡ true → self.new.listed.mark ≡ catalogue.now.changes) }
-        ensures err { OnErr result (self.new ≡ self.old) }
-        ensures refused { IfErr result (λ e. e ≡ OutOfMemory) }
-    {
-        if !self.names.has_begun() {
-            return Ok(0);
-        }
-        self.ledger.refresh(alloc, catalogue)
-    }
-
-    /// Looks at what changed since, and lets the names go that are owed nothing, as far as there is memory for it.
-    pub fn tidy(&mut self, alloc: Global, catalogue: &Catalogue<T>)
-        requires { SessionFits variants.Delta T.TYPE catalogue.now self.old }
-        ensures same { self.new.session ≡ self.old.session }
-        ensures fits { SessionFits variants.Delta T.TYPE catalogue.now self.new }
-    {
-        if !self.names.has_begun() {
-            return;
-        }
-        self.ledger.tidy(alloc, self.names.interest(), catalogue);
-    }
-
-    /// The next response, if one is to be sent: nothing of the type is unanswered, something is owed, and it isn't
-    /// what the client refused. It states and removes all that is owed. `replica` is the number of this replica.
-    /// Refused only where a response is to be sent: by `NonceSpent` where the stream has no nonce left, and else by
-    /// `OutOfMemory`; then nothing is sent, and no nonce is drawn.
-    pub fn poll(
-        &mut self,
-        alloc: Global,
-        replica: u16,
-        catalogue: &Catalogue<T>,
-        nonces: &mut Nonces,
-    ) -> Result<Option<DeltaDraft>, Refusal>
-        requires { SessionFits variants.Delta T.TYPE catalogue.now self.old }
-        ensures ok { IfOk result (λ answer. HasPolled replica T.TYPE catalogue.now self.old.session nonces.old answer self.new.session nonces.new) }
-        ensures bound { IfOk result (λ answer. IfSome answer (λ _. nonces.new ≤ max_counter)) }
-        ensures fits { SessionFits variants.Delta T.TYPE catalogue.now self.new }
-        ensures err { OnErr result ((self.new.session ≡ self.old.session) × (nonces.new ≡ nonces.old)) }
-        ensures refused { IfErr result (λ e. IsSome (sending T.TYPE self.old.session catalogue.now.entries) × (((e ≡ NonceSpent) × (nonces.old ≡ max_counter)) ⊎ ((e ≡ OutOfMemory) × (nonces.old < max_counter)))) }
-    {
-        self.tidy(alloc, catalogue);
-        self.poll_tidied(alloc, replica, catalogue, nonces)
-    }
-
-    // The next response, from the list as it is.
-    fn poll_tidied(
-        &mut self,
-        alloc: Global,
-        replica: u16,
-        catalogue: &Catalogue<T>,
-        nonces: &mut Nonces,
-    ) -> Result<Option<DeltaDraft>, Refusal>
-        requires { SessionFits variants.Delta T.TYPE catalogue.now self.old }
-        ensures ok { IfOk result (λ answer. HasPolled replica T.TYPE catalogue.now self.old.session nonces.old answer self.new.session nonces.new) }
-        ensures bound { IfOk result (λ answer. IfSome answer (λ _. nonces.new ≤ max_counter)) }
-        ensures fits { SessionFits variants.Delta T.TYPE catalogue.now self.new }
-        ensures err { OnErr result ((self.new.session ≡ self.old.session) × (nonces.new ≡ nonces.old)) }
-        ensures refused { IfErr result (λ e. IsSome (sending T.TYPE self.old.session catalogue.now.entries) × (((e ≡ NonceSpent) × (nonces.old ≡ max_counter)) ⊎ ((e ≡ OutOfMemory) × (nonces.old < max_counter)))) }
-    {
-        if !self.sends(catalogue) {
-            return Ok(None);
-        }
-        let mut drawn = *nonces;
-        let number = drawn.next()?;
-        let (offer, draft) = self.respond(alloc, replica, catalogue, number)?;
-        *nonces = drawn;
-        self.ledger.send(alloc, offer, number);
-        Ok(Some(draft))
-    }
-
-    /// Notes that a response with this offer was sent, as the one of this number. It takes no memory.
-    pub fn send(&mut self, alloc: Global, offer: NameMap<Due>, number: u64)
-        ensures { self.new ≡ record self.old { session = send self.old.session offer number } }
-    {
-        self.ledger.send(alloc, offer, number);
-    }
-
-    /// An equal session, with memory of its own. Refused only by `OutOfMemory`.
-    pub fn try_copy(&self, alloc: Global) -> Result<Session<T>, Refusal>
-        ensures ok { IfOk result (λ s. s ≡ self.now) }
-        ensures err { IfErr result (λ e. e ≡ OutOfMemory) }
-    {
-        Ok(Session {
-            names: self.names.try_copy(alloc)?,
-            ledger: self.ledger.try_copy(alloc)?,
-        })
     }
 }

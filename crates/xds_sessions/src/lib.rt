@@ -6,7 +6,11 @@ mod delta_response;
 pub mod delta_session;
 pub mod laws;
 mod rest;
+pub mod session;
 mod sotw_response;
 pub mod sotw_session;
+pub mod speaks;
 
 pub use rest::rested;
+pub use session::Session;
+pub use speaks::Speaks;

@@ -91,8 +91,8 @@ pub(crate) fn asked<A: Host, R: Wait>(
     Ok(stream)
 }
 
-// What a reader and a writer answer, and how many bytes were written: where the stream isn't open, and where a write fails and
-// the stream is asked once more.
+// What a reader and a writer answer, and how many bytes were written: where the stream isn't open,
+// and where a write fails and the stream is asked once more.
 #[derive(Drop)]
 struct Streams {
     read: Result<(), Refusal>,
@@ -162,7 +162,8 @@ struct Full {
     receipt: Option<Receipt>,
 }
 
-// An exchange of a node: what telling comes to, how many of the parcels of one empty batch were dropped, and the receipt.
+// An exchange of a node: what telling comes to, how many of the parcels of one empty batch were
+// dropped, and the receipt.
 fn exchanged<A: Host, R: Wait>(
     rt: &R,
     alloc: Global,

@@ -17,8 +17,10 @@ use xds_frames::{FrameKind, write_frame};
 use xds_node::{Host, Line, MOST_RECORDS, Node, NodeName, Opened};
 use xds_resource::Refusal;
 
-const WITH_A: &[u8] =
-    b"{\"nonce\":\"1\",\"resources\":[{\"@type\":\"type.googleapis.com/envoy.config.cluster.v3.Cluster\",\"name\":\"a\"}],\"typeUrl\":\"type.googleapis.com/envoy.config.cluster.v3.Cluster\",\"versionInfo\":\"1.1\"}";
+const WITH_A: &[u8] = b"{\"nonce\":\"1\",\
+     \"resources\":[{\"@type\":\"type.googleapis.com/envoy.config.cluster.v3.Cluster\",\
+     \"name\":\"a\"}],\"typeUrl\":\"type.googleapis.com/envoy.config.cluster.v3.Cluster\",\
+     \"versionInfo\":\"1.1\"}";
 
 // How often a node is cut at most.
 const MOST_TURNS: u64 = 1_000_000;
@@ -30,7 +32,8 @@ fn stream_of<A: Site, R: Wait>(rt: &R, node: &A) -> Result<(u64, (A::Seat, A::Se
     both(stream, Ok(seats))
 }
 
-// Once the other stream is held a cluster is put, and this stream is served whole. Then the other is let go.
+// Once the other stream is held a cluster is put, and this stream is served whole. Then the other
+// is let go.
 fn goes_on<A: Host + Sync, R: Threads + Wait + Sync>(
     rt: &R,
     alloc: Global,
@@ -53,7 +56,8 @@ where
     both(done, Ok(served))
 }
 
-// Serves two streams that send the same bytes, of which the first is held, and comes in pieces of this size.
+// Serves two streams that send the same bytes, of which the first is held, and comes in pieces of
+// this size.
 fn beside<A: Site + Sync, R: Threads + Wait + Sync>(
     rt: &R,
     alloc: Global,
@@ -78,7 +82,8 @@ where
     Ok((served, other))
 }
 
-// What is answered where a journal is full: to looks that fill it, to a put, to the same put once it was cut, and what is held then.
+// What is answered where a journal is full: to looks that fill it, to a put, to the same put once
+// it was cut, and what is held then.
 #[derive(Drop)]
 struct Full {
     filled: Result<(), Refusal>,
@@ -167,7 +172,8 @@ fn found_room(full: &Full) -> Result<(), Fail> {
     )
 }
 
-// A cluster was put and the other stream served meanwhile, and this one once it could be written to.
+// A cluster was put and the other stream served meanwhile, and this one once it could be written
+// to.
 fn held_nobody(alloc: Global, came: &((Served, Served), Full)) -> Result<(), Fail> {
     let ((slow, quick), full) = came;
     wrote(alloc, quick, WITH_A)?;
@@ -196,7 +202,8 @@ fn cuts<A: Host, R: Wait>(rt: &R, node: &A, slow: &Held) -> Result<u64, Refusal>
     Ok(MOST_TURNS)
 }
 
-// The first of two streams is held within its frame until the other was served, and the node is cut all the while.
+// The first of two streams is held within its frame until the other was served, and the node is cut
+// all the while.
 fn half_and_cut<A: Site + Sync, R: Threads + Wait + Sync>(
     rt: &R,
     alloc: Global,

@@ -7,8 +7,8 @@ use xds_core::{Event, Reply};
 use xds_node::{Host, Unrecorded, called};
 use xds_resource::{AnyResource, Groups, Refusal};
 
-/// What is looked for in what a call of a node answers. It is told by reference, and dropped by a function that doesn't know the
-/// type.
+/// What is looked for in what a call of a node answers. It is told by reference, and dropped by a
+/// function that doesn't know the type.
 pub(crate) trait Told: Drop {
     /// The refusal, if it is one.
     fn refused(&self) -> Result<(), Refusal>;

@@ -103,7 +103,8 @@ fn workers<A: Site, R: Wait>(
     Ok(workers)
 }
 
-// Asks whether a stream that was never opened is owed something. Where the journal is full it is cut.
+// Asks whether a stream that was never opened is owed something. Where the journal is full it is
+// cut.
 fn look<A: Host, R: Wait>(
     rt: &R,
     node: &A,

@@ -241,7 +241,8 @@ fn what_a_stopped_node_holds_comes_to_another(rt: HostRuntime) -> Result<(), Fai
     told_b(&outcome)
 }
 
-// Puts so many clusters, each once the one before came to another node. Where the journal is full it is cut.
+// Puts so many clusters, each once the one before came to another node. Where the journal is full
+// it is cut.
 fn puts_each<A: Host, B: Host, R: Wait>(
     rt: &R,
     alloc: Global,
@@ -293,7 +294,8 @@ where
     exchange(rt, alloc, from, to, ready)
 }
 
-// Two nodes with short journals, where so many clusters come one by one. Answers also how often the second was cut.
+// Two nodes with short journals, where so many clusters come one by one. Answers also how often the
+// second was cut.
 fn shortly<A: Site + Sync, B: Site + Sync, R: Threads + Wait + Sync>(
     rt: &R,
     alloc: Global,

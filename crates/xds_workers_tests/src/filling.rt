@@ -8,7 +8,8 @@ use xds_resource::Refusal;
 // No stream has this number.
 const NO_STREAM: u64 = 0;
 
-/// Asks so often whether a stream that isn't open is owed something, which leaves as many records, unless the journal is full before.
+/// Asks so often whether a stream that isn't open is owed something, which leaves as many records,
+/// unless the journal is full before.
 pub(crate) fn fill<A: Host, R: Wait>(
     rt: &R,
     node: &A,

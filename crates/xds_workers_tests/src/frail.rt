@@ -15,8 +15,8 @@ struct Failing<S> {
     tries: u64,
 }
 
-/// A node that takes no record of the first merge, as its worker threads know it: its journal is full then, and can't be cut until the
-/// merge was tried twice.
+/// A node that takes no record of the first merge, as its worker threads know it: its journal is
+/// full then, and can't be cut until the merge was tried twice.
 #[derive(Drop)]
 pub(crate) struct Frail<A: Host> {
     pub(crate) node: A,

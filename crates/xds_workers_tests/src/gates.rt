@@ -20,7 +20,8 @@ struct Counts {
     is_free: bool,
 }
 
-/// Holds each read, from this one on, until so many frames are to be written and it is let go, and each write until it is let go.
+/// Holds each read, from this one on, until so many frames are to be written and it is let go, and
+/// each write until it is let go.
 #[derive(Drop)]
 pub(crate) struct Held {
     counts: Mutex<Counts>,

@@ -1,5 +1,5 @@
-// Tests of worker threads round nodes: what no clause says, as that two threads of a stream end, and that what one node holds comes
-// to another. Nothing else stands here.
+// Tests of worker threads round nodes: what no clause says, as that two threads of a stream end,
+// and that what one node holds comes to another. Nothing else stands here.
 #![tactic(auto)]
 
 #[cfg(test)]

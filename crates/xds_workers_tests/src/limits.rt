@@ -1,4 +1,5 @@
-// What waits, and what doesn't. Each thread that another might leave waiting is let go once it was waited for long enough.
+// What waits, and what doesn't. Each thread that another might leave waiting is let go once it was
+// waited for long enough.
 ghost use Rattle.std.specs.Prelude.{◌≡◌};
 
 use crate::calls::{holds, open, put, refused};
@@ -17,7 +18,8 @@ use xds_message::DeltaDiscoveryRequest;
 use xds_node::{Due, Host, Line, Node, NodeName, Opened};
 use xds_resource::Refusal;
 
-// How often a thread looks before it gives up, and how long it sleeps before each look: ten seconds in all.
+// How often a thread looks before it gives up, and how long it sleeps before each look: ten seconds
+// in all.
 const MOST_LOOKS: u64 = 1_000;
 
 const NAP: u64 = 10;
@@ -212,8 +214,8 @@ where
 }
 
 // A client that wants all clusters.
-const WANTS_ALL: &[u8] =
-    b"{\"node\":{\"id\":\"c\"},\"resourceNamesSubscribe\":[\"*\"],\"typeUrl\":\"type.googleapis.com/envoy.config.cluster.v3.Cluster\"}";
+const WANTS_ALL: &[u8] = b"{\"node\":{\"id\":\"c\"},\"resourceNamesSubscribe\":[\"*\"],\
+     \"typeUrl\":\"type.googleapis.com/envoy.config.cluster.v3.Cluster\"}";
 
 // A stream whose client wants all clusters, and was told that there are none.
 fn settled<A: Site, R: Wait>(
@@ -229,7 +231,8 @@ fn settled<A: Site, R: Wait>(
     Ok(stream)
 }
 
-// A wait at a new node: for a stream or for a change, once the node was stopped or not, and what is done meanwhile.
+// A wait at a new node: for a stream or for a change, once the node was stopped or not, and what is
+// done meanwhile.
 #[derive(Clone, Copy, Drop)]
 struct Case {
     of_stream: bool,
@@ -279,7 +282,8 @@ fn waited_by<N: NodeName + Send + Sync, R: Threads + Wait + Clock + Sync>(
     waited_at(rt, alloc, Node::<N>::new(alloc, opened, 1), case)
 }
 
-// Fails unless a wait ends so: by the first thing that is done, or before that where the node was stopped.
+// Fails unless a wait ends so: by the first thing that is done, or before that where the node was
+// stopped.
 fn ends<R: Threads + Wait + Clock + Sync>(
     rt: &R,
     alloc: Global,

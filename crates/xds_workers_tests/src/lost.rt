@@ -38,7 +38,8 @@ fn puts_both<R: Wait>(rt: &R, out: &mut Outgoing<Parcel>, first: Vec<u8>, second
     out.end(rt);
 }
 
-// Merges what is in a channel whose other end told that no more comes. Answers how many parcels were dropped.
+// Merges what is in a channel whose other end told that no more comes. Answers how many parcels
+// were dropped.
 fn merges_all<A: Host, R: Wait>(
     rt: &R,
     alloc: Global,
@@ -52,7 +53,8 @@ fn merges_all<A: Host, R: Wait>(
     dropped
 }
 
-// What came of a batch that was put twice, where the first merge left no record, and whether it is held then.
+// What came of a batch that was put twice, where the first merge left no record, and whether it is
+// held then.
 #[derive(Drop)]
 struct Twice {
     dropped: u64,

@@ -32,10 +32,11 @@ fn bytes_that_are_no_parcel_are_told(rt: HostRuntime) -> Result<(), Fail> {
 }
 
 const BEFORE: &[u8] =
-    b"{\"body\":{\"@type\":\"type.googleapis.com/envoy.config.cluster.v3.Cluster\",\"altStatName\":\"";
+    b"{\"body\":{\"@type\":\"type.googleapis.com/envoy.config.cluster.v3.Cluster\",\
+     \"altStatName\":\"";
 
-const AFTER: &[u8] =
-    b"\",\"name\":\"a\"},\"counter\":1,\"name\":\"a\",\"typeUrl\":\"type.googleapis.com/envoy.config.cluster.v3.Cluster\",\"writer\":1},";
+const AFTER: &[u8] = b"\",\"name\":\"a\"},\"counter\":1,\"name\":\"a\",\
+     \"typeUrl\":\"type.googleapis.com/envoy.config.cluster.v3.Cluster\",\"writer\":1},";
 
 // Adds a write of a million bytes and some more.
 fn push_write(text: &mut Vec<u8>, block: &[u8]) -> Result<(), Refusal> {

@@ -58,7 +58,8 @@ impl<S: Drop> Gate<S> for Counting {
     }
 }
 
-// What a writer passed whose first write fails, and a reader of one request; and what polls of its stream are answered then.
+// What a writer passed whose first write fails, and a reader of one request; and what polls of its
+// stream are answered then.
 #[derive(Drop)]
 struct Workers {
     writer: Passed,

@@ -12,8 +12,8 @@ struct Filler<S> {
     cuts: u64,
 }
 
-/// A node whose journal has room for so many records at most, as its worker threads know it: the rest is filled, at first and after
-/// each cut.
+/// A node whose journal has room for so many records at most, as its worker threads know it: the
+/// rest is filled, at first and after each cut.
 #[derive(Drop)]
 pub(crate) struct Short<A: Host> {
     pub(crate) node: A,

@@ -1,4 +1,5 @@
-// Nodes, as these tests know them: by traits alone, so that to drop one is a single step of a proof.
+// Nodes, as these tests know them: by traits alone, so that to drop one is a single step of a
+// proof.
 ghost use Rattle.std.specs.Prelude.{◌≡◌};
 
 use std::alloc::Global;

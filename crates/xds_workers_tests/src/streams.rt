@@ -19,7 +19,8 @@ pub(crate) const REQUEST: &[u8] =
     b"{\"typeUrl\":\"type.googleapis.com/envoy.config.cluster.v3.Cluster\"}";
 
 pub(crate) const RESPONSE: &[u8] =
-    b"{\"nonce\":\"1\",\"typeUrl\":\"type.googleapis.com/envoy.config.cluster.v3.Cluster\",\"versionInfo\":\"1.0\"}";
+    b"{\"nonce\":\"1\",\"typeUrl\":\"type.googleapis.com/envoy.config.cluster.v3.Cluster\",\
+     \"versionInfo\":\"1.0\"}";
 
 /// A reader that gives its bytes in pieces of one size.
 #[derive(Drop)]
@@ -101,7 +102,8 @@ where
     }
 }
 
-// Serves a stream of a node that holds nothing. The read of this number waits until so many frames are to be written.
+// Serves a stream of a node that holds nothing. The read of this number waits until so many frames
+// are to be written.
 fn serve_one<A: Site + Sync, R: Threads + Wait + Sync>(
     rt: &R,
     alloc: Global,

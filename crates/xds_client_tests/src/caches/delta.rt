@@ -1,4 +1,5 @@
-// A delta client that plays a script. Its changes name what is subscribed, then `-` and what is unsubscribed.
+// A delta client that plays a script. Its changes name what is subscribed, then `-` and what is
+// unsubscribed.
 use crate::caches::script::{Player, answered, linked, perhaps_answered, put};
 use std::alloc::Global;
 use xds_cache::{DeltaClient, Down, Holding, Marked, Up};
@@ -6,7 +7,8 @@ use xds_cases::cases::words_of;
 use xds_message::DeltaDiscoveryResponse;
 use xds_resource::{NameMap, Refusal, TypeName};
 
-/// A client whose node id is `7`, and which refuses resources that are marked: one of both is there.
+/// A client whose node id is `7`, and which refuses resources that are marked: one of both is
+/// there.
 #[derive(Drop)]
 pub struct Delta {
     down: Option<DeltaClient<Marked, Down>>,

@@ -3,12 +3,13 @@ use std::alloc::{AllocError, Global};
 use std::mem;
 use std::test::Fail;
 use xds_cache::Holding;
-use xds_cases::cases::written_out;
+use xds_cases::cases::{unfolded, written_out};
 use xds_message::{DeltaDiscoveryRequest, DiscoveryRequest};
 use xds_resource::{NameMap, Refusal, TypeName};
 
-/// A client of any variant, on a stream or not. An `Err` is of the script or of this test, as `NotFound` where a client has no
-/// such call; what the client answers is a text, its refusals among them.
+/// A client of any variant, on a stream or not. An `Err` is of the script or of this test, as
+/// `NotFound` where a client has no such call; what the client answers is a text, its refusals
+/// among them.
 pub trait Player: Drop + Sized {
     /// A client that wants nothing, whose node is of this cluster.
     fn new(alloc: Global, cluster: &str) -> Result<Self, Refusal>;
@@ -138,7 +139,8 @@ pub(crate) fn type_of(word: &str) -> Result<TypeName, Refusal> {
     TypeName::from_word(word).ok_or(Refusal::NotFound)
 }
 
-// What a client answers to `change TYPE WORD..`, `connect`, `lose`, `poll TYPE`, `receive MESSAGE` and `view TYPE`.
+// What a client answers to `change TYPE WORD..`, `connect`, `lose`, `poll TYPE`, `receive MESSAGE`
+// and `view TYPE`.
 fn told<P: Player>(alloc: Global, player: &mut P, step: &str) -> Result<String, Refusal> {
     let (word, rest) = first_word(step);
     match word {
@@ -158,9 +160,11 @@ fn told<P: Player>(alloc: Global, player: &mut P, step: &str) -> Result<String, 
     }
 }
 
-/// What a client answers to one step. `CDS`, `EDS`, `LDS`, `RDS` and `SDS` stand for the URLs of the types.
+/// What a client answers to one step. `CDS`, `EDS`, `LDS`, `RDS` and `SDS` stand for the URLs of
+/// the types, and a line that begins with four spaces goes on with the line before it.
 pub(crate) fn ask<P: Player>(alloc: Global, player: &mut P, step: &str) -> Result<String, Fail> {
-    let step = written_out(alloc, step)?;
+    let step = unfolded(alloc, step)?;
+    let step = written_out(alloc, step.as_str())?;
     Ok(told(alloc, player, step.as_str())?)
 }
 
@@ -185,9 +189,11 @@ fn is_wanted(answer: &str, wanted: &str, step: &str) -> Result<(), Fail> {
     Err(Fail::new(format_args!("{answer} and not {wanted}, at {step}")))
 }
 
-/// Plays a script on with a client.
+/// Plays a script on with a client. A line that begins with four spaces goes on with the line
+/// before it.
 pub(crate) fn play_on<P: Player>(alloc: Global, player: &mut P, script: &str) -> Result<(), Fail> {
-    for line in script.lines() {
+    let script = unfolded(alloc, script)?;
+    for line in script.as_str().lines() {
         play_line(alloc, player, line)?;
     }
     Ok(())

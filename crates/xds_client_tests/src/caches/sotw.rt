@@ -6,7 +6,8 @@ use xds_cases::cases::words_of;
 use xds_message::DiscoveryResponse;
 use xds_resource::{NameMap, Refusal, TypeName};
 
-/// A client whose node id is `7`, and which refuses resources that are marked: one of both is there.
+/// A client whose node id is `7`, and which refuses resources that are marked: one of both is
+/// there.
 #[derive(Drop)]
 pub struct Sotw {
     down: Option<SotwClient<Marked, Down>>,

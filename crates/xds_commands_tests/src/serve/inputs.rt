@@ -7,8 +7,10 @@ use xds_frames::Faulty;
 
 #[test]
 fn a_line_that_is_no_change_ends_it(rt: HostRuntime) -> Result<(), Fail> {
-    let input =
-        "# a comment\n\nput 1 {\"@type\":\"type.googleapis.com/envoy.config.cluster.v3.Cluster\",\"name\":\"a\"}\nput 9 {\"@type\":\"type.googleapis.com/envoy.config.cluster.v3.Cluster\",\"name\":\"a\"}\ndelete 1 cluster none\nview 1 cluster\nput\n";
+    let input = "# a comment\n\n\
+         put 1 {\"@type\":\"type.googleapis.com/envoy.config.cluster.v3.Cluster\",\"name\":\"a\"}\n\
+         put 9 {\"@type\":\"type.googleapis.com/envoy.config.cluster.v3.Cluster\",\"name\":\"a\"}\n\
+         delete 1 cluster none\nview 1 cluster\nput\n";
     comes_to(
         &rt,
         input.as_bytes(),
@@ -31,8 +33,8 @@ fn a_put_of_no_resource_ends_it(rt: HostRuntime) -> Result<(), Fail> {
 
 #[test]
 fn a_put_in_a_bad_group_ends_it(rt: HostRuntime) -> Result<(), Fail> {
-    let input =
-        "\nputin 1 a, {\"@type\":\"type.googleapis.com/envoy.config.cluster.v3.Cluster\",\"name\":\"a\"}\n";
+    let input = "\nputin 1 a, {\"@type\":\"type.googleapis.com/envoy.config.cluster.v3.Cluster\",\
+         \"name\":\"a\"}\n";
     comes_to(
         &rt,
         input.as_bytes(),
@@ -66,7 +68,9 @@ impl Read for Dripping {
 #[test]
 fn lines_that_come_in_pieces_are_counted(rt: HostRuntime) -> Result<(), Fail> {
     let input = Dripping {
-        bytes: b"# a comment\n\nput 1 {\"@type\":\"type.googleapis.com/envoy.config.cluster.v3.Cluster\",\"name\":\"a\"}\nsettle 1 cluster",
+        bytes: b"# a comment\n\n\
+         put 1 {\"@type\":\"type.googleapis.com/envoy.config.cluster.v3.Cluster\",\"name\":\"a\"}\n\
+         settle 1 cluster",
         interrupted: false,
     };
     comes_to(

@@ -15,7 +15,8 @@ pub(crate) struct Came {
     pub errors: Vec<u8>,
 }
 
-/// What a server is asked for, of which streams stand at this port and the next ones, and REST ten ports on.
+/// What a server is asked for, of which streams stand at this port and the next ones, and REST ten
+/// ports on.
 pub(crate) fn serving(replicas: u16, port: u16, streams: Option<u16>) -> Serving {
     Serving {
         replicas,

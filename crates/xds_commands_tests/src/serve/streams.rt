@@ -8,10 +8,11 @@ use std::str;
 use std::test::Fail;
 
 const PUTS_Q: &str =
-    "put 1 {\"@type\":\"type.googleapis.com/envoy.config.route.v3.RouteConfiguration\",\"name\":\"q\"}\n";
+    "put 1 {\"@type\":\"type.googleapis.com/envoy.config.route.v3.RouteConfiguration\",\
+     \"name\":\"q\"}\n";
 
-const ASKS_FOR_Q: &str =
-    "{\"resourceNames\":[\"q\"],\"typeUrl\":\"type.googleapis.com/envoy.config.route.v3.RouteConfiguration\"}";
+const ASKS_FOR_Q: &str = "{\"resourceNames\":[\"q\"],\
+     \"typeUrl\":\"type.googleapis.com/envoy.config.route.v3.RouteConfiguration\"}";
 
 const Q: &str =
     "{\"@type\":\"type.googleapis.com/envoy.config.route.v3.RouteConfiguration\",\"name\":\"q\"}";
@@ -20,7 +21,8 @@ const ASKS_FOR_CLUSTERS: &str =
     "{\"typeUrl\":\"type.googleapis.com/envoy.config.cluster.v3.Cluster\"}";
 
 const NO_CLUSTER: &str =
-    "{\"nonce\":\"1\",\"typeUrl\":\"type.googleapis.com/envoy.config.cluster.v3.Cluster\",\"versionInfo\":\"1.0\"}";
+    "{\"nonce\":\"1\",\"typeUrl\":\"type.googleapis.com/envoy.config.cluster.v3.Cluster\",\
+     \"versionInfo\":\"1.0\"}";
 
 // What comes over a connection for a request.
 fn replied(alloc: Global, socket: &TcpStream, text: &str) -> Result<String, Fail> {
@@ -57,7 +59,8 @@ fn what_is_put_at_one_replica_reaches_a_client_at_another(rt: HostRuntime) -> Re
     ends_well(
         &rt,
         server,
-        "replica 1: streams on 127.0.0.1:18300, REST on 127.0.0.1:18310\nreplica 2: streams on 127.0.0.1:18301, REST on 127.0.0.1:18311\n",
+        "replica 1: streams on 127.0.0.1:18300, REST on 127.0.0.1:18310\n\
+         replica 2: streams on 127.0.0.1:18301, REST on 127.0.0.1:18311\n",
     )
 }
 
@@ -85,22 +88,28 @@ fn a_connection_that_holds_half_a_frame_holds_no_other_up(rt: HostRuntime) -> Re
 }
 
 const CHANGES: &str =
-    "put 1 {\"@type\":\"type.googleapis.com/envoy.config.route.v3.RouteConfiguration\",\"name\":\"q\"}\ndelete 1 route q\nputin 1 g {\"@type\":\"type.googleapis.com/envoy.config.cluster.v3.Cluster\",\"name\":\"s\"}\nput 1 {\"@type\":\"type.googleapis.com/envoy.config.route.v3.RouteConfiguration\",\"name\":\"r\"}";
+    "put 1 {\"@type\":\"type.googleapis.com/envoy.config.route.v3.RouteConfiguration\",\
+     \"name\":\"q\"}\ndelete 1 route q\n\
+     putin 1 g {\"@type\":\"type.googleapis.com/envoy.config.cluster.v3.Cluster\",\"name\":\"s\"}\n\
+     put 1 {\"@type\":\"type.googleapis.com/envoy.config.route.v3.RouteConfiguration\",\
+     \"name\":\"r\"}";
 
-const ASKS_FOR_R: &str =
-    "{\"resourceNames\":[\"r\"],\"typeUrl\":\"type.googleapis.com/envoy.config.route.v3.RouteConfiguration\"}";
+const ASKS_FOR_R: &str = "{\"resourceNames\":[\"r\"],\
+     \"typeUrl\":\"type.googleapis.com/envoy.config.route.v3.RouteConfiguration\"}";
 
-const ASKS_FOR_BOTH: &str =
-    "{\"resourceNames\":[\"q\",\"r\"],\"typeUrl\":\"type.googleapis.com/envoy.config.route.v3.RouteConfiguration\"}";
+const ASKS_FOR_BOTH: &str = "{\"resourceNames\":[\"q\",\"r\"],\
+     \"typeUrl\":\"type.googleapis.com/envoy.config.route.v3.RouteConfiguration\"}";
 
 const R_ALONE: &str =
-    "\"resources\":[{\"@type\":\"type.googleapis.com/envoy.config.route.v3.RouteConfiguration\",\"name\":\"r\"}]";
+    "\"resources\":[{\"@type\":\"type.googleapis.com/envoy.config.route.v3.RouteConfiguration\",\
+     \"name\":\"r\"}]";
 
-const ASKS_AS_G: &str =
-    "{\"node\":{\"cluster\":\"g\",\"id\":\"c\"},\"typeUrl\":\"type.googleapis.com/envoy.config.cluster.v3.Cluster\"}";
+const ASKS_AS_G: &str = "{\"node\":{\"cluster\":\"g\",\"id\":\"c\"},\
+     \"typeUrl\":\"type.googleapis.com/envoy.config.cluster.v3.Cluster\"}";
 
 const S_ALONE: &str =
-    "\"resources\":[{\"@type\":\"type.googleapis.com/envoy.config.cluster.v3.Cluster\",\"name\":\"s\"}]";
+    "\"resources\":[{\"@type\":\"type.googleapis.com/envoy.config.cluster.v3.Cluster\",\
+     \"name\":\"s\"}]";
 
 // That a client at this port is told of no resource.
 fn hears_nothing(rt: &HostRuntime, port: u16, text: &str) -> Result<(), Fail> {
@@ -111,7 +120,8 @@ fn hears_nothing(rt: &HostRuntime, port: u16, text: &str) -> Result<(), Fail> {
     Ok(())
 }
 
-// The last line has no end. Whoever was told of it asks behind all of them. The cluster is for a group.
+// The last line has no end. Whoever was told of it asks behind all of them. The cluster is for a
+// group.
 #[test]
 fn what_is_deleted_is_gone_and_a_group_keeps_its_own(rt: HostRuntime) -> Result<(), Fail> {
     let server = started(&rt, CHANGES, serving(1, 18_540, Some(4)))?;
@@ -127,7 +137,8 @@ fn what_is_deleted_is_gone_and_a_group_keeps_its_own(rt: HostRuntime) -> Result<
 }
 
 const POST: &str =
-    "POST /v3/discovery:routes HTTP/1.1\r\nhost: h\r\nconnection: close\r\ncontent-length: 23\r\n\r\n{\"resourceNames\":[\"q\"]}";
+    "POST /v3/discovery:routes HTTP/1.1\r\nhost: h\r\nconnection: close\r\ncontent-length: 23\r\n\
+     \r\n{\"resourceNames\":[\"q\"]}";
 
 // All that comes for these bytes until the server closes the connection.
 fn bytes_told(rt: &HostRuntime, port: u16, sent: &str) -> Result<Vec<u8>, Fail> {
@@ -146,7 +157,8 @@ fn is_answered(rt: &HostRuntime, port: u16) -> Result<(), Fail> {
     holds(text, Q)
 }
 
-// Once the route has come to replica 2, which the answer to a stream tells, a poll of it is answered.
+// Once the route has come to replica 2, which the answer to a stream tells, a poll of it is
+// answered.
 fn is_answered_beside(rt: &HostRuntime) -> Result<(), Fail> {
     let held = connected(rt, 18_561)?;
     drop(replied(rt.alloc(), &held, ASKS_FOR_Q)?);
@@ -160,6 +172,7 @@ fn a_poll_of_one_replica_is_answered_what_another_was_told(rt: HostRuntime) -> R
     ends_well(
         &rt,
         server,
-        "replica 1: streams on 127.0.0.1:18560, REST on 127.0.0.1:18570\nreplica 2: streams on 127.0.0.1:18561, REST on 127.0.0.1:18571\n",
+        "replica 1: streams on 127.0.0.1:18560, REST on 127.0.0.1:18570\n\
+         replica 2: streams on 127.0.0.1:18561, REST on 127.0.0.1:18571\n",
     )
 }

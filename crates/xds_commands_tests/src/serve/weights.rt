@@ -14,12 +14,14 @@ use xds_resource::{AnyResource, Groups, Refusal};
 fn long_cluster(alloc: Global) -> Result<AnyResource, Refusal> {
     let mut text = String::from_str(
         alloc,
-        "{\"@type\":\"type.googleapis.com/envoy.config.cluster.v3.Cluster\",\"name\":\"a\",\"x\":\"",
+        "{\"@type\":\"type.googleapis.com/envoy.config.cluster.v3.Cluster\",\"name\":\"a\",\
+         \"x\":\"",
     )?;
     for _ in 0..1000 {
         for _ in 0..10 {
             text.push_str(
-                "yyyyyyyyyyyyyyyyyyyyyyyyyyyyyyyyyyyyyyyyyyyyyyyyyyyyyyyyyyyyyyyyyyyyyyyyyyyyyyyyyyyyyyyyyyyyyyyyyyyy",
+                "yyyyyyyyyyyyyyyyyyyyyyyyyyyyyyyyyyyyyyyyyyyyyyyyyy\
+                 yyyyyyyyyyyyyyyyyyyyyyyyyyyyyyyyyyyyyyyyyyyyyyyyyy",
             )?;
         }
     }

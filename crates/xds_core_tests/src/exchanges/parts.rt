@@ -6,8 +6,9 @@ use xds_exchange::Outbox;
 use xds_message::Batch;
 use xds_resource::{AnyWrite, Groups, Refusal, Resource, ResourceType, Stamp, Write};
 
-// How many writes the parts of a batch have. The batch is given as how many clusters it has and secrets, how many bytes
-// each body has at least, and of how many bytes each of its 64 groups is, where it has groups.
+// How many writes the parts of a batch have. The batch is given as how many clusters it has and
+// secrets, how many bytes each body has at least, and of how many bytes each of its 64 groups is,
+// where it has groups.
 struct Parts;
 
 impl Outcome for Parts {
@@ -156,7 +157,8 @@ fn group(alloc: Global, number: u64, bytes: usize) -> Result<String, Refusal> {
     Ok(text)
 }
 
-// A list of 64 groups of 1,024 bytes is written as 65,729 bytes: 64 times 1,026, 63 commas and two brackets.
+// A list of 64 groups of 1,024 bytes is written as 65,729 bytes: 64 times 1,026, 63 commas and two
+// brackets.
 #[test]
 fn batches_are_cut(rt: HostRuntime) -> Result<(), Fail> {
     hold::<Parts, HostRuntime>(

@@ -11,7 +11,8 @@ const CLUSTERS: u64 = 1000;
 // Ten times as many rounds, each behind a write, and then all replicas agree.
 const ROUNDS: u64 = 1000;
 
-// Tells another what changed. Fails unless so many writes are sent in so many parts, and its changes grow by so many.
+// Tells another what changed. Fails unless so many writes are sent in so many parts, and its
+// changes grow by so many.
 fn tells<S: Site>(
     alloc: Global,
     one: &S,

@@ -1,12 +1,14 @@
-// A poll for which no memory is found. With ample memory it is answered at once; `rt try --test --fail-alloc N` refuses the
-// N-th allocation. The poll that comes again is answered as if the first had not been.
+// A poll for which no memory is found. With ample memory it is answered at once; `rt try --test
+// --fail-alloc N` refuses the N-th allocation. The poll that comes again is answered as if the
+// first had not been.
 use crate::rest::served::Served;
 use std::alloc::Global;
 use std::test::Fail;
 use xds_cases::scripts::Script;
 use xds_resource::{Refusal, TypeName};
 
-// What a script answers to a poll of all clusters, and whether it was refused for want of memory before.
+// What a script answers to a poll of all clusters, and whether it was refused for want of memory
+// before.
 fn polled<S: Script>(alloc: Global, script: &mut S) -> Result<(String, bool), Refusal> {
     match script.step(alloc, "POST", "/v3/discovery:clusters {}") {
         Err(Refusal::OutOfMemory) => {

@@ -2,15 +2,18 @@
 use crate::events::{event_of, type_of};
 use crate::script::parted;
 use std::alloc::Global;
+use std::test::Fail;
+use xds_cases::cases::{Outcome, told as told_of};
 use xds_cases::scripts::Script;
 use xds_core::{Core, Event};
 use xds_resource::Refusal;
 use xds_rest::{Asked, HttpReply, answer, ask, reply_of};
 
-/// The first replica. It tells `ok` after `put RESOURCE`, `putin GROUP,GROUP.. RESOURCE` and `delete TYPE NAME`; the reply to what
-/// it answers to an event after `poll TYPE VERSION` and `snapshot`; and what a request asks for after `ask`, before its method,
-/// path and body. Any other verb is the method of a request, before its path and its body, and it tells the reply. A reply is
-/// told as its status, and its body where it has one.
+/// The first replica. It tells `ok` after `put RESOURCE`, `putin GROUP,GROUP.. RESOURCE` and
+/// `delete TYPE NAME`; the reply to what it answers to an event after `poll TYPE VERSION` and
+/// `snapshot`; and what a request asks for after `ask`, before its method, path and body. Any other
+/// verb is the method of a request, before its path and its body, and it tells the reply. A reply
+/// is told as its status, and its body where it has one.
 #[derive(Drop)]
 pub(crate) struct Served {
     core: Core,
@@ -33,6 +36,26 @@ impl Script for Served {
             "ask" => asking(alloc, rest),
             method => asked(&mut self.core, alloc, method, rest),
         }
+    }
+}
+
+/// What a new replica tells of one step.
+pub(crate) struct Alone;
+
+// What a new script answers to a step.
+pub(crate) fn first_answer<S: Script>(
+    alloc: Global,
+    verb: &str,
+    rest: &str,
+) -> Result<String, Refusal> {
+    let mut script = S::begin(alloc);
+    script.step(alloc, verb, rest)
+}
+
+impl Outcome for Alone {
+    fn of(alloc: Global, given: &str) -> Result<String, Fail> {
+        let (verb, rest) = parted(given);
+        Ok(told_of(alloc, first_answer::<Served>(alloc, verb, rest))?)
     }
 }
 

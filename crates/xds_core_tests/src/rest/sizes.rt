@@ -1,5 +1,5 @@
 // Requests with bodies as long as may be, and longer.
-use crate::rest::served::Served;
+use crate::rest::served::{Served, first_answer};
 use crate::script::parted;
 use std::alloc::Global;
 use std::test::Fail;
@@ -25,8 +25,7 @@ fn asked<S: Script>(alloc: Global, given: &str) -> Result<String, Refusal> {
     let (size, path) = parted(rest);
     let size = size.parse::<usize>().ok().ok_or(Refusal::BadScript)?;
     let rest = spaced(alloc, path, size)?;
-    let mut script = S::begin(alloc);
-    script.step(alloc, method, rest.as_str())
+    first_answer::<S>(alloc, method, rest.as_str())
 }
 
 impl Outcome for OfSize {

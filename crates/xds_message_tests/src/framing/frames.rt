@@ -8,8 +8,8 @@ use xds_cases::scripts::{Script, follow};
 use xds_frames::{Decoder, Frame, FrameKind, frame_head, push_frame, write_frame};
 use xds_resource::Refusal;
 
-// A decoder: `feed` feeds it bytes at once, and `drip` one after another, each time with all frames that it then gives, a
-// number and a text in hex digits; `finish` ends it.
+// A decoder: `feed` feeds it bytes at once, and `drip` one after another, each time with all frames
+// that it then gives, a number and a text in hex digits; `finish` ends it.
 #[derive(Drop)]
 pub(crate) struct Decoding {
     decoder: Decoder,
@@ -80,29 +80,81 @@ fn push_frame_told(alloc: Global, all: &mut String, frame: Frame<'_>) -> Result<
 fn frames_are_found_however_they_are_cut(rt: HostRuntime) -> Result<(), Fail> {
     follow::<Decoding, HostRuntime>(
         &rt,
-        "feed ; finish =>  ok
-feed 00000000; finish => 15 EmptyFrame 15 EmptyFrame
-drip 00000000; finish => 15 EmptyFrame 15 EmptyFrame
-feed 01000000; finish =>  18 Truncated
-drip 01000000; feed 017b7d; finish =>   18 Truncated
-feed 01000001; finish => 16 FrameTooLong 16 FrameTooLong
-drip ffffffff; finish => 16 FrameTooLong 16 FrameTooLong
-feed 000000; finish =>  18 Truncated
-feed ff; finish =>  18 Truncated
-drip 000000; feed 03; drip 017b; finish; feed 7d; finish =>    18 Truncated (1,7b7d) ok
+        "feed  => 
+finish => ok
+
+feed 00000000 => 15 EmptyFrame
+finish => 15 EmptyFrame
+
+drip 00000000 => 15 EmptyFrame
+finish => 15 EmptyFrame
+
+feed 01000000 => 
+finish => 18 Truncated
+
+drip 01000000 => 
+feed 017b7d => 
+finish => 18 Truncated
+
+feed 01000001 => 16 FrameTooLong
+finish => 16 FrameTooLong
+
+drip ffffffff => 16 FrameTooLong
+finish => 16 FrameTooLong
+
+feed 000000 => 
+finish => 18 Truncated
+
+feed ff => 
+finish => 18 Truncated
+
+drip 000000 => 
+feed 03 => 
+drip 017b => 
+finish => 18 Truncated
+feed 7d => (1,7b7d)
+finish => ok
+
 feed 0000000309 => 17 UnknownKind
-drip 0000000309; finish => 17 UnknownKind 17 UnknownKind
-drip 0000000300; finish => 17 UnknownKind 17 UnknownKind
-feed 0000000101; drip 0000000105; finish => (1,) (5,) ok
-feed 00000003017b7d00000003037b7d; finish => (1,7b7d)(3,7b7d) ok
-drip 00000003017b7d00000003037b7d; finish => (1,7b7d)(3,7b7d) ok
-feed 00000003017b7d000000; feed 03047b7d00; finish; drip 000005020001; feed 02; finish; feed 03; finish => (1,7b7d) (4,7b7d) 18 Truncated   18 Truncated (2,00010203) ok
-feed 0000000000000003017b7d; feed 00000003017b7d; finish => 15 EmptyFrame 15 EmptyFrame 15 EmptyFrame
-feed 0000000301; feed 7b7d0100000100000003; feed 00000003017b7d; finish =>  16 FrameTooLong 16 FrameTooLong 16 FrameTooLong",
+
+drip 0000000309 => 17 UnknownKind
+finish => 17 UnknownKind
+
+drip 0000000300 => 17 UnknownKind
+finish => 17 UnknownKind
+
+feed 0000000101 => (1,)
+drip 0000000105 => (5,)
+finish => ok
+
+feed 00000003017b7d00000003037b7d => (1,7b7d)(3,7b7d)
+finish => ok
+
+drip 00000003017b7d00000003037b7d => (1,7b7d)(3,7b7d)
+finish => ok
+
+feed 00000003017b7d000000 => (1,7b7d)
+feed 03047b7d00 => (4,7b7d)
+finish => 18 Truncated
+drip 000005020001 => 
+feed 02 => 
+finish => 18 Truncated
+feed 03 => (2,00010203)
+finish => ok
+
+feed 0000000000000003017b7d => 15 EmptyFrame
+feed 00000003017b7d => 15 EmptyFrame
+finish => 15 EmptyFrame
+
+feed 0000000301 => 
+feed 7b7d0100000100000003 => 16 FrameTooLong
+feed 00000003017b7d => 16 FrameTooLong
+finish => 16 FrameTooLong",
     )
 }
 
-// The frame of a kind's number and a text in hex digits, in hex digits: written anew, and behind another one.
+// The frame of a kind's number and a text in hex digits, in hex digits: written anew, and behind
+// another one.
 struct Written;
 
 impl Outcome for Written {

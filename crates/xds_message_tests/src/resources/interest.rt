@@ -54,7 +54,8 @@ endpoint: B => names:B",
     )
 }
 
-// Whether a name is reached and covered by the interest of a client in a cluster, as `CLUSTER:NAMES:NAME:GROUPS`.
+// Whether a name is reached and covered by the interest of a client in a cluster, as
+// `CLUSTER:NAMES:NAME:GROUPS`.
 struct CoveredNames;
 
 impl Outcome for CoveredNames {

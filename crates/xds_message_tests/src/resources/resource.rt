@@ -41,9 +41,12 @@ fn seen(alloc: Global, name: &str, body: &str) -> Result<String, Refusal> {
 fn the_first_fault_of_a_text_is_told(rt: HostRuntime) -> Result<(), Fail> {
     hold::<ParsedText, HostRuntime>(
         &rt,
-        r#"cluster {"@type":"CDS", "x": [ 1, -2 ] , "name":"\u0061"} => a {"@type":"CDS","name":"a","x":[1,-2]}
-cluster {"@type":"CDS","name":"a","x":18446744073709551615} => a {"@type":"CDS","name":"a","x":18446744073709551615}
-cluster {"@type":"CDS","name":"a","x":-9223372036854775808} => a {"@type":"CDS","name":"a","x":-9223372036854775808}
+        r#"cluster {"@type":"CDS", "x": [ 1, -2 ] , "name":"\u0061"}
+     => a {"@type":"CDS","name":"a","x":[1,-2]}
+cluster {"@type":"CDS","name":"a","x":18446744073709551615}
+     => a {"@type":"CDS","name":"a","x":18446744073709551615}
+cluster {"@type":"CDS","name":"a","x":-9223372036854775808}
+     => a {"@type":"CDS","name":"a","x":-9223372036854775808}
 cluster {"@type":"CDS","name":"**"} => ** {"@type":"CDS","name":"**"}
 cluster {"@type":"CDS","name":"a","x":1.5} => 3 NotWhole
 cluster {"@type":"CDS","name":"a","x":1e2} => 3 NotWhole
@@ -69,8 +72,10 @@ secret {"name":"s", "@type":"SDS"} => s {"@type":"SDS","name":"s"}
 secret {"@type":"RDS","name":"s"} => 4 BadResource
 endpoint {"@type":"EDS","clusterName":"a"} => a {"@type":"EDS","clusterName":"a"}
 endpoint {"@type":"EDS","cluster_name":"b"} => b {"@type":"EDS","cluster_name":"b"}
-endpoint {"@type":"EDS","clusterName":"a","cluster_name":"b"} => a {"@type":"EDS","clusterName":"a","cluster_name":"b"}
-endpoint {"@type":"EDS","clusterName":"a","cluster_name":7} => a {"@type":"EDS","clusterName":"a","cluster_name":7}
+endpoint {"@type":"EDS","clusterName":"a","cluster_name":"b"}
+     => a {"@type":"EDS","clusterName":"a","cluster_name":"b"}
+endpoint {"@type":"EDS","clusterName":"a","cluster_name":7}
+     => a {"@type":"EDS","clusterName":"a","cluster_name":7}
 endpoint {"@type":"EDS","clusterName":null,"cluster_name":"b"} => 5 BadName
 endpoint {"@type":"EDS","clusterName":7,"cluster_name":"b"} => 4 BadResource
 endpoint {"@type":"EDS","name":"a"} => 5 BadName"#,
@@ -81,7 +86,8 @@ endpoint {"@type":"EDS","name":"a"} => 5 BadName"#,
 fn depth_names_and_texts_have_limits(rt: HostRuntime) -> Result<(), Fail> {
     hold::<ParsedText, HostRuntime>(
         &rt,
-        r#"cluster {"@type":"CDS","name":"a","x":<[*99><]*99>} => a {"@type":"CDS","name":"a","x":<[*99><]*99>}
+        r#"cluster {"@type":"CDS","name":"a","x":<[*99><]*99>}
+     => a {"@type":"CDS","name":"a","x":<[*99><]*99>}
 cluster {"@type":"CDS","name":"a","x":<[*100><]*100>} => 2 TooDeep
 cluster {"@type":"CDS","name":"a","x":<[*126><]*126>} => 2 TooDeep
 cluster {"@type":"CDS","name":"a","x":<[*127><]*127>} => 1 NotJson
@@ -230,8 +236,10 @@ fn refusals_print_number_and_name(rt: HostRuntime) -> Result<(), Fail> {
     for refusal in REFUSALS {
         printed.push_str(format!(in alloc; "{refusal} ")?.as_str())?;
     }
-    let wanted =
-        "1 NotJson 2 TooDeep 3 NotWhole 4 BadResource 5 BadName 6 TooLong 7 BadMessage 8 OutOfMemory 9 NotFound 10 CounterSpent 11 BadStamp 12 NoStream 13 WrongVariant 14 NonceSpent 15 EmptyFrame 16 FrameTooLong 17 UnknownKind 18 Truncated 19 Device 20 JournalFull 21 BadScript 22 BadTrace 23 Gap 24 BadGroup ";
+    let wanted = "1 NotJson 2 TooDeep 3 NotWhole 4 BadResource 5 BadName 6 TooLong 7 BadMessage \
+         8 OutOfMemory 9 NotFound 10 CounterSpent 11 BadStamp 12 NoStream 13 WrongVariant \
+         14 NonceSpent 15 EmptyFrame 16 FrameTooLong 17 UnknownKind 18 Truncated 19 Device \
+         20 JournalFull 21 BadScript 22 BadTrace 23 Gap 24 BadGroup ";
     assert_eq!(rt; printed.as_str(), wanted);
     Ok(())
 }

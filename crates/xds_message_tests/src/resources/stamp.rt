@@ -91,8 +91,8 @@ fn order_of(first: &Write<Cluster>, second: &Write<Cluster>) -> &'static str {
     if is_same { order } else { "at odds" }
 }
 
-// The write of a version that puts a body, for the groups behind `in`, or that deletes `a` where `-` stands in the body's
-// place.
+// The write of a version that puts a body, for the groups behind `in`, or that deletes `a` where
+// `-` stands in the body's place.
 fn write_of(alloc: Global, given: &str) -> Result<Write<Cluster>, Refusal> {
     let (version, body) = given.split_once(' ').ok_or(Refusal::BadMessage)?;
     let stamp = Stamp::parse_version(version)?;

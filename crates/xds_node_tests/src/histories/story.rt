@@ -7,61 +7,74 @@ use xds_core::{Event, Request};
 use xds_message::{Batch, DeltaDiscoveryRequest, DiscoveryRequest};
 use xds_resource::{AnyResource, Groups, Refusal, TypeName};
 
-// A client takes one cluster on a stream, and then another; some lines are refused, or say nothing in a trace. The second
-// segment that is cut has no record.
-const DELTA: &str =
-    r#"put {"@type":"type.googleapis.com/envoy.config.cluster.v3.Cluster","name":"a"}
+// A client takes one cluster on a stream, and then another; some lines are refused, or say nothing
+// in a trace. The second segment that is cut has no record.
+const DELTA: &str = r#"put {"@type":"CDS","name":"a"}
 open
-delta {"resourceNamesSubscribe":["*"],"typeUrl":"type.googleapis.com/envoy.config.cluster.v3.Cluster"}
+delta {"resourceNamesSubscribe":["*"],"typeUrl":"CDS"}
 cut
 cut
 poll
 poll
-delta {"responseNonce":"1","typeUrl":"type.googleapis.com/envoy.config.cluster.v3.Cluster"}
+delta {"responseNonce":"1","typeUrl":"CDS"}
 owes
 cut
 delete a
 delete b
 poll
-delta {"responseNonce":"2","typeUrl":"type.googleapis.com/envoy.config.cluster.v3.Cluster"}
+delta {"responseNonce":"2","typeUrl":"CDS"}
 close"#;
 
 /// The trace of it.
 pub(crate) const DELTA_TRACE: &str =
-    r#"write {"body":{"@type":"type.googleapis.com/envoy.config.cluster.v3.Cluster","name":"a"},"counter":1,"name":"a","typeUrl":"type.googleapis.com/envoy.config.cluster.v3.Cluster","writer":1}
+    r#"write {"body":{"@type":"CDS","name":"a"},"counter":1,"name":"a","typeUrl":"CDS","writer":1}
 open 1
-request 1 3 {"resourceNamesSubscribe":["*"],"typeUrl":"type.googleapis.com/envoy.config.cluster.v3.Cluster"}
-response 1 4 {"nonce":"1","resources":[{"name":"a","resource":{"@type":"type.googleapis.com/envoy.config.cluster.v3.Cluster","name":"a"},"version":"1-1"}],"systemVersionInfo":"1.1","typeUrl":"type.googleapis.com/envoy.config.cluster.v3.Cluster"}
-request 1 3 {"responseNonce":"1","typeUrl":"type.googleapis.com/envoy.config.cluster.v3.Cluster"}
+request 1 3 {"resourceNamesSubscribe":["*"],"typeUrl":"CDS"}
+response 1 4 {"nonce":"1",
+    "resources":[{"name":"a","resource":{"@type":"CDS","name":"a"},"version":"1-1"}],
+    "systemVersionInfo":"1.1","typeUrl":"CDS"}
+request 1 3 {"responseNonce":"1","typeUrl":"CDS"}
 idle 1 cluster
-write {"counter":2,"name":"a","typeUrl":"type.googleapis.com/envoy.config.cluster.v3.Cluster","writer":1}
-response 1 4 {"nonce":"2","removedResources":["a"],"systemVersionInfo":"1.2","typeUrl":"type.googleapis.com/envoy.config.cluster.v3.Cluster"}
-request 1 3 {"responseNonce":"2","typeUrl":"type.googleapis.com/envoy.config.cluster.v3.Cluster"}
+write {"counter":2,"name":"a","typeUrl":"CDS","writer":1}
+response 1 4 {"nonce":"2","removedResources":["a"],"systemVersionInfo":"1.2","typeUrl":"CDS"}
+request 1 3 {"responseNonce":"2","typeUrl":"CDS"}
 close 1
 "#;
 
-// A client takes the clusters in whole: none at first, which it refuses, and then one that another replica wrote. The last line
-// cuts all that is left.
+// A client takes the clusters in whole: none at first, which it refuses, and then one that another
+// replica wrote. The last line cuts all that is left.
 const SOTW: &str = r#"open
-sotw {"typeUrl":"type.googleapis.com/envoy.config.cluster.v3.Cluster"}
+sotw {"typeUrl":"CDS"}
 poll
 cut
-sotw {"errorDetail":{"code":3},"responseNonce":"1","typeUrl":"type.googleapis.com/envoy.config.cluster.v3.Cluster"}
+sotw {"errorDetail":{"code":3},"responseNonce":"1","typeUrl":"CDS"}
 poll
-merge {"writes":[{"body":{"@type":"type.googleapis.com/envoy.config.cluster.v3.Cluster","name":"b"},"counter":4,"name":"b","typeUrl":"type.googleapis.com/envoy.config.cluster.v3.Cluster","writer":2},{"counter":1,"name":"a","typeUrl":"type.googleapis.com/envoy.config.cluster.v3.Cluster","writer":2}]}
+merge {"writes":[{"body":{"@type":"CDS","name":"b"},"counter":4,"name":"b","typeUrl":"CDS",
+    "writer":2},{"counter":1,"name":"a","typeUrl":"CDS","writer":2}]}
 snapshot
 poll
 cut"#;
 
 /// The trace of it.
 pub(crate) const SOTW_TRACE: &str = r#"open 1
-request 1 1 {"typeUrl":"type.googleapis.com/envoy.config.cluster.v3.Cluster"}
-response 1 2 {"nonce":"1","typeUrl":"type.googleapis.com/envoy.config.cluster.v3.Cluster","versionInfo":"1.0"}
-request 1 1 {"errorDetail":{"code":3},"responseNonce":"1","typeUrl":"type.googleapis.com/envoy.config.cluster.v3.Cluster"}
-write {"body":{"@type":"type.googleapis.com/envoy.config.cluster.v3.Cluster","name":"b"},"counter":4,"name":"b","typeUrl":"type.googleapis.com/envoy.config.cluster.v3.Cluster","writer":2}
-write {"counter":1,"name":"a","typeUrl":"type.googleapis.com/envoy.config.cluster.v3.Cluster","writer":2}
-response 1 2 {"nonce":"2","resources":[{"@type":"type.googleapis.com/envoy.config.cluster.v3.Cluster","name":"b"}],"typeUrl":"type.googleapis.com/envoy.config.cluster.v3.Cluster","versionInfo":"1.2"}
+request 1 1 {"typeUrl":"CDS"}
+response 1 2 {"nonce":"1","typeUrl":"CDS","versionInfo":"1.0"}
+request 1 1 {"errorDetail":{"code":3},"responseNonce":"1","typeUrl":"CDS"}
+write {"body":{"@type":"CDS","name":"b"},"counter":4,"name":"b","typeUrl":"CDS","writer":2}
+write {"counter":1,"name":"a","typeUrl":"CDS","writer":2}
+response 1 2 {"nonce":"2","resources":[{"@type":"CDS","name":"b"}],"typeUrl":"CDS",
+    "versionInfo":"1.2"}
 "#;
+
+/// A text in full: `CDS` stands for the URL of clusters, and a line that begins with four spaces
+/// goes on with the line before it.
+pub(crate) fn written_out(alloc: Global, text: &str) -> Result<String, Refusal> {
+    let text = text.replace(alloc, "\n    ", "")?;
+    Ok(
+        text.as_str()
+            .replace(alloc, "CDS", TypeName::Cluster.url())?,
+    )
+}
 
 /// What happens at a node.
 #[derive(Clone, Copy)]
@@ -149,7 +162,8 @@ fn happen<A: Site<Event = Event>, R: Wait>(
     call(rt, node, seat, event_of(alloc, line)?)
 }
 
-// All of a story happens. What is cut of the node is put to the segments; the lines that cut it may be passed over.
+// All of a story happens. What is cut of the node is put to the segments; the lines that cut it may
+// be passed over.
 fn tell<A: Site<Event = Event>, R: Wait>(
     rt: &R,
     alloc: Global,
@@ -159,7 +173,8 @@ fn tell<A: Site<Event = Event>, R: Wait>(
     is_cut: bool,
     segments: &mut Vec<A::Segment>,
 ) -> Result<(), Refusal> {
-    for line in story.lines() {
+    let story = written_out(alloc, story)?;
+    for line in story.as_str().lines() {
         if line != "cut" {
             happen(rt, alloc, node, seat, line)?;
         } else if is_cut {

@@ -1,7 +1,7 @@
 // The trace of all records of a node, and what is told where some are missing.
 ghost use Rattle.std.specs.Prelude.{◌≡◌};
 
-use crate::histories::story::{DELTA_TRACE, SOTW_TRACE, Story, left};
+use crate::histories::story::{DELTA_TRACE, SOTW_TRACE, Story, left, written_out};
 use std::alloc::{AllocGlobal, Global};
 use std::marker::Brand;
 use std::sync::Wait;
@@ -119,10 +119,11 @@ fn is_told<R: Wait + AllocGlobal>(
     order: Order,
     wanted: &str,
 ) -> Result<(), Fail> {
+    let wanted = written_out(rt.alloc(), wanted)?;
     let found = told_of(rt, story, order, false)?;
-    same(found.as_str(), wanted)?;
+    same(found.as_str(), wanted.as_str())?;
     let found = told_of(rt, story, order, true)?;
-    same(found.as_str(), wanted)
+    same(found.as_str(), wanted.as_str())
 }
 
 fn same(found: &str, wanted: &str) -> Result<(), Fail> {

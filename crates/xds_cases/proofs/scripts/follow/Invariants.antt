@@ -2,5 +2,5 @@ use Rattle.std.proofs.Common.{All}
 use Rattle.xds_cases.specs.Scripts.{IsFollowed}
 use Rattle.xds_cases.proofs.scripts.follow.Given as goal
 
-abbrev pub invariant-loop-case : goal.invariant-loop-case
-invariant-loop-case g l = All (λ x. IsFollowed g.S.Script.may_begin g.S.Script.may_answer x.now) l.yielded
+abbrev pub invariant-loop-story : goal.invariant-loop-story
+invariant-loop-story g l = All (λ x. IsFollowed g.S.Script.may_begin g.S.Script.may_answer x.now) l.yielded

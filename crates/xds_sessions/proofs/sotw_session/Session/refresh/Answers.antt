@@ -1,9 +1,0 @@
-use Rattle.std.proofs.Common.{sym, ◌∙◌}
-use Rattle.xds_ledger.specs.declared.variant.VariantName.TheVariants.{StateOfTheWorld}
-use Rattle.xds_ledger.proofs.Keeping.{refreshed_session_fits}
-use Rattle.xds_sessions.proofs.sotw_session.Session.refresh.Goals as goal
-
-pub returns-clause-fits : goal.returns-clause-fits
-returns-clause-fits g c =
-    refreshed_session_fits StateOfTheWorld g.T.ResourceType.TYPE c.args.catalogue.now c.self.inside.names c.self.inside.ledger c.refresh.new.self c.args.self.now c.self.view_is c.refresh.ensures.same
-    (sym c.has_begun.ensures ∙ c.if-not-has_begun.false) c.refresh.ensures.fits c.requires

@@ -1,0 +1,196 @@
+// One type on one stream: what the client asked for, and what it was told.
+ghost use Rattle.std.specs.Prelude.{◌≡◌, ◌<◌, ◌≤◌, ◌⊎◌, true, if◌then◌else◌, map, string_bytes, is_some, IsSome, IfSome, IfOk, IfErr, OnOk, OnErr};
+ghost use Rattle.std.specs.FinMap as finmap;
+ghost use Rattle.xds_resource.specs.Stamps.{max_counter};
+ghost use Rattle.xds_resource.specs.declared.refusal.Refusal.TheVariants.{OutOfMemory, NonceSpent};
+ghost use Rattle.xds_ledger.specs.Offers.{offer};
+ghost use Rattle.xds_ledger.specs.Sessions as sessions;
+ghost use Rattle.xds_ledger.specs.Sessions.{HasPolled, is_stale, send, sending};
+ghost use Rattle.xds_ledger.specs.Lists.{SessionFits, new_kept};
+ghost use Rattle.xds_catalogue.specs.Holdings.{Holdings};
+ghost use Rattle.xds_ledger.specs.Listed.{changed_since};
+
+use crate::speaks::Speaks;
+use std::alloc::Global;
+use std::marker::Model;
+use xds_catalogue::Catalogue;
+use xds_interest::ClusterText;
+use xds_ledger::{Due, Ledger, Nonces};
+use xds_resource::{NameMap, Refusal, ResourceType};
+
+/// One type on one stream, in one of the two variants.
+pub struct Session<T: ResourceType, V: Speaks<T>> {
+    pub(crate) names: V::Names,
+    pub(crate) ledger: Ledger<T, V>,
+}
+
+// Written out: docs/PROVING.md, "Drops".
+impl<T: ResourceType, V: Speaks<T>> Drop for Session<T, V> {
+    fn drop(self) {
+        let Session {
+            names: _,
+            ledger: _,
+        } = self;
+    }
+}
+
+impl<T: ResourceType, V: Speaks<T>> Model for Session<T, V> {
+    ghost use Rattle.xds_ledger.specs.Lists.{Kept, kept_code};
+
+    ghost Value = { Kept };
+
+    ghost coded = { kept_code };
+
+    ghost view = { λ s. record { session = record { asked = V.asked s.names; account = s.ledger.account }; listed = s.ledger.listed } };
+}
+
+impl<T: ResourceType, V: Speaks<T>> Session<T, V> {
+    /// Before the first request, of a client with this cluster text. It is owed nothing.
+    pub fn new(alloc: Global, cluster: ClusterText) -> Session<T, V>
+        ensures new { result ≡ new_kept cluster }
+        ensures fits { (h : Holdings) → SessionFits V.NAME T.TYPE h result }
+    {
+        Session {
+            names: V::unasked(alloc, cluster),
+            ledger: Ledger::new(alloc),
+        }
+    }
+
+    // Whether a request with this nonce is stale, so that it is ignored.
+    pub(crate) fn is_stale(&self, nonce: &str) -> bool
+        ensures { result ≡ is_stale self.now.session nonce.now }
+    {
+        V::has_begun(&self.names) && self.ledger.is_stale(nonce)
+    }
+
+    /// Whether the client is owed something: a response of the type is unanswered or due. It takes no memory.
+    pub fn owes(&self, catalogue: &Catalogue<T>) -> bool
+        requires { SessionFits V.NAME T.TYPE catalogue.now self.now }
+        ensures { result ≡ sessions.owes V.NAME T.TYPE self.now.session catalogue.now.entries }
+    {
+        V::has_begun(&self.names) && self.ledger.owes(V::interest(&self.names), catalogue)
+    }
+
+    /// Whether `poll` has a response to send, be there a nonce for it or not. It takes no memory.
+    pub fn sends(&self, catalogue: &Catalogue<T>) -> bool
+        requires { SessionFits V.NAME T.TYPE catalogue.now self.now }
+        ensures { result ≡ is_some (sending V.NAME T.TYPE self.now.session catalogue.now.entries) }
+    {
+        V::has_begun(&self.names) && self.ledger.sends(V::interest(&self.names), catalogue)
+    }
+
+    /// What a response says now, and that response as the one of this number, be one to be sent or not. Refused only by
+    /// `OutOfMemory`.
+    pub fn respond(
+        &self,
+        alloc: Global,
+        replica: u16,
+        catalogue: &Catalogue<T>,
+        number: u64,
+    ) -> Result<(NameMap<Due>, V::Draft), Refusal>
+        requires { SessionFits V.NAME T.TYPE catalogue.now self.now }
+        ensures offer { IfOk result (λ p. p.0 ≡ offer V.NAME T.TYPE self.now.session.asked.interest catalogue.now.entries self.now.session.account.beliefs) }
+        ensures draft { IfOk result (λ p. p.1 ≡ V.response replica T.TYPE catalogue.now self.now.session.asked.interest p.0 number) }
+        ensures refused { IfErr result (λ e. e ≡ OutOfMemory) }
+    {
+        let interest = V::interest(&self.names);
+        let offer = self.ledger.offer(alloc, interest, catalogue)?;
+        let draft = V::respond(alloc, replica, catalogue, interest, &offer, number)?;
+        Ok((offer, draft))
+    }
+
+    /// Lists the names that changed since the session was refreshed last, and answers how many these are; none before the
+    /// first request. Refused only by `OutOfMemory`, and then the session is as it was.
+    pub fn refresh(&mut self, alloc: Global, catalogue: &Catalogue<T>) -> Result<u64, Refusal>
+        requires { SessionFits V.NAME T.TYPE catalogue.now self.old }
+        ensures same { self.new.session ≡ self.old.session }
+        ensures fits { SessionFits V.NAME T.TYPE catalogue.now self.new }
+        ensures count { IfOk result (λ n. n ≡ (if self.old.session.asked.begun then finmap.len (changed_since catalogue.now self.old.listed.mark) else 0)) }
+        ensures mark { OnOk result (self.old.session.asked.begun ≡ true → self.new.listed.mark ≡ catalogue.now.changes) }
+        ensures err { OnErr result (self.new ≡ self.old) }
+        ensures refused { IfErr result (λ e. e ≡ OutOfMemory) }
+    {
+        if !V::has_begun(&self.names) {
+            return Ok(0);
+        }
+        self.ledger.refresh(alloc, catalogue)
+    }
+
+    /// Looks at what changed since, and lets the names go that are owed nothing, as far as there is memory for it.
+    pub fn tidy(&mut self, alloc: Global, catalogue: &Catalogue<T>)
+        requires { SessionFits V.NAME T.TYPE catalogue.now self.old }
+        ensures same { self.new.session ≡ self.old.session }
+        ensures fits { SessionFits V.NAME T.TYPE catalogue.now self.new }
+    {
+        if !V::has_begun(&self.names) {
+            return;
+        }
+        self.ledger.tidy(alloc, V::interest(&self.names), catalogue);
+    }
+
+    /// The next response, if one is to be sent: nothing of the type is unanswered, something is due, and it isn't
+    /// what the client refused. `replica` is the number of this replica. Refused only where a response is to be sent: by
+    /// `NonceSpent` where the stream has no nonce left, and else by `OutOfMemory`; then nothing is sent, and no nonce is
+    /// drawn.
+    pub fn poll(
+        &mut self,
+        alloc: Global,
+        replica: u16,
+        catalogue: &Catalogue<T>,
+        nonces: &mut Nonces,
+    ) -> Result<Option<V::Draft>, Refusal>
+        requires { SessionFits V.NAME T.TYPE catalogue.now self.old }
+        ensures ok { IfOk result (λ answer. HasPolled V.NAME T.TYPE catalogue.now.entries (V.response replica T.TYPE catalogue.now self.old.session.asked.interest) self.old.session nonces.old answer self.new.session nonces.new) }
+        ensures bound { IfOk result (λ answer. IfSome answer (λ _. nonces.new ≤ max_counter)) }
+        ensures fits { SessionFits V.NAME T.TYPE catalogue.now self.new }
+        ensures err { OnErr result ((self.new.session ≡ self.old.session) × (nonces.new ≡ nonces.old)) }
+        ensures refused { IfErr result (λ e. IsSome (sending V.NAME T.TYPE self.old.session catalogue.now.entries) × (((e ≡ NonceSpent) × (nonces.old ≡ max_counter)) ⊎ ((e ≡ OutOfMemory) × (nonces.old < max_counter)))) }
+    {
+        self.tidy(alloc, catalogue);
+        self.poll_tidied(alloc, replica, catalogue, nonces)
+    }
+
+    // The next response, from the list as it is.
+    fn poll_tidied(
+        &mut self,
+        alloc: Global,
+        replica: u16,
+        catalogue: &Catalogue<T>,
+        nonces: &mut Nonces,
+    ) -> Result<Option<V::Draft>, Refusal>
+        requires { SessionFits V.NAME T.TYPE catalogue.now self.old }
+        ensures ok { IfOk result (λ answer. HasPolled V.NAME T.TYPE catalogue.now.entries (V.response replica T.TYPE catalogue.now self.old.session.asked.interest) self.old.session nonces.old answer self.new.session nonces.new) }
+        ensures bound { IfOk result (λ answer. IfSome answer (λ _. nonces.new ≤ max_counter)) }
+        ensures fits { SessionFits V.NAME T.TYPE catalogue.now self.new }
+        ensures err { OnErr result ((self.new.session ≡ self.old.session) × (nonces.new ≡ nonces.old)) }
+        ensures refused { IfErr result (λ e. IsSome (sending V.NAME T.TYPE self.old.session catalogue.now.entries) × (((e ≡ NonceSpent) × (nonces.old ≡ max_counter)) ⊎ ((e ≡ OutOfMemory) × (nonces.old < max_counter)))) }
+    {
+        if !self.sends(catalogue) {
+            return Ok(None);
+        }
+        let mut drawn = *nonces;
+        let number = drawn.next()?;
+        let (offer, draft) = self.respond(alloc, replica, catalogue, number)?;
+        *nonces = drawn;
+        self.ledger.send(alloc, offer, number);
+        Ok(Some(draft))
+    }
+
+    /// Notes that a response with this offer was sent, as the one of this number. It takes no memory.
+    pub fn send(&mut self, alloc: Global, offer: NameMap<Due>, number: u64)
+        ensures { self.new ≡ record self.old { session = send self.old.session offer number } }
+    {
+        self.ledger.send(alloc, offer, number);
+    }
+
+    /// An equal session, with memory of its own. Refused only by `OutOfMemory`.
+    pub fn try_copy(&self, alloc: Global) -> Result<Session<T, V>, Refusal>
+        ensures ok { IfOk result (λ s. s ≡ self.now) }
+        ensures err { IfErr result (λ e. e ≡ OutOfMemory) }
+    {
+        Ok(Session {
+            names: V::copied(alloc, &self.names)?,
+            ledger: self.ledger.try_copy(alloc)?,
+        })
+    }
+}
