@@ -1,4 +1,13 @@
 -- What a response leaves of what a client holds, in both variants. This project's own.
+--     Delivery, sotw_stated, delta_stated  a response of either variant
+--     sotw_delivery                    state of the world: a response of a complete type is the whole
+--     delta_delivery                   delta: no version of a response is kept
+--     fault_in                         why a response is rejected, if it is
+--     statements                       what a response that is taken states
+--     shown, shown_after, cache_after  what is held of a name after a response that is taken: what it states
+--     taking                           a response that is taken is taken whole
+--     rejecting                        of one that is rejected nothing but the nonce is kept
+--     delivered                        after a response
 use Rattle.std.specs.Prelude.{ℕ, List, [], ◌++◌, map, Bool, false, ◌||◌, if◌then◌else◌, Option, Some, None}
 use Rattle.std.specs.Option.{option_or, option_map_or}
 use Rattle.std.specs.FinMap as finmap

@@ -1,5 +1,16 @@
 -- Why a client rejects a response: the first of its resources that is at fault, and the first reason against that. This
 -- project's own.
+--     Test                what a client's test answers, by the type URL, the name and the body
+--     Stated              a resource of a response: in delta with the name and the version that the message gives it
+--     refusal_text        the number of a refusal and its name, as `4 BadResource`
+--     first_reason        the first of the reasons that holds
+--     is_misnamed         whether the message gives a resource another name than its body does
+--     reasons, fault_by   what may be wrong with a resource that is one
+--     fault_of            why a resource is at fault, if it is
+--     holding_of          what is held of a resource
+--     and_stated          what is stated once a resource is, too
+--     stated_by           what resources state, after what was stated before them
+--     first_fault         why the first resource at fault is rejected, after what was stated before
 use Rattle.std.specs.Prelude.{ℕ, List, [], ◌∷◌, ◌++◌, Bool, false, ◌||◌, not, if◌then◌else◌, Option, Some, None, Result, Ok, Err, bytes_eq, codes, decimal}
 use Rattle.std.specs.Option.{option_or, option_map_or}
 use Rattle.std.specs.FinMap as finmap

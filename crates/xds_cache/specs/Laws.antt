@@ -1,5 +1,15 @@
 -- What clients want and hold, name by name, and that their interests are those that a server makes of their requests. This
 -- project's own.
+--     WantsWhatIsReached   what is wanted is what the interest reaches
+--     ListIsInterest       a list is the interest that it says by itself
+--     ListIsAsked          state of the world: a server makes of each request what is wanted
+--     FirstIsAsked         delta: of the first request on a stream, which subscribes all that is wanted
+--     FirstChangeIsAsked   delta: of a change that is the first request of its type on a stream
+--     ChangeIsAsked        a change is what a server makes of a request with its two lists, after the first request
+--     WantedByName         what is wanted after a change, text by text
+--     ShownByName          what is held after a response that is taken, name by name
+--     KeptByName           what is held after a change, name by name
+--     HoldsWhatIsWanted    nothing is held that isn't wanted
 use Rattle.std.specs.Prelude.{◌≡◌, ℕ, List, [], Bool, true, false, ◌||◌, None}
 use Rattle.std.specs.FinMap as finmap
 use Rattle.xds_resource.specs.declared.types.TypeName.{TypeName}

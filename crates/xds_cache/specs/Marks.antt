@@ -1,4 +1,6 @@
 -- Resources that are marked to be refused. This project's own.
+--     is_unmarked_by   whether a resource's mark lets the client take it
+--     is_unmarked      whether a body lacks `"reject":true` at its top level
 use Rattle.std.specs.Prelude.{Bool, true, not, Option, Some, None, codes}
 use Rattle.serde_json.specs.Data.{Data, null, boolean, number, string, array, object}
 use Rattle.serde_json.specs.Find.{get}

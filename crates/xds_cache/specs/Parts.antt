@@ -1,5 +1,10 @@
 -- The parts from which what is wanted and held is made, entry by entry: the answers of the functions that make it. This
 -- project's own.
+--     unless_dropped   of a text that was wanted, by a change that doesn't subscribe it
+--     as_before        of a text that is wanted in any case
+--     left             of a name that was held, beside a response that is the whole or not, and removes these names
+--     added            of a name that a response states
+--     version_told     of a name that is held, the version
 use Rattle.std.specs.Prelude.{ℕ, List, Bool, ◌&&◌, ◌||◌, not, if◌then◌else◌, Option, Some, None}
 use Rattle.std.specs.FinMap as finmap
 use Rattle.xds_resource.specs.declared.types.TypeName.{TypeName}

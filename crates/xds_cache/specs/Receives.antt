@@ -1,4 +1,9 @@
 -- What `change` and `receive` leave of a client and give to send. This project's own.
+--     Outcome                          what a call leaves of a client, and what it gives to send
+--     sotw_changed, sotw_change        a client of the state of the world wants these texts
+--     delta_changed, delta_change, sotw_answered, delta_answered,
+--     if_addressed                     after a delta client subscribes and unsubscribes, with the request that says so
+--     sotw_receive, delta_receive      a client that can't use its stream refuses a response
 use Rattle.std.specs.Prelude.{Bool, ◌&&◌, if◌then◌else◌, Option, Some, None, Result, Ok, Err}
 use Rattle.std.specs.FinMap as finmap
 use Rattle.xds_resource.specs.declared.types.TypeName.{TypeName}

@@ -1,5 +1,13 @@
 -- A client that polls: what it asks for, and what an answer leaves of it. The paths and statuses are those of Envoy's "xDS REST and
 -- gRPC protocol"; that the client keeps the version of what it took, and forgets it with what it wants, is this project's own.
+--     unlinked_shelf                a request without a nonce, since no stream is there
+--     rest_asking, rest_request     what a client asks for in a poll of a type
+--     forgetting, rest_changed      once a client wants these of a type
+--     rest_taking, rest_delivered   an answer that is taken is taken whole, with its version
+--     rest_answered                 after an answer to a poll of a type, with why it is rejected, if it is
+--     answers_poll                  whether an answer of this URL is one to a poll of a type
+--     has_body                      whether an answer has a body that is one to a poll of a type
+--     rest_receive                  an answer to a poll of a type
 use Rattle.std.specs.Prelude.{ℕ, List, [], Bool, false, ◌&&◌, if◌then◌else◌, Option, Some, None, Ok, Err, bytes_eq}
 use Rattle.std.specs.Option.{option_map_or}
 use Rattle.xds_resource.specs.declared.types.TypeName.{TypeName}

@@ -1,4 +1,10 @@
 -- What a client sends: at the start of a stream, and after a change. This project's own.
+--     failure                          why a response is rejected, as `INVALID_ARGUMENT` of google.rpc.Code
+--     sotw_request, sotw_first, delta_request  every request has all that is wanted
+--     delta_first                      the first request of a type on a stream subscribes all that is wanted
+--     delta_answer                     the answer to a response
+--     first_requests                   the first requests on a stream, of these types in order
+--     is_greeted                       whether who asks was said once these types were asked for
 use Rattle.std.specs.Prelude.{ℕ, List, [], ◌∷◌, Bool, true, if◌then◌else◌, Option, None, option_map, pos}
 use Rattle.std.specs.FinMap as finmap
 use Rattle.xds_resource.specs.declared.types.TypeName.{TypeName}

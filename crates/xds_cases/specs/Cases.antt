@@ -1,4 +1,18 @@
 -- Cases as lines of a text, or as some lines each: how a case is written out, and when a case holds. This project's own.
+--     unfolded      a text with each line that begins with four spaces joined to the line before it
+--     with_urls     a text with the types' URLs in place of their short names
+--     is_number     whether these are digits that write a 64-bit number
+--     number_in     the number that a text writes in decimal; a plus may stand first
+--     repetition    what `[*3` stands for: the text before the star, as often as the number behind it says
+--     repeat_of     what the text behind a `<` stands for: a repetition up to `>`, and the rest as it is
+--     repeats_of    what texts behind a `<` each stand for, in a row
+--     IsWritten     there is such a text, and it was added to what was written before
+--     IsRefusal     there is no such text, and the refusal says so; or no memory was found
+--     repeated      a text with each repeat written out, as `[[[` for `<[*3>`; none where a `<` begins no repeat
+--     written_out   a text with what its abbreviations stand for: the types' URLs first, and then the repeats
+--     case_of       the case that a text writes: what is given, and what is wanted of it
+--     Holds         a text writes a case, and what is wanted is something that may be made of what is given
+--     told_by       the text that a call answered, or the number and the name of its refusal
 use Rattle.std.specs.Prelude.{◌≡◌, ◌≢◌, ℕ, ◌^◌, List, [], ◌∷◌, ◌++◌, length, Bool, ◌&&◌, Option, Some, None, if◌then◌else◌, nat_lt, option_and_then, replicate, IsSomeAnd, Result, Ok, Err, codes, decimal}
 use Rattle.std.specs.Option.{option_map, option_map_or}
 use Rattle.std.specs.List.{concat}

@@ -1,4 +1,9 @@
 -- Stories: steps that are each answered, a line each. This project's own.
+--     parts_of      a step's verb and what stands behind it; a step of one word is its verb
+--     Answers       what a step may answer
+--     IsAnswered    a line writes a step and its answer, by which the script before the step may be the one after it
+--     AreAnswered   lines that each write a step and its answer, from one script to another
+--     IsFollowed    the lines of a story are answered as it says, from a beginning
 use Rattle.std.specs.Prelude.{◌≡◌, List, [], ◌∷◌, unwrap_or, IsSomeAnd, codes}
 use Rattle.std.specs.Str.Lines.{lines}
 use Rattle.xds_cases.specs.Texts.{Text, around}

@@ -1,4 +1,13 @@
 -- Texts that are cut at a word, and texts with one word in place of another. This project's own.
+--     Text          bytes
+--     begins_with   whether a text begins with a word; none begins with the empty word
+--     around        what stands before the first place of a word in a text, and what stands behind it
+--     pieces_past   the pieces of a text behind its first bytes, as many as are passed
+--     pieces        what stands between the places of a word in a text, before the first of them and behind the last
+--     each_behind   texts in a row, each with this text before it
+--     joined        texts in a row, with this text between each two of them
+--     replaced      a text, with `by` in each place of a word
+--     AreWords      the words of a text, apart by white space
 use Rattle.std.specs.Prelude.{◌≡◌, ℕ, zero, suc, ◌<◌, List, [], ◌∷◌, ◌++◌, length, drop, Bool, false, Option, Some, None, if◌then◌else◌, nat_eq}
 use Rattle.std.specs.Option.{option_map}
 use Rattle.std.specs.List.{starts_with, onto_first}

@@ -1,4 +1,11 @@
 -- Which writes of a list add or replace an entry, and how many do. This project's own.
+--     surpasses       greater than what is held, or the first
+--     is_news         a write that changes what is held, after the writes before it
+--     changes_after   the number of writes that are greater than all before them of their name
+--     changes_of      the same, where nothing came before
+--     change_list     the changes that the writes make, the latest first
+--     NoneChanges     no write of the list changes the entry of this name, where others came before the list
+--     IsLastChange    the write that comes after front changes the entry of this name, none after it does
 use Rattle.std.specs.Prelude.{◌≡◌, ℕ, ◌+◌, List, [], ◌∷◌, ◌++◌, Bool, true, false, Option, Some, None, if◌then◌else◌}
 use Rattle.std.specs.Ordering.{is_gt}
 use Rattle.xds_resource.specs.Writes.{StampedWrite, write_cmp}

@@ -1,4 +1,9 @@
 -- Which resources of a catalogue a client sees: those that are live and that its interest covers. This project's own.
+--     is_live    a write that puts a resource, and no deletion
+--     is_shown   live, and covered by the interest of a client
+--     content    what a client of this interest sees, in ascending order of names
+--     if_live    the write, if it is live
+--     live_at    what stands live under a name
 use Rattle.std.specs.Prelude.{ℕ, List, Bool, ◌&&◌, Option, Some, None, is_some, if◌then◌else◌}
 use Rattle.std.specs.Option.{option_and_then}
 use Rattle.std.specs.List.{filter}

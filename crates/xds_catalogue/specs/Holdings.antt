@@ -1,4 +1,11 @@
 -- What a catalogue of one type holds: the greatest write of each name, deletions among them, a count of changes, and the number of the latest change of each entry. This project's own.
+--     Entries                   names and the writes that stand under them
+--     Latest                    names and the numbers of the latest changes of their entries
+--     Holdings, holdings_code   the entries of a catalogue, how many writes added or replaced one
+--     nothing_held              a catalogue that nothing was put into
+--     catalogue_of              the best write of each name that the list has
+--     IsCatalogue               each write stands under its own name
+--     IsNumbered                each entry has a number, from 1 to the count of changes, and no two have the same
 use Rattle.std.specs.Prelude.{◌≡◌, ℕ, ◌≤◌, List, map, Some, is_some, unwrap_or, IfSome, refl}
 use Rattle.std.specs.Coded.{Coded, code_by, coded×, coded_ℕ, coded_list}
 use Rattle.std.specs.FinMap as finmap

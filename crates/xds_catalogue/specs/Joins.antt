@@ -1,4 +1,10 @@
 -- What a catalogue holds after writes are joined to it, whether one by one or a whole catalogue's. This project's own.
+--     join         the greater write of each name that either has
+--     IsAbove      m has a write at least as great wherever n has one
+--     changes_by   how many of the writes add or replace an entry
+--     latest_by    each entry's latest change, once these writes came
+--     joined       what is held once these writes came
+--     joining      how many entries the writes add or replace, and what is held then
 use Rattle.std.specs.Prelude.{◌≢◌, ℕ, ◌+◌, List, [], ◌∷◌, ◌++◌, nat_lt, Result, IfSome, IsSomeAnd}
 use Rattle.std.specs.FinMap as finmap
 use Rattle.std.specs.declared.cmp.Ordering.TheVariants.{Greater}

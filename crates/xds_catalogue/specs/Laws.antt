@@ -1,4 +1,20 @@
 -- Laws of catalogues: which writes they are made of, how they join, and what changes them. This project's own.
+--     HasTheBest                       a catalogue has the best write of each name
+--     StandUnderTheirNames             each of its writes stands under its own name
+--     IsMadeOfItsWrites                a catalogue is made again of what it holds
+--     OrderDoesNotMatter               neither the order of writes nor how often each comes changes a catalogue
+--     JoinsTheWrites, JoinCommutes, JoinAssociates,
+--     JoinIsIdempotent                 to join two catalogues is to make one of all their writes
+--     JoinIsAbove                      a join is above both of its parts
+--     JoinIsLeast                      and below everything that is above both
+--     JoinsOneAfterAnother             writes that come in two lists are joined as those of one
+--     RepeatsChangeNothing             writes that came before change nothing when they come again
+--     NoChangeKeepsAll                 where nothing changes, the entries stay
+--     NoneAbove                        no entry has a greater counter than the greatest
+--     IsReached                        which is 0, or some entry's
+--     EntriesAreNumbered               each entry of what is held keeps a number of its own, whatever writes come
+--     NoChangeKeepsNumbers             where nothing changes, the numbers stay
+--     NumberIsOfTheLast                an entry's number, after writes that came
 use Rattle.std.specs.Prelude.{◌≡◌, ◌⊎◌, ℕ, ◌+◌, ◌≤◌, List, ◌++◌, Some, Contains}
 use Rattle.std.specs.FinMap as finmap
 use Rattle.xds_resource.specs.Writes.{StampedWrite}

@@ -1,4 +1,11 @@
 -- What a catalogue's own writes are: each has a counter above all that the catalogue holds. This project's own.
+--     greatest_counter_of   the greatest counter among writes, or 0 where there are none
+--     greatest_counter      the greatest counter that a catalogue holds, deletions included, or 0 where it holds none
+--     next_counter          the counter of the next write
+--     spent_conditions      why no write can be made now, in order
+--     has_live              whether there is a live resource of the name
+--     putting               the counter of the write that puts a resource with these groups, and what is held then
+--     deleting              the counter of the write that deletes a live resource, and what is held then
 use Rattle.std.specs.Prelude.{ℕ, ◌+◌, ◌==◌, max, List, [], ◌∷◌, map, Bool, not, Result}
 use Rattle.std.specs.List.{fold}
 use Rattle.std.specs.Option.{option_map_or}

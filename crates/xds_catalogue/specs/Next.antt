@@ -1,4 +1,6 @@
 -- Which change of a catalogue's entries comes next after a number. This project's own.
+--     NoneAfter      no entry's latest change is above this number
+--     IsNextChange   the write w stands, its number is above this one
 use Rattle.std.specs.Prelude.{◌≡◌, ℕ, ◌<◌, ◌≤◌, List, Some, IfSome}
 use Rattle.std.specs.FinMap as finmap
 use Rattle.xds_resource.specs.Writes.{StampedWrite}

@@ -1,4 +1,7 @@
 -- A catalogue to which writes were joined, for as long as they can be taken back. This project's own.
+--     Pending, pending_code   what is held before the writes and after them
+--     tables_before           the tables before the changes that put these aside, when the counts were these
+--     IsPending               once the changes are taken back
 use Rattle.std.specs.Prelude.{ℕ, ◌≤◌, List, refl}
 use Rattle.std.specs.Coded.{Coded, code_by, coded×}
 use Rattle.xds_catalogue.specs.Holdings.{Holdings, holdings_code}

@@ -1,4 +1,25 @@
 -- The two ordered maps that stand for a catalogue: from each name to the write that stands under it and the number of its latest change, and from that number to the name. This project's own.
+--     NumberedWrite, numbered_code     a write that stands, and the number of the change that put it there
+--     by_text                          the entries of a map from texts, each seen by f
+--     by_number                        the entries of a map from numbers, each seen by f
+--     Named, named_code                the map from names, as its writes and its numbers
+--     named_by, no_names               what the entries of an ordered map say
+--     with_name                        this write under this name
+--     without_name                     nothing under this name
+--     with_former                      under this name what stood there before, if that was anything
+--     TwoMaps, two_maps_code, no_tables  both maps, the count of changes
+--     held_by                          the catalogue that the tables stand for
+--     with_write                       the write under its name with the next number, beside which the old number stays
+--     without_number                   this number taken out
+--     PutAside, put_aside_code         what a change put aside: its name and number, and what stood there before
+--     IsPutAside                       what putting this write puts aside
+--     taken_back                       a change taken back
+--     all_taken_back                   changes taken back, the last one first
+--     with_counts                      with this count of changes, and this greatest counter
+--     former_number                    the number of what stood there before
+--     former_numbers, IsAmong          the numbers of all that was put aside
+--     IsSoundBut                       the two maps agree, but for numbers that are still to be taken out
+--     IsSound                          the two maps agree, and what they stand for is a catalogue
 use Rattle.std.specs.Prelude.{◌≡◌, ◌≢◌, ◌⊎◌, ℕ, ◌+◌, ◌≤◌, max, List, [], ◌∷◌, ◌++◌, map, String, Option, Some, None, if◌then◌else◌, is_some, IfSome, refl}
 use Rattle.std.specs.Coded.{Coded, code_by, coded×, coded_ℕ, coded_list, coded_option}
 use Rattle.std.specs.Ordering.{nat_cmp}

@@ -1,4 +1,18 @@
 -- Requests and responses as a trace has them, in either variant of Envoy's "xDS REST and gRPC protocol".
+--     Label                            the name and the version that stand beside a resource in a delta response
+--     Statement                        a resource of a response
+--     Answer                           a response of either variant
+--     IsReadable                       a resource whose text can be read again
+--     IsStatement                      a resource of the type, with a label just in delta
+--     IsAnswer                         what every response is that is read
+--     sotw_message, label_or_none, labelled_resource,
+--     delta_message                    the messages that responses are written as
+--     stated_names, variant_of, url_of  the names of the resources that a response states
+--     is_of, nonce_of                  whether a request is of this type; one of a type outside the table is of none
+--     rejects, cluster_in              whether a request that answers a response rejects it
+--     cluster_of, mention_in           the cluster text of the node in a request, empty where there is none
+--     lists_in                         the list of names of a request, if it is one of the state of the world
+--     mentions_in                      the two lists of a request, if it is one of delta
 use Rattle.std.specs.Prelude.{◌≡◌, ℕ, List, [], ◌∷◌, map, Bool, false, Option, Some, is_some, All}
 use Rattle.std.specs.Option.{option_map_or, unwrap_or}
 use Rattle.serde_json.specs.Read.{read}

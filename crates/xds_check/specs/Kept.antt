@@ -1,5 +1,41 @@
 -- What the checker of a trace keeps of the lines so far, of one type: of each stream the client's interest, the last response,
 -- the offers that count, the names that wait and the nonces that were used. This project's own.
+--     Marks, is_marked                 names, each with whether it is marked
+--     without_each                     without those names of a list of which a test is true
+--     Talk, offer_code, marks_code, talk_code  what is kept of a stream, of one type
+--     unheard, Talks                   of a stream of which no line spoke
+--     talk_at                          what is kept of a stream
+--     wanted                           what the client wants
+--     introduced                       once the client made itself known, as one of this cluster
+--     is_stale                         whether the nonce of a request is stale, so that the request is ignored
+--     listed_mark, listed_marks        what a request of the state of the world says of a name that it lists
+--     left_marks                       without the names that a delta request unsubscribes, which subscribes others
+--     joined_mark, mentioned_marks     what one says of a name that it subscribes
+--     waiting_after, with_asked        the names that wait once a request is taken
+--     with_taken                       once a request is taken
+--     is_answer                        whether a request answers the response that is unanswered
+--     answered, begun_now              once the response is answered, if the request does that
+--     requested                        once a request of the type came
+--     asked                            once a request of whatever type came
+--     stated_due                       what a response says of a name that it states
+--     offer_in                         the offer of a response
+--     unmarked                         without the marks of these names
+--     responded, with_nonce            once a response of the type was sent
+--     told                             once a response of whatever type was sent
+--     heard                            what is kept of a stream after a line
+--     is_reused                        whether a response has no nonce, or one that was used before
+--     is_best_in, breaks_best_resources  whether a resource is that of the best live write of its name
+--     is_covered_in, states_uncovered  whether a name that has a best write is covered
+--     lacks_one, lacks_a_name          whether a response lacks one of some writes
+--     is_shown_in, removes_shown, offers_refused  whether a name is live and covered
+--     least_by_names                   the least rule that a response breaks
+--     least_by_order                   and of those that look at what became of the responses before it
+--     least                            the least rule that a response breaks
+--     is_missed                        whether a name waits whose answer is missed
+--     none_missed                      whether no name waits whose answer is missed
+--     broken_in                        the least rule that a line breaks, if it is one of this type
+--     held_after                       the writes that are held
+--     IsHeard                          what is kept of every stream
 use Rattle.std.specs.Prelude.{◌≡◌, ℕ, List, [], ◌∷◌, Bool, true, false, not, ◌&&◌, ◌||◌, if◌then◌else◌, ◌==◌, Option, Some, None, is_some, bytes_eq, refl}
 use Rattle.std.specs.Coded.{Coded, code_by, coded×, coded_ℕ, coded_bool, coded_list, coded_option}
 use Rattle.std.specs.List.{list_any, list_all}

@@ -1,4 +1,9 @@
 -- What is claimed of the texts of traces, and of verdicts on traces. This project's own.
+--     ATextSaysOneLine       a text says one line at most
+--     BytesAreOneTrace       bytes are one trace at most
+--     ATraceHasNoBadLine     bytes that are a trace have no bad line
+--     NoneBrokenHasNoFirst   a trace at which no rule is broken has no first line at which one is
+--     OneIsFirst             the first line at which a rule is broken, and the least rule there, are one
 use Rattle.std.specs.Prelude.{◌≡◌, ℕ, List}
 use Rattle.xds_check.specs.declared.line.Line.{Line}
 use Rattle.xds_check.specs.declared.rule.Rule.{Rule}

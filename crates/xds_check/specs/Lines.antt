@@ -2,6 +2,35 @@
 -- were taken, the responses with what became of each, and the names that wait for an answer. Lines are counted here, and no
 -- ledger is kept. In these definitions the line that came last stands first. The protocol is that of Envoy's "xDS REST and
 -- gRPC protocol"; traces are this project's own.
+--     write_at                         the write of this type that a line is, if it is one
+--     writes_in                        the writes of a type
+--     standing                         the best write of a name: the greatest
+--     live, Turn, turn, is_asking      the best write of a name, if it isn't a deletion
+--     has_asked                        whether there was a request
+--     offered                          what a response offers of a name
+--     offer_at, Fate, is_unanswered    the offer of a response, at its line
+--     Sent                             a response that was sent
+--     answered_by                      a response once this request came
+--     sent_after                       the responses after a line; the first request of all answers none
+--     sent, is_waiting                 the responses of the type on the stream, the last one first
+--     last_nonce                       the nonce of the last response
+--     refused_after, refused_offer     the offer of the latest refused response, where none was accepted since
+--     is_stale, taken_after            the nonce of a request is stale, and the request ignored
+--     taken                            the requests of the type on the stream that were taken, the first one first
+--     cluster_at                       the cluster text that a line brings, if it is a request on the stream
+--     cluster_on, lists, mentions      the cluster text of the stream's first request
+--     is_mentioned                     whether there is a delta request among those that mentions were taken from
+--     interest_of                      the interest that some requests come to, by the rules of their variant
+--     interest                         the interest of the stream in the type
+--     speaks_delta                     whether the requests that were taken are those of delta
+--     is_covered                       whether a name that has a best write is covered
+--     is_shown                         whether a name is live and covered
+--     pending_in_delta                 a name after a taken delta request
+--     pending_in_sotw, pending_taken   a name after a taken request of the state of the world
+--     tells, pending_after             whether a response states or removes a name
+--     is_pending                       whether a name of the type waits for an answer on the stream
+--     has_nonce                        whether a line is a response on the stream with this nonce
+--     is_used                          whether a nonce was used on the stream, for a response of whatever type
 use Rattle.std.specs.Prelude.{ℕ, ◌==◌, List, [], ◌∷◌, ◌++◌, map, Bool, true, false, not, ◌&&◌, ◌||◌, if◌then◌else◌, Option, Some, None, is_some, bytes_eq}
 use Rattle.std.specs.List.{list_any, flat_map}
 use Rattle.std.specs.Option.{option_map, option_map_or, option_and_then, option_or, unwrap_or}

@@ -1,5 +1,14 @@
 -- What the reader of a trace keeps of the lines so far: by stream, whether it is open and whether it is one of delta. This
 -- project's own.
+--     OrderKept, order_kept_code   which streams are open, and which of them speak delta
+--     nothing_kept                 before the first line
+--     IsOrderOf                    what is kept is what the lines say, the last of which stands first
+--     is_open_in                   whether a stream is open, by what is kept
+--     may_speak_in                 whether a message may come on a stream
+--     may_follow_in                whether a line may come next
+--     kept_after                   what is kept after a line
+--     IsTaken                      what taking the line that a text says leaves
+--     IsBadIn                      a text that says no line, or one that may not come next
 use Rattle.std.specs.Prelude.{◌≡◌, ◌⊎◌, ℕ, List, [], ◌∷◌, ◌++◌, Bool, true, false, ◌&&◌, is_none, refl}
 use Rattle.std.specs.Coded.{Coded, code_by, coded×, coded_ℕ, coded_bool}
 use Rattle.std.specs.Ordering.{nat_cmp}

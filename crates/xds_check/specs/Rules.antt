@@ -1,5 +1,25 @@
 -- The rules that every trace of a replica keeps, each of one line and the lines that stand before it, the last of which stands
 -- first; and the first line of a trace at which one is broken. This project's own.
+--     place                 the place of a rule among the eight
+--     word_of               the word that programs print
+--     HasReusedNonce        P1: a response's nonce is empty, or was used before on its stream
+--     is_label_of           whether a label is that of a write: its name, and its version
+--     is_put_by             whether a resource is the one that a write puts; in delta also by its label
+--     is_best               whether a resource is that of the best live write of its name
+--     BreaksBestResources   P2: a response's resource isn't that of the best live write of its name
+--     StatesUncovered       P3: a response's resource isn't covered by the interest
+--     LacksAName            P4: a response of the state of the world, of a complete type
+--     RemovesShown          P5: a response removes a name that is live and covered
+--     IsSecondAtATime       P6: a response is sent while another of its type on its stream is unanswered
+--     OffersRefused         P7: a response offers what the latest refused one of its type on its stream did
+--     LeavesPending         P8: it is said that nothing is owed while a name is pending
+--     BreaksAtResponse      what breaks a rule at a response
+--     BreaksAtIdle          what breaks a rule where it is said that nothing is owed
+--     Breaks                the rule is broken at a line, by what stands before it
+--     KeepsRules            a line that breaks no rule
+--     AllKeep               no rule is broken at any of some lines, the last of which stands first
+--     NoneBroken            no rule is broken at any line of a trace
+--     FirstBroken           the first line of a trace at which a rule is broken, by its number from 1
 use Rattle.std.specs.Prelude.{◌≡◌, ◌<◌, ℕ, ◌+◌, List, [], ◌∷◌, ◌++◌, length, reverse, Bool, true, false, not, ◌&&◌, ◌||◌, Some, is_some, bytes_eq, codes, ⊤}
 use Rattle.std.specs.List.{list_any}
 use Rattle.std.specs.Option.{option_map_or}

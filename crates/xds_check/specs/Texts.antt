@@ -1,5 +1,42 @@
 -- How a line of a trace is spelled, and what the bytes of a whole trace say. This project's own; messages are spelled in the
 -- proto3 JSON mapping.
+--     IsStated                       a JSON value is the resource that is stated, and no label stands beside it
+--     IsLabelled                     a resource of a delta response is the one that is stated, with its label
+--     IsSotwAnswer                   an answer is a response of the state of the world
+--     IsDeltaAnswer                  an answer is a delta response
+--     IsBehind                       a text's first word is this, and the text behind it is what is said of it
+--     IsBehindStream                 a text's first word is a stream's number
+--     IsJsonOf                       a text is JSON that spells something
+--     request_kind                   the kind of a request's message
+--     SpellsAsking                   JSON spells a request
+--     response_kind                  the kind of a response's message
+--     SpellsSotwAnswer               a value spells a response that is the answer, in either variant
+--     SpellsDeltaAnswer              which values spell it
+--     SpellsAnswer                   JSON spells a response of the variant of the answer
+--     verb_in                        the form of a line
+--     SaysBehind                     what stands behind the first word of a line
+--     IsLineOf                       a line of this form, of which this stands behind the first word
+--     IsRequestOf                    a request of the kind that a word tells, spelled by JSON
+--     IsResponseOf                   and so of a response
+--     IsRequestWith, IsRequestOn     the line of such a request on a stream
+--     IsResponseWith, IsResponseOn   and so of a response
+--     IsLineWith                     a line of the form that a word tells
+--     IsText                         a line that a text tells
+--     Says                           what a line's text says, which is UTF-8
+--     SayAll                         the texts say these lines, one each
+--     ended                          some texts, each ended by a line feed
+--     IsOneLine                      no line feed stands in a text
+--     IsTrace                        the bytes are a trace of these lines
+--     IsBad                          a text that says no line, or one that may not stand behind these
+--     BeginsBadly                    the bytes from a line on begin with a bad one
+--     IsFirstBad                     the first bad line of some bytes has this number, from 1
+--     IsRefusedAt                    why the bytes of a trace are refused at a line
+--     asking_json, answer_json       the JSON of a request, and of a response
+--     HasStream                      the stream of a line, if it has one, has a number that a stream may have
+--     spaced                         words, with a space between each two of them
+--     behind_text                    what is written behind the first word of a line
+--     line_text                      the text of a line
+--     trace_text                     the text of a trace
 use Rattle.std.specs.Prelude.{◌≡◌, ◌≢◌, ◌⊎◌, IsUtf8, ℕ, ◌+◌, List, [], ◌∷◌, ◌++◌, length, map, reverse, true, false, if◌then◌else◌, ◌==◌, Some, None, Ok, codes, decimal, All, ⊤}
 use Rattle.std.specs.List.{AllZip, list_any}
 use Rattle.serde_json.specs.Data.{Data}

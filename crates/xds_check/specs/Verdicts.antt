@@ -1,4 +1,13 @@
 -- What the checker tells of the lines of some types alone: the first of them at which a rule is broken. This project's own.
+--     speaks_of                       whether a line can break a rule and is of one of some types
+--     AllKeepOf                       no line of these types breaks a rule, the last of the lines standing first
+--     FirstOf                         the first line of these types at which a rule is broken, by its number from 1
+--     Found, found_of, earlier_than   what is told: a line by its number, and a rule
+--     earlier_of                      the earlier of two, and the first where they are of one line
+--     TellsFirst                      the first line of these types is told at which a rule is broken
+--     IsVerdict                       the verdict on a trace
+--     TellsWell                       a trace that keeps the rules is told to do so,
+--     TellsTheFirst                   and of one that doesn't the first broken line is told, with the least rule there
 use Rattle.std.specs.Prelude.{◌≡◌, ◌<◌, ℕ, ◌+◌, List, [], ◌∷◌, ◌++◌, length, reverse, Bool, true, false, Option, Some, None, option_map, nat_lt, if◌then◌else◌, ⊤}
 use Rattle.xds_resource.specs.declared.types.TypeName.{TypeName}
 use Rattle.xds_check.specs.declared.line.Line.{Line}

@@ -1,4 +1,12 @@
 -- The words of a trace's line, with one space behind each. This project's own.
+--     space            a space
+--     cut              the text before the first space and the text behind it, where there is one
+--     word_of, verbs   the first word of a line of each form
+--     verb_of          the verb that is this word
+--     max_stream       the greatest number of a stream, 2 ^ 63 - 1
+--     IsStream         a stream's number
+--     IsStreamText     a text is a stream's number in decimal without leading zeros
+--     Finds            the call answers what fits, as `view` sees it
 use Rattle.std.specs.Prelude.{◌≡◌, ◌≢◌, ◌≤◌, ◌==◌, ℕ, List, [], ◌∷◌, if◌then◌else◌, bytes_eq, Option, Some, None, option_map, Result, Ok, Err, codes, decimal, find}
 use Rattle.xds_resource.specs.declared.refusal.Refusal.{Refusal}
 use Rattle.xds_resource.specs.declared.refusal.Refusal.TheVariants.{OutOfMemory, BadTrace}

@@ -1,4 +1,5 @@
 -- Which write of a type a write of any type is. This project's own.
+--     write_of   the write, if it is one of this type
 use Rattle.std.specs.Prelude.{Option, Some, None, if◌then◌else◌}
 use Rattle.xds_resource.specs.declared.types.TypeName.{TypeName}
 use Rattle.xds_resource.specs.declared.any.AnyWrite.{AnyWrite}

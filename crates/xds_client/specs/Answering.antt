@@ -1,5 +1,13 @@
 -- How a client answers the frame of a response, or why it doesn't. The messages are those of discovery.proto; the refusals are this
 -- project's own.
+--     takes                            the client takes what isn't marked
+--     Answer                           what a client is after a response, the response's nonce, whether it was refused
+--     answer_of                        an answer by its parts
+--     SotwAnswers                      the text spells a response, and this is what the client makes of it
+--     SotwUnanswered, DeltaAnswers, DeltaUnanswered, AnswersText,
+--     TextUnanswered                   the text is no JSON
+--     Answers                          a frame of a response of the client's variant, and its answer
+--     IsUnanswered                     a frame of another kind, or one whose text isn't answered
 use Rattle.std.specs.Prelude.{◌≡◌, ◌⊎◌, ℕ, List, Bool, Ok, Err, is_some}
 use Rattle.serde_json.specs.Data.{Data}
 use Rattle.xds_resource.specs.declared.refusal.Refusal.{Refusal}

@@ -1,4 +1,12 @@
 -- How a client's stream ends before all responses were answered. This project's own.
+--     NoneFailed    no call of the reader or the writer failed
+--     IsPart        a beginning of the bytes
+--     Devices       what comes in, what goes out to the server, what is printed
+--     IsNothing     `part` is what was written to the server of an answer, and `shown` what was printed of it
+--     EndsWithin    less than a frame is left, or what is none
+--     IsUntold      an answer isn't printed whole, or it is, and isn't written whole
+--     EndsAtFrame   the next frame isn't answered, or its answer isn't told
+--     EndsEarly     how a client ends where these bytes are left of those that were read
 use Rattle.std.specs.Prelude.{◌≡◌, ◌⊎◌, ℕ, List, [], ◌++◌, take}
 use Rattle.std.specs.Io.KnownBytes.{IsAtEnd}
 use Rattle.xds_resource.specs.declared.refusal.Refusal.{Refusal}

@@ -1,4 +1,10 @@
 -- Responses that a client answered, one after another. This project's own.
+--     Exchange       the frame of a response, and what the client made of it
+--     AreAnswered    each is answered by the client that the one before it left
+--     client_after   the client then
+--     responses      the bytes of the responses' frames
+--     answers        the bytes of the answers' frames
+--     printed        what is printed of them
 use Rattle.std.specs.Prelude.{ℕ, List, [], ◌∷◌, ⊤}
 use Rattle.std.specs.List.{flat_map}
 use Rattle.xds_resource.specs.declared.types.TypeName.{TypeName}

@@ -1,4 +1,8 @@
 -- The lines that are printed of a response. This project's own.
+--     answer_line    whether the response was taken
+--     holding_line   a resource that is held, with its version where the client was told one
+--     view_lines     what is held, in the order of names
+--     lines          what is printed of a response that was answered, and of what is held then
 use Rattle.std.specs.Prelude.{ℕ, List, ◌++◌, Bool, if◌then◌else◌, codes}
 use Rattle.std.specs.List.{flat_map}
 use Rattle.std.specs.FinMap as finmap

@@ -1,5 +1,13 @@
 -- A client's stream from its first request to its last answer: which bytes were read, which were written, what was printed, and what is
 -- answered. This project's own; the messages are those of Envoy's "xDS REST and gRPC protocol".
+--     Ends         how it ends after these responses, of so many
+--     Serves       responses are answered one after another, up to so many
+--     IsCut        what is said first isn't written whole, and nothing was read or printed
+--     Starts       this is said first, and then responses are answered
+--     IsUnopened   nothing was read, written or printed
+--     Runs         a client says its first requests, each as a frame, and then answers as many responses as it is to
+--     IsUnlinked   there is no connection, and nothing happened
+--     RunsAt       a client over a connection, of which nothing is known but how its calls ended; or without one
 use Rattle.std.specs.Prelude.{◌≡◌, ◌<◌, ◌≤◌, ◌+◌, ◌⊎◌, ℕ, List, [], ◌++◌, length, Result, Ok, Err}
 use Rattle.std.specs.Io.KnownBytes.{Consumes}
 use Rattle.xds_resource.specs.declared.refusal.Refusal.{Refusal}

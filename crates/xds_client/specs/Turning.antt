@@ -1,4 +1,19 @@
 -- The turns by which a client's stream is served: each answers a response or reads a piece. This project's own.
+--     variant_of, client_of   the variant of a client's stream, and the client
+--     devices                 the devices of a client's stream
+--     longest_piece           as many bytes as a piece has at most
+--     left_to_do              what is left to be done by a reader that was called so often
+--     IsMade                  what is made of an answer: its lines and its frame
+--     IsUntellable            no reply, since there was no memory, or the request's text is too long for a frame
+--     GivesAnswer             the next frame's answer, none where less than a frame is held, or why there is none
+--     Fills                   a piece is read and put behind the bytes that are held
+--     NoneFailedOf            no call of any failed
+--     TakesOne                the next response is answered
+--     ReadsOne                a piece is read, by one call, since less than a frame is held
+--     Stops                   it ends
+--     Turns                   what a turn comes to
+--     NeedsCalls              each call of the reader gave some bytes
+--     GoesOn                  responses were answered, and it goes on with what is held then
 use Rattle.std.specs.Prelude.{◌≡◌, ◌<◌, ◌≤◌, ◌⊎◌, ◌+◌, ◌-◌, ◌*◌, ℕ, List, [], ◌++◌, length, Bool, true, false, Option, Some, None, Result, Ok, Err, string_bytes}
 use Rattle.std.specs.Io.KnownBytes.{Consumes, IsAtEnd}
 use Rattle.xds_resource.specs.declared.refusal.Refusal.{Refusal}

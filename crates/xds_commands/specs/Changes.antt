@@ -1,4 +1,8 @@
 -- What a line of the server's input changes. This project's own.
+--     Written, change_of               a replica's number, and what happens there
+--     write_of, written_by, change_said  the write that may happen so, if it is one
+--     only_change                      what a line says has to be a change, if it says anything
+--     change_in                        what a line changes; none where it is skipped
 use Rattle.std.specs.Prelude.{ℕ, List, Option, Some, None, Result, Ok, Err, option_map}
 use Rattle.std.specs.Option.{ok_or}
 use Rattle.xds_resource.specs.declared.refusal.Refusal.{Refusal}

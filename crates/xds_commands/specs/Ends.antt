@@ -1,5 +1,14 @@
 -- How the commands that ask a server end, by what they write and their status: `xds poll`, with the post that goes out and the reply that
 -- is shown, and `xds client`, with the subscription that its task asks for. This project's own.
+--     TellsRefusal   a refusal is told, and nothing is shown
+--     ShowsReply     a reply is shown: its status in a line, and its body in the next, where it has one
+--     question_of    what a poll's task asks a server
+--     EndsPollBy     `xds poll`, by what posts its request
+--     EndsPoll       `xds poll` over a connection, of which nothing is known but what it told
+--     variant_of     the variant of a client's stream
+--     IsOf           the subscription is the one that a client's task asks for
+--     HasEnded       the status of a client that ended so, and what is told of that
+--     EndsClient     `xds client`: the client of its task ran over a connection, and its end is told
 use Rattle.std.specs.Prelude.{◌≡◌, ◌⊎◌, ℕ, List, Result, Ok, Err, ⊤}
 use Rattle.http.specs.declared.request.Request.{Request}
 use Rattle.http_body_util.specs.declared.full.Full.{Full}

@@ -1,4 +1,13 @@
 -- Which changes of an input are handed over, in which order, and which of its lines is told as refused. This project's own.
+--     AllHanded    each change was handed over once, in order
+--     line_after   the number of the line behind so many from this one on, which stops at the greatest that can be told
+--     behind       that number, or that line is the one that is refused
+--     HandsLast    the change of the last line is handed over, if it is one; or the line is refused
+--     TakesAll     all lines were taken, however their bytes came, the last of which no line feed ends
+--     TakesUpTo    the lines before one that is refused were taken, and it is told by its number, from 1
+--     TakesSome    a read failed: the lines that had ended before were taken
+--     StopsInput   an input isn't taken to its end: up to a line that is refused
+--     TakesInput   the lines of the bytes that came are taken: all of them, where the input is at its end
 use Rattle.std.specs.Prelude.{◌≡◌, ℕ, ◌+◌, ◌-◌, ◌^◌, min, List, [], ◌∷◌, Option, Some, None, Result, Ok, Err, IsOk}
 use Rattle.std.specs.Io.KnownBytes.{Consumes, IsAtEnd}
 use Rattle.xds_resource.specs.declared.refusal.Refusal.{Refusal}

@@ -1,4 +1,11 @@
 -- What the lines of the server's input bring, as they come in pieces. This project's own.
+--     brought      the write that was read, if any
+--     brings       what a line changes, where it isn't wrong
+--     is_wrong     a line that is neither skipped nor a change
+--     AreTaken     the lines bring these changes, and none of them is wrong
+--     AreRefused   the first lines bring these changes, and the one behind so many of them is refused
+--     AreEnded     a piece behind what is held of the last line: so many lines end in it, and what is left is held
+--     Takes        what was taken of bytes: the lines that end there, or those before one that is refused
 use Rattle.std.specs.Prelude.{◌≡◌, ◌⊎◌, ℕ, List, [], ◌∷◌, ◌++◌, length, Bool, true, false, All, Option, Some, None, Result, Ok, Err, is_err}
 use Rattle.std.specs.Option.{option_to_list}
 use Rattle.std.specs.List.{flat_map}

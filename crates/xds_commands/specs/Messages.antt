@@ -1,4 +1,10 @@
 -- What a server writes on its error output, and how it ends. This project's own.
+--     refusal_line   the line of a refusal
+--     fault_line     the line of a refused line of the input
+--     port_line      the line of a port that can't be bound
+--     replica_line   the line of a replica: its number, and its ports
+--     first_end      what the end was told to be first stays
+--     counted_end    the end once a stream more has ended, of those that are still to end
 use Rattle.std.specs.Prelude.{ℕ, List, ◌++◌, ◌-◌, ◌==◌, if◌then◌else◌, Option, Some, None, codes, decimal}
 use Rattle.xds_resource.specs.declared.refusal.Refusal.{Refusal}
 use Rattle.xds_resource.specs.Refusals.{number_of, name_of}

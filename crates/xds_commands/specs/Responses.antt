@@ -1,4 +1,5 @@
 -- Which responses over HTTP a served replica gives to posts. This project's own.
+--     IsResponseAt   the response to a post at a path with a body
 use Rattle.std.specs.Prelude.{◌⊎◌, ℕ, List, codes}
 use Rattle.http.specs.declared.response.Response.{Response}
 use Rattle.http_body_util.specs.declared.full.Full.{Full}

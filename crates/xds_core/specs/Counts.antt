@@ -1,4 +1,5 @@
 -- How marks of the program are seen. This project's own.
+--     counts_of   the counts, of each type
 use Rattle.std.specs.Prelude.{ℕ}
 use Rattle.xds_resource.specs.PerType.{PerType}
 use Rattle.xds_core.specs.declared.catalogues.Marks.{Marks}

@@ -1,4 +1,15 @@
 -- What steps and lists of records have in common, whatever the events. This project's own.
+--     RefusalsChangeNothing            a refused event changes nothing
+--     BeginningsAreLegal               a legal list stays legal when its end is cut
+--     EndsAreLegal                     and its end is legal from what is left then
+--     EventsDecide                     the events alone decide the answers
+--     stream_changed                   whether an event changes streams, and which: a stream that opens is the next one
+--     StreamsStandApart                streams don't touch each other, and Put, Delete and Merge touch none
+--     is_write                         whether an event may change what is held
+--     OnlyWritesChangeTheStore         only Put, Delete and Merge change what is held
+--     NumberStays                      a replica keeps its number
+--     CountersNeverFall                the greatest counter that is held of a type never falls
+--     OwnCountersRise, OwnDeletionsRise  the counter of an own write is above all that are held of its type
 use Rattle.std.specs.Prelude.{◌≡◌, ◌≢◌, ℕ, ◌+◌, ◌≤◌, List, ◌++◌, map, Bool, true, false, Option, Some, None, Ok, Err}
 use Rattle.std.specs.FinMap as finmap
 use Rattle.xds_resource.specs.declared.types.TypeName.{TypeName}

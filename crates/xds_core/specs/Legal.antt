@@ -1,4 +1,11 @@
 -- Lists of records: events with their answers. This project's own.
+--     Record      an event and what it was answered
+--     answer_of   what a step answers
+--     left_by     what is left after a step that began here: a refused event changes nothing
+--     after       what a replica is after an event
+--     replayed    what a replica is after these records, from a base
+--     IsLegal     each answer is the reply of the step after the records before it
+--     IsShort     what holds where an event finds no memory: no other refusal applies
 use Rattle.std.specs.Prelude.{◌≡◌, List, [], ◌∷◌, Result, Ok, Err, IsOk, IsSomeAnd, ⊤}
 use Rattle.std.specs.FinMap as finmap
 use Rattle.xds_resource.specs.declared.refusal.Refusal.{Refusal}

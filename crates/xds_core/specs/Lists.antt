@@ -1,5 +1,7 @@
 -- Streams with the lists of what they may be owed: the streams alone, and when every list suffices. The lists decide nothing, so
 -- a replica is seen without them. This project's own.
+--     streams_of   the streams without their lists
+--     AllFit       each list of each stream suffices, by what the replica holds
 use Rattle.std.specs.Prelude.{◌≡◌, ℕ, Some}
 use Rattle.std.specs.Ordering.{nat_cmp}
 use Rattle.std.specs.FinMap as finmap

@@ -1,4 +1,7 @@
 -- Catalogues of all types to which a batch was joined, for as long as it can be taken back. This project's own.
+--     befores   what was held before
+--     afters    what is held then
+--     growth    by how much the changes grow, over all types
 use Rattle.std.specs.Prelude.{ℕ, ◌-◌}
 use Rattle.std.specs.List.{sum_by}
 use Rattle.xds_resource.specs.PerType.{PerType, at, per_type}

@@ -1,4 +1,5 @@
 -- How the values of the program are seen as events, replies and records. This project's own.
+--     event_of, reply_of, answer_of   an event, a reply and an answer, as the definitions have them
 use Rattle.std.specs.Prelude.{map, string_bytes, Result, Ok, Err}
 use Rattle.xds_resource.specs.Any.{resource_type, named_body}
 pub use Rattle.xds_core.specs.StreamsSeen.{message_of}

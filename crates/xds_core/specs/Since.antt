@@ -1,4 +1,8 @@
 -- Which entries changed after some marks, of each type a count of changes. This project's own.
+--     is_above        whether the latest change of a name's entry is above this number
+--     changed_after   what stands under the names whose latest change is above this number, deletions included
+--     changed_since   the same of each type, by its own mark
+--     marks_of        how many writes added or replaced an entry, of each type
 use Rattle.std.specs.Prelude.{ℕ, List, Bool, false, nat_lt}
 use Rattle.std.specs.Option.{option_map_or}
 use Rattle.std.specs.FinMap as finmap

@@ -1,4 +1,7 @@
 -- How a session of the program is seen, in either variant. This project's own.
+--     spoken_of   a session, with its variant
+--     firsts      the first of two, where there are two
+--     tagged      a response of one variant as one of either
 use Rattle.std.specs.Prelude.{Option, option_map, Result, Ok, Err}
 use Rattle.xds_message.specs.declared.draft.Draft.{Draft}
 use Rattle.xds_ledger.specs.declared.variant.VariantName.TheVariants as variants

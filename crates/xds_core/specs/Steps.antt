@@ -1,5 +1,14 @@
 -- What a replica answers to an event, and what it is then: one function of its state and the event. A refused event changes
 -- nothing. The protocol is that of Envoy's "xDS REST and gRPC protocol"; replicas and their merge are this project's own.
+--     Core, core_code           a replica: its number, its catalogues, its streams
+--     fresh                     a replica at which nothing happened
+--     Step                      what an event is answered, and what is left
+--     with_stream               with what a stream is then
+--     on_stream                 what f makes of an open stream
+--     opening_step              a stream opens: it answers the stream's number, and what is left
+--     stream_step, close_step   what a stream answers, and what is left
+--     write_step, merge_step    a write of this replica
+--     rested, step              what a client is answered that polls without a stream
 use Rattle.std.specs.Prelude.{ℕ, ◌+◌, ◌==◌, List, [], ◌∷◌, Option, Result, Ok, Err, refl}
 use Rattle.std.specs.Coded.{Coded, code_by, coded×, coded_ℕ}
 use Rattle.std.specs.Ordering.{nat_cmp}

@@ -1,4 +1,15 @@
 -- What a replica holds of all types, and its own writes and batches of writes. This project's own.
+--     Store         a catalogue of each type
+--     Batch         a batch: writes of each type
+--     merged        what is held of each type once a batch came
+--     is_spent      whether a batch makes more changes of some type than can be counted
+--     grown         how many entries a batch adds or replaces, over all types
+--     merging       how many entries a batch adds or replaces, and what is held then
+--     joining_at    what is held once a write of the type came
+--     if_done       what f makes of an answer, unless that is a refusal
+--     putting_at    the counter of the write that puts a resource of the type with these groups, and what is held then
+--     deleting_at   the counter of the write that deletes a live resource of the type, and what is held then
+--     all_entries   all that is held, deletions included, of each type in ascending order of names
 use Rattle.std.specs.Prelude.{ℕ, List, [], ◌∷◌, Bool, Result, Ok, Err, nat_lt}
 use Rattle.std.specs.List.{list_any, sum_by}
 use Rattle.std.specs.FinMap as finmap

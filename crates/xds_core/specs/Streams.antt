@@ -1,6 +1,29 @@
 -- What a replica keeps of a stream: its variant, once the first request decided it, how many responses were sent on it, and a
 -- session of each type. A type that wasn't asked for has a session before its first request. The protocol is that of
 -- Envoy's "xDS REST and gRPC protocol"; the variant of a stream, and its cluster text, are this project's own.
+--     Stream, variant_flag, flagged_variant, flagged_again,
+--     variant_code, stream_code        a stream: its variant
+--     opening                          before the first request
+--     Message, variant_of, url_of, nonce_of  a request of either variant
+--     cluster_in, cluster_of           the cluster text of the node in a request, if there is one
+--     is_same_variant                  whether two variants are the same
+--     is_foreign                       whether a request isn't of the stream's variant
+--     session_after                    the session of a type after a request
+--     answered_by                      what a request becomes, and the sessions after it, by the type that it names
+--     answered                         the same of a request that must name a type
+--     sessions_for                     the sessions that a request comes to
+--     requested                        what a request becomes on a stream, and the stream after it
+--     to_send                          what the next response of the type would offer, if one is to be sent
+--     owes_of                          whether the client is owed something of the type
+--     sent                             the stream once a response with this offer was sent
+--     response_of                      a response of the variant with this offer, as the one of a number
+--     responding                       this offer is sent, where the stream has a number left for it
+--     polled                           the response of the type, if one is to be sent, and the stream then
+--     looked_at                        one type, or all in the order of the table
+--     first_due                        the first of these types that has a response to send
+--     polled_first                     the response of the first of these types that has one to send
+--     IsToRespond                      what holds where a poll of these types finds no memory
+--     owes_some                        whether the client is owed something of these types
 use Rattle.std.specs.Prelude.{◌≡◌, ℕ, ◌+◌, ◌==◌, ◌<◌, List, [], ◌∷◌, length, Bool, true, false, not, if◌then◌else◌, Option, Some, None, is_some, IsSome, option_map, find, Result, Ok, Err, refl}
 use Rattle.std.specs.Coded.{Coded, code_by, coded×, coded_ℕ, coded_bool, coded_option}
 use Rattle.std.specs.Option.{option_map_or, option_and_then}

@@ -1,4 +1,5 @@
 -- How a request of the program is seen as a message. This project's own.
+--     message_of   a request of either variant, as a message
 use Rattle.xds_core.specs.Streams as streams
 use Rattle.xds_core.specs.Streams.{Message}
 use Rattle.xds_core.specs.declared.request.Request.{Request}

@@ -1,4 +1,20 @@
 -- A session of either variant, and a stream whose variant is decided. This project's own.
+--     Spoken, spoken_code              a session with its list, and the variant that it speaks
+--     drafted                          a response of the variant with this offer, to a client of this interest
+--     Talk, talk_code                  a stream whose variant is decided
+--     begun                            before the first request of a type is taken, in a variant
+--     offer_at                         what a response of a type would offer now, be one to be sent or not
+--     sent_at                          once a response of a type with this offer was sent, as the one of this number
+--     with_session                     with this session of a type
+--     stream_in                        the stream whose variant is decided
+--     stream_of                        a stream, be it decided or not
+--     Listing, listing_code            a stream whose variant is decided, with a list of each type
+--     kept_at                          a session of such a stream, with its list
+--     ListingFits                      each list suffices, by what a replica holds
+--     TalkStaysFit                     wherever the lists sufficed, they suffice
+--     Followed, followed_code, followed_opening, followed_of  a stream, be it decided or not, with a list of each type
+--     StreamFits                       once the variant is decided, the list of each type suffices
+--     StreamStaysFit                   wherever the lists of a stream sufficed, they suffice
 use Rattle.std.specs.Prelude.{◌≡◌, ℕ, List, Option, Some, None, refl}
 use Rattle.std.specs.Coded.{Coded, code_by, coded×, coded_ℕ}
 use Rattle.xds_resource.specs.declared.types.TypeName.{TypeName}

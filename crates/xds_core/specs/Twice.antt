@@ -1,4 +1,7 @@
 -- Replies that are given twice, to one who keeps an event and a copy of what it was answered. This project's own.
+--     is_light        whether a reply has neither a response nor a batch, so that a second one takes no memory
+--     poll_in         the stream and the type of a poll, if an event is one
+--     IsShortBeside   what holds where an event that stays with the caller finds no memory
 use Rattle.std.specs.Prelude.{ℕ, Bool, true, false, Option, Some, None, ⊤}
 use Rattle.xds_resource.specs.declared.types.TypeName.{TypeName}
 use Rattle.xds_core.specs.Events.{Event, Poll, Put, Merge, Reply, Polled, Entries, Rested, Changed}

@@ -1,4 +1,12 @@
 -- What contracts see of the ends of a channel: what was put, what was taken, and which belong to one channel. This project's own.
+--     put_by         what was put by an end, in order
+--     taken_by       what was taken by one
+--     taken_of       and by one that left
+--     AreEnds        they are the two ends of one channel
+--     IsOf           an end that left was the other one of this
+--     IsSameEnd      the same end, before and after something was put
+--     IsSameSource   the same end, before and after something was taken
+--     Begins         one list is a beginning of another
 use Rattle.std.specs.Prelude.{◌≡◌, List, ◌++◌}
 use Rattle.crossbeam_channel.specs.Claims.{view, IsSeatAt}
 use Rattle.crossbeam_channel.specs.Ends.{sends_on, receives_on}

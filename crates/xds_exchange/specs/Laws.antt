@@ -1,4 +1,13 @@
 -- What holds of merges by parts and of rounds. This project's own.
+--     PartsAreOneMerge       the parts of some writes, merged one after another, come to one merge of them all
+--     ChangesAreAll          where what isn't above the marks is known, what is above them comes to the same as all
+--     AllIsKnown             once all is merged, all is known, whatever the marks are
+--     ZerosKnowNothing       with marks of zero nothing needs to be known
+--     MergesKeepKnowing      what is known stays known, whatever is merged there
+--     EventsKeepCatalogues   whatever happens at a replica, its catalogues are kept so
+--     TellersMayWrite        what is known stays known
+--     HearersMayWrite        it stays known, too, whatever happens at the one that is told
+--     MarksAreTaken          the counts of changes are marks that were taken, and so are zeros
 use Rattle.std.specs.Prelude.{◌≡◌, ℕ, List}
 use Rattle.xds_resource.specs.PerType.{PerType, each}
 use Rattle.xds_resource.specs.TypedWrites.{TypedWrite}

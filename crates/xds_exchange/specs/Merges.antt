@@ -1,4 +1,9 @@
 -- Parts of a batch that are merged one after another. This project's own.
+--     merged_by   what is held once the parts came, one after another
+--     grown_by    how many entries the parts add or replace, one after another
+--     holding     a replica that holds this
+--     AllMerged   all parts of some writes were merged into a replica
+--     IsStopped   the first parts of some writes were merged into a replica, and then no memory was found
 use Rattle.std.specs.Prelude.{◌≡◌, ◌⊎◌, ℕ, ◌+◌, List, [], ◌∷◌, ◌++◌, length, Err}
 use Rattle.xds_resource.specs.TypedWrites.{TypedWrite}
 use Rattle.xds_resource.specs.declared.refusal.Refusal.{Refusal}

@@ -1,4 +1,7 @@
 -- What holds of the parts of any writes. This project's own.
+--     AreTheWrites   the parts, joined in order, are the writes
+--     AreWithin      each part of writes that are held is within the bounds
+--     FitFrames      each part of writes that are held fits a frame: the text of its batch is short enough
 use Rattle.std.specs.Prelude.{◌≡◌, List, true, All}
 use Rattle.std.specs.List.{flat_map}
 use Rattle.xds_resource.specs.TypedWrites.{TypedWrite}

@@ -1,4 +1,15 @@
 -- How a batch of writes is cut into parts, each of which fits a frame. This project's own.
+--     typed_write    a write of the program, with its type
+--     max_writes     a part has at most this many writes
+--     max_bytes      and at most this many bytes of bodies and lists of groups
+--     groups_bytes   the bytes of the list of groups, as it is written for a write, and none where it isn't
+--     weight         what a write weighs in a part
+--     is_part        whether some writes are within the bounds of a part
+--     parts_behind   the parts of some writes, behind those that the first part has already
+--     parts_of       the parts of some writes, of which there are none where there is no write
+--     IsNextPart     the first part of some writes is given as a batch, and the writes behind it are left
+--     IsFirstPart    the first n of some writes are their first part, as long as the bounds allow
+--     batch_frame    the frame of a batch
 use Rattle.std.specs.Prelude.{◌≡◌, ◌≤◌, ◌<◌, ◌+◌, ℕ, List, [], ◌∷◌, ◌++◌, map, length, Bool, true, false, not, ◌&&◌, nat_lt, if◌then◌else◌, Option, Some, None, unwrap_or, take}
 use Rattle.std.specs.List.{sum_by}
 use Rattle.std.specs.Option.{option_map_or}

@@ -1,4 +1,10 @@
 -- What one replica tells another since the last time, by marks. This project's own.
+--     unchanged_after   the entries whose latest change isn't above this number
+--     Knows             the one replica holds
+--     AreTaken          marks that were taken of a replica, or are zero: of each type it made as many changes, or more
+--     told              the writes that are told: those above the marks, deletions included
+--     IsKept            what every replica's catalogues are
+--     HasAll            `after` is what the merge of all that `from` holds makes of `to`
 use Rattle.std.specs.Prelude.{◌≡◌, ◌≤◌, ℕ, List, not}
 use Rattle.std.specs.FinMap as finmap
 use Rattle.xds_resource.specs.declared.types.TypeName.{TypeName}

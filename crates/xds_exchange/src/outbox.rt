@@ -163,36 +163,8 @@ fn push_all(
         (map typed_write all.new.items ≡ map typed_write all.old.items ++ typed kind (at batch.now kind)) }
     ensures refused { IfErr result (λ e. e ≡ OutOfMemory) }
 {
-    for index in 0..len_of(batch, kind) {
-        all.push(write_at(alloc, batch, kind, index)?)?;
+    for index in 0..batch.len_of(kind) {
+        all.push(batch.write_at(alloc, kind, index)?)?;
     }
     Ok(())
-}
-
-fn len_of(batch: &Batch, kind: TypeName) -> usize
-    ensures { result ≡ length (at batch.now kind) }
-{
-    match kind {
-        TypeName::Cluster => batch.cluster.len(),
-        TypeName::Endpoint => batch.endpoint.len(),
-        TypeName::Listener => batch.listener.len(),
-        TypeName::Route => batch.route.len(),
-        TypeName::Secret => batch.secret.len(),
-    }
-}
-
-// A write of a batch. Its texts are shared.
-fn write_at(alloc: Global, batch: &Batch, kind: TypeName, index: usize) -> Result<AnyWrite, Refusal>
-    requires { index < length (at batch.now kind) }
-    ensures ok { IfOk result
-        (λ w. (d : StampedWrite) → typed_write w ≡ (kind, get_or (at batch.now kind) index d)) }
-    ensures refused { IfErr result (λ e. e ≡ OutOfMemory) }
-{
-    Ok(match kind {
-        TypeName::Cluster => AnyWrite::Cluster(batch.cluster[index].try_copy(alloc)?),
-        TypeName::Endpoint => AnyWrite::Endpoint(batch.endpoint[index].try_copy(alloc)?),
-        TypeName::Listener => AnyWrite::Listener(batch.listener[index].try_copy(alloc)?),
-        TypeName::Route => AnyWrite::Route(batch.route[index].try_copy(alloc)?),
-        TypeName::Secret => AnyWrite::Secret(batch.secret[index].try_copy(alloc)?),
-    })
 }

@@ -1,4 +1,8 @@
 -- What a decoder does to the bytes that it was fed and hasn't given yet. This project's own.
+--     framed, IsSound   a frame by its bytes
+--     IsFed             a piece is added behind what is left, or nothing is, behind a fault
+--     GivesNext         what is left begins with the frame that is given, with less than one where none is
+--     Finishes          nothing is left, or there is a fault, or else something is left
 use Rattle.std.specs.Prelude.{◌≡◌, ◌<◌, ◌⊎◌, ℕ, List, [], ◌++◌, length, Option, Some, None, Result, Ok, Err}
 use Rattle.xds_resource.specs.declared.refusal.Refusal.{Refusal}
 use Rattle.xds_resource.specs.declared.refusal.Refusal.TheVariants.{Truncated}

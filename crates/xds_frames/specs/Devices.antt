@@ -1,4 +1,16 @@
 -- What calls do to a reader or a writer, as far as that is known. This project's own.
+--     most_calls        as many calls as may be made: each one after them fails
+--     calls_after       the calls so far, which stop there
+--     CountsCall        a call is counted, and succeeds only where one may be made
+--     most_failed       as many failed calls as can be counted
+--     MoreFailed        more calls have failed, or as many as can be counted
+--     CountsFailure     a call that fails is counted as failed, and no other
+--     Device            the bytes that a reader has left, or that a writer holds, and how many of its calls have failed
+--     seen, HasFailed   the device before and after, where `bytes` are those that it has left or holds
+--     Stays             the device is as it was
+--     Wrote             these bytes were written, and no more
+--     WrotePart         a beginning of these bytes was written, and then a call failed
+--     Tells             these bytes were written, or as many of them as the device took before a call failed
 use Rattle.std.specs.Prelude.{◌≡◌, ◌⊎◌, ◌<◌, ◌+◌, ℕ, List, Option, Result, Ok, Err, take, if◌then◌else◌, nat_lt}
 use Rattle.std.specs.Io.KnownBytes.{Keeps, Appends}
 use Rattle.xds_frames.specs.declared.counted.Counted.{Counted}

@@ -1,4 +1,13 @@
 -- Frames, by which messages follow one another on a stream, and bytes that are none. This project's own.
+--     number_of, IsKind                what a message is, as a byte
+--     Framed                           a frame: the kind of its message, and the bytes of the message's text
+--     longest, IsLength                the most that a length may count
+--     after_length                     four bytes of length, most significant first, and what follows them
+--     AreBytes                         what a list of numbers has to be for a stream to have it
+--     frame_bytes, IsFrame             the length counts the kind and the text
+--     IsEmpty, IsTooLong, IsOfNoKind, IsFault  what begins so is no frame, whatever follows
+--     MayFollow                        what a frame may have behind its length
+--     IsPartial                        less than a frame, and no fault: the rest of it may come
 use Rattle.std.specs.Prelude.{◌≡◌, ◌+◌, ◌<◌, ◌≤◌, ◌^◌, ◌⊎◌, ℕ, List, [], ◌∷◌, ◌++◌, length, slice_index, ⊤}
 use Rattle.std.specs.Int.{w32, to_be_bytes}
 use Rattle.xds_resource.specs.declared.refusal.Refusal.{Refusal}

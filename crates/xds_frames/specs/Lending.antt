@@ -1,4 +1,5 @@
 -- What a decoder is once a frame that it lent is let go. This project's own.
+--     Leaves   what a decoder holds once what it lent is given back
 use Rattle.std.specs.Prelude.{ℕ, List}
 use Rattle.std.specs.Borrow.{MutBor, Fml}
 use Rattle.std.specs.Io.BufRead.{Rests}

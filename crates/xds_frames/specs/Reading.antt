@@ -1,4 +1,10 @@
 -- All bytes of a stream, read as frames, in whatever pieces they came. This project's own.
+--     Splits        these frames stand first, one after another, and then the rest
+--     Ends          how the bytes behind the last whole frame end: with it, within a frame, or at a fault
+--     IsRead        all frames of the bytes, up to their end or the first fault, and what they are refused by
+--     HasDecoded    a decoder that was fed these bytes in all, and gave these frames, has these left
+--     HasGivenAll   no more frames come of what is left
+--     refused_by    what a call is refused by
 use Rattle.std.specs.Prelude.{◌≡◌, ◌<◌, ◌⊎◌, ℕ, List, [], ◌++◌, length, Option, Some, None, Result, Ok, Err, All}
 use Rattle.std.specs.List.{flat_map}
 use Rattle.xds_resource.specs.declared.refusal.Refusal.{Refusal}

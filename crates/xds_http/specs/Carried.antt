@@ -1,4 +1,10 @@
 -- What a response over HTTP carries of a reply. This project's own.
+--     status_or_fault   a number as a status
+--     piece_of          a body in one piece, unless it is empty
+--     Carries           the status and the body of a reply
+--     CarriesOrNone     those of a reply, or that there was none
+--     Replying          a reply to a post at a path with a body, between the seat that asks before and after
+--     IsAnswer          the response to a post at a path whose body has come
 use Rattle.std.specs.Prelude.{◌≡◌, ◌⊎◌, ◌==◌, ◌||◌, ℕ, List, Option, Some, None, length, nat_lt, if◌then◌else◌}
 use Rattle.http.specs.declared.response.Response.{Response}
 use Rattle.http.specs.Response.{head_of, body_of}

@@ -1,5 +1,10 @@
 -- What a poll asks a server, and how what it is answered is shown. The message is discovery.proto's; the node that asks, and the form
 -- that is shown, are this project's own.
+--     Question     a poll: its type, the names that are wanted as they are, the version that is kept (or none)
+--     request_of   its message; whoever asks calls itself xds
+--     body_of      the body of its post
+--     line_of      a text and the end of its line, or nothing where it is empty
+--     shown        what is shown of a reply: its status in a line, and its body in the next, where it has one
 use Rattle.std.specs.Prelude.{ℕ, List, [], ◌∷◌, ◌++◌, ◌==◌, Some, None, codes, decimal, length, if◌then◌else◌}
 use Rattle.serde_json.specs.Written.{compact_text}
 use Rattle.xds_resource.specs.declared.types.TypeName.{TypeName}

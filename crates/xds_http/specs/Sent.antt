@@ -1,4 +1,9 @@
 -- The post of a poll over HTTP, and why nothing is told. This project's own.
+--     piece_of       a body in one piece, unless it is empty
+--     IsPostTo       the request posts a body to a path
+--     IsPostOf       the request posts a poll: to the path of its type, with its body
+--     TellsNothing   why nothing is told
+--     IsPolled       one poll by what posts it
 use Rattle.std.specs.Prelude.{◌≡◌, ◌⊎◌, ◌==◌, ℕ, List, Option, Some, None, codes, length, if◌then◌else◌, Result, Err}
 use Rattle.http.specs.declared.request.Request.{Request}
 use Rattle.http.specs.Request as http

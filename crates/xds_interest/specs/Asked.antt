@@ -1,4 +1,19 @@
 -- What is kept of a stream's requests for one type, so that its interest is known after one request more. This project's own.
+--     Asked, asked_code   whether there was a request, whether a state-of-the-world list named something
+--     nothing             a client of this cluster that wants nothing
+--     everything          all of a complete type, and nothing of an incomplete one
+--     unasked             before the first request of a client of this cluster
+--     sotw_asked          state of the world: after one list more
+--     star_after          delta: whether the star stands after one request more, where it stood before or not
+--     names_after         delta: the explicit names after one request more
+--     delta_asked         delta: after one request more; before the first the star stands if that subscribes nothing
+--     wanted_by           delta: what a request leaves the client wanting of the names that it touches
+--     widened             with more explicit names
+--     without_names       without some of its explicit names
+--     narrowed            delta: with the star of an interest
+--     sotw_kept           what is kept of the lists of a whole stream, of a client of this cluster
+--     delta_kept          what is kept of the delta requests of a whole stream, of a client of this cluster
+--     IsStarOfComplete    the star of an incomplete type does not stand
 use Rattle.std.specs.Prelude.{◌≡◌, ℕ, List, [], ◌∷◌, ◌++◌, Bool, true, false, ◌&&◌, ◌||◌, not, if◌then◌else◌, refl}
 use Rattle.std.specs.List.{list_any, filter}
 use Rattle.std.specs.FinSet as set

@@ -1,4 +1,12 @@
 -- The interest of an incremental (delta) stream, from its subscribe and unsubscribe lists, as Envoy's "xDS REST and gRPC protocol" tells.
+--     Mention           the two lists of a request
+--     mention_of        a request by its lists of strings
+--     said              what one request says of a text: subscribed or not, or nothing where it does not mention it
+--     last_said         what the last request that mentions a text says of it
+--     is_subscribed     whether the last request that mentions a text subscribes it
+--     opens_unnamed     whether there is a first request, and it subscribes nothing
+--     ever_subscribed   every text that some request subscribes
+--     delta_interest    the interest after these requests, in order
 use Rattle.std.specs.Prelude.{ℕ, List, [], ◌∷◌, map, String, string_bytes, Bool, true, false, ◌&&◌, not, Option, Some, None, unwrap_or, if◌then◌else◌}
 use Rattle.std.specs.List.{filter, flat_map}
 use Rattle.std.specs.Option.{option_or}

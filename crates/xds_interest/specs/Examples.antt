@@ -1,4 +1,10 @@
 -- Interests worked out by hand after each request of some streams. The streams are this project's own.
+--     a, nothing, star_alone, a_alone, star_and_a  the name and the interests of the examples
+--     SotwClusters                     Clusters, state of the world: nothing, then `*` and A, then A, then nothing
+--     SotwRoutes                       Routes, state of the world: an empty list is nothing, and `*` is a name
+--     SotwTwice, adds, drops           a name that comes twice counts once
+--     DeltaClusters                    Clusters, delta: an empty request, then A comes, `*` goes, A goes
+--     DeltaRoutes                      Routes, delta: an empty request is nothing, `*` is a name
 use Rattle.std.specs.Prelude.{◌≡◌, ℕ, List, [], ◌∷◌, true, false, codes}
 use Rattle.std.specs.FinSet as set
 use Rattle.xds_resource.specs.declared.types.TypeName.TheVariants.{Cluster, Route}

@@ -1,4 +1,14 @@
 -- What a client wants of one type: explicit names and the star, as Envoy's "xDS REST and gRPC protocol" has them. Groups and clusters, which narrow the star, are this project's own.
+--     Selection, selection_code   an interest: whether it has the star, its explicit names
+--     reaches                     the star reaches every name, and an explicit name reaches itself
+--     is_open_to                  whether the star of a client of this cluster covers a write of these groups
+--     covers                      whether an interest covers a write of this name and these groups
+--     in_cluster                  the same interest, of a client of another cluster
+--     text_or_empty               a text that may be left out, which is then empty
+--     star_text                   how the star is written
+--     is_star                     whether a text in a request of the type is the star
+--     has_name                    whether a list mentions a text
+--     names_among                 the texts of a list that are names, in a request of the type
 use Rattle.std.specs.Prelude.{ℕ, ◌==◌, List, [], length, Bool, ◌&&◌, ◌||◌, not, bytes_eq, Option, codes, refl}
 use Rattle.std.specs.List.{list_any, filter}
 use Rattle.std.specs.Option.{option_map_or}

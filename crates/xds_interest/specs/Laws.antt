@@ -1,4 +1,25 @@
 -- What the interests are, in other words: the last list, one request more, and names that a request leaves alone. This project's own.
+--     LastListSaysAll                  once something was named, the last list says all
+--     WhileNothingIsNamed              while requests came and none named anything
+--     ListReachesItsNames              a list reaches the names that it has, and its star reaches all
+--     OneRequestMore                   one request more subscribes what it subscribes, drops what else it unsubscribes
+--     OneRequestMoreForTheStar         and so it does with the star of a complete type, after the first request
+--     StarIsNoName                     the star is no explicit name
+--     IncompleteHasNoStar              only a complete type has the star
+--     UntouchedKeepsReach              a name that the step between two interests does not touch stays reached
+--     UntouchedKeepsReachInDelta       and so does one that a delta request after the first does not touch
+--     CoveredIsReached                 what is covered is reached
+--     WithoutGroupsReachedIsCovered    of writes without groups all that is reached is covered
+--     UntouchedKeepsCover              a name that the step doesn't touch stays covered, or stays not covered
+--     SotwIsKept                       what is kept of the lists of a stream suffices
+--     DeltaIsKept                      and so it is with delta requests
+--     WideningIsUndone                 with more explicit names, and without those that came, all is as before
+--     NarrowingIsTheRest               with the explicit names that a delta request subscribes
+--     SotwTouchIsASet, DeltaTouchIsASet  the touched names, as a set
+--     KeptStarIsOfComplete             only a complete type's star stands in what is kept
+--     UntouchedKeepsReachOfKept        a name that a list does not touch stays reached, or not reached, by what is kept
+--     UntouchedKeepsReachOfKeptInDelta  and so does one that a delta request after the first does not touch
+--     UntouchedKeepsCoverOfKept, UntouchedKeepsCoverOfKeptInDelta  such names stay covered
 use Rattle.std.specs.Prelude.{◌≡◌, ◌≢◌, ℕ, List, [], ◌∷◌, ◌++◌, true, false, ◌&&◌, ◌||◌, if◌then◌else◌, Contains}
 use Rattle.std.specs.FinSet as set
 use Rattle.xds_resource.specs.declared.types.TypeName.{TypeName}

@@ -1,4 +1,9 @@
 -- The interest of a state-of-the-world stream, from the name lists of its requests, as Envoy's "xDS REST and gRPC protocol" tells.
+--     listed          what one list says by itself, of a client without a cluster
+--     is_named        whether a list names something
+--     last_list       the last list of all, and the empty one where there is none
+--     unnamed         what a client wants that has sent requests and named nothing yet
+--     sotw_interest   the interest after these lists, in order
 use Rattle.std.specs.Prelude.{ℕ, List, [], ◌∷◌, Bool, true, false, if◌then◌else◌}
 use Rattle.std.specs.List.{list_any}
 use Rattle.std.specs.FinSet as set

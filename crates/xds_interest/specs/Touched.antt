@@ -1,4 +1,8 @@
 -- Which names a request touches, so that a server answers them anew. Drawn from Envoy's "xDS REST and gRPC protocol"; the word is this project's own.
+--     exactly_one     whether just one of two holds
+--     sotw_touches    state of the world, from the old interest to the new
+--     mentions        whether a request mentions a text in one of its lists
+--     delta_touches   delta: each name that the request mentions
 use Rattle.std.specs.Prelude.{ℕ, List, Bool, ◌&&◌, ◌||◌, not}
 use Rattle.std.specs.FinSet as set
 use Rattle.xds_resource.specs.declared.types.TypeName.{TypeName}

@@ -1,4 +1,7 @@
 -- The names that a request touches, as a set: each of some names, or every name. This project's own.
+--     Touch, touch_code, touches   whether every name is touched, and those that are touched in any case
+--     sotw_touch                   from an old interest to a new one of the state of the world
+--     delta_touch                  by a delta request
 use Rattle.std.specs.Prelude.{ℕ, List, ◌++◌, Bool, ◌&&◌, ◌||◌, refl}
 use Rattle.std.specs.FinSet as set
 use Rattle.std.specs.Coded.{Coded, code_by, coded×, coded_ℕ, coded_bool, coded_list}

@@ -1,4 +1,6 @@
 -- JSON in order: whole numbers in decimal, and objects whose keys ascend. Written with no space, it is the compact text of what it reads as.
+--     IsWhole      the shortest decimal of a number of 64 bits
+--     ComesFirst   the text comes before every key
 use Rattle.std.specs.Prelude.{◌≡◌, ◌<◌, ◌^◌, ℕ, List, unwrap_or, decimal, ⊤}
 use Rattle.std.specs.Ordering.{nat_cmp}
 use Rattle.std.specs.declared.cmp.Ordering.TheVariants.{Less}

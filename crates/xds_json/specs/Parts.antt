@@ -1,4 +1,7 @@
 -- The parts that requests of both variants have in Envoy's `discovery.proto`, and which JSON values spell them.
+--     Identity                        who asks: of Envoy's Node its id and its cluster
+--     Failure                         why a client rejects a response: of google.rpc.Status its code and its message
+--     SpellsIdentity, SpellsFailure   which values spell it
 use Rattle.std.specs.Prelude.{ℕ, ℤ, List, codes}
 use Rattle.serde_json.specs.Data.{Data}
 use Rattle.xds_resource.specs.Fields.{field}

@@ -1,4 +1,7 @@
 -- Where a member belongs among others. For private clauses.
+--     Entry     a member of an object that was read
+--     placed    the members, with j at k
+--     IsPlace   the key comes after the one before this place, and before those from it on
 use Rattle.std.specs.Prelude.{◌≡◌, ◌≤◌, ℕ, suc, List, length, get_or, drop}
 use Rattle.std.specs.Borrow.{Bor}
 use Rattle.std.specs.List.{AllByRecursion}

@@ -1,4 +1,5 @@
 -- What tokens read as, in order, whatever more depth the grammar allows. For private clauses.
+--     ReadsTo, ItemsReadTo, MembersReadTo  tokens read as a value, as items, as members, and leave the rest
 use Rattle.std.specs.Prelude.{◌≡◌, ◌≤◌, ℕ, List, length, Some}
 use Rattle.json.specs.Token.{Token}
 use Rattle.json.specs.Json.{items, members, value}

@@ -1,5 +1,18 @@
 -- What the fields of a message's JSON object hold, as the proto3 JSON mapping spells them. The code of an error may also
 -- be a text, as that mapping allows for a whole number.
+--     IsJson, IsObject   bytes that are a JSON text of this value
+--     without_minus      the text without a minus before it
+--     value_of_digits    the number that decimal digits write, below zero after a minus
+--     IsNumeralOf        decimal digits, one or more, with or without a minus before them
+--     IsWhole            a whole number, as a number or as a text of its digits
+--     set_value          what a field is set to: `null` sets nothing
+--     IsOrDefault        the default where nothing is set, and else what the value is
+--     IsText             a text
+--     IsTexts            a list of texts
+--     IsObjects          a list of objects
+--     IsCode             a whole number of 32 bits
+--     IsInner            a message within the message, which is there or not
+--     Reads              the call answers what fits, as `view` sees it
 use Rattle.std.specs.Prelude.{◌≡◌, ◌≢◌, ℕ, ℤ, pos, neg_ℤ, List, [], drop, map, if◌then◌else◌, Option, Some, None, Result, Ok, Err, IsSome, IsSomeAnd, All, IsUtf8, FitsSigned}
 use Rattle.std.specs.Int.{w32}
 use Rattle.std.specs.Str.Parse.{IsNumeral, digits_value, starts_with_minus}

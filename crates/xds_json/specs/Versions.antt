@@ -1,5 +1,10 @@
 -- Versions by name, as a delta request tells which a client holds: a `map<string, string>` of the proto3 JSON mapping, which
 -- is an object whose values are texts.
+--     VersionMap, version_map_code   a version for each of some names
+--     pairs_of                       the bytes of names and versions
+--     text_members                   the members of an object that has a text for each name
+--     IsVersions                     an object whose values are texts
+--     pairs_data, versions_data      what pairs are written as, and nothing where there are none
 use Rattle.std.specs.Prelude.{◌≡◌, ℕ, List, [], ◌∷◌, map, String, string_bytes, Option, Some, None}
 use Rattle.std.specs.Coded.{Coded, coded_ℕ, coded_list}
 use Rattle.std.specs.FinMap as finmap

@@ -1,5 +1,12 @@
 -- What a field is written as in the proto3 JSON mapping, where one that holds its default is left out; and the objects of the
 -- parts that requests of both variants have.
+--     text_data, list_data, code_data  what a text, a list, a code is written as: nothing where it is the default
+--     Fields                           names, each with the value that is set there
+--     put_set, members_set, object_set  the members, with a value at a key where there is one
+--     identity_fields                  the fields that are written for it
+--     identity_object                  the object that is written for it
+--     failure_fields                   the fields that are written for it
+--     failure_object                   the object that is written for it
 use Rattle.std.specs.Prelude.{ℕ, zero, suc, ℤ, pos, negsuc, List, [], ◌∷◌, Option, Some, None, codes}
 use Rattle.serde_json.specs.Data.{Data, number, string, array, object, Members, no_members, put}
 use Rattle.serde_json.specs.Find.{of_integer}

@@ -8,9 +8,9 @@ ghost use Rattle.serde_json.specs.Find.{get, get_member};
 ghost use Rattle.serde_json.specs.View.{items_of};
 ghost use Rattle.xds_json.specs.Ordered.{IsOrdered, AreInOrder, meaning, members_meaning, items_meaning};
 
-use crate::reading::whole_in;
 use json::Value;
 use std::alloc::Global;
+use xds_resource::decimal_number;
 
 /// The member of this name, where there is one.
 pub fn find_member<'v, 'a>(value: &'v Value<'a>, name: &str) -> Option<&'v Value<'a>>
@@ -55,7 +55,7 @@ pub fn whole_number(value: &Value<'_>) -> Option<u64>
     ensures { IfSome result (λ n. meaning (value_view value.now) ≡ number (unsigned n)) }
 {
     match value {
-        Value::Number(text) => whole_in(*text),
+        Value::Number(text) => decimal_number(*text),
         _ => None,
     }
 }

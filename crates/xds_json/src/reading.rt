@@ -1,5 +1,5 @@
 // From text to JSON in order, in one pass over the tokens.
-ghost use Rattle.std.specs.Prelude.{◌≡◌, ◌<◌, ◌≤◌, ◌^◌, length, decimal, Some, IfSome};
+ghost use Rattle.std.specs.Prelude.{◌≡◌, ◌≤◌, length, Some, IfSome};
 ghost use Rattle.json.specs.Tree.{depth as nesting, items_depth, members_depth};
 ghost use Rattle.json.specs.Value.{value_view, items_view, members_view};
 ghost use Rattle.serde_json.specs.Read.{read as reading, max_depth};
@@ -7,10 +7,10 @@ ghost use Rattle.xds_json.specs.Ordered.{IsOrdered, AreOrdered, AreInOrder, mean
 ghost use Rattle.xds_json.specs.Placed.{IsPlace, placed};
 ghost use Rattle.xds_json.specs.ReadsTo.{ReadsTo, ItemsReadTo, MembersReadTo};
 
-use itoa::Buffer;
 use json::{Reader, Scratch, Token, Value};
 use std::alloc::Global;
 use std::cmp::Ordering;
+use xds_resource::decimal_number;
 
 // Before how many members one is put that comes out of order, at most.
 const MAX_SHIFT: usize = 64;
@@ -50,7 +50,7 @@ fn read<'a>(alloc: Global, reader: &mut Reader<'a>, depth: usize) -> Option<Valu
     match token {
         Token::String(text) => Some(Value::String(text)),
         Token::Number(text) => {
-            whole_in(text)?;
+            decimal_number(text)?;
             Some(Value::Number(text))
         }
         Token::Bool(b) => Some(Value::Bool(b)),
@@ -103,19 +103,6 @@ fn read_members<'a>(
         place(&mut found, key, member)?;
     }
     Some(found)
-}
-
-// The number of 64 bits whose shortest decimal the text is.
-pub(crate) fn whole_in(text: &str) -> Option<u64>
-    ensures { IfSome result (λ n. (n < 2 ^ 64) × (text.now ≡ decimal n)) }
-{
-    let number = text.parse::<u64>().ok()?;
-    let mut digits = Buffer::new();
-    if digits.format(number) == text {
-        Some(number)
-    } else {
-        None
-    }
 }
 
 // Puts a member where it belongs, if that is near the end, and its key isn't there yet.

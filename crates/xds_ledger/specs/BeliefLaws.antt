@@ -1,4 +1,8 @@
 -- What is known of beliefs after an answer and after a request. This project's own.
+--     AcceptedByName         once a response is accepted, each name is believed as the rule for it says
+--     TakenByName            and so it is once names are taken
+--     UntouchedKeepsBelief   a name that a request doesn't touch keeps what is believed of it
+--     TouchedIsNotTold       what is believed of a name that a request touches is no version
 use Rattle.std.specs.Prelude.{◌≡◌, ℕ, List, Bool, true, false, Some}
 use Rattle.std.specs.FinMap as finmap
 use Rattle.std.specs.FinSet as set

@@ -1,4 +1,15 @@
 -- What a server believes that a client holds, once a response is accepted and once a request's names are taken. This project's own.
+--     Sent, sent_code                  a response that was sent and isn't answered
+--     touched_since                    the response that is unanswered, once a request touched names
+--     last_touch_forgotten             the same without the touch that was noted last
+--     was_touched                      whether a request touched the name since the response was sent
+--     once_told                        what is believed of a name that was told
+--     believed_accepted, beliefs_accepted  what is believed of a name once the response is accepted
+--     believed_touched                 what is believed of a name that a request touches
+--     believed_taken, beliefs_taken    the same of any name: one that isn't touched keeps what is believed of it
+--     AreInOrder                       names with versions, as a client says that it holds them: their names ascend
+--     versions_of                      the version of each of them
+--     beliefs_resumed                  what is believed once a client said which versions it holds: it was told these
 use Rattle.std.specs.Prelude.{ℕ, ◌-◌, T, List, [], ◌∷◌, ◌++◌, length, take, Bool, ◌&&◌, ◌||◌, not, if◌then◌else◌, Option, Some, None, is_some, option_map, refl}
 use Rattle.std.specs.Option.{option_or}
 use Rattle.std.specs.List.{list_any}

@@ -1,4 +1,17 @@
 -- How what is believed changes in place, name by name: the answers of the functions that change it. This project's own.
+--     Changes            for some names what is believed of them from now on
+--     believed_now       what is believed of a name once the changes are made
+--     changes_told       by an accepted response that isn't the whole: of each name of which it speaks
+--     changes_answered   by an answer, where the response isn't the whole or is rejected
+--     left_touched       of a touched name that isn't mentioned
+--     changes_left       and so with each of some names
+--     changes_unsure     of each of some names that a request mentions
+--     change_as          of a name that a client says it holds at a version
+--     stored             with what a change says of a name that has an entry, or is to have none
+--     stored_all         and so with each of some names; a change is made once
+--     removed_all        without each of some names
+--     is_new             whether a change makes an entry where there is none
+--     new_names          the names for which the changes make an entry where there is none
 use Rattle.std.specs.Prelude.{ℕ, List, [], ◌∷◌, Bool, true, false, ◌&&◌, Option, Some, None, is_some, unwrap_or, option_map, if◌then◌else◌}
 use Rattle.std.specs.List.{filter}
 use Rattle.std.specs.FinMap as finmap

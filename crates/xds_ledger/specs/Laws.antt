@@ -1,4 +1,8 @@
 -- What the proof of the headline needs to know of sessions. This project's own.
+--     with_sent             the session with a response unanswered, and these touches since
+--     SendingCommutes       sending commutes with taking a request that doesn't answer what is sent
+--     AcceptedOwesNothing   once an offer is accepted of which no name was touched
+--     RequestKeepsFitting   once all is listed of which a request may change what is owed
 use Rattle.std.specs.Prelude.{◌≡◌, ℕ, List, [], ◌∷◌, ◌++◌, Bool, false, Some, None, bytes_eq}
 use Rattle.std.specs.FinMap as finmap
 use Rattle.std.specs.FinSet as set

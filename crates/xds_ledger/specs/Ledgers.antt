@@ -1,4 +1,20 @@
 -- What a server keeps of one type on one stream, beside the interest: what it told, what is unanswered, what was refused. This project's own.
+--     Account, account_code   what is believed of a client, the unanswered response, the refused offer
+--     untold                  before the first request
+--     is_due                  whether a response is due
+--     owes, is_refused        whether the client is owed something: an answer of its own is out, or a response is due
+--     sending                 the offer that is sent now, if one is
+--     send                    once a response of this number was sent
+--     nonce_text              the nonce of the response of this number, and none before the first
+--     answers                 whether a request with this nonce answers the unanswered response
+--     is_stale                whether a request with this nonce is out of date
+--     accept                  the client accepts the response
+--     reject                  the client rejects the response
+--     answered                the client accepts or rejects the response
+--     settled                 once the unanswered response was settled by a request with this nonce
+--     noted                   what a request touched is noted with the unanswered response, if there is one
+--     forgotten               the same without what was noted last
+--     touch, resume           once a request's names are taken
 use Rattle.std.specs.Prelude.{ℕ, zero, suc, List, [], Bool, true, false, ◌&&◌, ◌||◌, not, if◌then◌else◌, Option, Some, None, bytes_eq, is_some, is_none, option_map, decimal, refl}
 use Rattle.std.specs.Option.{option_map_or}
 use Rattle.std.specs.FinMap as finmap

@@ -1,4 +1,9 @@
 -- What keeps a list sufficient, and what it then has. This project's own.
+--     NewListFits                      a new list suffices where nothing is believed held, whatever the interest
+--     WiderListFits                    a wider list suffices, too
+--     RefreshedListFits, PrunedListFits  and so does the list once it was refreshed, and once it was pruned
+--     OwedIsListed                     once a list was refreshed, all that is owed is listed
+--     LaterHoldingsFit, JoinedIsLater  a list that suffices at a catalogue suffices at it once writes came
 use Rattle.std.specs.Prelude.{◌≡◌, ℕ, List, true}
 use Rattle.std.specs.FinMap as finmap
 use Rattle.xds_resource.specs.declared.types.TypeName.{TypeName}

@@ -1,5 +1,18 @@
 -- The list of what a client may be owed: some names, and a mark up to which the catalogue's changes were looked at, so that a
 -- look goes through these names and the changes above the mark, and through nothing else. This project's own.
+--     Listed, listed_code   each listed name has a number
+--     unlisted, is_listed   no name, and every change is to be looked at
+--     is_since              whether the latest change of a name's entry is above a mark
+--     IsPast                the name has no entry in the catalogue, or its latest change has a number
+--     Fits                  the list suffices for a client of this variant, type and interest
+--     StaysSufficient       wherever the first list sufficed at these holdings, the second does
+--     changed_since         the names that changed since a mark, with the numbers of their latest changes
+--     refreshed             once the changes above the mark were looked at
+--     pruned                without the names that are owed nothing now
+--     with_name             with one name more
+--     without_mark          with every change to be looked at again
+--     IsWider               the second has every name of the first, and its mark isn't above
+--     IsLater               the holdings came after others
 use Rattle.std.specs.Prelude.{◌≡◌, ◌⊎◌, ℕ, ◌≤◌, List, Bool, false, nat_lt, if◌then◌else◌, Some, None, is_some, IsSomeAnd, refl}
 use Rattle.std.specs.Coded.{Coded, code_by, coded×, coded_ℕ, coded_list}
 use Rattle.std.specs.Option.{option_map_or}

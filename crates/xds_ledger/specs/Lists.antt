@@ -1,5 +1,23 @@
 -- What a server keeps of one type on one stream, with the list of what it may owe: when the list suffices, what it takes from a
 -- request, and what a session with such a list is. This project's own.
+--     Books, books_code   an account, with the list of what may be owed
+--     new_books           before the first request
+--     Fits                the list suffices for a client of this interest, at a catalogue of these holdings
+--     refreshed           once the changes above the mark were looked at
+--     accepts             whether a request with this nonce accepts the unanswered response
+--     StaysPresent        from one interest to another
+--     IsPassedOver        what a request, and the response that it accepts, say nothing of
+--     ListsRequest        all of which a request may change what is owed is listed
+--     FitsNext            what a request that is taken leaves
+--     with_names          with some names
+--     with_offer          with the names of the unanswered response, where it is accepted
+--     with_all            with the names that are believed held and those that a request mentions
+--     with_changes        with every change to be looked at again, where every name is touched
+--     listed_after        with all of which a request may change what is owed
+--     Kept, kept_code     a session, with the list of what may be owed
+--     new_kept            before the first request, of a client with this cluster text
+--     SessionFits         the list of a session suffices, at a catalogue of these holdings
+--     StaysFit            wherever the list of a session sufficed, it suffices
 use Rattle.std.specs.Prelude.{◌≡◌, ℕ, List, [], ◌∷◌, Bool, true, false, ◌&&◌, ◌||◌, not, if◌then◌else◌, None, IfSome, refl}
 use Rattle.std.specs.Option.{option_map_or}
 use Rattle.std.specs.FinMap as finmap

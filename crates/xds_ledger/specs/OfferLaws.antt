@@ -1,4 +1,7 @@
 -- What is known of offers. This project's own.
+--     OfferSaysIt          an offer says of each name what it is to say
+--     NothingOwed          where nothing that can be told is owed of any name that is known
+--     OffersAreToldApart   offers are told apart
 use Rattle.std.specs.Prelude.{◌≡◌, ℕ, List, true, false}
 use Rattle.std.specs.FinMap as finmap
 use Rattle.xds_resource.specs.declared.types.TypeName.{TypeName}

@@ -1,4 +1,7 @@
 -- The parts from which an offer is made: the answers of the functions that make it. This project's own.
+--     stated       of a live write, in a whole response
+--     put_writes   an offer, with what f makes of each of some writes
+--     told_of      what is owed of a name, if it can be told
 use Rattle.std.specs.Prelude.{ℕ, List, [], ◌∷◌, if◌then◌else◌, Option, Some, None}
 use Rattle.xds_resource.specs.Writes.{StampedWrite, version_of}
 use Rattle.xds_resource.specs.declared.types.TypeName.{TypeName}

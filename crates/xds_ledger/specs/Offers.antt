@@ -1,4 +1,10 @@
 -- What a response says: of each of its names the version that is stated, or that it is removed. This project's own.
+--     Offer, stated_version, due_stated, due_stated_again,
+--     due_code                         what a response says, name by name
+--     offered, offer                   what an offer says of a name
+--     same_due                         whether two say the same of a name
+--     is_within                        whether the first says nothing that the second doesn't say
+--     same_offer                       whether two offers are equal
 use Rattle.std.specs.Prelude.{◌≡◌, ℕ, List, Bool, true, false, ◌&&◌, if◌then◌else◌, Option, Some, None, bytes_eq, option_map, refl}
 use Rattle.std.specs.Coded.{Coded, code_by, coded_ℕ, coded_list, coded_option}
 use Rattle.std.specs.Option.{option_map_or}

@@ -1,4 +1,17 @@
 -- What a client is owed of each name, from what it was told and what the catalogue holds. This project's own.
+--     Beliefs                          what the server believes that a client holds
+--     replaced, told_version, entry_told, entry_told_again,
+--     entry_code                       with another entry at a name that has one
+--     live_version                     the version of a live write
+--     version_shown                    the version at which a write of a name is shown
+--     present                          the version at which a name is present
+--     owed_after                       what is due to a client that was told this version, where this one is present
+--     owed_unsure                      what is due to a client of whom it is not known what it holds
+--     owed                             what is owed of a name, from its entry and the version that is present
+--     owed_of                          what is owed of a name
+--     names_known                      every name of which something may be owed
+--     is_owed                          whether something is owed of a name that can be told
+--     something_owed                   whether something that can be told is owed of some name
 use Rattle.std.specs.Prelude.{◌≡◌, ℕ, List, ◌++◌, Bool, false, if◌then◌else◌, Option, Some, None, bytes_eq, option_map, is_some, refl}
 use Rattle.std.specs.Option.{option_and_then, option_map_or}
 use Rattle.std.specs.List.{list_any}

@@ -1,4 +1,9 @@
 -- The parts from which what is believed is made, entry by entry: the answers of the functions that make it. This project's own.
+--     told_unless_touched   of a name that an accepted response speaks of
+--     kept_beside           of a name that was believed held, beside an accepted response
+--     left_by               of a name that was believed held, after a request that doesn't mention it
+--     made_unsure           of a name that a request mentions
+--     told_as               of a name that a client says it holds at a version
 use Rattle.std.specs.Prelude.{ℕ, List, Bool, ◌&&◌, ◌||◌, not, if◌then◌else◌, Option, Some, None, is_some}
 use Rattle.std.specs.FinMap as finmap
 use Rattle.xds_interest.specs.Interests.{Selection, reaches}

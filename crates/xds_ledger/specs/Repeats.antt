@@ -1,4 +1,9 @@
 -- What a response says of a name, and whether an offer says the same: the answers of the functions that look. This project's own.
+--     due_said      what a saying offers, if it offers something
+--     if_told       what is due, if it can be told
+--     said_of       what a response says of a name, from its entry and the version that is present
+--     same_saying   whether two say the same of a name, be it nothing
+--     still_says    whether an offer says of a name what a response would say now
 use Rattle.std.specs.Prelude.{ℕ, List, Bool, true, false, if◌then◌else◌, Option, Some, None, option_map}
 use Rattle.std.specs.Option.{option_map_or}
 use Rattle.std.specs.FinMap as finmap

@@ -1,5 +1,19 @@
 -- A session is one type on one stream: what the client asked for, and the account of what it was told. One definition for
 -- both variants; a request of either says how the interest changes, what it touches, what it mentions and what it resumes from.
+--     Session, session_code   what the requests asked, and the account of what was told
+--     unopened                before the first request, of a client with this cluster text: it is owed nothing
+--     Answer                  the nonce of a request, and whether it has an error
+--     Names                   what a request's names say
+--     sotw_names              state of the world: the explicit names are mentioned
+--     delta_names             Delta: both lists mention names, but the first request mentions those that it subscribes
+--     is_stale                whether a request with this nonce is stale, so that it is ignored
+--     taken                   after a request that is taken
+--     outcome                 what became of a request with this nonce
+--     take                    after a request
+--     owes                    whether the client is owed something, by a replica that holds these entries
+--     sending                 the offer that a poll sends, if it sends one
+--     send                    once that was sent as the response of this number
+--     HasPolled               what a poll answers and leaves, of the session and of the stream's count of responses
 use Rattle.std.specs.Prelude.{◌≡◌, ℕ, ◌+◌, List, Bool, ◌&&◌, not, if◌then◌else◌, Option, Some, None, MatchOption, refl}
 use Rattle.std.specs.FinMap as finmap
 use Rattle.std.specs.FinSet as set

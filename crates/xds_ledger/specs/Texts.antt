@@ -1,5 +1,8 @@
 -- The texts that a response has beside its resources: its nonce is a decimal number, and a version is made of the replica's
 -- number, its count of changes, and what the client asked for. This project's own.
+--     replica_version    the version of all that a replica holds: the replica and its count of changes
+--     at_cluster         an `@` and a client's cluster text, if it has one
+--     interest_version   the version of what a client of this interest sees of a replica
 use Rattle.std.specs.Prelude.{ℕ, List, [], ◌∷◌, ◌++◌, codes, decimal, if◌then◌else◌}
 use Rattle.xds_interest.specs.Interests.{Selection}
 

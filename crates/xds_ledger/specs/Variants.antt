@@ -1,4 +1,8 @@
 -- The two variants of the protocol, and what each tells a client, as Envoy's "xDS REST and gRPC protocol" says.
+--     is_delta         whether a variant is the incremental one
+--     is_whole         whether each response is the whole, so that what it lacks is gone
+--     tells_removals   whether there is a way to tell a client that a name is gone
+--     is_told          whether what is due can be told
 use Rattle.std.specs.Prelude.{Bool, true, false, ◌&&◌, ◌||◌, not}
 use Rattle.xds_resource.specs.declared.types.TypeName.{TypeName}
 use Rattle.xds_resource.specs.Types.{row}

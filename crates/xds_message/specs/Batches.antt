@@ -1,4 +1,16 @@
 -- Which JSON values spell a batch of stamped writes, and the object that is written for one. A batch keeps the writes of each type in their order; how writes of different types stand to each other counts for nothing. This project's own.
+--     by_type                     the batch of some writes: of each type those that are of it, in their order
+--     typed                       the writes of one type, with it
+--     in_order                    all writes of a batch
+--     AreWrites                   a list of writes, of which there are none where nothing is set
+--     IsBatch                     the batch that a list of writes comes to
+--     SpellsBatch                 which values spell it
+--     batch_fields                the fields that are written for it
+--     batch_object                the object that is written for a batch: no list is written where there is no write
+--     IsSound                     what every write that is held keeps
+--     SpellsOneBatch              a value spells one batch at most
+--     IsBatchSpelledByItsObject   the object of a batch spells it
+--     IsBatchOfItsWrites          the writes of a batch come to the batch
 use Rattle.std.specs.Prelude.{◌≡◌, List, [], ◌∷◌, map, All, Option, codes}
 use Rattle.std.specs.List.{AllZip, flat_map}
 use Rattle.serde_json.specs.Data.{Data, array}

@@ -1,5 +1,13 @@
 -- The messages of the incremental variant in Envoy's `discovery.proto`, and which JSON values spell them: the proto3 JSON
 -- mapping, of the fields that a control plane reads.
+--     DeltaRequest, identity_code, failure_code,
+--     delta_request_code               a DeltaDiscoveryRequest
+--     VersionedResource                a Resource of a delta response
+--     DeltaResponse                    a DeltaDiscoveryResponse
+--     SpellsDeltaRequest               which values spell it
+--     SpellsResource                   its object is always there
+--     IsResources                      a list of resources
+--     SpellsDeltaResponse              which values spell it
 use Rattle.std.specs.Prelude.{◌≡◌, ℕ, ℤ, List, [], Option, Some, codes, refl}
 use Rattle.std.specs.List.{AllZip}
 use Rattle.std.specs.Coded.{Coded, code_by, coded×, coded_ℕ, coded_ℤ, coded_list, coded_option}

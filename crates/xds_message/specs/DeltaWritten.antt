@@ -1,4 +1,10 @@
 -- The objects that are written for the messages of the incremental variant, in the proto3 JSON mapping.
+--     delta_request_fields    the fields that are written for it
+--     delta_request_object    the object that is written for it
+--     resource_fields         the fields that are written for it
+--     resource_object         the object that is written for it
+--     delta_response_fields   the fields that are written for it
+--     delta_response_object   the object that is written for it
 use Rattle.std.specs.Prelude.{[], ◌∷◌, map, Some, option_map, codes}
 use Rattle.serde_json.specs.Data.{Data, string}
 use Rattle.xds_json.specs.Versions.{versions_data}

@@ -1,4 +1,7 @@
 -- Responses of either variant, before they are written. This project's own.
+--     text_of, nonce_of, kind_of   the text that a draft is written as
+--     IsMessageOf                  the response is the message of the draft
+--     HoldsBodyTexts               what a draft holds of a resource is the compact text of the resource's object
 use Rattle.std.specs.Prelude.{◌≡◌, ℕ, List, All}
 use Rattle.serde_json.specs.Written.{compact_text}
 use Rattle.xds_resource.specs.declared.types.TypeName.{TypeName}

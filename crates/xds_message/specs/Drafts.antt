@@ -1,4 +1,13 @@
 -- Responses before they are written: what they tell, with the resources as the compact texts that are stored. This project's own.
+--     IsBodyText                       the compact text of a resource's object
+--     body_text                        the compact text of the object that a stored text says: the same text again
+--     Drafted, message_of              a DiscoveryResponse before it is written
+--     AreSound, IsSoundResponse, IsSoundDelta  the resources are shallow, whole objects
+--     with_body                        the draft with one more resource, if there is a body
+--     DraftedResource, drafted_resource  a resource of a DeltaDiscoveryResponse before it is written
+--     DraftedDelta, delta_message_of   a DeltaDiscoveryResponse before it is written
+--     with_resource                    the draft with the resource that a write puts, if it puts one
+--     with_removed                     the draft with one more name to be dropped
 use Rattle.std.specs.Prelude.{◌≡◌, ◌≤◌, ℕ, List, [], ◌∷◌, ◌++◌, map, false, Option, Some, None, All}
 use Rattle.serde_json.specs.Data.{Data, depth}
 use Rattle.serde_json.specs.Read.{read}

@@ -1,4 +1,10 @@
 -- The text of an object as it is joined member by member. This project's own.
+--     with_first         the members with one more in front, where there is a value
+--     members_in_order   the members in the order of the list, with a value at a key where there is one
+--     text_with          the text once these members and the closing brace stand behind it; `later`
+--     JoinsMember        what is left to be written after a member was, whatever follows
+--     behind_commas      texts that stand behind others, each with a comma before it
+--     with_commas        texts with commas between them
 use Rattle.std.specs.Prelude.{◌≡◌, ℕ, List, [], ◌∷◌, ◌++◌, Bool, Option, Some, None}
 use Rattle.serde_json.specs.Data.{Data, Members, no_members, member}
 use Rattle.serde_json.specs.Written.{members_text}

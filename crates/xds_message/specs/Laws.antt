@@ -1,4 +1,10 @@
 -- What holds of every message: a value spells one at most, and the object that is written for a message spells it.
+--     SpellsOneRequest, SpellsOneResponse  which values spell it
+--     HasCodeInRange, IsSpelledByItsObject,
+--     IsRequestSpelledByItsObject      a request whose error code, if it has one
+--     SpellsOneDeltaRequest, SpellsOneDeltaResponse,
+--     HasDeltaCodeInRange, IsDeltaRequestSpelledByItsObject,
+--     IsDeltaResponseSpelledByItsObject  which values spell it
 use Rattle.std.specs.Prelude.{◌≡◌, All, MatchOption, FitsSigned, ⊤}
 use Rattle.std.specs.Int.{w32}
 use Rattle.serde_json.specs.Data.{Data}

@@ -1,5 +1,8 @@
 -- The messages of Envoy's `discovery.proto` that are exchanged here, and which JSON values spell them: the proto3 JSON
 -- mapping, of the fields that a control plane reads.
+--     Request                         a DiscoveryRequest
+--     Response                        a DiscoveryResponse, its resources as JSON values
+--     SpellsRequest, SpellsResponse   which values spell it
 use Rattle.std.specs.Prelude.{ℕ, List, Option, codes}
 use Rattle.serde_json.specs.Data.{Data}
 use Rattle.xds_resource.specs.Fields.{field}

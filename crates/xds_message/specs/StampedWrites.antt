@@ -1,4 +1,13 @@
 -- Which JSON values spell a stamped write, and the object that is written for one. This project's own.
+--     IsBodyOf                    the text of the resource of this type and name that a value is
+--     IsBody                      the body that a write puts, and none where nothing is set
+--     AreGroups                   the groups that a list of texts comes to
+--     SpellsWrite                 which values spell it
+--     IsSpelledBy                 the same of a type and a write together
+--     write_fields                the fields that are written for it
+--     write_object                the object that is written for a write
+--     SpellsOneWrite              a value spells one write at most
+--     IsWriteSpelledByItsObject   the object of a write spells it
 use Rattle.std.specs.Prelude.{◌≡◌, ℕ, List, [], ◌∷◌, map, true, Option, Some, None, Ok, IsSomeAnd, option_map, codes}
 use Rattle.serde_json.specs.Data.{Data, number, string, unsigned}
 use Rattle.serde_json.specs.Find.{get}

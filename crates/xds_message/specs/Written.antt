@@ -1,5 +1,9 @@
 -- The object that is written for a message, in the proto3 JSON mapping: lowerCamelCase names, in the order of their bytes,
 -- and no field that holds its default.
+--     request_fields    the fields that are written for a request, and its object
+--     request_object    the object that is written for it
+--     response_fields   the fields that are written for it
+--     response_object   the object that is written for it
 use Rattle.std.specs.Prelude.{[], ◌∷◌, map, option_map, codes}
 use Rattle.serde_json.specs.Data.{Data, string}
 use Rattle.xds_message.specs.Messages.{Request, Response}

@@ -1,10 +1,10 @@
 // Writes that pass from one replica to another.
-ghost use Rattle.std.specs.Prelude.{◌≡◌, List, [], ◌∷◌, ◌++◌, map, string_bytes, All, IfOk, IfErr, OnOk, OnErr, Contains};
+ghost use Rattle.std.specs.Prelude.{◌≡◌, ◌<◌, List, [], ◌∷◌, ◌++◌, map, length, get_or, string_bytes, All, IfOk, IfErr, OnOk, OnErr, Contains};
 ghost use Rattle.std.specs.List.{AllZip};
 ghost use Rattle.serde_json.specs.Data.{Data};
 ghost use Rattle.serde_json.specs.View.{view};
 ghost use Rattle.serde_json.specs.Written.{compact_text};
-ghost use Rattle.xds_resource.specs.Any.{write_type, stamped_write};
+ghost use Rattle.xds_resource.specs.Any.{write_type, stamped_write, any_write};
 ghost use Rattle.xds_resource.specs.PerType.{PerType, at, each, with_at};
 ghost use Rattle.xds_resource.specs.TypedWrites.{TypedWrite};
 ghost use Rattle.xds_resource.specs.Writes.{StampedWrite};
@@ -19,7 +19,8 @@ use std::alloc::Global;
 use std::marker::Model;
 use xds_json::fields::{put_list, read_json, taken_field};
 use xds_resource::{
-    AnyWrite, Cluster, Endpoint, Listener, Refusal, ResourceType, Route, Secret, Write,
+    AnyWrite, Cluster, Endpoint, Listener, Refusal, ResourceType, Route, Secret, TypeName, Write,
+    for_type,
 };
 
 /// Writes of all types. Those of a type have an order; writes of different types don't meet.
@@ -166,6 +167,24 @@ impl Batch {
             AnyWrite::Route(write) => add(&mut self.route, write),
             AnyWrite::Secret(write) => add(&mut self.secret, write),
         }
+    }
+
+    /// How many writes of the type it has.
+    pub fn len_of(&self, kind: TypeName) -> usize
+        ensures { result ≡ length (at self.now kind) }
+    {
+        for_type!(kind, writes in &self => writes.len())
+    }
+
+    /// A write of the type by its place, from 0. Its texts are shared. Refused only by `OutOfMemory`.
+    pub fn write_at(&self, alloc: Global, kind: TypeName, index: usize) -> Result<AnyWrite, Refusal>
+        requires { index < length (at self.now kind) }
+        ensures ok { IfOk result (λ w. (d : StampedWrite) → w ≡ any_write kind (get_or (at self.now kind) index d)) }
+        ensures typed { IfOk result (λ w. (d : StampedWrite)
+            → (write_type w, stamped_write w) ≡ (kind, get_or (at self.now kind) index d)) }
+        ensures refused { IfErr result (λ e. e ≡ OutOfMemory) }
+    {
+        Ok(for_type!(kind, AnyWrite of writes in &self => writes[index].try_copy(alloc)?))
     }
 
     /// An equal batch. No body and no group is copied. Refused only by `OutOfMemory`.

@@ -1,5 +1,19 @@
 -- What a node keeps under its lock: the books of all that it was asked and answered, from its start, and what they come to. This
 -- project's own.
+--     most_records     how many records a journal may have
+--     Books            the number of the replica, all records that were cut
+--     opened_books     those of a node at which nothing happened
+--     base_of          the replica as the latest cut left it: until the first cut, one at which nothing happened
+--     present          the replica as it is
+--     next_number      the number of the next record
+--     entries_of       the records of the journal, with their numbers
+--     all_entries_of   all records, with their numbers
+--     record_of        what an event is answered now
+--     with_record      a record more, at the end of the journal
+--     with_seat        a seat more
+--     after_cut        after a cut
+--     IsFull           no record more has room: the journal has as many as it may, or all numbers are spent
+--     IsKept           what holds whenever the lock is free
 use Rattle.std.specs.Prelude.{◌≡◌, ◌⊎◌, ℕ, ◌+◌, ◌≤◌, List, [], ◌∷◌, ◌++◌, length}
 use Rattle.xds_resource.specs.Stamps.{max_counter}
 use Rattle.xds_core.specs.Events.{Event}

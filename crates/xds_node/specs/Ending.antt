@@ -1,4 +1,12 @@
 -- How a run of a stream ends: behind the last message that is answered whole. This project's own.
+--     IsNothing     `last` are the events that were made of a message that isn't answered whole
+--     PollEnds      a poll is refused, or finds no memory, or gives a response that isn't sent
+--     PollsEnd      polls gave these responses, which were sent, and with the next one it ends
+--     MessageEnds   a request is refused, or finds no memory
+--     EndsWithin    less than a frame is left, or what is none
+--     IsUnread      the frame spells no request, or there was no memory to read it
+--     EndsAtFrame   the next frame is refused, or the request that it spells comes to an end
+--     Ends          how a run ends where these bytes are left of those that were read, from this replica
 use Rattle.std.specs.Prelude.{◌≡◌, ◌<◌, ◌⊎◌, ℕ, List, [], ◌∷◌, ◌++◌, length, map, All, Result, Ok, Err}
 use Rattle.std.specs.Io.KnownBytes.{IsAtEnd}
 use Rattle.xds_resource.specs.declared.refusal.Refusal.{Refusal}

@@ -1,4 +1,12 @@
 -- Records with their numbers, and lists of them: counted, and weighed. This project's own.
+--     Entry         a record with its number
+--     numbered      the records under the numbers from this one on
+--     records_of    the records of these entries, without their numbers
+--     Counted       the numbers of these entries go up by one from this one on
+--     AllBelow      each entry has a number below this one
+--     IsBeginning   the one list is a beginning of the other
+--     weigh         the weights of all elements, added up
+--     SameEach      each element stands in one list as often as in the other
 use Rattle.std.specs.Prelude.{◌≡◌, ℕ, ◌+◌, ◌<◌, List, [], ◌∷◌, ◌++◌, map, All}
 
 -- a record with its number

@@ -1,5 +1,35 @@
 -- What the two threads between a pair of replicas do: one tells what changed, in parcels, and the other merges that and sends a receipt
 -- for each batch. This project's own.
+--     Turn                   one turn of who tells
+--     IsSince                the entries above the marks were asked for
+--     IsUnasked              or they were asked for in vain: no record is left, for this refusal
+--     IsReceived             one receipt was taken where there was a parcel, and the marks are those that were told
+--     IsWhole                what was told was put whole
+--     IsToldAgain            no receipt was taken, and all is told again
+--     IsGivenUp              the batch was given up: all is told again. A beginning of it was put.
+--     IsCutOff               since the other end is gone: the batch was told, and a beginning of it was put
+--     IsGivenUpFor, IsTurn   or for this refusal: it was refused or left no record, or there was no memory to put it
+--     Follows                each turn begins with the marks that the one before left
+--     AreTurns               these are the turns, from a peer that knows nothing
+--     IsLastTurn             what the last turn was
+--     HasTold                all of who tells
+--     TurnEnds               one turn, and how it ends: whole, or since the other end is gone, or for this refusal
+--     Taking                 a parcel that was taken
+--     IsMerge                its merge is recorded, of the batch that its frame spells
+--     IsDrop                 or there is none: it was tried in vain, or never, where the frame wasn't read
+--     IsTaking               a merge of it is recorded, or it is dropped
+--     is_merged              whether all that was told of it was answered, and something was
+--     lost_after             whether a part of the present batch was lost, after these parcels
+--     receipt_for            the receipt of a batch
+--     receipts_due           a receipt is due after the last parcel of each batch: merged where no part of it was lost
+--     AreReceipts            all that were due were put
+--     HasMerged              all of who merges: the parcels in order, each merged or dropped
+--     IsReason               why a batch isn't sent: the other end is gone, or there was no memory
+--     given_up               what a turn answers whose batch isn't sent
+--     Puts                   some parcels are put behind others, or a beginning of them
+--     Settles                and one receipt is taken for them, if there are any
+--     IsMerging              a parcel is merged or dropped, and whether a merge of it was answered
+--     Acknowledges           after the last parcel of a batch its receipt is put, if somebody takes it
 use Rattle.std.specs.Prelude.{◌≡◌, ◌≢◌, ◌⊎◌, ℕ, List, [], ◌∷◌, ◌++◌, map, All, Bool, true, false, ◌||◌, if◌then◌else◌, is_ok, not, Result, Ok, Err, ⊤}
 use Rattle.std.specs.List.{flat_map, sum_by}
 use Rattle.xds_resource.specs.declared.refusal.Refusal.{Refusal}

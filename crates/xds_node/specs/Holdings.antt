@@ -1,5 +1,21 @@
 -- What tokens stand for: the keeper of a journal, seats with what they were told and what they were refused, and shares of what was
 -- cut. This project's own.
+--     keeper                   the one token that knows all records
+--     seat_holding             one seat, what it was told, and what it was refused
+--     share_holding, nothing   a share of what was cut, and what was cut before it
+--     recorded                 all that was recorded, as far as a token knows: what was cut, and the journal
+--     past_of                  what was cut before the share that a token has
+--     kept_part, lent_part     what a keeper knows and a seat was refused, and what is lent without it
+--     both                     the first, with what the second was lent
+--     with_entry               an entry more, in the journal and of what the seats were told
+--     with_refused             a call more that was refused
+--     with_seat                a seat more
+--     after_cut                the journal is cut, and shared, with what was cut before
+--     with_seats               with these seats put into it, each of which was told these entries, and refused these
+--     with_shares              with these shares put into it, before each of which this was cut
+--     IsAlone                  it is the keeper, and has no seat and no share
+--     IsKeeperOf               it is the keeper of a journal with these records and of so many seats
+--     IsClosed                 it is the keeper of a journal with these records once seats were put into it
 use Rattle.std.specs.Prelude.{◌≡◌, ℕ, ◌+◌, List, [], ◌∷◌, ◌++◌, length, map, get_or, All, Contains, ◌==◌, Bool, true, IsPermutation}
 use Rattle.std.specs.List.{flat_map}
 use Rattle.xds_node.specs.declared.holding.Holding.{Holding}

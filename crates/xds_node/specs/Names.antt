@@ -1,4 +1,7 @@
 -- The name of a node, which tells its tokens from those of any other node, and the number of its replica. This project's own.
+--     NodeId, node_id_code   what no other node has
+--     no_node                the name of no node
+--     no_replica             the number of no replica
 use Rattle.std.specs.Prelude.{ℕ, []}
 use base.Stored.{Coded}
 use Rattle.atomic_table.specs.Seated.{TableId, table_id_coded}

@@ -1,4 +1,10 @@
 -- How a batch is sent from one replica to another: in parcels, each of which has the frame of a part. This project's own.
+--     packed       the parcels of some parts: of each its frame's bytes, and whether it is the last one
+--     parcels_of   the parcels of some writes
+--     changed_in   a batch that is told and the marks that it comes up to
+--     parcels_in   the parcels of what an answer tells
+--     marks_in     the marks that an answer comes up to
+--     IsFrameOf    the bytes are a frame that spells this batch
 use Rattle.std.specs.Prelude.{◌≡◌, ◌==◌, ℕ, List, [], ◌∷◌, ◌++◌, Bool, length, Result, Ok, Err}
 use Rattle.serde_json.specs.Data.{Data}
 use Rattle.xds_resource.specs.PerType.{PerType, each}

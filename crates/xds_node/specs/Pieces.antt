@@ -1,4 +1,16 @@
 -- What a node hands out: segments of its records, and at its end its history. This project's own.
+--     Piece                           records that were cut
+--     piece_of                        what is cut of a node
+--     piece_entries, pieces_entries   its records, with their numbers
+--     piece_before                    what was cut before it
+--     GoesOn                          it goes on where what was cut before it ends
+--     IsPiece                         each answer in it is the core's, it goes on where what was cut before it ends
+--     Story                           what a node leaves
+--     last_entries                    the records since the last cut, with their numbers
+--     StandsInStory                   each entry that any of the seats was told was cut, or stands in the journal
+--     BeginAsCut                      what was cut before each of these segments is what the node cut first
+--     IsWhole                         one list of steps is all that happened
+--     IsStory                         the same of what the history of the replica of this number keeps
 use Rattle.std.specs.Prelude.{◌≡◌, ℕ, ◌+◌, List, ◌++◌, length, Bool, All, Contains}
 use Rattle.std.specs.List.{flat_map}
 use Rattle.xds_core.specs.Steps.{Core, fresh}

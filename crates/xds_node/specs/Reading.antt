@@ -1,5 +1,15 @@
 -- What the reading thread of a stream does: it reads frames, and asks the replica for each the request that it spells. This project's
 -- own; the requests are those of discovery.proto.
+--     Asking, IsAsking                 a frame, the request that it spells, what the seat was told of that
+--     IsTaken, bytes_of, told_of, tried_of  the request was taken or ignored, and not refused
+--     IsRead                           these frames were read, and their requests were taken
+--     IsRequestRefused                 a request is refused, and this was told; or it left no record
+--     IsStop                           why the reading stops where these bytes are left of those that were read
+--     IsEnd                            how it ends: well at the end of the input, with nothing left
+--     HasRead                          all requests that were told
+--     ReadsAll                         the same of the whole thread
+--     TurnReads                        one turn: it goes on, or it ends
+--     Asks                             a request is taken, or why it isn't
 use Rattle.std.specs.Prelude.{◌≡◌, ◌⊎◌, ℕ, List, [], ◌∷◌, ◌++◌, map, All, Bool, true, false, Result, Ok, Err}
 use Rattle.std.specs.List.{flat_map}
 use Rattle.std.specs.Io.KnownBytes.{Consumes, IsAtEnd}

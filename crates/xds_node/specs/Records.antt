@@ -1,4 +1,10 @@
 -- The events of a stream's messages, with their answers. This project's own.
+--     asked                the stream took a request
+--     gave                 a poll of all types gave a response
+--     gave_none, refused   and one gave none
+--     polled_out           polls that gave these responses, and the one after them, which gave none
+--     answered             a request that was taken, and polls until one gave none
+--     Refuses              the replica refuses the event, or finds no memory for it where no other refusal applies
 use Rattle.std.specs.Prelude.{◌≡◌, ◌⊎◌, ℕ, List, [], ◌∷◌, ◌++◌, map, None, Some, Ok, Err}
 use Rattle.xds_resource.specs.declared.refusal.Refusal.{Refusal}
 use Rattle.xds_resource.specs.declared.refusal.Refusal.TheVariants.{OutOfMemory}

@@ -1,5 +1,9 @@
 -- What the frames of a client ask, or why they are refused. The requests are those of discovery.proto; the refusals are this
 -- project's own.
+--     IsAsking    a client sends requests alone, of either variant
+--     SpellsAs    what a JSON value spells in a frame of this kind
+--     Spells      the frame's text spells this request
+--     IsRefused   the frame is refused
 use Rattle.std.specs.Prelude.{◌≡◌, ◌⊎◌}
 use Rattle.serde_json.specs.Data.{Data}
 use Rattle.xds_resource.specs.declared.refusal.Refusal.{Refusal}

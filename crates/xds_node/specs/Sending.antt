@@ -1,4 +1,11 @@
 -- How responses are sent: each as a frame. This project's own.
+--     kind_of      the frame's kind and the text of a response
+--     frame_of     the frame of a response
+--     Fits         the text isn't longer than a frame's may be
+--     sent         the frames of responses, one after another
+--     NoneFailed   no call of the reader or the writer failed
+--     IsUnsent     why a response isn't sent, and the part of its frame that was written
+--     Sends        what sending a response comes to
 use Rattle.std.specs.Prelude.{◌≡◌, ◌⊎◌, ℕ, List, [], take, Result, Ok, Err}
 use Rattle.std.specs.List.{flat_map}
 use Rattle.xds_resource.specs.declared.refusal.Refusal.{Refusal}

@@ -1,4 +1,9 @@
 -- Messages that were answered whole, and what a replica and a writer are then. This project's own.
+--     Served, IsServed   a message that was answered
+--     frames_of          the bytes of their frames
+--     events_of          their events: for each its request, and polls until one gave none
+--     sent_by            the bytes of their responses
+--     Does               these events are made one after another, answered as they say; this text is written
 use Rattle.std.specs.Prelude.{◌≡◌, ℕ, List, All}
 use Rattle.std.specs.List.{flat_map}
 use Rattle.xds_message.specs.declared.draft.Draft.{Draft}

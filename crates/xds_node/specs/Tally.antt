@@ -1,4 +1,12 @@
 -- The rule over all tokens of a node, what the keeper knows by it, and what each step of a token does. This project's own.
+--     IsIdle                           only a keeper knows records, and only a seat is told any
+--     StandsIn                         some token has the entry in this list of its own
+--     Covers                           over all tokens one list weighs what another weighs
+--     BeginsIn                         some token knows that this was cut first
+--     Balanced                         there is one keeper, each seat made is a seat of some token
+--     IsPartOf                         what the keeper knows of one of its lists, and of what was given of it
+--     Known, Rule, AppendsSaid, Appends, NotesSaid, Notes, Sits,
+--     Cuts, Looks                      what the keeper knows of all tokens
 use Rattle.std.specs.Prelude.{◌≡◌, ℕ, ◌≤◌, List, [], length, All, Contains}
 use mathlib.Core.Option.{Option, none, some}
 use lib.ListN.{get_elem?}

@@ -1,4 +1,11 @@
 -- What the calls of a seat were told, and which of them left no record. This project's own.
+--     Calls            all calls of a seat
+--     no_calls         those of a seat that made no call
+--     also_told        a call more, which was told this entry
+--     also_refused     a call of this event more, which left no record for this reason
+--     IsTold           it was told one entry more: this event and this answer, under a number above all before
+--     IsStepAt         it was told one step of the replica of this number
+--     LeavesNoRecord   why an event leaves no record: there was no memory, or no room for a record more
 use Rattle.std.specs.Prelude.{◌≡◌, ◌⊎◌, ℕ, ◌+◌, List, [], ◌∷◌, ◌++◌, length, All, Contains, Result, Err}
 use Rattle.xds_resource.specs.declared.refusal.Refusal.{Refusal}
 use Rattle.xds_resource.specs.declared.refusal.Refusal.TheVariants.{OutOfMemory, JournalFull}

@@ -1,4 +1,16 @@
 -- The turns by which a stream is served: each answers a message or reads a piece. This project's own.
+--     IsOpen          the stream is open
+--     numbers_left    how many responses the stream can still number
+--     longest_piece   as many bytes as a piece has at most
+--     left_to_do      what is left to be done by a reader that was called so often, and with these bytes that were read
+--     number_in       the number of the stream that was opened
+--     draft_in        the response that a poll gave
+--     GivesRequest    the next frame's request, none where less than a frame is held, or why there is none
+--     Fills           a piece is read and put behind the bytes that are held, of which there is less than a frame
+--     SendsDue        polls give responses, each of which is sent, until one gives none
+--     AnswersOne      a request is taken and answered
+--     GoesOn          messages were answered, and it goes on with what is held then
+--     Turns           what a turn comes to: it goes on, or the run ends
 use Rattle.std.specs.Prelude.{◌≡◌, ◌≤◌, ◌<◌, ◌⊎◌, ◌+◌, ◌-◌, ◌*◌, ℕ, List, [], ◌++◌, length, All, Bool, true, false, Option, Some, None, Result, Ok, Err, IsSomeAnd}
 use Rattle.std.specs.Io.KnownBytes.{Consumes, IsAtEnd}
 use Rattle.std.specs.FinMap as finmap

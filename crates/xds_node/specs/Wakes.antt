@@ -1,4 +1,7 @@
 -- Whom an event wakes, and what a wait for a stream ends by. This project's own.
+--     wakes       an event of a stream wakes that stream's writer alone, and a write all that may be owed something
+--     due_at      whether a poll of a stream would give a response, or be refused for want of a number
+--     wait_ends   what a wait ends by: it ends once something is due, or the stream isn't open
 use Rattle.std.specs.Prelude.{ℕ, Bool, true, false, Option, Some, None, is_some}
 use Rattle.std.specs.Option.{option_map}
 use Rattle.std.specs.FinMap as finmap

@@ -1,4 +1,8 @@
 -- What an exchange of two replicas comes to: what each of its workers does, and what passes between them. This project's own.
+--     Exchange     at who tells: what its seat was told, the tries that left no record
+--     IsExchange   each worker does its part, and so ended
+--     TellsAll     all of who tells, by what its seat was told and refused, what it had put and taken
+--     MergesAll    and of who merges
 use Rattle.std.specs.Prelude.{◌≡◌, ℕ, List, ◌++◌, Bool, Result}
 use Rattle.xds_resource.specs.declared.refusal.Refusal.{Refusal}
 use Rattle.xds_core.specs.Legal.{Record}

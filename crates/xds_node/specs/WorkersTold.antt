@@ -1,4 +1,11 @@
 -- What the seats of worker threads are told, and what they ask for in vain. This project's own.
+--     IsGranted       the event was answered, and not refused
+--     in_vain         a try that left no record, and why
+--     IsTriedBefore   what an event is tried before the try that leaves its record
+--     IsTriedInVain   the tries of an event that leaves no record: one, where there was no memory
+--     IsTried         an event is tried once, and once more exactly where the journal was full
+--     IsAnswered      one event of a seat
+--     IsClosing       the close of a stream is asked for: this is told of it, and these tries left no record
 use Rattle.std.specs.Prelude.{◌≡◌, ◌⊎◌, ℕ, List, [], ◌∷◌, IsOk, Result, Ok, Err}
 use Rattle.xds_resource.specs.declared.refusal.Refusal.{Refusal}
 use Rattle.xds_resource.specs.declared.refusal.Refusal.TheVariants.{OutOfMemory, JournalFull}

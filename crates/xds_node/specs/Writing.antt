@@ -1,5 +1,18 @@
 -- What the writing thread of a stream does: it polls, and writes each response that it is told as a frame. This project's own; the
 -- responses are those of Envoy's "xDS REST and gRPC protocol".
+--     listed            a response, if there is one
+--     response_in       the response in an answer
+--     responses_of      the responses that were told, in order
+--     poll_of, IsPoll   a poll of a stream, for all types
+--     AreTries          of so many polls each was tried at most once before it was recorded, where the journal was full
+--     IsWritten         responses were told, and each was written as a frame
+--     IsLastPoll        the last poll: the stream isn't open
+--     IsStop            why the writing stops before that
+--     TurnWrites        one turn: a poll, whose response is written; or the last one; or why it stops
+--     HasWritten        all polls and what was written of them: every response whole, until the last poll
+--     WritesAll         the same of the whole thread
+--     IsSilent          nothing is written, and nothing fails
+--     Responds          a response is sent, or there is none
 use Rattle.std.specs.Prelude.{◌≡◌, ◌≢◌, ◌≤◌, ◌⊎◌, ℕ, List, [], ◌∷◌, ◌++◌, length, All, Bool, true, false, Option, Some, None, Result, Ok, Err}
 use Rattle.std.specs.List.{flat_map}
 use Rattle.xds_resource.specs.declared.refusal.Refusal.{Refusal}

@@ -1,4 +1,13 @@
 -- What playing a script does and prints, command by command. This project's own.
+--     Played, nothing_played   how far a script is played: what happened, and what was printed
+--     happening                something more happened
+--     printing                 something more is printed
+--     Plays                    what a command does. An event happens, though it may change nothing
+--     PlaysAll                 what commands do, one after the other
+--     Prints                   what commands print, from the start
+--     takes                    the clients of a script take what isn't marked
+--     IsPlayed                 a script that has no bad line prints this
+--     IsUnplayed               why a script isn't played: its first bad line, or there was no memory
 use Rattle.std.specs.Prelude.{◌≡◌, ℕ, List, [], ◌∷◌, ◌++◌, Some, ⊤}
 use Rattle.xds_cache.specs.Faults.{Test}
 use Rattle.xds_cache.specs.Marks.{is_unmarked}

@@ -1,4 +1,12 @@
 -- What is printed of a client's view and of a replica's content. This project's own.
+--     none_text                        what is printed of a client or a replica that isn't there
+--     holding_line                     a resource that a client holds, with its version where the client was told one
+--     holding_lines, view_head, view_text  what a client holds, in the order of names
+--     state_of                         the word for whether a client polls, or is up, and settled of a type
+--     state_word                       how a client stands to a type
+--     view_shown, write_line, write_lines, content_head  what is printed of a client's view of a type
+--     content_text                     the live ones of these writes
+--     content_shown                    what is printed of a replica's content of a type
 use Rattle.std.specs.Prelude.{ℕ, List, [], ◌++◌, length, Bool, if◌then◌else◌, codes, decimal, unwrap_or, filter}
 use Rattle.std.specs.List.{flat_map}
 use Rattle.std.specs.Option.{option_map_or}

@@ -1,4 +1,6 @@
 -- What a call answers that plays a script and traces a replica. This project's own.
+--     Traces     the commands are played one after the other
+--     IsTraced   so it is of a script that has no bad line
 use Rattle.std.specs.Prelude.{◌≡◌, ℕ, List, []}
 use Rattle.std.specs.Option.{option_map_or}
 use Rattle.std.specs.FinMap as finmap

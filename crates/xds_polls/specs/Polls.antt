@@ -1,5 +1,12 @@
 -- What a post over HTTP comes to before its body is read, and what a reply to it is: the paths of Envoy's "xDS REST and gRPC
 -- protocol". The bound on a body, the order of the checks and the reply where none can be made are this project's own.
+--     HttpReply, without_body, with_body  a reply: its status, and its body, if it has one
+--     unavailable                      where no reply can be made
+--     without_query                    the path up to its query, if it has one
+--     type_of_path                     the type that is polled at a path
+--     max_body                         as many bytes as a body may have
+--     admitted                         of a request to the path of a type: the type, or the status that finishes it
+--     addressed                        of any request: the type that it polls, or the status that finishes it
 use Rattle.std.specs.Prelude.{ℕ, List, Option, Some, None, Result, Ok, Err, ◌==◌, length, bytes_eq, codes, find, nat_lt, not, if◌then◌else◌}
 use Rattle.std.specs.List.{before_first}
 use Rattle.std.specs.Option.{option_map_or}

@@ -1,5 +1,13 @@
 -- The answer to the first request of a fresh stream, over the catalogues of the writes that came before it: Envoy's
 -- state-of-the-world response. The version and the nonce are this project's own.
+--     held_of         what is held of the type once these writes came, where nothing was held before
+--     objects_of      the objects of the writes that put one
+--     response_with   the response with this content, to a client of this interest
+--     asked           what a fresh stream's one list of names asks for
+--     response_to     a complete type is answered with its content, and an incomplete one only where there is some
+--     answer_text     a response's text, and a line feed
+--     response_by     the response to a request of a type of the table, by what is held of each
+--     answer          what is written for the request, after these writes
 use Rattle.std.specs.Prelude.{ℕ, List, [], ◌∷◌, ◌++◌, not, ◌||◌, ◌==◌, if◌then◌else◌, length, Option, Some, None, codes}
 use Rattle.std.specs.List.{filter_map}
 use Rattle.std.specs.Option.{option_map, option_and_then}

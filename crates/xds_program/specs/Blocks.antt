@@ -1,4 +1,6 @@
 -- Text that is gathered in blocks on its way to a writer. This project's own.
+--     Passes         bytes come behind those that were held
+--     comma_before   a comma, where a body stands before
 use Rattle.std.specs.Prelude.{◌≡◌, ℕ, List, [], ◌∷◌, ◌++◌, Bool, if◌then◌else◌}
 use Rattle.xds_frames.specs.Devices.{Device, Wrote}
 

@@ -1,4 +1,26 @@
 -- The command line of `xds`, in the words in which `clap` says what a command is. This project's own.
+--     text_option                      an option whose value is any text
+--     number_up_to, number_option      an option whose value is a number from 1 to the most
+--     with_default                     the value of an option that isn't given
+--     required                         an option, or a word at least, that has to be given
+--     name_words                       words that are no options: the names of resources
+--     answer_command                   `xds answer [--replica N]`
+--     play_command                     `xds play [--trace N]`
+--     check_command, replicas_option, port_option,
+--     rest_port_option                 `xds check`, which has no options
+--     serve_command                    `xds serve [--replicas N] [--port P] [--rest-port Q] [--streams S]`
+--     client_start                     `xds client`, with the options that say where it asks, how, and for what
+--     client_command                   `xds client`, with its options and names
+--     poll_start                       `xds poll`, with the options that say where it asks, and for what
+--     poll_command                     `xds poll --addr A --type TYPE [--version V] [--cluster TEXT] [NAME..]`
+--     wanting_command                  `xds`, which wants a command
+--     first_commands                   and with the first three of them
+--     command_line                     `xds`, with all of them
+--     IsLocal                          the options of the command are its own
+--     IsCommand                        the command is as described
+--     IsOption                         so is the option
+--     faults                           what `clap` may find wrong with the words, the call for help among it
+--     named_in                         the command that the words name, with the values that they give it
 use Rattle.std.specs.Prelude.{◌≡◌, ℕ, List, [], ◌∷◌, codes, true, false, Some, Option, pos}
 use Rattle.clap.specs.declared.builder.arg.Arg.{Arg}
 use Rattle.clap.specs.declared.builder.command.Command.{Command}

@@ -1,5 +1,13 @@
 -- Which inputs of `xds answer` are answered, and which line of the others is at fault: stamped writes, a line each, and
 -- the request on the last line. This project's own.
+--     IsWriteLine      the line is JSON that spells the write
+--     AreWriteLines    each line is the write at its place
+--     IsRequestLine    the line is JSON that spells the request, and the request names a type
+--     IsAnswer         the bytes are the answer to an input of good lines alone
+--     RefusesWrite     why a line is refused as a write, by what is held of each type before it
+--     RefusesRequest   why a line is refused as a request
+--     RefusesLine      the line after these writes is refused
+--     IsFault          all lines before this one are good, and this one is refused
 use Rattle.std.specs.Prelude.{◌≡◌, ◌≢◌, ◌<◌, ◌+◌, ℕ, List, [], ◌∷◌, ◌++◌, length, ⊤}
 use Rattle.serde_json.specs.Data.{Data}
 use Rattle.xds_resource.specs.declared.types.TypeName.{TypeName}

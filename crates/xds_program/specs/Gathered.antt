@@ -1,4 +1,7 @@
 -- How far an input of `xds answer` was read, and what was gathered of it. This project's own.
+--     IsReadTo      the lines before the rest spell writes, this is what is held once those came
+--     WhereReadTo   this holds of every input that was read so far
+--     IsGathered    the input is read to its end
 use Rattle.std.specs.Prelude.{◌≡◌, ◌≤◌, ◌+◌, ℕ, List, ◌++◌, length}
 use Rattle.xds_resource.specs.declared.types.TypeName.{TypeName}
 use Rattle.xds_resource.specs.declared.refusal.Refusal.TheVariants.{OutOfMemory}

@@ -1,4 +1,10 @@
 -- What `xds check` tells of the bytes of a trace, by the rules that every trace of a replica keeps. This project's own.
+--     IsJudged         the bytes are a trace, and this is the verdict on it
+--     IsUnjudged       why there is no verdict: the first bad line, or no memory
+--     broken_text      what is printed of a line that breaks a rule
+--     verdict_text     what is printed of a verdict
+--     verdict_status   and the status
+--     TellsVerdict     the text is printed, with this status, of an input that is a trace
 use Rattle.std.specs.Prelude.{◌≡◌, ℕ, List, ◌++◌, Option, Some, None, codes, decimal, ⊤}
 use Rattle.xds_check.specs.declared.line.Line.{Line}
 use Rattle.xds_check.specs.Rules.{word_of}

@@ -1,4 +1,11 @@
 -- What the words of a command line are, in other words. This project's own.
+--     AskOneTask          words ask for one task at most
+--     Names               the words name this command
+--     NamesPlainly        the words name a command that uses no device but the program's own
+--     FaultlessWordsAsk   `clap` finds nothing wrong exactly with those of these words that ask for a task
+--     AnswerWordsAsk      which words ask for an answer, in plain words
+--     PlayWordsAsk        which words ask for a script to be played
+--     CheckWordsAsk       which words ask for a trace to be checked
 use Rattle.std.specs.Prelude.{◌≡◌, ◌⊎◌, ◌↔◌, ℕ, List, [], codes, Option, Some, option_map}
 use Rattle.clap.specs.Words.{Text}
 use Rattle.xds_program.specs.declared.tasks.Task.{Task}

@@ -1,4 +1,32 @@
 -- What a run of the program leaves on its output and its error output, and its status. This project's own.
+--     refusal_line     how a refusal is told
+--     fault_line       how a refused line is told
+--     Streams          the reader, the output and the error output of a run
+--     IsPrinted        a text that is called for is written, and no more
+--     TellsFault       the line that is refused is told
+--     Prints           a text is written with this status
+--     HasOutcome       status 0 comes with the text that the input calls for
+--     IsCause          there was no memory, or a device failed: the refusal says which
+--     IsUnable         the run can't go on, and tells why
+--     RunsTask         a task has its outcome, or can't go on, at the latest in the midst of its text
+--     RunsAnswer       `xds answer` as this replica
+--     IsBadLine        a line of a script is refused: it is the first that is bad
+--     IsPlayedFor      what is printed of a script that has no bad line
+--     RunsPlay         `xds play`: what is printed of the script, or its first bad line
+--     IsBadTraceLine   a line of a trace is refused: it is the first that is bad
+--     MayTell          a verdict of the input may be printed, with one status or the other
+--     HasVerdict       a verdict is printed, with its status
+--     RunsCheck        `xds check`: the verdict on a trace, or its first bad line
+--     IsSame           the device is as it was, and none of its calls failed
+--     IsUntouched      nothing is read, and nothing is written
+--     IsDone           the task is done, with this status, and has its outcome
+--     IsHanded         a task is handed to the caller, untouched
+--     Runs             what becomes of a task: `xds answer`, `xds play` and `xds check` are done
+--     IsCall           the words call for help, or for the version
+--     IsShown          help goes to the output, with status 0
+--     AsksNone         no task is asked for
+--     IsAside          the words ask for no task: they call for help, or they are wrong. The input isn't read.
+--     HasRun           a run whose words ask for a task does it, or tells the line that is refused
 use Rattle.std.specs.Prelude.{◌≡◌, ◌⊎◌, ℕ, List, ◌++◌, IfSome, Option, None, Some, codes, decimal}
 use Rattle.clap.specs.declared.error.kind.ErrorKind.{ErrorKind}
 use Rattle.clap.specs.declared.error.kind.ErrorKind.TheVariants.{DisplayHelp, DisplayVersion}

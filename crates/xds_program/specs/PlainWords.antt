@@ -1,5 +1,13 @@
 -- What some words of a command line ask for, in plain words, the program's name first. This project's own, by the customs of
 -- `clap`.
+--     IsReplicaText     the number of a replica, from 1 to 65,535, in decimal digits; a plus may stand before them
+--     IsReplicaOption   `--NAME N`, in two words or, with an `=`, in one
+--     AreOptions        the options of `answer`; with none of them, replica 1 answers
+--     AreTraceOptions   the options of `play`; with none of them, no trace is wanted
+--     AreWords          the words are the program's name, a command, these options, and perhaps `--`
+--     AsksAnswer        the words ask replica `replica` to answer
+--     AsksPlay          the words ask for a script to be played
+--     AsksCheck         the words ask for a trace to be checked
 use Rattle.std.specs.Prelude.{◌≡◌, ◌⊎◌, ◌≤◌, ℕ, List, [], ◌∷◌, ◌++◌, codes, Option, Some, None}
 use Rattle.std.specs.Str.Parse.{IsNumeral, digits_value, without_leading_plus}
 use Rattle.clap.specs.Words.{Text}

@@ -1,4 +1,7 @@
 -- What the program may be asked for, as contracts see it: texts as their bytes. This project's own.
+--     variant_of_word   the variant that the programs call by this word
+--     Watch             `xds client`: a client that subscribes on a stream
+--     Look              `xds poll`: one look at a replica, over REST
 use Rattle.std.specs.Prelude.{ℕ, List, codes, Option, Some, None, if◌then◌else◌}
 use Rattle.std.specs.Str.{bytes_eq}
 use Rattle.std.specs.declared.net.socket_addr.SocketAddrV4.{SocketAddrV4}

@@ -1,4 +1,19 @@
 -- Which words ask for which task, by what `clap`'s own model finds in them. This project's own.
+--     IsNumberText   the text writes this number of at most 65,535 in decimal digits; a plus may stand before them
+--     IsNumber       the value of the option is this number
+--     IsAddress      the value of `--addr` is this IPv4 address and port
+--     text_in        the value of an option, empty where it isn't given
+--     names_in       the names, in their order
+--     Finds          what fits, or none where nothing fits
+--     AsksServe      `xds serve`: no replica's port is above 65,535
+--     AsksClient     `xds client`
+--     AsksPoll       `xds poll`
+--     AsksBy         the command of this name, with these values, asks for the task
+--     AsksIn         the command that was named, if one was, asks for the task
+--     Asks           the words ask for the task
+--     IsFaultOf      why words ask for no task, as the kind of an error
+--     IsWrongBy      so it is, or there was no memory
+--     IsToldOf       an error of this kind is told of words that ask for no task, or there was no memory
 use Rattle.std.specs.Prelude.{◌≡◌, ◌⊎◌, ◌≤◌, ◌+◌, ℕ, List, [], codes, Option, Some, None, unwrap_or}
 use Rattle.std.specs.Option.{option_and_then}
 use Rattle.std.specs.Str.Parse.{IsNumeral, digits_value, without_leading_plus}

@@ -1,4 +1,6 @@
 -- A resource or a write of any type, as its type and what it is there. This project's own.
+--     resource_type, named_body, write_type, stamped_write  the type of a resource or a write of any type
+--     any_write                                              a write of a type, as one of any
 use Rattle.xds_resource.specs.declared.types.TypeName.{TypeName}
 use Rattle.xds_resource.specs.declared.types.TypeName.TheVariants as types
 use Rattle.xds_resource.specs.declared.any.AnyResource.{AnyResource}
@@ -35,3 +37,11 @@ stamped_write (writes.Endpoint w) = w
 stamped_write (writes.Listener w) = w
 stamped_write (writes.Route w) = w
 stamped_write (writes.Secret w) = w
+
+-- a write of a type, as one of any
+abbrev pub any_write : TypeName → StampedWrite → AnyWrite
+any_write types.Cluster w = writes.Cluster w
+any_write types.Endpoint w = writes.Endpoint w
+any_write types.Listener w = writes.Listener w
+any_write types.Route w = writes.Route w
+any_write types.Secret w = writes.Secret w

@@ -1,4 +1,11 @@
 -- The greatest write of a name in a list of writes. This project's own.
+--     greater          the greater of two writes, where each may be missing
+--     if_named         the write, if it has the name
+--     best             the greatest write of the name in the list
+--     IsGreatest       a write of the name that stands in the list, and below no other write of the name there
+--     BestIsGreatest   what `best` is, in other words
+--     SameWrites       the two lists hold the same writes, in whatever order and however often
+--     BestOfBoth       the best of two lists is the greater of the best of each
 use Rattle.std.specs.Prelude.{◌≡◌, ◌≢◌, ◌↔◌, ℕ, List, [], ◌∷◌, ◌++◌, bytes_eq, Option, Some, None, Contains, if◌then◌else◌, MatchOption}
 use Rattle.std.specs.declared.cmp.Ordering.TheVariants.{Greater}
 use Rattle.std.specs.Ordering.{ord_max}

@@ -1,4 +1,6 @@
 -- Fields of JSON objects as the proto3 JSON mapping spells them.
+--     first_of   the first of two that is there
+--     field      what a field holds, under its lowerCamelCase name or the proto file's
 use Rattle.std.specs.Prelude.{ℕ, List, Option, Some, None}
 use Rattle.serde_json.specs.Data.{Data}
 use Rattle.serde_json.specs.Find.{get}

@@ -1,5 +1,15 @@
 -- Groups: the texts that a write may list, so that the star of a client covers it only where the client's node is of a
 -- cluster among them. This project's own.
+--     max_groups         at most this many groups
+--     max_group          a group has at most this many bytes
+--     is_group           a text that may be a group: neither empty nor too long
+--     placed             an ascending list with a text put in its place, byte by byte, unless it is there
+--     grouped            each text of a list once, in ascending order
+--     group_conditions   why a list of texts is no list of groups
+--     groups_of          the groups that a list of texts comes to: in whatever order, and a doubled one once
+--     IsGroups           a list of groups as it is kept, which comes to itself
+--     has_group          whether a text is among the groups
+--     Ascend             the groups ascend, none of them twice
 use Rattle.std.specs.Prelude.{◌≡◌, ℕ, List, [], ◌∷◌, map, length, T, Bool, ◌&&◌, not, nat_lt, bytes_eq, Result, Ok}
 use Rattle.std.specs.List.{list_all, list_any}
 use Rattle.std.specs.FinMap.Entries.{by_order, is_sorted}

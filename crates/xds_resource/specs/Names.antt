@@ -1,4 +1,9 @@
 -- Finite maps from names, and how they are made. This project's own.
+--     pairs      texts with values, the texts as their bytes
+--     put_some   the map, with a value at the name if there is one to put
+--     tabulate   the map that has at each of these names what f has there
+--     put_all    a map after what f makes of each of some entries was put at its name
+--     put_each   a map after what f makes of each of some names was put at it
 use Rattle.std.specs.Prelude.{ℕ, List, [], ◌∷◌, map, Option, Some, None, String, string_bytes}
 use Rattle.std.specs.FinMap as finmap
 use Rattle.xds_resource.specs.Writes.{text_cmp}

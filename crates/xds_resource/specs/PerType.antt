@@ -1,4 +1,10 @@
 -- Five things of one kind, one for each resource type: catalogues, sessions, caches, marks. This project's own.
+--     PerType, per_type_code   one thing for each of the five types
+--     at                       the one of a type
+--     per_type                 what f gives of each type
+--     each                     the same thing for each type
+--     with_at                  p, with x for the type t
+--     PutsAtOneType            what was put at a type is there, and the other types keep theirs
 use Rattle.std.specs.Prelude.{◌≡◌, ◌≢◌, refl}
 use Rattle.std.specs.Coded.{Coded, code_by, coded×}
 use Rattle.xds_resource.specs.declared.types.TypeName.{TypeName}

@@ -1,5 +1,30 @@
 -- Which texts and JSON values are resources of a type, and why others are refused. A resource is the proto3 JSON form of
 -- an Any: the message's object with one more key `@type`. The limits are this project's own.
+--     NamedBody, named_body_code   a resource: its name, and the compact text of its object
+--     max_text                     at most this many bytes
+--     max_nesting                  at most this deep
+--     max_name                     a name has at most this many bytes
+--     value_of                     the value that a text reads as, and `null` for one that is no JSON
+--     is_valid_name                a name that a resource may have
+--     name_text                    the text of a name field, empty where it is absent or `null`
+--     type_text, has_type          what the value's `@type` says
+--     resource_name                the name of the resource that a value is of a type
+--     is_resource, name_or_empty   an object of the type, whose name field is a text
+--     resource_of                  the resource that a value is
+--     object_conditions            what the object of a resource has to be like
+--     from_object                  what a shallow, whole value is as a resource of the type
+--     front_conditions             what any resource's text has to be like
+--     ReadsAs                      the text reads as the value, and is none that every type refuses
+--     text_conditions              why a text is refused, in order
+--     value_conditions             why a value is refused, in order
+--     parsed                       what a text is as a resource of the type
+--     from_value                   what a value is as a resource of the type
+--     IsCanonical                  the body is the compact text, not too long, of a whole
+--     named_type                   the type of the table that a value's `@type` names
+--     IsRefused                    a text of any type is refused as one of the type that it names
+--     IsWritable                   a write of the type
+--     written                      the write that puts a resource, for these groups
+--     deleted                      the write that deletes the resource of a name
 use Rattle.std.specs.Prelude.{ℕ, ◌≡◌, ◌≤◌, List, [], ◌∷◌, ◌++◌, length, Bool, true, false, not, ◌&&◌, nat_lt, bytes_eq, Option, Some, None, is_some, is_none, MatchOption, unwrap_or, Result, Ok, Err, codes, refl}
 use Rattle.std.specs.Coded.{Coded, code_by, coded×, coded_ℕ, coded_list}
 use Rattle.std.specs.Option.{ForSome, option_and_then, option_map_or}

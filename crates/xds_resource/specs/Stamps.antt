@@ -1,4 +1,8 @@
 -- Stamps of writes and their version texts. This project's own.
+--     max_counter    the greatest counter, 2 ^ 63 - 1
+--     max_writer     the greatest writer number
+--     IsStamp        a counter and a writer that may stamp a write
+--     version_text   a version text: counter, a dash, writer, in decimal without leading zeros
 use Rattle.std.specs.Prelude.{ℕ, ◌≤◌, List, ◌∷◌, ◌++◌, decimal}
 
 -- the greatest counter, 2 ^ 63 - 1

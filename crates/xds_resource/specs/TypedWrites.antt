@@ -1,4 +1,6 @@
 -- Writes with their types, and those of one type among them. This project's own.
+--     TypedWrite   a write, with its type
+--     writes_of    the writes of a type
 use Rattle.std.specs.Prelude.{List, map}
 use Rattle.std.specs.List.{filter}
 use Rattle.xds_resource.specs.declared.types.TypeName.{TypeName}

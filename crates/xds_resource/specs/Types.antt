@@ -1,4 +1,11 @@
 -- The table of resource types of Envoy's "xDS REST and gRPC protocol": one row a type. A further type is one row more.
+--     Row, row       what is known of a type
+--     types          the types, in the order in which a server answers them
+--     type_of_url    the type of the table that has this URL
+--     type_of_word   the type that the programs call by this word
+--     is_same_type   whether two types are the same: no two of them share a URL
+--     place          how many types a server answers before this one
+--     type_cmp       the order of types, in which a server answers them
 use Rattle.std.specs.Prelude.{ℕ, List, [], ◌∷◌, Bool, true, false, bytes_eq, Option, codes, find}
 use Rattle.std.specs.List.{position_or_len}
 use Rattle.std.specs.Ordering.{nat_cmp}

@@ -1,4 +1,9 @@
 -- Stamped writes of one type, and their order. This project's own.
+--     StampedWrite, write_code   a write: its name, its stamp, the body that it puts there, or none where it deletes
+--     text_cmp                   the order of names, and of bodies: byte by byte
+--     groups_cmp                 the order of lists of groups: group by group
+--     write_cmp                  by counter, then writer, then a deletion below a body, then the body's bytes
+--     version_of                 the version text of a write
 use Rattle.std.specs.Prelude.{ℕ, List, Option, refl}
 use Rattle.std.specs.Coded.{Coded, code_by, coded×, coded_ℕ, coded_list, coded_option}
 use Rattle.std.specs.declared.cmp.Ordering.{Ordering}

@@ -4,7 +4,8 @@ ghost use Rattle.std.specs.Option.{option_map};
 ghost use Rattle.serde_json.specs.Data.{depth};
 ghost use Rattle.serde_json.specs.View.{view};
 ghost use Rattle.serde_json.specs.Written.{compact_text, has_float};
-ghost use Rattle.xds_resource.specs.Resources.{value_of, max_nesting, parsed, IsRefused, named_type as type_named};
+ghost use Rattle.xds_resource.specs.Refusals.{Gives};
+ghost use Rattle.xds_resource.specs.Resources.{value_of, max_nesting, parsed, from_value, IsRefused, named_type as type_named};
 ghost use Rattle.xds_resource.specs.Any.{resource_type, named_body, write_type, stamped_write};
 
 use crate::groups::Groups;
@@ -13,6 +14,7 @@ use crate::resource::{Resource, read_text};
 use crate::stamp::Stamp;
 use crate::types::{Cluster, Endpoint, Listener, Route, Secret, TypeName};
 use crate::write::Write;
+use crate::{for_any, for_type};
 use serde_json::Value;
 use std::alloc::Global;
 
@@ -37,19 +39,15 @@ impl AnyResource {
         let Some(type_name) = named_type(&value) else {
             return Err(Refusal::BadResource);
         };
-        match type_name {
-            TypeName::Cluster => Ok(AnyResource::Cluster(Resource::of_object(
-                alloc, &value, body,
-            )?)),
-            TypeName::Endpoint => Ok(AnyResource::Endpoint(Resource::of_object(
-                alloc, &value, body,
-            )?)),
-            TypeName::Listener => Ok(AnyResource::Listener(Resource::of_object(
-                alloc, &value, body,
-            )?)),
-            TypeName::Route => Ok(AnyResource::Route(Resource::of_object(alloc, &value, body)?)),
-            TypeName::Secret => Ok(AnyResource::Secret(Resource::of_object(alloc, &value, body)?)),
-        }
+        Ok(for_type!(type_name, AnyResource of Resource::of_object(alloc, &value, body)?))
+    }
+
+    /// The resource of the type that a value is, refused as [`Resource::from_value`] refuses it.
+    pub fn from_value(alloc: Global, kind: TypeName, value: Value) -> Result<AnyResource, Refusal>
+        ensures typed { IfOk result (λ r. resource_type r ≡ kind) }
+        ensures given { Gives named_body result (from_value kind (view value)) }
+    {
+        Ok(for_type!(kind, AnyResource of Resource::from_value(alloc, value)?))
     }
 
     pub fn type_name(&self) -> TypeName
@@ -67,26 +65,14 @@ impl AnyResource {
     pub fn name(&self) -> &str
         ensures { result.now ≡ (named_body self.now).name }
     {
-        match self {
-            AnyResource::Cluster(resource) => resource.name(),
-            AnyResource::Endpoint(resource) => resource.name(),
-            AnyResource::Listener(resource) => resource.name(),
-            AnyResource::Route(resource) => resource.name(),
-            AnyResource::Secret(resource) => resource.name(),
-        }
+        for_any!(self, AnyResource(resource) => resource.name())
     }
 
     /// The compact text of the resource's object.
     pub fn body(&self) -> &str
         ensures { result.now ≡ (named_body self.now).body }
     {
-        match self {
-            AnyResource::Cluster(resource) => resource.body(),
-            AnyResource::Endpoint(resource) => resource.body(),
-            AnyResource::Listener(resource) => resource.body(),
-            AnyResource::Route(resource) => resource.body(),
-            AnyResource::Secret(resource) => resource.body(),
-        }
+        for_any!(self, AnyResource(resource) => resource.body())
     }
 
     /// An equal resource, or `OutOfMemory`.
@@ -94,13 +80,7 @@ impl AnyResource {
         ensures copy { IfOk result (λ r. r ≡ self.now) }
         ensures refused { IfErr result (λ e. e ≡ Refusal.OutOfMemory) }
     {
-        Ok(match self {
-            AnyResource::Cluster(resource) => AnyResource::Cluster(resource.try_copy(alloc)?),
-            AnyResource::Endpoint(resource) => AnyResource::Endpoint(resource.try_copy(alloc)?),
-            AnyResource::Listener(resource) => AnyResource::Listener(resource.try_copy(alloc)?),
-            AnyResource::Route(resource) => AnyResource::Route(resource.try_copy(alloc)?),
-            AnyResource::Secret(resource) => AnyResource::Secret(resource.try_copy(alloc)?),
-        })
+        Ok(for_any!(self, AnyResource(resource) => AnyResource of resource.try_copy(alloc)?))
     }
 }
 
@@ -130,52 +110,28 @@ impl AnyWrite {
     pub fn name(&self) -> &str
         ensures { result.now ≡ (stamped_write self.now).name }
     {
-        match self {
-            AnyWrite::Cluster(write) => write.name(),
-            AnyWrite::Endpoint(write) => write.name(),
-            AnyWrite::Listener(write) => write.name(),
-            AnyWrite::Route(write) => write.name(),
-            AnyWrite::Secret(write) => write.name(),
-        }
+        for_any!(self, AnyWrite(write) => write.name())
     }
 
     pub fn stamp(&self) -> Stamp
         ensures counter { result.counter ≡ (stamped_write self.now).counter }
         ensures writer { result.writer ≡ (stamped_write self.now).writer }
     {
-        match self {
-            AnyWrite::Cluster(write) => write.stamp(),
-            AnyWrite::Endpoint(write) => write.stamp(),
-            AnyWrite::Listener(write) => write.stamp(),
-            AnyWrite::Route(write) => write.stamp(),
-            AnyWrite::Secret(write) => write.stamp(),
-        }
+        for_any!(self, AnyWrite(write) => write.stamp())
     }
 
     /// The compact text of the resource's object, or none for a deletion.
     pub fn body(&self) -> Option<&str>
         ensures { option_map (λ s. s.now) result ≡ (stamped_write self.now).body }
     {
-        match self {
-            AnyWrite::Cluster(write) => write.body(),
-            AnyWrite::Endpoint(write) => write.body(),
-            AnyWrite::Listener(write) => write.body(),
-            AnyWrite::Route(write) => write.body(),
-            AnyWrite::Secret(write) => write.body(),
-        }
+        for_any!(self, AnyWrite(write) => write.body())
     }
 
     /// The groups of clients that the write is for.
     pub fn groups(&self) -> &Groups
         ensures { result.now ≡ (stamped_write self.now).groups }
     {
-        match self {
-            AnyWrite::Cluster(write) => write.groups(),
-            AnyWrite::Endpoint(write) => write.groups(),
-            AnyWrite::Listener(write) => write.groups(),
-            AnyWrite::Route(write) => write.groups(),
-            AnyWrite::Secret(write) => write.groups(),
-        }
+        for_any!(self, AnyWrite(write) => write.groups())
     }
 
     /// The resource's object, as it is read again from its text, or none for a deletion. `OutOfMemory` where reading
@@ -187,13 +143,7 @@ impl AnyWrite {
         ensures shallow { IfOk result (λ o. IfSome o (λ v. depth (view v) ≤ max_nesting)) }
         ensures refused { IfErr result (λ e. e ≡ Refusal.OutOfMemory) }
     {
-        match self {
-            AnyWrite::Cluster(write) => write.value(alloc),
-            AnyWrite::Endpoint(write) => write.value(alloc),
-            AnyWrite::Listener(write) => write.value(alloc),
-            AnyWrite::Route(write) => write.value(alloc),
-            AnyWrite::Secret(write) => write.value(alloc),
-        }
+        for_any!(self, AnyWrite(write) => write.value(alloc))
     }
 
     /// An equal write, or `OutOfMemory`.
@@ -201,13 +151,7 @@ impl AnyWrite {
         ensures copy { IfOk result (λ w. w ≡ self.now) }
         ensures refused { IfErr result (λ e. e ≡ Refusal.OutOfMemory) }
     {
-        Ok(match self {
-            AnyWrite::Cluster(write) => AnyWrite::Cluster(write.try_copy(alloc)?),
-            AnyWrite::Endpoint(write) => AnyWrite::Endpoint(write.try_copy(alloc)?),
-            AnyWrite::Listener(write) => AnyWrite::Listener(write.try_copy(alloc)?),
-            AnyWrite::Route(write) => AnyWrite::Route(write.try_copy(alloc)?),
-            AnyWrite::Secret(write) => AnyWrite::Secret(write.try_copy(alloc)?),
-        })
+        Ok(for_any!(self, AnyWrite(write) => AnyWrite of write.try_copy(alloc)?))
     }
 }
 

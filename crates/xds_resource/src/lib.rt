@@ -2,6 +2,8 @@
 #![tactic(auto)]
 
 pub mod any;
+mod decimal;
+mod for_type;
 pub mod groups;
 mod json;
 pub mod laws;
@@ -13,6 +15,7 @@ pub mod types;
 pub mod write;
 
 pub use any::{AnyResource, AnyWrite};
+pub use decimal::decimal_number;
 pub use groups::Groups;
 pub use names::NameMap;
 pub use refusal::Refusal;

@@ -2,8 +2,8 @@
 ghost use Rattle.std.specs.Prelude.{◌≡◌, IfOk, IfErr, IsOkAnd, string_bytes, ℕ, ◌<◌, ◌^◌, Some, IfSome, decimal};
 ghost use Rattle.xds_resource.specs.Stamps.{IsStamp, version_text as spec_version, max_counter, max_writer};
 
+use crate::decimal::decimal_number;
 use crate::refusal::Refusal;
-use itoa::Buffer;
 use std::alloc::Global;
 
 /// The greatest counter of a stamp.
@@ -39,7 +39,7 @@ impl Stamp {
         let Some((counter, writer)) = text.split_once('-') else {
             return Err(Refusal::BadStamp);
         };
-        let (Some(counter), Some(writer)) = (counter_of(counter), writer_of(writer)) else {
+        let (Some(counter), Some(writer)) = (decimal_number(counter), writer_of(writer)) else {
             return Err(Refusal::BadStamp);
         };
         if counter == 0 || counter > MAX_COUNTER || writer == 0 {
@@ -59,30 +59,10 @@ impl Stamp {
     }
 }
 
-// The number whose shortest decimal this is: no sign, no leading zero.
-fn counter_of(text: &str) -> Option<u64>
-    ensures shortest { IfSome result (λ n. text.now ≡ decimal n) }
-    ensures all { (n : ℕ) → n < 2 ^ 64 → text.now ≡ decimal n → result ≡ Some n }
-{
-    let number = text.parse::<u64>().ok()?;
-    let mut digits = Buffer::new();
-    if digits.format(number) == text {
-        Some(number)
-    } else {
-        None
-    }
-}
-
-// The same for a writer's number.
+// The number of a writer, in decimal.
 fn writer_of(text: &str) -> Option<u16>
     ensures shortest { IfSome result (λ n. text.now ≡ decimal n) }
     ensures all { (n : ℕ) → n < 2 ^ 16 → text.now ≡ decimal n → result ≡ Some n }
 {
-    let number = text.parse::<u16>().ok()?;
-    let mut digits = Buffer::new();
-    if digits.format(number) == text {
-        Some(number)
-    } else {
-        None
-    }
+    u16::try_from(decimal_number(text)?).ok()
 }

@@ -1,4 +1,16 @@
 -- What a post to a running node leaves of its seat's calls, and the reply to it. This project's own.
+--     IsRest                   an event that polls without a stream
+--     Rests                    what a poll without a stream is answered: never a refusal
+--     IsToldReply              the seat is told one step of the replica of this number, of this event
+--     IsToldNoReply            it is told nothing, since the call left no record
+--     IsReplyAt                the reply to a request of this method, path and body at the node of this replica
+--     LeavesNoReply            why there is no reply
+--     once_full                the seat after a call that found the journal full
+--     IsTriedReply             the reply is by the first call, or by the second
+--     IsTriedNoReply           at the first call there was no memory
+--     IsReplyByCutting         the reply to a request, as `IsReplyAt` has it
+--     LeavesNoReplyByCutting   why there is none, as `LeavesNoReply` has it
+--     IsReplyOrUnavailable     the reply to a request of this method
 use Rattle.std.specs.Prelude.{◌≡◌, ◌⊎◌, ⊤, ℕ, List, Option, Some, Ok}
 use Rattle.xds_resource.specs.declared.types.TypeName.{TypeName}
 use Rattle.xds_resource.specs.declared.refusal.Refusal.{Refusal}

@@ -1,5 +1,12 @@
 -- What a post to the REST variant asks for, or which reply it is finished with before a replica is asked: its body a DiscoveryRequest
 -- in the proto3 JSON mapping. The order of the checks and the body of a refusal are this project's own.
+--     is_own                          a message names the type of the path, or none
+--     IsPoll                          a body that asks for something of a type: JSON that spells the request
+--     RefusesBody                     why a body is refused
+--     refusal_object, refused_reply   a refusal, as a JSON object
+--     poll_of                         what a replica is asked
+--     Asked, IsReadAs, IsAskedBy      a request either is finished with a reply, or asks a replica
+--     IsAsked                         what a request of this method, path and body comes to
 use Rattle.std.specs.Prelude.{◌≡◌, ◌⊎◌, ℕ, List, [], ◌++◌, Bool, true, false, ◌||◌, Result, Ok, Err, bytes_eq, codes, decimal}
 use Rattle.serde_json.specs.Data.{Data}
 use Rattle.xds_resource.specs.declared.types.TypeName.{TypeName}

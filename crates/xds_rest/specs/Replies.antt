@@ -1,5 +1,10 @@
 -- The reply to a poll: 304 where the client holds the present version of all, and else the whole, as Envoy's "xDS REST and gRPC
 -- protocol" has it. When that is so is this project's own.
+--     http_of                          what is written of a replica's answer to a poll
+--     reply_to                         the same of any answer of a replica
+--     IfPoll                           what is said of an event that is a poll, by its type, names
+--     poll_reply, IsPollReply, IsRefusal, IsReplyBy  the reply to a poll of a type at a replica
+--     IsReply                          the reply of a replica to a request of this method, path and body
 use Rattle.std.specs.Prelude.{◌≡◌, ◌⊎◌, ⊤, ℕ, List, Option, Some, None, Result, Ok, Err}
 use Rattle.serde_json.specs.Written.{compact_text}
 use Rattle.xds_resource.specs.declared.types.TypeName.{TypeName}

@@ -1,4 +1,5 @@
 -- How the values of the program are seen. This project's own.
+--     asked_of   what a post asks, as the definitions have it
 use Rattle.xds_core.specs.Seen.{event_of}
 use Rattle.xds_rest.specs.Posts as posts
 use Rattle.xds_rest.specs.declared.post.Asked.{Asked}

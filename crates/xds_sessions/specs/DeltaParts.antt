@@ -1,4 +1,9 @@
 -- How a session's request and its response are made: the answers of the functions that make them. This project's own.
+--     account_after   the account after a request
+--     account_taken   the same of the first request or of a later one
+--     session_taken   the session after a request that is taken
+--     said            the response with what an offer says of a name
+--     said_all        and so with each of some names
 use Rattle.std.specs.Prelude.{ℕ, List, [], ◌∷◌, Bool, is_some, if◌then◌else◌}
 use Rattle.std.specs.Option.{option_map_or}
 use Rattle.std.specs.FinMap as finmap

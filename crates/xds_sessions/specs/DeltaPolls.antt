@@ -1,5 +1,14 @@
 -- What an incremental (delta) session takes and sends. The protocol is that of Envoy's "xDS REST and gRPC protocol"; the
 -- version is this project's own.
+--     mention                          the two lists of a request
+--     answer_in                        the nonce of a request, which rejects where it has an error
+--     take                             the session after a request
+--     sending, owes, is_statement, is_removal  the offer of a poll, if it gives a response
+--     names_where                      the names of which an offer says such a thing, in ascending order
+--     resource_of                      the resource that a write puts, under its name and with its version
+--     resource_at                      the live resource of a name
+--     response                         the response with this offer, as the response of this number on its stream
+--     HasPolled                        what a poll answers and leaves
 use Rattle.std.specs.Prelude.{ℕ, List, map, Bool, true, false, Option, is_some, option_map, decimal}
 use Rattle.std.specs.Option.{option_and_then}
 use Rattle.std.specs.List.{filter, filter_map}

@@ -1,4 +1,6 @@
 -- That a response says what its offer says. This project's own.
+--     statements               the names that an offer states, each with the version that it states
+--     ResponseStatesTheOffer   the resources of a response have the names that its offer states
 use Rattle.std.specs.Prelude.{◌≡◌, ℕ, List, map, option_map}
 use Rattle.std.specs.List.{filter_map}
 use Rattle.std.specs.FinMap as finmap

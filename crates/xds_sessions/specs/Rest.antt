@@ -1,5 +1,9 @@
 -- What a client is answered that polls without a stream, as one of REST does by Envoy's "xDS REST and gRPC protocol". The
 -- version, and that nothing is answered where it is the present one, are this project's own.
+--     asked_once       the interest of a client of this cluster that sends one list of names
+--     whole            all that a client of this interest sees, in ascending order of names
+--     is_present       whether a client of this interest that kept this version has all that it sees
+--     unless_present   all that it sees, unless it has that
 use Rattle.std.specs.Prelude.{ℕ, List, [], ◌∷◌, Bool, ◌&&◌, bytes_eq, if◌then◌else◌, Option, Some, None}
 use Rattle.std.specs.List.{filter_map}
 use Rattle.xds_resource.specs.declared.types.TypeName.{TypeName}

@@ -1,4 +1,7 @@
 -- How a response is made, write by write: the answers of the functions that make it. This project's own.
+--     with_all     the response with the bodies of some writes behind its own
+--     pushed       the response with the body of a write, if the offer speaks of its name
+--     pushed_all   and so with each of some writes
 use Rattle.std.specs.Prelude.{List, [], ◌∷◌, if◌then◌else◌, is_some}
 use Rattle.std.specs.FinMap as finmap
 use Rattle.xds_resource.specs.Writes.{StampedWrite}

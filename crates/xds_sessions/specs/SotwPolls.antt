@@ -1,5 +1,11 @@
 -- What a state-of-the-world session takes and sends. The protocol is that of Envoy's "xDS REST and gRPC protocol"; the
 -- version is this project's own.
+--     take_list       the session after a request with this nonce, with or without an error
+--     take            the session after a request, which rejects where it has an error
+--     sending, owes   the offer of a poll, if it gives a response
+--     stated_writes   the live writes that the interest covers and the offer speaks of, in ascending order of names
+--     response        the response with this offer, as the response of this number on its stream
+--     HasPolled       what a poll answers and leaves, of the session and of the stream's count of responses
 use Rattle.std.specs.Prelude.{ℕ, List, Bool, Option, is_some, decimal}
 use Rattle.std.specs.List.{filter, filter_map}
 use Rattle.std.specs.FinMap as finmap

@@ -1,4 +1,7 @@
 -- What every replica holds, whatever happened to it, and that its records can be told from there. This project's own.
+--     IsTellable, AreTellable        the name may be a resource's
+--     HoldsTellable                  each entry that is held stands under its name and is such a write
+--     EveryRecordIsToldFromItsBase   from a replica that holds such writes, whatever its streams are
 use Rattle.std.specs.Prelude.{◌≡◌, ℕ, List, true, IfSome, All}
 use Rattle.std.specs.FinMap as finmap
 use Rattle.xds_resource.specs.declared.types.TypeName.{TypeName}

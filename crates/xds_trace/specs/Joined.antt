@@ -1,4 +1,11 @@
 -- The records of segments and of the history that they join, and what a call answers that makes the trace of them. This project's own.
+--     pieces_records   the records of segments, one segment after another
+--     all_records      and those of the history behind them
+--     Joins            the segments, in this order
+--     AddsTo           what a call answers that adds the lines of some records, as `view` sees it
+--     AddsAll          the same of records that can all be told: else it found no memory
+--     IsUntold         why no trace is made
+--     TellsJoined      what a call answers that makes the trace of segments and of a history
 use Rattle.std.specs.Prelude.{◌≡◌, ◌≢◌, ◌⊎◌, List, ◌++◌, length, Result, Ok, Err, All}
 use Rattle.std.specs.List.{flat_map}
 use Rattle.xds_resource.specs.declared.refusal.Refusal.{Refusal}

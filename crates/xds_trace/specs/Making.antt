@@ -1,6 +1,25 @@
 -- The lines that what happened at a replica makes in a trace: each write that it took, each stream that it opened or closed, each
 -- request that it took or ignored, each response that it sent, and that it owes a stream nothing of a type. What is refused makes
 -- none. This project's own.
+--     Naming                           how resources are called, by their types and their bodies
+--     name_read                        the name of a resource, and none where there is none
+--     own_names                        the name by which the body of a resource calls it
+--     IsCalled                         a write of a type whose body, if it has one, goes by the write's name
+--     IsWellNamed                      an event whose bodies go by the names that it gives
+--     IsSound                          an event as the calls take it: its resources and its writes are such as are read
+--     asking_of                        a request
+--     statement_of                     a resource of a response of the state of the world
+--     labelled_of                      a resource of a delta response
+--     answer_of, write_line            a response
+--     batch_lines, open_lines, put_lines, delete_lines,
+--     sent_lines, response_lines       the writes of a batch
+--     idle_lines                       that nothing is owed of a type; what is said of all types at once makes no line
+--     answered_lines, lines_by         the lines of an event that was answered so
+--     lines_of                         the lines of a record
+--     trace_by                         the trace of some records
+--     trace_of                         the same, where bodies go by their own names
+-- a write of a type, as one of any
+pub use Rattle.xds_resource.specs.Any.{any_write}
 use Rattle.std.specs.Prelude.{◌≡◌, ℕ, List, [], ◌∷◌, map, false, Option, Some, None, Result, Ok, Err, IfSome, All, ⊤}
 use Rattle.std.specs.List.{flat_map}
 use Rattle.xds_resource.specs.declared.types.TypeName.{TypeName}
@@ -59,14 +78,6 @@ IsSound (Merge b) = (t : TypeName) → All (IsWritable t) (at b t)
 IsSound e = ⊤
 
 -- ---- what the program's values are in a trace
-
--- a write of a type, as one of any
-abbrev pub any_write : TypeName → StampedWrite → AnyWrite
-any_write Cluster w = writes.Cluster w
-any_write Endpoint w = writes.Endpoint w
-any_write Listener w = writes.Listener w
-any_write Route w = writes.Route w
-any_write Secret w = writes.Secret w
 
 -- a request
 abbrev pub asking_of : Message → Asking

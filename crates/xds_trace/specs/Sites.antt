@@ -1,4 +1,6 @@
 -- The trace of a replica of a world. This project's own.
+--     trace_at   the trace of what happened at a replica; none where there is no such replica
+--     KeepsAt    a site's trace breaks no rule, nor do true lines at its end that nothing is owed
 use Rattle.std.specs.Prelude.{ℕ, List, ◌++◌, map, All, option_map, Option, IfSome}
 use Rattle.xds_resource.specs.declared.types.TypeName.{TypeName}
 use Rattle.xds_world.specs.Worlds.{Site}

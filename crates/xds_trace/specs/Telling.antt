@@ -1,4 +1,16 @@
 -- Which records a trace can tell, and what a call that makes lines of them answers. This project's own.
+--     IsResource                       a body that is the text of a resource of a type
+--     HoldsResources, IsToldDeletion, IsToldSent, IsToldResponse,
+--     IsToldAnswer, IsToldBy           a response whose resources are of its type
+--     IsTold                           a record that a trace can tell
+--     IsSoundRecord                    what the replica took could be read
+--     UnlessShort                      the call found no memory, or this holds
+--     Tells                            the call answers what is told, as `view` sees it
+--     record_of                        a record of the program
+--     BeginsUntold                     the first of these records, up to one, aren't all such as can be told
+--     TellsAll                         what a call answers that makes the trace of some records: the trace
+--     KeepsTheRules                    the records are those of a replica from its start
+--     EveryRecordIsTold                every record that is made from a fresh replica can be told
 use Rattle.std.specs.Prelude.{◌≡◌, ◌≢◌, ℕ, List, ◌++◌, map, true, Option, Some, None, Result, Ok, Err, IsOk, IfOk, All, ⊤}
 use Rattle.xds_resource.specs.declared.types.TypeName.{TypeName}
 use Rattle.xds_resource.specs.declared.refusal.Refusal.{Refusal}

@@ -142,33 +142,6 @@ fn is_writable_at(batch: &Batch, kind: TypeName, index: usize)
     }
 }
 
-// A write of a batch. Its texts are shared.
-fn write_at(alloc: Global, batch: &Batch, kind: TypeName, index: usize) -> Result<AnyWrite, Refusal>
-    requires { index < length (at batch.now kind) }
-    ensures ok { IfOk result (λ w. (d : StampedWrite) → w ≡ any_write kind (get_or (at batch.now kind) index d)) }
-    ensures refused { IfErr result (λ e. e ≡ OutOfMemory) }
-{
-    Ok(match kind {
-        TypeName::Cluster => AnyWrite::Cluster(batch.cluster[index].try_copy(alloc)?),
-        TypeName::Endpoint => AnyWrite::Endpoint(batch.endpoint[index].try_copy(alloc)?),
-        TypeName::Listener => AnyWrite::Listener(batch.listener[index].try_copy(alloc)?),
-        TypeName::Route => AnyWrite::Route(batch.route[index].try_copy(alloc)?),
-        TypeName::Secret => AnyWrite::Secret(batch.secret[index].try_copy(alloc)?),
-    })
-}
-
-fn len_of(batch: &Batch, kind: TypeName) -> usize
-    ensures { result ≡ length (at batch.now kind) }
-{
-    match kind {
-        TypeName::Cluster => batch.cluster.len(),
-        TypeName::Endpoint => batch.endpoint.len(),
-        TypeName::Listener => batch.listener.len(),
-        TypeName::Route => batch.route.len(),
-        TypeName::Secret => batch.secret.len(),
-    }
-}
-
 // ---- lines
 
 // Adds a line at the end.
@@ -302,9 +275,9 @@ fn push_writes(
     ensures sound { OnOk result (All (IsWritable kind) (at batch.now kind)) }
     ensures refused { IfErr result (λ e. e ≡ OutOfMemory) }
 {
-    for index in 0..len_of(batch, kind) {
+    for index in 0..batch.len_of(kind) {
         is_writable_at(batch, kind, index);
-        let write = write_at(alloc, batch, kind, index)?;
+        let write = batch.write_at(alloc, kind, index)?;
         lines.push(Line::Write(write))?;
     }
     Ok(())

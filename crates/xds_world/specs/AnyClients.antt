@@ -1,4 +1,16 @@
 -- A client of any kind, and what becomes of it. This project's own.
+--     AnyClient, any_client_code   a client of any kind, and whether it has a stream
+--     alone                        a client that has no stream
+--     turned                       the other way round
+--     wishing                      what a client gives to send
+--     receiving                    the same after a response
+--     of_any                       what is given, and a client of any kind with what is made of it
+--     changing                     what a client of any kind gives to send
+--     receiving_any                the same after a response
+--     answering, answering_any     a client of this kind after an answer to its poll of a type, if it is one that polls
+--     linked_any                   a client on a new stream
+--     unlinked_any                 a client once its stream is lost
+--     fresh_any                    a client that wants nothing and has no stream
 use Rattle.std.specs.Prelude.{ℕ, List, Bool, true, false, Option, None, option_map, refl}
 use Rattle.std.specs.Coded.{Coded, code_by, coded×, coded_bool}
 use Rattle.xds_resource.specs.declared.types.TypeName.{TypeName}

@@ -1,4 +1,6 @@
 -- What a call answers and what it leaves, in one word for what is done and what isn't possible. This project's own.
+--     Gave       what a call answers, seen by view, and what it leaves
+--     Happened   whether something happened, and what is left; where it didn't, all is as it was
 use Rattle.std.specs.Prelude.{◌≡◌, Bool, true, false, Option, Some, None}
 
 -- What a call answers, seen by view, and what it leaves; where this isn't possible, it answers nothing and leaves all as it was.

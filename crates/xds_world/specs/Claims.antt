@@ -1,4 +1,36 @@
 -- What the headline says: when a client is settled, and that it shows then exactly what its replica knows. This project's own.
+--     asks_for                      whether a request is of the type
+--     is_quiet                      whether nothing of the type is under way, either way
+--     owes_nothing, is_settled_on   whether a replica owes nothing of the type on a stream
+--     is_settled                    whether a client is settled of a type
+--     holding_of                    what is held of a write that puts a resource
+--     shown_of                      what is held of a write of a name
+--     content_at                    what a client of a cluster that wants these is to show of a name
+--     IsExact                       a view shows exactly what is covered of what is live
+--     body_at                       state of the world tells no version of a single resource
+--     IsExactByBody                 the same, compared by bodies
+--     Agrees                        a view shows what is covered of what is live, and nothing that isn't wanted
+--     Shows                         what a client shows that learns of what is gone by a whole answer alone
+--     TakesAll                      a client's test takes what the client is to show of these writes
+--     PutsAResource, PutResources   what is put is a resource of its type, for groups that a write may list
+--     HoldsWhatItKnows              the replicas' half: what a replica holds are the best writes of what it knows
+--     SettledIsExact                the clients' half, for delta clients
+--     SettledAgrees                 and for clients of the state of the world
+--     IsPoll                        a poll among what happened
+--     is_rejected, is_rejected_by   whether an outcome says why an answer is rejected
+--     rejects                       whether a client rejects what a replica answers to its poll of a type
+--     PolledIsExact                 after a poll whose answer came and wasn't rejected
+--     PolledIsTaken                 what is polled is rejected only where the client's test refuses something of it
+--     LostLeavesTheView             an answer that is lost or rejected changes nothing of what the client shows
+--     PollersHaveNoStream           a client that polls has no stream
+--     PollsArePossible              a client that polls and wants something of a type may poll any replica for it
+--     SameKnowledgeSameHoldings     replicas that know the same writes hold the same
+--     all_made                      all writes that were made
+--     OneWriteAStamp                what is known was made somewhere, and a stamp names one write of a type
+--     JournalsAreLegal              each replica's journal is legal from a replica at which nothing happened
+--     JournalsTellAll               each replica's journal tells exactly what happened there
+--     LinksAreFollowed              a client's link, cluster and wants
+--     Headline                      the headline, of one list of happenings
 use Rattle.std.specs.Prelude.{◌≡◌, ◌⊎◌, ◌↔◌, ℕ, List, [], ◌∷◌, ◌++◌, map, Bool, true, false, ◌&&◌, not, if◌then◌else◌, bytes_eq, Option, Some, None, is_some, IsSome, option_map, Ok, Err, ⊤}
 use Rattle.std.specs.Option.{option_map_or, option_and_then}
 use Rattle.std.specs.List.{Contains, list_any}

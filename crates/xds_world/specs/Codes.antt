@@ -1,5 +1,19 @@
 -- Codes of what happens at a replica, and of the parts of a world: each as the tuple of its fields, a choice as a sum. This
 -- project's own.
+--     outcome_flag, flagged_outcome, outcome_again, outcome_code,
+--     later_refusal, numbered_refusal, refusal_again,
+--     refusal_code, batch_code,
+--     AtStream                         an outcome as a flag
+--     OfStore                          the parts of an event at the catalogues: a put, a deletion, a merge
+--     Looks                            a look at what is held: a poll without a stream, or marks
+--     EventParts, event_parts, event_of_parts, event_again,
+--     which_code, looks_code,
+--     event_code                       an event of a stream or of the store
+--     Numbers                          a number, by whether it is a stream's, a count of changes
+--     Looked                           what was looked at: the answer to a poll without a stream, or what changed
+--     ReplyParts, reply_parts, reply_of_parts, reply_again,
+--     reply_code, record_code, site_code,
+--     world_code                       and what became of a request
 use Rattle.std.specs.Prelude.{◌≡◌, ◌⊎◌, ℕ, ◌==◌, List, Bool, true, false, if◌then◌else◌, Option, Some, None, Result, refl}
 use Rattle.std.proofs.Common.{inl, inr}
 use Rattle.std.specs.Coded.{Coded, code_by, coded×, coded⊎, coded_ℕ, coded_bool, coded_list, coded_option, coded_result}

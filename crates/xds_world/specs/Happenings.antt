@@ -1,4 +1,6 @@
 -- What may happen in a world of replicas and clients. This project's own.
+--     Wish        what a client is told to want of a type: state of the world and REST, a list of all texts
+--     Happening   replicas and clients go by their numbers, batches by their place in the pool, from 1
 use Rattle.std.specs.Prelude.{ℕ, List, Option}
 use Rattle.xds_resource.specs.declared.types.TypeName.{TypeName}
 use Rattle.xds_resource.specs.Resources.{NamedBody}

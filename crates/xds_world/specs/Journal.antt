@@ -1,5 +1,11 @@
 -- What happens at each replica, from the list of happenings: of each that was possible, the event that it is at a replica. This
 -- project's own.
+--     oldest        what came first
+--     on_stream     an event of the stream of a client that is up, at its replica
+--     event_at      what a happening is at a replica, in the world before it: the replica's number, and the event there
+--     event_here    the event, if it is at this replica
+--     events_from   the events at a replica of a list of happenings, from a world
+--     events_at     all that happened at a replica
 use Rattle.std.specs.Prelude.{ℕ, List, [], ◌∷◌, ◌++◌, if◌then◌else◌, ◌==◌, Option, Some, None, option_map}
 use Rattle.std.specs.Option.{option_and_then, option_map_or}
 use Rattle.std.specs.FinMap as finmap

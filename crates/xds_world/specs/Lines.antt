@@ -1,4 +1,8 @@
 -- The lines of a program's input: each is ended by a line feed, which the last may lack. This project's own.
+--     feed                a line feed
+--     pieces              what stands between bytes of one kind, and before the first and after the last of them
+--     without_last_feed   the bytes without the last of them, where that is a line feed
+--     lines               the lines; no bytes at all are one empty line, and so is a lone line feed
 use Rattle.std.specs.Prelude.{ℕ, ◌-◌, length, take, slice_index, List, ◌==◌, if◌then◌else◌}
 use Rattle.std.specs.List.{slice_split}
 

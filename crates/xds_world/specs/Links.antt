@@ -1,4 +1,6 @@
 -- Streams: what is left under way once the oldest isn't. This project's own.
+--     behind    a list without its first, if it has one
+--     link_up   once the replica took the oldest request, if there is one
 use Rattle.std.specs.Prelude.{List, [], ◌∷◌, Option, Some, None}
 use Rattle.xds_core.specs.Streams.{Message}
 use Rattle.xds_world.specs.Worlds.{Link}

@@ -1,4 +1,11 @@
 -- Codes of messages, of streams and of clients on them: each as the tuple of its fields, a choice as a sum. This project's own.
+--     text_code, type_number, numbered_type, type_again,
+--     type_code, kind_number, numbered_kind, kind_again,
+--     kind_code, request_code, message_parts, message_of_parts,
+--     message_again, message_code, drafted_code,
+--     drafted_resource_code, drafted_delta_code, draft_parts,
+--     draft_of_parts, draft_again, draft_code, link_code,
+--     peer_code                        how such a record is coded
 use Rattle.std.specs.Prelude.{◌≡◌, ◌⊎◌, ℕ, ◌==◌, List, if◌then◌else◌, Option, refl}
 use Rattle.std.proofs.Common.{inl, inr}
 use Rattle.std.specs.Coded.{Coded, code_by, coded×, coded⊎, coded_ℕ, coded_list, coded_option}

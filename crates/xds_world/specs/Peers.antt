@@ -1,4 +1,13 @@
 -- A client on its stream, if it has one, and what becomes of it. This project's own.
+--     with_link        what f makes of the link of a client that has one
+--     peer_changed     once a change was wished
+--     peer_up          once the replica took the oldest request, if there is one
+--     peer_polled      once a response was sent, or none
+--     link_down        once the client took the oldest response, if there is one that it takes
+--     peer_down        the same of the oldest response on its stream, if it has one
+--     peer_lost        once the stream is lost
+--     peer_connected   on a new stream, if the client may open one
+--     peer_answered    once the answer to a poll of a type came, if the client is one that polls
 use Rattle.std.specs.Prelude.{ℕ, List, [], ◌∷◌, ◌++◌, if◌then◌else◌, Option, Some, None, option_map}
 use Rattle.std.specs.Option.{option_and_then}
 use Rattle.xds_resource.specs.declared.types.TypeName.{TypeName}

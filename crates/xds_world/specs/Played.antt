@@ -1,4 +1,7 @@
 -- A world that runs, with the list of what happened in it. This project's own.
+--     IsWorldOf    the world is the one that the list leads to, in which what is put are resources
+--     HasStepped   whether something happened: then it stands at the end of the list
+--     HasEnded     whether the client is settled and how many responses it took, where settling came to an end
 use Rattle.std.specs.Prelude.{◌≡◌, ℕ, List, [], ◌∷◌, ◌++◌, Bool, true, false, Option, Some, None}
 use Rattle.xds_resource.specs.declared.types.TypeName.{TypeName}
 use Rattle.xds_cache.specs.Faults.{Test}

@@ -1,4 +1,11 @@
 -- What a script says, line by line, or which of its lines says nothing that is known. This project's own.
+--     is_skipped          empty lines are skipped, and those that begin with `#`, whatever follows it
+--     text_says           what a line says that isn't skipped, which has to be UTF-8; none where that is no command
+--     line_says, is_bad   what a line says, if anything; none where it is bad
+--     first_bad           the number of the first line that is bad, counted from 1
+--     said_in             what a line says, where it isn't bad
+--     IsScript            the script says this, and no line of it is bad
+--     IsRefusedAt         why a script is refused: its first bad line, or at some line there was no memory
 use Rattle.std.specs.Prelude.{◌≡◌, ◌⊎◌, ℕ, List, [], ◌∷◌, Bool, true, ◌==◌, if◌then◌else◌, Option, Some, None, is_none, option_map}
 use Rattle.std.specs.Option.{option_to_list, unwrap_or}
 use Rattle.std.specs.List.{flat_map, position_from}

@@ -1,4 +1,7 @@
 -- Why a client wasn't settled. This project's own.
+--     HasFailed             without a stream the world is as it was
+--     IsSettledByTaking     where the client's test takes all that it is to show of what its replica knows
+--     IsSettledOrHeldBack   a client that isn't settled refused what its replica would send it
 use Rattle.std.specs.Prelude.{◌≡◌, ℕ, List, Bool, true, false, Some, None, ⊤}
 use Rattle.xds_resource.specs.declared.types.TypeName.{TypeName}
 use Rattle.xds_cache.specs.Faults.{Test}

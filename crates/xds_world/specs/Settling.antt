@@ -1,5 +1,31 @@
 -- Settling a client of a type: its replica takes what the client asked for, answers until it owes nothing of the type, and the
 -- client takes the answers. This project's own.
+--     brings, polls_unless      whether a response of the type is under way
+--     next_on                   while a request is under way, the replica takes it
+--     link_in                   the stream of a client that has one
+--     next_to_settle            what is done next to settle a client of a type
+--     gave_nothing, Then        whether a poll was the last that happened, and gave no response
+--     Done                      that these are done, one after the other
+--     IsAtEnd                   where settling ends: a poll gave nothing, or nothing is to be done
+--     says_of_stream            what f says of the stream of a client, beside what its replica holds
+--     lacks_number              whether a response of the type is to be sent on a stream that has no number left for it
+--     is_spent_for              whether the responses on the stream of a client are spent, and one of the type is due
+--     IsAtStop                  where settling gets no further
+--     IsSettling                that these settle a client of a type, as far as polls help
+--     IsStopped                 that these are done to settle a client of a type
+--     IsAddedToSettle           what a line of a script that settles a client of a type adds to what happened
+--     would_repeat              whether what a replica would send on a stream is what the client refused last
+--     is_held_back, takes_one   whether the next response of the type to a client is held back
+--     taken_now                 responses of the type that the client takes in what happens
+--     responses_taken           responses of the type that a client takes while it is being settled
+--     HasSettled                what settling a client of a type leaves, in words of what happened
+--     IsQuietFor                nothing of the type is under way to or from a client
+--     HasStopped                what settling leaves where it gets no further
+--     TwoResponsesSuffice       settling a client of a type takes at most two of its responses
+--     QuietAtTheEnd             and where it ends nothing of the type is under way
+--     UnsettledHasRefused       and a client that isn't settled where it ends refused what its replica would send it
+--     StopsWhereSpent           and what is to be done next to settle a client is possible
+--     SettlesWhereAllIsTaken    a client whose test takes all is settled where settling ends
 use Rattle.std.specs.Prelude.{◌≡◌, ◌⊎◌, ℕ, ◌+◌, ◌≤◌, List, [], ◌∷◌, ◌++◌, ◌==◌, Bool, true, false, ◌&&◌, not, if◌then◌else◌, Option, Some, None, is_some, option_map}
 use Rattle.std.specs.Option.{option_and_then, option_map_or}
 use Rattle.std.specs.List.{list_any}

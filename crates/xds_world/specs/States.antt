@@ -1,4 +1,5 @@
 -- How the states of a client are seen. This project's own.
+--     client_in   a client of any kind, with its link
 use Rattle.std.specs.Prelude.{true, false}
 use Rattle.xds_world.specs.declared.event.ClientKind.TheVariants as kinds
 use Rattle.xds_world.specs.declared.client.State.{State}

@@ -1,4 +1,6 @@
 -- What is done in a step of settling a client of a type. This project's own.
+--     count       one for yes
+--     event_for   what is done in a step of settling a client of a type
 use Rattle.std.specs.Prelude.{ℕ, Bool, if◌then◌else◌, Some}
 use Rattle.xds_resource.specs.declared.types.TypeName.{TypeName}
 use Rattle.xds_world.specs.Happenings as happenings

@@ -1,4 +1,16 @@
 -- The words of a line: one space stands between each two of them. This project's own.
+--     Text             bytes
+--     space            a space
+--     words            the words; a space at the start or the end has an empty word beside it
+--     words_in         the words of a text, if there is one
+--     split_first      the first word, and the words behind it
+--     is_empty         whether no word is there
+--     only             the word, where it stands alone
+--     two              the two words, where no others stand there
+--     text_of          the text whose words these are
+--     number_in        the number that a word spells in decimal without leading zeros
+--     replica_number   the number of a replica
+--     whole_number     the number of a client or of a batch
 use Rattle.std.specs.Prelude.{ℕ, List, [], ◌∷◌, Bool, true, false, ◌&&◌, if◌then◌else◌, bytes_eq, nat_le, Option, Some, None, decimal}
 use Rattle.std.specs.List.{join_with_byte}
 use Rattle.std.specs.Str.Parse.{digits_value}

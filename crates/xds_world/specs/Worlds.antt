@@ -1,5 +1,31 @@
 -- A world: replicas with their journals, clients with their streams and all that is under way on them, and the batches that were
 -- taken. What happens in it is one function; what isn't possible, or is refused, changes nothing. This project's own.
+--     Site                             a replica, and what happened at it, with the answers
+--     Link, Peer, World, empty_world   a stream from a client to a replica
+--     recorded, answered_at            the replica once it answered an event
+--     at_site                          what a replica answers to an event, and the world then
+--     happened_at                      the world after an event of a replica, whatever it answers
+--     placed, pooled, with_peer, new_peer  the place in a list, from 1
+--     opening_requests                 the requests at the start of a stream
+--     has_streams                      whether a client of this kind has a stream: one that polls never has
+--     is_to_connect                    whether a client may open a stream: it is of such a kind, and has none
+--     connected_to, opened             the client on a new stream
+--     with_request                     one more request under way
+--     changed_by, wish_of, wish_taken, changed  the client after a change, and the request that it sends, if any
+--     received_by                      the client after a response, and its answer
+--     received_in, received            a response of the other variant isn't taken
+--     taken_down                       once the oldest response was taken, with these under way behind it
+--     asked_by, poll_of                what a client that polls asks for in a poll of a type
+--     poll_event                       the event that such a poll is at a replica
+--     client_in                        the client that a call leaves, if it isn't refused
+--     answer_taken, rested, rest_polled  the client after an answer, which has no body where nothing changed
+--     on_peer                          what f makes of a client that is there
+--     on_link, up_taken                what f makes of a client that is up, and its link
+--     under_way, polled, down_taken    a response under way, if there is one
+--     is_free                          whether a replica may come under this number
+--     happens                          the world after something happened; none where that isn't possible or is refused
+--     after                            the world after a list of happenings
+--     world                            the world after these, from the start
 use Rattle.std.specs.Prelude.{ℕ, zero, suc, List, [], ◌∷◌, ◌++◌, map, Bool, true, false, ◌&&◌, if◌then◌else◌, Option, Some, None, is_none, is_some, option_map, Ok, Err, decimal, nat_lt, not}
 use Rattle.std.specs.Ordering.{nat_cmp}
 use Rattle.std.specs.Option.{option_and_then, option_map_or}

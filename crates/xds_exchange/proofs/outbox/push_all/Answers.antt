@@ -16,8 +16,8 @@ loop-index-preserved c =
     let write = c.in_ok-write_at.field-0 in
     let w = stamped_write write in
     let below = rw c.len_of-index-end.ensures at c.loop-index-test.true in
-    let is = ap (λ p. p.1) (c.in_ok-write_at.ensures.ok w) in
-    let kept = c.in_ok-write_at.ensures.ok w ∙ ap (λ (x : StampedWrite). (kind, x)) (sym is) in
+    let is = ap (λ p. p.1) (c.in_ok-write_at.ensures.typed w) in
+    let kept = c.in_ok-write_at.ensures.typed w ∙ ap (λ (x : StampedWrite). (kind, x)) (sym is) in
     ap (map typed_write) c.in_ok-push.ensures.items ∙ map-append typed_write c.loop-index.all.items (write ∷ []) ∙ (λ j. c.loop-index.invariant j ++ kept j ∷ [])
     ∙ append_assoc (map typed_write c.args.all.now.items) (typed kind (take i writes)) ((kind, w) ∷ [])
     ∙ ap (λ ys. map typed_write c.args.all.now.items ++ ys) (sym (map-take-more (λ (x : StampedWrite). (kind, x)) writes i w below is))

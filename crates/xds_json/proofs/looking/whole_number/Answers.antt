@@ -11,4 +11,4 @@ pub returns-in-Number : goal.returns-in-Number
 returns-in-Number c =
     let text = c.in-Number.text in
     let seen : value_view (Number text) ≡ json.number text.now = search (rules, the_lemmas) in
-    IfSome_then c.whole_in.result c.whole_in.ensures (λ n is. ap (λ v. meaning (value_view v)) c.in-Number.is ∙ ap meaning seen ∙ meaning-number text.now n is.0 is.1)
+    IfSome_then c.decimal_number.result c.decimal_number.ensures.shortest (λ n is. ap (λ v. meaning (value_view v)) c.in-Number.is ∙ ap meaning seen ∙ meaning-number text.now n is.0 is.1)

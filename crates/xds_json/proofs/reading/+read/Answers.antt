@@ -24,19 +24,19 @@ read-returns-in-String-clause-reads t c = λ b deep.
     let seen : value_view (String c.in-String.text) ≡ json.string c.in-String.text.now = search (rules, the_lemmas) in
     read_leaf b c.args.reader.now c.next.new.self _ _ _ is (value_is b _) tt seen
 
-pub read-returns-in_ok-whole_in-in-Number-clause-reads : goal.read-returns-in_ok-whole_in-in-Number-clause-reads
-read-returns-in_ok-whole_in-in-Number-clause-reads t c = λ b deep.
+pub read-returns-in_ok-decimal_number-in-Number-clause-reads : goal.read-returns-in_ok-decimal_number-in-Number-clause-reads
+read-returns-in_ok-decimal_number-in-Number-clause-reads t c = λ b deep.
     let first : c.args.reader.now ≡ token_of c.in_ok-token.token ∷ c.next.new.self = grind arith in
     let is : c.args.reader.now ≡ Token.number c.in-Number.text.now ∷ c.next.new.self = grind (arith, first) in
     let seen : value_view (Number c.in-Number.text) ≡ json.number c.in-Number.text.now = search (rules, the_lemmas) in
-    let n = c.in_ok-whole_in-in-Number in
-    read_leaf b c.args.reader.now c.next.new.self _ _ _ is (value_is b _) (n.field-0, n.ensures.0, n.ensures.1) seen
+    let n = c.in_ok-decimal_number-in-Number in
+    read_leaf b c.args.reader.now c.next.new.self _ _ _ is (value_is b _) (n.field-0, n.ensures.shortest.0, n.ensures.shortest.1) seen
 
-pub read-returns-in_ok-whole_in-in-Number-clause-ordered : goal.read-returns-in_ok-whole_in-in-Number-clause-ordered
-read-returns-in_ok-whole_in-in-Number-clause-ordered t c =
+pub read-returns-in_ok-decimal_number-in-Number-clause-ordered : goal.read-returns-in_ok-decimal_number-in-Number-clause-ordered
+read-returns-in_ok-decimal_number-in-Number-clause-ordered t c =
     let seen : value_view (Number c.in-Number.text) ≡ json.number c.in-Number.text.now = search (rules, the_lemmas) in
-    let n = c.in_ok-whole_in-in-Number in
-    subst IsOrdered (sym seen) (n.field-0, n.ensures.0, n.ensures.1)
+    let n = c.in_ok-decimal_number-in-Number in
+    subst IsOrdered (sym seen) (n.field-0, n.ensures.shortest.0, n.ensures.shortest.1)
 
 pub read-returns-in-Bool-clause-reads : goal.read-returns-in-Bool-clause-reads
 read-returns-in-Bool-clause-reads t c = λ b deep.

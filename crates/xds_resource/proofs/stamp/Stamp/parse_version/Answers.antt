@@ -21,7 +21,7 @@ pub returns-in_default-2-2-clause-reads_back : goal.returns-in_default-2-2-claus
 returns-in_default-2-2-clause-reads_back c = λ counter writer stamp e.
     let split = split-version_text counter writer c.args.text.now _ stamp e c.split_once.ensures.cases in
     let parts = rw c.in-Some.is at split in
-    let reads_counter = c.counter_of.ensures.all counter (omega (arith, stamp.counter_to)) parts.0 in
+    let reads_counter = c.decimal_number.ensures.all counter (omega (arith, stamp.counter_to)) parts.0 in
     let missing = c.in_default-2.is-0 in
     cc
 
@@ -33,7 +33,7 @@ pub returns-then-counter-eq0-clause-reads_back : goal.returns-then-counter-eq0-c
 returns-then-counter-eq0-clause-reads_back c = λ counter writer stamp e.
     let split = split-version_text counter writer c.args.text.now _ stamp e c.split_once.ensures.cases in
     let parts = rw c.in-Some.is at split in
-    let reads_counter = c.counter_of.ensures.all counter (omega (arith, stamp.counter_to)) parts.0 in
+    let reads_counter = c.decimal_number.ensures.all counter (omega (arith, stamp.counter_to)) parts.0 in
     let reads_writer = c.writer_of.ensures.all writer (omega (arith, stamp.writer_to)) parts.1 in
     let was_counter = c.in-Some-Some.is-0 in
     let was_writer = c.in-Some-Some.is-1 in
@@ -43,7 +43,7 @@ pub returns-clause-reads_back : goal.returns-clause-reads_back
 returns-clause-reads_back c = λ counter writer stamp e.
     let split = split-version_text counter writer c.args.text.now _ stamp e c.split_once.ensures.cases in
     let parts = rw c.in-Some.is at split in
-    let reads_counter = c.counter_of.ensures.all counter (omega (arith, stamp.counter_to)) parts.0 in
+    let reads_counter = c.decimal_number.ensures.all counter (omega (arith, stamp.counter_to)) parts.0 in
     let reads_writer = c.writer_of.ensures.all writer (omega (arith, stamp.writer_to)) parts.1 in
     let was_counter = c.in-Some-Some.is-0 in
     let was_writer = c.in-Some-Some.is-1 in

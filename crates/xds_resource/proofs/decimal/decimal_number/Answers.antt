@@ -2,7 +2,7 @@
 use Rattle.std.proofs.Common.{arith, ◌≡◌, Some, true, nat_eq, ◌∙◌, sym}
 use Rattle.std.specs.Cmp.Lexicographic.{nat_list_eq_equiv, pointwise}
 use Rattle.std.proofs.lemmas.Fmt.{parse-decimal}
-use Rattle.xds_resource.proofs.stamp.counter_of.Goals as goal
+use Rattle.xds_resource.proofs.decimal.decimal_number.Goals as goal
 
 pub returns-in_err-number-clause-all : goal.returns-in_err-number-clause-all
 returns-in_err-number-clause-all c = λ n small e.
