@@ -4,9 +4,6 @@ ghost use Rattle.std.specs.FinMap as finmap;
 ghost use Rattle.std.specs.Option.{option_map};
 ghost use Rattle.serde_json.specs.View.{view};
 ghost use Rattle.xds_resource.specs.declared.refusal.Refusal.TheVariants.{OutOfMemory};
-ghost use Rattle.xds_resource.specs.Any.{named_body};
-ghost use Rattle.xds_resource.specs.Refusals.{Gives};
-ghost use Rattle.xds_resource.specs.Resources.{from_value as valued};
 ghost use Rattle.xds_cache.specs.Faults.{refusal_text as text_of, is_misnamed as misnamed, first_reason, reasons, fault_of, and_stated};
 
 use crate::accept::Accept;
@@ -14,20 +11,7 @@ use crate::holding::Holding;
 use crate::wants::Wants;
 use serde_json::Value;
 use std::alloc::Global;
-use xds_resource::{AnyResource, NameMap, Refusal, Resource, TypeName};
-
-// The resource of a type that a value is.
-fn read_resource(alloc: Global, kind: TypeName, value: Value) -> Result<AnyResource, Refusal>
-    ensures { Gives named_body result (valued kind (view value)) }
-{
-    Ok(match kind {
-        TypeName::Cluster => AnyResource::Cluster(Resource::from_value(alloc, value)?),
-        TypeName::Endpoint => AnyResource::Endpoint(Resource::from_value(alloc, value)?),
-        TypeName::Listener => AnyResource::Listener(Resource::from_value(alloc, value)?),
-        TypeName::Route => AnyResource::Route(Resource::from_value(alloc, value)?),
-        TypeName::Secret => AnyResource::Secret(Resource::from_value(alloc, value)?),
-    })
-}
+use xds_resource::{AnyResource, NameMap, Refusal, TypeName};
 
 // A refusal in words, as `4 BadResource`.
 fn refusal_text(alloc: Global, refusal: Refusal) -> Result<String, Refusal>
@@ -128,7 +112,7 @@ pub fn state<A: Accept>(
         ≡ and_stated kind before.old (record { named = option_map (λ s. s.now) named.entry; version = version.now; resource = view body.now }) }
     ensures err { IfErr result (λ e. e ≡ OutOfMemory) }
 {
-    match read_resource(alloc, kind, body.clone()?) {
+    match AnyResource::from_value(alloc, kind, body.clone()?) {
         Ok(resource) => state_read::<A>(
             alloc, kind, removed, before, named, version, body, &resource,
         ),

@@ -14,3 +14,4 @@ pub mod Counters
 pub mod LocalWrites
 pub mod JoinLaws
 pub mod Numbering
+pub mod ByNumbers

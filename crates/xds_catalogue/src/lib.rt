@@ -2,6 +2,7 @@
 #![tactic(auto)]
 
 mod batch;
+pub mod by_number;
 pub mod catalogue;
 pub mod laws;
 mod names;
@@ -9,5 +10,6 @@ mod numbers;
 pub mod pending;
 mod tables;
 
+pub use by_number::ByNumber;
 pub use catalogue::Catalogue;
 pub use pending::PendingJoin;

@@ -3,14 +3,12 @@ mod Finding
 mod RulesLining
 mod Orderly
 mod Traces
-mod RulesNumbering
 mod OneMeaning
 mod OneTrace
 mod OneLine
 mod LineTexts
 mod AnswerTexts
 pub mod OneVerdict
-mod Numbering
 mod Marking
 mod Waiting
 mod Talking

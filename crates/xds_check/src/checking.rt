@@ -12,7 +12,6 @@ ghost use Rattle.xds_check.specs.Verdicts.{TellsFirst, found_of, earlier_of, IsV
 
 use crate::answer::Answer;
 use crate::asking::Asking;
-use crate::by_stream::ByStream;
 use crate::by_type::ByType;
 use crate::judging;
 use crate::line::Line;
@@ -20,7 +19,7 @@ use crate::live_names::LiveNames;
 use crate::rule::Rule;
 use crate::talk::Talk;
 use std::alloc::Global;
-use xds_catalogue::Catalogue;
+use xds_catalogue::{ByNumber, Catalogue};
 use xds_resource::{
     Cluster, Endpoint, Listener, Refusal, ResourceType, Route, Secret, TypeName, Write,
 };
@@ -56,7 +55,7 @@ fn broken_by<T: ResourceType>(
     alloc: Global,
     catalogue: &Catalogue<T>,
     live_names: &LiveNames,
-    talks: &ByStream<Talk<T>>,
+    talks: &ByNumber<Talk<T>>,
     stream: u64,
     answer: &Answer,
 ) -> Result<Option<Rule>, Refusal>
@@ -73,7 +72,7 @@ fn broken_by<T: ResourceType>(
 // Whether no name of the type waits on a stream whose answer is missed.
 fn none_missed<T: ResourceType>(
     catalogue: &Catalogue<T>,
-    talks: &ByStream<Talk<T>>,
+    talks: &ByNumber<Talk<T>>,
     stream: u64,
 ) -> bool
     ensures { result ≡ none_missed catalogue.now.entries (talk_at talks.now stream) }
@@ -95,7 +94,7 @@ fn broken_at<T: ResourceType>(
     alloc: Global,
     catalogue: &Catalogue<T>,
     live_names: &LiveNames,
-    talks: &ByStream<Talk<T>>,
+    talks: &ByNumber<Talk<T>>,
     line: &Line,
 ) -> Result<Option<Rule>, Refusal>
     requires { AreLive catalogue.now.entries live_names.now }
@@ -138,7 +137,7 @@ fn join<T: ResourceType>(
 }
 
 // What is kept of a stream, taken out.
-fn take_out<T: ResourceType>(alloc: Global, talks: &mut ByStream<Talk<T>>, stream: u64) -> Talk<T>
+fn take_out<T: ResourceType>(alloc: Global, talks: &mut ByNumber<Talk<T>>, stream: u64) -> Talk<T>
     ensures talk { result ≡ talk_at talks.old stream }
     ensures taken { talks.new ≡ finmap.remove talks.old stream }
 {
@@ -150,7 +149,7 @@ fn take_out<T: ResourceType>(alloc: Global, talks: &mut ByStream<Talk<T>>, strea
 
 fn take_request<T: ResourceType>(
     alloc: Global,
-    talks: &mut ByStream<Talk<T>>,
+    talks: &mut ByNumber<Talk<T>>,
     stream: u64,
     asking: &Asking,
 ) -> Result<(), Refusal>
@@ -159,7 +158,7 @@ fn take_request<T: ResourceType>(
 {
     let mut talk = take_out(alloc, talks, stream);
     match talk.hear_request(alloc, asking) {
-        Ok(()) => talks.put(stream, talk),
+        Ok(()) => talks.insert(stream, talk),
         Err(refusal) => {
             drop(talk);
             Err(refusal)
@@ -170,7 +169,7 @@ fn take_request<T: ResourceType>(
 fn take_answer<T: ResourceType>(
     alloc: Global,
     catalogue: &Catalogue<T>,
-    talks: &mut ByStream<Talk<T>>,
+    talks: &mut ByNumber<Talk<T>>,
     stream: u64,
     answer: &Answer,
 ) -> Result<(), Refusal>
@@ -179,7 +178,7 @@ fn take_answer<T: ResourceType>(
 {
     let mut talk = take_out(alloc, talks, stream);
     match talk.hear_answer(alloc, catalogue, answer) {
-        Ok(()) => talks.put(stream, talk),
+        Ok(()) => talks.insert(stream, talk),
         Err(refusal) => {
             drop(talk);
             Err(refusal)
@@ -271,7 +270,7 @@ fn take_write<T: ByType>(
 fn take_talk<T: ResourceType>(
     alloc: Global,
     catalogue: &Catalogue<T>,
-    talks: &mut ByStream<Talk<T>>,
+    talks: &mut ByNumber<Talk<T>>,
     line: &Line,
 ) -> Result<(), Refusal>
     ensures ok { OnOk result (IsHeard T.TYPE catalogue.now.entries line.now talks.old talks.new) }
@@ -292,7 +291,7 @@ fn take_line<T: ByType>(
     alloc: Global,
     catalogue: &mut Catalogue<T>,
     live_names: &mut LiveNames,
-    talks: &mut ByStream<Talk<T>>,
+    talks: &mut ByNumber<Talk<T>>,
     line: &Line,
 ) -> Result<Option<Rule>, Refusal>
     requires room { catalogue.old.changes < max_counter }
@@ -316,7 +315,7 @@ fn pass<T: ByType>(
     alloc: Global,
     catalogue: &mut Catalogue<T>,
     live_names: &mut LiveNames,
-    talks: &mut ByStream<Talk<T>>,
+    talks: &mut ByNumber<Talk<T>>,
     lines: &[Line],
 ) -> Result<Option<Broken>, Refusal>
     requires nothing_held { catalogue.old ≡ nothing_held }
@@ -340,7 +339,7 @@ fn first_broken<T: ByType>(alloc: Global, lines: &[Line]) -> Result<Option<Broke
 {
     let mut catalogue = Catalogue::<T>::new(alloc);
     let mut live_names = LiveNames::new(alloc);
-    let mut talks = ByStream::new(alloc);
+    let mut talks = ByNumber::new(alloc);
     let told = pass(alloc, &mut catalogue, &mut live_names, &mut talks, lines);
     drop(catalogue);
     drop(live_names);

@@ -5,8 +5,6 @@
 
 pub mod answer;
 pub mod asking;
-mod by_number;
-mod by_stream;
 mod by_type;
 pub mod checking;
 mod judging;

@@ -3,10 +3,10 @@ ghost use Rattle.std.specs.Prelude.{◌≡◌, IfErr, OnOk};
 ghost use Rattle.xds_resource.specs.declared.refusal.Refusal.TheVariants.{OutOfMemory};
 ghost use Rattle.xds_check.specs.Orders.{nothing_kept, is_open_in, may_speak_in, may_follow_in, kept_after};
 
-use crate::by_number::ByNumber;
 use crate::line::Line;
 use std::alloc::Global;
 use std::marker::Model;
+use xds_catalogue::ByNumber;
 use xds_resource::Refusal;
 
 /// What the lines so far say of streams: whether each is open, and whether it is one of delta.
@@ -86,10 +86,14 @@ impl Order {
     {
         match line {
             Line::Write(_) => Ok(()),
-            Line::Open(stream) => self.open.put(*stream, true),
-            Line::Close(stream) => self.open.put(*stream, false),
-            Line::Request(stream, asking) => self.delta.put(*stream, asking.variant().is_delta()),
-            Line::Response(stream, answer) => self.delta.put(*stream, answer.variant().is_delta()),
+            Line::Open(stream) => self.open.insert(*stream, true),
+            Line::Close(stream) => self.open.insert(*stream, false),
+            Line::Request(stream, asking) => self
+                .delta
+                .insert(*stream, asking.variant().is_delta()),
+            Line::Response(stream, answer) => self
+                .delta
+                .insert(*stream, answer.variant().is_delta()),
             Line::Idle(_, _) => Ok(()),
         }
     }

@@ -17,7 +17,7 @@ use std::alloc::Global;
 use std::marker::Model;
 use xds_message::DeltaResource;
 use xds_resource::laws::resources_are_canonical;
-use xds_resource::{AnyResource, Refusal, Resource, TypeName};
+use xds_resource::{AnyResource, Refusal, TypeName};
 
 /// The name and the version that stand beside a resource in a delta response.
 pub struct Label {
@@ -155,20 +155,6 @@ impl Statement {
     }
 }
 
-// The resource of the type that a value is.
-fn resource_in(alloc: Global, kind: TypeName, value: Value) -> Result<AnyResource, Refusal>
-    ensures typed { IfOk result (λ r. resource_type r ≡ kind) }
-    ensures given { Gives named_body result (from_value kind (view value)) }
-{
-    match kind {
-        TypeName::Cluster => Ok(AnyResource::Cluster(Resource::from_value(alloc, value)?)),
-        TypeName::Endpoint => Ok(AnyResource::Endpoint(Resource::from_value(alloc, value)?)),
-        TypeName::Listener => Ok(AnyResource::Listener(Resource::from_value(alloc, value)?)),
-        TypeName::Route => Ok(AnyResource::Route(Resource::from_value(alloc, value)?)),
-        TypeName::Secret => Ok(AnyResource::Secret(Resource::from_value(alloc, value)?)),
-    }
-}
-
 // The statement of a resource, with a label or none.
 fn stated(alloc: Global, resource: &AnyResource, label: Option<Label>) -> Result<Statement, Refusal>
     ensures ok { IfOk result (λ x. x
@@ -196,7 +182,7 @@ fn statement_of(
         (λ x. (from_value kind (view value) ≡ Ok (record { name = x.name; body = x.body })) × (x.label ≡ label)) result }
     ensures canonical { IfOk result (λ x. IsCanonical kind (record { name = x.name; body = x.body })) }
 {
-    match resource_in(alloc, kind, value) {
+    match AnyResource::from_value(alloc, kind, value) {
         Ok(resource) => stated(alloc, &resource, label),
         Err(Refusal::OutOfMemory) => Err(Refusal::OutOfMemory),
         Err(_) => Err(Refusal::BadTrace),

@@ -1,9 +1,9 @@
 // The words of a line.
-ghost use Rattle.std.specs.Prelude.{◌≡◌, ◌<◌, ◌^◌, ℕ, List, Some, IfSome, IfNone, decimal};
+ghost use Rattle.std.specs.Prelude.{◌≡◌, ℕ, List, Some, IfSome, IfNone};
 ghost use Rattle.std.specs.Option.{option_map};
 ghost use Rattle.xds_check.specs.Words.{cut, word_of, verb_of, IsStreamText};
 
-use itoa::Buffer;
+use xds_resource::decimal_number;
 
 /// The greatest number of a stream.
 pub const MAX_STREAM: u64 = 9_223_372_036_854_775_807;
@@ -56,26 +56,12 @@ pub(crate) fn cut(text: &str) -> Option<(&str, &str)>
     text.split_once(' ')
 }
 
-// The number whose shortest decimal the word is: no sign, no leading zero.
-fn whole_number(word: &str) -> Option<u64>
-    ensures shortest { IfSome result (λ n. word.now ≡ decimal n) }
-    ensures all { (n : ℕ) → n < 2 ^ 64 → word.now ≡ decimal n → result ≡ Some n }
-{
-    let number = word.parse::<u64>().ok()?;
-    let mut digits = Buffer::new();
-    if digits.format(number) == word {
-        Some(number)
-    } else {
-        None
-    }
-}
-
 /// The number of a stream, whose shortest decimal the word is.
 pub(crate) fn stream_number(word: &str) -> Option<u64>
     ensures found { IfSome result (λ s. IsStreamText s word.now) }
     ensures all { (s : ℕ) → IsStreamText s word.now → result ≡ Some s }
 {
-    let number = whole_number(word)?;
+    let number = decimal_number(word)?;
     if number == 0 || number > MAX_STREAM {
         return None;
     }

@@ -5,7 +5,6 @@ pub mod FirstDue
 pub mod StreamsFitting
 mod Sides
 pub mod Twice
-pub mod Numbers
 pub mod StreamSteps
 pub mod StepLaws
 pub mod Twins

@@ -6,7 +6,6 @@ pub mod catalogues;
 mod changed;
 pub mod event;
 pub mod laws;
-pub mod numbered;
 pub mod parts;
 mod pending;
 pub mod replica;
@@ -17,7 +16,6 @@ mod talk;
 
 pub use catalogues::{Catalogues, Marks};
 pub use event::{Event, Record, Reply};
-pub use numbered::Numbered;
 pub use replica::Core;
 pub use request::Request;
 pub use stream::Stream;

@@ -19,11 +19,11 @@ ghost use Rattle.xds_core.specs.Streams.{looked_at, owes_some, first_due};
 
 use crate::catalogues::{Catalogues, Marks};
 use crate::event::{Event, Reply};
-use crate::numbered::Numbered;
 use crate::request::Request;
 use crate::stream::Stream;
 use std::alloc::Global;
 use std::marker::Model;
+use xds_catalogue::ByNumber;
 use xds_interest::ClusterText;
 use xds_ledger::Outcome;
 use xds_message::{Batch, Draft, SotwDraft};
@@ -37,7 +37,7 @@ pub struct Core {
     held: Catalogues,
     // How many streams were opened.
     opened: u64,
-    streams: Numbered<Stream>,
+    streams: ByNumber<Stream>,
     alloc: Global,
 }
 
@@ -80,7 +80,7 @@ impl Core {
             replica,
             held: Catalogues::new(alloc),
             opened: 0,
-            streams: Numbered::new(alloc),
+            streams: ByNumber::new(alloc),
             alloc,
         }
     }
@@ -445,11 +445,11 @@ impl Core {
     }
 }
 
-fn copy_streams(alloc: Global, streams: &Numbered<Stream>) -> Result<Numbered<Stream>, Refusal>
+fn copy_streams(alloc: Global, streams: &ByNumber<Stream>) -> Result<ByNumber<Stream>, Refusal>
     ensures ok { IfOk result (λ m. m ≡ streams.now) }
     ensures refused { IfErr result (λ e. e ≡ OutOfMemory) }
 {
-    let mut copies = Numbered::new(alloc);
+    let mut copies = ByNumber::new(alloc);
     for (number, stream) in streams.iter() {
         copies.insert(*number, stream.try_copy(alloc)?)?;
     }

@@ -1,6 +1,6 @@
 use Rattle.std.proofs.Common.{sym, ap, ◌∙◌}
 use Rattle.std.specs.FinMap as finmap
-use Rattle.xds_core.proofs.Numbers.{put_entries, made_again}
+use Rattle.xds_catalogue.proofs.ByNumbers.{put_entries, made_again}
 use Rattle.xds_core.proofs.replica.copy_streams.Goals as goal
 
 pub returns-clause-ok : goal.returns-clause-ok

@@ -1,6 +1,6 @@
 use Rattle.std.proofs.Common.{◌≡◌}
 use Rattle.std.specs.FinMap as finmap
-use Rattle.xds_core.proofs.Numbers.{put_entries}
+use Rattle.xds_catalogue.proofs.ByNumbers.{put_entries}
 use Rattle.xds_core.proofs.replica.copy_streams.Given as goal
 
 -- what is copied, and what is left, is all

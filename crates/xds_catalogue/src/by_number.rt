@@ -12,19 +12,19 @@ use std::marker::Model;
 use std::mem;
 use xds_resource::Refusal;
 
-/// Values by number. Contracts see the finite map.
-pub struct Numbered<V> {
+/// A finite map from numbers, in ascending order. Contracts see the finite map.
+pub struct ByNumber<V> {
     values: BTreeMap<u64, V>,
 }
 
 // Written out: docs/PROVING.md, "Drops".
-impl<V: Drop> Drop for Numbered<V> {
+impl<V: Drop> Drop for ByNumber<V> {
     fn drop(self) {
-        let Numbered { values: _ } = self;
+        let ByNumber { values: _ } = self;
     }
 }
 
-impl<V> Model for Numbered<V> {
+impl<V> Model for ByNumber<V> {
     ghost use Rattle.std.specs.Coded.{coded_ℕ};
     ghost use Rattle.std.specs.Ordering.{nat_cmp};
     ghost use Rattle.std.specs.FinMap as finmap;
@@ -37,12 +37,12 @@ impl<V> Model for Numbered<V> {
     ghost view = { λ m. by_number (λ v. v) m.values.entries };
 }
 
-impl<V: Drop> Numbered<V> {
+impl<V: Drop> ByNumber<V> {
     /// No value at any number.
-    pub fn new(alloc: Global) -> Numbered<V>
+    pub fn new(alloc: Global) -> ByNumber<V>
         ensures { result ≡ finmap.empty }
     {
-        Numbered {
+        ByNumber {
             values: BTreeMap::new(alloc),
         }
     }
@@ -60,7 +60,7 @@ impl<V: Drop> Numbered<V> {
         ensures err { OnErr result (self.new ≡ self.old) }
         ensures refused { IfErr result (λ e. e ≡ OutOfMemory) }
     {
-        self.values.insert(number, value)?;
+        drop(self.values.insert(number, value)?);
         Ok(())
     }
 
@@ -71,6 +71,14 @@ impl<V: Drop> Numbered<V> {
         ensures none { result ≡ false → self.new ≡ self.old }
     {
         self.values.remove(&number).is_some()
+    }
+
+    /// Takes the value at a number out.
+    pub fn take_out(&mut self, number: u64) -> Option<V>
+        ensures taken { self.new ≡ finmap.remove self.old number }
+        ensures old { result ≡ finmap.get self.old number }
+    {
+        self.values.remove(&number)
     }
 
     /// Puts a value at a number that has one, in its place. It takes no memory.

@@ -16,7 +16,6 @@ use Rattle.xds_catalogue.specs.Tables.{by_number}
 use Rattle.xds_catalogue.proofs.Lookups.{remove-none, tie_told}
 use Rattle.xds_catalogue.proofs.MapViews.{get-by_number, by_number-insert, by_number-remove}
 use Rattle.xds_resource.proofs.NameMaps.{none_by_is_some, both_true, both_hold}
-use Rattle.xds_ledger.proofs.Made.{or_none}
 
 -- a map as its entries show it
 abbrev pub numbered : {X : Type 0} → BTreeMap ℕ X → finmap.FinMap nat_cmp X
@@ -87,6 +86,10 @@ get-put_entries m (e ∷ es) q sorted =
     get-put_entries (finmap.insert m e.0 e.1) es q (holds_second (below_all nat_cmp e.0 es) (is_sorted nat_cmp es) sorted)
     ∙ ap (option_or (finmap.find nat_cmp q es)) (finmap.get-insert nat_cmp_total m e.0 e.1 q)
     ∙ chosen (is_eq (nat_cmp q e.0)) e.1 (finmap.find nat_cmp q es) (finmap.get m q) (find_above e.0 q es (holds_first (below_all nat_cmp e.0 es) (is_sorted nat_cmp es) sorted))
+
+or_none : {X : Type 0} (o : Option X) → option_or o None ≡ o
+or_none None = refl
+or_none (Some x) = refl
 
 -- a map whose entries were put into an empty one
 pub made_again : {X : Type 0} (m : finmap.FinMap nat_cmp X) → put_entries finmap.empty (finmap.entries m) ≡ m

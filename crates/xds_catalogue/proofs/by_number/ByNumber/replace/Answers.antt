@@ -1,8 +1,8 @@
 use Rattle.std.proofs.Common.{Some, sym, ap, subst, refl, ◌∙◌}
 use Rattle.std.specs.Option.{IsSome, option_copied_mut}
 use Rattle.std.specs.FinMap as finmap
-use Rattle.xds_core.proofs.Numbers.{get-numbered, numbered-insert}
-use Rattle.xds_core.proofs.numbered.Numbered.replace.Goals as goal
+use Rattle.xds_catalogue.proofs.ByNumbers.{get-numbered, numbered-insert}
+use Rattle.xds_catalogue.proofs.by_number.ByNumber.replace.Goals as goal
 
 pub returns-in_err-held-clause-old : goal.returns-in_err-held-clause-old
 returns-in_err-held-clause-old g c =

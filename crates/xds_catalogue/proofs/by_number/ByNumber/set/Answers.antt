@@ -1,9 +1,9 @@
 use Rattle.std.proofs.Common.{◌≡◌, false, true, None, sym, ap, subst, refl, ◌∙◌}
 use Rattle.std.specs.Option.{IsSome, option_copied_mut}
 use Rattle.std.specs.FinMap as finmap
-use Rattle.xds_core.proofs.Numbers.{numbered, get-numbered, numbered-insert}
-use Rattle.xds_core.proofs.numbered.Numbered.set.Goals as goal
-use Rattle.xds_core.proofs.numbered.Numbered.set.Goals.{in-Some, in_default}
+use Rattle.xds_catalogue.proofs.ByNumbers.{numbered, get-numbered, numbered-insert}
+use Rattle.xds_catalogue.proofs.by_number.ByNumber.set.Goals as goal
+use Rattle.xds_catalogue.proofs.by_number.ByNumber.set.Goals.{in-Some, in_default}
 
 pub returns : goal.returns
 returns g c =

@@ -1,7 +1,7 @@
 use Rattle.std.proofs.Common.{sym, ap, ◌∙◌}
 use Rattle.std.specs.FinMap as finmap
-use Rattle.xds_check.proofs.Numbering.{get-numbered, numbered-remove}
-use Rattle.xds_check.proofs.by_stream.ByStream.take_out.Goals as goal
+use Rattle.xds_catalogue.proofs.ByNumbers.{get-numbered, numbered-remove}
+use Rattle.xds_catalogue.proofs.by_number.ByNumber.take_out.Goals as goal
 
 pub returns-clause-taken : goal.returns-clause-taken
 returns-clause-taken g c = numbered-remove c.self.inside.values c.remove.new.self c.args.number c.remove.ensures.updates ∙ ap (λ m. finmap.remove m c.args.number) c.self.view_is

@@ -1,8 +1,8 @@
 use Rattle.std.proofs.Common.{sym, ap, ◌∙◌}
 use Rattle.std.specs.Prelude.{is_some}
 use Rattle.std.specs.FinMap as finmap
-use Rattle.xds_core.proofs.Numbers.{get-numbered, numbered-remove, remove_absent}
-use Rattle.xds_core.proofs.numbered.Numbered.remove.Goals as goal
+use Rattle.xds_catalogue.proofs.ByNumbers.{get-numbered, numbered-remove, remove_absent}
+use Rattle.xds_catalogue.proofs.by_number.ByNumber.remove.Goals as goal
 
 pub returns-clause-removed : goal.returns-clause-removed
 returns-clause-removed g c = numbered-remove c.self.inside.values c.remove.new.self c.args.number c.remove.ensures.updates ∙ ap (λ m. finmap.remove m c.args.number) c.self.view_is

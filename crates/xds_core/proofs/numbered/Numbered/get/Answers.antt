@@ -1,7 +1,0 @@
-use Rattle.std.proofs.Common.{sym, ap, ◌∙◌}
-use Rattle.std.specs.FinMap as finmap
-use Rattle.xds_core.proofs.Numbers.{get-numbered}
-use Rattle.xds_core.proofs.numbered.Numbered.get.Goals as goal
-
-pub returns : goal.returns
-returns g c = c.get.ensures.value ∙ sym (get-numbered c.self.inside.values c.args.number) ∙ ap (λ m. finmap.get m c.args.number) c.self.view_is
