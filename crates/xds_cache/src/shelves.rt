@@ -6,7 +6,7 @@ ghost use Rattle.xds_cache.specs.Shelves.{bare, connected, lost};
 use crate::shelf::Shelf;
 use std::alloc::Global;
 use std::marker::Model;
-use xds_resource::TypeName;
+use xds_resource::{TypeName, for_type};
 
 pub(crate) struct Shelves {
     cluster: Shelf,
@@ -65,26 +65,14 @@ impl Shelves {
     pub(crate) fn get(&self, kind: TypeName) -> &Shelf
         ensures { result.now ≡ at self.now kind }
     {
-        match kind {
-            TypeName::Cluster => &self.cluster,
-            TypeName::Endpoint => &self.endpoint,
-            TypeName::Listener => &self.listener,
-            TypeName::Route => &self.route,
-            TypeName::Secret => &self.secret,
-        }
+        for_type!(kind, shelf in &self => shelf)
     }
 
     /// Puts a shelf in the place of the one of its type.
     pub(crate) fn put(&mut self, kind: TypeName, shelf: Shelf)
         ensures { self.new ≡ with_at self.old kind shelf }
     {
-        match kind {
-            TypeName::Cluster => set(&mut self.cluster, shelf),
-            TypeName::Endpoint => set(&mut self.endpoint, shelf),
-            TypeName::Listener => set(&mut self.listener, shelf),
-            TypeName::Route => set(&mut self.route, shelf),
-            TypeName::Secret => set(&mut self.secret, shelf),
-        }
+        for_type!(kind, held in &mut self => set(held, shelf))
     }
 
     /// At the start of a stream.

@@ -15,7 +15,7 @@ use crate::words::Verb;
 use itoa::Buffer;
 use std::alloc::Global;
 use xds_message::write_object;
-use xds_resource::{AnyWrite, Refusal, ResourceType, TypeName, Write};
+use xds_resource::{AnyWrite, Refusal, ResourceType, TypeName, Write, for_any};
 
 /// What a line of a trace says. Streams go by their numbers, from 1.
 pub enum Line {
@@ -99,13 +99,7 @@ fn any_is_writable(write: &AnyWrite)
     ensures writable { IsWritable (write_type write.now) (stamped_write write.now) }
     ensures stamp { IsStamp (stamped_write write.now).counter (stamped_write write.now).writer }
 {
-    match write {
-        AnyWrite::Cluster(write) => is_writable(write),
-        AnyWrite::Endpoint(write) => is_writable(write),
-        AnyWrite::Listener(write) => is_writable(write),
-        AnyWrite::Route(write) => is_writable(write),
-        AnyWrite::Secret(write) => is_writable(write),
-    }
+    for_any!(write, AnyWrite(write) => is_writable(write))
 }
 
 fn write_json(alloc: Global, write: &AnyWrite) -> Result<String, Refusal>

@@ -8,7 +8,7 @@ ghost use Rattle.xds_exchange.specs.Parts.{typed_write, weight, groups_bytes, ma
 use serde_json::{Map, Value};
 use std::alloc::Global;
 use xds_json::fields::put_texts;
-use xds_resource::{AnyWrite, Groups, Refusal, ResourceType, Write};
+use xds_resource::{AnyWrite, Groups, Refusal, ResourceType, Write, for_any};
 
 /// The bytes of a write's body and of its list of groups, as they are written.
 pub(crate) fn weight_of(alloc: Global, write: &AnyWrite) -> Result<usize, Refusal>
@@ -17,13 +17,7 @@ pub(crate) fn weight_of(alloc: Global, write: &AnyWrite) -> Result<usize, Refusa
     ensures sound { OnOk result (IsSound (typed_write write.now)) }
     ensures refused { IfErr result (λ e. e ≡ OutOfMemory) }
 {
-    match write {
-        AnyWrite::Cluster(write) => typed_weight(alloc, write),
-        AnyWrite::Endpoint(write) => typed_weight(alloc, write),
-        AnyWrite::Listener(write) => typed_weight(alloc, write),
-        AnyWrite::Route(write) => typed_weight(alloc, write),
-        AnyWrite::Secret(write) => typed_weight(alloc, write),
-    }
+    for_any!(write, AnyWrite(write) => typed_weight(alloc, write))
 }
 
 // The same of a write of one type.

@@ -20,7 +20,7 @@ use std::marker::Model;
 use xds_json::fields::{put_list, read_json, taken_field};
 use xds_resource::{
     AnyWrite, Cluster, Endpoint, Listener, Refusal, ResourceType, Route, Secret, TypeName, Write,
-    for_type,
+    for_any, for_type,
 };
 
 /// Writes of all types. Those of a type have an order; writes of different types don't meet.
@@ -160,13 +160,7 @@ impl Batch {
         ensures err { OnErr result (self.new ≡ self.old) }
         ensures refused { IfErr result (λ e. e ≡ OutOfMemory) }
     {
-        match write {
-            AnyWrite::Cluster(write) => add(&mut self.cluster, write),
-            AnyWrite::Endpoint(write) => add(&mut self.endpoint, write),
-            AnyWrite::Listener(write) => add(&mut self.listener, write),
-            AnyWrite::Route(write) => add(&mut self.route, write),
-            AnyWrite::Secret(write) => add(&mut self.secret, write),
-        }
+        for_any!(write, AnyWrite(write), writes in &mut self => add(writes, write))
     }
 
     /// How many writes of the type it has.

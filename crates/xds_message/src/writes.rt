@@ -26,7 +26,7 @@ use xds_json::fields::{put_inner, put_texts, read_json, set_field, texts_field};
 use xds_resource::resource::is_valid_name;
 use xds_resource::stamp::MAX_COUNTER;
 use xds_resource::{
-    AnyWrite, Groups, Refusal, Resource, ResourceType, Stamp, TypeName, Write, for_type,
+    AnyWrite, Groups, Refusal, Resource, ResourceType, Stamp, TypeName, Write, for_any, for_type,
 };
 
 /// The write that the bytes spell: one JSON object. Keys that are not known are passed over. Refused by `NotJson` where
@@ -87,13 +87,7 @@ pub fn write_object(alloc: Global, write: &AnyWrite) -> Result<Value, Refusal>
     ensures shallow { IfOk result (λ v. depth (view v) ≤ suc max_nesting) }
     ensures refused { IfErr result (λ e. e ≡ OutOfMemory) }
 {
-    match write {
-        AnyWrite::Cluster(write) => object_of_write(alloc, write),
-        AnyWrite::Endpoint(write) => object_of_write(alloc, write),
-        AnyWrite::Listener(write) => object_of_write(alloc, write),
-        AnyWrite::Route(write) => object_of_write(alloc, write),
-        AnyWrite::Secret(write) => object_of_write(alloc, write),
-    }
+    for_any!(write, AnyWrite(write) => object_of_write(alloc, write))
 }
 
 // The object of a write of one type.

@@ -48,6 +48,7 @@ macro_rules! for_type {
 ///
 /// - `for_any!(write, AnyWrite(write) => write.name())`
 /// - `for_any!(resource, AnyResource(resource) => AnyWrite of put_of(alloc, resource)?)`
+/// - `for_any!(write, AnyWrite(write), writes in &mut self => add(writes, write))`
 #[macro_export]
 macro_rules! for_any {
     ($any:expr, $Any:ident($it:ident) => $Made:ident of $done:expr) => {
@@ -57,6 +58,15 @@ macro_rules! for_any {
             $Any::Listener($it) => $Made::Listener($done),
             $Any::Route($it) => $Made::Route($done),
             $Any::Secret($it) => $Made::Secret($done),
+        }
+    };
+    ($any:expr, $Any:ident($it:ident), $mine:ident in &mut $whole:expr => $done:expr) => {
+        match $any {
+            $Any::Cluster($it) => $crate::for_type!(@ Cluster cluster $mine in &mut $whole => $done),
+            $Any::Endpoint($it) => $crate::for_type!(@ Endpoint endpoint $mine in &mut $whole => $done),
+            $Any::Listener($it) => $crate::for_type!(@ Listener listener $mine in &mut $whole => $done),
+            $Any::Route($it) => $crate::for_type!(@ Route route $mine in &mut $whole => $done),
+            $Any::Secret($it) => $crate::for_type!(@ Secret secret $mine in &mut $whole => $done),
         }
     };
     ($any:expr, $Any:ident($it:ident) => $done:expr) => {
