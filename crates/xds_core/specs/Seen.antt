@@ -1,12 +1,15 @@
 -- How the values of the program are seen as events, replies and records. This project's own.
 --     event_of, reply_of, answer_of   an event, a reply and an answer, as the definitions have them
+--     record_of                       a record, as the definitions have it
 use Rattle.std.specs.Prelude.{map, string_bytes, Result, Ok, Err}
 use Rattle.xds_resource.specs.Any.{resource_type, named_body}
 pub use Rattle.xds_core.specs.StreamsSeen.{message_of}
 use Rattle.xds_core.specs.Counts.{counts_of}
 use Rattle.xds_core.specs.Events as events
+use Rattle.xds_core.specs.Legal.{Record}
 use Rattle.xds_core.specs.declared.event.Event.{Event}
 use Rattle.xds_core.specs.declared.event.Event.TheVariants as happenings
+use Rattle.xds_core.specs.declared.event.Record as made
 use Rattle.xds_core.specs.declared.event.Reply.{Reply}
 use Rattle.xds_core.specs.declared.event.Reply.TheVariants as replies
 
@@ -38,3 +41,7 @@ reply_of (replies.Changed batch marks) = events.Changed batch (counts_of marks)
 abbrev pub answer_of : {E : Type 0} → Result Reply E → Result events.Reply E
 answer_of (Ok reply) = Ok (reply_of reply)
 answer_of (Err refusal) = Err refusal
+
+-- a record of the program
+abbrev pub record_of : made.Record → Record
+record_of r = record { event = event_of r.event; answer = answer_of r.answer }

@@ -6,11 +6,12 @@
 --     IsSoundRecord                    what the replica took could be read
 --     UnlessShort                      the call found no memory, or this holds
 --     Tells                            the call answers what is told, as `view` sees it
---     record_of                        a record of the program
 --     BeginsUntold                     the first of these records, up to one, aren't all such as can be told
 --     TellsAll                         what a call answers that makes the trace of some records: the trace
 --     KeepsTheRules                    the records are those of a replica from its start
 --     EveryRecordIsTold                every record that is made from a fresh replica can be told
+-- a record of the program
+pub use Rattle.xds_core.specs.Seen.{record_of}
 use Rattle.std.specs.Prelude.{◌≡◌, ◌≢◌, ℕ, List, ◌++◌, map, true, Option, Some, None, Result, Ok, Err, IsOk, IfOk, All, ⊤}
 use Rattle.xds_resource.specs.declared.types.TypeName.{TypeName}
 use Rattle.xds_resource.specs.declared.refusal.Refusal.{Refusal}
@@ -26,8 +27,6 @@ use Rattle.xds_check.specs.declared.line.Line.TheVariants as lines
 use Rattle.xds_check.specs.Rules.{NoneBroken}
 use Rattle.xds_trace.specs.Making.{IsSound, trace_of}
 use Rattle.xds_trace.specs.Claims.{IsQuiet}
-use Rattle.xds_core.specs.Seen.{event_of, answer_of}
-use Rattle.xds_core.specs.declared.event.Record as made
 
 -- a body that is the text of a resource of a type
 abbrev pub IsResource : TypeName → List ℕ → Type 0
@@ -78,10 +77,6 @@ UnlessShort (Err e) P = e ≢ OutOfMemory → P
 abbrev pub Tells : {X Y : Type 0} → (X → Y) → Y → Type 0 → Result X Refusal → Type 0
 Tells view told CanTell (Ok x) = view x ≡ told
 Tells view told CanTell (Err e) = e ≢ OutOfMemory → (e ≡ BadTrace) × (CanTell → ⊥)
-
--- a record of the program
-abbrev pub record_of : made.Record → Record
-record_of r = record { event = event_of r.event; answer = answer_of r.answer }
 
 -- the first of these records, up to one, aren't all such as can be told, though what was taken could be read
 pub record BeginsUntold (rs : List Record) : Type 0 where

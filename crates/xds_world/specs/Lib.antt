@@ -14,7 +14,6 @@ pub mod Peers
 pub mod Statuses
 pub mod Steps
 pub mod Codes
-pub mod Seen
 pub mod Parts
 pub mod Played
 pub mod Settled

@@ -1,31 +1,30 @@
 // Numbers in words.
 ghost use Rattle.std.specs.Prelude.{◌≡◌};
-ghost use Rattle.xds_world.specs.Words.{replica_number, whole_number};
+ghost use Rattle.xds_world.specs.Words.{replica_number, whole_number, number_in};
 
-use itoa::Buffer;
+use xds_resource::decimal_number;
 
-/// The number of a replica, from 1, whose shortest decimal the word is.
+/// The number from 1 to `most` whose shortest decimal the word is.
+fn number_to(most: u64, word: &str) -> Option<u64>
+    ensures { result ≡ number_in 1 most word.now }
+{
+    let number = decimal_number(word)?;
+    if number == 0 || number > most {
+        return None;
+    }
+    Some(number)
+}
+
+/// The number of a replica.
 pub(crate) fn replica_number(word: &str) -> Option<u16>
     ensures { result ≡ replica_number word.now }
 {
-    let number = word.parse::<u16>().ok()?;
-    let mut digits = Buffer::new();
-    if number > 0 && digits.format(number) == word {
-        Some(number)
-    } else {
-        None
-    }
+    u16::try_from(number_to(65_535, word)?).ok()
 }
 
-/// The number of a client or of a batch, from 1, whose shortest decimal the word is.
+/// The number of a client or of a batch.
 pub(crate) fn whole_number(word: &str) -> Option<u32>
     ensures { result ≡ whole_number word.now }
 {
-    let number = word.parse::<u32>().ok()?;
-    let mut digits = Buffer::new();
-    if number > 0 && digits.format(number) == word {
-        Some(number)
-    } else {
-        None
-    }
+    u32::try_from(number_to(4_294_967_295, word)?).ok()
 }

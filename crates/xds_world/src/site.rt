@@ -5,7 +5,7 @@ ghost use Rattle.xds_core.specs.Seen.{event_of, reply_of};
 ghost use Rattle.xds_world.specs.Claims.{owes_nothing};
 ghost use Rattle.xds_world.specs.Calls.{Gave};
 ghost use Rattle.xds_world.specs.Parts.{fresh_site, answered};
-ghost use Rattle.xds_world.specs.Seen.{record_of};
+ghost use Rattle.xds_core.specs.Seen.{record_of};
 
 use std::alloc::Global;
 use std::marker::Model;
@@ -32,7 +32,7 @@ impl Model for Site {
     ghost use Rattle.std.specs.Prelude.{map};
     ghost use Rattle.xds_world.specs.Worlds as worlds;
     ghost use Rattle.xds_world.specs.Codes.{site_code};
-    ghost use Rattle.xds_world.specs.Seen.{record_of};
+    ghost use Rattle.xds_core.specs.Seen.{record_of};
 
     ghost Value = { worlds.Site };
 

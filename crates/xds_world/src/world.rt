@@ -9,7 +9,7 @@ ghost use Rattle.xds_world.specs.Claims.{Headline, is_settled_on};
 ghost use Rattle.xds_world.specs.ModelSeen.{happening_of};
 ghost use Rattle.xds_world.specs.Worlds.{Site as SiteValue, world as world_of};
 ghost use Rattle.xds_world.specs.Statuses.{status_of};
-ghost use Rattle.xds_world.specs.Seen.{record_of};
+ghost use Rattle.xds_core.specs.Seen.{record_of};
 
 use crate::event::{ClientKind, WorldEvent};
 use crate::peer::Status;
