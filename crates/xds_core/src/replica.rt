@@ -322,7 +322,7 @@ impl Core {
         ensures refused { IfErr result (λ e. e ≡ OutOfMemory) }
     {
         let held = &self.held;
-        for_type!(kind, held in &held => rested(self.alloc, self.replica, held, names, version, cluster))
+        for_type!(kind, catalogue in &held => rested(self.alloc, self.replica, catalogue, names, version, cluster))
     }
 
     fn since(&self, marks: Marks) -> Result<Reply, Refusal>

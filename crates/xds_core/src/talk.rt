@@ -129,7 +129,7 @@ impl Talk {
         requires { ListingFits held.now self.now }
         ensures { result ≡ owes_of held.now (stream_in self.now.talk) kind }
     {
-        for_type!(kind, session in &self, held in &held => session.owes(held))
+        for_type!(kind, session in &self, catalogue in &held => session.owes(catalogue))
     }
 
     /// Whether a response of the type is to be sent. It takes no memory.
@@ -137,7 +137,7 @@ impl Talk {
         requires { ListingFits held.now self.now }
         ensures { result ≡ is_some (to_send held.now (stream_in self.now.talk) kind) }
     {
-        for_type!(kind, session in &self, held in &held => session.sends(held))
+        for_type!(kind, session in &self, catalogue in &held => session.sends(catalogue))
     }
 
     /// Looks at what changed of the type since, and lets the names go that are owed nothing, as far as there is memory.
@@ -146,7 +146,7 @@ impl Talk {
         ensures same { self.new.talk ≡ self.old.talk }
         ensures fits { ListingFits held.now self.new }
     {
-        for_type!(kind, session in &mut self, held in &held => session.tidy(alloc, held))
+        for_type!(kind, session in &mut self, catalogue in &held => session.tidy(alloc, catalogue))
     }
 
     /// The same of all types.
@@ -178,7 +178,7 @@ impl Talk {
         ensures err { OnErr result (self.new.talk ≡ self.old.talk) }
     {
         let nonces = &mut self.nonces;
-        for_type!(kind, session in &mut self, held in &held => session.poll(alloc, replica, held, nonces))
+        for_type!(kind, session in &mut self, catalogue in &held => session.poll(alloc, replica, catalogue, nonces))
     }
 
     fn nonces(&self) -> Nonces
@@ -201,7 +201,7 @@ impl Talk {
         ensures draft { IfOk result (λ p. p.1 ≡ drafted replica kind (at held.now kind) (at self.now.talk.sessions kind).asked.interest self.now.talk.variant p.0 number) }
         ensures refused { IfErr result (λ e. e ≡ OutOfMemory) }
     {
-        for_type!(kind, session in &self, held in &held => session.respond(alloc, replica, held, number))
+        for_type!(kind, session in &self, catalogue in &held => session.respond(alloc, replica, catalogue, number))
     }
 
     // Notes that a response of a type with this offer was sent, as the one of the last of these numbers.

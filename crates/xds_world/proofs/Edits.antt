@@ -24,6 +24,14 @@ with_peers w m = record w { peers = m }
 abbrev pub with_sites : World → FinMap nat_cmp Site → World
 with_sites w m = record w { sites = m }
 
+-- what was lent out of a map was there before
+pub lent : {X : Type 0} (inside now : FinMap nat_cmp X) (n : ℕ) (o : Option X) (x : X) → inside ≡ now → o ≡ finmap.get inside n → o ≡ Some x → finmap.get now n ≡ Some x
+lent inside now n o x view old is = ap (λ m. finmap.get m n) (sym view) ∙ sym old ∙ is
+
+-- what is put back stands over what stood there in the meantime
+pub put_over : {X : Type 0} (inside now held back : FinMap nat_cmp X) (n : ℕ) (x left : X) → inside ≡ now → held ≡ finmap.insert inside n x → back ≡ finmap.insert held n left → back ≡ finmap.insert (finmap.insert now n x) n left
+put_over inside now held back n x left view found puts = puts ∙ (λ i. finmap.insert (found i) n left) ∙ (λ i. finmap.insert (finmap.insert (view i) n x) n left)
+
 -- ---- a client
 
 module _ (w : World) (c : ℕ) (f : Peer → Option Peer) (p x left : Peer) (has : finmap.get w.peers c ≡ Some p) (back : FinMap nat_cmp Peer) (puts : back ≡ finmap.insert (finmap.insert w.peers c x) c left) where

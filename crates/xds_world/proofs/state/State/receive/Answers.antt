@@ -3,7 +3,7 @@ use Rattle.std.specs.Prelude.{IsSome}
 use Rattle.std.specs.FinMap as finmap
 use Rattle.xds_core.proofs.StreamSteps.{there}
 use Rattle.xds_world.specs.Peers.{peer_down}
-use Rattle.xds_world.proofs.Edits.{with_peers, put_peers}
+use Rattle.xds_world.proofs.Edits.{lent, put_over, with_peers, put_peers}
 use Rattle.xds_world.proofs.Steps.{down_within}
 use Rattle.xds_world.proofs.state.State.receive.Goals as goal
 
@@ -16,6 +16,7 @@ returns-clause-ok g c =
     let p = c.in-Some.peer in
     let left = c.receive-received.new.self in
     let x = c.blank_peer.result in
-    let has : finmap.get c.args.self.now.peers n ≡ Some p = ap (λ w. finmap.get w.peers n) (sym c.self.view_is) ∙ sym c.replace.ensures.old ∙ c.in-Some.is in
-    let puts : c.set.new.self ≡ finmap.insert (finmap.insert c.args.self.now.peers n x) n left = c.set.ensures ∙ (λ i. finmap.insert (c.in-Some.ensures.found i) n left) ∙ (λ i. finmap.insert (finmap.insert (c.self.view_is i).peers n x) n left) in
+    let view = ap (λ w. w.peers) c.self.view_is in
+    let has = lent c.self.inside.peers c.args.self.now.peers n c.replace.result p view c.replace.ensures.old c.in-Some.is in
+    let puts = put_over c.self.inside.peers c.args.self.now.peers _ c.set.new.self n x left view c.in-Some.ensures.found c.set.ensures in
     down_within g.A.Accept.accepts c.args.self.now _ c.args.client c.receive-received.result (put_peers c.args.self.now n (peer_down g.A.Accept.accepts) p x left has c.set.new.self puts c.receive-received.result _ (λ i. with_peers (c.self.view_is i) c.set.new.self) c.receive-received.ensures.ok)
