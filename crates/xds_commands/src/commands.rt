@@ -1,14 +1,10 @@
 // A run of the program with a network beside it.
+use crate::machine::{Machine, Runtime};
 use crate::polling::poll_once;
 use crate::server::{Serving, serve};
 use crate::watching::watch;
-use std::alloc::AllocGlobal;
 use std::io::{Read, Write};
 use std::net::{Net, TcpListener, TcpStream};
-use std::random::RandomSource;
-use std::sync::Wait;
-use std::thread::Threads;
-use std::time::Clock;
 use xds_frames::Counted;
 use xds_program::ServeTask;
 use xds_program::run::Ran;
@@ -24,17 +20,7 @@ pub fn run<R, I, O, E>(
     errors: &mut Counted<E>,
 ) -> u8
 where
-    R: Wait
-        + Threads
-        + Clock
-        + Net<Listener = TcpListener, Stream = TcpStream>
-        + RandomSource
-        + AllocGlobal
-        + Copy
-        + Drop
-        + Send
-        + Sync
-        + 'static,
+    R: Runtime + Net<Listener = TcpListener, Stream = TcpStream>,
     I: Read + Drop + Send + 'static,
     O: Write,
     E: Write,
@@ -53,17 +39,7 @@ fn go_on<R, I, O, E>(
     errors: &mut Counted<E>,
 ) -> u8
 where
-    R: Wait
-        + Threads
-        + Clock
-        + Net<Listener = TcpListener, Stream = TcpStream>
-        + RandomSource
-        + AllocGlobal
-        + Copy
-        + Drop
-        + Send
-        + Sync
-        + 'static,
+    R: Machine,
     I: Read + Drop + Send + 'static,
     O: Write,
     E: Write,

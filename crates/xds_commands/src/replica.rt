@@ -1,13 +1,13 @@
 // One replica of the server: the threads that call it.
 use crate::ending::Ending;
 use crate::gate::NoGate;
+use crate::machine::Machine;
 use crate::served::Served;
 use crate::streams::serve_streams;
 use crate::wires::{Bound, both, started};
 use crossbeam_channel::Receiver;
-use std::alloc::{AllocError, AllocGlobal, Global};
-use std::net::{Net, TcpListener, TcpStream};
-use std::random::RandomSource;
+use std::alloc::{AllocError, Global};
+use std::net::TcpListener;
 use std::sync::{Arc, Wait};
 use std::thread;
 use std::thread::Threads;
@@ -44,17 +44,7 @@ pub fn run_replica<R, A>(
     ending: &Arc<Ending>,
 ) -> Result<(), Refusal>
 where
-    R: Wait
-        + Threads
-        + Clock
-        + Net<Listener = TcpListener, Stream = TcpStream>
-        + RandomSource
-        + AllocGlobal
-        + Copy
-        + Drop
-        + Send
-        + Sync
-        + 'static,
+    R: Machine,
     A: Served + Replies + Drop + Send + Sync + 'static,
     <A as Host>::Seat: Send + 'static,
     A::Segment: Send,
@@ -111,17 +101,7 @@ fn start_serving<R, A>(
     ending: &Arc<Ending>,
 ) -> Result<(), Refusal>
 where
-    R: Wait
-        + Threads
-        + Clock
-        + Net<Listener = TcpListener, Stream = TcpStream>
-        + RandomSource
-        + AllocGlobal
-        + Copy
-        + Drop
-        + Send
-        + Sync
-        + 'static,
+    R: Machine,
     A: Served + Replies + Drop + Send + Sync + 'static,
     <A as Host>::Seat: Send,
     A::Segment: Send,
@@ -217,17 +197,7 @@ fn take_all<R: Wait, A: Served>(rt: &R, alloc: Global, node: &A, seat: A::Seat, 
 // The thread of the REST server.
 fn start_polls<R, A>(rt: &R, node: &Arc<A>, listener: TcpListener) -> Result<(), Refusal>
 where
-    R: Wait
-        + Threads
-        + Clock
-        + Net<Listener = TcpListener, Stream = TcpStream>
-        + RandomSource
-        + AllocGlobal
-        + Copy
-        + Drop
-        + Send
-        + Sync
-        + 'static,
+    R: Machine,
     A: Replies + Drop + Send + Sync + 'static,
     A::Seat: Send,
 {

@@ -2,18 +2,16 @@
 ghost use Rattle.std.specs.Prelude.{◌≤◌};
 
 use crate::ending::{End, Ending};
+use crate::machine::{Machine, Runtime};
 use crate::replica::{Sends, Sockets, Takes};
 use crate::serve_telling::{tell, tell_line, tell_port, tell_replicas};
 use crate::starting::{start_input, start_replica};
 use crate::wires::{Wires, both, crossed, kept};
 use crossbeam_channel::{Receiver, Sender, unbounded};
-use std::alloc::{AllocError, AllocGlobal, Global};
+use std::alloc::{AllocError, Global};
 use std::io::{Read, Write};
 use std::net::{Ipv4Addr, Net, SocketAddrV4, TcpListener, TcpStream};
-use std::random::RandomSource;
-use std::sync::{Arc, Wait};
-use std::thread::Threads;
-use std::time::Clock;
+use std::sync::Arc;
 use xds_core::Event;
 use xds_exchange::link;
 use xds_frames::Counted;
@@ -43,17 +41,7 @@ type Wiring = Wires<Sockets, Sender<Event>, Receiver<Event>, Sends, Takes>;
 /// at the end are left: they end with the process.
 pub fn serve<R, I, E>(rt: &R, input: I, errors: &mut Counted<E>, serving: Serving) -> u8
 where
-    R: Wait
-        + Threads
-        + Clock
-        + Net<Listener = TcpListener, Stream = TcpStream>
-        + RandomSource
-        + AllocGlobal
-        + Copy
-        + Drop
-        + Send
-        + Sync
-        + 'static,
+    R: Runtime + Net<Listener = TcpListener, Stream = TcpStream>,
     I: Read + Drop + Send + 'static,
     E: Write,
     ensures { result ≤ 1 }
@@ -138,17 +126,7 @@ fn run<R, I>(
     streams: Option<u16>,
 ) -> Result<End, Refusal>
 where
-    R: Wait
-        + Threads
-        + Clock
-        + Net<Listener = TcpListener, Stream = TcpStream>
-        + RandomSource
-        + AllocGlobal
-        + Copy
-        + Drop
-        + Send
-        + Sync
-        + 'static,
+    R: Machine,
     I: Read + Drop + Send + 'static,
 {
     let wires = wired(alloc, sockets)?;
@@ -166,17 +144,7 @@ fn start<R, I>(
     ending: &Arc<Ending>,
 ) -> Result<(), Refusal>
 where
-    R: Wait
-        + Threads
-        + Clock
-        + Net<Listener = TcpListener, Stream = TcpStream>
-        + RandomSource
-        + AllocGlobal
-        + Copy
-        + Drop
-        + Send
-        + Sync
-        + 'static,
+    R: Machine,
     I: Read + Drop + Send + 'static,
 {
     let (senders, replicas) = wires.apart();

@@ -3,20 +3,18 @@ ghost use Rattle.std.specs.Prelude.{◌≡◌, ◌≤◌};
 
 use crate::ending::{End, Ending};
 use crate::input::take_input;
+use crate::machine::Machine;
 use crate::replica::{Replica, run_replica};
 use crate::served::Served;
 use crate::weighed::Weighed;
 use crate::wires::started;
 use crossbeam_channel::Sender;
-use std::alloc::{AllocGlobal, Global};
+use std::alloc::Global;
 use std::io::Read;
 use std::marker::Brand;
-use std::net::{Net, TcpListener, TcpStream};
-use std::random::RandomSource;
 use std::sync::{Arc, Wait};
 use std::thread;
 use std::thread::Threads;
-use std::time::Clock;
 use xds_core::Event;
 use xds_http::Replies;
 use xds_node::{Host, Line, Node, NodeName, Opened};
@@ -31,17 +29,7 @@ pub(crate) fn start_replica<R>(
     ending: &Arc<Ending>,
 ) -> Result<(), Refusal>
 where
-    R: Wait
-        + Threads
-        + Clock
-        + Net<Listener = TcpListener, Stream = TcpStream>
-        + RandomSource
-        + AllocGlobal
-        + Copy
-        + Drop
-        + Send
-        + Sync
-        + 'static,
+    R: Machine,
 {
     let number = index.saturating_add(1);
     match Opened::<Line>::new(alloc) {
@@ -63,17 +51,7 @@ fn start_named<R, N>(
     ending: &Arc<Ending>,
 ) -> Result<(), Refusal>
 where
-    R: Wait
-        + Threads
-        + Clock
-        + Net<Listener = TcpListener, Stream = TcpStream>
-        + RandomSource
-        + AllocGlobal
-        + Copy
-        + Drop
-        + Send
-        + Sync
-        + 'static,
+    R: Machine,
     N: NodeName + Send + Sync + 'static,
     requires name { opened ≡ N.id }
     requires first { 1 ≤ number }
@@ -111,17 +89,7 @@ fn start_node<R, A>(
     ending: &Arc<Ending>,
 ) -> Result<(), Refusal>
 where
-    R: Wait
-        + Threads
-        + Clock
-        + Net<Listener = TcpListener, Stream = TcpStream>
-        + RandomSource
-        + AllocGlobal
-        + Copy
-        + Drop
-        + Send
-        + Sync
-        + 'static,
+    R: Machine,
     A: Served + Replies + Drop + Send + Sync + 'static,
     <A as Host>::Seat: Send + 'static,
     A::Segment: Send,

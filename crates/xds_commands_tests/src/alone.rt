@@ -1,7 +1,8 @@
 // Runs that need nobody else.
-use crate::running::{Machine, begins, ran, tells};
+use crate::running::{begins, ran, tells};
 use std::net::{Net, TcpListener, TcpStream};
 use std::test::Fail;
+use xds_commands::Runtime;
 
 #[test]
 fn what_needs_no_network_is_done(rt: HostRuntime) -> Result<(), Fail> {
@@ -18,7 +19,7 @@ fn what_needs_no_network_is_done(rt: HostRuntime) -> Result<(), Fail> {
 }
 
 // That a run over these words and this input ends with this status.
-fn ends_with<R: Machine + Net<Listener = TcpListener, Stream = TcpStream>>(
+fn ends_with<R: Runtime + Net<Listener = TcpListener, Stream = TcpStream>>(
     rt: &R,
     line: &str,
     input: &'static [u8],

@@ -1,36 +1,15 @@
 // A run of the program, over an input in memory.
-use std::alloc::{AllocGlobal, Global};
+use std::alloc::Global;
 use std::net::{Net, TcpListener, TcpStream};
-use std::random::RandomSource;
-use std::sync::Wait;
 use std::test::Fail;
-use std::thread::Threads;
-use std::time::Clock;
 use xds_cases::cases::{replaced, words_of, written_out};
-use xds_commands::run;
+use xds_commands::{Runtime, run};
 use xds_frames::Counted;
 use xds_resource::Refusal;
 
-/// What a runtime has that a run, or a server, takes, beside the network.
-pub(crate) trait Machine: Wait
-    + Threads
-    + Clock
-    + RandomSource
-    + AllocGlobal
-    + Copy
-    + Drop
-    + Send
-    + Sync
-    + 'static {}
-
-impl<R> Machine for R
-where
-    R: Wait + Threads + Clock + RandomSource + AllocGlobal + Copy + Drop + Send + Sync + 'static,
-{}
-
 /// The status of a run over these words and this input, its output and its error output, with `~`
 /// for a line feed.
-pub(crate) fn ran<R: Machine + Net<Listener = TcpListener, Stream = TcpStream>>(
+pub(crate) fn ran<R: Runtime + Net<Listener = TcpListener, Stream = TcpStream>>(
     rt: &R,
     line: &str,
     input: &'static [u8],
@@ -68,7 +47,7 @@ pub(crate) fn is_told(alloc: Global, found: &str, wanted: &str) -> Result<(), Fa
 }
 
 /// That a run over these words and this input tells what is wanted.
-pub(crate) fn tells<R: Machine + Net<Listener = TcpListener, Stream = TcpStream>>(
+pub(crate) fn tells<R: Runtime + Net<Listener = TcpListener, Stream = TcpStream>>(
     rt: &R,
     line: &str,
     input: &'static [u8],

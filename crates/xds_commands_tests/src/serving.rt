@@ -1,5 +1,5 @@
 // A server, a client and a poll in one process.
-use crate::running::{Machine, begins, is_told, ran};
+use crate::running::{begins, is_told, ran};
 use std::alloc::Global;
 use std::io::{Read, Write};
 use std::net::{Ipv4Addr, Net, Shutdown, SocketAddrV4, TcpListener, TcpStream};
@@ -7,6 +7,7 @@ use std::test::Fail;
 use std::thread;
 use std::thread::JoinHandle;
 use std::time::Duration;
+use xds_commands::Runtime;
 use xds_resource::Refusal;
 
 // How often something is tried that can't be done until the server has begun.
@@ -25,7 +26,7 @@ const A_CLUSTER: &[u8] =
 type Run = JoinHandle<Result<String, Refusal>>;
 
 // Starts a server in a thread of its own.
-fn started<R: Machine + Net<Listener = TcpListener, Stream = TcpStream>>(
+fn started<R: Runtime + Net<Listener = TcpListener, Stream = TcpStream>>(
     rt: &R,
     line: &'static str,
     input: &'static [u8],
@@ -35,7 +36,7 @@ fn started<R: Machine + Net<Listener = TcpListener, Stream = TcpStream>>(
 }
 
 // That a server ends with this status.
-fn ends<R: Machine + Net<Listener = TcpListener, Stream = TcpStream>>(
+fn ends<R: Runtime + Net<Listener = TcpListener, Stream = TcpStream>>(
     rt: &R,
     server: Run,
     status: &str,
@@ -45,7 +46,7 @@ fn ends<R: Machine + Net<Listener = TcpListener, Stream = TcpStream>>(
 }
 
 // What a run tells, tried again while it is refused for want of a server.
-fn once_served<R: Machine + Net<Listener = TcpListener, Stream = TcpStream>>(
+fn once_served<R: Runtime + Net<Listener = TcpListener, Stream = TcpStream>>(
     rt: &R,
     line: &str,
 ) -> Result<String, Refusal> {
@@ -60,7 +61,7 @@ fn once_served<R: Machine + Net<Listener = TcpListener, Stream = TcpStream>>(
 }
 
 // That a run tells what is wanted, once there is a server.
-fn tells_once_served<R: Machine + Net<Listener = TcpListener, Stream = TcpStream>>(
+fn tells_once_served<R: Runtime + Net<Listener = TcpListener, Stream = TcpStream>>(
     rt: &R,
     line: &str,
     wanted: &str,
@@ -70,7 +71,7 @@ fn tells_once_served<R: Machine + Net<Listener = TcpListener, Stream = TcpStream
 }
 
 // A connection to a port of this machine, tried again while there is none.
-fn connected<R: Machine + Net<Listener = TcpListener, Stream = TcpStream>>(
+fn connected<R: Runtime + Net<Listener = TcpListener, Stream = TcpStream>>(
     rt: &R,
     port: u16,
 ) -> Result<TcpStream, Refusal> {
@@ -105,7 +106,7 @@ fn a_client_hears_of_what_the_other_replica_took(rt: HostRuntime) -> Result<(), 
 }
 
 // While a connection holds half a frame, a client hears of what there is.
-fn beside_half_a_frame<R: Machine + Net<Listener = TcpListener, Stream = TcpStream>>(
+fn beside_half_a_frame<R: Runtime + Net<Listener = TcpListener, Stream = TcpStream>>(
     rt: &R,
 ) -> Result<(), Fail> {
     let mut held = connected(rt, 18630)?;
@@ -130,7 +131,7 @@ fn a_half_frame_holds_up_no_other_stream(rt: HostRuntime) -> Result<(), Fail> {
 }
 
 // What a poll tells once this part is told, and in the end whatever it tells.
-fn once_told<R: Machine + Net<Listener = TcpListener, Stream = TcpStream>>(
+fn once_told<R: Runtime + Net<Listener = TcpListener, Stream = TcpStream>>(
     rt: &R,
     line: &str,
     part: &str,
@@ -145,7 +146,7 @@ fn once_told<R: Machine + Net<Listener = TcpListener, Stream = TcpStream>>(
 }
 
 // Polls until the cluster `a` is told.
-fn is_polled<R: Machine + Net<Listener = TcpListener, Stream = TcpStream>>(
+fn is_polled<R: Runtime + Net<Listener = TcpListener, Stream = TcpStream>>(
     rt: &R,
 ) -> Result<(), Fail> {
     let line = "xds poll --addr 127.0.0.1:18660 --type cluster a";
@@ -186,7 +187,7 @@ fn hangs_up(alloc: Global, listener: &TcpListener) -> Result<(), Fail> {
 }
 
 // What a run tells of such a peer.
-fn hung_up<R: Machine + Net<Listener = TcpListener, Stream = TcpStream>>(
+fn hung_up<R: Runtime + Net<Listener = TcpListener, Stream = TcpStream>>(
     rt: &R,
     port: u16,
     line: &'static str,

@@ -1,11 +1,10 @@
 // A server in a thread of a test.
-use crate::running::Machine;
 use std::io::Read;
 use std::net::{Net, TcpListener, TcpStream};
 use std::test::Fail;
 use std::thread::JoinHandle;
 use std::{str, thread};
-use xds_commands::{Serving, serve};
+use xds_commands::{Runtime, Serving, serve};
 use xds_frames::Counted;
 
 /// What a server came to: its status, and what it told on the error output.
@@ -29,7 +28,7 @@ pub(crate) fn serving(replicas: u16, port: u16, streams: Option<u16>) -> Serving
 /// Serves to the end.
 pub(crate) fn served<
     I: Read + Drop + Send + 'static,
-    R: Machine + Net<Listener = TcpListener, Stream = TcpStream>,
+    R: Runtime + Net<Listener = TcpListener, Stream = TcpStream>,
 >(rt: &R, input: I, serving: Serving) -> Came {
     let mut errors = Counted::new(Vec::new(rt.alloc()));
     let status = serve(rt, input, &mut errors, serving);
@@ -40,7 +39,7 @@ pub(crate) fn served<
 }
 
 /// The same in a thread of its own.
-pub(crate) fn started<R: Machine + Net<Listener = TcpListener, Stream = TcpStream>>(
+pub(crate) fn started<R: Runtime + Net<Listener = TcpListener, Stream = TcpStream>>(
     rt: &R,
     input: &'static str,
     serving: Serving,
@@ -55,13 +54,13 @@ pub(crate) fn started<R: Machine + Net<Listener = TcpListener, Stream = TcpStrea
 /// That a server comes to this status, and tells this.
 pub(crate) fn comes_to<
     I: Read + Drop + Send + 'static,
-    R: Machine + Net<Listener = TcpListener, Stream = TcpStream>,
+    R: Runtime + Net<Listener = TcpListener, Stream = TcpStream>,
 >(rt: &R, input: I, serving: Serving, status: u8, errors: &str) -> Result<(), Fail> {
     came_to(&served(rt, input, serving), status, errors)
 }
 
 /// That a server which was started ends well, and tells this.
-pub(crate) fn ends_well<R: Machine + Net<Listener = TcpListener, Stream = TcpStream>>(
+pub(crate) fn ends_well<R: Runtime + Net<Listener = TcpListener, Stream = TcpStream>>(
     rt: &R,
     server: JoinHandle<Came>,
     errors: &str,
