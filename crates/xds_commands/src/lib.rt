@@ -22,6 +22,7 @@ pub mod watching;
 pub mod weighed;
 mod weights;
 pub mod wires;
+pub mod workers;
 
 pub use change::{Change, read_change};
 pub use commands::run;
@@ -34,3 +35,4 @@ pub use response::response_at;
 pub use served::Served;
 pub use server::{Serving, serve};
 pub use weighed::{MOST_BYTES, Weighed};
+pub use workers::Shared;

@@ -23,8 +23,8 @@ where
     R: Wait + Threads + Clock + RandomSource + AllocGlobal + Copy + Drop + Send + Sync + 'static,
 {}
 
-/// A runtime and its network. What is called with a runtime's own type, as `run` is, has the two bounds written out: a proof
-/// doesn't cover such a call by this name.
+/// A runtime and its network. What is called with a runtime's own type, as `run` is, names both bounds: a proof doesn't
+/// cover such a call by this name.
 pub trait Machine: Runtime + Net<Listener = TcpListener, Stream = TcpStream> {}
 
 impl<R: Runtime + Net<Listener = TcpListener, Stream = TcpStream>> Machine for R {}

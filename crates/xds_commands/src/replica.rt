@@ -1,17 +1,15 @@
 // One replica of the server: the threads that call it.
 use crate::ending::Ending;
 use crate::gate::NoGate;
-use crate::machine::Machine;
+use crate::machine::{Machine, Runtime};
 use crate::served::Served;
 use crate::streams::serve_streams;
-use crate::wires::{Bound, both, started};
+use crate::wires::{Bound, both};
+use crate::workers::{Shared, place, share, shares, start_worker};
 use crossbeam_channel::Receiver;
-use std::alloc::{AllocError, Global};
+use std::alloc::Global;
 use std::net::TcpListener;
 use std::sync::{Arc, Wait};
-use std::thread;
-use std::thread::Threads;
-use std::time::Clock;
 use xds_core::Event;
 use xds_exchange::{Incoming, Outgoing};
 use xds_http::{Replies, serve_on};
@@ -45,11 +43,8 @@ pub fn run_replica<R, A>(
 ) -> Result<(), Refusal>
 where
     R: Machine,
-    A: Served + Replies + Drop + Send + Sync + 'static,
-    <A as Host>::Seat: Send + 'static,
-    A::Segment: Send,
-    A::PostSeat: Send,
-    <A as Replies>::Seat: Send,
+    A: Shared + Replies<Seat: Send>,
+    <A as Host>::Seat: 'static,
 {
     let Bound {
         sockets,
@@ -76,11 +71,9 @@ fn start_exchange<R, A>(
     takes: Vec<Takes>,
 ) -> Result<(), Refusal>
 where
-    R: Wait + Threads + Copy + Drop + Send + Sync + 'static,
-    A: Served + Drop + Send + Sync + 'static,
-    A::Seat: Send + 'static,
-    A::Segment: Send,
-    A::PostSeat: Send,
+    R: Runtime,
+    A: Shared,
+    A::Seat: 'static,
 {
     let mut done = Ok(());
     for ends in sends {
@@ -102,45 +95,23 @@ fn start_serving<R, A>(
 ) -> Result<(), Refusal>
 where
     R: Machine,
-    A: Served + Replies + Drop + Send + Sync + 'static,
-    <A as Host>::Seat: Send,
-    A::Segment: Send,
-    A::PostSeat: Send,
-    <A as Replies>::Seat: Send,
+    A: Shared + Replies<Seat: Send>,
 {
     let Sockets { streams, polls } = sockets;
     let polled = start_polls(rt, node, polls);
     both(polled, start_streams(rt, alloc, node, streams, ending))
 }
 
-// What a worker thread owns of a replica: a seat of its own, and a share of the node.
-fn place<R: Wait, A: Served + Drop>(rt: &R, node: &Arc<A>) -> Result<(A::Seat, Arc<A>), Refusal> {
-    let seat = node.seat(rt)?;
-    let node = Arc::try_clone(node)?;
-    Ok((seat, node))
-}
-
 // A thread that tells another replica what changed here.
 fn start_sending<R, A>(rt: &R, alloc: Global, node: &Arc<A>, ends: Sends) -> Result<(), Refusal>
 where
-    R: Wait + Threads + Copy + Drop + Send + Sync + 'static,
-    A: Served + Drop + Send + Sync + 'static,
-    A::Seat: Send + 'static,
-    A::Segment: Send,
-    A::PostSeat: Send,
+    R: Runtime,
+    A: Shared,
+    A::Seat: 'static,
 {
-    match place(rt, node) {
-        Ok((seat, node)) => {
-            let rt = *rt;
-            started(thread::spawn(&rt, move || {
-                send_all(&rt, alloc, &*node, seat, ends);
-            }))
-        }
-        Err(refusal) => {
-            drop(ends);
-            Err(refusal)
-        }
-    }
+    start_worker(rt, place(rt, node), move |rt, (seat, node)| {
+        send_all(rt, alloc, &*node, seat, ends);
+    })
 }
 
 fn send_all<R: Wait, A: Served>(rt: &R, alloc: Global, node: &A, seat: A::Seat, ends: Sends) {
@@ -160,24 +131,13 @@ fn send_all<R: Wait, A: Served>(rt: &R, alloc: Global, node: &A, seat: A::Seat, 
 // A thread that takes what changed at another replica.
 fn start_taking<R, A>(rt: &R, alloc: Global, node: &Arc<A>, ends: Takes) -> Result<(), Refusal>
 where
-    R: Wait + Threads + Copy + Drop + Send + Sync + 'static,
-    A: Served + Drop + Send + Sync + 'static,
-    A::Seat: Send + 'static,
-    A::Segment: Send,
-    A::PostSeat: Send,
+    R: Runtime,
+    A: Shared,
+    A::Seat: 'static,
 {
-    match place(rt, node) {
-        Ok((seat, node)) => {
-            let rt = *rt;
-            started(thread::spawn(&rt, move || {
-                take_all(&rt, alloc, &*node, seat, ends);
-            }))
-        }
-        Err(refusal) => {
-            drop(ends);
-            Err(refusal)
-        }
-    }
+    start_worker(rt, place(rt, node), move |rt, (seat, node)| {
+        take_all(rt, alloc, &*node, seat, ends);
+    })
 }
 
 fn take_all<R: Wait, A: Served>(rt: &R, alloc: Global, node: &A, seat: A::Seat, ends: Takes) {
@@ -198,24 +158,11 @@ fn take_all<R: Wait, A: Served>(rt: &R, alloc: Global, node: &A, seat: A::Seat, 
 fn start_polls<R, A>(rt: &R, node: &Arc<A>, listener: TcpListener) -> Result<(), Refusal>
 where
     R: Machine,
-    A: Replies + Drop + Send + Sync + 'static,
-    A::Seat: Send,
+    A: Replies<Seat: Send> + Drop + Send + Sync + 'static,
 {
-    let node = Arc::try_clone(node)?;
-    let rt = *rt;
-    started(thread::spawn(&rt, move || {
-        let _ = serve_on(&rt, listener, node);
-    }))
-}
-
-// What a thread that takes connections owns: a share of the node, and one of the end.
-fn shares<A>(node: &Arc<A>, ending: &Arc<Ending>) -> Result<(Arc<A>, Arc<Ending>), AllocError>
-where
-    A: Drop,
-{
-    let node = Arc::try_clone(node)?;
-    let ending = Arc::try_clone(ending)?;
-    Ok((node, ending))
+    start_worker(rt, share(node), move |rt, node| {
+        let _ = serve_on(rt, listener, node);
+    })
 }
 
 // The thread that takes connections.
@@ -227,17 +174,12 @@ fn start_streams<R, A>(
     ending: &Arc<Ending>,
 ) -> Result<(), Refusal>
 where
-    R: Wait + Threads + Clock + Copy + Drop + Send + Sync + 'static,
-    A: Served + Drop + Send + Sync + 'static,
-    A::Seat: Send,
-    A::Segment: Send,
-    A::PostSeat: Send,
+    R: Runtime,
+    A: Shared,
 {
-    let (node, ending) = shares(node, ending)?;
-    let rt = *rt;
-    started(thread::spawn(&rt, move || {
-        serve_streams(rt, alloc, &listener, &node, &ending);
-    }))
+    start_worker(rt, shares(node, ending), move |rt, (node, ending)| {
+        serve_streams(*rt, alloc, &listener, &node, &ending);
+    })
 }
 
 // Makes the changes that the input says. One that the replica refuses changes nothing.

@@ -3,18 +3,15 @@ ghost use Rattle.std.specs.Prelude.{◌≡◌, ◌≤◌};
 
 use crate::ending::{End, Ending};
 use crate::input::take_input;
-use crate::machine::Machine;
+use crate::machine::{Machine, Runtime};
 use crate::replica::{Replica, run_replica};
-use crate::served::Served;
 use crate::weighed::Weighed;
-use crate::wires::started;
+use crate::workers::{Shared, share, start_worker};
 use crossbeam_channel::Sender;
 use std::alloc::Global;
 use std::io::Read;
 use std::marker::Brand;
-use std::sync::{Arc, Wait};
-use std::thread;
-use std::thread::Threads;
+use std::sync::Arc;
 use xds_core::Event;
 use xds_http::Replies;
 use xds_node::{Host, Line, Node, NodeName, Opened};
@@ -90,22 +87,14 @@ fn start_node<R, A>(
 ) -> Result<(), Refusal>
 where
     R: Machine,
-    A: Served + Replies + Drop + Send + Sync + 'static,
-    <A as Host>::Seat: Send + 'static,
-    A::Segment: Send,
-    A::PostSeat: Send,
-    <A as Replies>::Seat: Send,
+    A: Shared + Replies<Seat: Send>,
+    <A as Host>::Seat: 'static,
 {
-    let Ok(ending) = Arc::try_clone(ending) else {
-        drop(replica);
-        return Err(Refusal::OutOfMemory);
-    };
-    let rt = *rt;
-    started(thread::spawn(&rt, move || {
-        if let Err(refusal) = run_replica(&rt, alloc, &node, replica, &ending) {
-            ending.end(&rt, End::Refused(refusal));
+    start_worker(rt, share(ending), move |rt, ending| {
+        if let Err(refusal) = run_replica(rt, alloc, &node, replica, &ending) {
+            ending.end(rt, End::Refused(refusal));
         }
-    }))
+    })
 }
 
 /// Starts the thread that takes the input, which a server doesn't wait for at its end.
@@ -117,16 +106,11 @@ pub(crate) fn start_input<R, I>(
     ending: &Arc<Ending>,
 ) -> Result<(), Refusal>
 where
-    R: Wait + Threads + Copy + Drop + Send + Sync + 'static,
+    R: Runtime,
     I: Read + Drop + Send + 'static,
 {
-    let Ok(ending) = Arc::try_clone(ending) else {
-        drop(senders);
-        return Err(Refusal::OutOfMemory);
-    };
-    let rt = *rt;
-    started(thread::spawn(&rt, move || {
+    start_worker(rt, share(ending), move |rt, ending| {
         let mut input = input;
-        take_input(&rt, alloc, &mut input, senders.as_slice(), &ending);
-    }))
+        take_input(rt, alloc, &mut input, senders.as_slice(), &ending);
+    })
 }

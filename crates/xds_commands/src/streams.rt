@@ -2,6 +2,7 @@
 use crate::ending::Ending;
 use crate::gate::NoGate;
 use crate::served::Served;
+use crate::workers::{Shared, shares, start_worker};
 use std::alloc::Global;
 use std::net::{Shutdown, TcpListener, TcpStream};
 use std::sync::{Arc, Wait};
@@ -24,10 +25,7 @@ pub fn serve_streams<R, A>(
 )
 where
     R: Wait + Threads + Clock + Copy + Drop + Send + Sync + 'static,
-    A: Served + Drop + Send + Sync + 'static,
-    A::Seat: Send,
-    A::Segment: Send,
-    A::PostSeat: Send,
+    A: Shared,
 {
     for accepted in listener.incoming() {
         match accepted {
@@ -41,17 +39,11 @@ where
 fn start_stream<R, A>(rt: R, alloc: Global, socket: TcpStream, node: &Arc<A>, ending: &Arc<Ending>)
 where
     R: Wait + Threads + Copy + Drop + Send + Sync + 'static,
-    A: Served + Drop + Send + Sync + 'static,
-    A::Seat: Send,
-    A::Segment: Send,
-    A::PostSeat: Send,
+    A: Shared,
 {
-    let (Ok(node), Ok(ending)) = (Arc::try_clone(node), Arc::try_clone(ending)) else {
-        return;
-    };
-    let _ = thread::spawn(&rt, move || {
-        serve_stream(&rt, alloc, &socket, &*node);
-        ending.stream_ended(&rt);
+    let _ = start_worker(&rt, shares(node, ending), move |rt, (node, ending)| {
+        serve_stream(rt, alloc, &socket, &*node);
+        ending.stream_ended(rt);
     });
 }
 
@@ -59,10 +51,7 @@ where
 fn serve_stream<R, A>(rt: &R, alloc: Global, socket: &TcpStream, node: &A)
 where
     R: Wait + Threads + Sync,
-    A: Served + Send + Sync,
-    A::Seat: Send,
-    A::Segment: Send,
-    A::PostSeat: Send,
+    A: Shared,
 {
     let (Ok(mut reading), Ok(mut writing)) = (node.seat(rt), node.seat(rt)) else {
         return;

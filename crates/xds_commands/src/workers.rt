@@ -1,0 +1,71 @@
+// The threads that a server starts: each owns what it works on.
+use crate::served::Served;
+use crate::wires::started;
+use std::sync::{Arc, Wait};
+use std::thread;
+use std::thread::Threads;
+use xds_node::Host;
+use xds_resource::Refusal;
+use xds_rest::Posts;
+
+/// A replica whose calls may come from several threads.
+pub trait Shared: Served
+    + Host<Seat: Send, Segment: Send>
+    + Posts<PostSeat: Send>
+    + Drop
+    + Send
+    + Sync
+    + 'static {}
+
+impl<A> Shared for A
+where
+    A: Served
+        + Host<Seat: Send, Segment: Send>
+        + Posts<PostSeat: Send>
+        + Drop
+        + Send
+        + Sync
+        + 'static,
+{}
+
+/// Starts a thread that does this work, with what it owns. `OutOfMemory` where there is no thread.
+pub(crate) fn start_worker<R, S, W>(
+    rt: &R,
+    owned: Result<S, Refusal>,
+    work: W,
+) -> Result<(), Refusal>
+where
+    R: Threads + Copy + Drop + Send + Sync + 'static,
+    S: Drop + Send + 'static,
+    W: FnOnce(&R, S) + Drop + Send + 'static,
+    requires { W.IsAlwaysCallable work }
+{
+    let owned = owned?;
+    let rt = *rt;
+    started(thread::spawn(&rt, move || work(&rt, owned)))
+}
+
+/// A share of something.
+pub(crate) fn share<T: Drop>(it: &Arc<T>) -> Result<Arc<T>, Refusal> {
+    Ok(Arc::try_clone(it)?)
+}
+
+/// A share of one thing, and one of another.
+pub(crate) fn shares<T: Drop, U: Drop>(
+    one: &Arc<T>,
+    other: &Arc<U>,
+) -> Result<(Arc<T>, Arc<U>), Refusal> {
+    let one = Arc::try_clone(one)?;
+    let other = Arc::try_clone(other)?;
+    Ok((one, other))
+}
+
+/// A seat at a node, and a share of the node.
+pub(crate) fn place<R: Wait, A: Served + Drop>(
+    rt: &R,
+    node: &Arc<A>,
+) -> Result<(A::Seat, Arc<A>), Refusal> {
+    let seat = node.seat(rt)?;
+    let node = Arc::try_clone(node)?;
+    Ok((seat, node))
+}
