@@ -1,5 +1,5 @@
 // From text to JSON in order, in one pass over the tokens.
-ghost use Rattle.std.specs.Prelude.{◌≡◌, ◌≤◌, length, Some, IfSome};
+ghost use Rattle.std.specs.Prelude.{◌≡◌, ◌<◌, ◌≤◌, length, Some, IfSome};
 ghost use Rattle.json.specs.Tree.{depth as nesting, items_depth, members_depth};
 ghost use Rattle.json.specs.Value.{value_view, items_view, members_view};
 ghost use Rattle.serde_json.specs.Read.{read as reading, max_depth};
