@@ -2,20 +2,20 @@
 // on. Nothing else is looked at.
 ghost use Rattle.std.specs.Prelude.{◌≡◌, ℕ, List, false, Some, map, string_bytes, is_some, option_map, IfOk, IfErr, OnOk};
 ghost use Rattle.std.specs.FinMap as finmap;
-ghost use Rattle.std.specs.FinSet as set;
 ghost use Rattle.xds_resource.specs.declared.refusal.Refusal.TheVariants.{OutOfMemory};
 ghost use Rattle.xds_resource.specs.Names.{put_some, put_all};
 ghost use Rattle.xds_resource.specs.Writes.{text_cmp};
 ghost use Rattle.xds_interest.specs.Interests.{reaches};
 ghost use Rattle.xds_ledger.specs.Changes as specs;
 ghost use Rattle.xds_ledger.specs.Changes.{believed_now, left_touched, changes_left, changes_unsure, change_as};
-ghost use Rattle.xds_ledger.specs.Believing.{was_touched, beliefs_taken, AreInOrder, versions_of, beliefs_resumed};
+ghost use Rattle.xds_ledger.specs.Believing.{was_touched, beliefs_after};
 ghost use Rattle.xds_ledger.specs.Owed as owed;
 ghost use Rattle.xds_ledger.specs.Parts as parts;
 
 use crate::beliefs::{made_unsure, once_told};
 use crate::believed::Beliefs;
 use crate::entry::{Due, Entry};
+use crate::names::Names;
 use crate::sent::Sent;
 use crate::version::Version;
 use std::alloc::Global;
@@ -153,19 +153,21 @@ fn changes_resumed(
 /// would have.
 pub fn changes_after<T: ResourceType>(
     alloc: Global,
-    interest: &Interest<T>,
-    touched: &Touched,
-    mentioned: Iter<'_, String>,
-    versions: &[(&str, &str)],
+    names: Names<'_, T>,
     beliefs: &Beliefs,
     changes: NameMap<Option<Entry>>,
 ) -> Result<NameMap<Option<Entry>>, Refusal>
-    requires some { touched.now.all ≡ false }
-    requires sorted { AreInOrder (map (λ p. (p.0.now, p.1.now)) versions.now) }
+    requires some { names.touched.all ≡ false }
     ensures ok { (before : owed.Beliefs) → ((name : List ℕ) → finmap.get before name ≡ believed_now changes beliefs.now name)
-        → IfOk result (λ m. (name : List ℕ) → finmap.get (beliefs_resumed (versions_of (map (λ p. (p.0.now, p.1.now)) versions.now)) (beliefs_taken interest.now touched.now (set.from_list (map string_bytes mentioned.entry)) before)) name ≡ believed_now m beliefs.now name) }
+        → IfOk result (λ m. (name : List ℕ) → finmap.get (beliefs_after names.entry before) name ≡ believed_now m beliefs.now name) }
     ensures err { IfErr result (λ e. e ≡ OutOfMemory) }
 {
+    let Names {
+        interest,
+        touched,
+        mentioned,
+        versions,
+    } = names;
     let left = changes_left(alloc, interest, touched.names(), beliefs, changes)?;
     let unsure = changes_unsure(alloc, interest, touched, mentioned, left)?;
     let next = changes_resumed(alloc, versions, unsure)?;
