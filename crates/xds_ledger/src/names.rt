@@ -31,10 +31,10 @@ impl<'a, T: ResourceType> Model for Names<'a, T> {
     ghost coded = { names_code };
 
     ghost view = { λ n. record {
-        interest = n.interest.now;
-        touched = n.touched.now;
-        mentioned = set.from_list (map string_bytes n.mentioned);
-        versions = versions_of (map (λ p. (p.0.now, p.1.now)) n.versions.now);
+      interest = n.interest.now;
+      touched = n.touched.now;
+      mentioned = set.from_list (map string_bytes n.mentioned);
+      versions = versions_of (map (λ p. (p.0.now, p.1.now)) n.versions.now);
     } };
 
     ghost invariant = { λ n. AreInOrder (map (λ p. (p.0.now, p.1.now)) n.versions.now) };
@@ -48,10 +48,10 @@ impl<'a, T: ResourceType> Names<'a, T> {
         mentioned: Iter<'a, String>,
     ) -> Names<'a, T>
         ensures { result ≡ record {
-            interest = interest.now;
-            touched = touched.now;
-            mentioned = set.from_list (map string_bytes mentioned.entry);
-            versions = finmap.empty;
+          interest = interest.now;
+          touched = touched.now;
+          mentioned = set.from_list (map string_bytes mentioned.entry);
+          versions = finmap.empty;
         } }
     {
         Names {

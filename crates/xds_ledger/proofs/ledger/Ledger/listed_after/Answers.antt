@@ -20,8 +20,8 @@ returns-clause-ok g c =
     let mentioned = map string_bytes n.mentioned in
     let steps : c.list_changes.result ≡ listed_after now.account accepting (is_whole v t) n.touched.now.all touched mentioned firsts now.listed =
     made_in_steps now.account now.listed c.in_ok-start.start c.in_ok-named.named c.in_ok-said.said c.in_ok-told.told c.in_ok-held.held c.list_changes.result accepting c.accepts-accepts.result
-        (is_whole v t) n.touched.now.all c.all.result c.changes_all-all.result touched (map string_bytes c.in_ok-clone.field-0) firsts
-        (c.in_ok-start.ensures.ok ∙ ap (λ (b : Books). b.listed) c.self.view_is) c.in_ok-named.ensures.ok c.in_ok-said.ensures.ok c.accepts-accepts.ensures c.in_ok-told.ensures.ok c.changes_all-all.ensures c.in_ok-held.ensures.ok c.all.ensures c.list_changes.ensures
+    (is_whole v t) n.touched.now.all c.all.result c.changes_all-all.result touched (map string_bytes c.in_ok-clone.field-0) firsts
+    (c.in_ok-start.ensures.ok ∙ ap (λ (b : Books). b.listed) c.self.view_is) c.in_ok-named.ensures.ok c.in_ok-said.ensures.ok c.accepts-accepts.ensures c.in_ok-told.ensures.ok c.changes_all-all.ensures c.in_ok-held.ensures.ok c.all.ensures c.list_changes.ensures
     ∙ (λ i. listed_after now.account accepting (is_whole v t) n.touched.now.all touched (map string_bytes (c.in_ok-clone.ensures.cases i)) firsts now.listed) in
     subst (λ (x : Names). ListsNames v t now nonce rejects x c.list_changes.result) c.names.view_is
     (list_has_names v t now nonce rejects n.interest.now n.touched.now touched mentioned firsts pairs c.list_changes.result c.names.invariant (firsts_of (λ p. p.0.now) (λ p. p.1.now) n.versions.now) c.names-2.ensures.names steps)
