@@ -40,7 +40,8 @@ fn put_told(
     name: &str,
     due: &Due,
 ) -> Result<(), Refusal>
-    ensures ok { OnOk result (next.new ≡ put_some next.old name.now (told_unless_touched (was_touched sent.now name.now) due.now)) }
+    ensures ok { OnOk result (next.new ≡ put_some next.old name.now
+        (told_unless_touched (was_touched sent.now name.now) due.now)) }
     ensures err { IfErr result (λ e. e ≡ OutOfMemory) }
 {
     let entry = once_told(alloc, sent.was_touched(name), due)?;
@@ -49,7 +50,8 @@ fn put_told(
 
 // What the names of an accepted response leave.
 fn told_by(alloc: Global, sent: &Sent) -> Result<Beliefs, Refusal>
-    ensures ok { IfOk result (λ m. m ≡ put_all (λ name due. told_unless_touched (was_touched sent.now name) due) finmap.empty (finmap.entries sent.now.offer)) }
+    ensures ok { IfOk result (λ m. m ≡ put_all (λ name due. told_unless_touched (was_touched sent.now name) due)
+        finmap.empty (finmap.entries sent.now.offer)) }
     ensures err { IfErr result (λ e. e ≡ OutOfMemory) }
 {
     let mut next = Beliefs::new(alloc);
@@ -104,7 +106,8 @@ fn put_left<T: ResourceType>(
     name: &str,
     entry: &Entry,
 ) -> Result<(), Refusal>
-    ensures ok { OnOk result (next.new ≡ put_some next.old name.now (left_by interest.now touched.now name.now entry.now)) }
+    ensures ok { OnOk result (next.new ≡ put_some next.old name.now
+        (left_by interest.now touched.now name.now entry.now)) }
     ensures err { IfErr result (λ e. e ≡ OutOfMemory) }
 {
     if !touched.touches(name) {
@@ -123,7 +126,8 @@ fn all_left<T: ResourceType>(
     touched: &Touched,
     beliefs: &Beliefs,
 ) -> Result<Beliefs, Refusal>
-    ensures ok { IfOk result (λ m. m ≡ put_all (left_by interest.now touched.now) finmap.empty (finmap.entries beliefs.now)) }
+    ensures ok { IfOk result (λ m.
+        m ≡ put_all (left_by interest.now touched.now) finmap.empty (finmap.entries beliefs.now)) }
     ensures err { IfErr result (λ e. e ≡ OutOfMemory) }
 {
     let mut next = Beliefs::new(alloc);

@@ -168,9 +168,10 @@ impl<T: ResourceType, V: Variant> Ledger<T, V> {
         self.account.send(alloc, offer, number);
     }
 
-    /// Takes a request with this nonce: it settles the response that it answers, and then its names are taken. Refused only
-    /// by `OutOfMemory`, and then nothing is taken. It looks at the names that the request and the response that it answers
-    /// speak of, and at all that are believed held only where every name is touched or a whole response is accepted.
+    /// Takes a request with this nonce: it settles the response that it answers, and then its names are taken. Refused
+    /// only by `OutOfMemory`, and then nothing is taken. It looks at the names that the request and the response that
+    /// it answers speak of, and at all that are believed held only where every name is touched or a whole response is
+    /// accepted.
     pub fn take(
         &mut self,
         alloc: Global,

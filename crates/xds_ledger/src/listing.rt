@@ -82,8 +82,8 @@ fn list_changes(listed: Listed, all: bool) -> Listed
 }
 
 impl<T: ResourceType, V: Variant> Ledger<T, V> {
-    // The list once a request with this nonce, which rejects or doesn't, is taken: all that was listed, and all names of
-    // which the request may change what is owed.
+    // The list once a request with this nonce, which rejects or doesn't, is taken: all that was listed, and all names
+    // of which the request may change what is owed.
     pub(crate) fn listed_after(
         &self,
         alloc: Global,

@@ -1,9 +1,9 @@
-// How an account takes a request. What is believed changes in place, name by name of those that the request and the response
-// that it answers speak of; it is made anew where a request touches every name, or a response that is the whole was accepted.
-ghost use Rattle.std.specs.Prelude.{◌≡◌, ◌&&◌, not, ℕ, List, false, IfOk, IfErr, IfSome, OnOk, OnErr};
-ghost use Rattle.std.specs.FinMap as finmap;
+// How an account takes a request. What is believed changes in place, name by name of those that the request and the
+// response that it answers speak of; it is made anew where a request touches every name, or a response that is the whole
+// was accepted.
+ghost use Rattle.std.specs.Prelude.{◌≡◌, ◌&&◌, not, false, IfOk, IfErr, IfSome, OnOk, OnErr};
 ghost use Rattle.xds_resource.specs.declared.refusal.Refusal.TheVariants.{OutOfMemory};
-ghost use Rattle.xds_ledger.specs.Changes.{believed_now, changes_answered};
+ghost use Rattle.xds_ledger.specs.Changes.{Lead, changes_answered};
 ghost use Rattle.xds_ledger.specs.Ledgers.{answered, beliefs_accepted, beliefs_after, noted, forgotten, settled, taken};
 ghost use Rattle.xds_ledger.specs.Owed as owed;
 ghost use Rattle.xds_ledger.specs.Variants.{is_whole};
@@ -29,7 +29,7 @@ fn change_beliefs<T: ResourceType>(
     start: NameMap<Option<Entry>>,
 ) -> Result<(), Refusal>
     requires some { names.touched.all ≡ false }
-    ensures ok { (before : owed.Beliefs) → ((name : List ℕ) → finmap.get before name ≡ believed_now start beliefs.old name)
+    ensures ok { (before : owed.Beliefs) → Lead start beliefs.old before
         → OnOk result (beliefs.new ≡ beliefs_after names.entry before) }
     ensures err { OnErr result (beliefs.new ≡ beliefs.old) }
     ensures refused { IfErr result (λ e. e ≡ OutOfMemory) }
@@ -40,8 +40,9 @@ fn change_beliefs<T: ResourceType>(
 
 impl<T: ResourceType, V: Variant> Account<T, V> {
     /// Takes a request: it settles the response that it answers, and then its names are taken. Refused only by
-    /// `OutOfMemory`, and then nothing is taken. It looks at the names that the request and the response that it answers
-    /// speak of, and at all that are believed held only where every name is touched or a whole response is accepted.
+    /// `OutOfMemory`, and then nothing is taken. It looks at the names that the request and the response that it
+    /// answers speak of, and at all that are believed held only where every name is touched or a whole response is
+    /// accepted.
     pub fn take(
         &mut self,
         alloc: Global,
