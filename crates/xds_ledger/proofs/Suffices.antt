@@ -26,9 +26,9 @@ use Rattle.xds_ledger.proofs.Fitting.{none_at_first, unowed, same_owed}
 use Rattle.xds_ledger.proofs.Later.{past_more}
 use Rattle.xds_ledger.proofs.BeliefsByName.{accepted_by_name, taken_by_name}
 use Rattle.xds_ledger.proofs.Made.{resumed_by_name}
-use Rattle.xds_ledger.specs.Ledgers.{Sent, Account, was_touched, believed_accepted, believed_touched, beliefs_taken, is_refused, answers, answered, settled, touch, resume, versions_of}
+use Rattle.xds_ledger.specs.Ledgers.{Sent, Account, was_touched, believed_accepted, believed_touched, beliefs_taken, is_refused, answers, answered, Names, settled, touch, resume, taken, versions_of}
 use Rattle.xds_ledger.specs.Laws.{RequestKeepsFitting}
-use Rattle.xds_ledger.specs.Lists.{Books, Fits, FitsNext, accepts, StaysPresent, IsPassedOver, ListsRequest, with_names, with_offer, with_all, with_changes, listed_after}
+use Rattle.xds_ledger.specs.Lists.{Books, Fits, FitsNext, accepts, StaysPresent, IsPassedOver, ListsRequest, ListsNames, with_names, with_offer, with_all, with_changes, listed_after}
 
 -- ---- what is listed
 
@@ -245,20 +245,12 @@ module _ (v : VariantName) (t : TypeName) (a : Account) (nonce : List ℕ) (reje
         below : (x y z : ℕ) → x ≤ y → y ≤ z → x ≤ z
         below x y z first second = omega arith
 
--- the same of books that the calls leave
-pub taken_books_fit : (v : VariantName) (t : TypeName) (old new : Books) (nonce : List ℕ) (rejects : Bool) (s : Selection) (touched : Touch) (names mentioned firsts : List (List ℕ)) (pairs : List (List ℕ × List ℕ)) (wide : Listed)
-    → T (finmap.is_sorted text_cmp pairs) → firsts ≡ map (λ p. p.0) pairs → set.from_list names ≡ touched.names
-    → wide ≡ listed_after old.account (accepts old.account nonce rejects) (is_whole v t) touched.all names mentioned firsts old.listed
-    → new.account ≡ resume (touch (settled v t old.account nonce rejects) s touched (set.from_list mentioned)) (versions_of pairs) → new.listed ≡ wide → FitsNext v t touched old new
-taken_books_fit v t old new nonce rejects s touched names mentioned firsts pairs wide sorted says are made left stored from next h fits stays =
-    let acc : Bool = accepts old.account nonce rejects in
-    let list : Listed = listed_after old.account acc (is_whole v t) touched.all names mentioned (map (λ p. p.0) pairs) old.listed in
-    let is : list ≡ new.listed = sym (stored ∙ made ∙ ap (λ n. listed_after old.account acc (is_whole v t) touched.all names mentioned n old.listed) says) in
-    subst (λ x. lists.Fits v t next h new.account.beliefs x) is
-    (subst (λ (x : Account). lists.Fits v t next h x.beliefs list) (sym left)
-    (taken_list_fits v t old.account nonce rejects s touched (set.from_list mentioned) (versions_of pairs) from next h old.listed list
-    (after_is_wider old.account acc (is_whole v t) touched names mentioned pairs old.listed)
-    (after_lists_request old.account acc (is_whole v t) touched names mentioned pairs old.listed sorted are) fits stays))
+-- the same of books
+pub taken_books_fit : (v : VariantName) (t : TypeName) (old new : Books) (nonce : List ℕ) (rejects : Bool) (names : Names) → ListsNames v t old nonce rejects names new.listed
+    → new.account ≡ taken (settled v t old.account nonce rejects) names → FitsNext v t names.touched old new
+taken_books_fit v t old new nonce rejects names lists_it left from next h fits stays =
+    subst (λ (x : Account). lists.Fits v t next h x.beliefs new.listed) (sym left)
+    (taken_list_fits v t old.account nonce rejects names.interest names.touched names.mentioned names.versions from next h old.listed new.listed lists_it.wider lists_it.request fits stays)
 
 pub request_keeps_fitting : RequestKeepsFitting
 request_keeps_fitting v t old wide nonce rejects s touched mentioned versions wider lists_it from next h fits stays =
@@ -302,3 +294,17 @@ made_in_steps a l start named told_of told held made acc accepting whole every t
 pub firsts_of : {X : Type 0} (f g : X → List ℕ) (xs : List X) → map f xs ≡ map (λ (p : List ℕ × List ℕ). p.0) (map (λ x. (f x, g x)) xs)
 firsts_of f g [] = refl
 firsts_of f g (x ∷ xs) = ap (λ ns. f x ∷ ns) (firsts_of f g xs)
+
+-- the list that is made has what was listed, and all of which the request may change what is owed
+pub list_has_names : (v : VariantName) (t : TypeName) (b : Books) (nonce : List ℕ) (rejects : Bool) (s : Selection) (touched : Touch) (names mentioned firsts : List (List ℕ)) (pairs : List (List ℕ × List ℕ)) (wide : Listed)
+    → T (finmap.is_sorted text_cmp pairs) → firsts ≡ map (λ p. p.0) pairs → set.from_list names ≡ touched.names
+    → wide ≡ listed_after b.account (accepts b.account nonce rejects) (is_whole v t) touched.all names mentioned firsts b.listed
+    → ListsNames v t b nonce rejects (record { interest = s; touched = touched; mentioned = set.from_list mentioned; versions = versions_of pairs }) wide
+list_has_names v t b nonce rejects s touched names mentioned firsts pairs wide sorted says are made =
+    let acc : Bool = accepts b.account nonce rejects in
+    let list : Listed = listed_after b.account acc (is_whole v t) touched.all names mentioned (map (λ p. p.0) pairs) b.listed in
+    let is : list ≡ wide = sym (made ∙ ap (λ n. listed_after b.account acc (is_whole v t) touched.all names mentioned n b.listed) says) in
+    record {
+      wider = subst (λ l. IsWider b.listed l) is (after_is_wider b.account acc (is_whole v t) touched names mentioned pairs b.listed);
+      request = subst (λ l. ListsRequest b.account acc (is_whole v t) touched (set.from_list mentioned) (versions_of pairs) l) is (after_lists_request b.account acc (is_whole v t) touched names mentioned pairs b.listed sorted are);
+    }

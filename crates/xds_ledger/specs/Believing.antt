@@ -18,7 +18,7 @@ use Rattle.std.specs.FinMap.Entries.{is_sorted}
 use Rattle.std.specs.FinSet as set
 use Rattle.xds_resource.specs.Writes.{text_cmp}
 use Rattle.xds_resource.specs.Names.{tabulate}
-use Rattle.xds_interest.specs.Interests.{Selection, reaches}
+use Rattle.xds_interest.specs.Interests.{Selection, selection_code, reaches}
 use Rattle.std.specs.Coded.{Coded, code_by, coded×, coded_ℕ, coded_list}
 use Rattle.xds_interest.specs.Touches.{Touch, touch_code, touches}
 use Rattle.xds_ledger.specs.declared.entry.Entry.{Entry}
@@ -94,3 +94,20 @@ versions_of pairs = finmap.from_sorted pairs
 abbrev pub beliefs_resumed : finmap.FinMap text_cmp (List ℕ) → Beliefs → Beliefs
 beliefs_resumed versions beliefs =
     tabulate (λ name. option_or (option_map Told (finmap.get versions name)) (finmap.get beliefs name)) (finmap.keys versions ++ finmap.keys beliefs)
+
+-- What a request says of names: the client's interest then, what it touches and mentions, and the versions that it resumes from.
+pub record Names : Type 0 where
+  pub interest : Selection
+  pub touched : Touch
+  pub mentioned : set.FinSet text_cmp
+  pub versions : finmap.FinMap text_cmp (List ℕ)
+
+abbrev pub names_code : Coded Names
+names_code =
+    code_by (Selection × (Touch × (set.FinSet text_cmp × finmap.FinMap text_cmp (List ℕ))))
+    (coded× selection_code (coded× touch_code (coded× (set.code (coded_list coded_ℕ)) (finmap.code (coded_list coded_ℕ) (coded_list coded_ℕ)))))
+    (λ n. (n.interest, (n.touched, (n.mentioned, n.versions)))) (λ p. record { interest = p.0; touched = p.1.0; mentioned = p.1.1.0; versions = p.1.1.1 }) (λ _. refl)
+
+-- what is believed once a request's names are taken
+abbrev pub beliefs_after : Names → Beliefs → Beliefs
+beliefs_after names beliefs = beliefs_resumed names.versions (beliefs_taken names.interest names.touched names.mentioned beliefs)

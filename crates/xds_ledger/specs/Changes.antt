@@ -12,7 +12,7 @@
 --     removed_all        without each of some names
 --     is_new             whether a change makes an entry where there is none
 --     new_names          the names for which the changes make an entry where there is none
-use Rattle.std.specs.Prelude.{ℕ, List, [], ◌∷◌, Bool, true, false, ◌&&◌, Option, Some, None, is_some, unwrap_or, option_map, if◌then◌else◌}
+use Rattle.std.specs.Prelude.{◌≡◌, ℕ, List, [], ◌∷◌, Bool, true, false, ◌&&◌, Option, Some, None, is_some, unwrap_or, option_map, if◌then◌else◌}
 use Rattle.std.specs.List.{filter}
 use Rattle.std.specs.FinMap as finmap
 use Rattle.xds_resource.specs.Writes.{text_cmp}
@@ -32,6 +32,10 @@ Changes = finmap.FinMap text_cmp (Option Entry)
 -- what is believed of a name once the changes are made
 abbrev pub believed_now : Changes → Beliefs → List ℕ → Option Entry
 believed_now c b name = unwrap_or (finmap.get c name) (finmap.get b name)
+
+-- the changes lead from what is believed to what is believed after
+abbrev pub Lead : Changes → Beliefs → Beliefs → Type 0
+Lead c b after = (name : List ℕ) → finmap.get after name ≡ believed_now c b name
 
 -- by an accepted response that isn't the whole: of each name of which it speaks
 abbrev pub changes_told : Sent → Changes

@@ -28,7 +28,7 @@ use Rattle.xds_catalogue.specs.Holdings.{Entries}
 use Rattle.xds_ledger.specs.declared.variant.VariantName.{VariantName}
 use Rattle.xds_ledger.specs.declared.entry.Entry.{Entry}
 use Rattle.xds_ledger.specs.declared.entry.Due.{Due}
-pub use Rattle.xds_ledger.specs.Believing.{Sent, sent_code, touched_since, last_touch_forgotten, was_touched, once_told, believed_accepted, beliefs_accepted, believed_touched, believed_taken, beliefs_taken, AreInOrder, versions_of, beliefs_resumed}
+pub use Rattle.xds_ledger.specs.Believing.{Sent, sent_code, touched_since, last_touch_forgotten, was_touched, once_told, believed_accepted, beliefs_accepted, believed_touched, believed_taken, beliefs_taken, AreInOrder, versions_of, beliefs_resumed, Names, beliefs_after}
 use Rattle.xds_ledger.specs.Variants.{is_whole}
 use Rattle.xds_ledger.specs.Owed.{entry_code, something_owed}
 use Rattle.xds_ledger.specs.Offers.{Offer, due_code, offer, same_offer}
@@ -125,3 +125,7 @@ touch a s touched mentioned = record (noted a touched) { beliefs = beliefs_taken
 
 abbrev pub resume : Account → finmap.FinMap text_cmp (List ℕ) → Account
 resume a versions = record a { beliefs = beliefs_resumed versions a.beliefs }
+
+-- once all that a request says of names is taken
+abbrev pub taken : Account → Names → Account
+taken a names = resume (touch a names.interest names.touched names.mentioned) names.versions

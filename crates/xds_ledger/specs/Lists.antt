@@ -33,7 +33,8 @@ use Rattle.xds_ledger.specs.declared.variant.VariantName.{VariantName}
 use Rattle.xds_ledger.specs.Owed.{present}
 use Rattle.xds_ledger.specs.Listed as lists
 use Rattle.xds_ledger.specs.Listed.{Listed, listed_code, unlisted, is_listed, IsPast, IsWider}
-use Rattle.xds_ledger.specs.Ledgers.{Account, account_code, untold, answers}
+use Rattle.xds_ledger.specs.Variants.{is_whole}
+use Rattle.xds_ledger.specs.Ledgers.{Account, account_code, Names, untold, answers}
 use Rattle.xds_ledger.specs.Sessions.{Session, session_code, unopened}
 
 -- an account, with the list of what may be owed
@@ -79,6 +80,11 @@ pub record IsPassedOver (a : Account) (accepting whole : Bool) (touched : Touch)
 pub record ListsRequest (a : Account) (accepting whole : Bool) (touched : Touch) (mentioned : set.FinSet text_cmp) (versions : finmap.FinMap text_cmp (List ℕ)) (l : Listed) : Type 0 where
   pub mark : touched.all ≡ true → l.mark ≡ 0
   pub others : (name : List ℕ) → is_listed l name ≡ false → IsPassedOver a accepting whole touched mentioned versions name
+
+-- What is listed once a request with this nonce is taken: what was, and all of which the request may change what is owed.
+pub record ListsNames (v : VariantName) (t : TypeName) (b : Books) (nonce : List ℕ) (rejects : Bool) (names : Names) (l : Listed) : Type 0 where
+  pub wider : IsWider b.listed l
+  pub request : ListsRequest b.account (accepts b.account nonce rejects) (is_whole v t) names.touched names.mentioned names.versions l
 
 -- What a request that is taken leaves: wherever the list sufficed, it suffices for each interest that leaves the untouched names alone.
 abbrev pub FitsNext : VariantName → TypeName → Touch → Books → Books → Type 0

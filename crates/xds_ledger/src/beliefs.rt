@@ -6,12 +6,13 @@ ghost use Rattle.std.specs.FinSet as set;
 ghost use Rattle.xds_resource.specs.declared.refusal.Refusal.TheVariants.{OutOfMemory};
 ghost use Rattle.xds_resource.specs.Writes.{text_cmp};
 ghost use Rattle.xds_resource.specs.Names.{put_all, put_some};
-ghost use Rattle.xds_ledger.specs.Believing.{was_touched, beliefs_accepted, beliefs_taken, AreInOrder, versions_of, beliefs_resumed};
+ghost use Rattle.xds_ledger.specs.Believing.{was_touched, beliefs_accepted, beliefs_taken, AreInOrder, versions_of, beliefs_resumed, beliefs_after};
 ghost use Rattle.xds_ledger.specs.Parts.{told_unless_touched, kept_beside, left_by, made_unsure};
 
 use crate::believed::Beliefs;
 use crate::copying::put_entry;
 use crate::entry::{Due, Entry};
+use crate::names::Names;
 use crate::sent::Sent;
 use crate::version::Version;
 use std::alloc::Global;
@@ -39,7 +40,8 @@ fn put_told(
     name: &str,
     due: &Due,
 ) -> Result<(), Refusal>
-    ensures ok { OnOk result (next.new ≡ put_some next.old name.now (told_unless_touched (was_touched sent.now name.now) due.now)) }
+    ensures ok { OnOk result (next.new ≡ put_some next.old name.now
+        (told_unless_touched (was_touched sent.now name.now) due.now)) }
     ensures err { IfErr result (λ e. e ≡ OutOfMemory) }
 {
     let entry = once_told(alloc, sent.was_touched(name), due)?;
@@ -48,7 +50,8 @@ fn put_told(
 
 // What the names of an accepted response leave.
 fn told_by(alloc: Global, sent: &Sent) -> Result<Beliefs, Refusal>
-    ensures ok { IfOk result (λ m. m ≡ put_all (λ name due. told_unless_touched (was_touched sent.now name) due) finmap.empty (finmap.entries sent.now.offer)) }
+    ensures ok { IfOk result (λ m. m ≡ put_all (λ name due. told_unless_touched (was_touched sent.now name) due)
+        finmap.empty (finmap.entries sent.now.offer)) }
     ensures err { IfErr result (λ e. e ≡ OutOfMemory) }
 {
     let mut next = Beliefs::new(alloc);
@@ -103,7 +106,8 @@ fn put_left<T: ResourceType>(
     name: &str,
     entry: &Entry,
 ) -> Result<(), Refusal>
-    ensures ok { OnOk result (next.new ≡ put_some next.old name.now (left_by interest.now touched.now name.now entry.now)) }
+    ensures ok { OnOk result (next.new ≡ put_some next.old name.now
+        (left_by interest.now touched.now name.now entry.now)) }
     ensures err { IfErr result (λ e. e ≡ OutOfMemory) }
 {
     if !touched.touches(name) {
@@ -122,7 +126,8 @@ fn all_left<T: ResourceType>(
     touched: &Touched,
     beliefs: &Beliefs,
 ) -> Result<Beliefs, Refusal>
-    ensures ok { IfOk result (λ m. m ≡ put_all (left_by interest.now touched.now) finmap.empty (finmap.entries beliefs.now)) }
+    ensures ok { IfOk result (λ m.
+        m ≡ put_all (left_by interest.now touched.now) finmap.empty (finmap.entries beliefs.now)) }
     ensures err { IfErr result (λ e. e ≡ OutOfMemory) }
 {
     let mut next = Beliefs::new(alloc);
@@ -155,7 +160,8 @@ fn taken<T: ResourceType>(
     mentioned: Iter<'_, String>,
     beliefs: &Beliefs,
 ) -> Result<Beliefs, Refusal>
-    ensures ok { IfOk result (λ m. m ≡ beliefs_taken interest.now touched.now (set.from_list (map string_bytes mentioned.entry)) beliefs.now) }
+    ensures ok { IfOk result (λ m.
+        m ≡ beliefs_taken interest.now touched.now (set.from_list (map string_bytes mentioned.entry)) beliefs.now) }
     ensures err { IfErr result (λ e. e ≡ OutOfMemory) }
 {
     let mut next = all_left(alloc, interest, touched, beliefs)?;
@@ -168,7 +174,8 @@ fn taken<T: ResourceType>(
 // After a client said which versions it holds, in ascending order of names.
 fn resumed(alloc: Global, versions: &[(&str, &str)], beliefs: Beliefs) -> Result<Beliefs, Refusal>
     requires sorted { AreInOrder (map (λ p. (p.0.now, p.1.now)) versions.now) }
-    ensures ok { IfOk result (λ m. m ≡ beliefs_resumed (versions_of (map (λ p. (p.0.now, p.1.now)) versions.now)) beliefs) }
+    ensures ok { IfOk result (λ m.
+        m ≡ beliefs_resumed (versions_of (map (λ p. (p.0.now, p.1.now)) versions.now)) beliefs) }
     ensures err { IfErr result (λ e. e ≡ OutOfMemory) }
 {
     let mut next = beliefs;
@@ -182,16 +189,18 @@ fn resumed(alloc: Global, versions: &[(&str, &str)], beliefs: Beliefs) -> Result
 /// After a request, from what was believed once it settled what it answers.
 pub fn beliefs_after<T: ResourceType>(
     alloc: Global,
-    interest: &Interest<T>,
-    touched: &Touched,
-    mentioned: Iter<'_, String>,
-    versions: &[(&str, &str)],
+    names: Names<'_, T>,
     beliefs: &Beliefs,
 ) -> Result<Beliefs, Refusal>
-    requires sorted { AreInOrder (map (λ p. (p.0.now, p.1.now)) versions.now) }
-    ensures ok { IfOk result (λ m. m ≡ beliefs_resumed (versions_of (map (λ p. (p.0.now, p.1.now)) versions.now)) (beliefs_taken interest.now touched.now (set.from_list (map string_bytes mentioned.entry)) beliefs.now)) }
+    ensures ok { IfOk result (λ m. m ≡ beliefs_after names.entry beliefs.now) }
     ensures err { IfErr result (λ e. e ≡ OutOfMemory) }
 {
+    let Names {
+        interest,
+        touched,
+        mentioned,
+        versions,
+    } = names;
     let left = taken(alloc, interest, touched, mentioned, beliefs)?;
     let next = resumed(alloc, versions, left)?;
     Ok(next)

@@ -1,21 +1,21 @@
 // What an answer and a request change of what is believed: for each name that they speak of, what is believed from then
 // on. Nothing else is looked at.
-ghost use Rattle.std.specs.Prelude.{◌≡◌, ℕ, List, false, Some, map, string_bytes, is_some, option_map, IfOk, IfErr, OnOk};
+ghost use Rattle.std.specs.Prelude.{◌≡◌, false, Some, map, string_bytes, is_some, option_map, IfOk, IfErr, OnOk};
 ghost use Rattle.std.specs.FinMap as finmap;
-ghost use Rattle.std.specs.FinSet as set;
 ghost use Rattle.xds_resource.specs.declared.refusal.Refusal.TheVariants.{OutOfMemory};
 ghost use Rattle.xds_resource.specs.Names.{put_some, put_all};
 ghost use Rattle.xds_resource.specs.Writes.{text_cmp};
 ghost use Rattle.xds_interest.specs.Interests.{reaches};
 ghost use Rattle.xds_ledger.specs.Changes as specs;
-ghost use Rattle.xds_ledger.specs.Changes.{believed_now, left_touched, changes_left, changes_unsure, change_as};
-ghost use Rattle.xds_ledger.specs.Believing.{was_touched, beliefs_taken, AreInOrder, versions_of, beliefs_resumed};
+ghost use Rattle.xds_ledger.specs.Changes.{Lead, believed_now, left_touched, changes_left, changes_unsure, change_as};
+ghost use Rattle.xds_ledger.specs.Believing.{was_touched, beliefs_after};
 ghost use Rattle.xds_ledger.specs.Owed as owed;
 ghost use Rattle.xds_ledger.specs.Parts as parts;
 
 use crate::beliefs::{made_unsure, once_told};
 use crate::believed::Beliefs;
 use crate::entry::{Due, Entry};
+use crate::names::Names;
 use crate::sent::Sent;
 use crate::version::Version;
 use std::alloc::Global;
@@ -31,7 +31,8 @@ fn put_told(
     name: &str,
     due: &Due,
 ) -> Result<(), Refusal>
-    ensures ok { OnOk result (changes.new ≡ put_some changes.old name.now (Some (parts.told_unless_touched (was_touched sent.now name.now) due.now))) }
+    ensures ok { OnOk result (changes.new ≡ put_some changes.old name.now
+        (Some (parts.told_unless_touched (was_touched sent.now name.now) due.now))) }
     ensures err { IfErr result (λ e. e ≡ OutOfMemory) }
 {
     let entry = once_told(alloc, sent.was_touched(name), due)?;
@@ -68,7 +69,8 @@ fn put_left<T: ResourceType>(
     changes: &mut NameMap<Option<Entry>>,
     name: &str,
 ) -> Result<(), Refusal>
-    ensures ok { OnOk result (changes.new ≡ finmap.insert changes.old name.now (left_touched (reaches interest.now name.now) (believed_now changes.old beliefs.now name.now))) }
+    ensures ok { OnOk result (changes.new ≡ finmap.insert changes.old name.now
+        (left_touched (reaches interest.now name.now) (believed_now changes.old beliefs.now name.now))) }
     ensures err { IfErr result (λ e. e ≡ OutOfMemory) }
 {
     let left = if interest.reaches(name) && is_believed(beliefs, changes, name) {
@@ -105,7 +107,8 @@ fn put_unsure<T: ResourceType>(
     changes: &mut NameMap<Option<Entry>>,
     name: &str,
 ) -> Result<(), Refusal>
-    ensures ok { OnOk result (changes.new ≡ put_some changes.old name.now (option_map Some (parts.made_unsure interest.now touched.now name.now))) }
+    ensures ok { OnOk result (changes.new ≡ put_some changes.old name.now
+        (option_map Some (parts.made_unsure interest.now touched.now name.now))) }
     ensures err { IfErr result (λ e. e ≡ OutOfMemory) }
 {
     match made_unsure(interest, touched, name) {
@@ -122,7 +125,8 @@ fn changes_unsure<T: ResourceType>(
     mentioned: Iter<'_, String>,
     changes: NameMap<Option<Entry>>,
 ) -> Result<NameMap<Option<Entry>>, Refusal>
-    ensures ok { IfOk result (λ m. m ≡ changes_unsure interest.now touched.now changes (map string_bytes mentioned.entry)) }
+    ensures ok { IfOk result (λ m.
+        m ≡ changes_unsure interest.now touched.now changes (map string_bytes mentioned.entry)) }
     ensures err { IfErr result (λ e. e ≡ OutOfMemory) }
 {
     let mut next = changes;
@@ -153,19 +157,21 @@ fn changes_resumed(
 /// would have.
 pub fn changes_after<T: ResourceType>(
     alloc: Global,
-    interest: &Interest<T>,
-    touched: &Touched,
-    mentioned: Iter<'_, String>,
-    versions: &[(&str, &str)],
+    names: Names<'_, T>,
     beliefs: &Beliefs,
     changes: NameMap<Option<Entry>>,
 ) -> Result<NameMap<Option<Entry>>, Refusal>
-    requires some { touched.now.all ≡ false }
-    requires sorted { AreInOrder (map (λ p. (p.0.now, p.1.now)) versions.now) }
-    ensures ok { (before : owed.Beliefs) → ((name : List ℕ) → finmap.get before name ≡ believed_now changes beliefs.now name)
-        → IfOk result (λ m. (name : List ℕ) → finmap.get (beliefs_resumed (versions_of (map (λ p. (p.0.now, p.1.now)) versions.now)) (beliefs_taken interest.now touched.now (set.from_list (map string_bytes mentioned.entry)) before)) name ≡ believed_now m beliefs.now name) }
+    requires some { names.touched.all ≡ false }
+    ensures ok { (before : owed.Beliefs) → Lead changes beliefs.now before
+        → IfOk result (λ m. Lead m beliefs.now (beliefs_after names.entry before)) }
     ensures err { IfErr result (λ e. e ≡ OutOfMemory) }
 {
+    let Names {
+        interest,
+        touched,
+        mentioned,
+        versions,
+    } = names;
     let left = changes_left(alloc, interest, touched.names(), beliefs, changes)?;
     let unsure = changes_unsure(alloc, interest, touched, mentioned, left)?;
     let next = changes_resumed(alloc, versions, unsure)?;

@@ -1,26 +1,25 @@
 // What a server keeps of one type on one stream, beside the interest: an account of what it told, and a list of what it may owe.
-ghost use Rattle.std.specs.Prelude.{◌≡◌, map, string_bytes, is_some, IfOk, IfErr, OnOk, OnErr};
+ghost use Rattle.std.specs.Prelude.{◌≡◌, is_some, IfOk, IfErr, OnOk, OnErr};
 ghost use Rattle.std.specs.FinMap as finmap;
-ghost use Rattle.std.specs.FinSet as set;
 ghost use Rattle.xds_resource.specs.declared.refusal.Refusal.TheVariants.{OutOfMemory};
 ghost use Rattle.xds_ledger.specs.Listed.{StaysSufficient, changed_since};
 ghost use Rattle.xds_ledger.specs.Offers.{offer as offer_of};
 ghost use Rattle.xds_ledger.specs.Ledgers as ledgers;
-ghost use Rattle.xds_ledger.specs.Ledgers.{AreInOrder, versions_of, settled, touch, resume};
+ghost use Rattle.xds_ledger.specs.Ledgers.{settled, taken};
 ghost use Rattle.xds_ledger.specs.Lists.{Fits, FitsNext, new_books, refreshed};
 
 use crate::account::Account;
 use crate::entry::Due;
 use crate::listed::Listed;
+use crate::names::Names;
 use crate::offers::offer;
 use crate::owed::something_owed;
 use crate::repeats::repeats;
 use crate::variant::Variant;
 use std::alloc::Global;
-use std::collections::btree_set::Iter;
 use std::marker::Model;
 use xds_catalogue::Catalogue;
-use xds_interest::{Interest, Touched};
+use xds_interest::Interest;
 use xds_resource::{NameMap, Refusal, ResourceType};
 
 /// What a client was told of one type on one stream, what is unanswered, and which names it may be owed.
@@ -169,32 +168,25 @@ impl<T: ResourceType, V: Variant> Ledger<T, V> {
         self.account.send(alloc, offer, number);
     }
 
-    /// Takes a request: it settles the response that it answers, and then its names are taken. `interest` is the
-    /// client's interest then, `touched` the names that the request touches, `mentioned` those that it mentions, and
-    /// `versions` what the client says it holds, in ascending order of names. Refused only by `OutOfMemory`, and then
-    /// nothing is taken. It looks at the names that the request and the response that it answers speak of, and at all
-    /// that are believed held only where every name is touched or a whole response is accepted.
+    /// Takes a request with this nonce: it settles the response that it answers, and then its names are taken. Refused
+    /// only by `OutOfMemory`, and then nothing is taken. It looks at the names that the request and the response that
+    /// it answers speak of, and at all that are believed held only where every name is touched or a whole response is
+    /// accepted.
     pub fn take(
         &mut self,
         alloc: Global,
         nonce: &str,
         rejects: bool,
-        interest: &Interest<T>,
-        touched: Touched,
-        mentioned: Iter<'_, String>,
-        versions: &[(&str, &str)],
+        names: Names<'_, T>,
     ) -> Result<(), Refusal>
-        requires sorted { AreInOrder (map (λ p. (p.0.now, p.1.now)) versions.now) }
-        ensures ok { OnOk result (self.new.account ≡ resume (touch (settled V.NAME T.TYPE self.old.account nonce.now rejects) interest.now touched (set.from_list (map string_bytes mentioned.entry))) (versions_of (map (λ p. (p.0.now, p.1.now)) versions.now))) }
-        ensures fits { OnOk result (FitsNext V.NAME T.TYPE touched self.old self.new) }
+        ensures ok { OnOk result (
+            self.new.account ≡ taken (settled V.NAME T.TYPE self.old.account nonce.now rejects) names.entry) }
+        ensures fits { OnOk result (FitsNext V.NAME T.TYPE names.entry.touched self.old self.new) }
         ensures err { OnErr result (self.new ≡ self.old) }
         ensures refused { IfErr result (λ e. e ≡ OutOfMemory) }
     {
-        let all = mentioned.clone()?;
-        let listed = self.listed_after(alloc, nonce, rejects, &touched, all, versions)?;
-        self.account.take(
-            alloc, nonce, rejects, interest, touched, mentioned, versions,
-        )?;
+        let listed = self.listed_after(alloc, nonce, rejects, &names)?;
+        self.account.take(alloc, nonce, rejects, names)?;
         self.listed = listed;
         Ok(())
     }

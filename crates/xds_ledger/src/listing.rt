@@ -1,17 +1,17 @@
 // What a request puts into a ledger's list: all names of which it may change what is owed. The list is made anew, so that a
 // refusal leaves what was.
-ghost use Rattle.std.specs.Prelude.{◌≡◌, ◌&&◌, ◌||◌, ℕ, List, map, string_bytes, if◌then◌else◌, IfOk, IfErr};
+ghost use Rattle.std.specs.Prelude.{◌≡◌, ◌&&◌, ◌||◌, map, string_bytes, if◌then◌else◌, IfOk, IfErr};
 ghost use Rattle.std.specs.FinMap as finmap;
-ghost use Rattle.std.specs.FinSet as set;
 ghost use Rattle.xds_resource.specs.declared.refusal.Refusal.TheVariants.{OutOfMemory};
 ghost use Rattle.xds_ledger.specs.Listed.{without_mark};
 ghost use Rattle.xds_ledger.specs.Variants.{is_whole};
-ghost use Rattle.xds_ledger.specs.Lists.{accepts, with_names, with_offer, with_all, listed_after};
+ghost use Rattle.xds_ledger.specs.Lists.{accepts, with_names, with_offer, with_all, ListsNames};
 
 use crate::believed::Beliefs;
 use crate::entry::Due;
 use crate::ledger::Ledger;
 use crate::listed::Listed;
+use crate::names::Names;
 use crate::variant::Variant;
 use std::alloc::Global;
 use std::collections::btree_set::Iter;
@@ -82,27 +82,26 @@ fn list_changes(listed: Listed, all: bool) -> Listed
 }
 
 impl<T: ResourceType, V: Variant> Ledger<T, V> {
-    // The list once this request, which answers a response or doesn't, is taken.
+    // The list once a request with this nonce, which rejects or doesn't, is taken: all that was listed, and all names
+    // of which the request may change what is owed.
     pub(crate) fn listed_after(
         &self,
         alloc: Global,
         nonce: &str,
         rejects: bool,
-        touched: &Touched,
-        mentioned: Iter<'_, String>,
-        versions: &[(&str, &str)],
+        names: &Names<'_, T>,
     ) -> Result<Listed, Refusal>
-        ensures ok { IfOk result (λ l. (names : List (List ℕ)) × (set.from_list names ≡ touched.now.names) × (l ≡ listed_after self.now.account (accepts self.now.account nonce.now rejects) (is_whole V.NAME T.TYPE) touched.now.all names (map string_bytes mentioned.entry) (map (λ p. p.0.now) versions.now) self.now.listed)) }
+        ensures ok { IfOk result (λ l. ListsNames V.NAME T.TYPE self.now nonce.now rejects names.now l) }
         ensures refused { IfErr result (λ e. e ≡ OutOfMemory) }
     {
         let accepts = self.accepts(nonce, rejects);
-        let all = Ledger::<T, V>::changes_all(touched, accepts);
+        let all = Ledger::<T, V>::changes_all(names.touched, accepts);
         let start = self.listed.try_copy(alloc)?;
-        let named = list_names(alloc, start, touched.names())?;
-        let said = list_versions(alloc, named, versions)?;
+        let named = list_names(alloc, start, names.touched.names())?;
+        let said = list_versions(alloc, named, names.versions)?;
         let told = self.list_sent(alloc, accepts, said)?;
-        let held = self.list_all(alloc, all, told, mentioned)?;
-        Ok(list_changes(held, touched.all()))
+        let held = self.list_all(alloc, all, told, names.mentioned.clone()?)?;
+        Ok(list_changes(held, names.touched.all()))
     }
 
     // Whether a request with this nonce accepts the unanswered response.

@@ -1,10 +1,10 @@
 // Changes of what is believed, made in place, all or none: what needs memory comes first, and is undone by removals.
-ghost use Rattle.std.specs.Prelude.{◌≡◌, ℕ, List, [], ◌∷◌, ◌++◌, Some, map, string_bytes, IfOk, IfErr, OnOk, OnErr};
+ghost use Rattle.std.specs.Prelude.{◌≡◌, [], ◌∷◌, ◌++◌, Some, map, string_bytes, IfOk, IfErr, OnOk, OnErr};
 ghost use Rattle.std.specs.FinMap as finmap;
 ghost use Rattle.xds_resource.specs.declared.refusal.Refusal.TheVariants.{OutOfMemory};
 ghost use Rattle.xds_resource.specs.Names.{put_each};
 ghost use Rattle.xds_ledger.specs.declared.entry.Entry.TheVariants.{Unsure};
-ghost use Rattle.xds_ledger.specs.Changes.{believed_now, is_new, new_names, removed_all, stored, stored_all};
+ghost use Rattle.xds_ledger.specs.Changes.{Lead, is_new, new_names, removed_all, stored, stored_all};
 
 use crate::believed::Beliefs;
 use crate::entry::Entry;
@@ -114,7 +114,7 @@ pub fn change(
     beliefs: &mut Beliefs,
     changes: NameMap<Option<Entry>>,
 ) -> Result<(), Refusal>
-    ensures ok { OnOk result ((name : List ℕ) → finmap.get beliefs.new name ≡ believed_now changes beliefs.old name) }
+    ensures ok { OnOk result (Lead changes beliefs.old beliefs.new) }
     ensures err { OnErr result (beliefs.new ≡ beliefs.old) }
     ensures refused { IfErr result (λ e. e ≡ OutOfMemory) }
 {

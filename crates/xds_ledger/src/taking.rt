@@ -1,12 +1,10 @@
-// How an account takes a request. What is believed changes in place, name by name of those that the request and the response
-// that it answers speak of; it is made anew where a request touches every name, or a response that is the whole was accepted.
-ghost use Rattle.std.specs.Prelude.{◌≡◌, ◌&&◌, not, if◌then◌else◌, ℕ, List, Some, true, false, map, string_bytes, option_map, IfOk, IfErr, IfSome, OnOk, OnErr};
-ghost use Rattle.std.specs.FinMap as finmap;
-ghost use Rattle.std.specs.FinSet as set;
-ghost use Rattle.xds_resource.specs.Writes.{text_cmp};
+// How an account takes a request. What is believed changes in place, name by name of those that the request and the
+// response that it answers speak of; it is made anew where a request touches every name, or a response that is the whole
+// was accepted.
+ghost use Rattle.std.specs.Prelude.{◌≡◌, ◌&&◌, not, false, IfOk, IfErr, IfSome, OnOk, OnErr};
 ghost use Rattle.xds_resource.specs.declared.refusal.Refusal.TheVariants.{OutOfMemory};
-ghost use Rattle.xds_ledger.specs.Changes.{believed_now, changes_answered};
-ghost use Rattle.xds_ledger.specs.Ledgers.{answered, beliefs_accepted, beliefs_taken, AreInOrder, versions_of, beliefs_resumed, noted, forgotten, settled, touch, resume};
+ghost use Rattle.xds_ledger.specs.Changes.{Lead, changes_answered};
+ghost use Rattle.xds_ledger.specs.Ledgers.{answered, beliefs_accepted, beliefs_after, noted, forgotten, settled, taken};
 ghost use Rattle.xds_ledger.specs.Owed as owed;
 ghost use Rattle.xds_ledger.specs.Variants.{is_whole};
 
@@ -15,62 +13,51 @@ use crate::beliefs::{accepted, beliefs_after};
 use crate::believed::Beliefs;
 use crate::changes::{changes_after, changes_told};
 use crate::entry::Entry;
+use crate::names::Names;
 use crate::sent::Sent;
 use crate::storing::change;
 use crate::variant::Variant;
 use std::alloc::Global;
-use std::collections::btree_set::Iter;
-use xds_interest::{Interest, Touched};
+use xds_interest::Touched;
 use xds_resource::{NameMap, Refusal, ResourceType};
 
 // Changes what is believed in place, by a request that doesn't touch every name; `start` has what its answer changes.
 fn change_beliefs<T: ResourceType>(
     alloc: Global,
-    interest: &Interest<T>,
-    touched: &Touched,
-    mentioned: Iter<'_, String>,
-    versions: &[(&str, &str)],
+    names: Names<'_, T>,
     beliefs: &mut Beliefs,
     start: NameMap<Option<Entry>>,
 ) -> Result<(), Refusal>
-    requires some { touched.now.all ≡ false }
-    requires sorted { AreInOrder (map (λ p. (p.0.now, p.1.now)) versions.now) }
-    ensures ok { (before : owed.Beliefs) → ((name : List ℕ) → finmap.get before name ≡ believed_now start beliefs.old name)
-        → OnOk result (beliefs.new ≡ beliefs_resumed (versions_of (map (λ p. (p.0.now, p.1.now)) versions.now)) (beliefs_taken interest.now touched.now (set.from_list (map string_bytes mentioned.entry)) before)) }
+    requires some { names.touched.all ≡ false }
+    ensures ok { (before : owed.Beliefs) → Lead start beliefs.old before
+        → OnOk result (beliefs.new ≡ beliefs_after names.entry before) }
     ensures err { OnErr result (beliefs.new ≡ beliefs.old) }
     ensures refused { IfErr result (λ e. e ≡ OutOfMemory) }
 {
-    let changes = changes_after(
-        alloc, interest, touched, mentioned, versions, beliefs, start,
-    )?;
+    let changes = changes_after(alloc, names, beliefs, start)?;
     change(alloc, beliefs, changes)
 }
 
 impl<T: ResourceType, V: Variant> Account<T, V> {
-    /// Takes a request: it settles the response that it answers, and then its names are taken. `interest` is the
-    /// client's interest then, `touched` the names that the request touches, `mentioned` those that it mentions, and
-    /// `versions` what the client says it holds, in ascending order of names. Refused only by `OutOfMemory`, and then
-    /// nothing is taken. It looks at the names that the request and the response that it answers speak of, and at all
-    /// that are believed held only where every name is touched or a whole response is accepted.
+    /// Takes a request: it settles the response that it answers, and then its names are taken. Refused only by
+    /// `OutOfMemory`, and then nothing is taken. It looks at the names that the request and the response that it
+    /// answers speak of, and at all that are believed held only where every name is touched or a whole response is
+    /// accepted.
     pub fn take(
         &mut self,
         alloc: Global,
         nonce: &str,
         rejects: bool,
-        interest: &Interest<T>,
-        touched: Touched,
-        mentioned: Iter<'_, String>,
-        versions: &[(&str, &str)],
+        names: Names<'_, T>,
     ) -> Result<(), Refusal>
-        requires sorted { AreInOrder (map (λ p. (p.0.now, p.1.now)) versions.now) }
-        ensures ok { OnOk result (self.new ≡ resume (touch (settled V.NAME T.TYPE self.old nonce.now rejects) interest.now touched (set.from_list (map string_bytes mentioned.entry))) (versions_of (map (λ p. (p.0.now, p.1.now)) versions.now))) }
+        ensures ok { OnOk result (self.new ≡ taken (settled V.NAME T.TYPE self.old nonce.now rejects) names.entry) }
         ensures err { OnErr result (self.new ≡ self.old) }
         ensures refused { IfErr result (λ e. e ≡ OutOfMemory) }
     {
         if self.answers(nonce) {
-            self.take_answer(alloc, rejects, interest, touched, mentioned, versions)
+            self.take_answer(alloc, rejects, names)
         } else {
-            self.take_names(alloc, interest, touched, mentioned, versions)
+            self.take_names(alloc, names)
         }
     }
 
@@ -79,21 +66,18 @@ impl<T: ResourceType, V: Variant> Account<T, V> {
         &mut self,
         alloc: Global,
         rejects: bool,
-        interest: &Interest<T>,
-        touched: Touched,
-        mentioned: Iter<'_, String>,
-        versions: &[(&str, &str)],
+        names: Names<'_, T>,
     ) -> Result<(), Refusal>
-        requires sorted { AreInOrder (map (λ p. (p.0.now, p.1.now)) versions.now) }
-        ensures ok { OnOk result (IfSome self.old.sent (λ sent. self.new ≡ resume (touch (answered V.NAME T.TYPE self.old sent rejects) interest.now touched (set.from_list (map string_bytes mentioned.entry))) (versions_of (map (λ p. (p.0.now, p.1.now)) versions.now)))) }
+        ensures ok { OnOk result (IfSome self.old.sent (λ sent.
+            self.new ≡ taken (answered V.NAME T.TYPE self.old sent rejects) names.entry)) }
         ensures err { OnErr result (self.new ≡ self.old) }
         ensures refused { IfErr result (λ e. e ≡ OutOfMemory) }
     {
         let whole = V::NAME.is_whole(T::TYPE);
-        if touched.all() || (!rejects && whole) {
-            self.take_answer_anew(alloc, rejects, interest, touched, mentioned, versions)
+        if names.touched().all() || (!rejects && whole) {
+            self.take_answer_anew(alloc, rejects, names)
         } else {
-            self.take_answer_in_place(alloc, rejects, interest, touched, mentioned, versions)
+            self.take_answer_in_place(alloc, rejects, names)
         }
     }
 
@@ -101,22 +85,18 @@ impl<T: ResourceType, V: Variant> Account<T, V> {
         &mut self,
         alloc: Global,
         rejects: bool,
-        interest: &Interest<T>,
-        touched: Touched,
-        mentioned: Iter<'_, String>,
-        versions: &[(&str, &str)],
+        names: Names<'_, T>,
     ) -> Result<(), Refusal>
-        requires sorted { AreInOrder (map (λ p. (p.0.now, p.1.now)) versions.now) }
-        ensures ok { OnOk result (IfSome self.old.sent (λ sent. self.new ≡ resume (touch (answered V.NAME T.TYPE self.old sent rejects) interest.now touched (set.from_list (map string_bytes mentioned.entry))) (versions_of (map (λ p. (p.0.now, p.1.now)) versions.now)))) }
+        ensures ok { OnOk result (IfSome self.old.sent (λ sent.
+            self.new ≡ taken (answered V.NAME T.TYPE self.old sent rejects) names.entry)) }
         ensures err { OnErr result (self.new ≡ self.old) }
         ensures refused { IfErr result (λ e. e ≡ OutOfMemory) }
     {
         let beliefs = if rejects {
-            let held = &self.beliefs;
-            beliefs_after(alloc, interest, &touched, mentioned, versions, held)?
+            beliefs_after(alloc, names, &self.beliefs)?
         } else {
             let told = self.beliefs_accepted(alloc)?;
-            beliefs_after(alloc, interest, &touched, mentioned, versions, &told)?
+            beliefs_after(alloc, names, &told)?
         };
         self.settle(rejects);
         self.beliefs = beliefs;
@@ -127,28 +107,17 @@ impl<T: ResourceType, V: Variant> Account<T, V> {
         &mut self,
         alloc: Global,
         rejects: bool,
-        interest: &Interest<T>,
-        touched: Touched,
-        mentioned: Iter<'_, String>,
-        versions: &[(&str, &str)],
+        names: Names<'_, T>,
     ) -> Result<(), Refusal>
-        requires some { touched.all ≡ false }
+        requires some { names.touched.all ≡ false }
         requires partial { (not rejects && is_whole V.NAME T.TYPE) ≡ false }
-        requires sorted { AreInOrder (map (λ p. (p.0.now, p.1.now)) versions.now) }
-        ensures ok { OnOk result (IfSome self.old.sent (λ sent. self.new ≡ resume (touch (answered V.NAME T.TYPE self.old sent rejects) interest.now touched (set.from_list (map string_bytes mentioned.entry))) (versions_of (map (λ p. (p.0.now, p.1.now)) versions.now)))) }
+        ensures ok { OnOk result (IfSome self.old.sent (λ sent.
+            self.new ≡ taken (answered V.NAME T.TYPE self.old sent rejects) names.entry)) }
         ensures err { OnErr result (self.new ≡ self.old) }
         ensures refused { IfErr result (λ e. e ≡ OutOfMemory) }
     {
         let start = self.changes_answered(alloc, rejects)?;
-        change_beliefs(
-            alloc,
-            interest,
-            &touched,
-            mentioned,
-            versions,
-            &mut self.beliefs,
-            start,
-        )?;
+        change_beliefs(alloc, names, &mut self.beliefs, start)?;
         self.settle(rejects);
         Ok(())
     }
@@ -170,7 +139,8 @@ impl<T: ResourceType, V: Variant> Account<T, V> {
 
     // What is believed once the unanswered response is accepted.
     fn beliefs_accepted(&self, alloc: Global) -> Result<Beliefs, Refusal>
-        ensures ok { IfOk result (λ m. IfSome self.now.sent (λ sent. m ≡ beliefs_accepted (is_whole V.NAME T.TYPE) sent self.now.beliefs)) }
+        ensures ok { IfOk result (λ m. IfSome self.now.sent (λ sent.
+            m ≡ beliefs_accepted (is_whole V.NAME T.TYPE) sent self.now.beliefs)) }
         ensures err { IfErr result (λ e. e ≡ OutOfMemory) }
     {
         match &self.sent {
@@ -181,7 +151,8 @@ impl<T: ResourceType, V: Variant> Account<T, V> {
 
     // Settles the unanswered response, but for what is believed.
     fn settle(&mut self, rejects: bool)
-        ensures { IfSome self.old.sent (λ sent. self.new ≡ record (answered V.NAME T.TYPE self.old sent rejects) { beliefs = self.old.beliefs }) }
+        ensures { IfSome self.old.sent (λ sent.
+            self.new ≡ record (answered V.NAME T.TYPE self.old sent rejects) { beliefs = self.old.beliefs }) }
     {
         let sent = self.sent.take();
         if rejects {
@@ -193,64 +164,40 @@ impl<T: ResourceType, V: Variant> Account<T, V> {
     }
 
     // Takes the names of a request that answers nothing.
-    fn take_names(
-        &mut self,
-        alloc: Global,
-        interest: &Interest<T>,
-        touched: Touched,
-        mentioned: Iter<'_, String>,
-        versions: &[(&str, &str)],
-    ) -> Result<(), Refusal>
-        requires sorted { AreInOrder (map (λ p. (p.0.now, p.1.now)) versions.now) }
-        ensures ok { OnOk result (self.new ≡ resume (touch self.old interest.now touched (set.from_list (map string_bytes mentioned.entry))) (versions_of (map (λ p. (p.0.now, p.1.now)) versions.now))) }
+    fn take_names(&mut self, alloc: Global, names: Names<'_, T>) -> Result<(), Refusal>
+        ensures ok { OnOk result (self.new ≡ taken self.old names.entry) }
         ensures err { OnErr result (self.new ≡ self.old) }
         ensures refused { IfErr result (λ e. e ≡ OutOfMemory) }
     {
-        if touched.all() {
-            self.take_names_anew(alloc, interest, touched, mentioned, versions)
+        if names.touched().all() {
+            self.take_names_anew(alloc, names)
         } else {
-            self.take_names_in_place(alloc, interest, touched, mentioned, versions)
+            self.take_names_in_place(alloc, names)
         }
     }
 
-    fn take_names_anew(
-        &mut self,
-        alloc: Global,
-        interest: &Interest<T>,
-        touched: Touched,
-        mentioned: Iter<'_, String>,
-        versions: &[(&str, &str)],
-    ) -> Result<(), Refusal>
-        requires sorted { AreInOrder (map (λ p. (p.0.now, p.1.now)) versions.now) }
-        ensures ok { OnOk result (self.new ≡ resume (touch self.old interest.now touched (set.from_list (map string_bytes mentioned.entry))) (versions_of (map (λ p. (p.0.now, p.1.now)) versions.now))) }
+    fn take_names_anew(&mut self, alloc: Global, names: Names<'_, T>) -> Result<(), Refusal>
+        ensures ok { OnOk result (self.new ≡ taken self.old names.entry) }
         ensures err { OnErr result (self.new ≡ self.old) }
         ensures refused { IfErr result (λ e. e ≡ OutOfMemory) }
     {
-        let held = &self.beliefs;
-        let beliefs = beliefs_after(alloc, interest, &touched, mentioned, versions, held)?;
-        self.note(touched)?;
+        let touched = names.touched();
+        let beliefs = beliefs_after(alloc, names, &self.beliefs)?;
+        self.note(alloc, touched)?;
         self.beliefs = beliefs;
         Ok(())
     }
 
-    fn take_names_in_place(
-        &mut self,
-        alloc: Global,
-        interest: &Interest<T>,
-        touched: Touched,
-        mentioned: Iter<'_, String>,
-        versions: &[(&str, &str)],
-    ) -> Result<(), Refusal>
-        requires some { touched.all ≡ false }
-        requires sorted { AreInOrder (map (λ p. (p.0.now, p.1.now)) versions.now) }
-        ensures ok { OnOk result (self.new ≡ resume (touch self.old interest.now touched (set.from_list (map string_bytes mentioned.entry))) (versions_of (map (λ p. (p.0.now, p.1.now)) versions.now))) }
+    fn take_names_in_place(&mut self, alloc: Global, names: Names<'_, T>) -> Result<(), Refusal>
+        requires some { names.touched.all ≡ false }
+        ensures ok { OnOk result (self.new ≡ taken self.old names.entry) }
         ensures err { OnErr result (self.new ≡ self.old) }
         ensures refused { IfErr result (λ e. e ≡ OutOfMemory) }
     {
+        let touched = names.touched();
         let start = NameMap::new(alloc);
-        let held = &self.beliefs;
-        let changes = changes_after(alloc, interest, &touched, mentioned, versions, held, start)?;
-        self.note(touched)?;
+        let changes = changes_after(alloc, names, &self.beliefs, start)?;
+        self.note(alloc, touched)?;
         if let Err(refusal) = change(alloc, &mut self.beliefs, changes) {
             self.forget();
             return Err(refusal);
@@ -259,13 +206,13 @@ impl<T: ResourceType, V: Variant> Account<T, V> {
     }
 
     // Notes what a request touched with the unanswered response, if there is one.
-    fn note(&mut self, touched: Touched) -> Result<(), Refusal>
-        ensures ok { OnOk result (self.new ≡ noted self.old touched) }
+    fn note(&mut self, alloc: Global, touched: &Touched) -> Result<(), Refusal>
+        ensures ok { OnOk result (self.new ≡ noted self.old touched.now) }
         ensures err { OnErr result (self.new ≡ self.old) }
         ensures refused { IfErr result (λ e. e ≡ OutOfMemory) }
     {
         if let Some(sent) = &mut self.sent {
-            sent.note(touched)?;
+            sent.note(touched.try_copy(alloc)?)?;
         }
         Ok(())
     }

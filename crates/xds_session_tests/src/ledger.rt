@@ -14,7 +14,7 @@ use xds_cases::scripts::{Script, either, follow};
 use xds_catalogue::Catalogue;
 use xds_interest::{ClusterText, Interest};
 use xds_ledger::{
-    Delta, Due, Entry, Ledger, Nonces, StateOfTheWorld, Variant, VariantName, Version,
+    Delta, Due, Entry, Ledger, Names, Nonces, StateOfTheWorld, Variant, VariantName, Version,
 };
 use xds_resource::{Cluster, NameMap, Refusal, Stamp, TypeName};
 
@@ -65,15 +65,8 @@ impl<V: Variant> Client<V> {
     {
         let next = Interest::of_list(alloc, &words_of(alloc, names)?, ClusterText::none())?;
         let touched = self.interest.touched_until(alloc, &next)?;
-        self.ledger.take(
-            alloc,
-            nonce,
-            rejects,
-            &next,
-            touched,
-            next.names(),
-            versions,
-        )?;
+        let names = Names::new(&next, &touched, next.names()).resuming(versions);
+        self.ledger.take(alloc, nonce, rejects, names)?;
         keep(&mut self.interest, next);
         Ok(String::from_str(alloc, "taken")?)
     }

@@ -1,5 +1,5 @@
 -- That what the code makes is the response, and what it leaves is the session.
-use Rattle.std.proofs.Common.{◌≡◌, ℕ, List, [], ◌∷◌, ◌++◌, Bool, Option, Some, None, map, sym, ap, ◌∙◌, append_assoc, append-nil}
+use Rattle.std.proofs.Common.{◌≡◌, ℕ, List, [], ◌∷◌, ◌++◌, Bool, true, false, Option, Some, None, map, sym, ap, ◌∙◌, append_assoc, append-nil}
 use Rattle.std.specs.Prelude.{decimal, option_map, is_some}
 use Rattle.std.specs.Option.{option_and_then, option_map_or}
 use Rattle.std.specs.List.{filter, filter_map, cons_option}
@@ -16,9 +16,9 @@ use Rattle.xds_ledger.specs.declared.entry.Due.{Due}
 use Rattle.xds_ledger.specs.declared.entry.Due.TheVariants.{Stated, Removed}
 use Rattle.xds_ledger.specs.declared.variant.VariantName.TheVariants.{Delta}
 use Rattle.xds_ledger.specs.Offers.{Offer}
-use Rattle.xds_ledger.specs.Ledgers.{Account, settled, touch, resume}
+use Rattle.xds_ledger.specs.Ledgers.{Account, Names, settled, taken}
 use Rattle.xds_ledger.specs.Texts.{replica_version}
-use Rattle.xds_sessions.specs.DeltaParts.{account_after, said_all}
+use Rattle.xds_sessions.specs.DeltaParts.{account_taken, said_all}
 use Rattle.xds_sessions.specs.DeltaPolls.{is_statement, is_removal, resource_of, resource_at, response}
 
 -- the response with more resources and more names that are gone
@@ -65,13 +65,19 @@ response_made replica t h o number kind version nonce start draft made begun typ
     ∙ (λ i. record { kind = typed i; system_version_info = versioned i; nonce = numbered i; resources = stated_in h.entries (finmap.entries o); removed_resources = removed_in (finmap.entries o) })
 
 -- what a later request leaves of the account, from what the calls ensure
-pub taken_later : (t : TypeName) (a : Account) (m : DeltaRequest) (s : Selection) (touched : Touch) (mentioned : set.FinSet text_cmp) (nonce : List ℕ) (rejects : Bool)
+pub taken_later : (t : TypeName) (a : Account) (m : DeltaRequest) (s : Selection) (touched : Touch) (mentioned : set.FinSet text_cmp) (nonce : List ℕ) (rejects : Bool) (names : Names)
     → nonce ≡ m.response_nonce → rejects ≡ is_some m.error_detail → mentioned ≡ touched.names
-    → resume (touch (settled Delta t a nonce rejects) s touched mentioned) finmap.empty ≡ account_after t a m s touched touched.names finmap.empty
-taken_later t a m s touched mentioned nonce rejects named told says = λ i. resume (touch (settled Delta t a (named i) (told i)) s touched (says i)) finmap.empty
+    → names ≡ record { interest = s; touched = touched; mentioned = mentioned; versions = finmap.empty }
+    → taken (settled Delta t a nonce rejects) names ≡ account_taken t true a m s touched
+taken_later t a m s touched mentioned nonce rejects names named told says is =
+    ap (taken (settled Delta t a nonce rejects)) is
+    ∙ (λ i. taken (settled Delta t a (named i) (told i)) (record { interest = s; touched = touched; mentioned = says i; versions = finmap.empty }))
 
 -- a first request that is taken
-pub taken_first : (t : TypeName) (a : Account) (m : DeltaRequest) (s : Selection) (touched : Touch) (mentioned : set.FinSet text_cmp) (nonce : List ℕ) (rejects : Bool) (held : finmap.FinMap text_cmp (List ℕ))
+pub taken_first : (t : TypeName) (a : Account) (m : DeltaRequest) (s : Selection) (touched : Touch) (mentioned : set.FinSet text_cmp) (nonce : List ℕ) (rejects : Bool) (held : finmap.FinMap text_cmp (List ℕ)) (names : Names)
     → nonce ≡ m.response_nonce → rejects ≡ is_some m.error_detail → mentioned ≡ s.names → held ≡ m.initial_resource_versions
-    → resume (touch (settled Delta t a nonce rejects) s touched mentioned) held ≡ account_after t a m s touched s.names m.initial_resource_versions
-taken_first t a m s touched mentioned nonce rejects held named told says holds = λ i. resume (touch (settled Delta t a (named i) (told i)) s touched (says i)) (holds i)
+    → names ≡ record { interest = s; touched = touched; mentioned = mentioned; versions = held }
+    → taken (settled Delta t a nonce rejects) names ≡ account_taken t false a m s touched
+taken_first t a m s touched mentioned nonce rejects held names named told says holds is =
+    ap (taken (settled Delta t a nonce rejects)) is
+    ∙ (λ i. taken (settled Delta t a (named i) (told i)) (record { interest = s; touched = touched; mentioned = says i; versions = holds i }))

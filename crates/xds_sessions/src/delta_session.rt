@@ -1,19 +1,18 @@
 // What an incremental (delta) client asked for of one type, and what it was told.
 ghost use Rattle.std.specs.Prelude.{◌≡◌, true, false, IfOk, IfErr, OnOk, OnErr};
-ghost use Rattle.std.specs.FinMap as finmap;
 ghost use Rattle.xds_resource.specs.declared.refusal.Refusal.TheVariants.{OutOfMemory};
 ghost use Rattle.xds_interest.specs.Touches.{delta_touch};
 ghost use Rattle.xds_ledger.specs.declared.variant.VariantName.TheVariants as variants;
 ghost use Rattle.xds_ledger.specs.Sessions.{outcome};
 ghost use Rattle.xds_ledger.specs.Lists.{FitsNext, StaysFit};
-ghost use Rattle.xds_sessions.specs.DeltaParts.{account_after, account_taken, session_taken};
+ghost use Rattle.xds_sessions.specs.DeltaParts.{account_taken, session_taken};
 ghost use Rattle.xds_sessions.specs.DeltaPolls as polls;
 ghost use Rattle.xds_sessions.specs.DeltaPolls.{mention};
 
 use crate::session;
 use std::alloc::Global;
 use xds_interest::{DeltaNames, Interest, Touched};
-use xds_ledger::{Delta, Ledger, Outcome};
+use xds_ledger::{Delta, Ledger, Names, Outcome};
 use xds_message::DeltaDiscoveryRequest;
 use xds_resource::{Refusal, ResourceType};
 
@@ -26,25 +25,19 @@ fn take_first<T: ResourceType>(
     ledger: &mut Ledger<T, Delta>,
     request: &DeltaDiscoveryRequest,
     interest: &Interest<T>,
-    touched: Touched,
+    touched: &Touched,
 ) -> Result<(), Refusal>
-    ensures ok { OnOk result (ledger.new.account ≡ account_after T.TYPE ledger.old.account request.now interest.now touched interest.now.names request.now.initial_resource_versions) }
-    ensures fits { OnOk result (FitsNext variants.Delta T.TYPE touched ledger.old ledger.new) }
+    ensures ok { OnOk result (
+        ledger.new.account ≡ account_taken T.TYPE false ledger.old.account request.now interest.now touched.now) }
+    ensures fits { OnOk result (FitsNext variants.Delta T.TYPE touched.now ledger.old ledger.new) }
     ensures err { OnErr result (ledger.new ≡ ledger.old) }
     ensures refused { IfErr result (λ e. e ≡ OutOfMemory) }
 {
     let nonce = request.response_nonce.as_str();
     let rejects = request.error_detail.is_some();
     let held = request.initial_resource_versions.pairs(alloc)?;
-    ledger.take(
-        alloc,
-        nonce,
-        rejects,
-        interest,
-        touched,
-        interest.names(),
-        &held,
-    )
+    let names = Names::new(interest, touched, interest.names()).resuming(&held);
+    ledger.take(alloc, nonce, rejects, names)
 }
 
 // Takes a later request's names: all that it touches by name are mentioned.
@@ -53,25 +46,18 @@ fn take_later<T: ResourceType>(
     ledger: &mut Ledger<T, Delta>,
     request: &DeltaDiscoveryRequest,
     interest: &Interest<T>,
-    touched: Touched,
+    touched: &Touched,
 ) -> Result<(), Refusal>
-    ensures ok { OnOk result (ledger.new.account ≡ account_after T.TYPE ledger.old.account request.now interest.now touched touched.names finmap.empty) }
-    ensures fits { OnOk result (FitsNext variants.Delta T.TYPE touched ledger.old ledger.new) }
+    ensures ok { OnOk result (
+        ledger.new.account ≡ account_taken T.TYPE true ledger.old.account request.now interest.now touched.now) }
+    ensures fits { OnOk result (FitsNext variants.Delta T.TYPE touched.now ledger.old ledger.new) }
     ensures err { OnErr result (ledger.new ≡ ledger.old) }
     ensures refused { IfErr result (λ e. e ≡ OutOfMemory) }
 {
     let nonce = request.response_nonce.as_str();
     let rejects = request.error_detail.is_some();
-    let mentioned = touched.try_copy(alloc)?;
-    ledger.take(
-        alloc,
-        nonce,
-        rejects,
-        interest,
-        touched,
-        mentioned.names(),
-        &[],
-    )
+    let names = Names::new(interest, touched, touched.names());
+    ledger.take(alloc, nonce, rejects, names)
 }
 
 // Takes the names of a request, the first or a later one.
@@ -81,10 +67,11 @@ fn take_names<T: ResourceType>(
     ledger: &mut Ledger<T, Delta>,
     request: &DeltaDiscoveryRequest,
     interest: &Interest<T>,
-    touched: Touched,
+    touched: &Touched,
 ) -> Result<(), Refusal>
-    ensures ok { OnOk result (ledger.new.account ≡ account_taken T.TYPE begun ledger.old.account request.now interest.now touched) }
-    ensures fits { OnOk result (FitsNext variants.Delta T.TYPE touched ledger.old ledger.new) }
+    ensures ok { OnOk result (
+        ledger.new.account ≡ account_taken T.TYPE begun ledger.old.account request.now interest.now touched.now) }
+    ensures fits { OnOk result (FitsNext variants.Delta T.TYPE touched.now ledger.old ledger.new) }
     ensures err { OnErr result (ledger.new ≡ ledger.old) }
     ensures refused { IfErr result (λ e. e ≡ OutOfMemory) }
 {
@@ -142,7 +129,7 @@ impl<T: ResourceType> session::Session<T, Delta> {
         let names = self.names.after(alloc, subscribe, unsubscribe)?;
         let begun = self.names.has_begun();
         let interest = names.interest();
-        take_names(alloc, begun, &mut self.ledger, request, interest, touched)?;
+        take_names(alloc, begun, &mut self.ledger, request, interest, &touched)?;
         self.names = names;
         Ok(())
     }
@@ -166,7 +153,7 @@ impl<T: ResourceType> session::Session<T, Delta> {
         let unsubscribe = &request.resource_names_unsubscribe;
         let wanted = self.names.wanted_by(alloc, subscribe, unsubscribe)?;
         let added = self.names.widen(alloc, &wanted)?;
-        if let Err(refusal) = take_later(alloc, &mut self.ledger, request, &wanted, touched) {
+        if let Err(refusal) = take_later(alloc, &mut self.ledger, request, &wanted, &touched) {
             self.names.take_back(&added);
             return Err(refusal);
         }

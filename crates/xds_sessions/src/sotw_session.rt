@@ -8,7 +8,7 @@ ghost use Rattle.xds_sessions.specs.SotwPolls as polls;
 
 use crate::session;
 use std::alloc::Global;
-use xds_ledger::{Outcome, StateOfTheWorld};
+use xds_ledger::{Names, Outcome, StateOfTheWorld};
 use xds_message::DiscoveryRequest;
 use xds_resource::{Refusal, ResourceType};
 
@@ -42,7 +42,8 @@ impl<T: ResourceType> session::Session<T, StateOfTheWorld> {
         rejects: bool,
         list: &[String],
     ) -> Result<Outcome, Refusal>
-        ensures ok { OnOk result (self.new.session ≡ polls.take_list T.TYPE self.old.session nonce.now rejects (map string_bytes list.now)) }
+        ensures ok { OnOk result (
+            self.new.session ≡ polls.take_list T.TYPE self.old.session nonce.now rejects (map string_bytes list.now)) }
         ensures taken { IfOk result (λ r. r ≡ outcome self.old.session nonce.now) }
         ensures err { OnErr result (self.new ≡ self.old) }
         ensures fits { OnOk result (StaysFit variants.StateOfTheWorld T.TYPE self.old self.new) }
@@ -54,9 +55,8 @@ impl<T: ResourceType> session::Session<T, StateOfTheWorld> {
         let names = self.names.after(alloc, list)?;
         let interest = names.interest();
         let touched = self.names.interest().touched_until(alloc, interest)?;
-        let mentioned = interest.names();
-        self.ledger
-            .take(alloc, nonce, rejects, interest, touched, mentioned, &[])?;
+        let said = Names::new(interest, &touched, interest.names());
+        self.ledger.take(alloc, nonce, rejects, said)?;
         self.names = names;
         Ok(Outcome::Taken)
     }

@@ -1,21 +1,15 @@
 use Rattle.std.proofs.Common.{◌≡◌, map, string_bytes, subst, ap, ◌∙◌}
 use Rattle.std.specs.Prelude.{OnOk, is_some}
 use Rattle.std.specs.FinSet as set
-use Rattle.xds_interest.specs.Touches.{Touch}
 use Rattle.xds_message.specs.DeltaMessages.{DeltaRequest}
 use Rattle.xds_ledger.specs.Ledgers.{Account}
-use Rattle.std.proofs.lemmas.Result.{on_ok_weaker}
-use Rattle.xds_ledger.proofs.Versions.{resumed_from_none}
 use Rattle.xds_sessions.proofs.DeltaMade.{taken_later}
 use Rattle.xds_sessions.proofs.delta_session.take_later.Goals as goal
 
 pub returns-clause-ok : goal.returns-clause-ok
 returns-clause-ok g c =
     subst (λ (a : Account). OnOk c.take.result (c.take.new.self.account ≡ a))
-    (taken_later g.T.ResourceType.TYPE c.args.ledger.now.account c.args.request.now c.args.interest.now c.args.touched (set.from_list (map string_bytes c.names.result)) c.as_str-nonce.result.now c.is_some-rejects.result
-    (c.as_str-nonce.ensures.value ∙ ap (λ (m : DeltaRequest). m.response_nonce) c.request.view_is) (c.is_some-rejects.ensures ∙ ap (λ (m : DeltaRequest). is_some m.error_detail) c.request.view_is)
-    (c.names.ensures.names ∙ ap (λ (t : Touch). t.names) c.in_ok-mentioned.ensures.ok))
-    (on_ok_weaker c.take.result (λ is. is ∙ resumed_from_none _) c.take.ensures.ok)
-
-pub returns-clause-fits : goal.returns-clause-fits
-returns-clause-fits g c = c.take.ensures.fits
+    (taken_later g.T.ResourceType.TYPE c.args.ledger.now.account c.args.request.now c.args.interest.now c.args.touched.now (set.from_list (map string_bytes c.names.result)) c.as_str-nonce.result.now c.is_some-rejects.result
+    c.new-names.result (c.as_str-nonce.ensures.value ∙ ap (λ (m : DeltaRequest). m.response_nonce) c.request.view_is) (c.is_some-rejects.ensures ∙ ap (λ (m : DeltaRequest). is_some m.error_detail) c.request.view_is)
+    c.names.ensures.names c.new-names.ensures)
+    c.take.ensures.ok
