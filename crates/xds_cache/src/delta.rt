@@ -15,7 +15,7 @@ use crate::holding::Holding;
 use crate::link::Link;
 use crate::rejection::rejection;
 use crate::shelf::Shelf;
-use crate::stream_client::XdsClient;
+use crate::streaming::StreamingClient;
 use crate::wants::{Wants, texts_of, wants_after, wants_of};
 use std::alloc::Global;
 use xds_message::{DeltaDiscoveryRequest, DeltaDiscoveryResponse, Node, Versions};
@@ -23,7 +23,7 @@ use xds_resource::{NameMap, Refusal, TypeName};
 
 /// A client of the incremental variant, for all types. `A` is its test of what it is sent, and `L` says whether it is
 /// [`Down`](crate::Down) or [`Up`](crate::Up).
-pub type DeltaClient<A, L> = XdsClient<A, L, DeltaDiscoveryRequest>;
+pub type DeltaClient<A, L> = StreamingClient<A, L, DeltaDiscoveryRequest>;
 
 // A request that subscribes and unsubscribes texts, and says which versions are held.
 fn request_for(
@@ -127,7 +127,7 @@ impl Asks for DeltaDiscoveryRequest {
     }
 }
 
-impl<A: Accept, L: Link> XdsClient<A, L, DeltaDiscoveryRequest> {
+impl<A: Accept, L: Link> StreamingClient<A, L, DeltaDiscoveryRequest> {
     // The request that a change sends, if it sends one.
     fn request_after(
         &self,

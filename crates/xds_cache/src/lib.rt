@@ -18,7 +18,7 @@ pub mod shelf;
 mod shelves;
 pub mod sotw;
 pub mod sotw_response;
-pub mod stream_client;
+pub mod streaming;
 pub mod wants;
 
 pub use accept::{Accept, AcceptAll, Marked};
@@ -28,5 +28,5 @@ pub use holding::Holding;
 pub use link::{Down, Link, Up};
 pub use rest::RestClient;
 pub use sotw::SotwClient;
-pub use stream_client::XdsClient;
+pub use streaming::StreamingClient;
 pub use wants::Wants;

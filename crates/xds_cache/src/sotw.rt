@@ -13,7 +13,7 @@ use crate::link::Link;
 use crate::rejection::rejection;
 use crate::shelf::Shelf;
 use crate::sotw_response::delivered_to;
-use crate::stream_client::XdsClient;
+use crate::streaming::StreamingClient;
 use crate::wants::{texts_of, wants_of};
 use std::alloc::Global;
 use xds_message::{DiscoveryRequest, DiscoveryResponse, Node};
@@ -21,7 +21,7 @@ use xds_resource::{Refusal, TypeName};
 
 /// A client of the state-of-the-world variant, for all types. `A` is its test of what it is sent, and `L` says whether
 /// it is [`Down`](crate::Down) or [`Up`](crate::Up).
-pub type SotwClient<A, L> = XdsClient<A, L, DiscoveryRequest>;
+pub type SotwClient<A, L> = StreamingClient<A, L, DiscoveryRequest>;
 
 // A request for all that is wanted of a type.
 fn request_for(
@@ -83,7 +83,7 @@ impl Asks for DiscoveryRequest {
     }
 }
 
-impl<A: Accept, L: Link> XdsClient<A, L, DiscoveryRequest> {
+impl<A: Accept, L: Link> StreamingClient<A, L, DiscoveryRequest> {
     // The request that a change sends, if it sends one.
     fn request_after(
         &self,

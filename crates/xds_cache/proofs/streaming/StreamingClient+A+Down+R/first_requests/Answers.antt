@@ -3,7 +3,7 @@ use Rattle.xds_resource.specs.declared.types.TypeName.TheVariants.{Cluster}
 use Rattle.xds_resource.specs.Types.{types}
 use Rattle.xds_cache.specs.Sends.{first_of, first_requests, is_greeted}
 use Rattle.xds_cache.proofs.Opening.{asked_more, passed_over, greeted_more}
-use Rattle.xds_cache.proofs.stream_client.XdsClient+A+Down+R.first_requests.Goals as goal
+use Rattle.xds_cache.proofs.streaming.StreamingClient+A+Down+R.first_requests.Goals as goal
 
 pub loop-kind-preserved : goal.loop-kind-preserved
 loop-kind-preserved g c =

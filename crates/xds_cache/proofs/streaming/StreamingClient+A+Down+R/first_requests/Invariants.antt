@@ -1,7 +1,7 @@
 use Rattle.std.proofs.Common.{◌≡◌, ◌++◌, drop, false}
 use Rattle.xds_resource.specs.Types.{types}
 use Rattle.xds_cache.specs.Sends.{first_of, first_requests, is_greeted}
-use Rattle.xds_cache.proofs.stream_client.XdsClient+A+Down+R.first_requests.Given as goal
+use Rattle.xds_cache.proofs.streaming.StreamingClient+A+Down+R.first_requests.Given as goal
 
 -- what is left decides
 abbrev pub invariant-loop-kind : goal.invariant-loop-kind

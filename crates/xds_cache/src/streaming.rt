@@ -20,14 +20,14 @@ use xds_resource::{NameMap, Refusal, TypeName};
 /// A client of one of the two variants, for all types. `A` is its test of what it is sent, `L` says whether it is
 /// [`Down`] or [`Up`], and `R` is what it sends.
 #[derive(Drop)]
-pub struct XdsClient<A: Accept, L: Link, R: Asks> {
+pub struct StreamingClient<A: Accept, L: Link, R: Asks> {
     pub(crate) client: Client,
     test: PhantomData<A>,
     link: PhantomData<L>,
     sends: PhantomData<R>,
 }
 
-impl<A: Accept, L: Link, R: Asks> Model for XdsClient<A, L, R> {
+impl<A: Accept, L: Link, R: Asks> Model for StreamingClient<A, L, R> {
     ghost use Rattle.xds_cache.specs.Clients as clients;
     ghost use Rattle.xds_cache.specs.Clients.{client_code, IsUsableWhenDown};
 
@@ -40,7 +40,7 @@ impl<A: Accept, L: Link, R: Asks> Model for XdsClient<A, L, R> {
     ghost invariant = { λ c. IsUsableWhenDown L.IS_UP c.client };
 }
 
-impl<A: Accept, L: Link, R: Asks> XdsClient<A, L, R> {
+impl<A: Accept, L: Link, R: Asks> StreamingClient<A, L, R> {
     /// What the client holds of a type.
     pub fn view(&self, kind: TypeName) -> &NameMap<Holding>
         ensures { result.now ≡ view_of self.now kind }
@@ -49,13 +49,13 @@ impl<A: Accept, L: Link, R: Asks> XdsClient<A, L, R> {
     }
 }
 
-impl<A: Accept, R: Asks> XdsClient<A, Down, R> {
+impl<A: Accept, R: Asks> StreamingClient<A, Down, R> {
     /// A client that wants nothing, and says of itself this name and this cluster, which may be empty. It looks at the
     /// cluster nowhere else: which resources the star covers is the server's to decide.
-    pub fn new(alloc: Global, node_id: String, cluster: String) -> XdsClient<A, Down, R>
+    pub fn new(alloc: Global, node_id: String, cluster: String) -> StreamingClient<A, Down, R>
         ensures { result ≡ fresh (string_bytes node_id) (string_bytes cluster) }
     {
-        XdsClient {
+        StreamingClient {
             client: Client::new(alloc, node_id, cluster),
             test: PhantomData,
             link: PhantomData,
@@ -103,16 +103,16 @@ impl<A: Accept, R: Asks> XdsClient<A, Down, R> {
     pub fn connect(
         self,
         alloc: Global,
-    ) -> Result<(XdsClient<A, Up, R>, Vec<R>), XdsClient<A, Down, R>>
+    ) -> Result<(StreamingClient<A, Up, R>, Vec<R>), StreamingClient<A, Down, R>>
         ensures up { IfOk result (λ r. r.0 ≡ linked (is_greeted self false types) self) }
         ensures requests { IfOk result (λ r. r.1.items ≡ first_requests (first_of R.opening self) self false types) }
         ensures err { IfErr result (λ c. c ≡ self) }
     {
         match self.first_requests(alloc) {
             Ok((requests, greeted)) => {
-                let XdsClient { mut client, .. } = self;
+                let StreamingClient { mut client, .. } = self;
                 client.connect(greeted);
-                let up = XdsClient {
+                let up = StreamingClient {
                     client,
                     test: PhantomData,
                     link: PhantomData,
@@ -125,7 +125,7 @@ impl<A: Accept, R: Asks> XdsClient<A, Down, R> {
     }
 }
 
-impl<A: Accept, R: Asks> XdsClient<A, Up, R> {
+impl<A: Accept, R: Asks> StreamingClient<A, Up, R> {
     // After a response, with the answer to send. After an `Err` it is as it was.
     fn answer(&mut self, alloc: Global, response: &R::Response) -> Result<R, Refusal>
         ensures ok { IfOk result (λ q. receives.receive (R.delivered A.accepts response.now) self.old (R.url response.now) ≡ Ok (self.new, q)) }
@@ -157,12 +157,12 @@ impl<A: Accept, R: Asks> XdsClient<A, Up, R> {
     }
 
     /// Once the stream is lost. What is wanted and held stays.
-    pub fn lose(self) -> XdsClient<A, Down, R>
+    pub fn lose(self) -> StreamingClient<A, Down, R>
         ensures { result ≡ unlinked self }
     {
-        let XdsClient { mut client, .. } = self;
+        let StreamingClient { mut client, .. } = self;
         client.lose();
-        XdsClient {
+        StreamingClient {
             client,
             test: PhantomData,
             link: PhantomData,
