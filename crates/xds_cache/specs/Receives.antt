@@ -1,17 +1,18 @@
 -- What `change` and `receive` leave of a client and give to send. This project's own.
 --     Outcome                          what a call leaves of a client, and what it gives to send
 --     sotw_changed, sotw_change        a client of the state of the world wants these texts
---     delta_changed, delta_change, sotw_answered, delta_answered,
---     if_addressed                     after a delta client subscribes and unsubscribes, with the request that says so
---     sotw_receive, delta_receive      a client that can't use its stream refuses a response
-use Rattle.std.specs.Prelude.{Bool, ◌&&◌, if◌then◌else◌, Option, Some, None, Result, Ok, Err}
+--     delta_changed, delta_change      after a delta client subscribes and unsubscribes, with the request that says so
+--     sotw_delivered, delta_delivered  what a response leaves of what is kept of its type
+--     answered, sotw_answered, delta_answered, if_addressed  a client after a response of a type, with its answer
+--     receive, sotw_receive, delta_receive  a client that can't use its stream refuses a response
+use Rattle.std.specs.Prelude.{ℕ, List, Bool, ◌&&◌, if◌then◌else◌, Option, Some, None, Result, Ok, Err}
 use Rattle.std.specs.FinMap as finmap
 use Rattle.xds_resource.specs.declared.types.TypeName.{TypeName}
 use Rattle.xds_resource.specs.declared.refusal.Refusal.{Refusal}
 use Rattle.xds_resource.specs.declared.refusal.Refusal.TheVariants.{NoStream}
 use Rattle.xds_message.specs.Messages.{Request, Response}
 use Rattle.xds_message.specs.DeltaMessages.{DeltaRequest, DeltaResponse}
-use Rattle.xds_cache.specs.Shelves.{Wants, wants_after}
+use Rattle.xds_cache.specs.Shelves.{Wants, Shelf, wants_after}
 use Rattle.xds_cache.specs.Faults.{Test}
 use Rattle.xds_cache.specs.Deliveries.{sotw_delivery, delta_delivery, fault_in, delivered}
 use Rattle.xds_cache.specs.Clients.{Client, shelf, with_shelf, node, is_sent, shelf_after, changed, addressing}
@@ -42,22 +43,35 @@ delta_change up t subscribe unsubscribe c = if up && c.broken then Err NoStream 
 
 -- ---- receive
 
+-- what a response leaves of what is kept of its type, with the request that answers it
+abbrev pub sotw_delivered : Test → Response → TypeName → Shelf → Shelf × Request
+sotw_delivered test r t s =
+    let next = delivered t test s (sotw_delivery t r) in
+    (next, sotw_request t None next (fault_in t test (sotw_delivery t r)))
+
+abbrev pub delta_delivered : Test → DeltaResponse → TypeName → Shelf → Shelf × DeltaRequest
+delta_delivered test r t s = (delivered t test s (delta_delivery r), delta_answer t r.nonce (fault_in t test (delta_delivery r)))
+
+-- a client after a response of a type, with its answer, where `deliver` makes them of what it keeps of the type
+abbrev pub answered : {X : Type 0} → (TypeName → Shelf → Shelf × X) → Client → TypeName → Client × X
+answered deliver c t = let next = deliver t (shelf c t) in (with_shelf c t next.0, next.1)
+
 abbrev pub sotw_answered : Test → Client → Response → TypeName → Client × Request
-sotw_answered test c r t =
-    let s = delivered t test (shelf c t) (sotw_delivery t r) in
-    (with_shelf c t s, sotw_request t None s (fault_in t test (sotw_delivery t r)))
+sotw_answered test c r t = answered (sotw_delivered test r) c t
 
 abbrev pub delta_answered : Test → Client → DeltaResponse → TypeName → Client × DeltaRequest
-delta_answered test c r t =
-    (with_shelf c t (delivered t test (shelf c t) (delta_delivery r)), delta_answer t r.nonce (fault_in t test (delta_delivery r)))
+delta_answered test c r t = answered (delta_delivered test r) c t
 
 abbrev pub if_addressed : {X : Type 0} → (TypeName → Client × X) → Result TypeName Refusal → Outcome X
-if_addressed answered (Err e) = Err e
-if_addressed answered (Ok t) = Ok (answered t)
+if_addressed answer (Err e) = Err e
+if_addressed answer (Ok t) = Ok (answer t)
 
 -- A client that can't use its stream refuses a response, and so does one that didn't ask for its type on this stream.
+abbrev pub receive : {X : Type 0} → (TypeName → Shelf → Shelf × X) → Client → List ℕ → Outcome X
+receive deliver c url = if_addressed (answered deliver c) (addressing c url)
+
 abbrev pub sotw_receive : Test → Client → Response → Outcome Request
-sotw_receive test c r = if_addressed (sotw_answered test c r) (addressing c r.type_url)
+sotw_receive test c r = receive (sotw_delivered test r) c r.type_url
 
 abbrev pub delta_receive : Test → Client → DeltaResponse → Outcome DeltaRequest
-delta_receive test c r = if_addressed (delta_answered test c r) (addressing c r.type_url)
+delta_receive test c r = receive (delta_delivered test r) c r.type_url

@@ -1,10 +1,12 @@
 -- What a client sends: at the start of a stream, and after a change. This project's own.
 --     failure                          why a response is rejected, as `INVALID_ARGUMENT` of google.rpc.Code
---     sotw_request, sotw_first, delta_request  every request has all that is wanted
---     delta_first                      the first request of a type on a stream subscribes all that is wanted
---     delta_answer                     the answer to a response
+--     first_of                         the first request of a type on a stream
 --     first_requests                   the first requests on a stream, of these types in order
 --     is_greeted                       whether who asks was said once these types were asked for
+--     sotw_request                     every request has all that is wanted
+--     sotw_opening, sotw_first, delta_request  the first request of a type on a stream has no nonce
+--     delta_opening, delta_first       the first request of a type on a stream subscribes all that is wanted
+--     delta_answer                     the answer to a response
 use Rattle.std.specs.Prelude.{ℕ, List, [], ◌∷◌, Bool, true, if◌then◌else◌, Option, None, option_map, pos}
 use Rattle.std.specs.FinMap as finmap
 use Rattle.xds_resource.specs.declared.types.TypeName.{TypeName}
@@ -20,6 +22,22 @@ use Rattle.xds_cache.specs.Clients.{Client, shelf, node}
 abbrev pub failure : List ℕ → Failure
 failure message = record { code = pos 3; message = message }
 
+-- ---- both
+
+-- The first request of a type on a stream, where `opening` makes it of who asks and of what is kept of the type.
+abbrev pub first_of : {X : Type 0} → (TypeName → Option Identity → Shelf → X) → Client → TypeName → Bool → X
+first_of opening c t greeted = opening t (node greeted c) (shelf c t)
+
+-- The first requests on a stream, of these types in order: one of each type that is wanted. The first of all says who asks.
+abbrev pub first_requests : {X : Type 0} → (TypeName → Bool → X) → Client → Bool → List TypeName → List X
+first_requests make c greeted [] = []
+first_requests make c greeted (t ∷ ts) = if wants_some (shelf c t).wants then make t greeted ∷ first_requests make c true ts else first_requests make c greeted ts
+
+-- whether who asks was said once these types were asked for
+abbrev pub is_greeted : Client → Bool → List TypeName → Bool
+is_greeted c greeted [] = greeted
+is_greeted c greeted (t ∷ ts) = is_greeted c (if wants_some (shelf c t).wants then true else greeted) ts
+
 -- ---- state of the world
 
 -- Every request has all that is wanted, the last nonce and the version accepted last.
@@ -33,8 +51,12 @@ sotw_request t who s fault = record {
   error_detail = option_map failure fault;
 }
 
+-- The first request of a type on a stream has no nonce.
+abbrev pub sotw_opening : TypeName → Option Identity → Shelf → Request
+sotw_opening t who s = sotw_request t who (connected s) None
+
 abbrev pub sotw_first : Client → TypeName → Bool → Request
-sotw_first c t greeted = sotw_request t (node greeted c) (connected (shelf c t)) None
+sotw_first c t greeted = first_of sotw_opening c t greeted
 
 -- ---- delta
 
@@ -50,8 +72,11 @@ delta_request t who subscribe unsubscribe versions = record {
 }
 
 -- The first request of a type on a stream subscribes all that is wanted, and says which versions are held.
+abbrev pub delta_opening : TypeName → Option Identity → Shelf → DeltaRequest
+delta_opening t who s = delta_request t who s.wants finmap.empty (cached_versions s.cache)
+
 abbrev pub delta_first : Client → TypeName → Bool → DeltaRequest
-delta_first c t greeted = delta_request t (node greeted c) (shelf c t).wants finmap.empty (cached_versions (shelf c t).cache)
+delta_first c t greeted = first_of delta_opening c t greeted
 
 -- the answer to a response
 abbrev pub delta_answer : TypeName → List ℕ → Option (List ℕ) → DeltaRequest
@@ -64,15 +89,3 @@ delta_answer t nonce fault = record {
   response_nonce = nonce;
   error_detail = option_map failure fault;
 }
-
--- ---- both
-
--- The first requests on a stream, of these types in order: one of each type that is wanted. The first of all says who asks.
-abbrev pub first_requests : {X : Type 0} → (TypeName → Bool → X) → Client → Bool → List TypeName → List X
-first_requests make c greeted [] = []
-first_requests make c greeted (t ∷ ts) = if wants_some (shelf c t).wants then make t greeted ∷ first_requests make c true ts else first_requests make c greeted ts
-
--- whether who asks was said once these types were asked for
-abbrev pub is_greeted : Client → Bool → List TypeName → Bool
-is_greeted c greeted [] = greeted
-is_greeted c greeted (t ∷ ts) = is_greeted c (if wants_some (shelf c t).wants then true else greeted) ts

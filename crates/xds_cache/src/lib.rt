@@ -4,6 +4,7 @@
 #![tactic(auto)]
 
 pub mod accept;
+pub mod asks;
 mod client;
 pub mod delta;
 pub mod delta_response;
@@ -17,12 +18,15 @@ pub mod shelf;
 mod shelves;
 pub mod sotw;
 pub mod sotw_response;
+pub mod streaming;
 pub mod wants;
 
 pub use accept::{Accept, AcceptAll, Marked};
+pub use asks::Asks;
 pub use delta::DeltaClient;
 pub use holding::Holding;
 pub use link::{Down, Link, Up};
 pub use rest::RestClient;
 pub use sotw::SotwClient;
+pub use streaming::StreamingClient;
 pub use wants::Wants;

@@ -10,6 +10,8 @@
 --     AreInOrder                       names with versions, as a client says that it holds them: their names ascend
 --     versions_of                      the version of each of them
 --     beliefs_resumed                  what is believed once a client said which versions it holds: it was told these
+--     Names, names_code                what a request says of names
+--     beliefs_after                    what is believed once a request's names are taken
 use Rattle.std.specs.Prelude.{ℕ, ◌-◌, T, List, [], ◌∷◌, ◌++◌, length, take, Bool, ◌&&◌, ◌||◌, not, if◌then◌else◌, Option, Some, None, is_some, option_map, refl}
 use Rattle.std.specs.Option.{option_or}
 use Rattle.std.specs.List.{list_any}

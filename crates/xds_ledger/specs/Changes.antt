@@ -1,6 +1,7 @@
 -- How what is believed changes in place, name by name: the answers of the functions that change it. This project's own.
 --     Changes            for some names what is believed of them from now on
 --     believed_now       what is believed of a name once the changes are made
+--     Lead               the changes lead from what is believed to what is believed after
 --     changes_told       by an accepted response that isn't the whole: of each name of which it speaks
 --     changes_answered   by an answer, where the response isn't the whole or is rejected
 --     left_touched       of a touched name that isn't mentioned

@@ -15,6 +15,7 @@
 --     noted                   what a request touched is noted with the unanswered response, if there is one
 --     forgotten               the same without what was noted last
 --     touch, resume           once a request's names are taken
+--     taken                   once all that a request says of names is taken
 use Rattle.std.specs.Prelude.{ℕ, zero, suc, List, [], Bool, true, false, ◌&&◌, ◌||◌, not, if◌then◌else◌, Option, Some, None, bytes_eq, is_some, is_none, option_map, decimal, refl}
 use Rattle.std.specs.Option.{option_map_or}
 use Rattle.std.specs.FinMap as finmap

@@ -8,6 +8,7 @@
 --     StaysPresent        from one interest to another
 --     IsPassedOver        what a request, and the response that it accepts, say nothing of
 --     ListsRequest        all of which a request may change what is owed is listed
+--     ListsNames          what is listed once a request with this nonce is taken
 --     FitsNext            what a request that is taken leaves
 --     with_names          with some names
 --     with_offer          with the names of the unanswered response, where it is accepted
