@@ -191,7 +191,7 @@ fn copy_cache(alloc: Global, cache: &NameMap<Holding>) -> Result<NameMap<Holding
 }
 
 impl Shelf {
-    /// Of a client that wants nothing.
+    /// The shelf of a client that wants nothing.
     pub fn new(alloc: Global) -> Shelf
         ensures { result ≡ bare }
     {
@@ -225,7 +225,7 @@ impl Shelf {
         })
     }
 
-    /// With this cache, after a response of this nonce that was taken as this version.
+    /// The shelf with this cache, after a response of this nonce that was taken as this version.
     pub fn taking(
         &self,
         alloc: Global,
@@ -273,7 +273,7 @@ impl Shelf {
         self.taking(alloc, cache, nonce, self.accepted.as_str())
     }
 
-    /// At the start of a stream, on which everything that is wanted is asked for.
+    /// Begins a stream, on which everything that is wanted is asked for.
     pub fn connect(&mut self)
         ensures { self.new ≡ connected self.old }
     {

@@ -75,7 +75,7 @@ impl Shelves {
         for_type!(kind, held in &mut self => set(held, shelf))
     }
 
-    /// At the start of a stream.
+    /// Begins a stream.
     pub(crate) fn connect(&mut self)
         ensures { self.new ≡ per_type (λ t. connected (at self.old t)) }
     {

@@ -115,7 +115,7 @@ fn take_mention<T: ResourceType>(
 }
 
 impl<T: ResourceType> Talk<T> {
-    /// Of a stream of which no line spoke.
+    /// What is kept of a stream of which no line spoke.
     pub(crate) fn new(alloc: Global) -> Talk<T>
         ensures { result ≡ unheard }
     {

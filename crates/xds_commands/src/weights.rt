@@ -147,7 +147,7 @@ fn batch_weight(batch: &Batch) -> u64 {
         .saturating_add(writes_weight(batch.secret.as_slice()))
 }
 
-// So many entries of a list.
+// What so many entries of a list weigh.
 fn places(count: usize, each: u64) -> u64 {
     PLACE.saturating_add((count as u64).saturating_mul(each))
 }

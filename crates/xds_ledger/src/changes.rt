@@ -23,7 +23,7 @@ use std::collections::btree_set::Iter;
 use xds_interest::{Interest, Touched};
 use xds_resource::{NameMap, Refusal, ResourceType};
 
-// By an accepted response, of a name that it speaks of.
+// What an accepted response changes of a name that it speaks of.
 fn put_told(
     alloc: Global,
     sent: &Sent,
@@ -39,7 +39,7 @@ fn put_told(
     changes.put(alloc, name, Some(entry))
 }
 
-/// By an accepted response that isn't the whole.
+/// What an accepted response changes that isn't the whole.
 pub fn changes_told(alloc: Global, sent: &Sent) -> Result<NameMap<Option<Entry>>, Refusal>
     ensures ok { IfOk result (λ m. m ≡ specs.changes_told sent.now) }
     ensures err { IfErr result (λ e. e ≡ OutOfMemory) }
@@ -61,7 +61,7 @@ fn is_believed(beliefs: &Beliefs, changes: &NameMap<Option<Entry>>, name: &str) 
     }
 }
 
-// Of a touched name that isn't mentioned.
+// What a request changes of a touched name that it doesn't mention.
 fn put_left<T: ResourceType>(
     alloc: Global,
     interest: &Interest<T>,
@@ -81,7 +81,7 @@ fn put_left<T: ResourceType>(
     changes.put(alloc, name, Some(left))
 }
 
-// Of the touched names, but for those that the request mentions.
+// What a request changes of the touched names, but for those that it mentions.
 fn changes_left<T: ResourceType>(
     alloc: Global,
     interest: &Interest<T>,
@@ -99,7 +99,7 @@ fn changes_left<T: ResourceType>(
     Ok(next)
 }
 
-// Of a name that a request mentions.
+// What a request changes of a name that it mentions.
 fn put_unsure<T: ResourceType>(
     alloc: Global,
     interest: &Interest<T>,
@@ -117,7 +117,7 @@ fn put_unsure<T: ResourceType>(
     }
 }
 
-// Of the names that a request mentions.
+// What a request changes of the names that it mentions.
 fn changes_unsure<T: ResourceType>(
     alloc: Global,
     interest: &Interest<T>,
@@ -136,7 +136,7 @@ fn changes_unsure<T: ResourceType>(
     Ok(next)
 }
 
-// Of the names that a client says it holds at a version.
+// What a request changes of the names that the client says it holds at a version.
 fn changes_resumed(
     alloc: Global,
     versions: &[(&str, &str)],
@@ -153,8 +153,8 @@ fn changes_resumed(
     Ok(next)
 }
 
-/// By a request that doesn't touch every name, after the changes that its answer makes: they leave what the rebuilt map
-/// would have.
+/// What a request changes that doesn't touch every name, after the changes that its answer makes: they leave what the
+/// rebuilt map would have.
 pub fn changes_after<T: ResourceType>(
     alloc: Global,
     names: Names<'_, T>,

@@ -175,7 +175,7 @@ fn how_many(names: &NameMap<u64>) -> u64
     names.iter().len() as u64
 }
 
-// With more names.
+// Lists more names.
 fn with_names(
     alloc: Global,
     names: NameMap<u64>,
@@ -211,7 +211,7 @@ fn owed_names<T: ResourceType>(
     Ok(kept)
 }
 
-// With a name more, on this condition.
+// Puts a name where the condition holds.
 fn put_if(
     alloc: Global,
     names: &mut NameMap<u64>,

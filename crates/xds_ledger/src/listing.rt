@@ -18,7 +18,7 @@ use std::collections::btree_set::Iter;
 use xds_interest::Touched;
 use xds_resource::{NameMap, Refusal, ResourceType};
 
-// With some names.
+// Lists some names, too.
 fn list_names(alloc: Global, listed: Listed, names: Iter<'_, String>) -> Result<Listed, Refusal>
     ensures ok { IfOk result (λ l. l ≡ with_names listed (map string_bytes names.entry)) }
     ensures refused { IfErr result (λ e. e ≡ OutOfMemory) }
@@ -30,7 +30,7 @@ fn list_names(alloc: Global, listed: Listed, names: Iter<'_, String>) -> Result<
     Ok(all)
 }
 
-// With the names of which a client says that it holds a version.
+// Lists the names of which a client says that it holds a version.
 fn list_versions(
     alloc: Global,
     listed: Listed,
@@ -46,7 +46,7 @@ fn list_versions(
     Ok(all)
 }
 
-// With the names of which an offer speaks.
+// Lists the names of which an offer speaks.
 fn list_offer(alloc: Global, listed: Listed, offer: &NameMap<Due>) -> Result<Listed, Refusal>
     ensures ok { IfOk result (λ l. l ≡ with_names listed (finmap.keys offer.now)) }
     ensures refused { IfErr result (λ e. e ≡ OutOfMemory) }
@@ -58,7 +58,7 @@ fn list_offer(alloc: Global, listed: Listed, offer: &NameMap<Due>) -> Result<Lis
     Ok(all)
 }
 
-// With the names of which something is believed.
+// Lists the names of which something is believed.
 fn list_believed(alloc: Global, listed: Listed, beliefs: &Beliefs) -> Result<Listed, Refusal>
     ensures ok { IfOk result (λ l. l ≡ with_names listed (finmap.keys beliefs.now)) }
     ensures refused { IfErr result (λ e. e ≡ OutOfMemory) }
@@ -70,7 +70,7 @@ fn list_believed(alloc: Global, listed: Listed, beliefs: &Beliefs) -> Result<Lis
     Ok(all)
 }
 
-// With every change to be looked at again, where every name is touched.
+// Has every change looked at again, where every name is touched.
 fn list_changes(listed: Listed, all: bool) -> Listed
     ensures { result ≡ (if all then without_mark listed else listed) }
 {
@@ -118,7 +118,7 @@ impl<T: ResourceType, V: Variant> Ledger<T, V> {
         touched.all() || (accepts && V::NAME.is_whole(T::TYPE))
     }
 
-    // With the names of the unanswered response, where it is accepted.
+    // Lists the names of the unanswered response, where it is accepted.
     fn list_sent(&self, alloc: Global, accepts: bool, listed: Listed) -> Result<Listed, Refusal>
         ensures ok { IfOk result (λ l. l ≡ with_offer self.now.account accepts listed) }
         ensures refused { IfErr result (λ e. e ≡ OutOfMemory) }
@@ -132,7 +132,7 @@ impl<T: ResourceType, V: Variant> Ledger<T, V> {
         }
     }
 
-    // With the names of which something is believed, and those that a request mentions, where these may all change.
+    // Lists the names of which something is believed, and those that a request mentions, where these may all change.
     fn list_all(
         &self,
         alloc: Global,

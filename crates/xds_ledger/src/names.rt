@@ -41,7 +41,7 @@ impl<'a, T: ResourceType> Model for Names<'a, T> {
 }
 
 impl<'a, T: ResourceType> Names<'a, T> {
-    /// With no version that the client says it holds.
+    /// What a request says that tells no version.
     pub fn new(
         interest: &'a Interest<T>,
         touched: &'a Touched,
@@ -62,7 +62,7 @@ impl<'a, T: ResourceType> Names<'a, T> {
         }
     }
 
-    /// With the versions that the client says it holds, in ascending order of names.
+    /// Adds the versions that the client says it holds, in ascending order of names.
     pub fn resuming(self, versions: &'a [(&'a str, &'a str)]) -> Names<'a, T>
         requires { AreInOrder (map (λ p. (p.0.now, p.1.now)) versions.now) }
         ensures { result ≡ record self.entry { versions = versions_of (map (λ p. (p.0.now, p.1.now)) versions.now) } }

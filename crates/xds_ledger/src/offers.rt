@@ -102,7 +102,7 @@ fn listed_due<T: ResourceType>(
     Ok(said)
 }
 
-// With what is owed of the names that changed since a mark, and can be told.
+// Adds what is owed of the names that changed since a mark, and can be told.
 fn with_changed<T: ResourceType>(
     alloc: Global,
     variant: VariantName,

@@ -150,7 +150,7 @@ pub fn repeats<T: ResourceType>(
     still_says_where_changed(refused, variant, interest, catalogue, beliefs, mark)
 }
 
-// From which mark on the changes are looked at: a whole response speaks of every name.
+// The mark from which on changes are looked at: a whole response speaks of every name.
 fn first_mark(whole: bool, listed: &Listed) -> u64
     ensures { result ≡ (if whole then 0 else listed.now.mark) }
 {

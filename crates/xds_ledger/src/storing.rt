@@ -97,7 +97,7 @@ fn store(beliefs: &mut Beliefs, name: &str, change: Option<Option<Entry>>)
     }
 }
 
-// And so with each of some names.
+// Stores what the changes say of each of some names.
 fn store_all(beliefs: &mut Beliefs, changes: NameMap<Option<Entry>>, names: &[String])
     ensures { beliefs.new ≡ stored_all beliefs.old changes (map string_bytes names.now) }
 {

@@ -22,7 +22,8 @@ impl NodeName for Brand {
     ghost replica = { no_replica };
 }
 
-// What seats were told weighs as much as what was recorded, and what is shared as much as what was cut.
+// The rule of the tokens: together the seats were told each record once, and the segments that were handed out hold each
+// record that was cut once.
 pub struct Tally;
 
 impl<E> TableRule<E, Holding<E>, ()> for Tally {

@@ -113,7 +113,7 @@ fn is_writable<T: ResourceType>(write: &Write<T>)
     drop(write.shared_body());
 }
 
-// So can a write of a batch.
+// A write of a batch can be written, too.
 fn is_writable_at(batch: &Batch, kind: TypeName, index: usize)
     requires { index < length (at batch.now kind) }
     ensures { (d : StampedWrite) → IsWritable kind (get_or (at batch.now kind) index d) }
