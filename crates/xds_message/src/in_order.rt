@@ -18,7 +18,7 @@ use std::alloc::Global;
 use xds_json::{find_member, read_ordered, text_in, text_of, texts_in, whole_number};
 use xds_resource::resource::{MAX_NESTING, MAX_TEXT, is_valid_name};
 use xds_resource::stamp::MAX_COUNTER;
-use xds_resource::{AnyWrite, Groups, Resource, ResourceType, Stamp, TypeName, Write, for_type};
+use xds_resource::{AnyWrite, Groups, Resource, ResourceType, Stamp, TypeName, Write};
 
 /// The write that the bytes spell, if it puts a resource, and all is in order. None for all that has to be read otherwise.
 pub(crate) fn write_in_order(alloc: Global, scratch: &mut Scratch, bytes: &[u8]) -> Option<AnyWrite>
@@ -38,8 +38,13 @@ pub(crate) fn any_put_in(alloc: Global, value: &Value<'_>, room: usize) -> Optio
     requires shallow { nesting (value_view value.now) ≤ suc max_nesting }
     ensures { IfSome result (λ w. SpellsWrite (meaning (value_view value.now)) (write_type w) (stamped_write w)) }
 {
-    let kind = type_in(value)?;
-    Some(for_type!(kind, AnyWrite of put_in(alloc, value, room)?))
+    match type_in(value)? {
+        TypeName::Cluster => Some(AnyWrite::Cluster(put_in(alloc, value, room)?)),
+        TypeName::Endpoint => Some(AnyWrite::Endpoint(put_in(alloc, value, room)?)),
+        TypeName::Listener => Some(AnyWrite::Listener(put_in(alloc, value, room)?)),
+        TypeName::Route => Some(AnyWrite::Route(put_in(alloc, value, room)?)),
+        TypeName::Secret => Some(AnyWrite::Secret(put_in(alloc, value, room)?)),
+    }
 }
 
 fn put_in<T: ResourceType>(alloc: Global, value: &Value<'_>, room: usize) -> Option<Write<T>>

@@ -26,7 +26,7 @@ use xds_json::fields::{put_inner, put_texts, read_json, set_field, texts_field};
 use xds_resource::resource::is_valid_name;
 use xds_resource::stamp::MAX_COUNTER;
 use xds_resource::{
-    AnyWrite, Groups, Refusal, Resource, ResourceType, Stamp, TypeName, Write, for_any, for_type,
+    AnyWrite, Groups, Refusal, Resource, ResourceType, Stamp, TypeName, Write, for_any,
 };
 
 /// The write that the bytes spell: one JSON object. Keys that are not known are passed over. Refused by `NotJson` where
@@ -158,8 +158,13 @@ pub(crate) fn any_write_of(alloc: Global, value: &Value) -> Result<AnyWrite, Ref
     if !value.is_object() {
         return Err(Refusal::BadMessage);
     }
-    let kind = type_of(value).ok_or(Refusal::BadMessage)?;
-    Ok(for_type!(kind, AnyWrite of write_of(alloc, value)?))
+    match type_of(value).ok_or(Refusal::BadMessage)? {
+        TypeName::Cluster => Ok(AnyWrite::Cluster(write_of(alloc, value)?)),
+        TypeName::Endpoint => Ok(AnyWrite::Endpoint(write_of(alloc, value)?)),
+        TypeName::Listener => Ok(AnyWrite::Listener(write_of(alloc, value)?)),
+        TypeName::Route => Ok(AnyWrite::Route(write_of(alloc, value)?)),
+        TypeName::Secret => Ok(AnyWrite::Secret(write_of(alloc, value)?)),
+    }
 }
 
 fn write_of<T: ResourceType>(alloc: Global, value: &Value) -> Result<Write<T>, Refusal>
