@@ -1,5 +1,4 @@
 -- How a batch of writes is cut into parts, each of which fits a frame. This project's own.
---     typed_write    a write of the program, with its type
 --     max_writes     a part has at most this many writes
 --     max_bytes      and at most this many bytes of bodies and lists of groups
 --     groups_bytes   the bytes of the list of groups, as it is written for a write, and none where it isn't
@@ -10,6 +9,8 @@
 --     IsNextPart     the first part of some writes is given as a batch, and the writes behind it are left
 --     IsFirstPart    the first n of some writes are their first part, as long as the bounds allow
 --     batch_frame    the frame of a batch
+-- a write of the program, with its type
+pub use Rattle.xds_message.specs.Batches.{typed_write}
 use Rattle.std.specs.Prelude.{◌≡◌, ◌≤◌, ◌<◌, ◌+◌, ℕ, List, [], ◌∷◌, ◌++◌, map, length, Bool, true, false, not, ◌&&◌, nat_lt, if◌then◌else◌, Option, Some, None, unwrap_or, take}
 use Rattle.std.specs.List.{sum_by}
 use Rattle.std.specs.Option.{option_map_or}
@@ -24,10 +25,6 @@ use Rattle.xds_json.specs.WrittenFields.{list_data}
 use Rattle.xds_frames.specs.Frames.{Framed}
 use Rattle.xds_frames.specs.declared.frame.FrameKind.TheVariants.{Batch}
 use Rattle.xds_message.specs.Batches.{by_type, batch_object}
-
--- a write of the program, with its type
-abbrev pub typed_write : AnyWrite → TypedWrite
-typed_write w = (write_type w, stamped_write w)
 
 -- a part has at most this many writes
 abbrev pub max_writes : ℕ

@@ -1,4 +1,5 @@
 -- Which JSON values spell a batch of stamped writes, and the object that is written for one. A batch keeps the writes of each type in their order; how writes of different types stand to each other counts for nothing. This project's own.
+--     typed_write                 a write of any type, with its type
 --     by_type                     the batch of some writes: of each type those that are of it, in their order
 --     typed                       the writes of one type, with it
 --     in_order                    all writes of a batch
@@ -16,7 +17,9 @@ use Rattle.std.specs.List.{AllZip, flat_map}
 use Rattle.serde_json.specs.Data.{Data, array}
 use Rattle.serde_json.specs.Find.{get}
 use Rattle.serde_json.specs.View.{items_of}
+use Rattle.xds_resource.specs.declared.any.AnyWrite.{AnyWrite}
 use Rattle.xds_resource.specs.declared.types.TypeName.{TypeName}
+use Rattle.xds_resource.specs.Any.{write_type, stamped_write}
 use Rattle.xds_resource.specs.PerType.{PerType, at, per_type}
 use Rattle.xds_resource.specs.Resources.{IsWritable}
 use Rattle.xds_resource.specs.Stamps.{IsStamp}
@@ -26,6 +29,10 @@ use Rattle.xds_resource.specs.Writes.{StampedWrite}
 use Rattle.xds_json.specs.Spelling.{IsObject, IsOrDefault, set_value}
 use Rattle.xds_json.specs.WrittenFields.{Fields, list_data, object_set}
 use Rattle.xds_message.specs.StampedWrites.{IsSpelledBy, write_object}
+
+-- a write of any type, with its type
+abbrev pub typed_write : AnyWrite → TypedWrite
+typed_write w = (write_type w, stamped_write w)
 
 -- the batch of some writes: of each type those that are of it, in their order
 abbrev pub by_type : List TypedWrite → PerType (List StampedWrite)

@@ -10,7 +10,7 @@ ghost use Rattle.xds_resource.specs.TypedWrites.{TypedWrite};
 ghost use Rattle.xds_resource.specs.Writes.{StampedWrite};
 ghost use Rattle.xds_resource.specs.declared.refusal.Refusal.TheVariants.{NotJson, BadMessage, OutOfMemory};
 ghost use Rattle.xds_json.specs.Spelling.{IsJson, Reads};
-ghost use Rattle.xds_message.specs.Batches.{by_type, typed, in_order, SpellsBatch, batch_object, IsSound};
+ghost use Rattle.xds_message.specs.Batches.{typed_write, by_type, typed, in_order, SpellsBatch, batch_object, IsSound};
 ghost use Rattle.xds_message.specs.StampedWrites.{IsSpelledBy, write_object};
 
 use crate::writes::{any_write_of, object_of_write};
@@ -174,8 +174,7 @@ impl Batch {
     pub fn write_at(&self, alloc: Global, kind: TypeName, index: usize) -> Result<AnyWrite, Refusal>
         requires { index < length (at self.now kind) }
         ensures ok { IfOk result (λ w. (d : StampedWrite) → w ≡ any_write kind (get_or (at self.now kind) index d)) }
-        ensures typed { IfOk result (λ w. (d : StampedWrite)
-            → (write_type w, stamped_write w) ≡ (kind, get_or (at self.now kind) index d)) }
+        ensures typed { IfOk result (λ w. (d : StampedWrite) → typed_write w ≡ (kind, get_or (at self.now kind) index d)) }
         ensures refused { IfErr result (λ e. e ≡ OutOfMemory) }
     {
         Ok(for_type!(kind, AnyWrite of writes in &self => writes[index].try_copy(alloc)?))
