@@ -26,14 +26,15 @@ use crate::site::Site;
 use std::alloc::Global;
 use std::marker::Model;
 use xds_cache::Accept;
-use xds_core::{Event, Numbered, Reply, Request};
+use xds_catalogue::ByNumber;
+use xds_core::{Event, Reply, Request};
 use xds_message::{Batch, DiscoveryRequest, Draft, Node, SotwDraft};
 use xds_resource::{AnyResource, Groups, Refusal, TypeName};
 
 /// Replicas, clients, and the batches that were taken.
 pub(crate) struct State<A: Accept> {
-    sites: Numbered<Site>,
-    peers: Numbered<Peer<A>>,
+    sites: ByNumber<Site>,
+    peers: ByNumber<Peer<A>>,
     pool: Vec<(u16, Batch)>,
 }
 
@@ -73,8 +74,8 @@ impl<A: Accept> State<A> {
         ensures { result ≡ empty_world }
     {
         State {
-            sites: Numbered::new(alloc),
-            peers: Numbered::new(alloc),
+            sites: ByNumber::new(alloc),
+            peers: ByNumber::new(alloc),
             pool: Vec::new(alloc),
         }
     }
