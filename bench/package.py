@@ -52,7 +52,7 @@ def unpack(file, room):
             unsafe = [it for it in names if it.startswith("/") or ".." in it.split("/")]
             if unsafe or len({it.split("/")[0] for it in names}) != 1:
                 stop(f"{file} is no package: its files don't stand in one folder")
-            tar.extractall(room)
+            tar.extractall(room, **({"filter": "data"} if hasattr(tarfile, "data_filter") else {}))
     except (OSError, tarfile.TarError) as error:
         stop(f"{file} can't be unpacked: {error}")
     return f"{room}/{names[0].split('/')[0]}", names
@@ -79,7 +79,7 @@ class Redirected:
     """A command of the README as words, with the files that its output and input are."""
 
     def __init__(self, command, top, room):
-        words = shlex.split(command.removeprefix(NAMED))
+        words = shlex.split(command[len(NAMED) :])
         self.given, self.taken, self.words = os.devnull, None, []
         while words:
             word = words.pop(0)
