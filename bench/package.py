@@ -146,12 +146,13 @@ def main(words):
         faults = []
         if names != sorted(names):
             faults.append("its names aren't sorted")
-        if of_sums(top) != of_files(top):
+        before = of_files(top)
+        if of_sums(top) != before:
             faults.append("SUMS says something else of its files")
         name = os.listdir(f"{top}/bin")[0]
         count, differ = try_commands(top, f"{room}/said", [*in_root(top), f"/bin/{name}"])
         faults += differ
-        if of_sums(top) != of_files(top):
+        if of_files(top) != before:
             faults.append("a command changed the package's files")
         helped = subprocess.run([f"{top}/xds", "--help"], stdin=subprocess.DEVNULL, capture_output=True, text=True, cwd="/", check=False)
         if helped.returncode or "serve" not in helped.stdout:
