@@ -7,6 +7,7 @@ ghost use Rattle.xds_program.specs.CommandLine.{command_line, first_commands, na
 ghost use Rattle.xds_program.specs.CommandLine.{poll_command, replicas_option, required, serve_command, text_option};
 ghost use Rattle.xds_program.specs.CommandLine.{with_default, wanting_command};
 
+use crate::help;
 use clap::{Arg, ArgAction, Command, value_parser};
 use std::alloc::{AllocError, Global};
 
@@ -35,6 +36,7 @@ fn wanting_command<'a>(alloc: Global) -> Command<'a>
 {
     Command::new(alloc, "xds")
         .about("A replicated control plane of Envoy's xDS protocol")
+        .after_help(help::PROGRAM)
         .subcommand_required(true)
 }
 
@@ -45,8 +47,9 @@ fn answer_command<'a>(alloc: Global) -> Result<Command<'a>, AllocError>
         alloc,
         "answer",
         "Joins stamped writes and answers a discovery request",
+        help::ANSWER,
     );
-    let help = "The number of the replica that answers, from 1 to 65535";
+    let help = "The replica that answers, from 1 to 65535";
     let replica = number_option(alloc, "replica", "N", help);
     with_option(answer, with_default(replica, "1"))
 }
@@ -55,9 +58,9 @@ fn play_command<'a>(alloc: Global) -> Result<Command<'a>, AllocError>
     ensures { IfOk result (IsCommand play_command) }
 {
     let about = "Plays a script of replicas and clients, and prints what they show";
-    let help = "Prints the trace of the replica of this number, from 1 to 65535, in place of that";
+    let help = "Prints the trace of replica N, from 1 to 65535, in place of that";
     with_option(
-        named(alloc, "play", about),
+        named(alloc, "play", about, help::PLAY),
         number_option(alloc, "trace", "N", help),
     )
 }
@@ -69,15 +72,19 @@ fn check_command<'a>(alloc: Global) -> Command<'a>
         alloc,
         "check",
         "Checks a trace of a replica, and prints the first rule that is broken",
+        help::CHECK,
     )
 }
 
 fn serve_command<'a>(alloc: Global) -> Result<Command<'a>, AllocError>
     ensures { IfOk result (IsCommand serve_command) }
 {
-    let about = "Serves streams and REST on 127.0.0.1, on ports of its own for each replica";
+    let about = "Serves streams and REST on 127.0.0.1, each replica on its own ports";
     let help = "Ends once this many streams have ended";
-    let serve = with_option(named(alloc, "serve", about), replicas_option(alloc))?;
+    let serve = with_option(
+        named(alloc, "serve", about, help::SERVE),
+        replicas_option(alloc),
+    )?;
     let serve = with_option(serve, port_option(alloc))?;
     let serve = with_option(serve, rest_port_option(alloc))?;
     with_option(serve, number_option(alloc, "streams", "S", help))
@@ -99,7 +106,7 @@ fn replicas_option<'a>(alloc: Global) -> Arg<'a>
 fn port_option<'a>(alloc: Global) -> Arg<'a>
     ensures { IsOption port_option result }
 {
-    let help = "The port for streams of replica 1; each further replica has the next port";
+    let help = "The first port for streams, one a replica";
     with_default(number_option(alloc, "port", "P", help), "18000")
 }
 
@@ -107,7 +114,7 @@ fn port_option<'a>(alloc: Global) -> Arg<'a>
 fn rest_port_option<'a>(alloc: Global) -> Arg<'a>
     ensures { IsOption rest_port_option result }
 {
-    let help = "The port for REST of replica 1; each further replica has the next port";
+    let help = "The first port for REST, one a replica";
     with_default(number_option(alloc, "rest-port", "Q", help), "18100")
 }
 
@@ -124,8 +131,11 @@ fn client_command<'a>(alloc: Global) -> Result<Command<'a>, AllocError>
 fn client_start<'a>(alloc: Global) -> Result<Command<'a>, AllocError>
     ensures { IfOk result (IsCommand client_start) }
 {
-    let about = "Subscribes to resources on a stream, and prints what it is told of them";
-    let client = with_option(named(alloc, "client", about), addr_option(alloc))?;
+    let about = "Subscribes to resources on a stream, and prints what it is told";
+    let client = with_option(
+        named(alloc, "client", about, help::CLIENT),
+        addr_option(alloc),
+    )?;
     let client = with_option(client, variant_option(alloc))?;
     with_option(client, type_option(alloc))
 }
@@ -166,8 +176,8 @@ fn poll_command<'a>(alloc: Global) -> Result<Command<'a>, AllocError>
 fn poll_start<'a>(alloc: Global) -> Result<Command<'a>, AllocError>
     ensures { IfOk result (IsCommand poll_start) }
 {
-    let about = "Polls resources once over REST, and prints the status and the body of the answer";
-    let poll = with_option(named(alloc, "poll", about), addr_option(alloc))?;
+    let about = "Polls resources once over REST, and prints the reply's status and body";
+    let poll = with_option(named(alloc, "poll", about, help::POLL), addr_option(alloc))?;
     with_option(poll, type_option(alloc))
 }
 
@@ -183,7 +193,7 @@ fn addr_option<'a>(alloc: Global) -> Arg<'a>
 fn type_option<'a>(alloc: Global) -> Arg<'a>
     ensures { IsOption (required (text_option (codes "type"))) result }
 {
-    let help = "The type of the resources: cluster, endpoint, listener, route or secret";
+    let help = "Type: cluster, endpoint, listener, route or secret";
     required(text_option(alloc, "type", "TYPE", help))
 }
 
@@ -194,11 +204,11 @@ fn cluster_option<'a>(alloc: Global) -> Arg<'a>
     text_option(alloc, "cluster", "TEXT", "The cluster of the client's node")
 }
 
-// A command of this name, without options yet.
-fn named<'a>(alloc: Global, name: &'a str, about: &'a str) -> Command<'a>
+// A command of this name, without options yet: what it is about, and what its help says at its end.
+fn named<'a>(alloc: Global, name: &'a str, about: &'a str, more: &'a str) -> Command<'a>
     ensures { IsCommand (new_app name.entry.now) result }
 {
-    Command::new(alloc, name).about(about)
+    Command::new(alloc, name).about(about).after_help(more)
 }
 
 // The command with one more option.

@@ -4,6 +4,7 @@
 pub mod answer;
 mod command_line;
 mod gathering;
+mod help;
 pub mod judge;
 pub mod laws;
 mod option_values;

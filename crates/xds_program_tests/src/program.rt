@@ -455,6 +455,55 @@ poll --addr here --type cluster => fault 2 2",
     )
 }
 
+// The status of a run over words, and what its help says behind the options: its examples, each by
+// its first line with `from` for `<`, and the statuses. A line of more than 80 columns is told too,
+// but for the usage that `clap` makes.
+struct Helped;
+
+impl Outcome for Helped {
+    fn of(alloc: Global, given: &str) -> Result<String, Fail> {
+        let told = told(alloc, given, b"")?;
+        let (end, help) = told.as_str().split_once(' ').ok_or("no end")?;
+        let (help, statuses) = help.split_once("Statuses:~").ok_or("no statuses")?;
+        let mut said = String::from_str(alloc, end)?;
+        for line in help.split('~') {
+            let is_wide = line.chars().count() > 80 && !line.starts_with("Usage: ");
+            if is_wide || line.starts_with("  ./xds ") {
+                write!(said, " |{line}")?;
+            }
+        }
+        said.push_str(" |")?;
+        for line in statuses.split('~') {
+            let status = line.split_whitespace().next().unwrap_or("");
+            let shown = if line.chars().count() > 80 {
+                line
+            } else {
+                status
+            };
+            if !shown.is_empty() {
+                write!(said, " {shown}")?;
+            }
+        }
+        Ok(replaced(alloc, said.as_str(), " < ", " from ")?)
+    }
+}
+
+#[test]
+fn help_has_examples_and_statuses(rt: HostRuntime) -> Result<(), Fail> {
+    hold::<Helped, HostRuntime>(
+        &rt,
+        r"--help => 0 |  ./xds check from examples/mesh_broken.trace | 0 1 2 3
+answer --help => 0 |  ./xds answer from examples/clusters.jsonl | 0 1 2
+play --help => 0 |  ./xds play from examples/mesh.script
+     |  ./xds play --trace 2 from examples/mesh.script > mesh.trace | 0 1 2
+check --help => 0 |  ./xds check from examples/mesh_broken.trace | 0 1 2
+serve --help => 0 |  ./xds serve from examples/mesh.serve | 0 1 2
+client --help => 0 |  ./xds client --addr 127.0.0.1:18001 --variant delta \ | 0 1 2
+poll --help => 0 |  ./xds poll --addr 127.0.0.1:18101 --type route shop | 0 1 2
+help poll => 0 |  ./xds poll --addr 127.0.0.1:18101 --type route shop | 0 1 2",
+    )
+}
+
 #[test]
 fn tasks_of_a_network_are_handed_on(rt: HostRuntime) -> Result<(), Fail> {
     hold::<Aside, HostRuntime>(

@@ -1,0 +1,102 @@
+// What `--help` says behind the options: an example, what is read and printed, and the statuses.
+// No line is wider than 80 columns.
+
+/// At the end of `xds --help`.
+pub(crate) const PROGRAM: &str = "Example, in the repository's top folder, and what it prints:
+  ./xds check < examples/mesh_broken.trace
+  broken 13 P2
+
+A command reads the standard input, prints on the standard output, and tells
+refusals on the error output. `xds COMMAND --help` says in which formats;
+docs/CLI.md has all of them, and what to do about each refusal. At a terminal
+a long run tells every two seconds how far it is.
+
+Statuses:
+  0  done
+  1  the input was refused, a rule is broken, or the run could not go on
+  2  the words are wrong; nothing was read
+  3  of ./xds alone: the program could not be built";
+
+/// At the end of `xds answer --help`.
+pub(crate) const ANSWER: &str = "Example:
+  ./xds answer < examples/clusters.jsonl
+
+Reads lines of JSON: stamped writes, and a DiscoveryRequest on the last.
+Prints the response as a line of JSON, or nothing where there is none to send.
+The formats are in docs/FORMATS.md, the refusals in docs/CLI.md.
+
+Statuses:
+  0  done
+  1  a line was refused, or the run could not go on
+  2  the words are wrong; nothing was read";
+
+/// At the end of `xds play --help`.
+pub(crate) const PLAY: &str = "Examples:
+  ./xds play < examples/mesh.script
+  ./xds play --trace 2 < examples/mesh.script > mesh.trace
+
+Reads a script, a command a line, as in `view 2 cluster`.
+Prints what the lines `view` and `content` show, or the trace of a replica.
+The formats are in docs/FORMATS.md, the refusals in docs/CLI.md.
+
+Statuses:
+  0  done
+  1  a line was refused, or the run could not go on
+  2  the words are wrong; nothing was read";
+
+/// At the end of `xds check --help`.
+pub(crate) const CHECK: &str = "Example, and what it prints:
+  ./xds check < examples/mesh_broken.trace
+  broken 13 P2
+
+Reads a trace, a line an event, as `xds play --trace N` prints it.
+Prints `ok`, or `broken LINE RULE`: the first line that breaks a rule, and the
+least rule that it breaks. Traces and rules are in docs/FORMATS.md, the
+refusals in docs/CLI.md.
+
+Statuses:
+  0  ok
+  1  a rule is broken, a line was refused, or the run could not go on
+  2  the words are wrong; nothing was read";
+
+/// At the end of `xds serve --help`.
+pub(crate) const SERVE: &str = "Example:
+  ./xds serve < examples/mesh.serve
+
+Reads lines `put`, `putin` and `delete` of scripts, and applies each while it
+serves; at the end of the input it goes on, until it is stopped (Ctrl-C).
+Prints nothing; the error output has a line a replica, which says what is
+served where. docs/SERVING.md has more, docs/CLI.md the refusals.
+
+Statuses:
+  0  as many streams have ended as --streams says
+  1  a line was refused, a port can't be bound, or it could not go on
+  2  the words are wrong; nothing was read";
+
+/// At the end of `xds client --help`.
+pub(crate) const CLIENT: &str = "Example, beside `./xds serve < examples/mesh.serve`:
+  ./xds client --addr 127.0.0.1:18001 --variant delta \\
+      --type cluster --responses 1 '*'
+
+Reads no input; `*` asks for all clusters or listeners.
+Prints for each response `taken NONCE` or `refused NONCE`, and then what it
+shows, a line a resource. The formats are in docs/FORMATS.md, the refusals in
+docs/CLI.md.
+
+Statuses:
+  0  so many responses were answered
+  1  no server, the stream broke off, or what came is no response to be taken
+  2  the words are wrong; nothing was sent";
+
+/// At the end of `xds poll --help`.
+pub(crate) const POLL: &str = "Example, beside `./xds serve < examples/mesh.serve`:
+  ./xds poll --addr 127.0.0.1:18101 --type route shop
+
+Reads no input; without a NAME it asks for all clusters or listeners.
+Prints the status of the reply, and its body, where it has one, in the next
+line. docs/SERVING.md has more, docs/CLI.md the refusals.
+
+Statuses:
+  0  a reply came, whatever its status is
+  1  no reply came
+  2  the words are wrong; nothing was sent";
