@@ -1,7 +1,7 @@
 // The programs of a replicated xDS control plane, over the process's own words and streams.
 #![tactic(auto)]
 
-use std::io::ErrorKind;
+use std::io::{ErrorKind, IsTerminal};
 use std::process::ExitCode;
 use std::rt::Env;
 use std::{env, io};
@@ -12,6 +12,11 @@ use xds_resource::Refusal;
 
 fn main(rt: HostRuntime) -> ExitCode {
     let mut errors = Counted::new(rt.stderr());
+    let terminal = if rt.stderr().is_terminal() {
+        Some(rt.stderr())
+    } else {
+        None
+    };
     let status = match arguments(&rt) {
         Ok(words) => run(
             &rt,
@@ -19,6 +24,7 @@ fn main(rt: HostRuntime) -> ExitCode {
             rt.stdin(),
             &mut Counted::new(rt.stdout()),
             &mut errors,
+            terminal,
         ),
         Err(error) if error.kind() == ErrorKind::InvalidData => {
             let _ = write_whole(&mut errors, b"error: a word is not UTF-8\n");

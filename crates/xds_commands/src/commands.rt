@@ -1,6 +1,7 @@
 // A run of the program with a network beside it.
 use crate::machine::{Machine, Runtime};
 use crate::polling::poll_once;
+use crate::progress::ProgressReader;
 use crate::server::{Serving, serve};
 use crate::watching::watch;
 use std::io::{Read, Write};
@@ -9,25 +10,28 @@ use xds_frames::Counted;
 use xds_program::ServeTask;
 use xds_program::run::Ran;
 
-/// Runs the program with these words, the first of which is its name, and answers the status. The words are looked at before
-/// any input, and before any connection. A server takes the input in a thread of its own, and its threads go on until the
-/// process ends.
-pub fn run<R, I, O, E>(
+/// Runs the program with these words, the first of which is its name, and answers the status. The words are looked
+/// at before any input, and before any connection. A server takes the input in a thread of its own, and its threads go
+/// on until the process ends. Where there is a terminal, a thread tells there how far a run is that works on its input
+/// itself: beside what the run writes on the error output, and until the run is done.
+pub fn run<R, I, O, E, P>(
     rt: &R,
     words: &[String],
     input: I,
     output: &mut Counted<O>,
     errors: &mut Counted<E>,
+    terminal: Option<P>,
 ) -> u8
 where
     R: Runtime + Net<Listener = TcpListener, Stream = TcpStream>,
     I: Read + Drop + Send + 'static,
     O: Write,
     E: Write,
+    P: Write + Drop + Send + 'static,
 {
-    let mut input = Counted::new(input);
+    let mut input = Counted::new(ProgressReader::start(rt, input, terminal));
     let ran = xds_program::run::run(rt.alloc(), words, &mut input, output, errors);
-    go_on(rt, ran, input.inner, output, errors)
+    go_on(rt, ran, input.inner.finish(), output, errors)
 }
 
 // Does what is left to do of a run.

@@ -6,6 +6,8 @@
 #[cfg(test)]
 mod alone;
 #[cfg(test)]
+mod progress;
+#[cfg(test)]
 mod running;
 #[cfg(test)]
 mod serve;

@@ -18,7 +18,15 @@ pub(crate) fn ran<R: Runtime + Net<Listener = TcpListener, Stream = TcpStream>>(
     let words = words_of(alloc, line)?;
     let mut output = Counted::new(Vec::new(alloc));
     let mut errors = Counted::new(Vec::new(alloc));
-    let status = run(rt, words.as_slice(), input, &mut output, &mut errors);
+    let terminal: Option<Vec<u8>> = None;
+    let status = run(
+        rt,
+        words.as_slice(),
+        input,
+        &mut output,
+        &mut errors,
+        terminal,
+    );
     told(alloc, status, output.inner, errors.inner)
 }
 

@@ -8,7 +8,8 @@ pub(crate) const PROGRAM: &str = "Example, in the repository's top folder, and w
 
 A command reads the standard input, prints on the standard output, and tells
 refusals on the error output. `xds COMMAND --help` says in which formats;
-docs/CLI.md has all of them, and what to do about each refusal.
+docs/CLI.md has all of them, and what to do about each refusal. At a terminal
+a long run tells every two seconds how far it is.
 
 Statuses:
   0  done
