@@ -58,7 +58,7 @@ fn play_command<'a>(alloc: Global) -> Result<Command<'a>, AllocError>
     ensures { IfOk result (IsCommand play_command) }
 {
     let about = "Plays a script of replicas and clients, and prints what they show";
-    let help = "Prints the trace of replica N, from 1 to 65535, in place of that";
+    let help = "Prints the trace of replica N (1 to 65535) in place of that";
     with_option(
         named(alloc, "play", about, help::PLAY),
         number_option(alloc, "trace", "N", help),
@@ -106,7 +106,7 @@ fn replicas_option<'a>(alloc: Global) -> Arg<'a>
 fn port_option<'a>(alloc: Global) -> Arg<'a>
     ensures { IsOption port_option result }
 {
-    let help = "The first port for streams, one a replica";
+    let help = "First port for streams, one a replica";
     with_default(number_option(alloc, "port", "P", help), "18000")
 }
 
@@ -114,7 +114,7 @@ fn port_option<'a>(alloc: Global) -> Arg<'a>
 fn rest_port_option<'a>(alloc: Global) -> Arg<'a>
     ensures { IsOption rest_port_option result }
 {
-    let help = "The first port for REST, one a replica";
+    let help = "First port for REST, one a replica";
     with_default(number_option(alloc, "rest-port", "Q", help), "18100")
 }
 
