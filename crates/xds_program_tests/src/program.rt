@@ -469,7 +469,8 @@ impl Outcome for Helped {
         for line in help.split('~') {
             let is_wide = line.chars().count() > 80 && !line.starts_with("Usage: ");
             if is_wide || line.starts_with("  ./xds ") {
-                write!(said, " |{line}")?;
+                said.push_str(" |")?;
+                said.push_str(line)?;
             }
         }
         said.push_str(" |")?;
@@ -481,7 +482,8 @@ impl Outcome for Helped {
                 status
             };
             if !shown.is_empty() {
-                write!(said, " {shown}")?;
+                said.push_str(" ")?;
+                said.push_str(shown)?;
             }
         }
         Ok(replaced(alloc, said.as_str(), " < ", " from ")?)
