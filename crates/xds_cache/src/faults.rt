@@ -4,6 +4,7 @@ ghost use Rattle.std.specs.FinMap as finmap;
 ghost use Rattle.std.specs.Option.{option_map};
 ghost use Rattle.serde_json.specs.View.{view};
 ghost use Rattle.xds_resource.specs.declared.refusal.Refusal.TheVariants.{OutOfMemory};
+ghost use Rattle.xds_resource.specs.Any.{named_body};
 ghost use Rattle.xds_cache.specs.Faults.{refusal_text as text_of, is_misnamed as misnamed, first_reason, reasons, fault_of, and_stated};
 
 use crate::accept::Accept;
