@@ -23,7 +23,7 @@ use xds_catalogue::Catalogue;
 use xds_message::Batch;
 use xds_resource::{
     AnyResource, AnyWrite, Cluster, Endpoint, Groups, Listener, Refusal, ResourceType, Route,
-    Secret, Stamp, TypeName, Write, for_any, for_type,
+    Secret, Stamp, TypeName, Write,
 };
 
 /// How many writes added or replaced an entry, of each type.
@@ -77,7 +77,13 @@ impl Catalogues {
         ensures memory { IfErr result (λ e. e ≡ OutOfMemory → IsOk (joining_at self.old (write_type write) (stamped_write write))) }
         ensures err { OnErr result (self.new ≡ self.old) }
     {
-        for_any!(write, AnyWrite(write), held in &mut self => join_one(held, write))
+        match write {
+            AnyWrite::Cluster(write) => join_one(&mut self.cluster, write),
+            AnyWrite::Endpoint(write) => join_one(&mut self.endpoint, write),
+            AnyWrite::Listener(write) => join_one(&mut self.listener, write),
+            AnyWrite::Route(write) => join_one(&mut self.route, write),
+            AnyWrite::Secret(write) => join_one(&mut self.secret, write),
+        }
     }
 
     /// Puts a resource with these groups, as a new write even where an equal body stands, and whatever groups that had.
@@ -94,7 +100,13 @@ impl Catalogues {
         ensures writer { IfOk result (λ s. s.writer ≡ writer) }
         ensures err { OnErr result (self.new ≡ self.old) }
     {
-        for_any!(resource, AnyResource(resource), held in &mut self => held.put(resource, groups, writer))
+        match resource {
+            AnyResource::Cluster(resource) => self.cluster.put(resource, groups, writer),
+            AnyResource::Endpoint(resource) => self.endpoint.put(resource, groups, writer),
+            AnyResource::Listener(resource) => self.listener.put(resource, groups, writer),
+            AnyResource::Route(resource) => self.route.put(resource, groups, writer),
+            AnyResource::Secret(resource) => self.secret.put(resource, groups, writer),
+        }
     }
 
     /// Deletes the live resource of a name; the write stays for good. `writer` is the number of this replica, from 1.
@@ -105,7 +117,13 @@ impl Catalogues {
         ensures writer { IfOk result (λ s. s.writer ≡ writer) }
         ensures err { OnErr result (self.new ≡ self.old) }
     {
-        for_type!(kind, held in &mut self => held.delete(name, writer))
+        match kind {
+            TypeName::Cluster => self.cluster.delete(name, writer),
+            TypeName::Endpoint => self.endpoint.delete(name, writer),
+            TypeName::Listener => self.listener.delete(name, writer),
+            TypeName::Route => self.route.delete(name, writer),
+            TypeName::Secret => self.secret.delete(name, writer),
+        }
     }
 
     /// Joins the writes of a batch, all or none. Answers by how much the changes grew, over all types.
@@ -170,7 +188,13 @@ impl Catalogues {
         ensures refused { IfErr result (λ e. e ≡ OutOfMemory) }
     {
         let mut batch = Batch::new(alloc);
-        for_type!(kind, writes in &mut batch, held in &self => *writes = writes_of(alloc, held)?);
+        match kind {
+            TypeName::Cluster => batch.cluster = writes_of(alloc, &self.cluster)?,
+            TypeName::Endpoint => batch.endpoint = writes_of(alloc, &self.endpoint)?,
+            TypeName::Listener => batch.listener = writes_of(alloc, &self.listener)?,
+            TypeName::Route => batch.route = writes_of(alloc, &self.route)?,
+            TypeName::Secret => batch.secret = writes_of(alloc, &self.secret)?,
+        }
         Ok(batch)
     }
 
@@ -218,7 +242,13 @@ impl Catalogues {
     pub fn changes(&self, kind: TypeName) -> u64
         ensures { result ≡ (at self.now kind).changes }
     {
-        for_type!(kind, held in &self => held.changes())
+        match kind {
+            TypeName::Cluster => self.cluster.changes(),
+            TypeName::Endpoint => self.endpoint.changes(),
+            TypeName::Listener => self.listener.changes(),
+            TypeName::Route => self.route.changes(),
+            TypeName::Secret => self.secret.changes(),
+        }
     }
 
     /// Equal catalogues, with memory of their own. Refused only by `OutOfMemory`.

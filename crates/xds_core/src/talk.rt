@@ -20,9 +20,7 @@ use std::marker::Model;
 use xds_interest::ClusterText;
 use xds_ledger::{Due, Nonces, Outcome, VariantName};
 use xds_message::Draft;
-use xds_resource::{
-    Cluster, Endpoint, Listener, NameMap, Refusal, Route, Secret, TypeName, for_type,
-};
+use xds_resource::{Cluster, Endpoint, Listener, NameMap, Refusal, Route, Secret, TypeName};
 
 /// A variant, the numbers of the responses, and a session of each type, all of the variant.
 pub(crate) struct Talk {
@@ -121,7 +119,13 @@ impl Talk {
         ensures err { OnErr result (self.new ≡ self.old) }
         ensures refused { IfErr result (λ e. e ≡ OutOfMemory) }
     {
-        for_type!(kind, session in &mut self => session.take(alloc, request))
+        match kind {
+            TypeName::Cluster => self.cluster.take(alloc, request),
+            TypeName::Endpoint => self.endpoint.take(alloc, request),
+            TypeName::Listener => self.listener.take(alloc, request),
+            TypeName::Route => self.route.take(alloc, request),
+            TypeName::Secret => self.secret.take(alloc, request),
+        }
     }
 
     /// Whether the client is owed something of the type. It takes no memory.
@@ -129,7 +133,13 @@ impl Talk {
         requires { ListingFits held.now self.now }
         ensures { result ≡ owes_of held.now (stream_in self.now.talk) kind }
     {
-        for_type!(kind, session in &self, catalogue in &held => session.owes(catalogue))
+        match kind {
+            TypeName::Cluster => self.cluster.owes(&held.cluster),
+            TypeName::Endpoint => self.endpoint.owes(&held.endpoint),
+            TypeName::Listener => self.listener.owes(&held.listener),
+            TypeName::Route => self.route.owes(&held.route),
+            TypeName::Secret => self.secret.owes(&held.secret),
+        }
     }
 
     /// Whether a response of the type is to be sent. It takes no memory.
@@ -137,7 +147,13 @@ impl Talk {
         requires { ListingFits held.now self.now }
         ensures { result ≡ is_some (to_send held.now (stream_in self.now.talk) kind) }
     {
-        for_type!(kind, session in &self, catalogue in &held => session.sends(catalogue))
+        match kind {
+            TypeName::Cluster => self.cluster.sends(&held.cluster),
+            TypeName::Endpoint => self.endpoint.sends(&held.endpoint),
+            TypeName::Listener => self.listener.sends(&held.listener),
+            TypeName::Route => self.route.sends(&held.route),
+            TypeName::Secret => self.secret.sends(&held.secret),
+        }
     }
 
     /// Looks at what changed of the type since, and lets the names go that are owed nothing, as far as there is memory.
@@ -146,7 +162,13 @@ impl Talk {
         ensures same { self.new.talk ≡ self.old.talk }
         ensures fits { ListingFits held.now self.new }
     {
-        for_type!(kind, session in &mut self, catalogue in &held => session.tidy(alloc, catalogue))
+        match kind {
+            TypeName::Cluster => self.cluster.tidy(alloc, &held.cluster),
+            TypeName::Endpoint => self.endpoint.tidy(alloc, &held.endpoint),
+            TypeName::Listener => self.listener.tidy(alloc, &held.listener),
+            TypeName::Route => self.route.tidy(alloc, &held.route),
+            TypeName::Secret => self.secret.tidy(alloc, &held.secret),
+        }
     }
 
     /// The same of all types.
@@ -178,7 +200,13 @@ impl Talk {
         ensures err { OnErr result (self.new.talk ≡ self.old.talk) }
     {
         let nonces = &mut self.nonces;
-        for_type!(kind, session in &mut self, catalogue in &held => session.poll(alloc, replica, catalogue, nonces))
+        match kind {
+            TypeName::Cluster => self.cluster.poll(alloc, replica, &held.cluster, nonces),
+            TypeName::Endpoint => self.endpoint.poll(alloc, replica, &held.endpoint, nonces),
+            TypeName::Listener => self.listener.poll(alloc, replica, &held.listener, nonces),
+            TypeName::Route => self.route.poll(alloc, replica, &held.route, nonces),
+            TypeName::Secret => self.secret.poll(alloc, replica, &held.secret, nonces),
+        }
     }
 
     fn nonces(&self) -> Nonces
@@ -201,7 +229,17 @@ impl Talk {
         ensures draft { IfOk result (λ p. p.1 ≡ drafted replica kind (at held.now kind) (at self.now.talk.sessions kind).asked.interest self.now.talk.variant p.0 number) }
         ensures refused { IfErr result (λ e. e ≡ OutOfMemory) }
     {
-        for_type!(kind, session in &self, catalogue in &held => session.respond(alloc, replica, catalogue, number))
+        match kind {
+            TypeName::Cluster => self.cluster.respond(alloc, replica, &held.cluster, number),
+            TypeName::Endpoint => self
+                .endpoint
+                .respond(alloc, replica, &held.endpoint, number),
+            TypeName::Listener => self
+                .listener
+                .respond(alloc, replica, &held.listener, number),
+            TypeName::Route => self.route.respond(alloc, replica, &held.route, number),
+            TypeName::Secret => self.secret.respond(alloc, replica, &held.secret, number),
+        }
     }
 
     // Notes that a response of a type with this offer was sent, as the one of the last of these numbers.
@@ -218,7 +256,13 @@ impl Talk {
         ensures lists { self.new.lists ≡ self.old.lists }
     {
         self.nonces = drawn;
-        for_type!(kind, session in &mut self => session.send(alloc, offer, number))
+        match kind {
+            TypeName::Cluster => self.cluster.send(alloc, offer, number),
+            TypeName::Endpoint => self.endpoint.send(alloc, offer, number),
+            TypeName::Listener => self.listener.send(alloc, offer, number),
+            TypeName::Route => self.route.send(alloc, offer, number),
+            TypeName::Secret => self.secret.send(alloc, offer, number),
+        }
     }
 
     /// The next response of the type, if one is to be sent, and an equal one beside it. It is refused as `poll` is, also

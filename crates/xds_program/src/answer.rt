@@ -15,7 +15,7 @@ use xds_core::Catalogues;
 use xds_interest::ClusterText;
 use xds_ledger::Nonces;
 use xds_message::{DiscoveryRequest, SotwDraft};
-use xds_resource::{Refusal, ResourceType, TypeName, for_type};
+use xds_resource::{Refusal, ResourceType, TypeName};
 use xds_sessions::sotw_session::Session;
 
 /// Answers an input of stamped writes, a line each, and a `DiscoveryRequest` on the last line. The writes are joined
@@ -145,7 +145,13 @@ fn respond_of(
         ≡ response_to replica kind (at catalogues.now kind) request.now) }
     ensures refused { IfErr result (λ e. e ≡ Refusal.OutOfMemory) }
 {
-    for_type!(kind, held in &catalogues => respond(alloc, replica, held, request))
+    match kind {
+        TypeName::Cluster => respond(alloc, replica, &catalogues.cluster, request),
+        TypeName::Endpoint => respond(alloc, replica, &catalogues.endpoint, request),
+        TypeName::Listener => respond(alloc, replica, &catalogues.listener, request),
+        TypeName::Route => respond(alloc, replica, &catalogues.route, request),
+        TypeName::Secret => respond(alloc, replica, &catalogues.secret, request),
+    }
 }
 
 // The text of the cluster of the node that a request comes from, empty where it has none.
