@@ -28,7 +28,7 @@ use xds_interest::ClusterText;
 use xds_ledger::Outcome;
 use xds_message::{Batch, Draft, SotwDraft};
 use xds_resource::stamp::MAX_COUNTER;
-use xds_resource::{AnyResource, Groups, Refusal, TypeName, for_type};
+use xds_resource::{AnyResource, Groups, Refusal, TypeName};
 use xds_sessions::rested;
 
 /// One replica: what it holds of each type, and its open streams.
@@ -322,7 +322,48 @@ impl Core {
         ensures refused { IfErr result (λ e. e ≡ OutOfMemory) }
     {
         let held = &self.held;
-        for_type!(kind, catalogue in &held => rested(self.alloc, self.replica, catalogue, names, version, cluster))
+        match kind {
+            TypeName::Cluster => rested(
+                self.alloc,
+                self.replica,
+                &held.cluster,
+                names,
+                version,
+                cluster,
+            ),
+            TypeName::Endpoint => rested(
+                self.alloc,
+                self.replica,
+                &held.endpoint,
+                names,
+                version,
+                cluster,
+            ),
+            TypeName::Listener => rested(
+                self.alloc,
+                self.replica,
+                &held.listener,
+                names,
+                version,
+                cluster,
+            ),
+            TypeName::Route => rested(
+                self.alloc,
+                self.replica,
+                &held.route,
+                names,
+                version,
+                cluster,
+            ),
+            TypeName::Secret => rested(
+                self.alloc,
+                self.replica,
+                &held.secret,
+                names,
+                version,
+                cluster,
+            ),
+        }
     }
 
     fn since(&self, marks: Marks) -> Result<Reply, Refusal>
