@@ -100,7 +100,7 @@ class Redirected:
                 self.words.append(word)
 
     def start(self, program, said):
-        with open(self.given, "rb") as given, open(self.taken or said, "wb") as taken, open(said, "ab") as errors:
+        with open(self.given, "rb") as given, open(self.taken or said, "wb" if self.taken else "ab") as taken, open(said, "ab") as errors:
             return subprocess.Popen([*program, *self.words], stdin=given, stdout=taken, stderr=errors, env=ENVIRONMENT, cwd="/")
 
 
