@@ -14,7 +14,7 @@ use std::alloc::Global;
 use std::slice;
 use xds_cache::Marked;
 use xds_message::Batch;
-use xds_resource::{Refusal, TypeName, for_type};
+use xds_resource::{Refusal, TypeName};
 use xds_world::{Command, Status, Unsettled, World, WorldEvent, more, play, read_script, settle};
 
 /// Why a script isn't played.
@@ -186,7 +186,13 @@ fn print_entries(
     ensures shown { OnOk result (string_bytes text.new ≡ string_bytes text.old ++ content_text replica kind (at entries.now kind)) }
     ensures refused { IfErr result (λ e. e ≡ OutOfMemory) }
 {
-    for_type!(kind, writes in &entries => show_content(alloc, text, replica, writes))
+    match kind {
+        TypeName::Cluster => show_content(alloc, text, replica, &entries.cluster),
+        TypeName::Endpoint => show_content(alloc, text, replica, &entries.endpoint),
+        TypeName::Listener => show_content(alloc, text, replica, &entries.listener),
+        TypeName::Route => show_content(alloc, text, replica, &entries.route),
+        TypeName::Secret => show_content(alloc, text, replica, &entries.secret),
+    }
 }
 
 // Prints that there is no such client or replica.

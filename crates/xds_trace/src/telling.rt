@@ -25,7 +25,6 @@ use xds_resource::laws::resources_are_canonical;
 use xds_resource::resource::is_valid_name;
 use xds_resource::{
     AnyResource, AnyWrite, Groups, Refusal, Resource, ResourceType, Stamp, TypeName, Write,
-    for_any, for_type,
 };
 
 // ---- values
@@ -93,9 +92,19 @@ fn put_write(
         ≡ any_write (resource_type resource.now) (written stamp.counter stamp.writer (named_body resource.now) groups.now)) }
     ensures refused { IfErr result (λ e. e ≡ OutOfMemory) }
 {
-    Ok(
-        for_any!(resource, AnyResource(resource) => AnyWrite of put_of(alloc, stamp, resource, groups)?),
-    )
+    Ok(match resource {
+        AnyResource::Cluster(resource) => AnyWrite::Cluster(put_of(
+            alloc, stamp, resource, groups,
+        )?),
+        AnyResource::Endpoint(resource) => AnyWrite::Endpoint(put_of(
+            alloc, stamp, resource, groups,
+        )?),
+        AnyResource::Listener(resource) => AnyWrite::Listener(put_of(
+            alloc, stamp, resource, groups,
+        )?),
+        AnyResource::Route(resource) => AnyWrite::Route(put_of(alloc, stamp, resource, groups)?),
+        AnyResource::Secret(resource) => AnyWrite::Secret(put_of(alloc, stamp, resource, groups)?),
+    })
 }
 
 // The write that deletes the resource of a name.
@@ -103,7 +112,13 @@ fn deletion_of(kind: TypeName, stamp: Stamp, name: ArcStr<Global>) -> AnyWrite
     requires { is_valid (arc_str_bytes name) ≡ true }
     ensures { result ≡ any_write kind (deleted stamp.counter stamp.writer (arc_str_bytes name)) }
 {
-    for_type!(kind, AnyWrite of Write::deletion(stamp, name))
+    match kind {
+        TypeName::Cluster => AnyWrite::Cluster(Write::deletion(stamp, name)),
+        TypeName::Endpoint => AnyWrite::Endpoint(Write::deletion(stamp, name)),
+        TypeName::Listener => AnyWrite::Listener(Write::deletion(stamp, name)),
+        TypeName::Route => AnyWrite::Route(Write::deletion(stamp, name)),
+        TypeName::Secret => AnyWrite::Secret(Write::deletion(stamp, name)),
+    }
 }
 
 // What is held as a write can be written.
@@ -118,7 +133,13 @@ fn is_writable_at(batch: &Batch, kind: TypeName, index: usize)
     requires { index < length (at batch.now kind) }
     ensures { (d : StampedWrite) → IsWritable kind (get_or (at batch.now kind) index d) }
 {
-    for_type!(kind, writes in &batch => is_writable(&writes[index]))
+    match kind {
+        TypeName::Cluster => is_writable(&batch.cluster[index]),
+        TypeName::Endpoint => is_writable(&batch.endpoint[index]),
+        TypeName::Listener => is_writable(&batch.listener[index]),
+        TypeName::Route => is_writable(&batch.route[index]),
+        TypeName::Secret => is_writable(&batch.secret[index]),
+    }
 }
 
 // ---- lines
