@@ -43,8 +43,11 @@ pub fn run_replica<R, A>(
 ) -> Result<(), Refusal>
 where
     R: Machine,
-    A: Shared + Replies<Seat: Send>,
-    <A as Host>::Seat: 'static,
+    A: Served + Replies + Drop + Send + Sync + 'static,
+    <A as Host>::Seat: Send + 'static,
+    A::Segment: Send,
+    A::PostSeat: Send,
+    <A as Replies>::Seat: Send,
 {
     let Bound {
         sockets,

@@ -5,13 +5,16 @@ use crate::ending::{End, Ending};
 use crate::input::take_input;
 use crate::machine::{Machine, Runtime};
 use crate::replica::{Replica, run_replica};
+use crate::served::Served;
 use crate::weighed::Weighed;
-use crate::workers::{Shared, share, start_worker};
+use crate::wires::started;
+use crate::workers::{share, start_worker};
 use crossbeam_channel::Sender;
 use std::alloc::Global;
 use std::io::Read;
 use std::marker::Brand;
 use std::sync::Arc;
+use std::thread;
 use xds_core::Event;
 use xds_http::Replies;
 use xds_node::{Host, Line, Node, NodeName, Opened};
@@ -87,14 +90,22 @@ fn start_node<R, A>(
 ) -> Result<(), Refusal>
 where
     R: Machine,
-    A: Shared + Replies<Seat: Send>,
-    <A as Host>::Seat: 'static,
+    A: Served + Replies + Drop + Send + Sync + 'static,
+    <A as Host>::Seat: Send + 'static,
+    A::Segment: Send,
+    A::PostSeat: Send,
+    <A as Replies>::Seat: Send,
 {
-    start_worker(rt, share(ending), move |rt, ending| {
-        if let Err(refusal) = run_replica(rt, alloc, &node, replica, &ending) {
-            ending.end(rt, End::Refused(refusal));
+    let Ok(ending) = share(ending) else {
+        drop(replica);
+        return Err(Refusal::OutOfMemory);
+    };
+    let rt = *rt;
+    started(thread::spawn(&rt, move || {
+        if let Err(refusal) = run_replica(&rt, alloc, &node, replica, &ending) {
+            ending.end(&rt, End::Refused(refusal));
         }
-    })
+    }))
 }
 
 /// Starts the thread that takes the input, which a server doesn't wait for at its end.
