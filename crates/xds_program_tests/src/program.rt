@@ -460,6 +460,20 @@ poll --addr here --type cluster => fault 2 2",
 // but for the usage that `clap` makes.
 struct Helped;
 
+// Adds the status of a line, or the line where it is wide.
+fn add_status(said: &mut String, line: &str) -> Result<(), Fail> {
+    if line.chars().count() > 80 {
+        said.push_str(" ")?;
+        said.push_str(line)?;
+        return Ok(());
+    }
+    if let Some(status) = line.split_whitespace().next() {
+        said.push_str(" ")?;
+        said.push_str(status)?;
+    }
+    Ok(())
+}
+
 impl Outcome for Helped {
     fn of(alloc: Global, given: &str) -> Result<String, Fail> {
         let told = told(alloc, given, b"")?;
@@ -475,16 +489,7 @@ impl Outcome for Helped {
         }
         said.push_str(" |")?;
         for line in statuses.split('~') {
-            let status = line.split_whitespace().next().unwrap_or("");
-            let shown = if line.chars().count() > 80 {
-                line
-            } else {
-                status
-            };
-            if !shown.is_empty() {
-                said.push_str(" ")?;
-                said.push_str(shown)?;
-            }
+            add_status(&mut said, line)?;
         }
         Ok(replaced(alloc, said.as_str(), " < ", " from ")?)
     }
