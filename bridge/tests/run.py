@@ -65,7 +65,7 @@ def in_python(words):
 
 
 def late():
-    print(f"all tests take more than {ALL} seconds\n0 passed, 1 failed", flush=True)
+    print(f"all tests take more than {ALL} seconds\nbridge: 0 passed, 1 failed", flush=True)
     os._exit(1)
 
 
@@ -76,7 +76,7 @@ def main(words):
         timer.start()
     passed, failed = (0, 0) if words else in_go()
     more = in_python(words)
-    print(f"{passed + more[0]} passed, {failed + more[1]} failed", flush=True)
+    print(f"bridge: {passed + more[0]} passed, {failed + more[1]} failed", flush=True)
     return 1 if failed + more[1] else 0
 
 
