@@ -204,7 +204,7 @@ impl Catalogue {
 
     /// The bytes of the bodies that are stated, to reserve room.
     fn room(&self, names: &[(Name, Option<u64>)], each: usize) -> usize {
-        let body = |name: &Name| self.entries[name].body.as_ref().map_or(0, |body| body.len());
+        let body = |name: &Name| self.entry(name).and_then(|it| it.body.as_ref()).map_or(0, |body| body.len());
         names.iter().map(|(name, _)| name.len() + each + body(name)).sum::<usize>() + 256
     }
 
