@@ -4,38 +4,41 @@
     python3 bench/fanout.py [--streams N,N..] [--clusters N,N..] [--variant sotw|delta] [--rounds N] PROGRAM
     python3 bench/fanout.py --check PROGRAM
 
-PROGRAM is the built program, as crates/xds/out/xds. The plain server proves nothing and is meant to be quick; this script has
-cargo build it, from Debian's packages (`cargo`, `librust-serde-json-dev`). For each case the two run in turns, each time a
-server of its own with one replica, and what is printed is the median of the rounds. In a round the clusters are put, the
-streams are opened and ask for all of them, and accept every response; then clusters of those are put again. The rows are:
+PROGRAM is the built program, as crates/xds/out/xds. The plain server proves nothing and is meant to be quick; this
+script has cargo build it, from Debian's packages (`cargo`, `librust-serde-json-dev`). For each case the two run in
+turns, each time a server of its own with one replica, and what is printed is the median of the rounds. In a round
+the clusters are put, the streams are opened and ask for all of them, and accept every response; then clusters of
+those are put again. The rows are:
 
-    all settled first       from the first connection until the last stream has all clusters, and the server's processor time
-    first put               of the one put that comes after: until the first and the last client has it, and processor time
-    a put                   the same of the middle one of the puts that follow (--puts), one after another, each once all is
-                            quiet; its processor time is the mean
+    all settled first       from the first connection until the last stream has all clusters, and processor time
+    first put               of the one put that comes after: until the first and the last client has it, and
+                            processor time
+    a put                   the same of the middle one of the puts that follow (--puts), one after another, each once
+                            all is quiet; its processor time is the mean
     switches                voluntary context switches of the server's threads for a put and stream, the mean
-    puts at once            20 puts by one write: until the last client has the last of them, and responses for a stream
+    puts at once            20 puts by one write: until the last client has the last, and responses for a stream
     memory                  settled: once all streams are settled (VmRSS); peak: at most until the end (VmHWM)
-    readers                 processor time of the clients for one of the puts, and its share of what their processors had
+    readers                 the clients' processor time for one of the puts, and its share of what they could have
 
 Processor time is the server's alone, of all its threads: by the clock of its process, or where there is none by
 /proc/PID/stat. It is taken once the server is quiet, so that it has the work for the acceptances, too.
 
-Reading isn't what is measured, for these reasons. When a response came is told by the kernel, which stamps the bytes as they
-reach the client's socket (SO_TIMESTAMPNS), and not by when this script came to read them. The clients are processes of their
-own (--readers), each with one epoll and no threads. Of a long response they read the head, the resource that was put and the
-end, and have the kernel drop the rest uncopied (MSG_TRUNC). A response is answered only once it was read, which is behind its
-time. The row `readers` says what is left: where they are busy for most of a put, the last client may be late by them, in both
-columns alike; processor time, switches and memory of the server don't have it.
+Reading isn't what is measured, for these reasons. When a response came is told by the kernel, which stamps the bytes
+as they reach the client's socket (SO_TIMESTAMPNS), and not by when this script came to read them. The clients are
+processes of their own (--readers), each with one epoll and no threads. Of a long response they read the head, the
+resource that was put and the end, and have the kernel drop the rest uncopied (MSG_TRUNC). A response is answered
+only once it was read, which is behind its time. The row `readers` says what is left: where they are busy for most of
+a put, the last client may be late by them, in both columns alike; processor time, switches and memory of the server
+don't have it.
 
-A client looks at each response: a delta must be, byte by byte, what was put since the last; a state of the world must be as
-long as all clusters are and have the puts in their places, or, where short, be the same bytes. With --check nothing is timed:
-both servers answer a random story of puts, deletions, requests, refusals and new streams, each byte compared with the reading
-of the protocol in bench/play.py, and PROGRAM's own client is shown the same by both.
+A client looks at each response: a delta must be, byte by byte, what was put since the last; a state of the world
+must be as long as all clusters are and have the puts in their places, or, where short, be the same bytes. With
+--check nothing is timed: both servers answer a random story of puts, deletions, requests, refusals and new streams,
+each byte compared with the reading of the protocol in bench/play.py, and PROGRAM's own client is shown the same by
+both.
 
-Status 1 where a client saw what it shouldn't, as an old version; 2 where a case that was asked for can't be run here, as with
-too few descriptors, or where there is no cargo; cases that are left out for their size are told.
-"""
+Status 1 where a client saw what it shouldn't, as an old version; 2 where a case that was asked for can't be run
+here, as with too few descriptors, or where there is no cargo; cases that are left out for their size are told."""
 import argparse
 import functools
 import glob
@@ -127,8 +130,8 @@ class Story:
     def delta(self, since, version):
         """A delta behind its nonce, to a client that has all until one change, of what changed up to another."""
         stated = (
-            b'{"name":"%s","resource":%s,"version":"%d-1"}' % (self.name(cluster).encode(), self.body(cluster, change), change)
-            for cluster, change in sorted(self.latest(since, version).items())
+            b'{"name":"%s","resource":%s,"version":"%d-1"}' % (self.name(it).encode(), self.body(it, change), change)
+            for it, change in sorted(self.latest(since, version).items())
         )
         end = b'],"systemVersionInfo":"1.%d","typeUrl":"%s"}' % (version, URL.encode())
         return b',"resources":[' + b",".join(stated) + end
@@ -155,7 +158,7 @@ class Client:
         self.socket.send(framed(3 if reader.is_delta else 1, asked))
 
     def begin(self):
-        """The next response: what was kept of it, in which parts, and how far it is read."""
+        """The next response: what is kept of it, in which parts it is read, how far it is, and how long."""
         self.kept, self.parts, self.at, self.length = b"", [(HEAD, True)], 0, None
 
     def take(self):
@@ -183,7 +186,7 @@ class Client:
                 self.parts.pop()
 
     def plan(self):
-        """Which parts of the response are read, once its begin is there: each its end and whether it is kept, the last first."""
+        """Which parts of the response are read, once its begin is there: ends and whether they are kept, last first."""
         self.length = int.from_bytes(self.kept[:4], "big") + 4
         found = NONCE.match(self.kept[5:64])
         if not found:
@@ -217,7 +220,8 @@ class Client:
         else:
             is_right = self.length == self.head + story.whole_length(version) and self.has_puts(version)
         if not is_right:
-            raise Wrong(f"of version {version}, where the client had {self.version}, came {self.kept[:300]} .. {self.kept[-TAIL:]}")
+            seen = f"{self.kept[:300]} .. {self.kept[-TAIL:]}"
+            raise Wrong(f"of version {version}, where the client had {self.version}, came {self.length} bytes: {seen}")
         self.accept(version)
         self.responses += 1
         when = struct.unpack("qq", told[0][2]) if told else divmod(time.time_ns(), 1_000_000_000)
@@ -433,6 +437,8 @@ class Round:
         server.quiet()
         _, last, _, _, processor = self.spent(self.open)
         self.found += [last, processor]
+        # What a server lets go of within a second isn't held once it is settled.
+        time.sleep(1.5)
         settled = server.memory("VmRSS")
         middle = story.clusters // 2
         first, last, _, _, processor = self.spent(lambda: self.put(middle))
@@ -443,11 +449,13 @@ class Round:
         switches = (server.switches() - switches) / len(told) / self.streams
         firsts, lasts, _, reading, processor = zip(*told)
         processor = statistics.mean(processor)
-        self.found += [statistics.median(firsts), statistics.median(lasts), processor, processor / self.streams, switches]
+        self.found += [statistics.median(firsts), statistics.median(lasts)]
+        self.found += [processor, processor / self.streams, switches]
         burst = min(BURST, story.clusters)
         _, last, responses, _, processor = self.spent(lambda: self.put(min(middle, story.clusters - burst), burst))
         self.found += [last, responses / self.streams, processor]
-        self.found += [settled, server.memory("VmHWM")]
+        # The kernel counts memory by processors, and sums up late.
+        self.found += [settled, max(settled, server.memory("VmHWM"), server.memory("VmRSS"))]
         busy = statistics.mean(reading) / (statistics.mean(lasts) * len(self.readers.pipes))
         self.found += [statistics.mean(reading), busy]
 
@@ -471,8 +479,8 @@ def lacking(streams, readers):
         return f"it takes {streams + BESIDE} descriptors a process, and {descriptors} are allowed (ulimit -n)"
     # `xds serve` has two threads a stream, each with two maps of memory.
     threads = 2 * streams + BESIDE + readers
-    limits = {path: limit_of(path) for path in ("/proc/sys/kernel/threads-max", "/proc/sys/kernel/pid_max", "/sys/fs/cgroup/pids.max")}
-    for path, most in limits.items():
+    for path in ("/proc/sys/kernel/threads-max", "/proc/sys/kernel/pid_max", "/sys/fs/cgroup/pids.max"):
+        most = limit_of(path)
         if most is not None and threads > most:
             return f"it takes {threads} threads, and {most} are allowed ({path})"
     most = resource.getrlimit(resource.RLIMIT_NPROC)[0]
@@ -498,9 +506,11 @@ def limit_of_ports():
 
 def raise_descriptors():
     _, hard = resource.getrlimit(resource.RLIMIT_NOFILE)
-    for most in (1 << 20, hard):
+    if hard == resource.RLIM_INFINITY:
+        hard = 1 << 20
+    for most in (max(hard, 1 << 16), hard):
         try:
-            resource.setrlimit(resource.RLIMIT_NOFILE, (most, max(most, hard) if hard != resource.RLIM_INFINITY else hard))
+            resource.setrlimit(resource.RLIMIT_NOFILE, (most, most))
             return
         except (OSError, ValueError):
             pass
@@ -512,13 +522,14 @@ def plain_server(given):
         return given.plain
     cargo = shutil.which("cargo")
     if not cargo:
-        raise NotHere("there is no `cargo` to build the plain server: install Debian's cargo and librust-serde-json-dev")
+        raise NotHere("there is no `cargo` to build the plain server: install Debian's cargo, librust-serde-json-dev")
     words = [cargo, "build", "--release", "--offline", "--quiet"]
     if glob.glob(f"{given.crates}/serde_json-*"):
-        words += ["--config", 'source.crates-io.replace-with="debian"', "--config", f'source.debian.directory="{given.crates}"']
+        words += ["--config", 'source.crates-io.replace-with="debian"']
+        words += ["--config", f'source.debian.directory="{given.crates}"']
     ran = subprocess.run(words, cwd=PLAIN, stdin=subprocess.DEVNULL, capture_output=True, text=True, check=False)
     if ran.returncode:
-        raise NotHere(f"cargo doesn't build the plain server (Debian has its crates in librust-serde-json-dev):\n{ran.stderr}")
+        raise NotHere(f"cargo doesn't build the plain server; its crates are in librust-serde-json-dev:\n{ran.stderr}")
     return f"{PLAIN}/target/release/plain"
 
 
@@ -526,9 +537,13 @@ def told(value):
     return f"{value:.0f}" if value >= 1000 else f"{value:.1f}" if value >= 10 else f"{value:.2f}"
 
 
-def show(case, found, rounds):
+def label(case):
     streams, clusters, variant = case
-    print(f"\n{variant}, {streams} streams, {clusters} clusters; {rounds} rounds")
+    return f"{variant}, {streams} streams, {clusters} clusters"
+
+
+def show(case, found, rounds):
+    print(f"\n{label(case)}: medians of {rounds} rounds" if rounds > 1 else f"\n{label(case)}: one round")
     print(f"  {'':40}" + "".join(f"{name:>12}" for name in found) + (f"{'xds/plain':>12}" if len(found) > 1 else ""))
     for number, (row, scale) in enumerate(ROWS):
         values = [statistics.median(it[number] for it in runs) for runs in found.values()]
@@ -544,7 +559,7 @@ def measured(programs, case, given):
     why = lacking(streams, given.readers)
     written = streams * clusters * given.bytes if variant == "sotw" else 0
     if not why and written > given.gigabytes * 1e9:
-        print(f"\n{variant}, {streams} streams, {clusters} clusters: left out, a put writes {written / 1e9:.0f} GB (--gigabytes)", flush=True)
+        print(f"\n{label(case)}: left out, a put writes {written / 1e9:.0f} GB (--gigabytes)", flush=True)
         return True
     found = {name: [] for name in programs}
     try:
@@ -554,14 +569,14 @@ def measured(programs, case, given):
             for name, program in programs.items():
                 found[name].append(Round(program, case, given).found)
     except NotHere as fault:
-        print(f"\n{variant}, {streams} streams, {clusters} clusters: can't be run here: {fault}", flush=True)
+        print(f"\n{label(case)}: can't be run here: {fault}", flush=True)
         return False
     show(case, found, given.rounds)
     return True
 
 
 def numbers(text):
-    made = [int(it) for it in text.replace(".", "").split(",")]
+    made = [int(it) for it in text.split(",")]
     if not all(0 < it < 100_000 for it in made):
         raise ValueError
     return made
@@ -569,22 +584,24 @@ def numbers(text):
 
 def words():
     parser = argparse.ArgumentParser(description=__doc__, formatter_class=argparse.RawDescriptionHelpFormatter)
+    half = max(1, len(os.sched_getaffinity(0)) // 2)
     parser.add_argument("program", metavar="PROGRAM")
-    parser.add_argument("--streams", type=numbers, help="how many streams (1,100,1000,5000; 5000 only where there is room)")
-    parser.add_argument("--clusters", type=numbers, default=[100, 1000, 10000], help="how many clusters (100,1000,10000)")
-    parser.add_argument("--variant", choices=VARIANTS, help="one of the variants alone")
-    parser.add_argument("--rounds", type=int, default=3, help="how often each server runs, for the median (3)")
-    parser.add_argument("--only", choices=("xds", "plain"), help="one of the servers alone")
-    parser.add_argument("--bytes", type=int, default=600, help="how long a cluster is (600)")
-    parser.add_argument("--puts", type=int, default=20, help="how many puts one after another (20)")
-    parser.add_argument("--seconds", type=float, default=20, help="after these no more of them begin, if there were three (20)")
-    parser.add_argument("--readers", type=int, default=max(1, len(os.sched_getaffinity(0)) // 2), help="processes for the clients")
-    parser.add_argument("--gigabytes", type=float, default=8, help="the most that a put may write in all in state of the world (8)")
-    parser.add_argument("--plain", metavar="FILE", help="a plain server that is built already")
-    parser.add_argument("--crates", default="/usr/share/cargo/registry", help="where Debian's crates are (%(default)s)")
-    parser.add_argument("--check", action="store_true", help="compare what both answer, and time nothing")
-    parser.add_argument("--seed", type=int, default=0, help="the first seed of --check (0)")
-    parser.add_argument("--seeds", type=int, default=20, help="how many stories --check plays at each (20)")
+    add = parser.add_argument
+    add("--streams", type=numbers, metavar="N,N..", help="how many streams (1,100,1000, and 5000 where there is room)")
+    add("--clusters", type=numbers, metavar="N,N..", default=[100, 1000, 10000], help="how many (100,1000,10000)")
+    add("--variant", choices=VARIANTS, help="one of the variants alone")
+    add("--rounds", type=int, default=3, help="how often each server runs, for the median (3)")
+    add("--only", choices=("xds", "plain"), help="one of the servers alone")
+    add("--bytes", type=int, default=600, help="how long a cluster is (600)")
+    add("--puts", type=int, default=20, help="how many puts one after another (20)")
+    add("--seconds", type=float, default=20, help="after these no more of them begin, where there were three (20)")
+    add("--readers", type=int, default=half, help="processes of clients (as many as half the processors)")
+    add("--gigabytes", type=float, default=8, help="the most that a put may write in state of the world (8)")
+    add("--plain", metavar="FILE", help="a plain server that is built already")
+    add("--crates", default="/usr/share/cargo/registry", help="where Debian's crates are (%(default)s)")
+    add("--check", action="store_true", help="compare what both answer, and time nothing")
+    add("--seed", type=int, default=0, help="the first seed of --check (0)")
+    add("--seeds", type=int, default=5, help="how many stories --check plays at each (5)")
     return parser.parse_args()
 
 
@@ -598,7 +615,7 @@ def main():
             programs["plain"] = [plain_server(given)]
         if given.check:
             return fanout_check.run(programs, given)
-        print(f"medians of {given.rounds} rounds, {given.bytes} bytes a cluster, {given.readers} processes of clients", flush=True)
+        print(f"{given.bytes} bytes a cluster, {given.readers} processes of clients", flush=True)
         all_ran = True
         for variant in [given.variant] if given.variant else VARIANTS:
             for streams in given.streams or [1, 100, 1000, 5000]:

@@ -1,10 +1,10 @@
 """What bench/fanout.py --check does: both servers do the same work, as far as the plain one does it.
 
-A story of random puts, deletions, requests, refusals and new streams, four streams at a time of both variants and all types, is
-played at a server, and each response must be, byte by byte, that of the reading of the protocol in bench/play.py. So that it is
-known which response comes when, each event is waited for: a put or a deletion is followed by a put of the secret `probe`, which
-one more stream is told of, and a request that is owed nothing by one for that secret.
-"""
+A story of random puts, deletions, requests, refusals and new streams, four streams at a time of both variants and
+all types, is played at a server, and each response must be, byte by byte, that of the reading of the protocol in
+bench/play.py. So that it is known which response comes when, each event is waited for: a put or a deletion is
+followed by a put of the secret `probe`, which one more stream is told of, and a request that is owed nothing by one
+for that secret."""
 import json
 import random
 import socket
@@ -223,5 +223,6 @@ def run(programs, given):
             raise NotHere(f"{given.program} has no client that can be asked: {said[name][0]}")
     if len({tuple(it) for it in said.values()}) != 1:
         raise Wrong(f"the client is shown otherwise:\n{said}")
-    print(f"{len(next(iter(said.values())))} runs of the client of {given.program}: the same is shown by {' and '.join(said)}")
+    count = len(next(iter(said.values())))
+    print(f"{count} runs of the client of {given.program}: the same is shown by {' and '.join(said)}")
     return 0

@@ -73,7 +73,9 @@ class Server:
                 pass
 
     def switches(self):
-        return sum(int(re.search(r"^voluntary_ctxt_switches:\s+(\d+)", it, re.M).group(1)) for it in self.tasks("status"))
+        """Voluntary context switches, of all its threads."""
+        found = re.compile(r"^voluntary_ctxt_switches:\s+(\d+)", re.M)
+        return sum(int(found.search(it).group(1)) for it in self.tasks("status"))
 
     def quiet(self):
         """Waits until no thread of it wants a processor."""

@@ -1,7 +1,8 @@
 //! What `xds answer` does, as a plain program on serde_json and std's maps would do it: a peer for bench/answer.py.
 //!
-//! It reads stamped writes, a line each, and a DiscoveryRequest on the last line, keeps the greatest write of each name, and
-//! writes the response with all that the request names. It looks at what bench/answer.py makes and refuses nothing by number.
+//! It reads stamped writes, a line each, and a DiscoveryRequest on the last line, keeps the greatest write of each
+//! name, and writes the response with all that the request names. It looks at what bench/answer.py makes and refuses
+//! nothing by number.
 use serde_json::{json, Map, Value};
 use std::collections::BTreeMap;
 use std::io::{Read, Write};
@@ -46,7 +47,12 @@ pub fn main() {
         let body = match write["body"].take() {
             Value::Null => None,
             body => {
-                assert!(is_whole(&body) && depth(&body) <= 100 && body["@type"] == url.as_str() && body["name"] == name.as_str());
+                assert!(
+                    is_whole(&body)
+                        && depth(&body) <= 100
+                        && body["@type"] == url.as_str()
+                        && body["name"] == name.as_str()
+                );
                 let text = serde_json::to_string(&body).unwrap();
                 assert!(text.len() <= 1_048_576);
                 Some(text)

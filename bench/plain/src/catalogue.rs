@@ -46,7 +46,8 @@ pub struct Entry {
 impl Entry {
     /// Whether it was live once so many changes were made.
     pub fn lived_at(&self, change: u64) -> bool {
-        self.body.is_some() && self.born <= change || self.past.iter().any(|(born, died)| *born <= change && change < *died)
+        self.body.is_some() && self.born <= change
+            || self.past.iter().any(|(born, died)| *born <= change && change < *died)
     }
 }
 
@@ -155,7 +156,8 @@ impl Catalogue {
         self.log.range(change + 1..).map(|(_, name)| name)
     }
 
-    /// What a client is owed of a name that has all as it was after `told` changes, and may have what lived after `gone`.
+    /// What a client is owed of a name that has all as it was after `told` changes, and may have what lived after
+    /// `gone`.
     pub fn owed(&self, name: &str, told: u64, gone: u64) -> Option<Option<u64>> {
         let entry = self.entry(name)?;
         match entry.body {
@@ -171,7 +173,9 @@ impl Catalogue {
             return made.clone();
         }
         let made = Arc::new(match key {
-            Key::Whole => self.whole(self.all_live().map(|(name, change)| (name.clone(), Some(change))).collect(), true),
+            Key::Whole => {
+                self.whole(self.all_live().map(|(name, change)| (name.clone(), Some(change))).collect(), true)
+            }
             Key::Since { told, gone } => {
                 let mut names: Vec<(Name, Option<u64>)> =
                     self.since(told).filter_map(|name| Some((name.clone(), self.owed(name, told, gone)?))).collect();
@@ -189,7 +193,12 @@ impl Catalogue {
     }
 
     /// The texts of the resources that are stated, with what stands before, between and behind them.
-    fn resources(&self, text: &mut Vec<u8>, names: &[(Name, Option<u64>)], add: impl Fn(&mut Vec<u8>, &Name, &Entry, &str)) {
+    fn resources(
+        &self,
+        text: &mut Vec<u8>,
+        names: &[(Name, Option<u64>)],
+        add: impl Fn(&mut Vec<u8>, &Name, &Entry, &str),
+    ) {
         let mut separator: &[u8] = b",\"resources\":[";
         for (name, _) in names.iter().filter(|(_, change)| change.is_some()) {
             let entry = &self.entries[name];

@@ -40,7 +40,9 @@ fn texts(value: Value) -> Option<Vec<String>> {
 fn versions(value: Value) -> Option<Vec<(String, String)>> {
     match value {
         Value::Null => Some(Vec::new()),
-        Value::Object(of) => of.into_iter().map(|(name, at)| if at.is_null() { None } else { Some((name, text(at)?)) }).collect(),
+        Value::Object(of) => {
+            of.into_iter().map(|(name, at)| if at.is_null() { None } else { Some((name, text(at)?)) }).collect()
+        }
         _ => None,
     }
 }

@@ -1,17 +1,20 @@
 //! What `xds serve --replicas 1` does over its streams, as a plain program would do it: a peer for bench/fanout.py.
 //!
-//! It serves the framed JSON streams of docs/FORMATS.md by the protocol of docs/PROTOCOL.md: state of the world and delta, all
-//! five types, the star and names, nonces, acceptances and refusals, one response under way a type and stream, and no refused
-//! offer again. Its input has the lines `put 1 JSON` and `delete 1 TYPE NAME`, each applied when it is read.
+//! It serves the framed JSON streams of docs/FORMATS.md by the protocol of docs/PROTOCOL.md: state of the world and
+//! delta, all five types, the star and names, nonces, acceptances and refusals, one response under way a type and
+//! stream, and no refused offer again. Its input has the lines `put 1 JSON` and `delete 1 TYPE NAME`, each applied
+//! when it is read.
 //!
-//! How it is made: as many event loops (epoll) as there are processors share out the streams, and a stream belongs to one loop,
-//! so that nothing of it is locked. Bodies are kept as text. A response from behind its nonce on is made once and shared by all
-//! streams that are told the same; it is let go of with the next change, or once a second has passed. A response is written by
-//! one call with its head. All lines that one read brings are applied together, and then the loops are woken.
+//! How it is made: as many event loops (epoll) as there are processors share out the streams, and a stream belongs
+//! to one loop, so that nothing of it is locked. Bodies are kept as text. A response from behind its nonce on is
+//! made once and shared by all streams that are told the same; it is let go of with the next change, or once a
+//! second has passed. A response is written by one call with its head. All lines that one read brings are applied
+//! together, and then the loops are woken.
 //!
-//! What it leaves out, beside every proof: groups (`putin`), other replicas and merging, polls over HTTP, journals and traces,
-//! `--streams`, numbers of refusals but `21 BadScript`, the node and the inside of `errorDetail`, the limits of a counter, and
-//! any answer to a lack of memory but its end. A resource keeps the list of the times that it was deleted and came again.
+//! What it leaves out, beside every proof: groups (`putin`), other replicas and merging, polls over HTTP, journals
+//! and traces, `--streams`, numbers of refusals but `21 BadScript`, the node and the inside of `errorDetail`, the
+//! limits of a counter, and any answer to a lack of memory but its end. A resource keeps the list of the times that
+//! it was deleted and came again.
 use crate::answer::{depth, is_whole};
 use crate::catalogue::{Catalogue, Response, TYPES};
 use crate::request;
@@ -218,7 +221,8 @@ impl Stream {
     fn write(&mut self, poll: &poll::Poll) -> Result<(), End> {
         while let Some(piece) = self.output.front_mut() {
             let (head, text) = (&piece.head, &piece.body.text);
-            let (head_left, text_left) = (&head[piece.written.min(head.len())..], &text[piece.written.saturating_sub(head.len())..]);
+            let (head_left, text_left) =
+                (&head[piece.written.min(head.len())..], &text[piece.written.saturating_sub(head.len())..]);
             match (&self.socket).write_vectored(&[IoSlice::new(head_left), IoSlice::new(text_left)]) {
                 Ok(count) => piece.written += count,
                 Err(fault) if fault.kind() == ErrorKind::Interrupted => continue,
@@ -303,8 +307,8 @@ struct Change {
     body: Option<Box<str>>,
 }
 
-/// The change of a line, or none where it says nothing that this server knows. An answer of `None` within is of a line that
-/// changes nothing.
+/// The change of a line, or none where it says nothing that this server knows. An answer of `None` within is of a
+/// line that changes nothing.
 fn change_of(line: &[u8]) -> Option<Option<Change>> {
     if line.is_empty() || line[0] == b'#' {
         return Some(None);

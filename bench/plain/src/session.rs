@@ -1,7 +1,9 @@
-//! What the plain server knows of one type on one stream: what is wanted, what the client was told, what is under way.
+//! What the plain server knows of one type on one stream: what is wanted, what the client was told, what is under
+//! way.
 //!
-//! A stream with the star and no names of its own, which most are, holds two numbers: all was told as it was after `told`
-//! changes, and what lived after `gone` changes may be there at the client. Names that differ from that stand in `held`.
+//! A stream with the star and no names of its own, which most are, holds two numbers: all was told as it was after
+//! `told` changes, and what lived after `gone` changes may be there at the client. Names that differ from that stand
+//! in `held`.
 use crate::catalogue::{Catalogue, Key, Name, Offer, Response, Type};
 use crate::request::{Names, Request};
 use std::collections::{BTreeMap, BTreeSet};
@@ -45,7 +47,8 @@ pub struct Session {
     unanswered: Option<Unanswered>,
     /// The sum of the offer that was refused last.
     refused: Option<u64>,
-    /// The changes that were looked at, whether something happened since, and whether all of `held` is to be looked at.
+    /// The changes that were looked at, whether something happened since, and whether all of `held` is to be looked
+    /// at.
     seen: u64,
     is_fresh: bool,
     looks_at_all: bool,
@@ -98,9 +101,14 @@ impl Session {
                 if star == self.star && self.held.is_empty() && names.iter().all(|name| complete && name == "*") {
                     return;
                 }
-                let listed: BTreeSet<Name> = names.into_iter().filter(|it| !complete || it != "*").map(Name::from).collect();
-                let dropped: Vec<Name> =
-                    self.held.iter().filter(|(name, held)| held.is_wanted && !listed.contains(*name)).map(|(name, _)| name.clone()).collect();
+                let listed: BTreeSet<Name> =
+                    names.into_iter().filter(|it| !complete || it != "*").map(Name::from).collect();
+                let dropped: Vec<Name> = self
+                    .held
+                    .iter()
+                    .filter(|(name, held)| held.is_wanted && !listed.contains(*name))
+                    .map(|(name, _)| name.clone())
+                    .collect();
                 let all = star != self.star;
                 let mut wanted: BTreeMap<Name, bool> = dropped.into_iter().map(|name| (name, false)).collect();
                 let is_new = |name: &Name| all || !self.held.get(name).is_some_and(|held| held.is_wanted);
@@ -129,8 +137,8 @@ impl Session {
         self.looks_at_all = self.looks_at_all || is_first;
     }
 
-    /// Sets the star, and which names are wanted or not wanted any more, of which `is_mentioned` says whether the request has them.
-    /// Where all is touched, every name is, and else these.
+    /// Sets the star, and which names are wanted or not wanted any more, of which `is_mentioned` says whether the
+    /// request has them. Where all is touched, every name is, and else these.
     fn want(
         &mut self,
         catalogue: &Catalogue,
@@ -189,13 +197,15 @@ impl Session {
             }
             for (name, change) in &offer.names {
                 if all || touched.contains(name) {
-                    self.held.entry(name.clone()).or_insert(Held { is_wanted: false, told: Told::Unsure }).told = Told::Unsure;
+                    self.held.entry(name.clone()).or_insert(Held { is_wanted: false, told: Told::Unsure }).told =
+                        Told::Unsure;
                 } else if let Some(held) = self.held.get_mut(name) {
                     held.told = change.map_or(Told::No, Told::At);
                 }
             }
             let star = self.star;
-            self.held.retain(|name, held| held.is_wanted || all || touched.contains(name) || !star && held.told != Told::No);
+            self.held
+                .retain(|name, held| held.is_wanted || all || touched.contains(name) || !star && held.told != Told::No);
         }
         if self.star && !all {
             (self.told, self.gone) = (to, to);
@@ -231,7 +241,8 @@ impl Session {
 
     fn is_whole_due(&self, catalogue: &Catalogue, seen: u64) -> bool {
         if self.was_accepted && self.held.is_empty() {
-            return self.star && catalogue.since(self.told).any(|name| catalogue.owed(name, self.told, self.gone).is_some());
+            return self.star
+                && catalogue.since(self.told).any(|name| catalogue.owed(name, self.told, self.gone).is_some());
         }
         !self.was_accepted || !self.all_owed(catalogue, seen).is_empty()
     }
