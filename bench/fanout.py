@@ -57,7 +57,7 @@ import sys
 import time
 
 import fanout_check
-from fanout_server import PATIENCE, URL, NotHere, Server, Wrong, framed
+from fanout_server import PATIENCE, URL, NoServer, NotHere, Server, Wrong, framed
 
 TOP = os.path.dirname(os.path.dirname(os.path.abspath(__file__)))
 PLAIN = f"{TOP}/bench/plain"
@@ -568,6 +568,8 @@ def measured(programs, case, given):
         for _ in range(given.rounds):
             for name, program in programs.items():
                 found[name].append(Round(program, case, given).found)
+    except NoServer:
+        raise
     except NotHere as fault:
         print(f"\n{label(case)}: can't be run here: {fault}", flush=True)
         return False

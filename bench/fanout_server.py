@@ -22,20 +22,35 @@ class NotHere(Exception):
     """A case can't be run on this machine."""
 
 
+class NoServer(NotHere):
+    """Nor can any other."""
+
+
 def framed(kind, text):
     return (len(text) + 1).to_bytes(4, "big") + bytes([kind]) + text
 
 
 class Server:
     def __init__(self, program):
+        # Another process may take a port that is free, before the server does.
+        for _ in range(3):
+            said = self.start(program)
+            if "streams on" in said:
+                return
+            self.stop()
+        raise NoServer(f"{program[0]} doesn't serve: {said or 'it says nothing'}")
+
+    def start(self, program):
+        """Starts it. Answers its first line."""
         self.port, rest_port = free_ports()
         words = [*program, "serve", "--replicas", "1", "--port", str(self.port), "--rest-port", str(rest_port)]
-        self.run = subprocess.Popen(words, stdin=subprocess.PIPE, stdout=subprocess.DEVNULL, stderr=subprocess.PIPE)
+        pipe = subprocess.PIPE
+        try:
+            self.run = subprocess.Popen(words, stdin=pipe, stdout=subprocess.DEVNULL, stderr=pipe)
+        except OSError as fault:
+            raise NoServer(f"{program[0]} can't be started: {fault.strerror}") from None
         self.pid = self.run.pid
-        line = self.run.stderr.readline()
-        if b"streams on" not in line:
-            self.stop()
-            raise NotHere(f"{program[0]} doesn't serve: {line.decode(errors='replace').strip()}")
+        return self.run.stderr.readline().decode(errors="replace").strip()
 
     def write(self, lines):
         self.run.stdin.write(lines)
