@@ -25,11 +25,11 @@ Processor time is the server's alone, of all its threads: by the clock of its pr
 
 Reading isn't what is measured, for these reasons. When a response came is told by the kernel, which stamps the bytes
 as they reach the client's socket (SO_TIMESTAMPNS), and not by when this script came to read them. The clients are
-processes of their own (--readers), each with one epoll and no threads. Of a long response they read the head, the
-resource that was put and the end, and have the kernel drop the rest uncopied (MSG_TRUNC). A response is answered
-only once it was read, which is behind its time. The row `readers` says what is left: where they are busy for most of
-a put, the last client may be late by them, in both columns alike; processor time, switches and memory of the server
-don't have it.
+processes of their own (--readers), each with one epoll and no threads, and of a lower priority than the server
+(nice 5). Of a long response they read the head, the resource that was put and the end, and have the kernel drop the
+rest uncopied (MSG_TRUNC). A response is answered only once it was read, which is behind its time. The row `readers`
+says what is left: where they are busy for most of a put, the last client may be late by them, and most where a long
+response waits for room; processor time, switches and memory are the server's alone.
 
 A client looks at each response: a delta must be, byte by byte, what was put since the last; a state of the world
 must be as long as all clusters are and have the puts in their places, or, where short, be the same bytes. With
@@ -224,6 +224,7 @@ class Client:
             raise Wrong(f"of version {version}, where the client had {self.version}, came {self.length} bytes: {seen}")
         self.accept(version)
         self.responses += 1
+        # The kernel stamps nothing for a moment after it was first asked to.
         when = struct.unpack("qq", told[0][2]) if told else divmod(time.time_ns(), 1_000_000_000)
         reader.saw(self.version, version, when[0] * 1_000_000_000 + when[1])
         self.version = version
@@ -310,6 +311,7 @@ class Reader:
 def read_for(pipe, others, story, variant):
     signal.signal(signal.SIGINT, signal.SIG_IGN)
     signal.signal(signal.SIGTERM, signal.SIG_DFL)
+    os.nice(5)
     for it in others:
         it.close()
     Reader(pipe, story, variant).run()
@@ -631,6 +633,8 @@ def main():
     except NotHere as fault:
         print(fault, file=sys.stderr)
         return 2
+    except KeyboardInterrupt:
+        return 130
 
 
 if __name__ == "__main__":
