@@ -17,6 +17,8 @@ NAMES = ["a", "b", "c", "d e", "\u00e9"]
 SECRET = TYPES["secret"][0]
 # How long a response is waited for, in seconds, and how long it is looked whether one comes that shouldn't.
 PATIENCE, SILENCE = 60, 0.2
+# How many events a story has.
+EVENTS = 500
 
 
 class Stream:
@@ -135,12 +137,10 @@ class Play:
         return f"delete 1 {kind} {name}"
 
     def some_change(self):
-        lines, pick = [], self.pick
-        # Changes of one type alone come together, as a stream may be told of each by itself or of all at once.
-        kind, name = pick.choice(list(TYPES)[:4]), pick.choice(NAMES)
-        is_put = pick.random() < 0.65 or " " in name
-        lines.append(self.put(kind, name) if is_put else self.delete(kind, name))
-        self.change(lines)
+        kind, name = self.pick.choice(list(TYPES)[:4]), self.pick.choice(NAMES)
+        # A line can't delete a name with a space in it.
+        is_put = self.pick.random() < 0.65 or " " in name
+        self.change([self.put(kind, name) if is_put else self.delete(kind, name)])
 
     def some_request(self):
         pick = self.pick
@@ -151,7 +151,8 @@ class Play:
         if session.asked and pick.random() < 0.6:
             # It only answers.
             names, others = ([], ()) if stream.is_delta else (sorted(session.names) + ["*"] * session.star, ())
-        nonce = stream.last.get(kind, "") if pick.random() < 0.85 else pick.choice(["", "1", "99"])
+        # Without a nonce the names change while a response is under way.
+        nonce = stream.last.get(kind, "") if pick.random() < 0.7 else pick.choice(["", "", "", "1", "99"])
         versions = None
         if stream.is_delta and not session.asked and pick.random() < 0.5:
             live = self.replica.catalogues[kind].live
@@ -208,12 +209,12 @@ def run(programs, given):
         for seed in range(given.seed, given.seed + given.seeds):
             server = Server(program)
             try:
-                Play(server, seed).play(300)
+                Play(server, seed).play(EVENTS)
             except Wrong as fault:
                 raise Wrong(f"{name}, seed {seed}: {fault}") from None
             finally:
                 server.stop()
-        print(f"{name}: {given.seeds} stories of 300 events, each response as it is to be", flush=True)
+        print(f"{name}: {given.seeds} stories of {EVENTS} events, each response as it is to be", flush=True)
         server = Server(program)
         try:
             said[name] = by_client(server, given.program)
