@@ -11,6 +11,7 @@ mod sotw_response;
 pub mod sotw_session;
 pub mod speaks;
 
+pub use delta_response::Said;
 pub use rest::rested;
 pub use session::Session;
 pub use speaks::Speaks;

@@ -95,7 +95,8 @@ impl<T: ResourceType, V: Speaks<T>> Session<T, V> {
     {
         let interest = V::interest(&self.names);
         let offer = self.ledger.offer(alloc, interest, catalogue)?;
-        let draft = V::respond(alloc, replica, catalogue, interest, &offer, number)?;
+        let said = V::said(alloc, catalogue, interest, &offer)?;
+        let draft = V::respond(alloc, replica, catalogue, interest, &said, number)?;
         Ok((offer, draft))
     }
 

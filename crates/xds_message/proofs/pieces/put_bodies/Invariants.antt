@@ -2,8 +2,8 @@ use Rattle.std.proofs.Common.{drop, map}
 use Rattle.xds_message.specs.Drafts.{body_text}
 use Rattle.xds_message.specs.Joined.{with_commas}
 use Rattle.xds_frames.specs.Devices.{seen}
-use Rattle.xds_program.proofs.Blocks.{ArePut, rest_behind}
-use Rattle.xds_program.proofs.output.put_bodies.Given as goal
+use Rattle.xds_message.proofs.PieceLemmas.{ArePut, rest_behind}
+use Rattle.xds_message.proofs.pieces.put_bodies.Given as goal
 
 abbrev pub invariant-loop-body : goal.invariant-loop-body
 invariant-loop-body g l =

@@ -1,7 +1,7 @@
 use Rattle.std.proofs.Common.{arith}
 use Rattle.xds_message.proofs.JoinedLemmas.{drop_here}
-use Rattle.xds_program.proofs.Blocks.{put_more, put_none, put_part}
-use Rattle.xds_program.proofs.output.put_bodies.Goals as goal
+use Rattle.xds_message.proofs.PieceLemmas.{put_more, put_none, put_part}
+use Rattle.xds_message.proofs.pieces.put_bodies.Goals as goal
 
 pub loop-body-init : goal.loop-body-init
 loop-body-init g c = put_none _ _ _ _

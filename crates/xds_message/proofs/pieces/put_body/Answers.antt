@@ -1,9 +1,10 @@
 use Rattle.std.proofs.Common.{◌≡◌, ◌++◌, List, ℕ, ◌∙◌, subst}
 use Rattle.xds_message.specs.Drafts.{body_text}
 use Rattle.xds_frames.specs.Devices.{WrotePart, seen}
-use Rattle.xds_program.specs.Blocks.{Passes, comma_before}
-use Rattle.xds_program.proofs.Blocks.{part_behind, part_longer, passes_more}
-use Rattle.xds_program.proofs.output.put_body.Goals as goal
+use Rattle.xds_frames.specs.Gathering.{Passes}
+use Rattle.xds_message.specs.Pieces.{comma_before}
+use Rattle.xds_frames.proofs.Gatherings.{part_behind, part_longer, passes_more}
+use Rattle.xds_message.proofs.pieces.put_body.Goals as goal
 
 pub returns-in-Err-clause-failed : goal.returns-in-Err-clause-failed
 returns-in-Err-clause-failed g c = (c.in-Err.ensures.failed.0, part_longer _ c.args.block.now.items (comma_before c.args.later) (body_text c.args.body.now) c.in-Err.ensures.failed.1)

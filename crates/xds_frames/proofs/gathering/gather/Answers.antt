@@ -1,7 +1,7 @@
 use Rattle.std.proofs.Common.{subst}
 use Rattle.std.specs.Io.KnownBytes.{Appends}
-use Rattle.xds_program.proofs.Blocks.{part_behind_held, passes_both}
-use Rattle.xds_program.proofs.output.put.Goals as goal
+use Rattle.xds_frames.proofs.Gatherings.{part_behind_held, passes_both}
+use Rattle.xds_frames.proofs.gathering.gather.Goals as goal
 
 pub returns-in-Err-write_bytes-clause-failed : goal.returns-in-Err-write_bytes-clause-failed
 returns-in-Err-write_bytes-clause-failed g c =
