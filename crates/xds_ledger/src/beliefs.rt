@@ -55,7 +55,7 @@ fn told_by(alloc: Global, sent: &Sent) -> Result<Beliefs, Refusal>
     ensures err { IfErr result (λ e. e ≡ OutOfMemory) }
 {
     let mut next = Beliefs::new(alloc);
-    for (name, due) in sent.offer.iter() {
+    for (name, due) in sent.offer.as_map().iter() {
         put_told(alloc, sent, &mut next, name, due)?;
     }
     Ok(next)

@@ -127,7 +127,7 @@ impl<T: ResourceType, V: Variant> Ledger<T, V> {
             return Ok(listed);
         }
         match self.account.sent() {
-            Some(sent) => list_offer(alloc, listed, &sent.offer),
+            Some(sent) => list_offer(alloc, listed, sent.offer.as_map()),
             None => Ok(listed),
         }
     }

@@ -1,7 +1,7 @@
 use Rattle.std.proofs.Common.{◌≡◌, true, false, sym, ap, ◌∙◌}
 use Rattle.xds_ledger.specs.Variants.{is_whole}
 use Rattle.xds_ledger.proofs.OfferMade.{whole_of, partial_offer_made}
-use Rattle.xds_ledger.proofs.offers.offer.Goals as goal
+use Rattle.xds_ledger.proofs.offers.said.Goals as goal
 
 pub returns-then-is_whole-clause-ok : goal.returns-then-is_whole-clause-ok
 returns-then-is_whole-clause-ok g c =
