@@ -9,6 +9,8 @@ pub mod ListLaws
 pub mod Believing
 pub mod Parts
 pub mod Changes
+pub mod Overlay
+pub mod Storing
 pub mod BeliefLaws
 pub mod Ledgers
 pub mod Sessions

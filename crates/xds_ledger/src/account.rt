@@ -5,7 +5,6 @@ ghost use Rattle.xds_ledger.specs.Ledgers as ledgers;
 ghost use Rattle.xds_ledger.specs.Ledgers.{untold, nonce_text};
 
 use crate::believed::Beliefs;
-use crate::copying::copy_beliefs;
 use crate::entry::Due;
 use crate::sent::Sent;
 use crate::shared_map::SharedMap;
@@ -165,7 +164,7 @@ impl<T: ResourceType, V: Variant> Account<T, V> {
         ensures err { IfErr result (λ e. e ≡ OutOfMemory) }
     {
         Ok(Account {
-            beliefs: copy_beliefs(alloc, &self.beliefs)?,
+            beliefs: self.beliefs.try_copy(alloc)?,
             nonce: self.nonce,
             accepted: self.accepted,
             sent: self.copy_sent(alloc)?,

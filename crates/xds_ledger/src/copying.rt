@@ -23,17 +23,6 @@ pub fn put_entry(
     next.put(alloc, name, Some(copy))
 }
 
-pub fn copy_beliefs(alloc: Global, beliefs: &Beliefs) -> Result<Beliefs, Refusal>
-    ensures ok { IfOk result (λ m. m ≡ beliefs.now) }
-    ensures err { IfErr result (λ e. e ≡ OutOfMemory) }
-{
-    let mut copy = Beliefs::new(alloc);
-    for (name, entry) in beliefs.iter() {
-        put_entry(alloc, &mut copy, name, entry)?;
-    }
-    Ok(copy)
-}
-
 pub fn copy_touches(alloc: Global, touches: &Vec<Touched>) -> Result<Vec<Touched>, Refusal>
     ensures ok { IfOk result (λ v. v.items ≡ touches.now.items) }
     ensures err { IfErr result (λ e. e ≡ OutOfMemory) }

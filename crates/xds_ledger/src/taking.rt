@@ -15,7 +15,6 @@ use crate::changes::{changes_after, changes_told};
 use crate::entry::Entry;
 use crate::names::Names;
 use crate::sent::Sent;
-use crate::storing::change;
 use crate::variant::Variant;
 use std::alloc::Global;
 use xds_interest::Touched;
@@ -35,7 +34,7 @@ fn change_beliefs<T: ResourceType>(
     ensures refused { IfErr result (λ e. e ≡ OutOfMemory) }
 {
     let changes = changes_after(alloc, names, beliefs, start)?;
-    change(alloc, beliefs, changes)
+    beliefs.change(alloc, changes)
 }
 
 impl<T: ResourceType, V: Variant> Account<T, V> {
@@ -198,7 +197,7 @@ impl<T: ResourceType, V: Variant> Account<T, V> {
         let start = NameMap::new(alloc);
         let changes = changes_after(alloc, names, &self.beliefs, start)?;
         self.note(alloc, touched)?;
-        if let Err(refusal) = change(alloc, &mut self.beliefs, changes) {
+        if let Err(refusal) = self.beliefs.change(alloc, changes) {
             self.forget();
             return Err(refusal);
         }

@@ -3,7 +3,7 @@ use Rattle.std.specs.FinMap as finmap
 use Rattle.xds_resource.specs.Names.{pairs, put_all}
 use Rattle.xds_ledger.specs.Parts.{kept_beside}
 use Rattle.xds_ledger.proofs.Made.{accepted_made}
-use Rattle.xds_ledger.proofs.beliefs.accepted.Goals as goal
+use Rattle.xds_ledger.proofs.beliefs.accepted_beside.Goals as goal
 
 pub returns-clause-ok : goal.returns-clause-ok
 returns-clause-ok c =
