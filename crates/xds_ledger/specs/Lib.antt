@@ -11,6 +11,7 @@ pub mod Parts
 pub mod Changes
 pub mod Overlay
 pub mod Storing
+pub mod Accepting
 pub mod BeliefLaws
 pub mod Ledgers
 pub mod Sessions

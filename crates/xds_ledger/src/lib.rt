@@ -3,6 +3,7 @@
 // What a server believes that a client holds of one type, and how answers and requests change it.
 #![tactic(auto)]
 
+pub mod accepting;
 mod account;
 pub mod beliefs;
 pub mod believed;

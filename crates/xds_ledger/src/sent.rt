@@ -1,5 +1,6 @@
 // A response that was sent and isn't answered.
 ghost use Rattle.std.specs.Prelude.{◌≡◌, [], ◌∷◌, ◌++◌, IfOk, IfErr, OnOk, OnErr};
+ghost use Rattle.std.specs.List.{list_any};
 ghost use Rattle.xds_resource.specs.declared.refusal.Refusal.TheVariants.{OutOfMemory};
 ghost use Rattle.xds_ledger.specs.Believing.{was_touched, touched_since, last_touch_forgotten};
 
@@ -15,7 +16,7 @@ use xds_resource::Refusal;
 #[derive(Drop)]
 pub struct Sent {
     pub offer: SharedMap<Due>,
-    touched: Vec<Touched>,
+    pub(crate) touched: Vec<Touched>,
 }
 
 impl Model for Sent {
@@ -52,6 +53,13 @@ impl Sent {
         ensures { result ≡ was_touched self.now name.now }
     {
         self.touched.iter().any(|touched| touched.touches(name))
+    }
+
+    /// Whether a request touched every name since it was sent.
+    pub fn touches_all(&self) -> bool
+        ensures { result ≡ list_any (λ t. t.all) self.now.touched }
+    {
+        self.touched.iter().any(|touched| touched.all())
     }
 
     /// Notes what a request touched. Refused only by `OutOfMemory`.
