@@ -15,12 +15,13 @@ use crate::names::Names;
 use crate::offers::offer;
 use crate::owed::something_owed;
 use crate::repeats::repeats;
+use crate::shared_map::SharedMap;
 use crate::variant::Variant;
 use std::alloc::Global;
 use std::marker::Model;
 use xds_catalogue::Catalogue;
 use xds_interest::Interest;
-use xds_resource::{NameMap, Refusal, ResourceType};
+use xds_resource::{Refusal, ResourceType};
 
 /// What a client was told of one type on one stream, what is unanswered, and which names it may be owed.
 pub struct Ledger<T: ResourceType, V: Variant> {
@@ -79,7 +80,7 @@ impl<T: ResourceType, V: Variant> Ledger<T, V> {
         alloc: Global,
         interest: &Interest<T>,
         catalogue: &Catalogue<T>,
-    ) -> Result<NameMap<Due>, Refusal>
+    ) -> Result<SharedMap<Due>, Refusal>
         requires { Fits V.NAME T.TYPE interest.now catalogue.now self.now }
         ensures ok { IfOk result (λ o. o ≡ offer_of V.NAME T.TYPE interest.now catalogue.now.entries self.now.account.beliefs) }
         ensures err { IfErr result (λ e. e ≡ OutOfMemory) }
@@ -125,7 +126,7 @@ impl<T: ResourceType, V: Variant> Ledger<T, V> {
     {
         match self.account.refused() {
             Some(refused) => repeats(
-                refused,
+                refused.as_map(),
                 V::NAME,
                 interest,
                 catalogue,
@@ -162,7 +163,7 @@ impl<T: ResourceType, V: Variant> Ledger<T, V> {
     }
 
     /// Notes that an offer was sent, as the response of this number.
-    pub fn send(&mut self, alloc: Global, offer: NameMap<Due>, number: u64)
+    pub fn send(&mut self, alloc: Global, offer: SharedMap<Due>, number: u64)
         ensures { self.new ≡ record self.old { account = ledgers.send self.old.account offer number } }
     {
         self.account.send(alloc, offer, number);

@@ -7,8 +7,6 @@ ghost use Rattle.xds_ledger.specs.Listed.{without_mark};
 ghost use Rattle.xds_ledger.specs.Variants.{is_whole};
 ghost use Rattle.xds_ledger.specs.Lists.{accepts, with_names, with_offer, with_all, ListsNames};
 
-use crate::believed::Beliefs;
-use crate::entry::Due;
 use crate::ledger::Ledger;
 use crate::listed::Listed;
 use crate::names::Names;
@@ -46,25 +44,17 @@ fn list_versions(
     Ok(all)
 }
 
-// Lists the names of which an offer speaks.
-fn list_offer(alloc: Global, listed: Listed, offer: &NameMap<Due>) -> Result<Listed, Refusal>
-    ensures ok { IfOk result (λ l. l ≡ with_names listed (finmap.keys offer.now)) }
+// Lists the names of a map.
+fn list_keys<V: Drop>(
+    alloc: Global,
+    listed: Listed,
+    names: &NameMap<V>,
+) -> Result<Listed, Refusal>
+    ensures ok { IfOk result (λ l. l ≡ with_names listed (finmap.keys names.now)) }
     ensures refused { IfErr result (λ e. e ≡ OutOfMemory) }
 {
     let mut all = listed;
-    for (name, _due) in offer.iter() {
-        all.put(alloc, name)?;
-    }
-    Ok(all)
-}
-
-// Lists the names of which something is believed.
-fn list_believed(alloc: Global, listed: Listed, beliefs: &Beliefs) -> Result<Listed, Refusal>
-    ensures ok { IfOk result (λ l. l ≡ with_names listed (finmap.keys beliefs.now)) }
-    ensures refused { IfErr result (λ e. e ≡ OutOfMemory) }
-{
-    let mut all = listed;
-    for (name, _entry) in beliefs.iter() {
+    for (name, _value) in names.iter() {
         all.put(alloc, name)?;
     }
     Ok(all)
@@ -127,7 +117,7 @@ impl<T: ResourceType, V: Variant> Ledger<T, V> {
             return Ok(listed);
         }
         match self.account.sent() {
-            Some(sent) => list_offer(alloc, listed, &sent.offer),
+            Some(sent) => list_keys(alloc, listed, sent.offer.as_map()),
             None => Ok(listed),
         }
     }
@@ -146,7 +136,8 @@ impl<T: ResourceType, V: Variant> Ledger<T, V> {
         if !all {
             return Ok(listed);
         }
-        let held = list_believed(alloc, listed, self.account.beliefs())?;
+        let believed = self.account.beliefs().flattened(alloc)?;
+        let held = list_keys(alloc, listed, &believed)?;
         list_names(alloc, held, mentioned)
     }
 }
