@@ -113,9 +113,9 @@ fn texts_of(alloc: Global, items: &Vec<Value>) -> Result<Vec<String>, Refusal>
 }
 
 /// Equal texts. Refused only by `OutOfMemory`.
-pub fn copy_texts(alloc: Global, texts: &[String]) -> Result<Vec<String>, Refusal>
+pub fn copy_texts(alloc: Global, texts: &Vec<String>) -> Result<Vec<String>, Refusal>
     ensures ok { IfOk result
-        (λ v. map string_bytes v.items ≡ map string_bytes texts.now) }
+        (λ v. map string_bytes v.items ≡ map string_bytes texts.now.items) }
     ensures refused { IfErr result (λ e. e ≡ OutOfMemory) }
 {
     let mut copies = Vec::new(alloc);

@@ -16,6 +16,7 @@ pub mod laws;
 pub mod ledger;
 pub mod listed;
 mod listing;
+mod looks;
 pub mod names;
 pub mod nonces;
 pub mod offers;

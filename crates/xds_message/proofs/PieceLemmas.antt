@@ -1,5 +1,5 @@
 -- How far the pieces of a text were written, and how long they are.
-use Rattle.std.proofs.Common.{◌≡◌, ◌+◌, ℕ, List, [], ◌∷◌, ◌++◌, Bool, true, false, map, length, Option, refl, ap, sym, ◌∙◌, subst, append_assoc, append-nil}
+use Rattle.std.proofs.Common.{◌≡◌, ◌<◌, ◌+◌, arith, length-append, ℕ, List, [], ◌∷◌, ◌++◌, Bool, true, false, map, length, Option, refl, ap, sym, ◌∙◌, subst, append_assoc, append-nil}
 use Rattle.std.specs.Io.KnownBytes.{Appends}
 use Rattle.xds_frames.specs.Devices.{Device, WrotePart}
 use Rattle.xds_frames.specs.Gathering.{Passes}
@@ -59,6 +59,24 @@ nothing_behind true = refl
 pub put_all : (d : Device) (held left all : List ℕ) (later : Bool) (these : List (List ℕ)) → these ≡ [] → ArePut d held left (rest_behind later these) all → Passes d held all left
 put_all d held left all later these none p =
     subst (λ (bytes : List ℕ). Passes d held bytes left) (sym (append-nil p.bytes) ∙ ap (λ (l : List ℕ). p.bytes ++ l) (sym (ap (rest_behind later) none ∙ nothing_behind later)) ∙ p.all_is) p.passes
+
+-- ---- how many bytes
+
+-- a body is counted, and the comma before it
+pub count_more : (later : Bool) (body : List ℕ) (bodies these : List (List ℕ)) (all more whole : ℕ) → these ≡ body ∷ bodies → all + length (rest_behind later these) ≡ whole
+    → more ≡ all + length (comma_before later ++ body_text body) → more + length (rest_behind true bodies) ≡ whole
+count_more later body bodies these all more whole is counted added =
+    omega (arith, counted, added, ap (λ (l : List ℕ). length l) (ap (rest_behind later) is ∙ rest_step later body bodies), length-append (comma_before later ++ body_text body) (rest_behind true bodies))
+
+-- with them it is too much
+pub count_beyond : (later : Bool) (body : List ℕ) (bodies these : List (List ℕ)) (all whole limit : ℕ) → these ≡ body ∷ bodies → all + length (rest_behind later these) ≡ whole
+    → limit < all + length (comma_before later ++ body_text body) → limit < whole
+count_beyond later body bodies these all whole limit is counted beyond =
+    omega (arith, counted, beyond, ap (λ (l : List ℕ). length l) (ap (rest_behind later) is ∙ rest_step later body bodies), length-append (comma_before later ++ body_text body) (rest_behind true bodies))
+
+-- nothing is left to be counted
+pub count_all : (later : Bool) (these : List (List ℕ)) (all whole : ℕ) → these ≡ [] → all + length (rest_behind later these) ≡ whole → all ≡ whole
+count_all later these all whole none counted = omega (arith, counted, ap (λ (l : List ℕ). length l) (ap (rest_behind later) none ∙ nothing_behind later))
 
 -- ---- a text's head, what is between, and its tail
 

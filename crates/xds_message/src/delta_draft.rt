@@ -82,7 +82,7 @@ pub struct DeltaDraft {
     version: String,
     nonce: String,
     resources: ArcSlice<DraftResource, Global>,
-    removed: ArcSlice<String, Global>,
+    removed: Vec<String>,
 }
 
 // Written out: docs/PROVING.md, "Drops".
@@ -110,21 +110,21 @@ impl Model for DeltaDraft {
       system_version_info = string_bytes d.version;
       nonce = string_bytes d.nonce;
       resources = arc_slice_items d.resources;
-      removed_resources = map string_bytes (arc_slice_items d.removed);
+      removed_resources = map string_bytes d.removed.items;
     } };
 }
 
 impl DeltaDraft {
-    /// A response of these resources, and of names that the client is to drop. Other responses may share the lists.
+    /// A response of these resources, whose list other responses may share, and of names that the client is to drop.
     pub fn new(
         kind: TypeName,
         version: String,
         nonce: String,
         resources: ArcSlice<DraftResource, Global>,
-        removed: ArcSlice<String, Global>,
+        removed: Vec<String>,
     ) -> DeltaDraft
         ensures { result
-            ≡ record { kind = kind; system_version_info = string_bytes version; nonce = string_bytes nonce; resources = arc_slice_items resources; removed_resources = map string_bytes (arc_slice_items removed) } }
+            ≡ record { kind = kind; system_version_info = string_bytes version; nonce = string_bytes nonce; resources = arc_slice_items resources; removed_resources = map string_bytes removed.items } }
     {
         DeltaDraft {
             kind,
@@ -182,7 +182,7 @@ impl DeltaDraft {
             resources: resources_of(alloc, self.resources.as_slice())?,
             type_url: String::from_str(alloc, self.kind.url())?,
             nonce: String::from_str(alloc, self.nonce.as_str())?,
-            removed_resources: copy_texts(alloc, self.removed.as_slice())?,
+            removed_resources: copy_texts(alloc, &self.removed)?,
         })
     }
 
@@ -219,7 +219,7 @@ impl DeltaDraft {
             version: String::from_str(alloc, self.version.as_str())?,
             nonce: String::from_str(alloc, self.nonce.as_str())?,
             resources: self.resources.clone()?,
-            removed: self.removed.clone()?,
+            removed: copy_texts(alloc, &self.removed)?,
         })
     }
 }

@@ -142,13 +142,12 @@ fn delta_draft(alloc: Global) -> Result<DeltaDraft, Refusal> {
     let version = text(alloc, "1.2")?;
     let nonce = text(alloc, "1")?;
     let stated = ArcSlice::from_vec(resources)?;
-    let gone = ArcSlice::from_vec(removed)?;
     Ok(DeltaDraft::new(
         TypeName::Cluster,
         version,
         nonce,
         stated,
-        gone,
+        removed,
     ))
 }
 

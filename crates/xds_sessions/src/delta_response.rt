@@ -12,14 +12,14 @@ use std::sync::ArcSlice;
 use xds_catalogue::Catalogue;
 use xds_ledger::Due;
 use xds_ledger::texts::{nonce_text, replica_version};
-use xds_message::{DeltaDraft, DraftResource, push_resource};
+use xds_message::{DeltaDraft, DraftResource, copy_texts, push_resource};
 use xds_resource::{NameMap, Refusal, ResourceType};
 
 /// What a response says: the resources that it states, and the names that are gone. It depends on the offer and on what is held
 /// alone, so that all clients which are offered the same share it.
 pub struct Said {
     resources: ArcSlice<DraftResource, Global>,
-    removed: ArcSlice<String, Global>,
+    removed: Vec<String>,
 }
 
 // Written out: docs/PROVING.md, "Drops".
@@ -39,7 +39,7 @@ impl Model for Said {
 
     ghost Value = { polls.Said };
 
-    ghost view = { λ s. record { resources = arc_slice_items s.resources; removed = map string_bytes (arc_slice_items s.removed) } };
+    ghost view = { λ s. record { resources = arc_slice_items s.resources; removed = map string_bytes s.removed.items } };
 }
 
 // The same while it is gathered.
@@ -104,7 +104,7 @@ impl Gathered {
         let Gathered { resources, removed } = self;
         Ok(Said {
             resources: ArcSlice::from_vec(resources)?,
-            removed: ArcSlice::from_vec(removed)?,
+            removed,
         })
     }
 }
@@ -159,6 +159,6 @@ pub(crate) fn response<T: ResourceType>(
     let version = replica_version(alloc, replica, changes)?;
     let nonce = nonce_text(alloc, number)?;
     let resources = said.resources.clone()?;
-    let removed = said.removed.clone()?;
+    let removed = copy_texts(alloc, &said.removed)?;
     Ok(DeltaDraft::new(T::TYPE, version, nonce, resources, removed))
 }

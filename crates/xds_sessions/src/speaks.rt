@@ -1,13 +1,16 @@
 // What the two variants of a session differ in.
-ghost use Rattle.std.specs.Prelude.{◌≡◌, IfOk, IfErr};
+ghost use Rattle.std.specs.Prelude.{◌≡◌, IfSome, IfOk, IfErr};
 ghost use Rattle.std.specs.Arc.{arc_slice_items};
 ghost use Rattle.xds_resource.specs.declared.refusal.Refusal.TheVariants.{OutOfMemory};
 ghost use Rattle.xds_interest.specs.Asked as askeds;
 ghost use Rattle.xds_sessions.specs.DeltaPolls as delta_polls;
 ghost use Rattle.xds_sessions.specs.SotwPolls as sotw_polls;
+ghost use Rattle.xds_sessions.specs.Wildcards.{IsShared, all_of};
 
 use crate::delta_response::{Said, response as delta_response, said_by};
+use crate::published::Published;
 use crate::sotw_response::{response as sotw_response, stated_bodies};
+use crate::wildcards::Wildcard;
 use std::alloc::Global;
 use std::sync::ArcSlice;
 use xds_catalogue::Catalogue;
@@ -70,6 +73,22 @@ pub trait Speaks<T: ResourceType>: Variant {
         ensures ok { IfOk result (λ x. IsSaid catalogue.now.entries interest.now offer.now x) }
         ensures refused { IfErr result (λ e. e ≡ OutOfMemory) };
 
+    /// What clients of this cluster share that want everything and hold nothing, if it was made.
+    fn wildcard<'a>(
+        published: &'a Published<T>,
+        cluster: &str,
+    ) -> Option<&'a Wildcard<Self::Said>>
+        ensures { IfSome result (λ w. IsShared NAME T.TYPE IsSaid published.now.entries cluster.now w.now) };
+
+    /// Makes it, if it isn't there.
+    fn share(
+        alloc: Global,
+        published: &mut Published<T>,
+        interest: &Interest<T>,
+    ) -> Result<(), Refusal>
+        requires { interest.now ≡ all_of interest.now.cluster }
+        ensures { published.new ≡ published.old };
+
     /// The response that says this, as the one of this number on its stream. Refused only by `OutOfMemory`.
     fn respond(
         alloc: Global,
@@ -121,6 +140,21 @@ impl<T: ResourceType> Speaks<T> for StateOfTheWorld {
         stated_bodies(alloc, catalogue, interest, offer)
     }
 
+    fn wildcard<'a>(
+        published: &'a Published<T>,
+        cluster: &str,
+    ) -> Option<&'a Wildcard<ArcSlice<Body, Global>>> {
+        published.sotw_wildcard(cluster)
+    }
+
+    fn share(
+        alloc: Global,
+        published: &mut Published<T>,
+        interest: &Interest<T>,
+    ) -> Result<(), Refusal> {
+        published.share_sotw(alloc, interest)
+    }
+
     fn respond(
         alloc: Global,
         replica: u16,
@@ -169,6 +203,18 @@ impl<T: ResourceType> Speaks<T> for Delta {
         offer: &NameMap<Due>,
     ) -> Result<Said, Refusal> {
         said_by(alloc, catalogue, offer)
+    }
+
+    fn wildcard<'a>(published: &'a Published<T>, cluster: &str) -> Option<&'a Wildcard<Said>> {
+        published.delta_wildcard(cluster)
+    }
+
+    fn share(
+        alloc: Global,
+        published: &mut Published<T>,
+        interest: &Interest<T>,
+    ) -> Result<(), Refusal> {
+        published.share_delta(alloc, interest)
     }
 
     fn respond(
