@@ -18,3 +18,4 @@ pub mod Sessions
 pub mod Texts
 pub mod Laws
 pub mod Lists
+pub mod BookLaws

@@ -6,7 +6,7 @@ ghost use Rattle.xds_ledger.specs.Listed.{StaysSufficient, changed_since};
 ghost use Rattle.xds_ledger.specs.Offers.{offer as offer_of};
 ghost use Rattle.xds_ledger.specs.Ledgers as ledgers;
 ghost use Rattle.xds_ledger.specs.Ledgers.{settled, taken};
-ghost use Rattle.xds_ledger.specs.Lists.{Fits, FitsNext, new_books, refreshed};
+ghost use Rattle.xds_ledger.specs.Lists.{Fits, FitsNext, new_books, refreshed, sent_books};
 
 use crate::account::Account;
 use crate::entry::Due;
@@ -162,17 +162,20 @@ impl<T: ResourceType, V: Variant> Ledger<T, V> {
             .tidy(alloc, V::NAME, interest, catalogue, beliefs);
     }
 
-    /// Notes that an offer was sent, as the response of this number.
+    /// Notes that an offer was sent, as the response of this number. It takes no memory. Where the offer is that of a
+    /// catalogue, the list still suffices at it (`laws::books_suffice`).
     pub fn send(&mut self, alloc: Global, offer: SharedMap<Due>, number: u64)
-        ensures { self.new ≡ record self.old { account = ledgers.send self.old.account offer number } }
+        ensures { self.new ≡ sent_books self.old offer number }
     {
         self.account.send(alloc, offer, number);
+        self.listed.note_sending();
     }
 
     /// Takes a request with this nonce: it settles the response that it answers, and then its names are taken. Refused
-    /// only by `OutOfMemory`, and then nothing is taken. It looks at the names that the request and the response that
-    /// it answers speak of, and at all that are believed held only where every name is touched or a whole response is
-    /// accepted.
+    /// only by `OutOfMemory`, and then nothing is taken. Where it accepts a response that is the whole, or before which
+    /// nothing was believed held, it looks at the names alone that it mentions or that were touched since the response was
+    /// sent, and else at those of the response and the listed ones, too. It looks at all that are believed held only where
+    /// every name is touched, or was since a whole response was sent that it accepts.
     pub fn take(
         &mut self,
         alloc: Global,

@@ -42,7 +42,8 @@ impl<T: ResourceType, V: Variant> Account<T, V> {
     /// Takes a request: it settles the response that it answers, and then its names are taken. Refused only by
     /// `OutOfMemory`, and then nothing is taken. Where it accepts a response that is the whole, or before which nothing was
     /// believed held, it looks at the names alone that it mentions or that were touched since the response was sent, and
-    /// else at those of the response, too. It looks at all that are believed held only where every name is touched.
+    /// else at those of the response, too. It looks at all that are believed held only where every name is touched, or was
+    /// since a whole response was sent that it accepts.
     pub fn take(
         &mut self,
         alloc: Global,
