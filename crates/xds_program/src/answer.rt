@@ -146,11 +146,11 @@ fn respond_of(
     ensures refused { IfErr result (λ e. e ≡ Refusal.OutOfMemory) }
 {
     match kind {
-        TypeName::Cluster => respond(alloc, replica, &catalogues.cluster, request),
-        TypeName::Endpoint => respond(alloc, replica, &catalogues.endpoint, request),
-        TypeName::Listener => respond(alloc, replica, &catalogues.listener, request),
-        TypeName::Route => respond(alloc, replica, &catalogues.route, request),
-        TypeName::Secret => respond(alloc, replica, &catalogues.secret, request),
+        TypeName::Cluster => respond(alloc, replica, catalogues.cluster.catalogue(), request),
+        TypeName::Endpoint => respond(alloc, replica, catalogues.endpoint.catalogue(), request),
+        TypeName::Listener => respond(alloc, replica, catalogues.listener.catalogue(), request),
+        TypeName::Route => respond(alloc, replica, catalogues.route.catalogue(), request),
+        TypeName::Secret => respond(alloc, replica, catalogues.secret.catalogue(), request),
     }
 }
 

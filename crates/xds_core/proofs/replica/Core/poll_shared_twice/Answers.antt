@@ -16,7 +16,7 @@ use Rattle.xds_core.specs.Lists.{AllFit, streams_of}
 use Rattle.xds_core.proofs.Fitting.{has_stream, none_there, not_open, puts_back, fits_back}
 use Rattle.xds_core.proofs.StreamSteps.{there, with_streams, step_gives, step_kept, poll_short}
 use Rattle.xds_core.proofs.Twins.{first_gives, first_short, first_kept, firsts_short, firsts_kept}
-use Rattle.xds_core.proofs.replica.Core.poll_twice.Goals as goal
+use Rattle.xds_core.proofs.replica.Core.poll_shared_twice.Goals as goal
 
 pub set-requires : goal.set-requires
 set-requires c = subst (λ m. IsSome (finmap.get m c.args.number)) (sym c.in-Some.ensures.found) (there c.self.inside.streams c.args.number c.opening.result)
