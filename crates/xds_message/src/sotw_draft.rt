@@ -126,6 +126,7 @@ impl SotwDraft {
         ensures text { IfOk result (λ p. p ≡ compact_text (response_object (message_of self.now))) }
         ensures refused { IfErr result (λ e. e ≡ OutOfMemory) }
     {
+        let bodies = self.bodies.as_slice();
         let mut head = String::from_str(alloc, "{")?;
         let mut tail = String::new(alloc);
         let later = join_text(alloc, &mut head, false, "nonce", self.nonce.as_str())?;
@@ -135,7 +136,7 @@ impl SotwDraft {
             &mut tail,
             later,
             "resources",
-            self.bodies.as_slice(),
+            bodies,
         )?;
         let later = join_text(alloc, &mut tail, later, "typeUrl", self.kind.url())?;
         join_text(
@@ -146,7 +147,7 @@ impl SotwDraft {
             self.version.as_str(),
         )?;
         tail.push_str("}")?;
-        Ok(Pieces::around(head, self.bodies.as_slice(), tail))
+        Ok(Pieces::around(head, bodies, tail))
     }
 
     /// The stored texts of the resources.

@@ -1,5 +1,4 @@
-use Rattle.std.proofs.Common.{◌<◌, ◌+◌, length, map, refl, sym, subst, arith, IfNone}
-use Rattle.std.proofs.lemmas.List.{drop_of_length-le}
+use Rattle.std.proofs.Common.{◌<◌, ◌+◌, length, map, refl, sym, subst, arith, IfNone, drop_of_length-le}
 use Rattle.xds_message.specs.Drafts.{body_text}
 use Rattle.xds_message.specs.Joined.{with_commas}
 use Rattle.xds_message.proofs.JoinedLemmas.{drop_here}
@@ -16,7 +15,7 @@ pub returns-in_err-all-clause-beyond : goal.returns-in_err-all-clause-beyond
 returns-in_err-all-clause-beyond c =
     let here = drop_here c.args.bodies.now c.loop-body.body-index c.body-item.result (omega arith) c.body-item.is in
     subst (λ r. IfNone r (c.args.limit < c.args.count + length (with_commas (map body_text c.args.bodies.now)))) (sym c.from_residual.ensures)
-    (count_beyond c.loop-body.later c.body-item.result _ _ c.loop-body.all _ c.args.limit here c.loop-body.invariant.0 (c.in_err-all.ensures tt).beyond)
+    (count_beyond c.loop-body.later c.body-item.result _ _ c.loop-body.all _ c.args.limit here c.loop-body.invariant.0 c.in_err-all.ensures.beyond)
 
 pub loop-body-preserved : goal.loop-body-preserved
 loop-body-preserved c =
@@ -25,7 +24,7 @@ loop-body-preserved c =
 
 pub returns-clause-within : goal.returns-clause-within
 returns-clause-within c =
-    count_all c.loop-body.later _ c.loop-body.all _ (drop_of_length-le c.loop-body.body-index c.args.bodies.now (omega arith)) c.loop-body.invariant.0
+    count_all c.loop-body.later _ c.loop-body.all _ (drop_of_length-le c.args.bodies.now (omega arith)) c.loop-body.invariant.0
 
 pub returns-clause-bounded : goal.returns-clause-bounded
 returns-clause-bounded c = c.loop-body.invariant.1
