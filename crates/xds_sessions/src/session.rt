@@ -5,8 +5,8 @@ ghost use Rattle.xds_resource.specs.Stamps.{max_counter};
 ghost use Rattle.xds_resource.specs.declared.refusal.Refusal.TheVariants.{OutOfMemory, NonceSpent};
 ghost use Rattle.xds_ledger.specs.Offers.{offer};
 ghost use Rattle.xds_ledger.specs.Sessions as sessions;
-ghost use Rattle.xds_ledger.specs.Sessions.{HasPolled, is_stale, send, sending};
-ghost use Rattle.xds_ledger.specs.Lists.{SessionFits, new_kept};
+ghost use Rattle.xds_ledger.specs.Sessions.{HasPolled, is_stale, sending};
+ghost use Rattle.xds_ledger.specs.Lists.{SessionFits, new_kept, sent_kept};
 ghost use Rattle.xds_catalogue.specs.Holdings.{Holdings};
 ghost use Rattle.xds_ledger.specs.Listed.{changed_since};
 
@@ -15,8 +15,8 @@ use std::alloc::Global;
 use std::marker::Model;
 use xds_catalogue::Catalogue;
 use xds_interest::ClusterText;
-use xds_ledger::{Due, Ledger, Nonces};
-use xds_resource::{NameMap, Refusal, ResourceType};
+use xds_ledger::{Due, Ledger, Nonces, SharedMap};
+use xds_resource::{Refusal, ResourceType};
 
 /// One type on one stream, in one of the two variants.
 pub struct Session<T: ResourceType, V: Speaks<T>> {
@@ -87,7 +87,7 @@ impl<T: ResourceType, V: Speaks<T>> Session<T, V> {
         replica: u16,
         catalogue: &Catalogue<T>,
         number: u64,
-    ) -> Result<(NameMap<Due>, V::Draft), Refusal>
+    ) -> Result<(SharedMap<Due>, V::Draft), Refusal>
         requires { SessionFits V.NAME T.TYPE catalogue.now self.now }
         ensures offer { IfOk result (λ p. p.0 ≡ offer V.NAME T.TYPE self.now.session.asked.interest catalogue.now.entries self.now.session.account.beliefs) }
         ensures draft { IfOk result (λ p. p.1 ≡ V.response replica T.TYPE catalogue.now self.now.session.asked.interest p.0 number) }
@@ -95,7 +95,14 @@ impl<T: ResourceType, V: Speaks<T>> Session<T, V> {
     {
         let interest = V::interest(&self.names);
         let offer = self.ledger.offer(alloc, interest, catalogue)?;
-        let draft = V::respond(alloc, replica, catalogue, interest, &offer, number)?;
+        let draft = V::respond(
+            alloc,
+            replica,
+            catalogue,
+            interest,
+            offer.as_map(),
+            number,
+        )?;
         Ok((offer, draft))
     }
 
@@ -176,9 +183,10 @@ impl<T: ResourceType, V: Speaks<T>> Session<T, V> {
         Ok(Some(draft))
     }
 
-    /// Notes that a response with this offer was sent, as the one of this number. It takes no memory.
-    pub fn send(&mut self, alloc: Global, offer: NameMap<Due>, number: u64)
-        ensures { self.new ≡ record self.old { session = send self.old.session offer number } }
+    /// Notes that a response with this offer was sent, as the one of this number. It takes no memory. Where the offer is that
+    /// of a catalogue, the session still fits it (`xds_ledger::laws::books_suffice`).
+    pub fn send(&mut self, alloc: Global, offer: SharedMap<Due>, number: u64)
+        ensures { self.new ≡ sent_kept self.old offer number }
     {
         self.ledger.send(alloc, offer, number);
     }
