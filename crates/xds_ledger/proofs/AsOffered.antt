@@ -1,7 +1,5 @@
 -- That an offer which was accepted, with the differences of the names that were touched since, is what is believed then.
-use Rattle.std.proofs.Common.{◌≡◌, ℕ, suc, ◌+◌, ◌<◌, List, [], ◌∷◌, length, take, Bool, true, false, cond, ◌||◌, Option, Some, None, refl, sym, ap, ◌∙◌, arith}
-use Rattle.std.proofs.Math.ListN.{get_or}
-use Rattle.std.proofs.Math.Seq.{take-suc}
+use Rattle.std.proofs.Common.{◌≡◌, ℕ, List, [], ◌∷◌, Bool, true, false, ◌||◌, Option, Some, None, refl, sym, ap, ◌∙◌}
 use Rattle.std.specs.Prelude.{unwrap_or, option_map, if◌then◌else◌, IfSome}
 use Rattle.std.specs.Option.{option_or, option_and_then}
 use Rattle.std.specs.List.{list_any}
@@ -13,7 +11,6 @@ use Rattle.xds_resource.specs.Names.{put_each}
 use Rattle.xds_resource.proofs.NameMaps.{same_names}
 use Rattle.xds_resource.proofs.MadeMaps.{get-put_each}
 use Rattle.xds_interest.specs.Touches.{Touch, touches}
-use Rattle.xds_interest.proofs.Listed.{list_any-push}
 use Rattle.xds_interest.proofs.Texts.{contains-from_texts}
 use Rattle.xds_ledger.specs.declared.variant.VariantName.{VariantName}
 use Rattle.xds_ledger.specs.declared.entry.Entry.{Entry}
@@ -54,35 +51,6 @@ pub names_put : (f : List ℕ → Option (Option Entry)) (old : Differences) (na
     → finmap.get (put_each f old names) q ≡ (if set.contains of q then option_or (f q) (finmap.get old q) else finmap.get old q)
 names_put f old names of q is =
     get-put_each f old names q ∙ ap (λ b. if b then option_or (f q) (finmap.get old q) else finmap.get old q) (sym (contains-from_texts names q) ∙ ap (λ s. set.contains s q) is)
-
--- one touch more
-pub touch_more : {X : Type 0} (some more : Bool) (x o : Option X) → o ≡ (if some then x else None) → (if more then option_or x o else o) ≡ (if some || more then x else None)
-touch_more true true x o is = ap (option_or x) is ∙ twice x
-  where
-    twice : {X : Type 0} (x : Option X) → option_or x x ≡ x
-    twice None = refl
-    twice (Some y) = refl
-touch_more true false x o is = is
-touch_more false true x o is = ap (option_or x) is ∙ or_none x
-  where
-    or_none : {X : Type 0} (x : Option X) → option_or x None ≡ x
-    or_none None = refl
-    or_none (Some y) = refl
-touch_more false false x o is = is
-
-one_more : (i : ℕ) → i + 1 ≡ suc i
-one_more i = omega arith
-
--- once what f says of the names of one touch more was put
-pub touched_next : (f : List ℕ → Option (Option Entry)) (old new : Differences) (ts : List Touch) (i : ℕ) (d : Touch) (q : List ℕ) → i < length ts
-    → finmap.get old q ≡ (if list_any (λ t. set.contains t.names q) (take i ts) then f q else None)
-    → finmap.get new q ≡ (if set.contains (get_or ts i d).names q then option_or (f q) (finmap.get old q) else finmap.get old q)
-    → finmap.get new q ≡ (if list_any (λ t. set.contains t.names q) (take (i + 1) ts) then f q else None)
-touched_next f old new ts i d q there before is =
-    let p : Touch → Bool = λ t. set.contains t.names q in
-    is ∙ touch_more (list_any p (take i ts)) (p (get_or ts i d)) (f q) (finmap.get old q) before
-    ∙ ap (λ b. if b then f q else None)
-    (sym (ap (λ n. list_any p (take n ts)) (one_more i) ∙ ap (list_any p) (take-suc ts i d there) ∙ list_any-push p (take i ts) (get_or ts i d)))
 
 -- ---- one name
 

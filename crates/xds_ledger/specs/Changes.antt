@@ -17,7 +17,7 @@ use Rattle.xds_interest.specs.Interests.{Selection, reaches}
 use Rattle.xds_interest.specs.Touches.{Touch}
 use Rattle.xds_ledger.specs.declared.entry.Entry.{Entry}
 use Rattle.xds_ledger.specs.declared.entry.Entry.TheVariants.{Told, Unsure}
-use Rattle.xds_ledger.specs.Owed.{Beliefs, replaced}
+use Rattle.xds_ledger.specs.Owed.{Beliefs}
 use Rattle.xds_ledger.specs.Believing.{Sent, was_touched}
 use Rattle.xds_ledger.specs.Parts.{told_unless_touched, made_unsure}
 

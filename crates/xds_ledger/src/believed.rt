@@ -12,7 +12,7 @@ use crate::entry::{Due, Entry};
 use crate::flat::flattened;
 use crate::shared_map::SharedMap;
 use crate::storing::change;
-use crate::told::{Believed, believed, told_in};
+use crate::told::{Believed, by_difference, told_in};
 use std::alloc::Global;
 use std::marker::Model;
 use xds_resource::{NameMap, Refusal};
@@ -84,7 +84,7 @@ impl Beliefs {
         ensures { option_map entry_of result ≡ finmap.get self.now name.now }
     {
         match self.changed.get(name) {
-            Some(entry) => believed(entry),
+            Some(entry) => by_difference(entry),
             None => told_in(&self.base, name),
         }
     }

@@ -4,7 +4,7 @@ ghost use Rattle.std.specs.Option.{option_map};
 ghost use Rattle.std.specs.FinMap as finmap;
 ghost use Rattle.xds_resource.specs.declared.refusal.Refusal.TheVariants.{OutOfMemory};
 ghost use Rattle.xds_resource.specs.Names.{pairs, put_some};
-ghost use Rattle.xds_ledger.specs.Differences.{replaced};
+ghost use Rattle.xds_ledger.specs.Storing.{replaced};
 
 use crate::entry::Entry;
 use std::alloc::Global;
@@ -30,10 +30,10 @@ impl Model for Differences {
     ghost use Rattle.std.specs.Coded.{coded_ℕ, coded_list, coded_option};
     ghost use Rattle.std.specs.FinMap as finmap;
     ghost use Rattle.xds_resource.specs.Names.{pairs};
-    ghost use Rattle.xds_ledger.specs.Differences as differences;
+    ghost use Rattle.xds_ledger.specs.Overlay as overlay;
     ghost use Rattle.xds_ledger.specs.Owed.{entry_code};
 
-    ghost Value = { differences.Differences };
+    ghost Value = { overlay.Differences };
 
     ghost coded = { finmap.code (coded_list coded_ℕ) (coded_option entry_code) };
 

@@ -18,7 +18,7 @@ pub enum Believed<'a> {
 }
 
 // What is believed by a difference.
-pub fn believed(entry: &Option<Entry>) -> Option<Believed<'_>>
+pub fn by_difference(entry: &Option<Entry>) -> Option<Believed<'_>>
     ensures { option_map entry_of result ≡ entry.now }
 {
     match entry {

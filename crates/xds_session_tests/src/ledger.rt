@@ -1,10 +1,11 @@
 // What a client of clusters was told and is owed, by scripts over a ledger of either variant.
-ghost use Rattle.std.specs.Prelude.{◌≡◌, [], map};
+ghost use Rattle.std.specs.Prelude.{◌≡◌, [], map, IfOk};
 ghost use Rattle.xds_resource.specs.declared.types.TypeName.TheVariants as types;
 ghost use Rattle.std.proofs.Props.{props};
 ghost use Rattle.xds_catalogue.specs.Holdings.{IsCatalogue};
 ghost use Rattle.xds_ledger.specs.Ledgers.{AreInOrder};
 ghost use Rattle.xds_ledger.specs.Lists.{Fits};
+ghost use Rattle.xds_ledger.specs.Offers.{offer};
 
 use crate::stories::{change, keep};
 use std::alloc::Global;
@@ -14,7 +15,8 @@ use xds_cases::scripts::{Script, either, follow};
 use xds_catalogue::Catalogue;
 use xds_interest::{ClusterText, Interest};
 use xds_ledger::{
-    Delta, Due, Entry, Ledger, Names, Nonces, StateOfTheWorld, Variant, VariantName, Version,
+    Delta, Due, Entry, Ledger, Names, Nonces, SharedMap, StateOfTheWorld, Variant, VariantName,
+    Version,
 };
 use xds_resource::{Cluster, NameMap, Refusal, Stamp, TypeName};
 
@@ -85,7 +87,9 @@ impl<V: Variant> Client<V> {
         change(alloc, &mut self.catalogue, verb, rest)
     }
 
-    fn offered(&self, alloc: Global) -> Result<NameMap<Due>, Refusal> {
+    fn offered(&self, alloc: Global) -> Result<SharedMap<Due>, Refusal>
+        ensures { IfOk result (λ o. o ≡ offer V.NAME types.Cluster self.now.interest self.now.catalogue.entries self.now.ledger.account.beliefs) }
+    {
         self.ledger.offer(alloc, &self.interest, &self.catalogue)
     }
 
@@ -98,7 +102,7 @@ impl<V: Variant> Client<V> {
 
     fn sending(&self, alloc: Global) -> Result<String, Refusal> {
         if self.ledger.sends(&self.interest, &self.catalogue) {
-            offer_text(alloc, &self.offered(alloc)?)
+            offer_text(alloc, self.offered(alloc)?.as_map())
         } else {
             Ok(String::from_str(alloc, "none")?)
         }
@@ -131,7 +135,7 @@ impl<V: Variant> Script for Client<V> {
             "ack" => self.answered(alloc, false, rest),
             "nack" => self.answered(alloc, true, rest),
             "resume" => self.resumed(alloc, rest),
-            "offer" => offer_text(alloc, &self.offered(alloc)?),
+            "offer" => offer_text(alloc, self.offered(alloc)?.as_map()),
             "send" => self.sent(alloc, rest),
             "sending" => self.sending(alloc),
             _ => either(alloc, self.is(alloc, verb, rest)?, "yes", "no"),

@@ -5,8 +5,8 @@ ghost use Rattle.xds_resource.specs.Stamps.{max_counter};
 ghost use Rattle.xds_resource.specs.declared.refusal.Refusal.TheVariants.{OutOfMemory, NonceSpent};
 ghost use Rattle.xds_ledger.specs.Offers.{offer};
 ghost use Rattle.xds_ledger.specs.Sessions as sessions;
-ghost use Rattle.xds_ledger.specs.Sessions.{HasPolled, is_stale, send, sending};
-ghost use Rattle.xds_ledger.specs.Lists.{SessionFits, new_kept};
+ghost use Rattle.xds_ledger.specs.Sessions.{HasPolled, is_stale, sending};
+ghost use Rattle.xds_ledger.specs.Lists.{SessionFits, new_kept, sent_kept};
 ghost use Rattle.xds_catalogue.specs.Holdings.{Holdings};
 ghost use Rattle.xds_ledger.specs.Listed.{changed_since};
 ghost use Rattle.xds_sessions.specs.Wildcards.{IsFirst, IsShared};
@@ -258,9 +258,10 @@ impl<T: ResourceType, V: Speaks<T>> Session<T, V> {
         Ok(Some(draft))
     }
 
-    /// Notes that a response with this offer was sent, as the one of this number. It takes no memory.
+    /// Notes that a response with this offer was sent, as the one of this number. It takes no memory. Where the offer is that
+    /// of a catalogue, the session still fits it (`xds_ledger::laws::books_suffice`).
     pub fn send(&mut self, alloc: Global, offer: SharedMap<Due>, number: u64)
-        ensures { self.new ≡ record self.old { session = send self.old.session offer number } }
+        ensures { self.new ≡ sent_kept self.old offer number }
     {
         self.ledger.send(alloc, offer, number);
     }
