@@ -19,11 +19,12 @@ use xds_ledger::{
     Version,
 };
 use xds_resource::{Cluster, NameMap, Refusal, Stamp, TypeName};
+use xds_sessions::Published;
 
 // What the replica holds, what a client wants, and what it was told.
 #[derive(Drop)]
 struct Client<V: Variant> {
-    catalogue: Catalogue<Cluster>,
+    catalogue: Published<Cluster>,
     interest: Interest<Cluster>,
     ledger: Ledger<Cluster, V>,
     ghost named: { IsCatalogue catalogue.entries } by { Prim.hlevel props },
@@ -90,7 +91,7 @@ impl<V: Variant> Client<V> {
     fn offered(&self, alloc: Global) -> Result<SharedMap<Due>, Refusal>
         ensures { IfOk result (λ o. o ≡ offer V.NAME types.Cluster self.now.interest self.now.catalogue.entries self.now.ledger.account.beliefs) }
     {
-        self.ledger.offer(alloc, &self.interest, &self.catalogue)
+        self.ledger.offer(alloc, &self.interest, self.catalogue.catalogue())
     }
 
     fn sent(&mut self, alloc: Global, number: &str) -> Result<String, Refusal> {
@@ -101,7 +102,7 @@ impl<V: Variant> Client<V> {
     }
 
     fn sending(&self, alloc: Global) -> Result<String, Refusal> {
-        if self.ledger.sends(&self.interest, &self.catalogue) {
+        if self.ledger.sends(&self.interest, self.catalogue.catalogue()) {
             offer_text(alloc, self.offered(alloc)?.as_map())
         } else {
             Ok(String::from_str(alloc, "none")?)
@@ -113,8 +114,8 @@ impl<V: Variant> Client<V> {
         Ok(match verb {
             "answers" => self.ledger.answers(rest),
             "stale" => self.ledger.is_stale(rest),
-            "due" => self.ledger.is_due(&self.interest, &self.catalogue),
-            _ => self.ledger.owes(&self.interest, &self.catalogue),
+            "due" => self.ledger.is_due(&self.interest, self.catalogue.catalogue()),
+            _ => self.ledger.owes(&self.interest, self.catalogue.catalogue()),
         })
     }
 }
@@ -122,7 +123,7 @@ impl<V: Variant> Client<V> {
 impl<V: Variant> Script for Client<V> {
     fn begin(alloc: Global) -> Client<V> {
         Client {
-            catalogue: Catalogue::new(alloc),
+            catalogue: Published::of(alloc, Catalogue::new(alloc)),
             interest: Interest::nothing(alloc, ClusterText::none()),
             ledger: Ledger::new(alloc),
         }
