@@ -10,12 +10,12 @@ ghost use Rattle.xds_program.specs.Faults.{IsAnswer, IsFault};
 
 use crate::gathering::{Gathered, LineFault, gather, gather_freeing};
 use std::alloc::Global;
-use xds_catalogue::Catalogue;
 use xds_core::Catalogues;
 use xds_interest::ClusterText;
 use xds_ledger::Nonces;
 use xds_message::{DiscoveryRequest, SotwDraft};
 use xds_resource::{Refusal, ResourceType, TypeName};
+use xds_sessions::Published;
 use xds_sessions::sotw_session::Session;
 
 /// Answers an input of stamped writes, a line each, and a `DiscoveryRequest` on the last line. The writes are joined
@@ -146,11 +146,11 @@ fn respond_of(
     ensures refused { IfErr result (λ e. e ≡ Refusal.OutOfMemory) }
 {
     match kind {
-        TypeName::Cluster => respond(alloc, replica, catalogues.cluster.catalogue(), request),
-        TypeName::Endpoint => respond(alloc, replica, catalogues.endpoint.catalogue(), request),
-        TypeName::Listener => respond(alloc, replica, catalogues.listener.catalogue(), request),
-        TypeName::Route => respond(alloc, replica, catalogues.route.catalogue(), request),
-        TypeName::Secret => respond(alloc, replica, catalogues.secret.catalogue(), request),
+        TypeName::Cluster => respond(alloc, replica, &catalogues.cluster, request),
+        TypeName::Endpoint => respond(alloc, replica, &catalogues.endpoint, request),
+        TypeName::Listener => respond(alloc, replica, &catalogues.listener, request),
+        TypeName::Route => respond(alloc, replica, &catalogues.route, request),
+        TypeName::Secret => respond(alloc, replica, &catalogues.secret, request),
     }
 }
 
@@ -169,7 +169,7 @@ fn cluster_of(alloc: Global, request: &DiscoveryRequest) -> Result<ClusterText, 
 fn respond<T: ResourceType>(
     alloc: Global,
     replica: u16,
-    catalogue: &Catalogue<T>,
+    catalogue: &Published<T>,
     request: &DiscoveryRequest,
 ) -> Result<Option<SotwDraft>, Refusal>
     requires { IsCatalogue catalogue.now.entries }
