@@ -246,7 +246,7 @@ module _ (v : VariantName) (t : TypeName) (old : Books) (l : Listed) (nonce : Li
     }
 
   accepted_at : (o : Option Sent) → old.account.sent ≡ o → is_some o ≡ true → FitsNext v t names.touched old (record { account = taken (settled v t old.account nonce rejects) names; listed = l })
-  accepted_at None here there = absurd cc
+  accepted_at None here there s next h fits stays = absurd cc
   accepted_at (Some sent) here there s next h fits stays =
       subst (λ (x : Account). Fits v t next h (record { account = taken x names; listed = l })) (sym (settles v t old.account rejects (answers old.account nonce) old.account.sent sent here touched.accepted))
       (accepted_fits sent here s next h fits stays)

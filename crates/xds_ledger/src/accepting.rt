@@ -86,11 +86,7 @@ fn put_each_since(
 }
 
 // The differences that the touched names make.
-fn differences_since(
-    alloc: Global,
-    sent: &Sent,
-    beliefs: &Beliefs,
-) -> Result<Differences, Refusal>
+fn differences_since(alloc: Global, sent: &Sent, beliefs: &Beliefs) -> Result<Differences, Refusal>
     ensures ok { IfOk result (λ d. (q : List ℕ) → finmap.get d q ≡ (if is_named_since sent.now q then change_since sent.now beliefs.now q else None)) }
     ensures refused { IfErr result (λ e. e ≡ OutOfMemory) }
 {

@@ -118,11 +118,7 @@ impl Beliefs {
     }
 
     /// Makes the changes, all or none. It looks at the names that they speak of alone. Refused only by `OutOfMemory`.
-    pub fn change(
-        &mut self,
-        alloc: Global,
-        changes: NameMap<Option<Entry>>,
-    ) -> Result<(), Refusal>
+    pub fn change(&mut self, alloc: Global, changes: NameMap<Option<Entry>>) -> Result<(), Refusal>
         ensures ok { OnOk result (Lead changes self.old self.new) }
         ensures err { OnErr result (self.new ≡ self.old) }
         ensures refused { IfErr result (λ e. e ≡ OutOfMemory) }

@@ -60,11 +60,7 @@ fn list_versions(
 }
 
 // Lists the names of a map.
-fn list_keys<V: Drop>(
-    alloc: Global,
-    listed: Listed,
-    names: &NameMap<V>,
-) -> Result<Listed, Refusal>
+fn list_keys<V: Drop>(alloc: Global, listed: Listed, names: &NameMap<V>) -> Result<Listed, Refusal>
     ensures ok { IfOk result (λ l. l ≡ with_names listed (finmap.keys names.now)) }
     ensures refused { IfErr result (λ e. e ≡ OutOfMemory) }
 {

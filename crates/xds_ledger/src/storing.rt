@@ -81,11 +81,7 @@ fn remove_all(differences: &mut Differences, names: &[&str])
 }
 
 // Makes a difference for each of some names that have none.
-fn add_all(
-    alloc: Global,
-    differences: &mut Differences,
-    names: &[&str],
-) -> Result<(), Refusal>
+fn add_all(alloc: Global, differences: &mut Differences, names: &[&str]) -> Result<(), Refusal>
     requires { removed_all differences.now (map (λ n. n.now) names.now) ≡ differences.now }
     ensures ok { OnOk result (differences.new ≡ put_each (λ name. Some None) differences.old (map (λ n. n.now) names.now)) }
     ensures err { OnErr result (differences.new ≡ differences.old) }

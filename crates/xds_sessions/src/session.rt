@@ -95,14 +95,7 @@ impl<T: ResourceType, V: Speaks<T>> Session<T, V> {
     {
         let interest = V::interest(&self.names);
         let offer = self.ledger.offer(alloc, interest, catalogue)?;
-        let draft = V::respond(
-            alloc,
-            replica,
-            catalogue,
-            interest,
-            offer.as_map(),
-            number,
-        )?;
+        let draft = V::respond(alloc, replica, catalogue, interest, offer.as_map(), number)?;
         Ok((offer, draft))
     }
 
