@@ -249,10 +249,10 @@ module _ (a : Account) (accepting whole : Bool) (touched : Touch) (names mention
   }
 
 -- a name that isn't listed once names and versions were put
-pub neither_listed : (l here said : Listed) (names : List (List ℕ)) (pairs : List (List ℕ × List ℕ)) (firsts : List (List ℕ)) (touched : set.FinSet text_cmp) (q : List ℕ) → T (finmap.is_sorted text_cmp pairs) → firsts ≡ map (λ p. p.0) pairs
-    → set.from_list names ≡ touched → here ≡ with_names l names → said ≡ with_said here firsts → is_listed said q ≡ false
+pub neither_listed : (l here more : Listed) (names : List (List ℕ)) (pairs : List (List ℕ × List ℕ)) (firsts : List (List ℕ)) (touched : set.FinSet text_cmp) (q : List ℕ) → T (finmap.is_sorted text_cmp pairs) → firsts ≡ map (λ p. p.0) pairs
+    → set.from_list names ≡ touched → here ≡ with_names l names → more ≡ with_said here firsts → is_listed more q ≡ false
     → (is_listed l q ≡ false) × (set.contains touched q ≡ false) × (finmap.get (versions_of pairs) q ≡ None)
-neither_listed l here said names pairs firsts touched q sorted are of puts says out =
+neither_listed l here more names pairs firsts touched q sorted are of puts says out =
     let second = out_of_said here firsts q (ap (λ (x : Listed). is_listed x q) (sym says) ∙ out) in
     let first = out_of l names q (ap (λ (x : Listed). is_listed x q) (sym puts) ∙ second.1) in (
       first.1,
