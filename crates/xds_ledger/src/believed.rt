@@ -1,4 +1,5 @@
-// What a client is believed to hold, by name: what it was told by an offer that others may hold, too, and a few differences.
+// What a client is believed to hold, by name: what it was told by an offer that others may hold, too, and a few
+// differences.
 ghost use Rattle.std.specs.Prelude.{◌≡◌, true, Some, is_some, IfOk, IfErr, OnOk, OnErr};
 ghost use Rattle.std.specs.Option.{option_map};
 ghost use Rattle.std.specs.FinMap as finmap;

@@ -99,8 +99,8 @@ impl<T: ResourceType, V: Speaks<T>> Session<T, V> {
         Ok((offer, draft))
     }
 
-    /// Lists the names that changed since the session was refreshed last, and answers how many these are; none before the
-    /// first request. Refused only by `OutOfMemory`, and then the session is as it was.
+    /// Lists the names that changed since the session was refreshed last, and answers how many these are; none before
+    /// the first request. Refused only by `OutOfMemory`, and then the session is as it was.
     pub fn refresh(&mut self, alloc: Global, catalogue: &Catalogue<T>) -> Result<u64, Refusal>
         requires { SessionFits V.NAME T.TYPE catalogue.now self.old }
         ensures same { self.new.session ≡ self.old.session }
@@ -129,9 +129,9 @@ impl<T: ResourceType, V: Speaks<T>> Session<T, V> {
     }
 
     /// The next response, if one is to be sent: nothing of the type is unanswered, something is due, and it isn't
-    /// what the client refused. `replica` is the number of this replica. Refused only where a response is to be sent: by
-    /// `NonceSpent` where the stream has no nonce left, and else by `OutOfMemory`; then nothing is sent, and no nonce is
-    /// drawn.
+    /// what the client refused. `replica` is the number of this replica. Refused only where a response is to be sent:
+    /// by `NonceSpent` where the stream has no nonce left, and else by `OutOfMemory`; then nothing is sent, and no
+    /// nonce is drawn.
     pub fn poll(
         &mut self,
         alloc: Global,
@@ -176,8 +176,8 @@ impl<T: ResourceType, V: Speaks<T>> Session<T, V> {
         Ok(Some(draft))
     }
 
-    /// Notes that a response with this offer was sent, as the one of this number. It takes no memory. Where the offer is that
-    /// of a catalogue, the session still fits it (`xds_ledger::laws::books_suffice`).
+    /// Notes that a response with this offer was sent, as the one of this number. It takes no memory. Where the offer
+    /// is that of a catalogue, the session still fits it (`xds_ledger::laws::books_suffice`).
     pub fn send(&mut self, alloc: Global, offer: SharedMap<Due>, number: u64)
         ensures { self.new ≡ sent_kept self.old offer number }
     {
