@@ -3,10 +3,8 @@ use Rattle.std.proofs.Common.{◌≡◌, ℕ, ◌≤◌, List, [], ◌∷◌, �
 use Rattle.std.specs.Prelude.{bytes_eq, if◌then◌else◌, is_some, option_map, IfSome}
 use Rattle.std.specs.Option.{option_or, option_and_then, option_map_or}
 use Rattle.std.specs.FinMap as finmap
-use Rattle.std.specs.FinSet as set
 use Rattle.std.proofs.lemmas.List.Folds.{list_any-append}
 use Rattle.xds_resource.specs.declared.types.TypeName.{TypeName}
-use Rattle.xds_resource.specs.Writes.{text_cmp}
 use Rattle.xds_resource.proofs.NameMaps.{bytes_eq_same, bytes_eq_tells}
 use Rattle.xds_interest.specs.Interests.{Selection}
 use Rattle.xds_interest.specs.Touches.{Touch, touches}
@@ -21,8 +19,8 @@ use Rattle.xds_ledger.specs.Owed.{Beliefs, version_shown, present, owed}
 use Rattle.xds_ledger.specs.Offers.{Offer, offer}
 use Rattle.xds_ledger.specs.Listed as lists
 use Rattle.xds_ledger.specs.Listed.{Listed, is_listed, IsPast, IsLater, KeepsSending, pruned}
-use Rattle.xds_ledger.specs.Ledgers.{Account, Sent, Names, was_touched, touched_since, once_told, believed_accepted, beliefs_accepted, beliefs_taken, beliefs_resumed, beliefs_after, nonce_text, send, answers, answered, accept, settled, taken}
-use Rattle.xds_ledger.specs.Lists.{Books, told_of_present, IsForetold, Foretells, Fits, FitsNext, StaysPresent, accepts, sent_books, ListsTouched}
+use Rattle.xds_ledger.specs.Ledgers.{Account, Sent, Names, was_touched, touched_since, believed_accepted, beliefs_accepted, beliefs_taken, beliefs_after, nonce_text, send, answers, answered, accept, settled, taken}
+use Rattle.xds_ledger.specs.Lists.{Books, told_of_present, IsForetold, Foretells, Fits, FitsNext, StaysPresent, accepts, ListsTouched}
 use Rattle.xds_ledger.specs.BookLaws.{SentBooksFit, LaterBooksFit, RefreshedBooksFit, PrunedBooksFit, AcceptanceKeepsFitting}
 use Rattle.xds_ledger.proofs.ByName.{offer_says_it}
 use Rattle.xds_ledger.proofs.BeliefsByName.{accepted_by_name, untouched_keeps_belief}
@@ -246,7 +244,7 @@ module _ (v : VariantName) (t : TypeName) (old : Books) (l : Listed) (nonce : Li
     }
 
   accepted_at : (o : Option Sent) → old.account.sent ≡ o → is_some o ≡ true → FitsNext v t names.touched old (record { account = taken (settled v t old.account nonce rejects) names; listed = l })
-  accepted_at None here there = absurd cc
+  accepted_at None here there s next h fits stays = absurd cc
   accepted_at (Some sent) here there s next h fits stays =
       subst (λ (x : Account). Fits v t next h (record { account = taken x names; listed = l })) (sym (settles v t old.account rejects (answers old.account nonce) old.account.sent sent here touched.accepted))
       (accepted_fits sent here s next h fits stays)

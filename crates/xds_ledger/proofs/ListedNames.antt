@@ -1,17 +1,12 @@
 -- Which names are listed, once those were put that requests touched.
-use Rattle.std.proofs.Common.{◌≡◌, inl, inr, ℕ, suc, ◌+◌, ◌<◌, List, [], ◌∷◌, length, take, Bool, true, false, ◌||◌, Some, None, Result, Ok, Err, refl, sym, ap, subst, ◌∙◌, arith}
+use Rattle.std.proofs.Common.{◌≡◌, inl, inr, ℕ, List, Bool, true, false, ◌||◌, Some, None, Result, Ok, Err, sym, ap, subst, ◌∙◌}
 use Rattle.std.specs.Prelude.{is_some, IfSome, IfOk}
 use Rattle.std.specs.List.{list_any}
 use Rattle.std.specs.FinMap as finmap
 use Rattle.std.specs.FinSet as set
-use Rattle.std.proofs.Math.ListN.{get_or}
-use Rattle.std.proofs.Math.Seq.{take-suc}
 use Rattle.xds_resource.specs.declared.refusal.Refusal.{Refusal}
 use Rattle.xds_resource.specs.declared.types.TypeName.{TypeName}
 use Rattle.xds_resource.specs.Writes.{text_cmp}
-use Rattle.xds_resource.proofs.NameMaps.{has_text}
-use Rattle.xds_interest.specs.Touches.{Touch}
-use Rattle.xds_interest.proofs.Listed.{list_any-push}
 use Rattle.xds_interest.proofs.Texts.{contains-from_texts}
 use Rattle.xds_ledger.specs.Listed.{Listed, is_listed, from_mark}
 use Rattle.xds_ledger.specs.declared.variant.VariantName.{VariantName}
@@ -33,23 +28,6 @@ listed_of_names old new names of are is q =
 -- at first none is listed
 pub none_listed : (mark : ℕ) (l : Listed) (q : List ℕ) → l ≡ from_mark mark → is_listed l q ≡ false
 none_listed mark l q is = ap (λ (x : Listed). is_listed x q) is ∙ ap is_some (finmap.get-empty text_cmp q)
-
-one_more : (i : ℕ) → i + 1 ≡ suc i
-one_more i = omega arith
-
-swapped : (a b : Bool) → (a || b) ≡ (b || a)
-swapped true true = refl
-swapped true false = refl
-swapped false true = refl
-swapped false false = refl
-
--- once the names of one touch more were put
-pub touch_listed : (old new : Listed) (ts : List Touch) (i : ℕ) (d : Touch) (q : List ℕ) → i < length ts → is_listed old q ≡ list_any (λ t. set.contains t.names q) (take i ts)
-    → is_listed new q ≡ (set.contains (get_or ts i d).names q || is_listed old q) → is_listed new q ≡ list_any (λ t. set.contains t.names q) (take (i + 1) ts)
-touch_listed old new ts i d q there before is =
-    let p : Touch → Bool = λ t. set.contains t.names q in
-    is ∙ ap (λ b. p (get_or ts i d) || b) before ∙ swapped (p (get_or ts i d)) (list_any p (take i ts))
-    ∙ sym (ap (λ n. list_any p (take n ts)) (one_more i) ∙ ap (list_any p) (take-suc ts i d there) ∙ list_any-push p (take i ts) (get_or ts i d))
 
 -- the list once the unanswered response was accepted, with the touched names alone
 pub touched_are_listed : (v : VariantName) (t : TypeName) (b : Books) (accepting : Bool) (names : Names) (sent : Sent) (m : ℕ) (r : Result Listed Refusal) → accepting ≡ true → tells_removals v t ≡ true → names.touched.all ≡ false

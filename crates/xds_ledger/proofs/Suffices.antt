@@ -127,6 +127,7 @@ kept_if false said l last mark is = subst (λ o. IfSome o (λ m. (l.sent_mark �
   where
     low : l.mark ≤ last.mark
     low = subst (λ n. l.mark ≤ n) (sym mark) (itself l.mark)
+
     at : (ns : List (List ℕ)) (o : Option ℕ) → l.sent_mark ≡ o → IfSome (unless_said ns o) (λ m. (l.sent_mark ≡ Some m) × (l.mark ≤ last.mark))
     at [] None there = tt
     at [] (Some m) there = (there, low)
@@ -248,13 +249,12 @@ module _ (a : Account) (accepting whole : Bool) (touched : Touch) (names mention
   }
 
 -- a name that isn't listed once names and versions were put
-pub neither_listed : (l here all : Listed) (names : List (List ℕ)) (pairs : List (List ℕ × List ℕ)) (firsts : List (List ℕ)) (touched : set.FinSet text_cmp) (q : List ℕ) → T (finmap.is_sorted text_cmp pairs) → firsts ≡ map (λ p. p.0) pairs
-    → set.from_list names ≡ touched → here ≡ with_names l names → all ≡ with_said here firsts → is_listed all q ≡ false
+pub neither_listed : (l here more : Listed) (names : List (List ℕ)) (pairs : List (List ℕ × List ℕ)) (firsts : List (List ℕ)) (touched : set.FinSet text_cmp) (q : List ℕ) → T (finmap.is_sorted text_cmp pairs) → firsts ≡ map (λ p. p.0) pairs
+    → set.from_list names ≡ touched → here ≡ with_names l names → more ≡ with_said here firsts → is_listed more q ≡ false
     → (is_listed l q ≡ false) × (set.contains touched q ≡ false) × (finmap.get (versions_of pairs) q ≡ None)
-neither_listed l here all names pairs firsts touched q sorted are of puts says out =
+neither_listed l here more names pairs firsts touched q sorted are of puts says out =
     let second = out_of_said here firsts q (ap (λ (x : Listed). is_listed x q) (sym says) ∙ out) in
-    let first = out_of l names q (ap (λ (x : Listed). is_listed x q) (sym puts) ∙ second.1) in
-    (
+    let first = out_of l names q (ap (λ (x : Listed). is_listed x q) (sym puts) ∙ second.1) in (
       first.1,
       ap (λ s. set.contains s q) (sym of) ∙ contains-from_texts names q ∙ first.0,
       finmap.get-from_sorted text_cmp pairs q sorted ∙ not_found pairs q (ap (λ ns. has_text ns q) (sym are) ∙ second.0),

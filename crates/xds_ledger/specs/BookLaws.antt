@@ -4,7 +4,7 @@
 --     LaterBooksFit                      at a catalogue to which writes came
 --     RefreshedBooksFit, PrunedBooksFit  once the list was refreshed, and once it was pruned
 --     AcceptanceKeepsFitting             once the response is accepted, with the touched names alone listed
-use Rattle.std.specs.Prelude.{◌≡◌, ℕ, List, Bool}
+use Rattle.std.specs.Prelude.{ℕ, List, Bool}
 use Rattle.xds_resource.specs.declared.types.TypeName.{TypeName}
 use Rattle.xds_interest.specs.Interests.{Selection}
 use Rattle.xds_catalogue.specs.Holdings.{Holdings, IsNumbered}

@@ -12,7 +12,7 @@
 --     names_known                      every name of which something may be owed
 --     is_owed                          whether something is owed of a name that can be told
 --     something_owed                   whether something that can be told is owed of some name
-use Rattle.std.specs.Prelude.{◌≡◌, ℕ, List, ◌++◌, Bool, false, if◌then◌else◌, Option, Some, None, bytes_eq, option_map, is_some, refl}
+use Rattle.std.specs.Prelude.{◌≡◌, ℕ, List, ◌++◌, Bool, false, if◌then◌else◌, Option, Some, None, bytes_eq, option_map, refl}
 use Rattle.std.specs.Option.{option_and_then, option_map_or}
 use Rattle.std.specs.List.{list_any}
 use Rattle.std.specs.FinMap as finmap

@@ -1,5 +1,5 @@
-// What is believed once a response is accepted, by its offer itself: all that it tells is believed, but of the names that
-// requests touched since it was sent. Nothing else is looked at.
+// What is believed once a response is accepted, by its offer itself: all that it tells is believed, but of the names
+// that requests touched since it was sent. Nothing else is looked at.
 ghost use Rattle.std.specs.Prelude.{◌≡◌, ℕ, List, Some, None, false, option_map, if◌then◌else◌, IfOk, IfErr, OnOk};
 ghost use Rattle.std.specs.Option.{option_or};
 ghost use Rattle.std.specs.List.{list_any};
@@ -75,7 +75,9 @@ fn put_each_since(
     touched: &Touched,
 ) -> Result<(), Refusal>
     ensures ok { OnOk result ((q : List ℕ) → finmap.get next.new q
-        ≡ (if set.contains touched.now.names q then option_or (change_since sent.now beliefs.now q) (finmap.get next.old q) else finmap.get next.old q)) }
+        ≡ (if set.contains touched.now.names q
+        then option_or (change_since sent.now beliefs.now q) (finmap.get next.old q)
+        else finmap.get next.old q)) }
     ensures refused { IfErr result (λ e. e ≡ OutOfMemory) }
 {
     let names = touched.names();
@@ -86,12 +88,9 @@ fn put_each_since(
 }
 
 // The differences that the touched names make.
-fn differences_since(
-    alloc: Global,
-    sent: &Sent,
-    beliefs: &Beliefs,
-) -> Result<Differences, Refusal>
-    ensures ok { IfOk result (λ d. (q : List ℕ) → finmap.get d q ≡ (if is_named_since sent.now q then change_since sent.now beliefs.now q else None)) }
+fn differences_since(alloc: Global, sent: &Sent, beliefs: &Beliefs) -> Result<Differences, Refusal>
+    ensures ok { IfOk result (λ d. (q : List ℕ)
+        → finmap.get d q ≡ (if is_named_since sent.now q then change_since sent.now beliefs.now q else None)) }
     ensures refused { IfErr result (λ e. e ≡ OutOfMemory) }
 {
     let mut next = Differences::new(alloc);
@@ -101,8 +100,8 @@ fn differences_since(
     Ok(next)
 }
 
-/// After a response was accepted since which no request touched every name. It is the whole, or nothing was believed held.
-/// It looks at the touched names alone.
+/// After a response was accepted since which no request touched every name. It is the whole, or nothing was believed
+/// held. It looks at the touched names alone.
 pub fn accepted_as_offered(
     alloc: Global,
     whole: bool,

@@ -1,4 +1,5 @@
-// What a client is believed to hold, by name: what it was told by an offer that others may hold, too, and a few differences.
+// What a client is believed to hold, by name: what it was told by an offer that others may hold, too, and a few
+// differences.
 ghost use Rattle.std.specs.Prelude.{◌≡◌, true, Some, is_some, IfOk, IfErr, OnOk, OnErr};
 ghost use Rattle.std.specs.Option.{option_map};
 ghost use Rattle.std.specs.FinMap as finmap;
@@ -118,11 +119,7 @@ impl Beliefs {
     }
 
     /// Makes the changes, all or none. It looks at the names that they speak of alone. Refused only by `OutOfMemory`.
-    pub fn change(
-        &mut self,
-        alloc: Global,
-        changes: NameMap<Option<Entry>>,
-    ) -> Result<(), Refusal>
+    pub fn change(&mut self, alloc: Global, changes: NameMap<Option<Entry>>) -> Result<(), Refusal>
         ensures ok { OnOk result (Lead changes self.old self.new) }
         ensures err { OnErr result (self.new ≡ self.old) }
         ensures refused { IfErr result (λ e. e ≡ OutOfMemory) }

@@ -31,8 +31,8 @@ pub fn offers_are_told_apart()
     ensures { OffersAreToldApart }
 {}
 
-/// A list of what may be owed suffices from the start, and once it was refreshed or pruned, once a request was taken that
-/// it has all names of, and at a catalogue to which writes came. Once it was refreshed it has all that is owed.
+/// A list of what may be owed suffices from the start, and once it was refreshed or pruned, once a request was taken
+/// that it has all names of, and at a catalogue to which writes came. Once it was refreshed it has all that is owed.
 pub fn lists_suffice()
     ensures new { NewListFits }
     ensures wider { WiderListFits }
@@ -44,9 +44,9 @@ pub fn lists_suffice()
     ensures joined { JoinedIsLater }
 {}
 
-/// The books of a ledger suffice, and those of a session, once an offer was sent that was made of the catalogue, at a catalogue
-/// to which writes came, once the list was refreshed or pruned, and once the response is accepted with the touched names alone
-/// listed.
+/// The books of a ledger suffice, and those of a session, once an offer was sent that was made of the catalogue, at a
+/// catalogue to which writes came, once the list was refreshed or pruned, and once the response is accepted with the
+/// touched names alone listed.
 pub fn books_suffice()
     ensures sent { SentBooksFit }
     ensures session { SentSessionFits }

@@ -1,4 +1,5 @@
-// What a server keeps of one type on one stream, beside the interest: an account of what it told, and a list of what it may owe.
+// What a server keeps of one type on one stream, beside the interest: an account of what it told, and a list of what
+// it may owe.
 ghost use Rattle.std.specs.Prelude.{◌≡◌, is_some, IfOk, IfErr, OnOk, OnErr};
 ghost use Rattle.std.specs.FinMap as finmap;
 ghost use Rattle.xds_resource.specs.declared.refusal.Refusal.TheVariants.{OutOfMemory};
@@ -137,8 +138,8 @@ impl<T: ResourceType, V: Variant> Ledger<T, V> {
         }
     }
 
-    /// Lists the names that changed since the ledger was refreshed last, and answers how many these are. Refused only by
-    /// `OutOfMemory`, and then the ledger is as it was.
+    /// Lists the names that changed since the ledger was refreshed last, and answers how many these are. Refused only
+    /// by `OutOfMemory`, and then the ledger is as it was.
     pub fn refresh(&mut self, alloc: Global, catalogue: &Catalogue<T>) -> Result<u64, Refusal>
         ensures ok { OnOk result (self.new ≡ refreshed catalogue.now self.old) }
         ensures count { IfOk result (λ n. n ≡ finmap.len (changed_since catalogue.now self.old.listed.mark)) }
@@ -150,8 +151,8 @@ impl<T: ResourceType, V: Variant> Ledger<T, V> {
         self.listed.refresh(alloc, catalogue)
     }
 
-    /// Refreshes the ledger, and lets the names go that are owed nothing, as far as there is memory for it. So what comes
-    /// next looks at the names alone that something is owed of, or that changed since.
+    /// Refreshes the ledger, and lets the names go that are owed nothing, as far as there is memory for it. So what
+    /// comes next looks at the names alone that something is owed of, or that changed since.
     pub fn tidy(&mut self, alloc: Global, interest: &Interest<T>, catalogue: &Catalogue<T>)
         requires { Fits V.NAME T.TYPE interest.now catalogue.now self.old }
         ensures same { self.new.account ≡ self.old.account }
@@ -171,11 +172,11 @@ impl<T: ResourceType, V: Variant> Ledger<T, V> {
         self.listed.note_sending();
     }
 
-    /// Takes a request with this nonce: it settles the response that it answers, and then its names are taken. Refused
-    /// only by `OutOfMemory`, and then nothing is taken. Where it accepts a response that is the whole, or before which
-    /// nothing was believed held, it looks at the names alone that it mentions or that were touched since the response was
-    /// sent, and else at those of the response and the listed ones, too. It looks at all that are believed held only where
-    /// every name is touched, or was since a whole response was sent that it accepts.
+    /// Takes a request with this nonce: it settles the response that it answers, and then its names are taken.
+    /// Refused only by `OutOfMemory`, and then nothing is taken. Where it accepts a response that is the whole, or
+    /// before which nothing was believed held, it looks at the names alone that it mentions or that were touched
+    /// since the response was sent, and else at those of the response and the listed ones, too. It looks at all that
+    /// are believed held only where every name is touched, or was since a whole response was sent that it accepts.
     pub fn take(
         &mut self,
         alloc: Global,

@@ -78,7 +78,8 @@ impl Listed {
         self.mark
     }
 
-    /// The mark when the response was sent that is unanswered, as long as its acceptance may leave what was present then.
+    /// The mark when the response was sent that is unanswered, as long as its acceptance may leave what was present
+    /// then.
     pub fn sent_mark(&self) -> Option<u64>
         ensures { result ≡ self.now.sent_mark }
     {
@@ -143,8 +144,8 @@ impl Listed {
         Ok(count)
     }
 
-    /// Looks at what changed since the mark, and lets the names go that are owed nothing, as far as there is memory for it.
-    /// So what comes next looks at the names alone that something is owed of, or that changed since.
+    /// Looks at what changed since the mark, and lets the names go that are owed nothing, as far as there is memory
+    /// for it. So what comes next looks at the names alone that something is owed of, or that changed since.
     pub fn tidy<T: ResourceType>(
         &mut self,
         alloc: Global,

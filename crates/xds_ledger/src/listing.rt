@@ -1,6 +1,6 @@
-// What a request puts into a ledger's list: all names of which it may change what is owed. Where it accepts a response of which
-// it is known what its acceptance leaves, that is the list: nothing is owed of the other names, but for changes above the
-// mark. The list is made anew, so that a refusal leaves what was.
+// What a request puts into a ledger's list: all names of which it may change what is owed. Where it accepts a
+// response of which it is known what its acceptance leaves, that is the list: nothing is owed of the other names, but
+// for changes above the mark. The list is made anew, so that a refusal leaves what was.
 ghost use Rattle.std.specs.Prelude.{◌≡◌, ℕ, List, ◌&&◌, ◌||◌, true, false, Some, None, map, string_bytes, if◌then◌else◌, IfSome, IfOk, IfErr, OnOk};
 ghost use Rattle.std.specs.List.{list_any};
 ghost use Rattle.std.specs.FinMap as finmap;
@@ -60,11 +60,7 @@ fn list_versions(
 }
 
 // Lists the names of a map.
-fn list_keys<V: Drop>(
-    alloc: Global,
-    listed: Listed,
-    names: &NameMap<V>,
-) -> Result<Listed, Refusal>
+fn list_keys<V: Drop>(alloc: Global, listed: Listed, names: &NameMap<V>) -> Result<Listed, Refusal>
     ensures ok { IfOk result (λ l. l ≡ with_names listed (finmap.keys names.now)) }
     ensures refused { IfErr result (λ e. e ≡ OutOfMemory) }
 {
@@ -78,7 +74,8 @@ fn list_keys<V: Drop>(
 // Lists the names that a request touched by itself.
 fn put_touched(alloc: Global, listed: &mut Listed, touched: &Touched) -> Result<(), Refusal>
     ensures mark { OnOk result (listed.new.mark ≡ listed.old.mark) }
-    ensures names { OnOk result ((q : List ℕ) → is_listed listed.new q ≡ (set.contains touched.now.names q || is_listed listed.old q)) }
+    ensures names { OnOk result ((q : List ℕ)
+        → is_listed listed.new q ≡ (set.contains touched.now.names q || is_listed listed.old q)) }
     ensures refused { IfErr result (λ e. e ≡ OutOfMemory) }
 {
     let names = touched.names();
@@ -101,8 +98,8 @@ fn list_since(alloc: Global, mark: u64, sent: &Sent) -> Result<Listed, Refusal>
     Ok(all)
 }
 
-// The list once a request accepts a response of which it is known what that leaves: the names that requests touched since it
-// was sent, those that this one touches, and those of which it says a version.
+// The list once a request accepts a response of which it is known what that leaves: the names that requests touched
+// since it was sent, those that this one touches, and those of which it says a version.
 fn list_touched<T: ResourceType>(
     alloc: Global,
     mark: u64,
@@ -111,7 +108,8 @@ fn list_touched<T: ResourceType>(
 ) -> Result<Listed, Refusal>
     ensures mark { IfOk result (λ l. l.mark ≡ mark) }
     ensures names { IfOk result (λ l. (q : List ℕ) → is_listed l q ≡ false
-        → (is_named_since sent.now q ≡ false) × (set.contains names.now.touched.names q ≡ false) × (finmap.get names.now.versions q ≡ None)) }
+        → (is_named_since sent.now q ≡ false) × (set.contains names.now.touched.names q ≡ false)
+        × (finmap.get names.now.versions q ≡ None)) }
     ensures refused { IfErr result (λ e. e ≡ OutOfMemory) }
 {
     let since = list_since(alloc, mark, sent)?;
@@ -140,7 +138,8 @@ impl<T: ResourceType, V: Variant> Ledger<T, V> {
         rejects: bool,
         names: &Names<'_, T>,
     ) -> Result<Listed, Refusal>
-        ensures ok { IfOk result (λ l. ListsNext V.NAME T.TYPE self.now (accepts self.now.account nonce.now rejects) names.now l) }
+        ensures ok { IfOk result (λ l.
+            ListsNext V.NAME T.TYPE self.now (accepts self.now.account nonce.now rejects) names.now l) }
         ensures refused { IfErr result (λ e. e ≡ OutOfMemory) }
     {
         let accepts = self.accepts(nonce, rejects);
@@ -150,8 +149,8 @@ impl<T: ResourceType, V: Variant> Ledger<T, V> {
         }
     }
 
-    // The unanswered response, and the list's mark when it was sent, where a request accepts it and it is known what that
-    // leaves of the names that requests didn't touch.
+    // The unanswered response, and the list's mark when it was sent, where a request accepts it and it is known what
+    // that leaves of the names that requests didn't touch.
     fn foretold(&self, accepts: bool, touched: &Touched) -> Option<(&Sent, u64)>
         ensures accepted { IfSome result (λ p. accepts ≡ true) }
         ensures told { IfSome result (λ p. tells_removals V.NAME T.TYPE ≡ true) }

@@ -134,8 +134,8 @@ fn with_changed<T: ResourceType>(
     Ok(said)
 }
 
-// What a response says: what is present, where it is the whole, and else what is owed and can be told, of the listed names
-// and of those that changed since the mark.
+// What a response says: what is present, where it is the whole, and else what is owed and can be told, of the listed
+// names and of those that changed since the mark.
 fn said<T: ResourceType>(
     alloc: Global,
     variant: VariantName,
@@ -157,8 +157,9 @@ fn said<T: ResourceType>(
     Ok(said)
 }
 
-/// The offer of a response: what is present, where a response is the whole, and else what is owed and can be told. It looks
-/// at the listed names and at those that changed since the mark, or where it is the whole, at all that is present.
+/// The offer of a response: what is present, where a response is the whole, and else what is owed and can be told. It
+/// looks at the listed names and at those that changed since the mark, or where it is the whole, at all that is
+/// present.
 pub fn offer<T: ResourceType>(
     alloc: Global,
     variant: VariantName,

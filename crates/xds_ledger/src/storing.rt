@@ -1,5 +1,5 @@
-// Changes of what is believed, made in place among differences, all or none: what needs memory comes first, and is undone
-// by removals.
+// Changes of what is believed, made in place among differences, all or none: what needs memory comes first, and is
+// undone by removals.
 ghost use Rattle.std.specs.Prelude.{◌≡◌, ℕ, List, [], ◌∷◌, ◌++◌, Some, None, unwrap_or, map, string_bytes, IfOk, IfErr, OnOk, OnErr};
 ghost use Rattle.std.specs.FinMap as finmap;
 ghost use Rattle.xds_resource.specs.declared.refusal.Refusal.TheVariants.{OutOfMemory};
@@ -42,7 +42,8 @@ fn is_new(
     changes: &NameMap<Option<Entry>>,
     name: &str,
 ) -> bool
-    ensures { result ≡ is_new (tells base.now name.now) (finmap.get changes.now name.now) (finmap.get differences.now name.now) }
+    ensures { result
+        ≡ is_new (tells base.now name.now) (finmap.get changes.now name.now) (finmap.get differences.now name.now) }
 {
     match changes.get(name) {
         Some(Some(_)) => !differences.contains(name),
@@ -59,7 +60,8 @@ fn new_names<'a>(
     changes: &NameMap<Option<Entry>>,
     names: &'a [String],
 ) -> Result<Vec<&'a str>, Refusal>
-    ensures ok { IfOk result (λ v. map (λ n. n.now) v.items ≡ new_names base.now changes.now differences.now (map string_bytes names.now)) }
+    ensures ok { IfOk result (λ v. map (λ n. n.now) v.items
+        ≡ new_names base.now changes.now differences.now (map string_bytes names.now)) }
     ensures err { IfErr result (λ e. e ≡ OutOfMemory) }
 {
     let mut new = Vec::new(alloc);
@@ -81,13 +83,10 @@ fn remove_all(differences: &mut Differences, names: &[&str])
 }
 
 // Makes a difference for each of some names that have none.
-fn add_all(
-    alloc: Global,
-    differences: &mut Differences,
-    names: &[&str],
-) -> Result<(), Refusal>
+fn add_all(alloc: Global, differences: &mut Differences, names: &[&str]) -> Result<(), Refusal>
     requires { removed_all differences.now (map (λ n. n.now) names.now) ≡ differences.now }
-    ensures ok { OnOk result (differences.new ≡ put_each (λ name. Some None) differences.old (map (λ n. n.now) names.now)) }
+    ensures ok { OnOk result (differences.new
+        ≡ put_each (λ name. Some None) differences.old (map (λ n. n.now) names.now)) }
     ensures err { OnErr result (differences.new ≡ differences.old) }
     ensures refused { IfErr result (λ e. e ≡ OutOfMemory) }
 {
@@ -143,7 +142,8 @@ fn store_all(
     }
 }
 
-/// Makes the changes, all or none, among differences from what an offer told, if there is one. Refused only by `OutOfMemory`.
+/// Makes the changes, all or none, among differences from what an offer told, if there is one. Refused only by
+/// `OutOfMemory`.
 pub fn change(
     alloc: Global,
     base: &Option<SharedMap<Due>>,

@@ -1,6 +1,6 @@
-// How an account takes a request. An offer that was accepted is believed by holding it, where it is the whole or nothing was
-// believed held. Else what is believed changes in place, name by name of those that the request and the response that it
-// answers speak of. It is made anew where a request touches every name.
+// How an account takes a request. An offer that was accepted is believed by holding it, where it is the whole or
+// nothing was believed held. Else what is believed changes in place, name by name of those that the request and the
+// response that it answers speak of. It is made anew where a request touches every name.
 ghost use Rattle.std.specs.Prelude.{◌≡◌, ◌&&◌, not, false, IfOk, IfErr, IfSome, OnOk, OnErr};
 ghost use Rattle.xds_resource.specs.declared.refusal.Refusal.TheVariants.{OutOfMemory};
 ghost use Rattle.xds_ledger.specs.Changes.{Lead, changes_answered};
@@ -40,10 +40,10 @@ fn change_beliefs<T: ResourceType>(
 
 impl<T: ResourceType, V: Variant> Account<T, V> {
     /// Takes a request: it settles the response that it answers, and then its names are taken. Refused only by
-    /// `OutOfMemory`, and then nothing is taken. Where it accepts a response that is the whole, or before which nothing was
-    /// believed held, it looks at the names alone that it mentions or that were touched since the response was sent, and
-    /// else at those of the response, too. It looks at all that are believed held only where every name is touched, or was
-    /// since a whole response was sent that it accepts.
+    /// `OutOfMemory`, and then nothing is taken. Where it accepts a response that is the whole, or before which
+    /// nothing was believed held, it looks at the names alone that it mentions or that were touched since the
+    /// response was sent, and else at those of the response, too. It looks at all that are believed held only where
+    /// every name is touched, or was since a whole response was sent that it accepts.
     pub fn take(
         &mut self,
         alloc: Global,

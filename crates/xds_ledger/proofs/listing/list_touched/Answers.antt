@@ -4,7 +4,7 @@ use Rattle.std.specs.FinSet as set
 use Rattle.std.specs.Prelude.{None}
 use Rattle.xds_ledger.specs.Accepting.{is_named_since}
 use Rattle.xds_ledger.specs.Ledgers.{Names}
-use Rattle.xds_ledger.specs.Listed.{Listed, is_listed}
+use Rattle.xds_ledger.specs.Listed.{Listed}
 use Rattle.xds_ledger.proofs.Suffices.{mark_with, mark_said, firsts_of, neither_listed}
 use Rattle.xds_ledger.proofs.listing.list_touched.Goals as goal
 

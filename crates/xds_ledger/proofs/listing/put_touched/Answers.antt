@@ -1,5 +1,4 @@
 use Rattle.std.proofs.Common.{◌≡◌, List, String, Global, [], map, string_bytes, sym, ap, ◌∙◌}
-use Rattle.xds_ledger.specs.Listed.{Listed}
 use Rattle.xds_ledger.specs.Lists.{with_names}
 use Rattle.xds_ledger.proofs.ListedNames.{mark_of_names, listed_of_names}
 use Rattle.xds_ledger.proofs.listing.put_touched.Goals as goal
