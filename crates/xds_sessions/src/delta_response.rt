@@ -98,7 +98,7 @@ impl Gathered {
     }
 
     fn share(self) -> Result<Said, Refusal>
-        ensures ok { IfOk result (λ s. s ≡ self.entry) }
+        ensures ok { IfOk result (λ s. s ≡ self) }
         ensures refused { IfErr result (λ e. e ≡ OutOfMemory) }
     {
         let Gathered { resources, removed } = self;

@@ -78,7 +78,7 @@ pub trait Speaks<T: ResourceType>: Variant {
         published: &'a Published<T>,
         cluster: &str,
     ) -> Option<&'a Wildcard<Self::Said>>
-        ensures { IfSome result (λ w. IsShared NAME T.TYPE IsSaid published.now.entries cluster.now w.now) };
+        ensures { IfSome result (λ w. IsShared Self.NAME T.TYPE IsSaid published.now.entries cluster.now w.now) };
 
     /// Makes it, if it isn't there.
     fn share(
