@@ -183,7 +183,23 @@ send 2 => sent
 ack 2 => taken
 delete A => 3-1
 offer => {B=2-1,}
-due => yes"#,
+due => yes
+
+take * => taken
+put {"@type":"CDS","name":"A"} => 1-1
+put {"@type":"CDS","name":"B"} => 2-1
+send 1 => sent
+take * A => taken
+ack 1 * A => taken
+due => yes
+send 2 => sent
+put {"@type":"CDS","name":"C"} => 3-1
+ack 2 * A => taken
+due => yes
+sending => {A=1-1,B=2-1,C=3-1,}
+send 3 => sent
+ack 3 * A => taken
+due => no"#,
     )
 }
 
