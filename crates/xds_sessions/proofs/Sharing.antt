@@ -21,7 +21,9 @@ use Rattle.xds_sessions.specs.Wildcards.{all_of, first_offer, IsFirst, IsShared,
 -- nothing is kept
 pub none_shared : {S : Type 0} (v : VariantName) (t : TypeName) (IsSaid : Entries → Selection → Offer → S → Type 0) (m : Entries) (kept : finmap.FinMap text_cmp (Wildcard S))
     → kept ≡ finmap.empty → AreShared v t IsSaid m kept
-none_shared {S} v t IsSaid m kept is cluster = subst (λ (k : finmap.FinMap text_cmp (Wildcard S)). IfSome (finmap.get k cluster) (IsShared v t IsSaid m cluster)) (sym is) tt
+none_shared {S} v t IsSaid m kept is cluster =
+    let none : finmap.get kept cluster ≡ None = ap (λ (k : finmap.FinMap text_cmp (Wildcard S)). finmap.get k cluster) is ∙ finmap.get-empty text_cmp cluster in
+    subst (λ (o : Option (Wildcard S)). IfSome o (IsShared v t IsSaid m cluster)) (sym none) tt
 
 -- one more is kept
 more_at : {S : Type 0} (v : VariantName) (t : TypeName) (IsSaid : Entries → Selection → Offer → S → Type 0) (m : Entries) (cluster q : List ℕ) (w : Wildcard S) (held : Option (Wildcard S)) (same : Bool)

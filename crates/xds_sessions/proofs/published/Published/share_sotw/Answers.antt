@@ -2,6 +2,7 @@ use Rattle.std.proofs.Common.{◌≡◌, sym, ap, ◌∙◌}
 use Rattle.std.specs.Arc.{arc_slice_items}
 use Rattle.std.specs.FinMap as finmap
 use Rattle.xds_interest.specs.Interests.{Selection}
+use Rattle.xds_catalogue.specs.Holdings.{Holdings}
 use Rattle.xds_ledger.specs.declared.variant.VariantName.TheVariants.{StateOfTheWorld}
 use Rattle.xds_ledger.specs.Offers.{offer}
 use Rattle.xds_sessions.specs.SotwPolls.{stated_bodies}
@@ -15,11 +16,13 @@ invariant_of-self g c =
     let m = c.self.inside.catalogue.entries in
     let cluster = c.cluster-cluster.result.now in
     let all : c.args.interest.now ≡ all_of cluster = c.requires ∙ ap all_of (sym c.cluster-cluster.ensures) in
+    let made : c.in_ok-offer.offer ≡ offer StateOfTheWorld t c.args.interest.now m finmap.empty =
+    c.in_ok-offer.ensures.ok ∙ ap (λ (h : Holdings). offer StateOfTheWorld t c.args.interest.now h.entries finmap.empty) (sym c.self.view_is) in
     record {
       sotw =
           kept_more StateOfTheWorld t (λ m s o x. arc_slice_items x ≡ stated_bodies m s o) m c.self.inside.wildcards.sotw c.put.new.self cluster _ c.put.result c.put.ensures.ok c.put.ensures.err
           (record {
-            offer_is = c.in_ok-offer.ensures.ok ∙ ap (λ (s : Selection). offer StateOfTheWorld t s m finmap.empty) all;
+            offer_is = made ∙ ap (λ (s : Selection). offer StateOfTheWorld t s m finmap.empty) all;
             said_is = c.in_ok-said.ensures.ok ∙ (λ i. stated_bodies m (all i) (c.as_map.ensures i));
           })
           c.self.invariant.sotw;
