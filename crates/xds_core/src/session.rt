@@ -6,7 +6,7 @@ ghost use Rattle.xds_ledger.specs.Offers.{offer};
 ghost use Rattle.xds_message.specs.declared.draft.Draft.TheVariants as drafts;
 ghost use Rattle.xds_ledger.specs.Sessions as sessions;
 ghost use Rattle.xds_ledger.specs.Sessions.{outcome, HasPolled};
-ghost use Rattle.xds_ledger.specs.Lists.{SessionFits, StaysFit, new_kept};
+ghost use Rattle.xds_ledger.specs.Lists.{SessionFits, StaysFit, new_kept, sent_kept};
 ghost use Rattle.xds_core.specs.StreamsSeen.{message_of};
 ghost use Rattle.xds_core.specs.States.{tagged};
 ghost use Rattle.xds_core.specs.Streams.{variant_of, nonce_of, session_after};
@@ -190,7 +190,7 @@ impl<T: ResourceType> Session<T> {
 
     /// Notes that a response with this offer was sent, as the one of this number. It takes no memory.
     pub(crate) fn send(&mut self, alloc: Global, offer: SharedMap<Due>, number: u64)
-        ensures { self.new ≡ record self.old { kept = record self.old.kept { session = sessions.send self.old.kept.session offer number } } }
+        ensures { self.new ≡ record self.old { kept = sent_kept self.old.kept offer number } }
     {
         match &mut self.side {
             Side::Sotw(session) => session.send(alloc, offer, number),

@@ -1,7 +1,7 @@
 // A stream whose variant is decided.
 ghost use Rattle.std.specs.Prelude.{◌≡◌, [], ◌∷◌, is_some, IfSome, IfOk, IfErr, OnOk, OnErr};
-ghost use Rattle.xds_resource.specs.PerType.{at, each};
-ghost use Rattle.xds_ledger.specs.Listed.{unlisted};
+ghost use Rattle.xds_resource.specs.PerType.{at, each, with_at};
+ghost use Rattle.xds_ledger.specs.Listed.{unlisted, with_sending};
 ghost use Rattle.xds_resource.specs.Refusals.{Gives};
 ghost use Rattle.xds_resource.specs.declared.refusal.Refusal.TheVariants.{OutOfMemory};
 ghost use Rattle.xds_resource.specs.Types.{type_of_url};
@@ -267,7 +267,7 @@ impl Talk {
     )
         requires { number ≡ drawn }
         ensures sent { self.new.talk ≡ sent_at self.old.talk kind offer number }
-        ensures lists { self.new.lists ≡ self.old.lists }
+        ensures lists { self.new.lists ≡ with_at self.old.lists kind (with_sending (at self.old.lists kind)) }
     {
         self.nonces = drawn;
         match kind {
