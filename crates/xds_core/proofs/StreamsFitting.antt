@@ -9,8 +9,8 @@ use Rattle.xds_resource.specs.PerType.{at, with_at, each}
 use Rattle.xds_resource.specs.Types.{is_same_type}
 use Rattle.xds_resource.proofs.TypesApart.{at-with_at, at-with_at_other, at-each, same_type}
 use Rattle.xds_ledger.specs.declared.variant.VariantName.{VariantName}
-use Rattle.xds_ledger.specs.Listed.{IsLater, unlisted}
-use Rattle.xds_ledger.specs.Offers.{Offer}
+use Rattle.xds_ledger.specs.Listed.{IsLater, unlisted, with_sending}
+use Rattle.xds_ledger.specs.Offers.{Offer, offer}
 use Rattle.xds_catalogue.specs.Holdings.{Holdings}
 use Rattle.xds_ledger.specs.Lists.{Kept, SessionFits, StaysFit}
 use Rattle.xds_ledger.specs.Sessions.{unopened, send}
@@ -63,19 +63,25 @@ arm_taken l after now t v k (Ok x) begins speaks same sessions lists stays =
     subst (λ (b : Listing). TalkStaysFit b after) begins (taken_fits l after t k same sessions lists (subst (λ w. StaysFit w t (kept_at l t) k) speaks stays))
 arm_taken l after now t v k (Err e) begins speaks same sessions lists stays = stays
 
-sent_by : (store : Store) (v : VariantName) (l : Listing) (t : TypeName) (o : Offer) (n : ℕ) (s : TypeName) → ((u : TypeName) → SessionFits v u (at store u) (kept_at l u)) → ((s ≡ t) × (is_same_type s t ≡ true)) ⊎ ((s ≢ t) × (is_same_type s t ≡ false))
-    → SessionFits v s (at store s) (record { session = at (with_at l.talk.sessions t (send (at l.talk.sessions t) o n)) s; listed = at l.lists s })
-sent_by store v l t o n s there (inl same) =
-    subst (λ u. SessionFits v u (at store u) (record { session = at (with_at l.talk.sessions t (send (at l.talk.sessions t) o n)) u; listed = at l.lists u })) (sym same.0)
-    (subst (λ x. SessionFits v t (at store t) (record { session = x; listed = at l.lists t })) (sym (at-with_at l.talk.sessions t (send (at l.talk.sessions t) o n))) (sent_fits v t (at store t) (kept_at l t) o n (there t)))
-sent_by store v l t o n s there (inr other) =
-    subst (λ x. SessionFits v s (at store s) (record { session = x; listed = at l.lists s })) (sym (at-with_at_other l.talk.sessions t (send (at l.talk.sessions t) o n) s other.0)) (there s)
+sent_by : (store : Store) (v : VariantName) (l : Listing) (t : TypeName) (o : Offer) (n : ℕ) (s : TypeName) → o ≡ offer v t (kept_at l t).session.asked.interest (at store t).entries (kept_at l t).session.account.beliefs
+    → ((u : TypeName) → SessionFits v u (at store u) (kept_at l u)) → ((s ≡ t) × (is_same_type s t ≡ true)) ⊎ ((s ≢ t) × (is_same_type s t ≡ false))
+    → SessionFits v s (at store s) (record { session = at (with_at l.talk.sessions t (send (at l.talk.sessions t) o n)) s; listed = at (with_at l.lists t (with_sending (at l.lists t))) s })
+sent_by store v l t o n s is there (inl same) =
+    let sent = send (at l.talk.sessions t) o n in
+    let marked = with_sending (at l.lists t) in
+    subst (λ u. SessionFits v u (at store u) (record { session = at (with_at l.talk.sessions t sent) u; listed = at (with_at l.lists t marked) u })) (sym same.0)
+    (subst (λ x. SessionFits v t (at store t) (record { session = x; listed = at (with_at l.lists t marked) t })) (sym (at-with_at l.talk.sessions t sent))
+    (subst (λ x. SessionFits v t (at store t) (record { session = sent; listed = x })) (sym (at-with_at l.lists t marked)) (sent_fits v t (at store t) (kept_at l t) o n is (there t))))
+sent_by store v l t o n s is there (inr other) =
+    subst (λ x. SessionFits v s (at store s) (record { session = x; listed = at (with_at l.lists t (with_sending (at l.lists t))) s })) (sym (at-with_at_other l.talk.sessions t (send (at l.talk.sessions t) o n) s other.0))
+    (subst (λ x. SessionFits v s (at store s) (record { session = at l.talk.sessions s; listed = x })) (sym (at-with_at_other l.lists t (with_sending (at l.lists t)) s other.0)) (there s))
 
--- once a response of one type was sent
-pub sent_listing_fits : (store : Store) (l after : Listing) (t : TypeName) (o : Offer) (n : ℕ) → after.talk ≡ sent_at l.talk t o n → after.lists ≡ l.lists → ListingFits store l → ListingFits store after
-sent_listing_fits store l after t o n sent lists fits s =
+-- once a response of one type was sent that says what is to be said
+pub sent_listing_fits : (store : Store) (l after : Listing) (t : TypeName) (o : Offer) (n : ℕ) → after.talk ≡ sent_at l.talk t o n → after.lists ≡ with_at l.lists t (with_sending (at l.lists t))
+    → o ≡ offer l.talk.variant t (kept_at l t).session.asked.interest (at store t).entries (kept_at l t).session.account.beliefs → ListingFits store l → ListingFits store after
+sent_listing_fits store l after t o n sent lists is fits s =
     subst (λ (x : Talk). SessionFits x.variant s (at store s) (record { session = at x.sessions s; listed = at after.lists s })) (sym sent)
-    (subst (λ x. SessionFits l.talk.variant s (at store s) (record { session = at (with_at l.talk.sessions t (send (at l.talk.sessions t) o n)) s; listed = at x s })) (sym lists) (sent_by store l.talk.variant l t o n s fits (same_type s t)))
+    (subst (λ x. SessionFits l.talk.variant s (at store s) (record { session = at (with_at l.talk.sessions t (send (at l.talk.sessions t) o n)) s; listed = at x s })) (sym lists) (sent_by store l.talk.variant l t o n s is fits (same_type s t)))
 
 -- before the first request of each type
 pub begun_fits : (store : Store) (v : VariantName) (cluster : List ℕ) → ListingFits store (record { talk = begun v cluster; lists = each unlisted })

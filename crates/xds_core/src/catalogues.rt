@@ -25,6 +25,7 @@ use xds_resource::{
     AnyResource, AnyWrite, Cluster, Endpoint, Groups, Listener, Refusal, ResourceType, Route,
     Secret, Stamp, TypeName, Write,
 };
+use xds_sessions::Published;
 
 /// How many writes added or replaced an entry, of each type.
 #[derive(Clone, Copy, Debug)]
@@ -39,11 +40,11 @@ pub struct Marks {
 /// What a replica holds of each type.
 #[derive(Drop)]
 pub struct Catalogues {
-    pub cluster: Catalogue<Cluster>,
-    pub endpoint: Catalogue<Endpoint>,
-    pub listener: Catalogue<Listener>,
-    pub route: Catalogue<Route>,
-    pub secret: Catalogue<Secret>,
+    pub cluster: Published<Cluster>,
+    pub endpoint: Published<Endpoint>,
+    pub listener: Published<Listener>,
+    pub route: Published<Route>,
+    pub secret: Published<Secret>,
 }
 
 impl Model for Catalogues {
@@ -63,11 +64,11 @@ impl Catalogues {
         ensures { result ≡ each nothing_held }
     {
         Catalogues {
-            cluster: Catalogue::new(alloc),
-            endpoint: Catalogue::new(alloc),
-            listener: Catalogue::new(alloc),
-            route: Catalogue::new(alloc),
-            secret: Catalogue::new(alloc),
+            cluster: nothing(alloc),
+            endpoint: nothing(alloc),
+            listener: nothing(alloc),
+            route: nothing(alloc),
+            secret: nothing(alloc),
         }
     }
 
@@ -137,7 +138,7 @@ impl Catalogues {
             return Err(Refusal::CounterSpent);
         }
         let held = mem::replace(self, Catalogues::new(alloc));
-        match Pending::start(held, batch) {
+        match Pending::start(alloc, held, batch) {
             Ok(pending) => {
                 let grown = pending.grown();
                 put(self, pending.finish());
@@ -154,11 +155,11 @@ impl Catalogues {
     fn is_spent_by(&self, batch: &Batch) -> bool
         ensures { result ≡ is_spent self.now batch.now }
     {
-        self.cluster.is_spent_by(&batch.cluster)
-            || self.endpoint.is_spent_by(&batch.endpoint)
-            || self.listener.is_spent_by(&batch.listener)
-            || self.route.is_spent_by(&batch.route)
-            || self.secret.is_spent_by(&batch.secret)
+        self.cluster.catalogue().is_spent_by(&batch.cluster)
+            || self.endpoint.catalogue().is_spent_by(&batch.endpoint)
+            || self.listener.catalogue().is_spent_by(&batch.listener)
+            || self.route.catalogue().is_spent_by(&batch.route)
+            || self.secret.catalogue().is_spent_by(&batch.secret)
     }
 
     /// All that is held, deletions included, of each type in ascending order of names. No body is copied.
@@ -167,11 +168,11 @@ impl Catalogues {
         ensures refused { IfErr result (λ e. e ≡ OutOfMemory) }
     {
         let (cluster, endpoint, listener, route, secret) = five(
-            writes_of(alloc, &self.cluster),
-            writes_of(alloc, &self.endpoint),
-            writes_of(alloc, &self.listener),
-            writes_of(alloc, &self.route),
-            writes_of(alloc, &self.secret),
+            writes_of(alloc, self.cluster.catalogue()),
+            writes_of(alloc, self.endpoint.catalogue()),
+            writes_of(alloc, self.listener.catalogue()),
+            writes_of(alloc, self.route.catalogue()),
+            writes_of(alloc, self.secret.catalogue()),
         )?;
         Ok(Batch {
             cluster,
@@ -189,11 +190,11 @@ impl Catalogues {
     {
         let mut batch = Batch::new(alloc);
         match kind {
-            TypeName::Cluster => batch.cluster = writes_of(alloc, &self.cluster)?,
-            TypeName::Endpoint => batch.endpoint = writes_of(alloc, &self.endpoint)?,
-            TypeName::Listener => batch.listener = writes_of(alloc, &self.listener)?,
-            TypeName::Route => batch.route = writes_of(alloc, &self.route)?,
-            TypeName::Secret => batch.secret = writes_of(alloc, &self.secret)?,
+            TypeName::Cluster => batch.cluster = writes_of(alloc, self.cluster.catalogue())?,
+            TypeName::Endpoint => batch.endpoint = writes_of(alloc, self.endpoint.catalogue())?,
+            TypeName::Listener => batch.listener = writes_of(alloc, self.listener.catalogue())?,
+            TypeName::Route => batch.route = writes_of(alloc, self.route.catalogue())?,
+            TypeName::Secret => batch.secret = writes_of(alloc, self.secret.catalogue())?,
         }
         Ok(batch)
     }
@@ -206,11 +207,11 @@ impl Catalogues {
         ensures refused { IfErr result (λ e. e ≡ OutOfMemory) }
     {
         let (cluster, endpoint, listener, route, secret) = five(
-            changed_after(alloc, &self.cluster, marks.cluster),
-            changed_after(alloc, &self.endpoint, marks.endpoint),
-            changed_after(alloc, &self.listener, marks.listener),
-            changed_after(alloc, &self.route, marks.route),
-            changed_after(alloc, &self.secret, marks.secret),
+            changed_after(alloc, self.cluster.catalogue(), marks.cluster),
+            changed_after(alloc, self.endpoint.catalogue(), marks.endpoint),
+            changed_after(alloc, self.listener.catalogue(), marks.listener),
+            changed_after(alloc, self.route.catalogue(), marks.route),
+            changed_after(alloc, self.secret.catalogue(), marks.secret),
         )?;
         Ok(Batch {
             cluster,
@@ -230,11 +231,11 @@ impl Catalogues {
         ensures secret { result.secret ≡ self.now.secret.changes }
     {
         Marks {
-            cluster: self.cluster.changes(),
-            endpoint: self.endpoint.changes(),
-            listener: self.listener.changes(),
-            route: self.route.changes(),
-            secret: self.secret.changes(),
+            cluster: self.cluster.catalogue().changes(),
+            endpoint: self.endpoint.catalogue().changes(),
+            listener: self.listener.catalogue().changes(),
+            route: self.route.catalogue().changes(),
+            secret: self.secret.catalogue().changes(),
         }
     }
 
@@ -243,11 +244,11 @@ impl Catalogues {
         ensures { result ≡ (at self.now kind).changes }
     {
         match kind {
-            TypeName::Cluster => self.cluster.changes(),
-            TypeName::Endpoint => self.endpoint.changes(),
-            TypeName::Listener => self.listener.changes(),
-            TypeName::Route => self.route.changes(),
-            TypeName::Secret => self.secret.changes(),
+            TypeName::Cluster => self.cluster.catalogue().changes(),
+            TypeName::Endpoint => self.endpoint.catalogue().changes(),
+            TypeName::Listener => self.listener.catalogue().changes(),
+            TypeName::Route => self.route.catalogue().changes(),
+            TypeName::Secret => self.secret.catalogue().changes(),
         }
     }
 
@@ -273,8 +274,15 @@ impl Catalogues {
     }
 }
 
+// A catalogue that holds nothing.
+fn nothing<T: ResourceType>(alloc: Global) -> Published<T>
+    ensures { result ≡ nothing_held }
+{
+    Published::of(alloc, Catalogue::new(alloc))
+}
+
 // Joins a write to the catalogue of its type, whose entry may have changed.
-fn join_one<T: ResourceType>(catalogue: &mut Catalogue<T>, write: Write<T>) -> Result<(), Refusal>
+fn join_one<T: ResourceType>(catalogue: &mut Published<T>, write: Write<T>) -> Result<(), Refusal>
     ensures joins { Gives (λ _. catalogue.new) result
         (unless_refused
         ((nat_lt max_counter (joined catalogue.old (write ∷ [])).changes, CounterSpent) ∷ [])

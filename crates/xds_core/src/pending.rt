@@ -4,10 +4,12 @@ ghost use Rattle.xds_core.specs.Stores.{merged, is_spent};
 ghost use Rattle.xds_core.specs.Pendings.{befores, afters, growth};
 
 use crate::catalogues::Catalogues;
+use std::alloc::Global;
 use std::marker::Model;
 use xds_catalogue::PendingJoin;
 use xds_message::Batch;
 use xds_resource::{Cluster, Endpoint, Listener, Route, Secret};
+use xds_sessions::Published;
 
 #[derive(Drop)]
 pub(crate) struct Pending {
@@ -16,6 +18,7 @@ pub(crate) struct Pending {
     listener: PendingJoin<Listener>,
     route: PendingJoin<Route>,
     secret: PendingJoin<Secret>,
+    alloc: Global,
 }
 
 impl Model for Pending {
@@ -32,7 +35,11 @@ impl Model for Pending {
 
 impl Pending {
     /// Joins a batch, all or none. Where there is no memory, the catalogues come back as they were.
-    pub(crate) fn start(held: Catalogues, batch: Batch) -> Result<Pending, Catalogues>
+    pub(crate) fn start(
+        alloc: Global,
+        held: Catalogues,
+        batch: Batch,
+    ) -> Result<Pending, Catalogues>
         requires { is_spent held batch ≡ false }
         ensures ok { IfOk result (λ p. (befores p ≡ held) × (afters p ≡ merged held batch)) }
         ensures err { IfErr result (λ c. c ≡ held) }
@@ -61,7 +68,7 @@ impl Pending {
             Ok(pending) => pending,
             Err(endpoint) => {
                 return Err(Catalogues {
-                    cluster: cluster.take_back(),
+                    cluster: Published::of(alloc, cluster.take_back()),
                     endpoint,
                     listener,
                     route,
@@ -73,8 +80,8 @@ impl Pending {
             Ok(pending) => pending,
             Err(listener) => {
                 return Err(Catalogues {
-                    cluster: cluster.take_back(),
-                    endpoint: endpoint.take_back(),
+                    cluster: Published::of(alloc, cluster.take_back()),
+                    endpoint: Published::of(alloc, endpoint.take_back()),
                     listener,
                     route,
                     secret,
@@ -85,9 +92,9 @@ impl Pending {
             Ok(pending) => pending,
             Err(route) => {
                 return Err(Catalogues {
-                    cluster: cluster.take_back(),
-                    endpoint: endpoint.take_back(),
-                    listener: listener.take_back(),
+                    cluster: Published::of(alloc, cluster.take_back()),
+                    endpoint: Published::of(alloc, endpoint.take_back()),
+                    listener: Published::of(alloc, listener.take_back()),
                     route,
                     secret,
                 });
@@ -100,12 +107,13 @@ impl Pending {
                 listener,
                 route,
                 secret,
+                alloc,
             }),
             Err(secret) => Err(Catalogues {
-                cluster: cluster.take_back(),
-                endpoint: endpoint.take_back(),
-                listener: listener.take_back(),
-                route: route.take_back(),
+                cluster: Published::of(alloc, cluster.take_back()),
+                endpoint: Published::of(alloc, endpoint.take_back()),
+                listener: Published::of(alloc, listener.take_back()),
+                route: Published::of(alloc, route.take_back()),
                 secret,
             }),
         }
@@ -127,11 +135,11 @@ impl Pending {
         ensures { result ≡ afters self }
     {
         Catalogues {
-            cluster: self.cluster.finish(),
-            endpoint: self.endpoint.finish(),
-            listener: self.listener.finish(),
-            route: self.route.finish(),
-            secret: self.secret.finish(),
+            cluster: Published::of(self.alloc, self.cluster.finish()),
+            endpoint: Published::of(self.alloc, self.endpoint.finish()),
+            listener: Published::of(self.alloc, self.listener.finish()),
+            route: Published::of(self.alloc, self.route.finish()),
+            secret: Published::of(self.alloc, self.secret.finish()),
         }
     }
 }

@@ -190,6 +190,21 @@ impl Core {
         ensures memory { IfErr result (λ e. e ≡ OutOfMemory → IsShort self.old (events.Poll number which)) }
         ensures err { OnErr result (self.new ≡ self.old) }
     {
+        self.share(number);
+        self.poll_shared_twice(number, which)
+    }
+
+    // The same once what clients share was made.
+    fn poll_shared_twice(
+        &mut self,
+        number: u64,
+        which: Option<TypeName>,
+    ) -> Result<(Reply, Reply), Refusal>
+        ensures steps { Gives (λ p. (reply_of p.0, self.new)) result (step self.old (events.Poll number which)) }
+        ensures twin { IfOk result (λ p. reply_of p.1 ≡ reply_of p.0) }
+        ensures memory { IfErr result (λ e. e ≡ OutOfMemory → IsShort self.old (events.Poll number which)) }
+        ensures err { OnErr result (self.new ≡ self.old) }
+    {
         let Some(mut stream) = self.streams.replace(number, Stream::opening()) else {
             return Err(Refusal::NoStream);
         };
@@ -225,7 +240,26 @@ impl Core {
         answered(outcome)
     }
 
+    // Has what a stream shares with others made, where its next response shares it. It changes nothing that is seen.
+    fn share(&mut self, number: u64)
+        ensures { self.new ≡ self.old }
+    {
+        if let Some(stream) = self.streams.get(number) {
+            stream.share(self.alloc, &mut self.held);
+        }
+    }
+
     fn poll(&mut self, number: u64, which: Option<TypeName>) -> Result<Reply, Refusal>
+        ensures steps { Gives (λ r. (reply_of r, self.new)) result (step self.old (events.Poll number which)) }
+        ensures memory { IfErr result (λ e. e ≡ OutOfMemory → IsShort self.old (events.Poll number which)) }
+        ensures err { OnErr result (self.new ≡ self.old) }
+    {
+        self.share(number);
+        self.poll_shared(number, which)
+    }
+
+    // The same once what clients share was made.
+    fn poll_shared(&mut self, number: u64, which: Option<TypeName>) -> Result<Reply, Refusal>
         ensures steps { Gives (λ r. (reply_of r, self.new)) result (step self.old (events.Poll number which)) }
         ensures memory { IfErr result (λ e. e ≡ OutOfMemory → IsShort self.old (events.Poll number which)) }
         ensures err { OnErr result (self.new ≡ self.old) }
@@ -326,7 +360,7 @@ impl Core {
             TypeName::Cluster => rested(
                 self.alloc,
                 self.replica,
-                &held.cluster,
+                held.cluster.catalogue(),
                 names,
                 version,
                 cluster,
@@ -334,7 +368,7 @@ impl Core {
             TypeName::Endpoint => rested(
                 self.alloc,
                 self.replica,
-                &held.endpoint,
+                held.endpoint.catalogue(),
                 names,
                 version,
                 cluster,
@@ -342,7 +376,7 @@ impl Core {
             TypeName::Listener => rested(
                 self.alloc,
                 self.replica,
-                &held.listener,
+                held.listener.catalogue(),
                 names,
                 version,
                 cluster,
@@ -350,7 +384,7 @@ impl Core {
             TypeName::Route => rested(
                 self.alloc,
                 self.replica,
-                &held.route,
+                held.route.catalogue(),
                 names,
                 version,
                 cluster,
@@ -358,7 +392,7 @@ impl Core {
             TypeName::Secret => rested(
                 self.alloc,
                 self.replica,
-                &held.secret,
+                held.secret.catalogue(),
                 names,
                 version,
                 cluster,

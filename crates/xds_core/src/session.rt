@@ -6,7 +6,7 @@ ghost use Rattle.xds_ledger.specs.Offers.{offer};
 ghost use Rattle.xds_message.specs.declared.draft.Draft.TheVariants as drafts;
 ghost use Rattle.xds_ledger.specs.Sessions as sessions;
 ghost use Rattle.xds_ledger.specs.Sessions.{outcome, HasPolled};
-ghost use Rattle.xds_ledger.specs.Lists.{SessionFits, StaysFit, new_kept};
+ghost use Rattle.xds_ledger.specs.Lists.{SessionFits, StaysFit, new_kept, sent_kept};
 ghost use Rattle.xds_core.specs.StreamsSeen.{message_of};
 ghost use Rattle.xds_core.specs.States.{tagged};
 ghost use Rattle.xds_core.specs.Streams.{variant_of, nonce_of, session_after};
@@ -15,11 +15,11 @@ ghost use Rattle.xds_core.specs.Talks.{drafted};
 use crate::request::Request;
 use std::alloc::Global;
 use std::marker::Model;
-use xds_catalogue::Catalogue;
 use xds_interest::ClusterText;
-use xds_ledger::{Due, Nonces, Outcome, VariantName};
+use xds_ledger::{Due, Nonces, Outcome, SharedMap, VariantName};
 use xds_message::{DeltaDraft, Draft, SotwDraft};
-use xds_resource::{NameMap, Refusal, ResourceType};
+use xds_resource::{Refusal, ResourceType};
+use xds_sessions::Published;
 
 enum Side<T: ResourceType> {
     Sotw(xds_sessions::sotw_session::Session<T>),
@@ -94,7 +94,7 @@ impl<T: ResourceType> Session<T> {
     }
 
     /// Whether the client is owed something. It takes no memory.
-    pub(crate) fn owes(&self, catalogue: &Catalogue<T>) -> bool
+    pub(crate) fn owes(&self, catalogue: &Published<T>) -> bool
         requires { SessionFits self.now.variant T.TYPE catalogue.now self.now.kept }
         ensures { result ≡ sessions.owes self.now.variant T.TYPE self.now.kept.session catalogue.now.entries }
     {
@@ -105,7 +105,7 @@ impl<T: ResourceType> Session<T> {
     }
 
     /// Whether a response is to be sent. It takes no memory.
-    pub(crate) fn sends(&self, catalogue: &Catalogue<T>) -> bool
+    pub(crate) fn sends(&self, catalogue: &Published<T>) -> bool
         requires { SessionFits self.now.variant T.TYPE catalogue.now self.now.kept }
         ensures { result ≡ is_some (sessions.sending self.now.variant T.TYPE self.now.kept.session catalogue.now.entries) }
     {
@@ -116,7 +116,7 @@ impl<T: ResourceType> Session<T> {
     }
 
     /// Looks at what changed since, and lets the names go that are owed nothing, as far as there is memory for it.
-    pub(crate) fn tidy(&mut self, alloc: Global, catalogue: &Catalogue<T>)
+    pub(crate) fn tidy(&mut self, alloc: Global, catalogue: &Published<T>)
         requires { SessionFits self.old.variant T.TYPE catalogue.now self.old.kept }
         ensures variant { self.new.variant ≡ self.old.variant }
         ensures same { self.new.kept.session ≡ self.old.kept.session }
@@ -134,7 +134,7 @@ impl<T: ResourceType> Session<T> {
         &mut self,
         alloc: Global,
         replica: u16,
-        catalogue: &Catalogue<T>,
+        catalogue: &Published<T>,
         nonces: &mut Nonces,
     ) -> Result<Option<Draft>, Refusal>
         requires { SessionFits self.old.variant T.TYPE catalogue.now self.old.kept }
@@ -157,9 +157,9 @@ impl<T: ResourceType> Session<T> {
         &self,
         alloc: Global,
         replica: u16,
-        catalogue: &Catalogue<T>,
+        catalogue: &Published<T>,
         number: u64,
-    ) -> Result<(NameMap<Due>, Draft), Refusal>
+    ) -> Result<(SharedMap<Due>, Draft), Refusal>
         requires { SessionFits self.now.variant T.TYPE catalogue.now self.now.kept }
         ensures offer { IfOk result (λ p. p.0 ≡ offer self.now.variant T.TYPE self.now.kept.session.asked.interest catalogue.now.entries self.now.kept.session.account.beliefs) }
         ensures draft { IfOk result (λ p. p.1 ≡ drafted replica T.TYPE catalogue.now self.now.kept.session.asked.interest self.now.variant p.0 number) }
@@ -177,9 +177,20 @@ impl<T: ResourceType> Session<T> {
         }
     }
 
+    /// Has what the clients of this session's interest share made, where its next response shares it: as far as there is memory
+    /// for it. It changes nothing that is seen.
+    pub(crate) fn share(&self, alloc: Global, catalogue: &mut Published<T>)
+        ensures { catalogue.new ≡ catalogue.old }
+    {
+        match &self.side {
+            Side::Sotw(session) => session.share(alloc, catalogue),
+            Side::Delta(session) => session.share(alloc, catalogue),
+        }
+    }
+
     /// Notes that a response with this offer was sent, as the one of this number. It takes no memory.
-    pub(crate) fn send(&mut self, alloc: Global, offer: NameMap<Due>, number: u64)
-        ensures { self.new ≡ record self.old { kept = record self.old.kept { session = sessions.send self.old.kept.session offer number } } }
+    pub(crate) fn send(&mut self, alloc: Global, offer: SharedMap<Due>, number: u64)
+        ensures { self.new ≡ record self.old { kept = sent_kept self.old.kept offer number } }
     {
         match &mut self.side {
             Side::Sotw(session) => session.send(alloc, offer, number),

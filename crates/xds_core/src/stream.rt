@@ -143,6 +143,17 @@ impl Stream {
         }
     }
 
+    /// Has what clients share that want everything made, where a next response shares it: as far as there is memory for it. It
+    /// changes nothing that is seen. Only complete types can be wanted so.
+    pub fn share(&self, alloc: Global, held: &mut Catalogues)
+        ensures { held.new ≡ held.old }
+    {
+        if let Some(talk) = &self.talk {
+            talk.share(alloc, held, TypeName::Cluster);
+            talk.share(alloc, held, TypeName::Listener);
+        }
+    }
+
     /// The next response: of a type, or of the first in the order of the types that has one. Refused only where one is to
     /// be sent: by `NonceSpent` where the stream has no number left, and else by `OutOfMemory`.
     pub fn poll(

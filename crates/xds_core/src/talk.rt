@@ -1,7 +1,7 @@
 // A stream whose variant is decided.
 ghost use Rattle.std.specs.Prelude.{◌≡◌, [], ◌∷◌, is_some, IfSome, IfOk, IfErr, OnOk, OnErr};
-ghost use Rattle.xds_resource.specs.PerType.{at, each};
-ghost use Rattle.xds_ledger.specs.Listed.{unlisted};
+ghost use Rattle.xds_resource.specs.PerType.{at, each, with_at};
+ghost use Rattle.xds_ledger.specs.Listed.{unlisted, with_sending};
 ghost use Rattle.xds_resource.specs.Refusals.{Gives};
 ghost use Rattle.xds_resource.specs.declared.refusal.Refusal.TheVariants.{OutOfMemory};
 ghost use Rattle.xds_resource.specs.Types.{type_of_url};
@@ -18,9 +18,9 @@ use crate::session::Session;
 use std::alloc::Global;
 use std::marker::Model;
 use xds_interest::ClusterText;
-use xds_ledger::{Due, Nonces, Outcome, VariantName};
+use xds_ledger::{Due, Nonces, Outcome, SharedMap, VariantName};
 use xds_message::Draft;
-use xds_resource::{Cluster, Endpoint, Listener, NameMap, Refusal, Route, Secret, TypeName};
+use xds_resource::{Cluster, Endpoint, Listener, Refusal, Route, Secret, TypeName};
 
 /// A variant, the numbers of the responses, and a session of each type, all of the variant.
 pub(crate) struct Talk {
@@ -184,6 +184,20 @@ impl Talk {
         self.tidy(alloc, held, TypeName::Secret);
     }
 
+    /// Has what clients share of a type made, where the next response of the type shares it: as far as there is memory for it. It
+    /// changes nothing that is seen.
+    pub(crate) fn share(&self, alloc: Global, held: &mut Catalogues, kind: TypeName)
+        ensures { held.new ≡ held.old }
+    {
+        match kind {
+            TypeName::Cluster => self.cluster.share(alloc, &mut held.cluster),
+            TypeName::Endpoint => self.endpoint.share(alloc, &mut held.endpoint),
+            TypeName::Listener => self.listener.share(alloc, &mut held.listener),
+            TypeName::Route => self.route.share(alloc, &mut held.route),
+            TypeName::Secret => self.secret.share(alloc, &mut held.secret),
+        }
+    }
+
     /// The next response of the type, if one is to be sent. Refused only where one is: by `NonceSpent` where the stream
     /// has no number left, and else by `OutOfMemory`.
     pub(crate) fn poll(
@@ -223,7 +237,7 @@ impl Talk {
         held: &Catalogues,
         kind: TypeName,
         number: u64,
-    ) -> Result<(NameMap<Due>, Draft), Refusal>
+    ) -> Result<(SharedMap<Due>, Draft), Refusal>
         requires { ListingFits held.now self.now }
         ensures offer { IfOk result (λ p. p.0 ≡ offer_at held.now self.now.talk kind) }
         ensures draft { IfOk result (λ p. p.1 ≡ drafted replica kind (at held.now kind) (at self.now.talk.sessions kind).asked.interest self.now.talk.variant p.0 number) }
@@ -247,13 +261,13 @@ impl Talk {
         &mut self,
         alloc: Global,
         kind: TypeName,
-        offer: NameMap<Due>,
+        offer: SharedMap<Due>,
         drawn: Nonces,
         number: u64,
     )
         requires { number ≡ drawn }
         ensures sent { self.new.talk ≡ sent_at self.old.talk kind offer number }
-        ensures lists { self.new.lists ≡ self.old.lists }
+        ensures lists { self.new.lists ≡ with_at self.old.lists kind (with_sending (at self.old.lists kind)) }
     {
         self.nonces = drawn;
         match kind {

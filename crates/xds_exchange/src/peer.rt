@@ -129,11 +129,11 @@ fn held_is_kept(core: &Core)
     ensures { IsKept core.now.store }
 {
     let held = core.catalogues();
-    catalogue_is_kept(&held.cluster);
-    catalogue_is_kept(&held.endpoint);
-    catalogue_is_kept(&held.listener);
-    catalogue_is_kept(&held.route);
-    catalogue_is_kept(&held.secret);
+    catalogue_is_kept(held.cluster.catalogue());
+    catalogue_is_kept(held.endpoint.catalogue());
+    catalogue_is_kept(held.listener.catalogue());
+    catalogue_is_kept(held.route.catalogue());
+    catalogue_is_kept(held.secret.catalogue());
 }
 
 // The same of what one type's catalogue holds. It looks at a name and a number that nothing has.

@@ -4,3 +4,4 @@ pub mod Apart
 pub mod Readings
 pub mod Covering
 pub mod Standing
+pub mod Gatherings

@@ -4,3 +4,4 @@ pub mod Lending
 pub mod Writing
 pub mod Devices
 pub mod Reading
+pub mod Gathering

@@ -16,7 +16,7 @@ use Rattle.xds_catalogue.specs.Holdings.{Holdings, IsNumbered, Latest}
 use Rattle.xds_ledger.specs.declared.variant.VariantName.{VariantName}
 use Rattle.xds_ledger.specs.Variants.{is_told}
 use Rattle.xds_ledger.specs.Owed.{Beliefs, owed, present, version_shown, is_owed}
-use Rattle.xds_ledger.specs.Listed.{Listed, is_listed, is_since, IsPast, Fits, StaysSufficient, changed_since, refreshed, pruned}
+use Rattle.xds_ledger.specs.Listed.{Listed, is_listed, is_since, IsPast, Fits, KeepsSending, StaysSufficient, changed_since, refreshed, pruned}
 use Rattle.xds_ledger.specs.ListLaws.{NewListFits, WiderListFits, RefreshedListFits, PrunedListFits, OwedIsListed, LaterHoldingsFit}
 use Rattle.xds_ledger.proofs.ByName.{owed_absent}
 use Rattle.xds_ledger.proofs.Later.{past_more}
@@ -145,7 +145,10 @@ refreshed_list_fits v t s h b l numbered fits = record {
 
 -- the same of a list as a call leaves it
 pub refreshed_suffices : (h : Holdings) (old new : Listed) → IsNumbered h → new ≡ refreshed h old → StaysSufficient h old new
-refreshed_suffices h old new numbered is v t s b fits = subst (Fits v t s h b) (sym is) (refreshed_list_fits v t s h b old numbered fits)
+refreshed_suffices h old new numbered is = record {
+  fits = λ v t s b fits. subst (Fits v t s h b) (sym is) (refreshed_list_fits v t s h b old numbered fits);
+  sending = λ low. record { sent_mark = ap (λ (l : Listed). l.sent_mark) is; mark = subst (λ (l : Listed). old.mark ≤ l.mark) (sym is) low };
+}
 
 listed_by : (a b o : Bool) → ((a ≡ false) → (b ≡ false) → o ≡ false) → o ≡ true → (a || b) ≡ true
 listed_by true b o none is = refl
@@ -184,12 +187,31 @@ pub tidied_fits : {X Y : Type 0} (v : VariantName) (t : TypeName) (s : Selection
 tidied_fits {X} {Y} v t s h b old middle new looked left stays same gone kept fits = after left gone kept
   where
     mid : (r : Result X Refusal) → OnOk r (StaysSufficient h old middle) → OnErr r (middle ≡ old) → Fits v t s h b middle
-    mid (Ok x) stays same = stays v t s b fits
+    mid (Ok x) stays same = stays.fits v t s b fits
     mid (Err e) stays same = subst (Fits v t s h b) (sym same) fits
 
     after : (r : Result Y Refusal) → OnOk r (new ≡ pruned v t s h b middle) → OnErr r (new ≡ middle) → Fits v t s h b new
     after (Ok y) gone kept = subst (Fits v t s h b) (sym gone) (pruned_list_fits v t s h b middle (mid looked stays same))
     after (Err e) gone kept = subst (Fits v t s h b) (sym kept) (mid looked stays same)
+
+pub keeps_itself : (old new : Listed) → new ≡ old → KeepsSending old new
+keeps_itself old new same = record { sent_mark = ap (λ (l : Listed). l.sent_mark) same; mark = subst (λ (l : Listed). old.mark ≤ l.mark) (sym same) (at_end old.mark) }
+
+-- and it keeps the mark of the sending
+pub tidied_keeps_sending : {X Y : Type 0} (v : VariantName) (t : TypeName) (s : Selection) (h : Holdings) (b : Beliefs) (old middle new : Listed) (looked : Result X Refusal) (left : Result Y Refusal) → OnOk looked (StaysSufficient h old middle)
+    → OnErr looked (middle ≡ old) → OnOk left (new ≡ pruned v t s h b middle) → OnErr left (new ≡ middle) → old.mark ≤ h.changes → KeepsSending old new
+tidied_keeps_sending {X} {Y} v t s h b old middle new looked left stays same gone kept low = after left gone kept
+  where
+    mid : (r : Result X Refusal) → OnOk r (StaysSufficient h old middle) → OnErr r (middle ≡ old) → KeepsSending old middle
+    mid (Ok x) stays same = stays.sending low
+    mid (Err e) stays same = keeps_itself old middle same
+
+    on : (next : Listed) → next.sent_mark ≡ middle.sent_mark → next.mark ≡ middle.mark → KeepsSending old next
+    on next sending mark = record { sent_mark = sending ∙ (mid looked stays same).sent_mark; mark = subst (λ n. old.mark ≤ n) (sym mark) (mid looked stays same).mark }
+
+    after : (r : Result Y Refusal) → OnOk r (new ≡ pruned v t s h b middle) → OnErr r (new ≡ middle) → KeepsSending old new
+    after (Ok y) gone kept = on new (ap (λ (l : Listed). l.sent_mark) gone) (ap (λ (l : Listed). l.mark) gone)
+    after (Err e) gone kept = on new (ap (λ (l : Listed). l.sent_mark) kept) (ap (λ (l : Listed). l.mark) kept)
 
 or_none : (o : Option ℕ) → option_or o None ≡ o
 or_none None = refl

@@ -18,21 +18,22 @@ use Rattle.xds_ledger.specs.Owed.{live_version, version_shown}
 use Rattle.xds_ledger.specs.Listed as lists
 use Rattle.xds_ledger.specs.Listed.{Listed, IsPast, IsLater, StaysSufficient}
 use Rattle.xds_ledger.proofs.ByName.{present_absent}
-use Rattle.xds_ledger.proofs.Fitting.{new_list_fits, none_at_first, later_holdings_fit}
-use Rattle.xds_ledger.specs.Ledgers as ledgers
+use Rattle.xds_ledger.proofs.Fitting.{new_list_fits, none_at_first, later_holdings_fit, keeps_itself}
+use Rattle.xds_ledger.proofs.Foretelling.{sent_foretells, later_foretells, looked_foretells}
 use Rattle.xds_ledger.specs.Ledgers.{Account}
-use Rattle.xds_ledger.specs.Sessions.{Session, send}
-use Rattle.xds_ledger.specs.Offers.{Offer}
-use Rattle.xds_ledger.specs.Lists.{Books, Kept, Fits, new_kept, FitsNext, StaysPresent, SessionFits, StaysFit}
+use Rattle.xds_ledger.specs.Offers.{Offer, offer}
+use Rattle.xds_ledger.specs.Lists.{Books, Kept, Fits, Foretells, new_kept, sent_books, sent_kept, FitsNext, StaysPresent, SessionFits, StaysFit}
+use Rattle.xds_ledger.specs.BookLaws.{SentSessionFits}
 
 -- before the first request every list suffices
 pub new_kept_fits : (v : VariantName) (t : TypeName) (cluster : List ℕ) (h : Holdings) → SessionFits v t h (new_kept cluster)
-new_kept_fits v t cluster h = record { list = new_list_fits v t (unasked cluster).interest h; unbegun = λ _. refl; star = (kept_star_is_of_complete t).0 cluster }
+new_kept_fits v t cluster h = record { list = new_list_fits v t (unasked cluster).interest h; foretold = λ tells. tt; unbegun = λ _. refl; star = (kept_star_is_of_complete t).0 cluster }
 
 -- once writes came
 pub later_session_fits : (v : VariantName) (t : TypeName) (h later : Holdings) (k : Kept) → IsLater h later → SessionFits v t h k → SessionFits v t later k
 later_session_fits v t h later k is fits = record {
   list = later_holdings_fit v t k.session.asked.interest h later k.session.account.beliefs k.listed is fits.list;
+  foretold = later_foretells v t k.session.asked.interest h later k.session.account k.listed is fits.list.counted fits.foretold;
   unbegun = fits.unbegun;
   star = fits.star;
 }
@@ -57,8 +58,10 @@ list_stays_fit v t before names asked touched new is touches_it next h fits =
     λ name out past. present_alike old asked.interest name (finmap.get h.entries name)
     (λ groups. sym (untouched_keeps_cover_of_kept t before.session.asked names name groups (ap (λ i. touches (sotw_touch old i) name) (sym (ap (λ (a : Asked). a.interest) is)) ∙ ap (λ x. touches x name) (sym touches_it) ∙ out))
     ∙ ap (λ (a : Asked). covers a.interest name groups) (sym is)) in
+    let left = next old asked.interest h (record { list = fits.list; foretold = fits.foretold }) stays in
     record {
-      list = next old asked.interest h fits.list stays;
+      list = left.list;
+      foretold = left.foretold;
       unbegun = λ not_it. never_both asked.begun (ap (λ (a : Asked). a.begun) is) not_it;
       star = λ incomplete. ap (λ (a : Asked). a.interest.star) is ∙ (kept_star_is_of_complete t).1 before.session.asked names incomplete;
     }
@@ -78,36 +81,39 @@ pub mention_stays_fit : (v : VariantName) (t : TypeName) (before : Kept) (m : Me
     → StaysFit v t before (record { session = record { asked = asked; account = new.account }; listed = new.listed })
 mention_stays_fit v t before m asked touched new is touches_it next h fits =
     let old : Asked = before.session.asked in
+    let left = next old.interest asked.interest h (record { list = fits.list; foretold = fits.foretold }) (stays_at t old asked m touched h before.listed.mark old.begun refl is touches_it fits.unbegun fits.star) in
     record {
-      list = next old.interest asked.interest h fits.list (stays_at t old asked m touched h before.listed.mark old.begun refl is touches_it fits.unbegun fits.star);
+      list = left.list;
+      foretold = left.foretold;
       unbegun = λ not_it. never_both asked.begun (ap (λ (a : Asked). a.begun) is) not_it;
       star = λ incomplete. ap (λ (a : Asked). a.interest.star) is ∙ (kept_star_is_of_complete t).2 old m incomplete;
     }
 
--- a session that has begun, once its list changed and suffices
-pub session_fits_with : (v : VariantName) (t : TypeName) (h : Holdings) (k new : Kept) → new.session ≡ k.session → k.session.asked.begun ≡ true → SessionFits v t h k
-    → lists.Fits v t k.session.asked.interest h k.session.account.beliefs new.listed → SessionFits v t h new
-session_fits_with v t h k new same begun fits list = record {
-  list = subst (λ (s : Session). lists.Fits v t s.asked.interest h s.account.beliefs new.listed) (sym same) list;
-  unbegun = λ not_it. never_both new.session.asked.begun (ap (λ (s : Session). s.asked.begun) same ∙ begun) not_it;
-  star = subst (λ (s : Session). IsStarOfComplete t s.asked) (sym same) fits.star;
+-- once an offer was sent that was made of these holdings
+pub sent_fits : (v : VariantName) (t : TypeName) (h : Holdings) (k : Kept) (o : Offer) (n : ℕ) → o ≡ offer v t k.session.asked.interest h.entries k.session.account.beliefs → SessionFits v t h k → SessionFits v t h (sent_kept k o n)
+sent_fits v t h k o n is fits = record {
+  list = record { counted = fits.list.counted; others = fits.list.others };
+  foretold = sent_foretells v t k.session.asked.interest h k.session.account k.listed o n is;
+  unbegun = fits.unbegun;
+  star = fits.star;
 }
 
--- a response that is sent leaves what is believed
-pub sent_fits : (v : VariantName) (t : TypeName) (h : Holdings) (k : Kept) (o : Offer) (n : ℕ) → SessionFits v t h k → SessionFits v t h (record k { session = send k.session o n })
-sent_fits v t h k o n fits = record { list = fits.list; unbegun = fits.unbegun; star = fits.star }
+pub sent_session_books_fit : SentSessionFits
+sent_session_books_fit v t h k n fits = sent_fits v t h k (offer v t k.session.asked.interest h.entries k.session.account.beliefs) n refl fits
 
 -- the list of the ledger of a session, as a method sees it that opened the session
 pub ledger_fits : (v : VariantName) (t : TypeName) (h : Holdings) (asked : Asked) (b : Books) (now : Kept) (interest : Selection) → ◌≡◌ {A = Kept} (record { session = record { asked = asked; account = b.account }; listed = b.listed }) now
     → interest ≡ asked.interest → SessionFits v t h now → Fits v t interest h b
 ledger_fits v t h asked b now interest same is fits =
-    subst (λ i. Fits v t i h b) (sym is) (subst (λ (k : Kept). lists.Fits v t k.session.asked.interest h k.session.account.beliefs k.listed) (sym same) fits.list)
+    let inside : SessionFits v t h (record { session = record { asked = asked; account = b.account }; listed = b.listed }) = subst (SessionFits v t h) (sym same) fits in
+    subst (λ i. Fits v t i h b) (sym is) (record { list = inside.list; foretold = inside.foretold })
 
 -- and of the session once the ledger's list changed and suffices
 pub session_fits_back : (v : VariantName) (t : TypeName) (h : Holdings) (asked : Asked) (b new : Books) (now : Kept) (interest : Selection) → ◌≡◌ {A = Kept} (record { session = record { asked = asked; account = b.account }; listed = b.listed }) now
     → interest ≡ asked.interest → new.account ≡ b.account → asked.begun ≡ true → Fits v t interest h new → SessionFits v t h now → SessionFits v t h (record { session = record { asked = asked; account = new.account }; listed = new.listed })
-session_fits_back v t h asked b new now interest same is kept begun list fits = record {
-  list = subst (λ i. Fits v t i h new) is list;
+session_fits_back v t h asked b new now interest same is kept begun books fits = record {
+  list = subst (λ i. lists.Fits v t i h new.account.beliefs new.listed) is books.list;
+  foretold = subst (λ i. Foretells v t i h new.account new.listed) is books.foretold;
   unbegun = λ not_it. never_both asked.begun begun not_it;
   star = subst (λ (k : Kept). IsStarOfComplete t k.session.asked) (sym same) fits.star;
 }
@@ -116,18 +122,22 @@ session_fits_back v t h asked b new now interest same is kept begun list fits = 
 pub refreshed_session_fits : (v : VariantName) (t : TypeName) (h : Holdings) (asked : Asked) (b new : Books) (now : Kept) → ◌≡◌ {A = Kept} (record { session = record { asked = asked; account = b.account }; listed = b.listed }) now
     → new.account ≡ b.account → asked.begun ≡ true → StaysSufficient h b.listed new.listed → SessionFits v t h now → SessionFits v t h (record { session = record { asked = asked; account = new.account }; listed = new.listed })
 refreshed_session_fits v t h asked b new now same kept begun stays fits =
-    let list : lists.Fits v t asked.interest h new.account.beliefs new.listed =
-    subst (λ (a : Account). lists.Fits v t asked.interest h a.beliefs new.listed) (sym kept) (stays v t asked.interest b.account.beliefs (ledger_fits v t h asked b now asked.interest same refl fits)) in
-    session_fits_back v t h asked b new now asked.interest same refl kept begun list fits
+    let before = ledger_fits v t h asked b now asked.interest same refl fits in
+    let books : Fits v t asked.interest h new = record {
+      list = subst (λ (a : Account). lists.Fits v t asked.interest h a.beliefs new.listed) (sym kept) (stays.fits v t asked.interest b.account.beliefs before.list);
+      foretold = subst (λ (a : Account). Foretells v t asked.interest h a new.listed) (sym kept) (looked_foretells v t asked.interest h b.account b.listed new.listed (stays.sending before.list.counted) before.foretold);
+    } in
+    session_fits_back v t h asked b new now asked.interest same refl kept begun books fits
 
 -- what is kept of the list, whatever became of a look
 pub suffices_or : {X : Type 0} (h : Holdings) (old new : Listed) (r : Result X Refusal) → OnOk r (StaysSufficient h old new) → OnErr r (new ≡ old) → StaysSufficient h old new
 suffices_or h old new (Ok x) stays same = stays
-suffices_or h old new (Err e) stays same = λ v t s b fits. subst (lists.Fits v t s h b) (sym same) fits
+suffices_or h old new (Err e) stays same = record { fits = λ v t s b fits. subst (lists.Fits v t s h b) (sym same) fits; sending = λ low. keeps_itself old new same }
 
--- and once a response was sent
+-- and once an offer of these holdings was sent
 pub sent_session_fits : (v : VariantName) (t : TypeName) (h : Holdings) (asked : Asked) (b new : Books) (now : Kept) (o : Offer) (n : ℕ) → ◌≡◌ {A = Kept} (record { session = record { asked = asked; account = b.account }; listed = b.listed }) now
-    → new ≡ record b { account = ledgers.send b.account o n } → SessionFits v t h now → SessionFits v t h (record { session = record { asked = asked; account = new.account }; listed = new.listed })
-sent_session_fits v t h asked b new now o n same is fits =
+    → new ≡ sent_books b o n → o ≡ offer v t now.session.asked.interest h.entries now.session.account.beliefs → SessionFits v t h now → SessionFits v t h (record { session = record { asked = asked; account = new.account }; listed = new.listed })
+sent_session_fits v t h asked b new now o n same is made fits =
     let before : Kept = record { session = record { asked = asked; account = b.account }; listed = b.listed } in
-    subst (λ (x : Books). SessionFits v t h (record { session = record { asked = asked; account = x.account }; listed = x.listed })) (sym is) (sent_fits v t h before o n (subst (SessionFits v t h) (sym same) fits))
+    subst (λ (x : Books). SessionFits v t h (record { session = record { asked = asked; account = x.account }; listed = x.listed })) (sym is)
+    (sent_fits v t h before o n (made ∙ ap (λ (k : Kept). offer v t k.session.asked.interest h.entries k.session.account.beliefs) (sym same)) (subst (SessionFits v t h) (sym same) fits))

@@ -1,5 +1,5 @@
 -- That all of which a request may change what is owed is listed, and that the list then suffices.
-use Rattle.std.proofs.Common.{◌≡◌, ℕ, ◌≤◌, List, [], ◌∷◌, map, Bool, true, false, cond, ◌&&◌, ◌||◌, not, Option, Some, None, refl, sym, ap, subst, ◌∙◌, arith}
+use Rattle.std.proofs.Common.{◌≡◌, inl, inr, ℕ, ◌≤◌, List, [], ◌∷◌, map, Bool, true, false, cond, ◌&&◌, ◌||◌, not, Option, Some, None, refl, sym, ap, subst, ◌∙◌, arith}
 use Rattle.std.specs.Prelude.{T, bytes_eq, is_some, option_map, if◌then◌else◌, IfSome}
 use Rattle.std.specs.Option.{option_or, option_map_or}
 use Rattle.std.specs.Ordering.{eq_by_cmp}
@@ -21,14 +21,22 @@ use Rattle.xds_ledger.specs.Variants.{is_whole}
 use Rattle.xds_ledger.specs.Owed.{Beliefs, is_owed}
 use Rattle.xds_ledger.specs.Offers.{Offer, offer, same_offer}
 use Rattle.xds_ledger.specs.Listed as lists
-use Rattle.xds_ledger.specs.Listed.{Listed, is_listed, with_name, without_mark, IsPast, IsWider}
+use Rattle.xds_ledger.specs.Listed.{Listed, is_listed, with_name, without_mark, without_sending, IsPast, IsWider, KeepsSending}
 use Rattle.xds_ledger.proofs.Fitting.{none_at_first, unowed, same_owed}
 use Rattle.xds_ledger.proofs.Later.{past_more}
 use Rattle.xds_ledger.proofs.BeliefsByName.{accepted_by_name, taken_by_name}
 use Rattle.xds_ledger.proofs.Made.{resumed_by_name}
 use Rattle.xds_ledger.specs.Ledgers.{Sent, Account, was_touched, believed_accepted, believed_touched, beliefs_taken, is_refused, answers, answered, Names, settled, touch, resume, taken, versions_of}
 use Rattle.xds_ledger.specs.Laws.{RequestKeepsFitting}
-use Rattle.xds_ledger.specs.Lists.{Books, Fits, FitsNext, accepts, StaysPresent, IsPassedOver, ListsRequest, ListsNames, with_names, with_offer, with_all, with_changes, listed_after}
+use Rattle.xds_ledger.specs.Lists.{Books, Fits, FitsNext, IsForetold, Foretells, accepts, StaysPresent, IsPassedOver, ListsRequest, ListsNames, ListsNext, with_names, with_said, with_offer, with_all, with_changes, listed_after}
+use Rattle.xds_ledger.proofs.Foretelling.{taken_is_foretold, accepted_books_fit, looked_foretells}
+use Rattle.xds_ledger.proofs.Versions.{versions_of_none}
+
+from_zero : (n : ℕ) → 0 ≤ n
+from_zero n = omega arith
+
+itself : (n : ℕ) → n ≤ n
+itself n = omega arith
 
 -- ---- what is listed
 
@@ -64,9 +72,77 @@ out_of l ns q out =
     let neither : (has_text ns q || is_listed l q) ≡ false = sym (listed_with l ns q) ∙ out in
     (not_first (has_text ns q) (is_listed l q) neither, not_second (has_text ns q) (is_listed l q) neither)
 
-mark_with : (l : Listed) (ns : List (List ℕ)) → (with_names l ns).mark ≡ l.mark
+pub mark_with : (l : Listed) (ns : List (List ℕ)) → (with_names l ns).mark ≡ l.mark
 mark_with l [] = refl
 mark_with l (n ∷ ns) = mark_with (with_name l n) ns
+
+-- ---- names of which a client says that it holds a version
+
+listed_said : (l : Listed) (ns : List (List ℕ)) (q : List ℕ) → is_listed (with_said l ns) q ≡ (has_text ns q || is_listed l q)
+listed_said l [] q = refl
+listed_said l (n ∷ ns) q = listed_said (without_sending (with_name l n)) ns q ∙ ap (λ b. has_text ns q || b) (listed_one l n q) ∙ swapped (has_text ns q) (bytes_eq q n) (is_listed l q)
+
+pub out_of_said : (l : Listed) (ns : List (List ℕ)) (q : List ℕ) → is_listed (with_said l ns) q ≡ false → (has_text ns q ≡ false) × (is_listed l q ≡ false)
+out_of_said l ns q out =
+    let neither : (has_text ns q || is_listed l q) ≡ false = sym (listed_said l ns q) ∙ out in
+    (not_first (has_text ns q) (is_listed l q) neither, not_second (has_text ns q) (is_listed l q) neither)
+
+pub mark_said : (l : Listed) (ns : List (List ℕ)) → (with_said l ns).mark ≡ l.mark
+mark_said l [] = refl
+mark_said l (n ∷ ns) = mark_said (without_sending (with_name l n)) ns
+
+-- ---- the mark of the sending
+
+sending_with : (l : Listed) (ns : List (List ℕ)) → (with_names l ns).sent_mark ≡ l.sent_mark
+sending_with l [] = refl
+sending_with l (n ∷ ns) = sending_with (with_name l n) ns
+
+-- what is left of a mark of the sending once some names are said
+abbrev unless_said : List (List ℕ) → Option ℕ → Option ℕ
+unless_said [] o = o
+unless_said (n ∷ ns) o = None
+
+none_said : (l : Listed) (ns : List (List ℕ)) → l.sent_mark ≡ None → (with_said l ns).sent_mark ≡ None
+none_said l [] is = is
+none_said l (n ∷ ns) is = none_said (without_sending (with_name l n)) ns refl
+
+sending_said : (l : Listed) (ns : List (List ℕ)) → (with_said l ns).sent_mark ≡ unless_said ns l.sent_mark
+sending_said l [] = refl
+sending_said l (n ∷ ns) = none_said (without_sending (with_name l n)) ns refl
+
+sending_offer : (accepting : Bool) (l : Listed) (o : Option Sent) → (if accepting then option_map_or (λ sent. with_names l (finmap.keys sent.offer)) o l else l).sent_mark ≡ l.sent_mark
+sending_offer false l o = refl
+sending_offer true l None = refl
+sending_offer true l (Some sent) = sending_with l (finmap.keys sent.offer)
+
+sending_all : (a : Account) (all : Bool) (mentioned : List (List ℕ)) (l : Listed) → (with_all a all mentioned l).sent_mark ≡ l.sent_mark
+sending_all a false mentioned l = refl
+sending_all a true mentioned l = sending_with (with_names l (finmap.keys a.beliefs)) mentioned ∙ sending_with l (finmap.keys a.beliefs)
+
+-- a mark that is kept is the one that was, and the list's mark is the same
+kept_if : (all : Bool) (said : List (List ℕ)) (l last : Listed) → last.mark ≡ l.mark → last.sent_mark ≡ unless_said said l.sent_mark
+    → IfSome (with_changes all last).sent_mark (λ m. (l.sent_mark ≡ Some m) × (l.mark ≤ (with_changes all last).mark))
+kept_if true said l last mark is = tt
+kept_if false said l last mark is = subst (λ o. IfSome o (λ m. (l.sent_mark ≡ Some m) × (l.mark ≤ last.mark))) (sym is) (at said l.sent_mark refl)
+  where
+    low : l.mark ≤ last.mark
+    low = subst (λ n. l.mark ≤ n) (sym mark) (itself l.mark)
+
+    at : (ns : List (List ℕ)) (o : Option ℕ) → l.sent_mark ≡ o → IfSome (unless_said ns o) (λ m. (l.sent_mark ≡ Some m) × (l.mark ≤ last.mark))
+    at [] None there = tt
+    at [] (Some m) there = (there, low)
+    at (n ∷ ns) o there = tt
+
+-- where it is kept, nothing is said
+unsaid_if : (all : Bool) (pairs : List (List ℕ × List ℕ)) (l last : Listed) → last.sent_mark ≡ unless_said (map (λ p. p.0) pairs) l.sent_mark
+    → IfSome (with_changes all last).sent_mark (λ m. (name : List ℕ) → finmap.get (versions_of pairs) name ≡ None)
+unsaid_if true pairs l last is = tt
+unsaid_if false pairs l last is = subst (λ o. IfSome o (λ m. (name : List ℕ) → finmap.get (versions_of pairs) name ≡ None)) (sym is) (at pairs l.sent_mark)
+  where
+    at : (ps : List (List ℕ × List ℕ)) (o : Option ℕ) → IfSome (unless_said (map (λ p. p.0) ps) o) (λ m. (name : List ℕ) → finmap.get (versions_of ps) name ≡ None)
+    at [] None = tt
+    at [] (Some m) = λ name. ap (λ (h : finmap.FinMap text_cmp (List ℕ)). finmap.get h name) versions_of_none ∙ finmap.get-empty text_cmp name
+    at (p ∷ ps) o = tt
 
 no_key : {X : Type 0} (m : finmap.FinMap text_cmp X) (q : List ℕ) → has_text (finmap.keys m) q ≡ false → finmap.get m q ≡ None
 no_key m q out = none_by_is_some (finmap.get m q) (sym (has_text-keys m q) ∙ out)
@@ -100,12 +176,6 @@ out_of_changes : (all : Bool) (l : Listed) (q : List ℕ) → is_listed (with_ch
 out_of_changes true l q out = out
 out_of_changes false l q out = out
 
-from_zero : (n : ℕ) → 0 ≤ n
-from_zero n = omega arith
-
-itself : (n : ℕ) → n ≤ n
-itself n = omega arith
-
 mark_changes : (all : Bool) (l : Listed) (n : ℕ) → l.mark ≡ n → (with_changes all l).mark ≤ n
 mark_changes true l n is = from_zero n
 mark_changes false l n is = subst (λ m. m ≤ n) (sym is) (itself n)
@@ -132,7 +202,7 @@ module _ (a : Account) (accepting whole : Bool) (touched : Touch) (names mention
   said = map (λ p. p.0) pairs
 
   abbrev third : Listed
-  third = with_offer a accepting (with_names (with_names l names) said)
+  third = with_offer a accepting (with_said (with_names l names) said)
 
   abbrev last : Listed
   last = with_all a all mentioned third
@@ -142,14 +212,23 @@ module _ (a : Account) (accepting whole : Bool) (touched : Touch) (names mention
       × (accepting ≡ true → IfSome a.sent (λ sent. finmap.get sent.offer q ≡ None)) × (has_text said q ≡ false) × (has_text names q ≡ false) × (is_listed l q ≡ false)
   parts q out =
       let fourth = out_of_all a all mentioned third q (out_of_changes touched.all last q out) in
-      let offer = out_of_offer a accepting (with_names (with_names l names) said) q a.sent refl fourth.2 in
-      let second = out_of (with_names l names) said q offer.1 in
+      let offer = out_of_offer a accepting (with_said (with_names l names) said) q a.sent refl fourth.2 in
+      let second = out_of_said (with_names l names) said q offer.1 in
       let first = out_of l names q second.1 in
       ((fourth.0, fourth.1), offer.0, second.0, first.0, first.1)
 
+  mark_last : last.mark ≡ l.mark
+  mark_last =
+      mark_all a all mentioned third ∙ mark_offer accepting (with_said (with_names l names) said) a.sent ∙ mark_said (with_names l names) said ∙ mark_with l names
+
+  sending_last : last.sent_mark ≡ unless_said said l.sent_mark
+  sending_last =
+      sending_all a all mentioned third ∙ sending_offer accepting (with_said (with_names l names) said) a.sent ∙ sending_said (with_names l names) said ∙ ap (unless_said said) (sending_with l names)
+
   pub after_is_wider : IsWider l (listed_after a accepting whole touched.all names mentioned said l)
   after_is_wider = record {
-    mark = mark_changes touched.all last l.mark (mark_all a all mentioned third ∙ mark_offer accepting (with_names (with_names l names) said) a.sent ∙ mark_with (with_names l names) said ∙ mark_with l names);
+    mark = mark_changes touched.all last l.mark mark_last;
+    sending = kept_if touched.all said l last mark_last sending_last;
     names = λ q out. (parts q out).4;
   }
 
@@ -157,6 +236,7 @@ module _ (a : Account) (accepting whole : Bool) (touched : Touch) (names mention
       → ListsRequest a accepting whole touched (set.from_list mentioned) (versions_of pairs) (listed_after a accepting whole touched.all names mentioned said l)
   after_lists_request sorted are = record {
     mark = no_mark touched.all last;
+    sending = unsaid_if touched.all pairs l last sending_last;
     others = λ q out.
         let p = parts q out in
         record {
@@ -167,6 +247,18 @@ module _ (a : Account) (accepting whole : Bool) (touched : Touch) (names mention
           unmentioned = λ is. contains-from_texts mentioned q ∙ p.0.1 is;
         };
   }
+
+-- a name that isn't listed once names and versions were put
+pub neither_listed : (l here more : Listed) (names : List (List ℕ)) (pairs : List (List ℕ × List ℕ)) (firsts : List (List ℕ)) (touched : set.FinSet text_cmp) (q : List ℕ) → T (finmap.is_sorted text_cmp pairs) → firsts ≡ map (λ p. p.0) pairs
+    → set.from_list names ≡ touched → here ≡ with_names l names → more ≡ with_said here firsts → is_listed more q ≡ false
+    → (is_listed l q ≡ false) × (set.contains touched q ≡ false) × (finmap.get (versions_of pairs) q ≡ None)
+neither_listed l here more names pairs firsts touched q sorted are of puts says out =
+    let second = out_of_said here firsts q (ap (λ (x : Listed). is_listed x q) (sym says) ∙ out) in
+    let first = out_of l names q (ap (λ (x : Listed). is_listed x q) (sym puts) ∙ second.1) in (
+      first.1,
+      ap (λ s. set.contains s q) (sym of) ∙ contains-from_texts names q ∙ first.0,
+      finmap.get-from_sorted text_cmp pairs q sorted ∙ not_found pairs q (ap (λ ns. has_text ns q) (sym are) ∙ second.0),
+    )
 
 -- ---- what is believed of a name that a request passes over
 
@@ -246,29 +338,41 @@ module _ (v : VariantName) (t : TypeName) (a : Account) (nonce : List ℕ) (reje
         below x y z first second = omega arith
 
 -- the same of books
-pub taken_books_fit : (v : VariantName) (t : TypeName) (old new : Books) (nonce : List ℕ) (rejects : Bool) (names : Names) → ListsNames v t old nonce rejects names new.listed
+pub taken_books_fit : (v : VariantName) (t : TypeName) (old new : Books) (nonce : List ℕ) (rejects : Bool) (names : Names) → ListsNames v t old (accepts old.account nonce rejects) names new.listed
     → new.account ≡ taken (settled v t old.account nonce rejects) names → FitsNext v t names.touched old new
-taken_books_fit v t old new nonce rejects names lists_it left from next h fits stays =
-    subst (λ (x : Account). lists.Fits v t next h x.beliefs new.listed) (sym left)
-    (taken_list_fits v t old.account nonce rejects names.interest names.touched names.mentioned names.versions from next h old.listed new.listed lists_it.wider lists_it.request fits stays)
+taken_books_fit v t old new nonce rejects names lists_it left from next h fits stays = record {
+  list = subst (λ (x : Account). lists.Fits v t next h x.beliefs new.listed) (sym left)
+      (taken_list_fits v t old.account nonce rejects names.interest names.touched names.mentioned names.versions from next h old.listed new.listed lists_it.wider lists_it.request fits.list stays);
+  foretold = λ tells. subst (λ (x : Account). IfSome x.sent (λ sent. IfSome new.listed.sent_mark (IsForetold v t next h x.beliefs new.listed.mark sent))) (sym left)
+      (taken_is_foretold v t from next h old.account names old.listed new.listed nonce rejects lists_it.wider.sending lists_it.request.sending (fits.foretold tells) stays);
+}
 
 pub request_keeps_fitting : RequestKeepsFitting
-request_keeps_fitting v t old wide nonce rejects s touched mentioned versions wider lists_it from next h fits stays =
-    taken_list_fits v t old.account nonce rejects s touched mentioned versions from next h old.listed wide wider lists_it fits stays
+request_keeps_fitting v t old wide nonce rejects s touched mentioned versions wider lists_it =
+    let names : Names = record { interest = s; touched = touched; mentioned = mentioned; versions = versions } in
+    let new : Books = record { account = resume (touch (settled v t old.account nonce rejects) s touched mentioned) versions; listed = wide } in
+    taken_books_fit v t old new nonce rejects names (record { wider = wider; request = lists_it }) refl
+
+-- and once it accepted a response of which it is known what that leaves
+pub next_books_fit : (v : VariantName) (t : TypeName) (old new : Books) (nonce : List ℕ) (rejects : Bool) (names : Names) → ListsNext v t old (accepts old.account nonce rejects) names new.listed
+    → new.account ≡ taken (settled v t old.account nonce rejects) names → FitsNext v t names.touched old new
+next_books_fit v t old new nonce rejects names (inl touched) left = accepted_books_fit v t old new nonce rejects names touched left
+next_books_fit v t old new nonce rejects names (inr listed) left = taken_books_fit v t old new nonce rejects names listed left
 
 -- a list that suffices, as a method sees it that opened the ledger
 pub fits_inside : (v name : VariantName) (t : TypeName) (s : Selection) (h : Holdings) (inside now : Books) (beliefs : Beliefs) → name ≡ v → inside ≡ now → beliefs ≡ inside.account.beliefs → Fits v t s h now
     → lists.Fits name t s h beliefs inside.listed
 fits_inside v name t s h inside now beliefs named same held fits =
     subst (λ w. lists.Fits w t s h beliefs inside.listed) (sym named)
-    (subst (λ b. lists.Fits v t s h b inside.listed) (sym held) (subst (λ (k : Books). lists.Fits v t s h k.account.beliefs k.listed) (sym same) fits))
+    (subst (λ b. lists.Fits v t s h b inside.listed) (sym held) (subst (λ (k : Books). lists.Fits v t s h k.account.beliefs k.listed) (sym same) fits.list))
 
--- and back
-pub fits_outside : (v name : VariantName) (t : TypeName) (s : Selection) (h : Holdings) (inside after : Books) (beliefs : Beliefs) → name ≡ v → beliefs ≡ inside.account.beliefs → after.account ≡ inside.account
-    → lists.Fits name t s h beliefs after.listed → Fits v t s h after
-fits_outside v name t s h inside after beliefs named held same fits =
-    subst (λ (a : Account). lists.Fits v t s h a.beliefs after.listed) (sym same)
-    (subst (λ b. lists.Fits v t s h b after.listed) held (subst (λ w. lists.Fits w t s h beliefs after.listed) named fits))
+-- and back, once the list was tidied
+pub fits_outside : (v name : VariantName) (t : TypeName) (s : Selection) (h : Holdings) (inside now after : Books) (beliefs : Beliefs) → name ≡ v → inside ≡ now → beliefs ≡ inside.account.beliefs → after.account ≡ inside.account
+    → KeepsSending inside.listed after.listed → lists.Fits name t s h beliefs after.listed → Fits v t s h now → Fits v t s h after
+fits_outside v name t s h inside now after beliefs named same held kept sending list fits = record {
+  list = subst (λ (a : Account). lists.Fits v t s h a.beliefs after.listed) (sym kept) (subst (λ b. lists.Fits v t s h b after.listed) held (subst (λ w. lists.Fits w t s h beliefs after.listed) named list));
+  foretold = subst (λ (a : Account). Foretells v t s h a after.listed) (sym kept) (looked_foretells v t s h inside.account inside.listed after.listed sending (subst (λ (k : Books). Foretells v t s h k.account k.listed) (sym same) fits.foretold));
+}
 
 -- the offer that is compared with the one that was refused last, as such a method sees both
 pub refused_inside : (v name : VariantName) (t : TypeName) (s : Selection) (m : Entries) (inside now : Books) (beliefs : Beliefs) (refused : Offer) (result : Bool) → name ≡ v → inside ≡ now → beliefs ≡ inside.account.beliefs
@@ -282,13 +386,13 @@ none_refused inside now o same none = (λ i. option_map_or (same_offer o) (sym n
 
 -- the list that is made step by step
 pub made_in_steps : (a : Account) (l start named told_of told held made : Listed) (acc accepting whole every touched every_entry : Bool) (names mentioned said : List (List ℕ))
-    → start ≡ l → named ≡ with_names start names → told_of ≡ with_names named said → accepting ≡ acc → told ≡ with_offer a accepting told_of → every_entry ≡ (every || (accepting && whole)) → held ≡ with_all a every_entry mentioned told
+    → start ≡ l → named ≡ with_names start names → told_of ≡ with_said named said → accepting ≡ acc → told ≡ with_offer a accepting told_of → every_entry ≡ (every || (accepting && whole)) → held ≡ with_all a every_entry mentioned told
     → touched ≡ every → made ≡ (if touched then without_mark held else held) → made ≡ listed_after a acc whole every names mentioned said l
 made_in_steps a l start named told_of told held made acc accepting whole every touched every_entry names mentioned said starts names_it says accepts_it tells all_is holds touches_it ends =
     ends ∙ (λ i. with_changes (touches_it i) (holds i)) ∙ (λ i. with_changes every (with_all a (all_is i) mentioned (tells i)))
     ∙ (λ i. with_changes every (with_all a (every || (accepts_it i && whole)) mentioned (with_offer a (accepts_it i) (says i))))
-    ∙ (λ i. with_changes every (with_all a (every || (acc && whole)) mentioned (with_offer a acc (with_names (names_it i) said))))
-    ∙ (λ i. with_changes every (with_all a (every || (acc && whole)) mentioned (with_offer a acc (with_names (with_names (starts i) names) said))))
+    ∙ (λ i. with_changes every (with_all a (every || (acc && whole)) mentioned (with_offer a acc (with_said (names_it i) said))))
+    ∙ (λ i. with_changes every (with_all a (every || (acc && whole)) mentioned (with_offer a acc (with_said (with_names (starts i) names) said))))
 
 -- the names of pairs that are made of some values
 pub firsts_of : {X : Type 0} (f g : X → List ℕ) (xs : List X) → map f xs ≡ map (λ (p : List ℕ × List ℕ). p.0) (map (λ x. (f x, g x)) xs)
@@ -296,12 +400,11 @@ firsts_of f g [] = refl
 firsts_of f g (x ∷ xs) = ap (λ ns. f x ∷ ns) (firsts_of f g xs)
 
 -- the list that is made has what was listed, and all of which the request may change what is owed
-pub list_has_names : (v : VariantName) (t : TypeName) (b : Books) (nonce : List ℕ) (rejects : Bool) (s : Selection) (touched : Touch) (names mentioned firsts : List (List ℕ)) (pairs : List (List ℕ × List ℕ)) (wide : Listed)
+pub list_has_names : (v : VariantName) (t : TypeName) (b : Books) (acc : Bool) (s : Selection) (touched : Touch) (names mentioned firsts : List (List ℕ)) (pairs : List (List ℕ × List ℕ)) (wide : Listed)
     → T (finmap.is_sorted text_cmp pairs) → firsts ≡ map (λ p. p.0) pairs → set.from_list names ≡ touched.names
-    → wide ≡ listed_after b.account (accepts b.account nonce rejects) (is_whole v t) touched.all names mentioned firsts b.listed
-    → ListsNames v t b nonce rejects (record { interest = s; touched = touched; mentioned = set.from_list mentioned; versions = versions_of pairs }) wide
-list_has_names v t b nonce rejects s touched names mentioned firsts pairs wide sorted says are made =
-    let acc : Bool = accepts b.account nonce rejects in
+    → wide ≡ listed_after b.account acc (is_whole v t) touched.all names mentioned firsts b.listed
+    → ListsNames v t b acc (record { interest = s; touched = touched; mentioned = set.from_list mentioned; versions = versions_of pairs }) wide
+list_has_names v t b acc s touched names mentioned firsts pairs wide sorted says are made =
     let list : Listed = listed_after b.account acc (is_whole v t) touched.all names mentioned (map (λ p. p.0) pairs) b.listed in
     let is : list ≡ wide = sym (made ∙ ap (λ n. listed_after b.account acc (is_whole v t) touched.all names mentioned n b.listed) says) in
     record {

@@ -1,4 +1,4 @@
--- How what is believed changes in place, name by name: the answers of the functions that change it. This project's own.
+-- What changes of what is believed, name by name: the answers of the functions that find it. This project's own.
 --     Changes            for some names what is believed of them from now on
 --     believed_now       what is believed of a name once the changes are made
 --     Lead               the changes lead from what is believed to what is believed after
@@ -8,13 +8,7 @@
 --     changes_left       and so with each of some names
 --     changes_unsure     of each of some names that a request mentions
 --     change_as          of a name that a client says it holds at a version
---     stored             with what a change says of a name that has an entry, or is to have none
---     stored_all         and so with each of some names; a change is made once
---     removed_all        without each of some names
---     is_new             whether a change makes an entry where there is none
---     new_names          the names for which the changes make an entry where there is none
-use Rattle.std.specs.Prelude.{◌≡◌, ℕ, List, [], ◌∷◌, Bool, true, false, ◌&&◌, Option, Some, None, is_some, unwrap_or, option_map, if◌then◌else◌}
-use Rattle.std.specs.List.{filter}
+use Rattle.std.specs.Prelude.{◌≡◌, ℕ, List, [], ◌∷◌, Bool, ◌&&◌, Option, Some, None, is_some, unwrap_or, option_map, if◌then◌else◌}
 use Rattle.std.specs.FinMap as finmap
 use Rattle.xds_resource.specs.Writes.{text_cmp}
 use Rattle.xds_resource.specs.Names.{put_all, put_each}
@@ -22,7 +16,7 @@ use Rattle.xds_interest.specs.Interests.{Selection, reaches}
 use Rattle.xds_interest.specs.Touches.{Touch}
 use Rattle.xds_ledger.specs.declared.entry.Entry.{Entry}
 use Rattle.xds_ledger.specs.declared.entry.Entry.TheVariants.{Told, Unsure}
-use Rattle.xds_ledger.specs.Owed.{Beliefs, replaced}
+use Rattle.xds_ledger.specs.Owed.{Beliefs}
 use Rattle.xds_ledger.specs.Believing.{Sent, was_touched}
 use Rattle.xds_ledger.specs.Parts.{told_unless_touched, made_unsure}
 
@@ -62,32 +56,3 @@ changes_unsure s touched c names = put_each (λ name. option_map Some (made_unsu
 -- of a name that a client says it holds at a version
 abbrev pub change_as : List ℕ → List ℕ → Option (Option Entry)
 change_as name version = Some (Some (Told version))
-
--- ---- how they are made
-
--- with what a change says of a name that has an entry, or is to have none
-abbrev pub stored : Beliefs → List ℕ → Option (Option Entry) → Beliefs
-stored b name None = b
-stored b name (Some None) = finmap.remove b name
-stored b name (Some (Some e)) = replaced b name e
-
--- and so with each of some names; a change is made once
-abbrev pub stored_all : Beliefs → Changes → List (List ℕ) → Beliefs
-stored_all b c [] = b
-stored_all b c (n ∷ ns) = stored_all (stored b n (finmap.get c n)) (finmap.remove c n) ns
-
--- without each of some names
-abbrev pub removed_all : Beliefs → List (List ℕ) → Beliefs
-removed_all b [] = b
-removed_all b (n ∷ ns) = removed_all (finmap.remove b n) ns
-
--- whether a change makes an entry where there is none
-abbrev pub is_new : Option (Option Entry) → Option Entry → Bool
-is_new (Some (Some e)) None = true
-is_new (Some (Some e)) (Some x) = false
-is_new (Some None) old = false
-is_new None old = false
-
--- the names for which the changes make an entry where there is none
-abbrev pub new_names : Changes → Beliefs → List (List ℕ) → List (List ℕ)
-new_names c b names = filter (λ n. is_new (finmap.get c n) (finmap.get b n)) names

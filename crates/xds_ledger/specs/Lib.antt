@@ -9,9 +9,13 @@ pub mod ListLaws
 pub mod Believing
 pub mod Parts
 pub mod Changes
+pub mod Overlay
+pub mod Storing
+pub mod Accepting
 pub mod BeliefLaws
 pub mod Ledgers
 pub mod Sessions
 pub mod Texts
 pub mod Laws
 pub mod Lists
+pub mod BookLaws

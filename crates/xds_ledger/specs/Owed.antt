@@ -1,7 +1,7 @@
 -- What a client is owed of each name, from what it was told and what the catalogue holds. This project's own.
 --     Beliefs                          what the server believes that a client holds
---     replaced, told_version, entry_told, entry_told_again,
---     entry_code                       with another entry at a name that has one
+--     told_version, entry_told, entry_told_again,
+--     entry_code                       the version that a client was told, or that it is unsure
 --     live_version                     the version of a live write
 --     version_shown                    the version at which a write of a name is shown
 --     present                          the version at which a name is present
@@ -12,7 +12,7 @@
 --     names_known                      every name of which something may be owed
 --     is_owed                          whether something is owed of a name that can be told
 --     something_owed                   whether something that can be told is owed of some name
-use Rattle.std.specs.Prelude.{◌≡◌, ℕ, List, ◌++◌, Bool, false, if◌then◌else◌, Option, Some, None, bytes_eq, option_map, is_some, refl}
+use Rattle.std.specs.Prelude.{◌≡◌, ℕ, List, ◌++◌, Bool, false, if◌then◌else◌, Option, Some, None, bytes_eq, option_map, refl}
 use Rattle.std.specs.Option.{option_and_then, option_map_or}
 use Rattle.std.specs.List.{list_any}
 use Rattle.std.specs.FinMap as finmap
@@ -32,10 +32,6 @@ use Rattle.xds_ledger.specs.Variants.{is_told}
 -- What the server believes that a client holds: each name with the version that it was told, or unsure.
 abbrev pub Beliefs : Type 0
 Beliefs = finmap.FinMap text_cmp Entry
-
--- with another entry at a name that has one
-abbrev pub replaced : Beliefs → List ℕ → Entry → Beliefs
-replaced b name e = if is_some (finmap.get b name) then finmap.insert b name e else b
 
 abbrev pub told_version : Entry → Option (List ℕ)
 told_version (Told version) = Some version

@@ -5,14 +5,14 @@ ghost use Rattle.xds_ledger.specs.Ledgers as ledgers;
 ghost use Rattle.xds_ledger.specs.Ledgers.{untold, nonce_text};
 
 use crate::believed::Beliefs;
-use crate::copying::{copy_beliefs, copy_offer};
 use crate::entry::Due;
 use crate::sent::Sent;
+use crate::shared_map::SharedMap;
 use crate::variant::Variant;
 use itoa::Buffer;
 use std::alloc::Global;
 use std::marker::{Model, PhantomData};
-use xds_resource::{NameMap, Refusal, ResourceType};
+use xds_resource::{Refusal, ResourceType};
 
 /// What a client was told of one type on one stream, and what is unanswered.
 pub struct Account<T: ResourceType, V: Variant> {
@@ -21,7 +21,7 @@ pub struct Account<T: ResourceType, V: Variant> {
     nonce: u64,
     pub(crate) accepted: bool,
     pub(crate) sent: Option<Sent>,
-    pub(crate) refused: Option<NameMap<Due>>,
+    pub(crate) refused: Option<SharedMap<Due>>,
     kind: PhantomData<T>,
     variant: PhantomData<V>,
 }
@@ -108,7 +108,7 @@ impl<T: ResourceType, V: Variant> Account<T, V> {
     }
 
     /// The offer that was refused last.
-    pub(crate) fn refused(&self) -> Option<&NameMap<Due>>
+    pub(crate) fn refused(&self) -> Option<&SharedMap<Due>>
         ensures { option_map (λ o. o.now) result ≡ self.now.refused }
     {
         self.refused.as_ref()
@@ -129,7 +129,7 @@ impl<T: ResourceType, V: Variant> Account<T, V> {
     }
 
     /// Notes that an offer was sent, as the response of this number.
-    pub fn send(&mut self, alloc: Global, offer: NameMap<Due>, number: u64)
+    pub fn send(&mut self, alloc: Global, offer: SharedMap<Due>, number: u64)
         ensures { self.new ≡ ledgers.send self.old offer number }
     {
         self.nonce = number;
@@ -147,28 +147,28 @@ impl<T: ResourceType, V: Variant> Account<T, V> {
         }
     }
 
-    // A copy of the offer that was refused last, if there is one.
-    fn copy_refused(&self, alloc: Global) -> Result<Option<NameMap<Due>>, Refusal>
+    // The offer that was refused last, if there is one, with one owner more.
+    fn copy_refused(&self) -> Result<Option<SharedMap<Due>>, Refusal>
         ensures ok { IfOk result (λ o. o ≡ self.now.refused) }
         ensures err { IfErr result (λ e. e ≡ OutOfMemory) }
     {
         match &self.refused {
-            Some(refused) => Ok(Some(copy_offer(alloc, refused)?)),
+            Some(refused) => Ok(Some(refused.try_copy()?)),
             None => Ok(None),
         }
     }
 
-    /// An equal ledger, with memory of its own. Refused only by `OutOfMemory`.
+    /// An equal ledger, with memory of its own but for the offers. Refused only by `OutOfMemory`.
     pub fn try_copy(&self, alloc: Global) -> Result<Account<T, V>, Refusal>
         ensures ok { IfOk result (λ l. l ≡ self.now) }
         ensures err { IfErr result (λ e. e ≡ OutOfMemory) }
     {
         Ok(Account {
-            beliefs: copy_beliefs(alloc, &self.beliefs)?,
+            beliefs: self.beliefs.try_copy(alloc)?,
             nonce: self.nonce,
             accepted: self.accepted,
             sent: self.copy_sent(alloc)?,
-            refused: self.copy_refused(alloc)?,
+            refused: self.copy_refused()?,
             kind: PhantomData,
             variant: PhantomData,
         })

@@ -18,7 +18,7 @@ use crate::version::Version;
 use std::alloc::Global;
 use std::collections::btree_set::Iter;
 use xds_interest::{Interest, Touched};
-use xds_resource::{Refusal, ResourceType};
+use xds_resource::{NameMap, Refusal, ResourceType};
 
 // What is believed of a name that an accepted response speaks of.
 pub fn once_told(alloc: Global, touched: bool, due: &Due) -> Result<Option<Entry>, Refusal>
@@ -55,7 +55,7 @@ fn told_by(alloc: Global, sent: &Sent) -> Result<Beliefs, Refusal>
     ensures err { IfErr result (λ e. e ≡ OutOfMemory) }
 {
     let mut next = Beliefs::new(alloc);
-    for (name, due) in sent.offer.iter() {
+    for (name, due) in sent.offer.as_map().iter() {
         put_told(alloc, sent, &mut next, name, due)?;
     }
     Ok(next)
@@ -80,6 +80,23 @@ fn put_kept(
     }
 }
 
+// After the response was accepted, from all that was believed.
+fn accepted_beside(
+    alloc: Global,
+    whole: bool,
+    sent: &Sent,
+    beliefs: &NameMap<Entry>,
+) -> Result<Beliefs, Refusal>
+    ensures ok { IfOk result (λ m. m ≡ beliefs_accepted whole sent.now beliefs.now) }
+    ensures err { IfErr result (λ e. e ≡ OutOfMemory) }
+{
+    let mut next = told_by(alloc, sent)?;
+    for (name, entry) in beliefs.iter() {
+        put_kept(alloc, whole, sent, &mut next, name, entry)?;
+    }
+    Ok(next)
+}
+
 /// After the response was accepted. `whole` says that what it lacks is gone.
 pub fn accepted(
     alloc: Global,
@@ -90,10 +107,8 @@ pub fn accepted(
     ensures ok { IfOk result (λ m. m ≡ beliefs_accepted whole sent.now beliefs.now) }
     ensures err { IfErr result (λ e. e ≡ OutOfMemory) }
 {
-    let mut next = told_by(alloc, sent)?;
-    for (name, entry) in beliefs.iter() {
-        put_kept(alloc, whole, sent, &mut next, name, entry)?;
-    }
+    let all = beliefs.flattened(alloc)?;
+    let next = accepted_beside(alloc, whole, sent, &all)?;
     Ok(next)
 }
 
@@ -124,7 +139,7 @@ fn all_left<T: ResourceType>(
     alloc: Global,
     interest: &Interest<T>,
     touched: &Touched,
-    beliefs: &Beliefs,
+    beliefs: &NameMap<Entry>,
 ) -> Result<Beliefs, Refusal>
     ensures ok { IfOk result (λ m.
         m ≡ put_all (left_by interest.now touched.now) finmap.empty (finmap.entries beliefs.now)) }
@@ -158,7 +173,7 @@ fn taken<T: ResourceType>(
     interest: &Interest<T>,
     touched: &Touched,
     mentioned: Iter<'_, String>,
-    beliefs: &Beliefs,
+    beliefs: &NameMap<Entry>,
 ) -> Result<Beliefs, Refusal>
     ensures ok { IfOk result (λ m.
         m ≡ beliefs_taken interest.now touched.now (set.from_list (map string_bytes mentioned.entry)) beliefs.now) }
@@ -201,7 +216,8 @@ pub fn beliefs_after<T: ResourceType>(
         mentioned,
         versions,
     } = names;
-    let left = taken(alloc, interest, touched, mentioned, beliefs)?;
+    let all = beliefs.flattened(alloc)?;
+    let left = taken(alloc, interest, touched, mentioned, &all)?;
     let next = resumed(alloc, versions, left)?;
     Ok(next)
 }

@@ -1,43 +1,64 @@
-// What a client is believed to hold, by name, as a map that changes in place.
-ghost use Rattle.std.specs.Prelude.{◌≡◌, is_some, IfErr, OnOk, OnErr};
+// What a client is believed to hold, by name: what it was told by an offer that others may hold, too, and a few
+// differences.
+ghost use Rattle.std.specs.Prelude.{◌≡◌, true, Some, is_some, IfOk, IfErr, OnOk, OnErr};
 ghost use Rattle.std.specs.Option.{option_map};
 ghost use Rattle.std.specs.FinMap as finmap;
 ghost use Rattle.xds_resource.specs.declared.refusal.Refusal.TheVariants.{OutOfMemory};
-ghost use Rattle.xds_resource.specs.Names.{pairs, put_some};
-ghost use Rattle.xds_ledger.specs.Owed.{replaced};
+ghost use Rattle.xds_resource.specs.Names.{put_some};
+ghost use Rattle.xds_ledger.specs.Changes.{Lead};
+ghost use Rattle.xds_ledger.specs.Overlay.{entry_of, told_by, overlaid};
 
-use crate::entry::Entry;
+use crate::differences::Differences;
+use crate::entry::{Due, Entry};
+use crate::flat::flattened;
+use crate::shared_map::SharedMap;
+use crate::storing::change;
+use crate::told::{Believed, by_difference, told_in};
 use std::alloc::Global;
-use std::collections::BTreeMap;
-use std::collections::btree_map::Iter;
 use std::marker::Model;
-use xds_resource::Refusal;
+use xds_resource::{NameMap, Refusal};
 
 /// What is believed of some names. Contracts see the finite map from the bytes of the names.
 pub struct Beliefs {
-    by_name: BTreeMap<String, Entry>,
+    // An offer that was accepted: what many clients may have been told.
+    base: Option<SharedMap<Due>>,
+    // The names of which something else is believed.
+    changed: Differences,
 }
 
 // Written out: docs/PROVING.md, "Drops".
 impl Drop for Beliefs {
     fn drop(self) {
-        let Beliefs { by_name: _ } = self;
+        let Beliefs {
+            base: _,
+            changed: _,
+        } = self;
     }
 }
 
 impl Model for Beliefs {
     ghost use Rattle.std.specs.Coded.{coded_ℕ, coded_list};
     ghost use Rattle.std.specs.FinMap as finmap;
-    ghost use Rattle.xds_resource.specs.Writes.{text_cmp};
-    ghost use Rattle.xds_resource.specs.Names.{pairs};
     ghost use Rattle.xds_ledger.specs.Owed as owed;
     ghost use Rattle.xds_ledger.specs.Owed.{entry_code};
+    ghost use Rattle.xds_ledger.specs.Overlay.{overlaid, told_by};
 
     ghost Value = { owed.Beliefs };
 
     ghost coded = { finmap.code (coded_list coded_ℕ) entry_code };
 
-    ghost view = { λ b. finmap.from_entries (pairs b.by_name.entries) };
+    ghost view = { λ b. overlaid (told_by b.base) b.changed };
+}
+
+// The same offer, with one owner more.
+fn shared(base: &Option<SharedMap<Due>>) -> Result<Option<SharedMap<Due>>, Refusal>
+    ensures ok { IfOk result (λ b. b ≡ base.now) }
+    ensures refused { IfErr result (λ e. e ≡ OutOfMemory) }
+{
+    match base {
+        Some(offer) => Ok(Some(offer.try_copy()?)),
+        None => Ok(None),
+    }
 }
 
 impl Beliefs {
@@ -45,14 +66,28 @@ impl Beliefs {
         ensures { result ≡ finmap.empty }
     {
         Beliefs {
-            by_name: BTreeMap::new(alloc),
+            base: None,
+            changed: Differences::new(alloc),
         }
     }
 
-    pub fn get(&self, name: &str) -> Option<&Entry>
-        ensures { option_map (λ e. e.now) result ≡ finmap.get self.now name.now }
+    /// What an offer told, but for some differences. Any offer and any differences will do.
+    pub fn of_offer(offer: SharedMap<Due>, changed: Differences) -> Beliefs
+        ensures { result ≡ overlaid (told_by (Some offer)) changed }
     {
-        self.by_name.get(name)
+        Beliefs {
+            base: Some(offer),
+            changed,
+        }
+    }
+
+    pub fn get(&self, name: &str) -> Option<Believed<'_>>
+        ensures { option_map entry_of result ≡ finmap.get self.now name.now }
+    {
+        match self.changed.get(name) {
+            Some(entry) => by_difference(entry),
+            None => told_in(&self.base, name),
+        }
     }
 
     pub fn contains(&self, name: &str) -> bool
@@ -61,11 +96,14 @@ impl Beliefs {
         self.get(name).is_some()
     }
 
-    /// The names with their entries, in ascending order of names.
-    pub fn iter(&self) -> Iter<'_, String, Entry>
-        ensures { pairs result ≡ finmap.entries self.now }
+    /// Whether nothing is believed, as far as that is seen at once.
+    pub fn is_empty(&self) -> bool
+        ensures { result ≡ true → self.now ≡ finmap.empty }
     {
-        self.by_name.iter()
+        match &self.base {
+            Some(_) => false,
+            None => self.changed.is_empty(),
+        }
     }
 
     /// Puts an entry at a name, if there is one to put. Refused only by `OutOfMemory`.
@@ -74,25 +112,37 @@ impl Beliefs {
         ensures err { OnErr result (self.new ≡ self.old) }
         ensures refused { IfErr result (λ e. e ≡ OutOfMemory) }
     {
-        if let Some(entry) = entry {
-            let name = String::from_str(alloc, name)?;
-            drop(self.by_name.insert(name, entry)?);
-        }
-        Ok(())
-    }
-
-    /// Writes over the entry of a name, if it has one. It takes no memory.
-    pub fn replace(&mut self, name: &str, entry: Entry)
-        ensures { self.new ≡ replaced self.old name.now entry }
-    {
-        if let Some(held) = self.by_name.get_mut(name) {
-            *held = entry;
+        match entry {
+            Some(entry) => self.changed.put(alloc, name, Some(Some(entry))),
+            None => Ok(()),
         }
     }
 
-    pub fn remove(&mut self, name: &str)
-        ensures { self.new ≡ finmap.remove self.old name.now }
+    /// Makes the changes, all or none. It looks at the names that they speak of alone. Refused only by `OutOfMemory`.
+    pub fn change(&mut self, alloc: Global, changes: NameMap<Option<Entry>>) -> Result<(), Refusal>
+        ensures ok { OnOk result (Lead changes self.old self.new) }
+        ensures err { OnErr result (self.new ≡ self.old) }
+        ensures refused { IfErr result (λ e. e ≡ OutOfMemory) }
     {
-        self.by_name.remove(name);
+        change(alloc, &self.base, &mut self.changed, changes)
+    }
+
+    /// All that is believed, in one map. Refused only by `OutOfMemory`.
+    pub fn flattened(&self, alloc: Global) -> Result<NameMap<Entry>, Refusal>
+        ensures ok { IfOk result (λ m. m ≡ self.now) }
+        ensures refused { IfErr result (λ e. e ≡ OutOfMemory) }
+    {
+        let all = flattened(alloc, &self.base, &self.changed)?;
+        Ok(all)
+    }
+
+    /// Equal beliefs, with the same offer, and differences of their own. Refused only by `OutOfMemory`.
+    pub fn try_copy(&self, alloc: Global) -> Result<Beliefs, Refusal>
+        ensures ok { IfOk result (λ b. b ≡ self.now) }
+        ensures refused { IfErr result (λ e. e ≡ OutOfMemory) }
+    {
+        let base = shared(&self.base)?;
+        let changed = self.changed.try_copy(alloc)?;
+        Ok(Beliefs { base, changed })
     }
 }

@@ -45,7 +45,7 @@ pub fn changes_told(alloc: Global, sent: &Sent) -> Result<NameMap<Option<Entry>>
     ensures err { IfErr result (λ e. e ≡ OutOfMemory) }
 {
     let mut changes = NameMap::new(alloc);
-    for (name, due) in sent.offer.iter() {
+    for (name, due) in sent.offer.as_map().iter() {
         put_told(alloc, sent, &mut changes, name, due)?;
     }
     Ok(changes)

@@ -4,10 +4,10 @@ ghost use Rattle.xds_resource.specs.declared.refusal.Refusal.TheVariants.{OutOfM
 ghost use Rattle.xds_resource.specs.Names.{put_some};
 
 use crate::believed::Beliefs;
-use crate::entry::{Due, Entry};
+use crate::entry::Entry;
 use std::alloc::Global;
 use xds_interest::Touched;
-use xds_resource::{NameMap, Refusal};
+use xds_resource::Refusal;
 
 /// Puts a copy of what is believed of a name.
 pub fn put_entry(
@@ -21,37 +21,6 @@ pub fn put_entry(
 {
     let copy = entry.try_copy(alloc)?;
     next.put(alloc, name, Some(copy))
-}
-
-pub fn copy_beliefs(alloc: Global, beliefs: &Beliefs) -> Result<Beliefs, Refusal>
-    ensures ok { IfOk result (λ m. m ≡ beliefs.now) }
-    ensures err { IfErr result (λ e. e ≡ OutOfMemory) }
-{
-    let mut copy = Beliefs::new(alloc);
-    for (name, entry) in beliefs.iter() {
-        put_entry(alloc, &mut copy, name, entry)?;
-    }
-    Ok(copy)
-}
-
-// Puts a copy of what an offer says of a name.
-fn put_due(alloc: Global, next: &mut NameMap<Due>, name: &str, due: &Due) -> Result<(), Refusal>
-    ensures ok { OnOk result (next.new ≡ put_some next.old name.now (Some due.now)) }
-    ensures err { IfErr result (λ e. e ≡ OutOfMemory) }
-{
-    let copy = due.try_copy(alloc)?;
-    next.put(alloc, name, Some(copy))
-}
-
-pub fn copy_offer(alloc: Global, offer: &NameMap<Due>) -> Result<NameMap<Due>, Refusal>
-    ensures ok { IfOk result (λ m. m ≡ offer.now) }
-    ensures err { IfErr result (λ e. e ≡ OutOfMemory) }
-{
-    let mut copy = NameMap::new(alloc);
-    for (name, due) in offer.iter() {
-        put_due(alloc, &mut copy, name, due)?;
-    }
-    Ok(copy)
 }
 
 pub fn copy_touches(alloc: Global, touches: &Vec<Touched>) -> Result<Vec<Touched>, Refusal>

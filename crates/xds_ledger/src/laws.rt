@@ -1,5 +1,6 @@
 //! What sessions are, as statements that the prover checks. The functions do nothing.
 ghost use Rattle.xds_ledger.specs.Laws.{NewListFits, WiderListFits, RefreshedListFits, PrunedListFits, OwedIsListed, LaterHoldingsFit, JoinedIsLater, RequestKeepsFitting, OfferSaysIt, AcceptedByName, TakenByName, UntouchedKeepsBelief, TouchedIsNotTold, SendingCommutes, AcceptedOwesNothing, NothingOwed, OffersAreToldApart};
+ghost use Rattle.xds_ledger.specs.BookLaws.{SentBooksFit, SentSessionFits, LaterBooksFit, RefreshedBooksFit, PrunedBooksFit, AcceptanceKeepsFitting};
 
 /// What an offer says, and what is believed after an answer and after a request, name by name.
 pub fn name_by_name()
@@ -30,8 +31,8 @@ pub fn offers_are_told_apart()
     ensures { OffersAreToldApart }
 {}
 
-/// A list of what may be owed suffices from the start, and once it was refreshed or pruned, once a request was taken that
-/// it has all names of, and at a catalogue to which writes came. Once it was refreshed it has all that is owed.
+/// A list of what may be owed suffices from the start, and once it was refreshed or pruned, once a request was taken
+/// that it has all names of, and at a catalogue to which writes came. Once it was refreshed it has all that is owed.
 pub fn lists_suffice()
     ensures new { NewListFits }
     ensures wider { WiderListFits }
@@ -41,4 +42,16 @@ pub fn lists_suffice()
     ensures taken { RequestKeepsFitting }
     ensures later { LaterHoldingsFit }
     ensures joined { JoinedIsLater }
+{}
+
+/// The books of a ledger suffice, and those of a session, once an offer was sent that was made of the catalogue, at a
+/// catalogue to which writes came, once the list was refreshed or pruned, and once the response is accepted with the
+/// touched names alone listed.
+pub fn books_suffice()
+    ensures sent { SentBooksFit }
+    ensures session { SentSessionFits }
+    ensures later { LaterBooksFit }
+    ensures refreshed { RefreshedBooksFit }
+    ensures pruned { PrunedBooksFit }
+    ensures accepted { AcceptanceKeepsFitting }
 {}

@@ -1,4 +1,5 @@
-// What a server keeps of one type on one stream, beside the interest: an account of what it told, and a list of what it may owe.
+// What a server keeps of one type on one stream, beside the interest: an account of what it told, and a list of what
+// it may owe.
 ghost use Rattle.std.specs.Prelude.{◌≡◌, is_some, IfOk, IfErr, OnOk, OnErr};
 ghost use Rattle.std.specs.FinMap as finmap;
 ghost use Rattle.xds_resource.specs.declared.refusal.Refusal.TheVariants.{OutOfMemory};
@@ -6,7 +7,7 @@ ghost use Rattle.xds_ledger.specs.Listed.{StaysSufficient, changed_since};
 ghost use Rattle.xds_ledger.specs.Offers.{offer as offer_of};
 ghost use Rattle.xds_ledger.specs.Ledgers as ledgers;
 ghost use Rattle.xds_ledger.specs.Ledgers.{settled, taken};
-ghost use Rattle.xds_ledger.specs.Lists.{Fits, FitsNext, new_books, refreshed};
+ghost use Rattle.xds_ledger.specs.Lists.{Fits, FitsNext, new_books, refreshed, sent_books};
 
 use crate::account::Account;
 use crate::entry::Due;
@@ -15,12 +16,13 @@ use crate::names::Names;
 use crate::offers::offer;
 use crate::owed::something_owed;
 use crate::repeats::repeats;
+use crate::shared_map::SharedMap;
 use crate::variant::Variant;
 use std::alloc::Global;
 use std::marker::Model;
 use xds_catalogue::Catalogue;
 use xds_interest::Interest;
-use xds_resource::{NameMap, Refusal, ResourceType};
+use xds_resource::{Refusal, ResourceType};
 
 /// What a client was told of one type on one stream, what is unanswered, and which names it may be owed.
 pub struct Ledger<T: ResourceType, V: Variant> {
@@ -79,7 +81,7 @@ impl<T: ResourceType, V: Variant> Ledger<T, V> {
         alloc: Global,
         interest: &Interest<T>,
         catalogue: &Catalogue<T>,
-    ) -> Result<NameMap<Due>, Refusal>
+    ) -> Result<SharedMap<Due>, Refusal>
         requires { Fits V.NAME T.TYPE interest.now catalogue.now self.now }
         ensures ok { IfOk result (λ o. o ≡ offer_of V.NAME T.TYPE interest.now catalogue.now.entries self.now.account.beliefs) }
         ensures err { IfErr result (λ e. e ≡ OutOfMemory) }
@@ -125,7 +127,7 @@ impl<T: ResourceType, V: Variant> Ledger<T, V> {
     {
         match self.account.refused() {
             Some(refused) => repeats(
-                refused,
+                refused.as_map(),
                 V::NAME,
                 interest,
                 catalogue,
@@ -136,8 +138,8 @@ impl<T: ResourceType, V: Variant> Ledger<T, V> {
         }
     }
 
-    /// Lists the names that changed since the ledger was refreshed last, and answers how many these are. Refused only by
-    /// `OutOfMemory`, and then the ledger is as it was.
+    /// Lists the names that changed since the ledger was refreshed last, and answers how many these are. Refused only
+    /// by `OutOfMemory`, and then the ledger is as it was.
     pub fn refresh(&mut self, alloc: Global, catalogue: &Catalogue<T>) -> Result<u64, Refusal>
         ensures ok { OnOk result (self.new ≡ refreshed catalogue.now self.old) }
         ensures count { IfOk result (λ n. n ≡ finmap.len (changed_since catalogue.now self.old.listed.mark)) }
@@ -149,8 +151,8 @@ impl<T: ResourceType, V: Variant> Ledger<T, V> {
         self.listed.refresh(alloc, catalogue)
     }
 
-    /// Refreshes the ledger, and lets the names go that are owed nothing, as far as there is memory for it. So what comes
-    /// next looks at the names alone that something is owed of, or that changed since.
+    /// Refreshes the ledger, and lets the names go that are owed nothing, as far as there is memory for it. So what
+    /// comes next looks at the names alone that something is owed of, or that changed since.
     pub fn tidy(&mut self, alloc: Global, interest: &Interest<T>, catalogue: &Catalogue<T>)
         requires { Fits V.NAME T.TYPE interest.now catalogue.now self.old }
         ensures same { self.new.account ≡ self.old.account }
@@ -161,17 +163,20 @@ impl<T: ResourceType, V: Variant> Ledger<T, V> {
             .tidy(alloc, V::NAME, interest, catalogue, beliefs);
     }
 
-    /// Notes that an offer was sent, as the response of this number.
-    pub fn send(&mut self, alloc: Global, offer: NameMap<Due>, number: u64)
-        ensures { self.new ≡ record self.old { account = ledgers.send self.old.account offer number } }
+    /// Notes that an offer was sent, as the response of this number. It takes no memory. Where the offer is that of a
+    /// catalogue, the list still suffices at it (`laws::books_suffice`).
+    pub fn send(&mut self, alloc: Global, offer: SharedMap<Due>, number: u64)
+        ensures { self.new ≡ sent_books self.old offer number }
     {
         self.account.send(alloc, offer, number);
+        self.listed.note_sending();
     }
 
-    /// Takes a request with this nonce: it settles the response that it answers, and then its names are taken. Refused
-    /// only by `OutOfMemory`, and then nothing is taken. It looks at the names that the request and the response that
-    /// it answers speak of, and at all that are believed held only where every name is touched or a whole response is
-    /// accepted.
+    /// Takes a request with this nonce: it settles the response that it answers, and then its names are taken.
+    /// Refused only by `OutOfMemory`, and then nothing is taken. Where it accepts a response that is the whole, or
+    /// before which nothing was believed held, it looks at the names alone that it mentions or that were touched
+    /// since the response was sent, and else at those of the response and the listed ones, too. It looks at all that
+    /// are believed held only where every name is touched, or was since a whole response was sent that it accepts.
     pub fn take(
         &mut self,
         alloc: Global,

@@ -5,7 +5,7 @@ ghost use Rattle.xds_resource.specs.declared.refusal.Refusal.TheVariants.{OutOfM
 ghost use Rattle.xds_resource.specs.Names.{pairs, put_all, put_some};
 ghost use Rattle.xds_catalogue.specs.Holdings.{IsNumbered};
 ghost use Rattle.xds_ledger.specs.Owed.{is_owed};
-ghost use Rattle.xds_ledger.specs.Listed.{unlisted, Fits, StaysSufficient, changed_since, refreshed, pruned, with_name, without_mark};
+ghost use Rattle.xds_ledger.specs.Listed.{unlisted, from_mark, Fits, KeepsSending, StaysSufficient, changed_since, refreshed, pruned, with_name, without_mark, with_sending, without_sending};
 
 use crate::believed::Beliefs;
 use crate::owed::name_owed;
@@ -22,12 +22,18 @@ pub struct Listed {
     mark: u64,
     // Each with the number of the change by which it came in, or 0.
     names: NameMap<u64>,
+    // The mark when the response was sent that is unanswered, as long as it is of use.
+    sent_mark: Option<u64>,
 }
 
 // Written out: docs/PROVING.md, "Drops".
 impl Drop for Listed {
     fn drop(self) {
-        let Listed { mark: _, names: _ } = self;
+        let Listed {
+            mark: _,
+            names: _,
+            sent_mark: _,
+        } = self;
     }
 }
 
@@ -39,7 +45,7 @@ impl Model for Listed {
 
     ghost coded = { listed_code };
 
-    ghost view = { λ l. record { mark = l.mark; names = l.names } };
+    ghost view = { λ l. record { mark = l.mark; names = l.names; sent_mark = l.sent_mark } };
 }
 
 impl Listed {
@@ -50,6 +56,18 @@ impl Listed {
         Listed {
             mark: 0,
             names: NameMap::new(alloc),
+            sent_mark: None,
+        }
+    }
+
+    /// No name, and every change above a mark is to be looked at.
+    pub fn from_mark(alloc: Global, mark: u64) -> Listed
+        ensures { result ≡ from_mark mark }
+    {
+        Listed {
+            mark,
+            names: NameMap::new(alloc),
+            sent_mark: None,
         }
     }
 
@@ -58,6 +76,14 @@ impl Listed {
         ensures { result ≡ self.now.mark }
     {
         self.mark
+    }
+
+    /// The mark when the response was sent that is unanswered, as long as its acceptance may leave what was present
+    /// then.
+    pub fn sent_mark(&self) -> Option<u64>
+        ensures { result ≡ self.now.sent_mark }
+    {
+        self.sent_mark
     }
 
     pub(crate) fn names(&self) -> &NameMap<u64>
@@ -80,6 +106,21 @@ impl Listed {
         ensures { self.new ≡ without_mark self.old }
     {
         self.mark = 0;
+        self.sent_mark = None;
+    }
+
+    /// Notes that a response is sent now.
+    pub fn note_sending(&mut self)
+        ensures { self.new ≡ with_sending self.old }
+    {
+        self.sent_mark = Some(self.mark);
+    }
+
+    /// Forgets when a response was sent.
+    pub fn forget_sending(&mut self)
+        ensures { self.new ≡ without_sending self.old }
+    {
+        self.sent_mark = None;
     }
 
     /// Lists the names that changed since the mark, which moves to the count of changes. Answers how many names these
@@ -103,8 +144,8 @@ impl Listed {
         Ok(count)
     }
 
-    /// Looks at what changed since the mark, and lets the names go that are owed nothing, as far as there is memory for it.
-    /// So what comes next looks at the names alone that something is owed of, or that changed since.
+    /// Looks at what changed since the mark, and lets the names go that are owed nothing, as far as there is memory
+    /// for it. So what comes next looks at the names alone that something is owed of, or that changed since.
     pub fn tidy<T: ResourceType>(
         &mut self,
         alloc: Global,
@@ -114,7 +155,8 @@ impl Listed {
         beliefs: &Beliefs,
     )
         requires { Fits variant T.TYPE interest.now catalogue.now beliefs.now self.old }
-        ensures { Fits variant T.TYPE interest.now catalogue.now beliefs.now self.new }
+        ensures fits { Fits variant T.TYPE interest.now catalogue.now beliefs.now self.new }
+        ensures sending { KeepsSending self.old self.new }
     {
         drop(self.refresh(alloc, catalogue));
         drop(self.prune(alloc, variant, interest, catalogue, beliefs));
@@ -146,6 +188,7 @@ impl Listed {
         Ok(Listed {
             mark: self.mark,
             names: with_names(alloc, NameMap::new(alloc), self.names.iter())?,
+            sent_mark: self.sent_mark,
         })
     }
 }

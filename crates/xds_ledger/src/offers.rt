@@ -15,6 +15,7 @@ use crate::believed::Beliefs;
 use crate::entry::Due;
 use crate::listed::Listed;
 use crate::owed::{due_of, name_owed, present};
+use crate::shared_map::SharedMap;
 use crate::variant::VariantName;
 use crate::version::Version;
 use std::alloc::Global;
@@ -133,9 +134,9 @@ fn with_changed<T: ResourceType>(
     Ok(said)
 }
 
-/// The offer of a response: what is present, where a response is the whole, and else what is owed and can be told, of the
-/// listed names and of those that changed since the mark.
-pub fn offer<T: ResourceType>(
+// What a response says: what is present, where it is the whole, and else what is owed and can be told, of the listed
+// names and of those that changed since the mark.
+fn said<T: ResourceType>(
     alloc: Global,
     variant: VariantName,
     interest: &Interest<T>,
@@ -154,4 +155,23 @@ pub fn offer<T: ResourceType>(
     let mark = listed.mark();
     let said = with_changed(alloc, variant, interest, catalogue, beliefs, mark, due)?;
     Ok(said)
+}
+
+/// The offer of a response: what is present, where a response is the whole, and else what is owed and can be told. It
+/// looks at the listed names and at those that changed since the mark, or where it is the whole, at all that is
+/// present.
+pub fn offer<T: ResourceType>(
+    alloc: Global,
+    variant: VariantName,
+    interest: &Interest<T>,
+    catalogue: &Catalogue<T>,
+    beliefs: &Beliefs,
+    listed: &Listed,
+) -> Result<SharedMap<Due>, Refusal>
+    requires { Fits variant T.TYPE interest.now catalogue.now beliefs.now listed.now }
+    ensures ok { IfOk result (λ m. m ≡ offer variant T.TYPE interest.now catalogue.now.entries beliefs.now) }
+    ensures err { IfErr result (λ e. e ≡ OutOfMemory) }
+{
+    let all = said(alloc, variant, interest, catalogue, beliefs, listed)?;
+    SharedMap::new(alloc, all)
 }

@@ -7,12 +7,14 @@ ghost use Rattle.xds_resource.specs.Stamps.{version_text};
 ghost use Rattle.xds_resource.specs.declared.refusal.Refusal.TheVariants.{OutOfMemory};
 ghost use Rattle.xds_ledger.specs.Owed.{present, owed, is_owed, something_owed};
 ghost use Rattle.xds_ledger.specs.Listed.{Fits, is_since};
+ghost use Rattle.xds_ledger.specs.Overlay.{entry_of};
 ghost use Rattle.xds_catalogue.specs.Holdings.{IsNumbered};
 ghost use Rattle.xds_ledger.specs.Variants.{is_told};
 
 use crate::believed::Beliefs;
-use crate::entry::{Due, Entry};
+use crate::entry::Due;
 use crate::listed::Listed;
+use crate::told::Believed;
 use crate::variant::VariantName;
 use crate::version::Version;
 use std::alloc::Global;
@@ -42,33 +44,33 @@ pub fn present<T: ResourceType>(
 pub fn is_owed(
     variant: VariantName,
     kind: TypeName,
-    entry: Option<&Entry>,
+    entry: Option<Believed<'_>>,
     present: Option<Stamp>,
 ) -> bool
-    ensures { result ≡ option_map_or (is_told variant kind) (owed (option_map (λ e. e.now) entry.entry) (option_map (λ s. version_text s.counter s.writer) present)) false }
+    ensures { result ≡ option_map_or (is_told variant kind) (owed (option_map entry_of entry.entry) (option_map (λ s. version_text s.counter s.writer) present)) false }
 {
     match (entry, present) {
         (None, None) => false,
         (None, Some(_)) => true,
         (Some(_), None) => variant.tells_removals(kind),
-        (Some(Entry::Unsure), Some(_)) => true,
-        (Some(Entry::Told(version)), Some(stamp)) => !version.is_of(stamp),
+        (Some(Believed::Unsure), Some(_)) => true,
+        (Some(Believed::Told(version)), Some(stamp)) => !version.is_of(stamp),
     }
 }
 
 // What is owed of a name.
 pub fn due_of(
     alloc: Global,
-    entry: Option<&Entry>,
+    entry: Option<Believed<'_>>,
     present: Option<Stamp>,
 ) -> Result<Option<Due>, Refusal>
-    ensures ok { IfOk result (λ d. d ≡ owed (option_map (λ e. e.now) entry.entry) (option_map (λ s. version_text s.counter s.writer) present)) }
+    ensures ok { IfOk result (λ d. d ≡ owed (option_map entry_of entry.entry) (option_map (λ s. version_text s.counter s.writer) present)) }
     ensures err { IfErr result (λ e. e ≡ OutOfMemory) }
 {
     match (entry, present) {
         (None, None) => Ok(None),
         (Some(_), None) => Ok(Some(Due::Removed)),
-        (Some(Entry::Told(version)), Some(stamp)) if version.is_of(stamp) => Ok(None),
+        (Some(Believed::Told(version)), Some(stamp)) if version.is_of(stamp) => Ok(None),
         (_, Some(stamp)) => Ok(Some(Due::Stated(Version::of_stamp(alloc, stamp)?))),
     }
 }

@@ -6,12 +6,14 @@ ghost use Rattle.xds_resource.specs.Stamps.{version_text};
 ghost use Rattle.xds_catalogue.specs.Holdings.{IsNumbered};
 ghost use Rattle.xds_ledger.specs.Listed.{Fits, is_since};
 ghost use Rattle.xds_ledger.specs.Offers.{offer, same_offer};
+ghost use Rattle.xds_ledger.specs.Overlay.{entry_of};
 ghost use Rattle.xds_ledger.specs.Repeats.{due_said, said_of as due_of, still_says};
 
 use crate::believed::Beliefs;
-use crate::entry::{Due, Entry};
+use crate::entry::Due;
 use crate::listed::Listed;
 use crate::owed::present;
+use crate::told::Believed;
 use crate::variant::VariantName;
 use xds_catalogue::Catalogue;
 use xds_interest::Interest;
@@ -29,14 +31,14 @@ enum Saying {
 fn said_of(
     variant: VariantName,
     kind: TypeName,
-    entry: Option<&Entry>,
+    entry: Option<Believed<'_>>,
     present: Option<Stamp>,
 ) -> Saying
-    ensures { due_said result ≡ due_of variant kind (option_map (λ e. e.now) entry.entry) (option_map (λ s. version_text s.counter s.writer) present) }
+    ensures { due_said result ≡ due_of variant kind (option_map entry_of entry.entry) (option_map (λ s. version_text s.counter s.writer) present) }
 {
     match (entry, present) {
         (_, Some(stamp)) if variant.is_whole(kind) => Saying::Stated(stamp),
-        (Some(Entry::Told(version)), Some(stamp)) if version.is_of(stamp) => Saying::Nothing,
+        (Some(Believed::Told(version)), Some(stamp)) if version.is_of(stamp) => Saying::Nothing,
         (_, Some(stamp)) => Saying::Stated(stamp),
         (Some(_), None) if variant.is_delta() => Saying::Removed,
         (_, None) => Saying::Nothing,

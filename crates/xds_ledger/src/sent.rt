@@ -1,20 +1,22 @@
 // A response that was sent and isn't answered.
 ghost use Rattle.std.specs.Prelude.{◌≡◌, [], ◌∷◌, ◌++◌, IfOk, IfErr, OnOk, OnErr};
+ghost use Rattle.std.specs.List.{list_any};
 ghost use Rattle.xds_resource.specs.declared.refusal.Refusal.TheVariants.{OutOfMemory};
 ghost use Rattle.xds_ledger.specs.Believing.{was_touched, touched_since, last_touch_forgotten};
 
-use crate::copying::{copy_offer, copy_touches};
+use crate::copying::copy_touches;
 use crate::entry::Due;
+use crate::shared_map::SharedMap;
 use std::alloc::Global;
 use std::marker::Model;
 use xds_interest::Touched;
-use xds_resource::{NameMap, Refusal};
+use xds_resource::Refusal;
 
 /// What an unanswered response offers, and what the requests touched that were taken since.
 #[derive(Drop)]
 pub struct Sent {
-    pub offer: NameMap<Due>,
-    touched: Vec<Touched>,
+    pub offer: SharedMap<Due>,
+    pub(crate) touched: Vec<Touched>,
 }
 
 impl Model for Sent {
@@ -29,7 +31,7 @@ impl Model for Sent {
 }
 
 impl Sent {
-    pub fn new(alloc: Global, offer: NameMap<Due>) -> Sent
+    pub fn new(alloc: Global, offer: SharedMap<Due>) -> Sent
         ensures { result ≡ record { offer = offer; touched = [] } }
     {
         Sent {
@@ -39,7 +41,7 @@ impl Sent {
     }
 
     /// What it offers.
-    pub fn into_offer(self) -> NameMap<Due>
+    pub fn into_offer(self) -> SharedMap<Due>
         ensures { result ≡ self.offer }
     {
         let Sent { offer, .. } = self;
@@ -51,6 +53,13 @@ impl Sent {
         ensures { result ≡ was_touched self.now name.now }
     {
         self.touched.iter().any(|touched| touched.touches(name))
+    }
+
+    /// Whether a request touched every name since it was sent.
+    pub fn touches_all(&self) -> bool
+        ensures { result ≡ list_any (λ t. t.all) self.now.touched }
+    {
+        self.touched.iter().any(|touched| touched.all())
     }
 
     /// Notes what a request touched. Refused only by `OutOfMemory`.
@@ -70,13 +79,13 @@ impl Sent {
         self.touched.pop();
     }
 
-    /// An equal value, with memory of its own. Refused only by `OutOfMemory`.
+    /// An equal value, with the same offer. Refused only by `OutOfMemory`.
     pub fn try_copy(&self, alloc: Global) -> Result<Sent, Refusal>
         ensures ok { IfOk result (λ s. s ≡ self.now) }
         ensures err { IfErr result (λ e. e ≡ OutOfMemory) }
     {
         Ok(Sent {
-            offer: copy_offer(alloc, &self.offer)?,
+            offer: self.offer.try_copy()?,
             touched: copy_touches(alloc, &self.touched)?,
         })
     }

@@ -1,13 +1,16 @@
-// Changes of what is believed, made in place, all or none: what needs memory comes first, and is undone by removals.
-ghost use Rattle.std.specs.Prelude.{◌≡◌, [], ◌∷◌, ◌++◌, Some, map, string_bytes, IfOk, IfErr, OnOk, OnErr};
+// Changes of what is believed, made in place among differences, all or none: what needs memory comes first, and is
+// undone by removals.
+ghost use Rattle.std.specs.Prelude.{◌≡◌, ℕ, List, [], ◌∷◌, ◌++◌, Some, None, unwrap_or, map, string_bytes, IfOk, IfErr, OnOk, OnErr};
 ghost use Rattle.std.specs.FinMap as finmap;
 ghost use Rattle.xds_resource.specs.declared.refusal.Refusal.TheVariants.{OutOfMemory};
 ghost use Rattle.xds_resource.specs.Names.{put_each};
-ghost use Rattle.xds_ledger.specs.declared.entry.Entry.TheVariants.{Unsure};
-ghost use Rattle.xds_ledger.specs.Changes.{Lead, is_new, new_names, removed_all, stored, stored_all};
+ghost use Rattle.xds_ledger.specs.Overlay.{tells, told_in};
+ghost use Rattle.xds_ledger.specs.Storing.{is_new, new_names, removed_all, stored, stored_all};
 
-use crate::believed::Beliefs;
-use crate::entry::Entry;
+use crate::differences::Differences;
+use crate::entry::{Due, Entry};
+use crate::shared_map::SharedMap;
+use crate::told::tells;
 use std::alloc::Global;
 use xds_resource::{NameMap, Refusal};
 
@@ -32,95 +35,129 @@ fn names_of(alloc: Global, changes: &NameMap<Option<Entry>>) -> Result<Vec<Strin
     Ok(names)
 }
 
-// Whether a change makes an entry where there is none.
-fn is_new(beliefs: &Beliefs, changes: &NameMap<Option<Entry>>, name: &str) -> bool
-    ensures { result ≡ is_new (finmap.get changes.now name.now) (finmap.get beliefs.now name.now) }
+// Whether a change makes a difference where there is none.
+fn is_new(
+    base: &Option<SharedMap<Due>>,
+    differences: &Differences,
+    changes: &NameMap<Option<Entry>>,
+    name: &str,
+) -> bool
+    ensures { result
+        ≡ is_new (tells base.now name.now) (finmap.get changes.now name.now) (finmap.get differences.now name.now) }
 {
     match changes.get(name) {
-        Some(Some(_)) => !beliefs.contains(name),
-        _ => false,
+        Some(Some(_)) => !differences.contains(name),
+        Some(None) => tells(base, name) && !differences.contains(name),
+        None => false,
     }
 }
 
-// Those of the names for which the changes make an entry where there is none.
+// Those of the names for which the changes make a difference where there is none.
 fn new_names<'a>(
     alloc: Global,
-    beliefs: &Beliefs,
+    base: &Option<SharedMap<Due>>,
+    differences: &Differences,
     changes: &NameMap<Option<Entry>>,
     names: &'a [String],
 ) -> Result<Vec<&'a str>, Refusal>
-    ensures ok { IfOk result (λ v. map (λ n. n.now) v.items ≡ new_names changes.now beliefs.now (map string_bytes names.now)) }
+    ensures ok { IfOk result (λ v. map (λ n. n.now) v.items
+        ≡ new_names base.now changes.now differences.now (map string_bytes names.now)) }
     ensures err { IfErr result (λ e. e ≡ OutOfMemory) }
 {
     let mut new = Vec::new(alloc);
     for name in names {
-        if is_new(beliefs, changes, name) {
+        if is_new(base, differences, changes, name) {
             new.push(name.as_str())?;
         }
     }
     Ok(new)
 }
 
-// Takes out the entries of some names. It takes no memory.
-fn remove_all(beliefs: &mut Beliefs, names: &[&str])
-    ensures { beliefs.new ≡ removed_all beliefs.old (map (λ n. n.now) names.now) }
+// Takes out the differences of some names. It takes no memory.
+fn remove_all(differences: &mut Differences, names: &[&str])
+    ensures { differences.new ≡ removed_all differences.old (map (λ n. n.now) names.now) }
 {
     for name in names {
-        beliefs.remove(name);
+        differences.remove(name);
     }
 }
 
-// Makes an entry for each of some names that have none.
-fn add_all(alloc: Global, beliefs: &mut Beliefs, names: &[&str]) -> Result<(), Refusal>
-    requires { removed_all beliefs.now (map (λ n. n.now) names.now) ≡ beliefs.now }
-    ensures ok { OnOk result (beliefs.new ≡ put_each (λ name. Some Unsure) beliefs.old (map (λ n. n.now) names.now)) }
-    ensures err { OnErr result (beliefs.new ≡ beliefs.old) }
+// Makes a difference for each of some names that have none.
+fn add_all(alloc: Global, differences: &mut Differences, names: &[&str]) -> Result<(), Refusal>
+    requires { removed_all differences.now (map (λ n. n.now) names.now) ≡ differences.now }
+    ensures ok { OnOk result (differences.new
+        ≡ put_each (λ name. Some None) differences.old (map (λ n. n.now) names.now)) }
+    ensures err { OnErr result (differences.new ≡ differences.old) }
     ensures refused { IfErr result (λ e. e ≡ OutOfMemory) }
 {
     for name in names {
-        if let Err(refusal) = beliefs.put(alloc, name, Some(Entry::Unsure)) {
-            remove_all(beliefs, names);
+        if let Err(refusal) = differences.put(alloc, name, Some(None)) {
+            remove_all(differences, names);
             return Err(refusal);
         }
     }
     Ok(())
 }
 
-// Makes the change of a name that has an entry, or is to have none. It takes no memory.
-fn store(beliefs: &mut Beliefs, name: &str, change: Option<Option<Entry>>)
-    ensures { beliefs.new ≡ stored beliefs.old name.now change }
+// Lets a name have no entry: by a difference where an offer tells one, and else by none. It takes no memory.
+fn drop_told(base: &Option<SharedMap<Due>>, differences: &mut Differences, name: &str)
+    ensures { differences.new ≡ stored base.now differences.old name.now (Some None) }
+{
+    if tells(base, name) {
+        differences.replace(name, None);
+    } else {
+        differences.remove(name);
+    }
+}
+
+// Makes the change of a name that has a difference, or is to have none. It takes no memory.
+fn store(
+    base: &Option<SharedMap<Due>>,
+    differences: &mut Differences,
+    name: &str,
+    change: Option<Option<Entry>>,
+)
+    ensures { differences.new ≡ stored base.now differences.old name.now change }
 {
     match change {
-        Some(Some(entry)) => beliefs.replace(name, entry),
-        Some(None) => beliefs.remove(name),
+        Some(Some(entry)) => differences.replace(name, Some(entry)),
+        Some(None) => drop_told(base, differences, name),
         None => {}
     }
 }
 
 // Stores what the changes say of each of some names.
-fn store_all(beliefs: &mut Beliefs, changes: NameMap<Option<Entry>>, names: &[String])
-    ensures { beliefs.new ≡ stored_all beliefs.old changes (map string_bytes names.now) }
+fn store_all(
+    base: &Option<SharedMap<Due>>,
+    differences: &mut Differences,
+    changes: NameMap<Option<Entry>>,
+    names: &[String],
+)
+    ensures { differences.new ≡ stored_all base.now differences.old changes (map string_bytes names.now) }
 {
     let mut left = changes;
     for name in names {
         let change = left.remove(name);
-        store(beliefs, name, change);
+        store(base, differences, name, change);
     }
 }
 
-/// Makes the changes, all or none. Refused only by `OutOfMemory`.
+/// Makes the changes, all or none, among differences from what an offer told, if there is one. Refused only by
+/// `OutOfMemory`.
 pub fn change(
     alloc: Global,
-    beliefs: &mut Beliefs,
+    base: &Option<SharedMap<Due>>,
+    differences: &mut Differences,
     changes: NameMap<Option<Entry>>,
 ) -> Result<(), Refusal>
-    ensures ok { OnOk result (Lead changes beliefs.old beliefs.new) }
-    ensures err { OnErr result (beliefs.new ≡ beliefs.old) }
+    ensures ok { OnOk result ((name : List ℕ) → unwrap_or (finmap.get differences.new name) (told_in base.now name)
+        ≡ unwrap_or (finmap.get changes name) (unwrap_or (finmap.get differences.old name) (told_in base.now name))) }
+    ensures err { OnErr result (differences.new ≡ differences.old) }
     ensures refused { IfErr result (λ e. e ≡ OutOfMemory) }
 {
     let names = names_of(alloc, &changes)?;
-    let new = new_names(alloc, beliefs, &changes, &names)?;
-    add_all(alloc, beliefs, &new)?;
-    store_all(beliefs, changes, &names);
+    let new = new_names(alloc, base, differences, &changes, &names)?;
+    add_all(alloc, differences, &new)?;
+    store_all(base, differences, changes, &names);
     Ok(())
 }

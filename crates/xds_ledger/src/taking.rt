@@ -1,6 +1,6 @@
-// How an account takes a request. What is believed changes in place, name by name of those that the request and the
-// response that it answers speak of; it is made anew where a request touches every name, or a response that is the whole
-// was accepted.
+// How an account takes a request. An offer that was accepted is believed by holding it, where it is the whole or
+// nothing was believed held. Else what is believed changes in place, name by name of those that the request and the
+// response that it answers speak of. It is made anew where a request touches every name.
 ghost use Rattle.std.specs.Prelude.{◌≡◌, ◌&&◌, not, false, IfOk, IfErr, IfSome, OnOk, OnErr};
 ghost use Rattle.xds_resource.specs.declared.refusal.Refusal.TheVariants.{OutOfMemory};
 ghost use Rattle.xds_ledger.specs.Changes.{Lead, changes_answered};
@@ -8,6 +8,7 @@ ghost use Rattle.xds_ledger.specs.Ledgers.{answered, beliefs_accepted, beliefs_a
 ghost use Rattle.xds_ledger.specs.Owed as owed;
 ghost use Rattle.xds_ledger.specs.Variants.{is_whole};
 
+use crate::accepting::accepted_as_offered;
 use crate::account::Account;
 use crate::beliefs::{accepted, beliefs_after};
 use crate::believed::Beliefs;
@@ -15,7 +16,6 @@ use crate::changes::{changes_after, changes_told};
 use crate::entry::Entry;
 use crate::names::Names;
 use crate::sent::Sent;
-use crate::storing::change;
 use crate::variant::Variant;
 use std::alloc::Global;
 use xds_interest::Touched;
@@ -35,14 +35,15 @@ fn change_beliefs<T: ResourceType>(
     ensures refused { IfErr result (λ e. e ≡ OutOfMemory) }
 {
     let changes = changes_after(alloc, names, beliefs, start)?;
-    change(alloc, beliefs, changes)
+    beliefs.change(alloc, changes)
 }
 
 impl<T: ResourceType, V: Variant> Account<T, V> {
     /// Takes a request: it settles the response that it answers, and then its names are taken. Refused only by
-    /// `OutOfMemory`, and then nothing is taken. It looks at the names that the request and the response that it
-    /// answers speak of, and at all that are believed held only where every name is touched or a whole response is
-    /// accepted.
+    /// `OutOfMemory`, and then nothing is taken. Where it accepts a response that is the whole, or before which
+    /// nothing was believed held, it looks at the names alone that it mentions or that were touched since the
+    /// response was sent, and else at those of the response, too. It looks at all that are believed held only where
+    /// every name is touched, or was since a whole response was sent that it accepts.
     pub fn take(
         &mut self,
         alloc: Global,
@@ -63,6 +64,68 @@ impl<T: ResourceType, V: Variant> Account<T, V> {
 
     // Takes a request that answers the unanswered response.
     fn take_answer(
+        &mut self,
+        alloc: Global,
+        rejects: bool,
+        names: Names<'_, T>,
+    ) -> Result<(), Refusal>
+        ensures ok { OnOk result (IfSome self.old.sent (λ sent.
+            self.new ≡ taken (answered V.NAME T.TYPE self.old sent rejects) names.entry)) }
+        ensures err { OnErr result (self.new ≡ self.old) }
+        ensures refused { IfErr result (λ e. e ≡ OutOfMemory) }
+    {
+        if rejects || names.touched().all() {
+            return self.take_answer_by_name(alloc, rejects, names);
+        }
+        match self.accepted_as_offered(alloc)? {
+            Some(next) => self.take_as_offered(alloc, names, next),
+            None => self.take_answer_by_name(alloc, rejects, names),
+        }
+    }
+
+    // What is believed once the unanswered response is accepted, where that is what it offers, but for the names that
+    // requests touched since.
+    fn accepted_as_offered(&self, alloc: Global) -> Result<Option<Beliefs>, Refusal>
+        ensures ok { IfOk result (λ o. IfSome o (λ b. IfSome self.now.sent (λ sent.
+            b ≡ beliefs_accepted (is_whole V.NAME T.TYPE) sent self.now.beliefs))) }
+        ensures err { IfErr result (λ e. e ≡ OutOfMemory) }
+    {
+        let whole = V::NAME.is_whole(T::TYPE);
+        let Some(sent) = &self.sent else {
+            return Ok(None);
+        };
+        if sent.touches_all() || !(whole || self.beliefs.is_empty()) {
+            return Ok(None);
+        }
+        let next = accepted_as_offered(alloc, whole, sent, &self.beliefs)?;
+        Ok(Some(next))
+    }
+
+    // Takes a request that accepts the unanswered response, once it is known what is believed then.
+    fn take_as_offered(
+        &mut self,
+        alloc: Global,
+        names: Names<'_, T>,
+        next: Beliefs,
+    ) -> Result<(), Refusal>
+        requires some { names.touched.all ≡ false }
+        requires told { IfSome self.old.sent (λ sent.
+            next ≡ beliefs_accepted (is_whole V.NAME T.TYPE) sent self.old.beliefs) }
+        ensures ok { OnOk result (IfSome self.old.sent (λ sent.
+            self.new ≡ taken (answered V.NAME T.TYPE self.old sent false) names.entry)) }
+        ensures err { OnErr result (self.new ≡ self.old) }
+        ensures refused { IfErr result (λ e. e ≡ OutOfMemory) }
+    {
+        let mut beliefs = next;
+        let start = NameMap::new(alloc);
+        change_beliefs(alloc, names, &mut beliefs, start)?;
+        self.settle(false);
+        self.beliefs = beliefs;
+        Ok(())
+    }
+
+    // Takes such a request where an offer isn't believed by holding it.
+    fn take_answer_by_name(
         &mut self,
         alloc: Global,
         rejects: bool,
@@ -198,7 +261,7 @@ impl<T: ResourceType, V: Variant> Account<T, V> {
         let start = NameMap::new(alloc);
         let changes = changes_after(alloc, names, &self.beliefs, start)?;
         self.note(alloc, touched)?;
-        if let Err(refusal) = change(alloc, &mut self.beliefs, changes) {
+        if let Err(refusal) = self.beliefs.change(alloc, changes) {
             self.forget();
             return Err(refusal);
         }

@@ -11,4 +11,5 @@ pub mod DeltaReadsBack
 pub mod DeltaWrittenLemmas
 pub mod DraftLemmas
 pub mod JoinedLemmas
+pub mod PieceLemmas
 pub use Rattle.xds_json.proofs.Lists

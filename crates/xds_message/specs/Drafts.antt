@@ -3,11 +3,10 @@
 --     body_text                        the compact text of the object that a stored text says: the same text again
 --     Drafted, message_of              a DiscoveryResponse before it is written
 --     AreSound, IsSoundResponse, IsSoundDelta  the resources are shallow, whole objects
---     with_body                        the draft with one more resource, if there is a body
+--     with_text                        texts with one more behind them, if there is a body
 --     DraftedResource, drafted_resource  a resource of a DeltaDiscoveryResponse before it is written
 --     DraftedDelta, delta_message_of   a DeltaDiscoveryResponse before it is written
---     with_resource                    the draft with the resource that a write puts, if it puts one
---     with_removed                     the draft with one more name to be dropped
+--     with_resource                    resources with the one that a write puts behind them, if it puts one
 use Rattle.std.specs.Prelude.{◌≡◌, ◌≤◌, ℕ, List, [], ◌∷◌, ◌++◌, map, false, Option, Some, None, All}
 use Rattle.serde_json.specs.Data.{Data, depth}
 use Rattle.serde_json.specs.Read.{read}
@@ -54,10 +53,10 @@ IsSoundResponse m = AreSound m.resources
 abbrev pub IsSoundDelta : DeltaResponse → Type 0
 IsSoundDelta m = AreSound (map (λ r. r.resource) m.resources)
 
--- the draft with one more resource, if there is a body
-abbrev pub with_body : Drafted → Option (List ℕ) → Drafted
-with_body m None = m
-with_body m (Some body) = record { kind = m.kind; version_info = m.version_info; nonce = m.nonce; bodies = m.bodies ++ body ∷ [] }
+-- texts with one more behind them, if there is a body
+abbrev pub with_text : List (List ℕ) → Option (List ℕ) → List (List ℕ)
+with_text bodies None = bodies
+with_text bodies (Some body) = bodies ++ body ∷ []
 
 -- a resource of a DeltaDiscoveryResponse before it is written
 pub record DraftedResource : Type 0 where
@@ -85,23 +84,7 @@ delta_message_of m = record {
   removed_resources = m.removed_resources;
 }
 
--- the draft with the resource that a write puts, if it puts one
-abbrev pub with_resource : DraftedDelta → StampedWrite → Option (List ℕ) → DraftedDelta
-with_resource m w None = m
-with_resource m w (Some body) = record {
-  kind = m.kind;
-  system_version_info = m.system_version_info;
-  nonce = m.nonce;
-  resources = m.resources ++ record { name = w.name; version = version_of w; body = body } ∷ [];
-  removed_resources = m.removed_resources;
-}
-
--- the draft with one more name to be dropped
-abbrev pub with_removed : DraftedDelta → List ℕ → DraftedDelta
-with_removed m name = record {
-  kind = m.kind;
-  system_version_info = m.system_version_info;
-  nonce = m.nonce;
-  resources = m.resources;
-  removed_resources = m.removed_resources ++ name ∷ [];
-}
+-- resources with the one that a write puts behind them, if it puts one
+abbrev pub with_resource : List DraftedResource → StampedWrite → Option (List ℕ) → List DraftedResource
+with_resource resources w None = resources
+with_resource resources w (Some body) = resources ++ record { name = w.name; version = version_of w; body = body } ∷ []

@@ -7,6 +7,7 @@ pub mod DeltaMessages
 pub mod DeltaWritten
 pub mod Laws
 pub mod Joined
+pub mod Pieces
 pub mod Drafts
 pub mod DraftTexts
 pub use Rattle.xds_json.specs.Spelling

@@ -65,16 +65,6 @@ impl Body {
         self.text.as_str()
     }
 
-    /// The same text with one owner more: no bytes are copied.
-    pub(crate) fn try_copy(&self) -> Result<Body, Refusal>
-        ensures ok { IfOk result (λ b. b ≡ self.now) }
-        ensures refused { IfErr result (λ e. e ≡ OutOfMemory) }
-    {
-        Ok(Body {
-            text: self.text.clone()?,
-        })
-    }
-
     /// The resource's object, as it is read again from its text.
     pub(crate) fn value(&self, alloc: Global) -> Result<Value, Refusal>
         ensures ok { IfOk result (λ v. view v ≡ value_of self.now) }

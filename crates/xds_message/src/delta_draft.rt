@@ -1,9 +1,10 @@
 // Responses of the incremental variant before they are written.
-ghost use Rattle.std.specs.Prelude.{◌≡◌, [], length, map, string_bytes, IfOk, IfErr, OnOk, OnErr, All};
+ghost use Rattle.std.specs.Prelude.{◌≡◌, length, map, string_bytes, IfOk, IfErr, OnOk, OnErr, All};
+ghost use Rattle.std.specs.Arc.{arc_slice_items};
 ghost use Rattle.serde_json.specs.Written.{compact_text};
 ghost use Rattle.xds_resource.specs.declared.refusal.Refusal.TheVariants.{OutOfMemory};
 ghost use Rattle.xds_message.specs.DeltaWritten.{resource_object, delta_response_object};
-ghost use Rattle.xds_message.specs.Drafts.{drafted_resource, delta_message_of, with_resource, with_removed, IsBodyText, IsSoundDelta};
+ghost use Rattle.xds_message.specs.Drafts.{drafted_resource, delta_message_of, with_resource, IsBodyText, IsSoundDelta};
 ghost use Rattle.xds_message.specs.Responses.{resource_of, delta_response_of};
 
 use crate::body::Body;
@@ -11,12 +12,12 @@ use crate::delta_response::{DeltaDiscoveryResponse, DeltaResource};
 use crate::joining::{Join, join_list, join_member, join_text};
 use std::alloc::Global;
 use std::marker::Model;
-use std::sync::ArcStr;
+use std::sync::{ArcSlice, ArcStr};
 use xds_json::copy_texts;
 use xds_resource::{Refusal, ResourceType, TypeName, Write};
 
-// A resource, whose text is shared with the write that it stands in.
-struct DraftResource {
+/// A resource of a response, with its name and its version. Its text is shared with the write that it stands in.
+pub struct DraftResource {
     name: ArcStr<Global>,
     version: String,
     body: Body,
@@ -61,17 +62,6 @@ impl Join for DraftResource {
 }
 
 impl DraftResource {
-    fn try_copy(&self, alloc: Global) -> Result<DraftResource, Refusal>
-        ensures ok { IfOk result (λ r. r ≡ self.now) }
-        ensures refused { IfErr result (λ e. e ≡ OutOfMemory) }
-    {
-        Ok(DraftResource {
-            name: self.name.clone()?,
-            version: String::from_str(alloc, self.version.as_str())?,
-            body: self.body.try_copy()?,
-        })
-    }
-
     fn message(&self, alloc: Global) -> Result<DeltaResource, Refusal>
         ensures ok { IfOk result (λ r. resource_of r ≡ drafted_resource self.now) }
         ensures sound { OnOk result (IsBodyText self.now.body) }
@@ -85,12 +75,13 @@ impl DraftResource {
     }
 }
 
-/// A [`DeltaDiscoveryResponse`] before it is written. Its resources are the stored texts of writes, which it shares.
+/// A [`DeltaDiscoveryResponse`] before it is written. Its resources are the stored texts of writes, in a list that it may share
+/// with others: a copy of it copies neither.
 pub struct DeltaDraft {
     kind: TypeName,
     version: String,
     nonce: String,
-    resources: Vec<DraftResource>,
+    resources: ArcSlice<DraftResource, Global>,
     removed: Vec<String>,
 }
 
@@ -109,6 +100,7 @@ impl Drop for DeltaDraft {
 
 impl Model for DeltaDraft {
     ghost use Rattle.std.specs.Prelude.{map, string_bytes};
+    ghost use Rattle.std.specs.Arc.{arc_slice_items};
     ghost use Rattle.xds_message.specs.Drafts.{DraftedDelta};
 
     ghost Value = { DraftedDelta };
@@ -117,23 +109,29 @@ impl Model for DeltaDraft {
       kind = d.kind;
       system_version_info = string_bytes d.version;
       nonce = string_bytes d.nonce;
-      resources = d.resources.items;
+      resources = arc_slice_items d.resources;
       removed_resources = map string_bytes d.removed.items;
     } };
 }
 
 impl DeltaDraft {
-    /// A response of no resource and no name that is gone.
-    pub fn new(alloc: Global, kind: TypeName, version: String, nonce: String) -> DeltaDraft
+    /// A response of these resources, whose list other responses may share, and of names that the client is to drop.
+    pub fn new(
+        kind: TypeName,
+        version: String,
+        nonce: String,
+        resources: ArcSlice<DraftResource, Global>,
+        removed: Vec<String>,
+    ) -> DeltaDraft
         ensures { result
-            ≡ record { kind = kind; system_version_info = string_bytes version; nonce = string_bytes nonce; resources = []; removed_resources = [] } }
+            ≡ record { kind = kind; system_version_info = string_bytes version; nonce = string_bytes nonce; resources = arc_slice_items resources; removed_resources = map string_bytes removed.items } }
     {
         DeltaDraft {
             kind,
             version,
             nonce,
-            resources: Vec::new(alloc),
-            removed: Vec::new(alloc),
+            resources,
+            removed,
         }
     }
 
@@ -172,33 +170,6 @@ impl DeltaDraft {
         self.removed.as_slice()
     }
 
-    /// Adds the resource that a write puts, under its name and with its version, behind the others. A deletion adds
-    /// nothing. No body is copied.
-    pub fn push<T: ResourceType>(&mut self, alloc: Global, write: &Write<T>) -> Result<(), Refusal>
-        ensures ok { OnOk result (self.new ≡ with_resource self.old write.now write.now.body) }
-        ensures err { OnErr result (self.new ≡ self.old) }
-        ensures refused { IfErr result (λ e. e ≡ OutOfMemory) }
-    {
-        if let Some(text) = write.shared_body()? {
-            self.resources.push(DraftResource {
-                name: write.shared_name()?,
-                version: write.stamp().version_text(alloc)?,
-                body: Body::new(text),
-            })?;
-        }
-        Ok(())
-    }
-
-    /// Adds a name that the client is to drop, behind the others.
-    pub fn remove(&mut self, alloc: Global, name: &str) -> Result<(), Refusal>
-        ensures ok { OnOk result (self.new ≡ with_removed self.old name.now) }
-        ensures err { OnErr result (self.new ≡ self.old) }
-        ensures refused { IfErr result (λ e. e ≡ OutOfMemory) }
-    {
-        self.removed.push(String::from_str(alloc, name)?)?;
-        Ok(())
-    }
-
     /// The response, whose resources are read again from their texts.
     pub fn message(&self, alloc: Global) -> Result<DeltaDiscoveryResponse, Refusal>
         ensures ok { IfOk result (λ r. delta_response_of r ≡ delta_message_of self.now) }
@@ -208,7 +179,7 @@ impl DeltaDraft {
     {
         Ok(DeltaDiscoveryResponse {
             system_version_info: String::from_str(alloc, self.version.as_str())?,
-            resources: resources_of(alloc, &self.resources)?,
+            resources: resources_of(alloc, self.resources.as_slice())?,
             type_url: String::from_str(alloc, self.kind.url())?,
             nonce: String::from_str(alloc, self.nonce.as_str())?,
             removed_resources: copy_texts(alloc, &self.removed)?,
@@ -224,8 +195,8 @@ impl DeltaDraft {
     {
         let mut out = String::from_str(alloc, "{")?;
         let later = join_text(alloc, &mut out, false, "nonce", self.nonce.as_str())?;
-        let later = join_list(alloc, &mut out, later, "removedResources", &self.removed)?;
-        let later = join_list(alloc, &mut out, later, "resources", &self.resources)?;
+        let later = join_list(alloc, &mut out, later, "removedResources", self.removed.as_slice())?;
+        let later = join_list(alloc, &mut out, later, "resources", self.resources.as_slice())?;
         let later = join_text(
             alloc,
             &mut out,
@@ -247,19 +218,40 @@ impl DeltaDraft {
             kind: self.kind,
             version: String::from_str(alloc, self.version.as_str())?,
             nonce: String::from_str(alloc, self.nonce.as_str())?,
-            resources: copy_resources(alloc, &self.resources)?,
+            resources: self.resources.clone()?,
             removed: copy_texts(alloc, &self.removed)?,
         })
     }
 }
 
+/// Puts the resource that a write puts, under its name and with its version, behind others. A deletion has none. No byte of its
+/// text is copied.
+pub fn push_resource<T: ResourceType>(
+    alloc: Global,
+    resources: &mut Vec<DraftResource>,
+    write: &Write<T>,
+) -> Result<(), Refusal>
+    ensures ok { OnOk result (resources.new.items ≡ with_resource resources.old.items write.now write.now.body) }
+    ensures err { OnErr result (resources.new.items ≡ resources.old.items) }
+    ensures refused { IfErr result (λ e. e ≡ OutOfMemory) }
+{
+    if let Some(text) = write.shared_body()? {
+        resources.push(DraftResource {
+            name: write.shared_name()?,
+            version: write.stamp().version_text(alloc)?,
+            body: Body::new(text),
+        })?;
+    }
+    Ok(())
+}
+
 fn resources_of(
     alloc: Global,
-    resources: &Vec<DraftResource>,
+    resources: &[DraftResource],
 ) -> Result<Vec<DeltaResource>, Refusal>
     ensures ok { IfOk result
-        (λ v. map resource_of v.items ≡ map drafted_resource resources.now.items) }
-    ensures sound { OnOk result (All (λ r. IsBodyText r.body) resources.now.items) }
+        (λ v. map resource_of v.items ≡ map drafted_resource resources.now) }
+    ensures sound { OnOk result (All (λ r. IsBodyText r.body) resources.now) }
     ensures refused { IfErr result (λ e. e ≡ OutOfMemory) }
 {
     let mut messages = Vec::new(alloc);
@@ -267,18 +259,4 @@ fn resources_of(
         messages.push(resource.message(alloc)?)?;
     }
     Ok(messages)
-}
-
-fn copy_resources(
-    alloc: Global,
-    resources: &Vec<DraftResource>,
-) -> Result<Vec<DraftResource>, Refusal>
-    ensures ok { IfOk result (λ v. v.items ≡ resources.now.items) }
-    ensures refused { IfErr result (λ e. e ≡ OutOfMemory) }
-{
-    let mut copies = Vec::new(alloc);
-    for resource in resources {
-        copies.push(resource.try_copy(alloc)?)?;
-    }
-    Ok(copies)
 }

@@ -5,6 +5,7 @@ ghost use Rattle.xds_message.specs.DraftTexts.{text_of, nonce_of, kind_of, Holds
 
 use crate::delta_draft::DeltaDraft;
 use crate::delta_response::DeltaDiscoveryResponse;
+use crate::pieces::Pieces;
 use crate::response::DiscoveryResponse;
 use crate::sotw_draft::SotwDraft;
 use std::alloc::Global;
@@ -65,6 +66,17 @@ impl Draft {
         match self {
             Draft::Sotw(draft) => draft.write(alloc),
             Draft::Delta(draft) => draft.write(alloc),
+        }
+    }
+
+    /// The same text in pieces.
+    pub fn pieces(&self, alloc: Global) -> Result<Pieces<'_>, Refusal>
+        ensures ok { IfOk result (λ p. p ≡ text_of self.now) }
+        ensures refused { IfErr result (λ e. e ≡ OutOfMemory) }
+    {
+        match self {
+            Draft::Sotw(draft) => draft.pieces(alloc),
+            Draft::Delta(draft) => Ok(Pieces::whole(alloc, draft.write(alloc)?)),
         }
     }
 

@@ -109,10 +109,10 @@ pub(crate) fn join_list<I: Join>(
     out: &mut String,
     later: bool,
     key: &str,
-    items: &Vec<I>,
+    items: &[I],
 ) -> Result<bool, Refusal>
     ensures ok { IfOk result
-        (λ l. JoinsMember (string_bytes out.old) later (key.now, list_data (map I.json items.now.items)) (string_bytes out.new) l) }
+        (λ l. JoinsMember (string_bytes out.old) later (key.now, list_data (map I.json items.now)) (string_bytes out.new) l) }
     ensures refused { IfErr result (λ e. e ≡ OutOfMemory) }
 {
     if items.is_empty() {
@@ -132,12 +132,12 @@ pub(crate) fn join_list_ends<I: Join>(
     tail: &mut String,
     later: bool,
     key: &str,
-    items: &Vec<I>,
+    items: &[I],
 ) -> Result<bool, Refusal>
     requires { string_bytes tail.old ≡ [] }
     ensures ok { IfOk result
-        (λ l. JoinsMember (string_bytes head.old) later (key.now, list_data (map I.json items.now.items))
-        (string_bytes head.new ++ (with_commas (map (λ x. compact_text (I.json x)) items.now.items) ++ string_bytes tail.new)) l) }
+        (λ l. JoinsMember (string_bytes head.old) later (key.now, list_data (map I.json items.now))
+        (string_bytes head.new ++ (with_commas (map (λ x. compact_text (I.json x)) items.now) ++ string_bytes tail.new)) l) }
     ensures refused { IfErr result (λ e. e ≡ OutOfMemory) }
 {
     if items.is_empty() {
@@ -150,7 +150,7 @@ pub(crate) fn join_list_ends<I: Join>(
 }
 
 // About how many bytes the items take as an array, and what follows it in a message.
-fn room_for<I: Join>(items: &Vec<I>) -> usize {
+fn room_for<I: Join>(items: &[I]) -> usize {
     let mut room: usize = 256;
     for item in items {
         room = room.saturating_add(item.size()).saturating_add(4);
@@ -159,9 +159,9 @@ fn room_for<I: Join>(items: &Vec<I>) -> usize {
 }
 
 // Appends an array.
-fn join_items<I: Join>(alloc: Global, out: &mut String, items: &Vec<I>) -> Result<(), Refusal>
+fn join_items<I: Join>(alloc: Global, out: &mut String, items: &[I]) -> Result<(), Refusal>
     ensures ok { OnOk result (string_bytes out.new
-        ≡ string_bytes out.old ++ compact_text (array (items_of (map I.json items.now.items)))) }
+        ≡ string_bytes out.old ++ compact_text (array (items_of (map I.json items.now)))) }
     ensures refused { IfErr result (λ e. e ≡ OutOfMemory) }
 {
     out.push_str("[")?;

@@ -1,28 +1,32 @@
 // State-of-the-world responses before they are written.
-ghost use Rattle.std.specs.Prelude.{◌≡◌, [], ◌++◌, map, string_bytes, IfOk, IfErr, OnOk, OnErr, All};
+ghost use Rattle.std.specs.Prelude.{◌≡◌, ◌++◌, map, string_bytes, IfOk, IfErr, OnOk, OnErr, All};
+ghost use Rattle.std.specs.Arc.{arc_slice_items};
 ghost use Rattle.serde_json.specs.View.{view};
 ghost use Rattle.serde_json.specs.Written.{compact_text};
 ghost use Rattle.xds_resource.specs.Resources.{value_of};
 ghost use Rattle.xds_resource.specs.declared.refusal.Refusal.TheVariants.{OutOfMemory};
-ghost use Rattle.xds_message.specs.Drafts.{message_of, with_body, body_text, IsBodyText, IsSoundResponse};
+ghost use Rattle.xds_message.specs.Drafts.{message_of, with_text, body_text, IsBodyText, IsSoundResponse};
 ghost use Rattle.xds_message.specs.Joined.{with_commas};
 ghost use Rattle.xds_message.specs.Responses.{response_of};
 ghost use Rattle.xds_message.specs.Written.{response_object};
 
 use crate::body::Body;
 use crate::joining::{join_list, join_list_ends, join_text};
+use crate::pieces::Pieces;
 use crate::response::DiscoveryResponse;
 use serde_json::Value;
 use std::alloc::Global;
 use std::marker::Model;
+use std::sync::ArcSlice;
 use xds_resource::{Refusal, ResourceType, TypeName, Write};
 
-/// A [`DiscoveryResponse`] before it is written. Its resources are the stored texts of writes, which it shares.
+/// A [`DiscoveryResponse`] before it is written. Its resources are the stored texts of writes, in a list that it may share with
+/// others: a copy of it copies neither.
 pub struct SotwDraft {
     kind: TypeName,
     version: String,
     nonce: String,
-    bodies: Vec<Body>,
+    bodies: ArcSlice<Body, Global>,
 }
 
 // Written out: docs/PROVING.md, "Drops".
@@ -37,33 +41,32 @@ impl Drop for SotwDraft {
     }
 }
 
-/// The text of a response but for its resources: what stands before them, and what stands behind them.
-#[derive(Drop)]
-pub struct Ends {
-    pub head: String,
-    pub tail: String,
-}
-
 impl Model for SotwDraft {
     ghost use Rattle.std.specs.Prelude.{string_bytes};
+    ghost use Rattle.std.specs.Arc.{arc_slice_items};
     ghost use Rattle.xds_message.specs.Drafts.{Drafted};
 
     ghost Value = { Drafted };
 
-    ghost view = { λ d. record { kind = d.kind; version_info = string_bytes d.version; nonce = string_bytes d.nonce; bodies = d.bodies.items } };
+    ghost view = { λ d. record { kind = d.kind; version_info = string_bytes d.version; nonce = string_bytes d.nonce; bodies = arc_slice_items d.bodies } };
 }
 
 impl SotwDraft {
-    /// A response of no resource.
-    pub fn new(alloc: Global, kind: TypeName, version: String, nonce: String) -> SotwDraft
+    /// A response of the resources that these texts are of. Other responses may share the list.
+    pub fn new(
+        kind: TypeName,
+        version: String,
+        nonce: String,
+        bodies: ArcSlice<Body, Global>,
+    ) -> SotwDraft
         ensures { result
-            ≡ record { kind = kind; version_info = string_bytes version; nonce = string_bytes nonce; bodies = [] } }
+            ≡ record { kind = kind; version_info = string_bytes version; nonce = string_bytes nonce; bodies = arc_slice_items bodies } }
     {
         SotwDraft {
             kind,
             version,
             nonce,
-            bodies: Vec::new(alloc),
+            bodies,
         }
     }
 
@@ -88,18 +91,6 @@ impl SotwDraft {
         self.nonce.as_str()
     }
 
-    /// Adds the resource that a write puts, behind the others. A deletion adds nothing. No body is copied.
-    pub fn push<T: ResourceType>(&mut self, write: &Write<T>) -> Result<(), Refusal>
-        ensures ok { OnOk result (self.new ≡ with_body self.old write.now.body) }
-        ensures err { OnErr result (self.new ≡ self.old) }
-        ensures refused { IfErr result (λ e. e ≡ OutOfMemory) }
-    {
-        if let Some(text) = write.shared_body()? {
-            self.bodies.push(Body::new(text))?;
-        }
-        Ok(())
-    }
-
     /// The response, whose resources are read again from their texts.
     pub fn message(&self, alloc: Global) -> Result<DiscoveryResponse, Refusal>
         ensures ok { IfOk result (λ r. response_of r ≡ message_of self.now) }
@@ -109,7 +100,7 @@ impl SotwDraft {
     {
         Ok(DiscoveryResponse {
             version_info: String::from_str(alloc, self.version.as_str())?,
-            resources: values_of(alloc, &self.bodies)?,
+            resources: values_of(alloc, self.bodies.as_slice())?,
             type_url: String::from_str(alloc, self.kind.url())?,
             nonce: String::from_str(alloc, self.nonce.as_str())?,
         })
@@ -123,20 +114,19 @@ impl SotwDraft {
     {
         let mut out = String::from_str(alloc, "{")?;
         let later = join_text(alloc, &mut out, false, "nonce", self.nonce.as_str())?;
-        let later = join_list(alloc, &mut out, later, "resources", &self.bodies)?;
+        let later = join_list(alloc, &mut out, later, "resources", self.bodies.as_slice())?;
         let later = join_text(alloc, &mut out, later, "typeUrl", self.kind.url())?;
         join_text(alloc, &mut out, later, "versionInfo", self.version.as_str())?;
         out.push_str("}")?;
         Ok(out)
     }
 
-    /// The same text but for the bodies, which stand between its ends with commas between them. So it can be written with
-    /// no copy of a body, and with no memory once this is made.
-    pub fn ends(&self, alloc: Global) -> Result<Ends, Refusal>
-        ensures text { IfOk result (λ e. string_bytes e.head ++ (with_commas (map body_text self.now.bodies) ++ string_bytes e.tail)
-            ≡ compact_text (response_object (message_of self.now))) }
+    /// The same text in pieces, in which the bodies are where they are stored.
+    pub fn pieces(&self, alloc: Global) -> Result<Pieces<'_>, Refusal>
+        ensures text { IfOk result (λ p. p ≡ compact_text (response_object (message_of self.now))) }
         ensures refused { IfErr result (λ e. e ≡ OutOfMemory) }
     {
+        let bodies = self.bodies.as_slice();
         let mut head = String::from_str(alloc, "{")?;
         let mut tail = String::new(alloc);
         let later = join_text(alloc, &mut head, false, "nonce", self.nonce.as_str())?;
@@ -146,7 +136,7 @@ impl SotwDraft {
             &mut tail,
             later,
             "resources",
-            &self.bodies,
+            bodies,
         )?;
         let later = join_text(alloc, &mut tail, later, "typeUrl", self.kind.url())?;
         join_text(
@@ -157,7 +147,7 @@ impl SotwDraft {
             self.version.as_str(),
         )?;
         tail.push_str("}")?;
-        Ok(Ends { head, tail })
+        Ok(Pieces::around(head, bodies, tail))
     }
 
     /// The stored texts of the resources.
@@ -176,14 +166,26 @@ impl SotwDraft {
             kind: self.kind,
             version: String::from_str(alloc, self.version.as_str())?,
             nonce: String::from_str(alloc, self.nonce.as_str())?,
-            bodies: copy_bodies(alloc, &self.bodies)?,
+            bodies: self.bodies.clone()?,
         })
     }
 }
 
-fn values_of(alloc: Global, bodies: &Vec<Body>) -> Result<Vec<Value>, Refusal>
-    ensures ok { IfOk result (λ v. map view v.items ≡ map value_of bodies.now.items) }
-    ensures sound { OnOk result (All IsBodyText bodies.now.items) }
+/// Puts the text of the resource that a write puts behind others. A deletion has none. No byte of it is copied.
+pub fn push_body<T: ResourceType>(bodies: &mut Vec<Body>, write: &Write<T>) -> Result<(), Refusal>
+    ensures ok { OnOk result (bodies.new.items ≡ with_text bodies.old.items write.now.body) }
+    ensures err { OnErr result (bodies.new.items ≡ bodies.old.items) }
+    ensures refused { IfErr result (λ e. e ≡ OutOfMemory) }
+{
+    if let Some(text) = write.shared_body()? {
+        bodies.push(Body::new(text))?;
+    }
+    Ok(())
+}
+
+fn values_of(alloc: Global, bodies: &[Body]) -> Result<Vec<Value>, Refusal>
+    ensures ok { IfOk result (λ v. map view v.items ≡ map value_of bodies.now) }
+    ensures sound { OnOk result (All IsBodyText bodies.now) }
     ensures refused { IfErr result (λ e. e ≡ OutOfMemory) }
 {
     let mut values = Vec::new(alloc);
@@ -191,15 +193,4 @@ fn values_of(alloc: Global, bodies: &Vec<Body>) -> Result<Vec<Value>, Refusal>
         values.push(body.value(alloc)?)?;
     }
     Ok(values)
-}
-
-fn copy_bodies(alloc: Global, bodies: &Vec<Body>) -> Result<Vec<Body>, Refusal>
-    ensures ok { IfOk result (λ v. v.items ≡ bodies.now.items) }
-    ensures refused { IfErr result (λ e. e ≡ OutOfMemory) }
-{
-    let mut copies = Vec::new(alloc);
-    for body in bodies {
-        copies.push(body.try_copy()?)?;
-    }
-    Ok(copies)
 }

@@ -1,8 +1,11 @@
 // A draft is written as the text that its message is written as.
 use std::alloc::Global;
-use std::sync::ArcStr;
+use std::sync::{ArcSlice, ArcStr};
 use std::test::Fail;
-use xds_message::{DeltaDraft, Draft, Response, SotwDraft};
+use xds_frames::Counted;
+use xds_message::{
+    Body, DeltaDraft, Draft, DraftResource, Pieces, Response, SotwDraft, push_body, push_resource,
+};
 use xds_resource::{Cluster, Groups, Refusal, Resource, Stamp, TypeName, Write};
 
 // A cluster whose name and whose other field need escapes.
@@ -44,99 +47,128 @@ fn shown(alloc: Global, draft: &Draft) -> Result<String, Refusal> {
     Ok(format!(in alloc; "{word} {nonce} {written} {message}")?)
 }
 
-fn push(alloc: Global, draft: &mut SotwDraft, stamp: Stamp) -> Result<(), Refusal> {
+fn push(alloc: Global, bodies: &mut Vec<Body>, stamp: Stamp) -> Result<(), Refusal> {
     let write = put(alloc, stamp, BODY)?;
-    let pushed = draft.push(&write);
+    let pushed = push_body(bodies, &write);
     drop(write);
     pushed
 }
 
-// The ends of a draft's text, with its bodies and commas between them.
-fn put_together(alloc: Global, draft: &SotwDraft) -> Result<String, Refusal> {
-    let ends = draft.ends(alloc)?;
-    let mut text = ends.head;
-    for (index, body) in draft.bodies().iter().enumerate() {
-        if index > 0 {
-            text.push_str(",")?;
-        }
-        text.push_str(body.text())?;
+// A draft of so many resources.
+fn draft_of(alloc: Global, count: u64) -> Result<SotwDraft, Refusal> {
+    let mut bodies = Vec::new(alloc);
+    for number in 0..count {
+        push(alloc, &mut bodies, Stamp::new(number + 1, 1))?;
     }
-    text.push_str(ends.tail.as_str())?;
-    Ok(text)
+    let version = text(alloc, "1.2")?;
+    let nonce = text(alloc, "1")?;
+    let shared = ArcSlice::from_vec(bodies)?;
+    Ok(SotwDraft::new(TypeName::Cluster, version, nonce, shared))
 }
 
-// What an empty draft is put together as, its type and version, and what it is put together as, and
-// what a copy of it shows, once a cluster stands in it twice.
-fn filled(alloc: Global, draft: &mut SotwDraft) -> Result<String, Refusal> {
-    let empty = put_together(alloc, draft)?;
-    push(alloc, draft, Stamp::new(1, 1))?;
-    push(alloc, draft, Stamp::new(2, 1))?;
-    let together = put_together(alloc, draft)?;
-    let copy = draft.try_copy(alloc)?;
-    let shown = copy_shown(alloc, Draft::Sotw(copy))?;
+// A text that is written piece by piece through a block of so many bytes behind a first word, with its length, and whether one
+// byte less than that is known to be too few.
+fn put_together(alloc: Global, text: &Pieces<'_>, room: usize) -> Result<String, Refusal> {
+    let mut block = Vec::with_capacity(alloc, room)?;
+    block.extend_from_slice(b"> ")?;
+    let mut writer = Counted::new(Vec::new(alloc));
+    text.write(&mut writer, block)?;
+    let length = text.length_up_to(1_000_000);
+    let short = match length {
+        Some(length) => text.length_up_to(length - 1).is_none(),
+        None => false,
+    };
+    let written = String::from_utf8(writer.inner).map_err(|_| Refusal::NotJson)?;
+    Ok(format!(in alloc; "{length:?} {short} {written}")?)
+}
+
+// What a draft is put together as, through a small block and through a large one; its type and version; and what a copy of it
+// shows.
+fn sotw_shown(alloc: Global, draft: &SotwDraft) -> Result<String, Refusal> {
+    let pieces = draft.pieces(alloc)?;
+    let small = put_together(alloc, &pieces, 8)?;
+    let large = put_together(alloc, &pieces, 4_096)?;
+    drop(pieces);
+    let shown = copy_shown(alloc, Draft::Sotw(draft.try_copy(alloc)?))?;
     let (word, version) = (draft.kind().word(), draft.version());
-    Ok(format!(in alloc; "{empty} {word} {version} {together} {shown}")?)
+    Ok(format!(in alloc; "{small}\n{large}\n{word} {version} {shown}")?)
 }
 
 #[test]
 fn state_of_the_world_drafts_are_joined(rt: HostRuntime) -> Result<(), Fail> {
     let alloc = rt.alloc();
-    let version = text(alloc, "1.2")?;
-    let nonce = text(alloc, "1")?;
-    let mut draft = SotwDraft::new(alloc, TypeName::Cluster, version, nonce);
-    let told = filled(alloc, &mut draft);
-    drop(draft);
-    let told = told?;
+    let empty = sotw_shown(alloc, &draft_of(alloc, 0)?)?;
+    let filled = sotw_shown(alloc, &draft_of(alloc, 2)?)?;
+    let nothing =
+        "{\"nonce\":\"1\",\"typeUrl\":\"type.googleapis.com/envoy.config.cluster.v3.Cluster\",\
+         \"versionInfo\":\"1.2\"}";
     let want = format!(in alloc;
         "{{\"nonce\":\"1\",\"resources\":[{BODY},{BODY}],\
          \"typeUrl\":\"type.googleapis.com/envoy.config.cluster.v3.Cluster\",\
          \"versionInfo\":\"1.2\"}}"
     )?;
-    let empty =
-        "{\"nonce\":\"1\",\"typeUrl\":\"type.googleapis.com/envoy.config.cluster.v3.Cluster\",\
-         \"versionInfo\":\"1.2\"}";
-    let all = format!(in alloc; "{empty} cluster 1.2 {want} cluster 1 {want} {want}")?;
-    assert_eq!(rt; told.as_str(), all.as_str());
+    let (few, many) = (nothing.len(), want.len());
+    let none = format!(in alloc;
+        "Some({few}) true > {nothing}\nSome({few}) true > {nothing}\n\
+         cluster 1.2 cluster 1 {nothing} {nothing}"
+    )?;
+    let both = format!(in alloc;
+        "Some({many}) true > {want}\nSome({many}) true > {want}\n\
+         cluster 1.2 cluster 1 {want} {want}"
+    )?;
+    assert_eq!(rt; empty.as_str(), none.as_str());
+    assert_eq!(rt; filled.as_str(), both.as_str());
     Ok(())
 }
 
-fn push_both(alloc: Global, draft: &mut DeltaDraft) -> Result<(), Refusal> {
+fn push_both(alloc: Global, resources: &mut Vec<DraftResource>) -> Result<(), Refusal> {
     let write = put(alloc, Stamp::new(2, 1), BODY)?;
-    let pushed = draft.push(alloc, &write);
+    let pushed = push_resource(alloc, resources, &write);
     drop(write);
     pushed?;
     let gone = Write::deletion(Stamp::new(3, 1), ArcStr::from_str(alloc, "gone")?);
-    let pushed = draft.push::<Cluster>(alloc, &gone);
+    let pushed = push_resource::<Cluster>(alloc, resources, &gone);
     drop(gone);
     pushed
 }
 
-fn remove_both(alloc: Global, draft: &mut DeltaDraft) -> Result<(), Refusal> {
-    draft.remove(alloc, "r\t\u{1f600}")?;
-    draft.remove(alloc, "s")
+// A draft of a cluster and of two names that are gone; a deletion adds nothing.
+fn delta_draft(alloc: Global) -> Result<DeltaDraft, Refusal> {
+    let mut resources = Vec::new(alloc);
+    push_both(alloc, &mut resources)?;
+    let mut removed = Vec::new(alloc);
+    removed.push(text(alloc, "r\t\u{1f600}")?)?;
+    removed.push(text(alloc, "s")?)?;
+    let version = text(alloc, "1.2")?;
+    let nonce = text(alloc, "1")?;
+    let stated = ArcSlice::from_vec(resources)?;
+    Ok(DeltaDraft::new(
+        TypeName::Cluster,
+        version,
+        nonce,
+        stated,
+        removed,
+    ))
 }
 
-// The version and the nonce of a draft, how many it states and removes, and what a copy of it shows
-// once it has a cluster, a deletion, which adds nothing, and two removals.
-fn delta_filled(alloc: Global, draft: &mut DeltaDraft) -> Result<String, Refusal> {
-    push_both(alloc, draft)?;
-    remove_both(alloc, draft)?;
-    let copy = draft.try_copy(alloc)?;
-    let shown = copy_shown(alloc, Draft::Delta(copy))?;
+// The version and the nonce of a draft, how many it states and removes, what it is put together as, and what a copy of it shows.
+fn delta_shown(alloc: Global) -> Result<String, Refusal> {
+    let draft = delta_draft(alloc)?;
+    let shown = copy_shown(alloc, Draft::Delta(draft.try_copy(alloc)?))?;
     let (version, nonce) = (draft.version(), draft.nonce());
     let (stated, removed) = (draft.stated(), draft.removed().len());
-    Ok(format!(in alloc; "{version} {nonce} {stated} {removed} {shown}")?)
+    let told = format!(in alloc; "{version} {nonce} {stated} {removed} {shown}")?;
+    let whole = Draft::Delta(draft);
+    let pieces = whole.pieces(alloc)?;
+    let together = put_together(alloc, &pieces, 64)?;
+    drop(pieces);
+    Ok(format!(in alloc; "{told}\n{together}")?)
 }
 
 #[test]
 fn delta_drafts_are_joined(rt: HostRuntime) -> Result<(), Fail> {
     let alloc = rt.alloc();
-    let version = text(alloc, "1.2")?;
-    let nonce = text(alloc, "1")?;
-    let mut draft = DeltaDraft::new(alloc, TypeName::Cluster, version, nonce);
-    let told = delta_filled(alloc, &mut draft);
-    drop(draft);
-    let told = told?;
+    let told = delta_shown(alloc)?;
     let want = format!(in alloc;
         "{{\"nonce\":\"1\",\"removedResources\":[\"r\\t\u{1f600}\",\"s\"],\
          \"resources\":[{{\"name\":\"q\\\"\\\\\\u0001é\",\
@@ -144,7 +176,8 @@ fn delta_drafts_are_joined(rt: HostRuntime) -> Result<(), Fail> {
          \"systemVersionInfo\":\"1.2\",\
          \"typeUrl\":\"type.googleapis.com/envoy.config.cluster.v3.Cluster\"}}"
     )?;
-    let all = format!(in alloc; "1.2 1 1 2 cluster 1 {want} {want}")?;
+    let length = want.len();
+    let all = format!(in alloc; "1.2 1 1 2 cluster 1 {want} {want}\nSome({length}) true > {want}")?;
     assert_eq!(rt; told.as_str(), all.as_str());
     Ok(())
 }

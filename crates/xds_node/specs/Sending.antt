@@ -4,9 +4,11 @@
 --     Fits         the text isn't longer than a frame's may be
 --     sent         the frames of responses, one after another
 --     NoneFailed   no call of the reader or the writer failed
+--     IsHeadOf     what stands before a frame's text
+--     IsUnframed   why a text has no frame
 --     IsUnsent     why a response isn't sent, and the part of its frame that was written
 --     Sends        what sending a response comes to
-use Rattle.std.specs.Prelude.{◌≡◌, ◌⊎◌, ℕ, List, [], take, Result, Ok, Err}
+use Rattle.std.specs.Prelude.{◌≡◌, ◌⊎◌, ℕ, List, [], ◌++◌, take, Result, Ok, Err}
 use Rattle.std.specs.List.{flat_map}
 use Rattle.xds_resource.specs.declared.refusal.Refusal.{Refusal}
 use Rattle.xds_resource.specs.declared.refusal.Refusal.TheVariants.{FrameTooLong, OutOfMemory, Device as DeviceRefusal}
@@ -45,6 +47,14 @@ IsUnsent d part e output =
     ((e ≡ FrameTooLong) × ¬ Fits d × (part ≡ []) × NoneFailed output)
     ⊎ (((e ≡ OutOfMemory) × (part ≡ []) × NoneFailed output)
     ⊎ ((e ≡ DeviceRefusal) × Fits d × HasFailed output × ((k : ℕ) × (part ≡ take k (frame_bytes (frame_of d))))))
+
+-- what stands before a frame's text
+abbrev pub IsHeadOf : Framed → List ℕ → Type 0
+IsHeadOf f head = IsFrame f × (head ++ f.text ≡ frame_bytes f)
+
+-- why a text has no frame: it would be too long, or there was no memory
+abbrev pub IsUnframed : Framed → Refusal → Type 0
+IsUnframed f e = ((e ≡ FrameTooLong) × ¬ IsFrame f) ⊎ (e ≡ OutOfMemory)
 
 -- what sending a response comes to
 abbrev pub Sends : {T : Type 0} → Draft → Result T Refusal → Device → Type 0

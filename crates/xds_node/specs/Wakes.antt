@@ -1,8 +1,11 @@
 -- Whom an event wakes, and what a wait for a stream ends by. This project's own.
---     wakes       an event of a stream wakes that stream's writer alone, and a write all that may be owed something
+--     wakes       a request or the end of a stream wakes that stream's writer alone, and a write all that may be owed something
+--     changes_nothing  a reply that tells that nothing changed
+--     wakes_by    the same by what the event was answered: where nothing changed it wakes nobody
 --     due_at      whether a poll of a stream would give a response, or be refused for want of a number
 --     wait_ends   what a wait ends by: it ends once something is due, or the stream isn't open
-use Rattle.std.specs.Prelude.{ℕ, Bool, true, false, Option, Some, None, is_some}
+--     if_due, narrowed  a writer whose stream is owed nothing isn't woken
+use Rattle.std.specs.Prelude.{ℕ, ◌==◌, Bool, true, false, if◌then◌else◌, Option, Some, None, is_some}
 use Rattle.std.specs.Option.{option_map}
 use Rattle.std.specs.FinMap as finmap
 use Rattle.xds_resource.specs.Types.{types}
@@ -15,11 +18,12 @@ use Rattle.xds_node.specs.declared.wakes.Wake.TheVariants.{Nobody, Writer, All}
 use Rattle.xds_node.specs.declared.desk.Due.{Due}
 use Rattle.xds_node.specs.declared.desk.Due.TheVariants.{Ready, Closed}
 
--- an event of a stream wakes that stream's writer alone, and a write all that may be owed something
+-- A request or the end of a stream wakes that stream's writer alone, and a write all that may be owed something. A poll wakes nobody:
+-- it is the writer that polls.
 abbrev pub wakes : Event → Wake
 wakes events.Open = Nobody
 wakes (events.Request n m) = Writer n
-wakes (events.Poll n which) = Writer n
+wakes (events.Poll n which) = Nobody
 wakes (events.Owes n which) = Nobody
 wakes (events.Close n) = Writer n
 wakes (events.Put t r groups) = All
@@ -28,6 +32,23 @@ wakes (events.Merge b) = All
 wakes events.Snapshot = Nobody
 wakes (events.Rest t names version cluster) = Nobody
 wakes (events.Since marks) = Nobody
+
+-- a reply that tells that nothing changed
+abbrev pub changes_nothing : events.Reply → Bool
+changes_nothing (events.Merged grown) = grown == 0
+changes_nothing (events.Opened n) = false
+changes_nothing (events.Answered o) = false
+changes_nothing (events.Polled d) = false
+changes_nothing (events.Owed owed) = false
+changes_nothing events.Closed = false
+changes_nothing (events.Written counter writer) = false
+changes_nothing (events.Entries b) = false
+changes_nothing (events.Rested d) = false
+changes_nothing (events.Changed b marks) = false
+
+-- the same by what the event was answered: where nothing changed it wakes nobody
+abbrev pub wakes_by : Wake → events.Reply → Wake
+wakes_by w r = if changes_nothing r then Nobody else w
 
 -- whether a poll of a stream would give a response, or be refused for want of a number; none where the stream isn't open
 abbrev pub due_at : Core → ℕ → Option Bool
@@ -38,3 +59,14 @@ abbrev pub wait_ends : Option Bool → Option Due
 wait_ends None = Some Closed
 wait_ends (Some true) = Some Ready
 wait_ends (Some false) = None
+
+-- a writer whose stream is owed nothing isn't woken
+abbrev pub if_due : Option Bool → Wake → Wake
+if_due None w = w
+if_due (Some true) w = w
+if_due (Some false) w = Nobody
+
+abbrev pub narrowed : Core → Wake → Wake
+narrowed c Nobody = Nobody
+narrowed c (Writer n) = if_due (due_at c n) (Writer n)
+narrowed c All = All

@@ -11,7 +11,7 @@ ghost use Rattle.xds_node.specs.Holdings.{keeper};
 ghost use Rattle.xds_node.specs.Books.{Books, most_records, opened_books, base_of, present, next_number, all_entries_of, record_of, with_record, with_seat, after_cut, IsFull};
 ghost use Rattle.xds_node.specs.Pieces.{piece_of, last_entries, StandsInStory, GoesOn, IsWhole};
 ghost use Rattle.xds_node.specs.Told.{no_calls, also_told, also_refused, IsStepAt, LeavesNoRecord};
-ghost use Rattle.xds_node.specs.Wakes.{due_at, wait_ends};
+ghost use Rattle.xds_node.specs.Wakes.{due_at, narrowed, wait_ends};
 
 use crate::history::History;
 use crate::line::Line;
@@ -232,6 +232,19 @@ impl<N: NodeName> Desk<N> {
                 self.waiting.add(stream);
                 None
             }
+        }
+    }
+
+    /// Whom an event wakes, but for a writer whose stream is owed nothing.
+    pub fn narrowed(&self, wake: Wake) -> Wake
+        ensures { result ≡ narrowed (present self.now) wake }
+    {
+        match wake {
+            Wake::Writer(stream) => match self.core.due(stream) {
+                Some(false) => Wake::Nobody,
+                Some(true) | None => wake,
+            },
+            Wake::All | Wake::Nobody => wake,
         }
     }
 

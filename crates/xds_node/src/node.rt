@@ -82,7 +82,8 @@ impl<N: NodeName> Node<N> {
         let wake = Wake::by(&event);
         let mut desk = self.desk.lock(rt);
         let answer = desk.call(&self.tokens, seat, event);
-        if let Ok(Ok(_)) = &answer {
+        if let Ok(Ok(reply)) = &answer {
+            let wake = desk.narrowed(wake.answered(reply));
             let waiting = desk.woken(wake);
             drop(desk);
             self.lanes.wake(wake, &waiting);

@@ -22,8 +22,8 @@ use xds_resource::Refusal;
 /// `BadMessage` at a request, `NonceSpent` at a response), `FrameTooLong` at a response that is too long for a frame, `Device`
 /// where a call of the reader or the writer failed, and `OutOfMemory`. What came before the fault was answered.
 ///
-/// The writer isn't flushed. The memory in use is that of one frame and one piece of the input, and for responses that of
-/// the longest one, twice: its text, made for it and let go once it is written, and one buffer for all of them.
+/// The writer isn't flushed. The memory in use is that of one frame and one piece of the input, and for a response that of a
+/// block of 32 KiB; one of the incremental variant is put together as a text first, which is let go once it is written.
 pub fn run_stream<R: Read, W: Write>(
     alloc: Global,
     core: &mut Core,
@@ -51,16 +51,7 @@ fn serve<R: Read, W: Write>(
     ensures open { IsOpen stream core.new }
 {
     let mut decoder = Decoder::new(alloc);
-    let mut buffer = Vec::new(alloc);
-    while turn(
-        alloc,
-        core,
-        stream,
-        &mut decoder,
-        &mut buffer,
-        reader,
-        writer,
-    )? {}
+    while turn(alloc, core, stream, &mut decoder, reader, writer)? {}
     Ok(())
 }
 
@@ -70,7 +61,6 @@ fn turn<R: Read, W: Write>(
     core: &mut Core,
     stream: u64,
     decoder: &mut Decoder,
-    buffer: &mut Vec<u8>,
     reader: &mut Counted<R>,
     writer: &mut Counted<W>,
 ) -> Result<bool, Refusal>
@@ -81,7 +71,7 @@ fn turn<R: Read, W: Write>(
 {
     match next_request(alloc, decoder)? {
         Some(request) => {
-            answer(alloc, core, stream, request, buffer, writer)?;
+            answer(alloc, core, stream, request, writer)?;
             Ok(true)
         }
         None => fill(decoder, reader),

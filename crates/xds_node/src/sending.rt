@@ -1,17 +1,21 @@
 // Responses sent: each written as a frame.
-ghost use Rattle.std.specs.Prelude.{◌≡◌, Ok};
+ghost use Rattle.std.specs.Prelude.{◌≡◌, IfOk, IfErr, Ok};
 ghost use Rattle.xds_frames.specs.Devices.{seen};
 ghost use Rattle.xds_core.specs.StreamsSeen.{message_of};
-ghost use Rattle.xds_node.specs.Sending.{Sends, kind_of};
+ghost use Rattle.xds_node.specs.Sending.{IsHeadOf, IsUnframed, Sends, kind_of};
 ghost use Rattle.xds_node.specs.Turning.{AnswersOne, IsOpen, SendsDue};
 
 use crate::asking::{ask, poll};
 use std::alloc::Global;
 use std::io::Write;
 use xds_core::{Core, Request};
-use xds_frames::{Counted, FrameKind, push_frame, write_bytes};
-use xds_message::Draft;
+use xds_frames::frame::LONGEST;
+use xds_frames::{Counted, FrameKind, frame_head};
+use xds_message::{Draft, Pieces};
 use xds_resource::Refusal;
+
+// How many bytes are gathered before they are written.
+const BLOCK: usize = 32_768;
 
 fn kind_of(draft: &Draft) -> FrameKind
     ensures { result ≡ kind_of draft.now }
@@ -22,20 +26,40 @@ fn kind_of(draft: &Draft) -> FrameKind
     }
 }
 
-/// Writes a response as a frame. The buffer takes the frame, in place of the one before. `FrameTooLong` where the text is
-/// too long for a frame, and `Device` where a call of the writer failed.
+// What stands before a text in its frame, in a block that has room for some of the text, too.
+fn head_of(alloc: Global, kind: FrameKind, text: &Pieces<'_>) -> Result<Vec<u8>, Refusal>
+    ensures ok { IfOk result (λ head. IsHeadOf (record { kind = kind; text = text.now }) head.items) }
+    ensures refused { IfErr result (λ e. IsUnframed (record { kind = kind; text = text.now }) e) }
+{
+    let Some(length) = text.length_up_to(LONGEST) else {
+        return Err(Refusal::FrameTooLong);
+    };
+    let head = frame_head(kind, length)?;
+    let mut block = Vec::with_capacity(alloc, room_for(length))?;
+    block.extend_from_slice(&head)?;
+    Ok(block)
+}
+
+// The size of a block for a frame of this length of text: short frames are written in one piece.
+fn room_for(length: usize) -> usize {
+    if length < BLOCK { length + 5 } else { BLOCK }
+}
+
+/// Writes a response as a frame: the texts of resources from where they are stored, so that the whole is never in memory.
+/// `FrameTooLong` where the text is too long for a frame, and `Device` where a call of the writer failed.
 pub fn send<W: Write>(
     alloc: Global,
     draft: &Draft,
-    buffer: &mut Vec<u8>,
     writer: &mut Counted<W>,
 ) -> Result<(), Refusal>
     ensures { Sends draft.now result (seen W.contents writer.old writer.new) }
 {
-    let text = draft.write(alloc)?;
-    buffer.clear();
-    push_frame(buffer, kind_of(draft), text.as_bytes())?;
-    write_bytes(writer, buffer)
+    let text = draft.pieces(alloc)?;
+    let block = head_of(alloc, kind_of(draft), &text)?;
+    match text.write(writer, block) {
+        Ok(()) => Ok(()),
+        Err(refusal) => Err(refusal),
+    }
 }
 
 // Polls for responses of all types until there is none, and sends each.
@@ -43,7 +67,6 @@ fn send_due<W: Write>(
     alloc: Global,
     core: &mut Core,
     stream: u64,
-    buffer: &mut Vec<u8>,
     writer: &mut Counted<W>,
 ) -> Result<(), Refusal>
     requires { IsOpen stream core.old }
@@ -51,7 +74,7 @@ fn send_due<W: Write>(
     ensures open { IsOpen stream core.new }
 {
     while let Some(draft) = poll(core, stream)? {
-        send(alloc, &draft, buffer, writer)?;
+        send(alloc, &draft, writer)?;
     }
     Ok(())
 }
@@ -62,7 +85,6 @@ pub(crate) fn answer<W: Write>(
     core: &mut Core,
     stream: u64,
     request: Request,
-    buffer: &mut Vec<u8>,
     writer: &mut Counted<W>,
 ) -> Result<(), Refusal>
     requires { IsOpen stream core.old }
@@ -70,5 +92,5 @@ pub(crate) fn answer<W: Write>(
     ensures open { IsOpen stream core.new }
 {
     ask(core, stream, request)?;
-    send_due(alloc, core, stream, buffer, writer)
+    send_due(alloc, core, stream, writer)
 }

@@ -1,13 +1,13 @@
 // Whom an event wakes.
 ghost use Rattle.std.specs.Prelude.{◌≡◌, ◌<◌, vec_len, IfOk, IfErr};
 ghost use Rattle.xds_resource.specs.declared.refusal.Refusal.TheVariants.{OutOfMemory};
-ghost use Rattle.xds_core.specs.Seen.{event_of};
-ghost use Rattle.xds_node.specs.Wakes.{wakes};
+ghost use Rattle.xds_core.specs.Seen.{event_of, reply_of};
+ghost use Rattle.xds_node.specs.Wakes.{wakes, wakes_by};
 
 use std::alloc::Global;
 use std::mem;
 use std::sync::Condvar;
-use xds_core::Event;
+use xds_core::{Event, Reply};
 use xds_resource::Refusal;
 
 /// How many lanes there are. The writers of streams whose numbers are equal modulo this wait in one lane.
@@ -24,22 +24,33 @@ pub enum Wake {
 }
 
 impl Wake {
-    /// Whom an event wakes: one of a stream that stream's writer, and a write all that may be owed something.
+    /// Whom an event wakes: a request or the end of a stream that stream's writer, and a write all that may be owed something. A
+    /// poll wakes nobody: it is the writer that polls.
     pub fn by(event: &Event) -> Wake
         ensures { result ≡ wakes (event_of event.now) }
     {
         match event {
             Event::Request(stream, _) => Wake::Writer(*stream),
-            Event::Poll(stream, _) => Wake::Writer(*stream),
             Event::Close(stream) => Wake::Writer(*stream),
             Event::Put(_, _) => Wake::All,
             Event::Delete(_, _) => Wake::All,
             Event::Merge(_) => Wake::All,
             Event::Open => Wake::Nobody,
+            Event::Poll(_, _) => Wake::Nobody,
             Event::Owes(_, _) => Wake::Nobody,
             Event::Snapshot => Wake::Nobody,
             Event::Rest(_, _, _, _) => Wake::Nobody,
             Event::Since(_) => Wake::Nobody,
+        }
+    }
+
+    /// The same by what the event was answered: a merge that changed nothing wakes nobody.
+    pub fn answered(self, reply: &Reply) -> Wake
+        ensures { result ≡ wakes_by self (reply_of reply.now) }
+    {
+        match reply {
+            Reply::Merged(0) => Wake::Nobody,
+            _ => self,
         }
     }
 }

@@ -59,9 +59,8 @@ fn write_responses<H: Host, G: Gate<H::Segment>, W: Write, R: Wait>(
         × (H.refused seat.new ≡ H.refused seat.old ++ tried)
         × HasWritten stream told tried (seen W.contents writer.old writer.new) result }
 {
-    let mut buffer = Vec::new(alloc);
     for _ in rt.forever() {
-        match turn(rt, alloc, node, seat, stream, &mut buffer, writer, gate) {
+        match turn(rt, alloc, node, seat, stream, writer, gate) {
             Ok(true) => {}
             Ok(false) => return Ok(()),
             Err(refusal) => return Err(refusal),
@@ -77,7 +76,6 @@ fn turn<H: Host, G: Gate<H::Segment>, W: Write, R: Wait>(
     node: &H,
     seat: &mut H::Seat,
     stream: u64,
-    buffer: &mut Vec<u8>,
     writer: &mut Counted<W>,
     gate: &G,
 ) -> Result<bool, Refusal>
@@ -88,7 +86,7 @@ fn turn<H: Host, G: Gate<H::Segment>, W: Write, R: Wait>(
     node.wait_due(rt, stream);
     match answered(rt, node, gate, seat, Event::Poll(stream, None)) {
         Ok(reply) => {
-            match respond(rt, alloc, stream, draft_in(reply), buffer, writer, gate) {
+            match respond(rt, alloc, stream, draft_in(reply), writer, gate) {
                 Ok(()) => Ok(true),
                 Err(refusal) => Err(refusal),
             }
@@ -115,7 +113,6 @@ fn respond<S: Drop, G: Gate<S>, W: Write, R: Wait>(
     alloc: Global,
     stream: u64,
     response: Option<Draft>,
-    buffer: &mut Vec<u8>,
     writer: &mut Counted<W>,
     gate: &G,
 ) -> Result<(), Refusal>
@@ -125,7 +122,7 @@ fn respond<S: Drop, G: Gate<S>, W: Write, R: Wait>(
         None => Ok(()),
         Some(draft) => {
             gate.pass(rt, Place::BeforeWrite, stream);
-            send(alloc, &draft, buffer, writer)
+            send(alloc, &draft, writer)
         }
     }
 }

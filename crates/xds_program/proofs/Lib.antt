@@ -3,7 +3,6 @@ pub mod Responding
 pub mod Taking
 pub mod Reading
 pub mod Writing
-pub mod Blocks
 pub mod Telling
 pub mod Judging
 pub mod CommandLine

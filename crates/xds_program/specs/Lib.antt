@@ -1,5 +1,4 @@
 pub mod Answers
-pub mod Blocks
 pub mod Faults
 pub mod Gathered
 pub mod Tasks

@@ -10,12 +10,12 @@ ghost use Rattle.xds_program.specs.Faults.{IsAnswer, IsFault};
 
 use crate::gathering::{Gathered, LineFault, gather, gather_freeing};
 use std::alloc::Global;
-use xds_catalogue::Catalogue;
 use xds_core::Catalogues;
 use xds_interest::ClusterText;
 use xds_ledger::Nonces;
 use xds_message::{DiscoveryRequest, SotwDraft};
 use xds_resource::{Refusal, ResourceType, TypeName};
+use xds_sessions::Published;
 use xds_sessions::sotw_session::Session;
 
 /// Answers an input of stamped writes, a line each, and a `DiscoveryRequest` on the last line. The writes are joined
@@ -169,7 +169,7 @@ fn cluster_of(alloc: Global, request: &DiscoveryRequest) -> Result<ClusterText, 
 fn respond<T: ResourceType>(
     alloc: Global,
     replica: u16,
-    catalogue: &Catalogue<T>,
+    catalogue: &Published<T>,
     request: &DiscoveryRequest,
 ) -> Result<Option<SotwDraft>, Refusal>
     requires { IsCatalogue catalogue.now.entries }

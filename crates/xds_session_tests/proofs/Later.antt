@@ -21,9 +21,11 @@ use Rattle.xds_catalogue.proofs.Catalogues.{catalogue_of-IsCatalogue}
 use Rattle.xds_ledger.specs.declared.variant.VariantName.{VariantName}
 use Rattle.xds_ledger.specs.Owed.{live_version, version_shown}
 use Rattle.xds_ledger.specs.Listed.{IsLater}
-use Rattle.xds_ledger.proofs.Fitting.{new_list_fits, later_holdings_fit}
+use Rattle.xds_ledger.specs.Offers.{Offer, offer}
+use Rattle.xds_ledger.proofs.Fitting.{new_list_fits}
+use Rattle.xds_ledger.proofs.Foretelling.{sent_books_fit, later_books_fit}
 use Rattle.xds_ledger.proofs.Later.{later_itself, joined_is_later}
-use Rattle.xds_ledger.specs.Lists.{Books, new_books, Fits, FitsNext, Kept, SessionFits, StaysFit, StaysPresent}
+use Rattle.xds_ledger.specs.Lists.{Books, new_books, sent_books, Fits, FitsNext, Kept, SessionFits, StaysFit, StaysPresent}
 use Rattle.xds_ledger.proofs.Keeping.{later_session_fits}
 
 -- ---- a catalogue that changes
@@ -104,7 +106,7 @@ stays_present old new h mark touched same is name out past =
 
 -- before the first request
 pub new_books_fit : (v : VariantName) (t : TypeName) (s : Selection) (h : Holdings) (b : Books) → b ≡ new_books → Fits v t s h b
-new_books_fit v t s h b is = subst (Fits v t s h) (sym is) (new_list_fits v t s h)
+new_books_fit v t s h b is = subst (Fits v t s h) (sym is) (record { list = new_list_fits v t s h; foretold = λ tells. tt })
 
 -- once a request was taken
 pub books_taken : (v : VariantName) (t : TypeName) (old new : Selection) (h : Holdings) (before after : Books) (touched : Touch) → FitsNext v t touched before after → old.cluster ≡ new.cluster → touched ≡ sotw_touch old new → Fits v t old h before
@@ -114,6 +116,11 @@ books_taken v t old new h before after touched next same is fits = next old new 
 pub books_kept : (v : VariantName) (t : TypeName) (s : Selection) (h : Holdings) (before after : Books) → after ≡ before → Fits v t s h before → Fits v t s h after
 books_kept v t s h before after same fits = subst (Fits v t s h) (sym same) fits
 
+-- once an offer was sent
+pub books_sent : (v : VariantName) (t : TypeName) (s : Selection) (h : Holdings) (before after : Books) (o : Offer) (nonce : ℕ) → o ≡ offer v t s h.entries before.account.beliefs → after ≡ sent_books before o nonce
+    → Fits v t s h before → Fits v t s h after
+books_sent v t s h before after o nonce made is fits = subst (Fits v t s h) (sym (is ∙ ap (λ x. sent_books before x nonce) made)) (sent_books_fit v t s h before nonce fits)
+
 -- once the catalogue changed
 pub books_follow : (v : VariantName) (t : TypeName) (s : Selection) (h later : Holdings) (b : Books) → Follows h later → Fits v t s h b → Fits v t s later b
-books_follow v t s h later b follows fits = later_holdings_fit v t s h later b.account.beliefs b.listed follows.1 fits
+books_follow v t s h later b follows fits = later_books_fit v t s h later b follows.1 fits

@@ -13,12 +13,13 @@ use xds_interest::ClusterText;
 use xds_ledger::{Nonces, Outcome};
 use xds_message::DeltaDiscoveryRequest;
 use xds_resource::{Cluster, Refusal, ResourceType, Route};
+use xds_sessions::Published;
 use xds_sessions::delta_session::Session;
 
 #[derive(Drop)]
 struct Server<T: ResourceType> {
     replica: u16,
-    catalogue: Catalogue<T>,
+    catalogue: Published<T>,
     session: Session<T>,
     nonces: Nonces,
     ghost named: { IsCatalogue catalogue.entries } by { Prim.hlevel props },
@@ -29,7 +30,7 @@ impl<T: ResourceType> Actor for Server<T> {
     fn new(alloc: Global, replica: u16) -> Server<T> {
         Server {
             replica,
-            catalogue: Catalogue::new(alloc),
+            catalogue: Published::of(alloc, Catalogue::new(alloc)),
             session: Session::new(alloc, ClusterText::none()),
             nonces: Nonces::new(),
         }
@@ -108,11 +109,12 @@ impl<T: ResourceType> Server<T> {
         for number in 0..count {
             self.put_one(alloc, number)?;
         }
-        let changes = self.catalogue.changes();
+        let changes = self.catalogue.catalogue().changes();
         Ok(format!(in alloc; "{changes}")?)
     }
 
     fn poll(&mut self, alloc: Global) -> Result<String, Refusal> {
+        self.session.share(alloc, &mut self.catalogue);
         let response = self
             .session
             .poll(alloc, self.replica, &self.catalogue, &mut self.nonces)?;

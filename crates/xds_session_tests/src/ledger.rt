@@ -1,10 +1,11 @@
 // What a client of clusters was told and is owed, by scripts over a ledger of either variant.
-ghost use Rattle.std.specs.Prelude.{◌≡◌, [], map};
+ghost use Rattle.std.specs.Prelude.{◌≡◌, [], map, IfOk};
 ghost use Rattle.xds_resource.specs.declared.types.TypeName.TheVariants as types;
 ghost use Rattle.std.proofs.Props.{props};
 ghost use Rattle.xds_catalogue.specs.Holdings.{IsCatalogue};
 ghost use Rattle.xds_ledger.specs.Ledgers.{AreInOrder};
 ghost use Rattle.xds_ledger.specs.Lists.{Fits};
+ghost use Rattle.xds_ledger.specs.Offers.{offer};
 
 use crate::stories::{change, keep};
 use std::alloc::Global;
@@ -14,14 +15,16 @@ use xds_cases::scripts::{Script, either, follow};
 use xds_catalogue::Catalogue;
 use xds_interest::{ClusterText, Interest};
 use xds_ledger::{
-    Delta, Due, Entry, Ledger, Names, Nonces, StateOfTheWorld, Variant, VariantName, Version,
+    Delta, Due, Entry, Ledger, Names, Nonces, SharedMap, StateOfTheWorld, Variant, VariantName,
+    Version,
 };
 use xds_resource::{Cluster, NameMap, Refusal, Stamp, TypeName};
+use xds_sessions::Published;
 
 // What the replica holds, what a client wants, and what it was told.
 #[derive(Drop)]
 struct Client<V: Variant> {
-    catalogue: Catalogue<Cluster>,
+    catalogue: Published<Cluster>,
     interest: Interest<Cluster>,
     ledger: Ledger<Cluster, V>,
     ghost named: { IsCatalogue catalogue.entries } by { Prim.hlevel props },
@@ -85,8 +88,10 @@ impl<V: Variant> Client<V> {
         change(alloc, &mut self.catalogue, verb, rest)
     }
 
-    fn offered(&self, alloc: Global) -> Result<NameMap<Due>, Refusal> {
-        self.ledger.offer(alloc, &self.interest, &self.catalogue)
+    fn offered(&self, alloc: Global) -> Result<SharedMap<Due>, Refusal>
+        ensures { IfOk result (λ o. o ≡ offer V.NAME types.Cluster self.now.interest self.now.catalogue.entries self.now.ledger.account.beliefs) }
+    {
+        self.ledger.offer(alloc, &self.interest, self.catalogue.catalogue())
     }
 
     fn sent(&mut self, alloc: Global, number: &str) -> Result<String, Refusal> {
@@ -97,8 +102,8 @@ impl<V: Variant> Client<V> {
     }
 
     fn sending(&self, alloc: Global) -> Result<String, Refusal> {
-        if self.ledger.sends(&self.interest, &self.catalogue) {
-            offer_text(alloc, &self.offered(alloc)?)
+        if self.ledger.sends(&self.interest, self.catalogue.catalogue()) {
+            offer_text(alloc, self.offered(alloc)?.as_map())
         } else {
             Ok(String::from_str(alloc, "none")?)
         }
@@ -109,8 +114,8 @@ impl<V: Variant> Client<V> {
         Ok(match verb {
             "answers" => self.ledger.answers(rest),
             "stale" => self.ledger.is_stale(rest),
-            "due" => self.ledger.is_due(&self.interest, &self.catalogue),
-            _ => self.ledger.owes(&self.interest, &self.catalogue),
+            "due" => self.ledger.is_due(&self.interest, self.catalogue.catalogue()),
+            _ => self.ledger.owes(&self.interest, self.catalogue.catalogue()),
         })
     }
 }
@@ -118,7 +123,7 @@ impl<V: Variant> Client<V> {
 impl<V: Variant> Script for Client<V> {
     fn begin(alloc: Global) -> Client<V> {
         Client {
-            catalogue: Catalogue::new(alloc),
+            catalogue: Published::of(alloc, Catalogue::new(alloc)),
             interest: Interest::nothing(alloc, ClusterText::none()),
             ledger: Ledger::new(alloc),
         }
@@ -131,7 +136,7 @@ impl<V: Variant> Script for Client<V> {
             "ack" => self.answered(alloc, false, rest),
             "nack" => self.answered(alloc, true, rest),
             "resume" => self.resumed(alloc, rest),
-            "offer" => offer_text(alloc, &self.offered(alloc)?),
+            "offer" => offer_text(alloc, self.offered(alloc)?.as_map()),
             "send" => self.sent(alloc, rest),
             "sending" => self.sending(alloc),
             _ => either(alloc, self.is(alloc, verb, rest)?, "yes", "no"),
@@ -178,7 +183,23 @@ send 2 => sent
 ack 2 => taken
 delete A => 3-1
 offer => {B=2-1,}
-due => yes"#,
+due => yes
+
+take * => taken
+put {"@type":"CDS","name":"A"} => 1-1
+put {"@type":"CDS","name":"B"} => 2-1
+send 1 => sent
+take * A => taken
+ack 1 * A => taken
+due => yes
+send 2 => sent
+put {"@type":"CDS","name":"C"} => 3-1
+ack 2 * A => taken
+due => yes
+sending => {A=1-1,B=2-1,C=3-1,}
+send 3 => sent
+ack 3 * A => taken
+due => no"#,
     )
 }
 

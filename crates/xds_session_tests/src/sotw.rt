@@ -13,12 +13,13 @@ use xds_interest::ClusterText;
 use xds_ledger::{Nonces, Outcome};
 use xds_message::DiscoveryRequest;
 use xds_resource::{Cluster, Refusal, ResourceType, Route, Secret};
+use xds_sessions::Published;
 use xds_sessions::sotw_session::Session;
 
 // What the replica holds of a type, and one stream's session of that type.
 #[derive(Drop)]
 struct Stream<T: ResourceType> {
-    catalogue: Catalogue<T>,
+    catalogue: Published<T>,
     session: Session<T>,
     nonces: Nonces,
     ghost named: { IsCatalogue catalogue.entries } by { Prim.hlevel props },
@@ -49,6 +50,7 @@ impl<T: ResourceType> Stream<T> {
     }
 
     fn polled(&mut self, alloc: Global) -> Result<String, Refusal> {
+        self.session.share(alloc, &mut self.catalogue);
         match self
             .session
             .poll(alloc, 1, &self.catalogue, &mut self.nonces)?
@@ -66,7 +68,7 @@ impl<T: ResourceType> Stream<T> {
 impl<T: ResourceType> Script for Stream<T> {
     fn begin(alloc: Global) -> Stream<T> {
         Stream {
-            catalogue: Catalogue::new(alloc),
+            catalogue: Published::of(alloc, Catalogue::new(alloc)),
             session: Session::new(alloc, ClusterText::none()),
             nonces: Nonces::new(),
         }

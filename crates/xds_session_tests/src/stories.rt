@@ -7,8 +7,8 @@ use std::alloc::Global;
 use std::mem;
 use std::test::Fail;
 use xds_cases::cases::{replaced, told, unfolded, words_of, written_out};
-use xds_catalogue::Catalogue;
 use xds_resource::{Groups, Refusal, Resource, ResourceType, Stamp, Write};
+use xds_sessions::Published;
 
 /// What answers the steps of a story.
 pub trait Actor {
@@ -65,7 +65,7 @@ pub(crate) fn text(alloc: Global, text: &str) -> Result<String, Refusal> {
 /// changes grew.
 pub(crate) fn change<T: ResourceType>(
     alloc: Global,
-    catalogue: &mut Catalogue<T>,
+    catalogue: &mut Published<T>,
     verb: &str,
     rest: &str,
 ) -> Result<String, Refusal>
@@ -83,7 +83,7 @@ pub(crate) fn change<T: ResourceType>(
 // Puts a resource, for the clients of some groups.
 fn put<T: ResourceType>(
     alloc: Global,
-    catalogue: &mut Catalogue<T>,
+    catalogue: &mut Published<T>,
     groups: Groups,
     resource: &str,
 ) -> Result<String, Refusal>
@@ -98,7 +98,7 @@ fn put<T: ResourceType>(
 // Puts a resource, for the clients of the groups that are named before it.
 fn put_in<T: ResourceType>(
     alloc: Global,
-    catalogue: &mut Catalogue<T>,
+    catalogue: &mut Published<T>,
     rest: &str,
 ) -> Result<String, Refusal>
     requires { IsCatalogue catalogue.old.entries }
@@ -111,7 +111,7 @@ fn put_in<T: ResourceType>(
 
 fn delete<T: ResourceType>(
     alloc: Global,
-    catalogue: &mut Catalogue<T>,
+    catalogue: &mut Published<T>,
     name: &str,
 ) -> Result<String, Refusal>
     requires { IsCatalogue catalogue.old.entries }
@@ -124,7 +124,7 @@ fn delete<T: ResourceType>(
 // Joins a write.
 fn join<T: ResourceType>(
     alloc: Global,
-    catalogue: &mut Catalogue<T>,
+    catalogue: &mut Published<T>,
     write: &str,
 ) -> Result<String, Refusal>
     requires { IsCatalogue catalogue.old.entries }

@@ -3,3 +3,4 @@ pub mod Bodies
 pub mod DeltaMade
 pub mod Stating
 mod InPlace
+pub mod Sharing

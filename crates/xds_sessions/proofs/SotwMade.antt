@@ -1,6 +1,6 @@
 -- That what the code makes is the response, and what it leaves is the session.
 use Rattle.std.proofs.Common.{◌≡◌, ℕ, List, [], ◌∷◌, ◌++◌, Bool, true, false, cond, Option, Some, None, refl, sym, ap, ◌∙◌, append_assoc, append-nil, not}
-use Rattle.std.specs.Prelude.{is_some, if◌then◌else◌, decimal}
+use Rattle.std.specs.Prelude.{is_some, if◌then◌else◌}
 use Rattle.std.specs.List.{filter, filter_map, cons_option}
 use Rattle.std.specs.FinMap as finmap
 use Rattle.xds_resource.specs.declared.types.TypeName.{TypeName}
@@ -8,21 +8,16 @@ use Rattle.xds_resource.specs.Writes.{StampedWrite, text_cmp}
 use Rattle.xds_interest.specs.Asked.{Asked, sotw_asked}
 use Rattle.std.specs.FinSet as set
 use Rattle.xds_interest.specs.Touches.{Touch, sotw_touch}
-use Rattle.xds_message.specs.Drafts.{Drafted, with_body}
+use Rattle.xds_message.specs.Drafts.{with_text}
 use Rattle.xds_ledger.specs.declared.variant.VariantName.TheVariants.{StateOfTheWorld}
 use Rattle.xds_ledger.specs.Offers.{Offer}
 use Rattle.xds_ledger.specs.Ledgers.{Account, settled, touch, resume}
 use Rattle.xds_ledger.specs.Sessions.{Session, is_stale}
 use Rattle.xds_interest.specs.Interests.{Selection}
-use Rattle.xds_ledger.specs.Texts.{interest_version}
-use Rattle.xds_catalogue.specs.Holdings.{Holdings}
+use Rattle.xds_catalogue.specs.Holdings.{Entries}
 use Rattle.xds_catalogue.specs.Content.{content}
-use Rattle.xds_sessions.specs.SotwPolls.{take_list, response}
+use Rattle.xds_sessions.specs.SotwPolls.{take_list, stated_bodies}
 use Rattle.xds_sessions.specs.SotwParts.{pushed_all}
-
--- the response with more bodies
-abbrev pub with_bodies : Drafted → List (List ℕ) → Drafted
-with_bodies d bodies = record d { bodies = d.bodies ++ bodies }
 
 abbrev offered : Offer → StampedWrite → Bool
 offered o w = is_some (finmap.get o w.name)
@@ -30,18 +25,19 @@ offered o w = is_some (finmap.get o w.name)
 abbrev pub body_of : StampedWrite → Option (List ℕ)
 body_of w = w.body
 
-pub bodies_step : (d : Drafted) (body : Option (List ℕ)) (rest : List (List ℕ)) → with_bodies (with_body d body) rest ≡ with_bodies d (cons_option body rest)
-bodies_step d None rest = refl
-bodies_step d (Some b) rest = λ i. record d { bodies = append_assoc d.bodies (b ∷ []) rest i }
+pub texts_step : (bodies : List (List ℕ)) (body : Option (List ℕ)) (rest : List (List ℕ)) → with_text bodies body ++ rest ≡ bodies ++ cons_option body rest
+texts_step bodies None rest = refl
+texts_step bodies (Some b) rest = append_assoc bodies (b ∷ []) rest
 
-push_step : (o : Offer) (d : Drafted) (w : StampedWrite) (ws : List StampedWrite) (said : Bool) → ((e : Drafted) → pushed_all o e ws ≡ with_bodies e (filter_map body_of (filter (offered o) ws)))
-    → pushed_all o (if said then with_body d w.body else d) ws ≡ with_bodies d (filter_map body_of (cond said (w ∷ filter (offered o) ws) (filter (offered o) ws)))
-push_step o d w ws true rest = rest (with_body d w.body) ∙ bodies_step d w.body (filter_map body_of (filter (offered o) ws))
-push_step o d w ws false rest = rest d
+push_step : (o : Offer) (bodies : List (List ℕ)) (w : StampedWrite) (ws : List StampedWrite) (said : Bool)
+    → ((more : List (List ℕ)) → pushed_all o more ws ≡ more ++ filter_map body_of (filter (offered o) ws))
+    → pushed_all o (if said then with_text bodies w.body else bodies) ws ≡ bodies ++ filter_map body_of (cond said (w ∷ filter (offered o) ws) (filter (offered o) ws))
+push_step o bodies w ws true rest = rest (with_text bodies w.body) ∙ texts_step bodies w.body (filter_map body_of (filter (offered o) ws))
+push_step o bodies w ws false rest = rest bodies
 
-pub pushed_together : (o : Offer) (ws : List StampedWrite) (d : Drafted) → pushed_all o d ws ≡ with_bodies d (filter_map body_of (filter (offered o) ws))
-pushed_together o [] d = λ i. record d { bodies = sym (append-nil d.bodies) i }
-pushed_together o (w ∷ ws) d = push_step o d w ws (offered o w) (pushed_together o ws)
+pub pushed_together : (o : Offer) (ws : List StampedWrite) (bodies : List (List ℕ)) → pushed_all o bodies ws ≡ bodies ++ filter_map body_of (filter (offered o) ws)
+pushed_together o [] bodies = sym (append-nil bodies)
+pushed_together o (w ∷ ws) bodies = push_step o bodies w ws (offered o w) (pushed_together o ws)
 
 -- a request that is taken leaves what is kept of the names, and the account with its names taken
 pub list_taken : (t : TypeName) (s : Session) (nonce : List ℕ) (rejects : Bool) (names : List (List ℕ)) (asked : Asked) (account : Account) → not (is_stale s nonce) ≡ true → asked ≡ sotw_asked t s.asked names
@@ -70,9 +66,6 @@ list_ignored t s nonce rejects names no_longer =
     record { asked = a; account = resume (touch (settled StateOfTheWorld t s.account nonce rejects) a.interest (sotw_touch s.asked.interest a.interest) a.interest.names) finmap.empty } in
     sym (ap (λ b. if b then all else s) no_longer)
 
-pub response_made : (replica : ℕ) (t : TypeName) (h : Holdings) (s : Selection) (o : Offer) (number : ℕ) (kind : TypeName) (version nonce : List ℕ) (start draft : Drafted) (ws : List StampedWrite)
-    → draft ≡ pushed_all o start ws → start ≡ record { kind = kind; version_info = version; nonce = nonce; bodies = [] } → ws ≡ content h.entries s → kind ≡ t
-    → version ≡ interest_version replica h.changes s → nonce ≡ decimal number → draft ≡ response replica t h s o number
-response_made replica t h s o number kind version nonce start draft ws made begun shown typed versioned numbered =
-    made ∙ (λ i. pushed_all o (begun i) (shown i)) ∙ pushed_together o (content h.entries s) (record { kind = kind; version_info = version; nonce = nonce; bodies = [] })
-    ∙ (λ i. record { kind = typed i; version_info = versioned i; nonce = numbered i; bodies = filter_map body_of (filter (offered o) (content h.entries s)) })
+-- the texts that are gathered are those that the response states
+pub bodies_made : (m : Entries) (s : Selection) (o : Offer) (ws : List StampedWrite) (bodies : List (List ℕ)) → bodies ≡ pushed_all o [] ws → ws ≡ content m s → bodies ≡ stated_bodies m s o
+bodies_made m s o ws bodies made shown = made ∙ ap (pushed_all o []) shown ∙ pushed_together o (content m s) []

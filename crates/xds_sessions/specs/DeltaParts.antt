@@ -2,9 +2,10 @@
 --     account_after   the account after a request
 --     account_taken   the same of the first request or of a later one
 --     session_taken   the session after a request that is taken
---     said            the response with what an offer says of a name
+--     nothing_said    nothing is said yet
+--     said            what is said, with what an offer says of a name
 --     said_all        and so with each of some names
-use Rattle.std.specs.Prelude.{ℕ, List, [], ◌∷◌, Bool, is_some, if◌then◌else◌}
+use Rattle.std.specs.Prelude.{ℕ, List, [], ◌∷◌, ◌++◌, Bool, is_some, if◌then◌else◌}
 use Rattle.std.specs.Option.{option_map_or}
 use Rattle.std.specs.FinMap as finmap
 use Rattle.std.specs.FinSet as set
@@ -15,13 +16,13 @@ use Rattle.xds_interest.specs.Asked.{delta_asked}
 use Rattle.xds_interest.specs.Touches.{Touch, delta_touch}
 use Rattle.xds_catalogue.specs.Holdings.{Entries}
 use Rattle.xds_message.specs.DeltaMessages.{DeltaRequest}
-use Rattle.xds_message.specs.Drafts.{DraftedDelta, with_resource, with_removed}
+use Rattle.xds_message.specs.Drafts.{with_resource}
 use Rattle.xds_ledger.specs.declared.variant.VariantName.TheVariants.{Delta}
 use Rattle.xds_ledger.specs.declared.entry.Due.{Due}
 use Rattle.xds_ledger.specs.declared.entry.Due.TheVariants.{Stated, Removed}
 use Rattle.xds_ledger.specs.Ledgers.{Account, settled, touch, resume}
 use Rattle.xds_ledger.specs.Sessions.{Session}
-use Rattle.xds_sessions.specs.DeltaPolls.{mention}
+use Rattle.xds_sessions.specs.DeltaPolls.{Said, mention}
 
 -- the account after a request: its interest, what it touches and mentions, and the versions that it resumes from
 abbrev pub account_after : TypeName → Account → DeltaRequest → Selection → Touch → set.FinSet text_cmp → finmap.FinMap text_cmp (List ℕ) → Account
@@ -37,12 +38,16 @@ session_taken t s m =
     let asked = delta_asked t s.asked (mention m) in
     record { asked = asked; account = account_taken t s.asked.begun s.account m asked.interest (delta_touch t (mention m)) }
 
--- the response with what an offer says of a name
-abbrev pub said : Entries → DraftedDelta → List ℕ → Due → DraftedDelta
-said m d name (Stated version) = option_map_or (λ w. with_resource d w w.body) (finmap.get m name) d
-said m d name Removed = with_removed d name
+-- nothing is said yet
+abbrev pub nothing_said : Said
+nothing_said = record { resources = []; removed = [] }
+
+-- what is said, with what an offer says of a name
+abbrev pub said : Entries → Said → List ℕ → Due → Said
+said m d name (Stated version) = option_map_or (λ w. record d { resources = with_resource d.resources w w.body }) (finmap.get m name) d
+said m d name Removed = record d { removed = d.removed ++ name ∷ [] }
 
 -- and so with each of some names
-abbrev pub said_all : Entries → DraftedDelta → List (List ℕ × Due) → DraftedDelta
+abbrev pub said_all : Entries → Said → List (List ℕ × Due) → Said
 said_all m d [] = d
 said_all m d (e ∷ es) = said_all m (said m d e.0 e.1) es

@@ -7,6 +7,7 @@
 --     names_where                      the names of which an offer says such a thing, in ascending order
 --     resource_of                      the resource that a write puts, under its name and with its version
 --     resource_at                      the live resource of a name
+--     Said, said_by                    what a response says, by its offer
 --     response                         the response with this offer, as the response of this number on its stream
 --     HasPolled                        what a poll answers and leaves
 use Rattle.std.specs.Prelude.{ℕ, List, map, Bool, true, false, Option, is_some, option_map, decimal}
@@ -66,15 +67,26 @@ resource_of w = option_map (λ body. record { name = w.name; version = version_o
 abbrev pub resource_at : Entries → List ℕ → Option DraftedResource
 resource_at m name = option_and_then resource_of (finmap.get m name)
 
--- The response with this offer, as the response of this number on its stream: the live resources of the names that the
--- offer states, and the names that it removes.
+-- what a response says: the resources that it states, and the names that are gone
+pub record Said : Type 0 where
+  pub resources : List DraftedResource
+  pub removed : List (List ℕ)
+
+-- What a response with this offer says: the live resources of the names that the offer states, and the names that it removes.
+abbrev pub said_by : Entries → Offer → Said
+said_by m o = record {
+  resources = filter_map (resource_at m) (names_where is_statement o);
+  removed = names_where is_removal o;
+}
+
+-- the response with this offer, as the response of this number on its stream
 abbrev pub response : ℕ → TypeName → Holdings → Offer → ℕ → DraftedDelta
 response replica t h o number = record {
   kind = t;
   system_version_info = replica_version replica h.changes;
   nonce = decimal number;
-  resources = filter_map (resource_at h.entries) (names_where is_statement o);
-  removed_resources = names_where is_removal o;
+  resources = (said_by h.entries o).resources;
+  removed_resources = (said_by h.entries o).removed;
 }
 
 -- What a poll answers and leaves, of the session and of the stream's count of responses.

@@ -4,3 +4,4 @@ pub mod Rest
 pub mod DeltaPolls
 pub mod DeltaParts
 pub mod Laws
+pub mod Wildcards

@@ -4,6 +4,7 @@
 --     take            the session after a request, which rejects where it has an error
 --     sending, owes   the offer of a poll, if it gives a response
 --     stated_writes   the live writes that the interest covers and the offer speaks of, in ascending order of names
+--     stated_bodies   their texts
 --     response        the response with this offer, as the response of this number on its stream
 --     HasPolled       what a poll answers and leaves, of the session and of the stream's count of responses
 use Rattle.std.specs.Prelude.{ℕ, List, Bool, Option, is_some, decimal}
@@ -41,13 +42,17 @@ owes t s m = sessions.owes StateOfTheWorld t s m
 abbrev pub stated_writes : Entries → Selection → Offer → List StampedWrite
 stated_writes m s o = filter (λ w. is_some (finmap.get o w.name)) (content m s)
 
+-- their texts
+abbrev pub stated_bodies : Entries → Selection → Offer → List (List ℕ)
+stated_bodies m s o = filter_map (λ w. w.body) (stated_writes m s o)
+
 -- the response with this offer, as the response of this number on its stream
 abbrev pub response : ℕ → TypeName → Holdings → Selection → Offer → ℕ → Drafted
 response replica t h s o number = record {
   kind = t;
   version_info = interest_version replica h.changes s;
   nonce = decimal number;
-  bodies = filter_map (λ w. w.body) (stated_writes h.entries s o);
+  bodies = stated_bodies h.entries s o;
 }
 
 -- What a poll answers and leaves, of the session and of the stream's count of responses.

@@ -5,12 +5,17 @@
 mod delta_response;
 pub mod delta_session;
 pub mod laws;
+pub mod published;
 mod rest;
 pub mod session;
 mod sotw_response;
 pub mod sotw_session;
 pub mod speaks;
+pub mod wildcards;
 
+pub use delta_response::Said;
+pub use published::Published;
 pub use rest::rested;
 pub use session::Session;
 pub use speaks::Speaks;
+pub use wildcards::Wildcard;

@@ -3,14 +3,15 @@ ghost use Rattle.std.specs.Prelude.{◌≡◌, [], map, string_bytes, IfOk, IfEr
 ghost use Rattle.std.specs.List.{filter_map};
 ghost use Rattle.xds_resource.specs.declared.refusal.Refusal.TheVariants.{OutOfMemory};
 ghost use Rattle.xds_catalogue.specs.Content.{content};
-ghost use Rattle.xds_sessions.specs.SotwParts.{with_all};
+ghost use Rattle.xds_sessions.specs.SotwParts.{all_texts};
 ghost use Rattle.xds_sessions.specs.Rest.{asked_once, unless_present};
 
 use std::alloc::Global;
+use std::sync::ArcSlice;
 use xds_catalogue::Catalogue;
 use xds_interest::{ClusterText, Interest};
 use xds_ledger::texts::interest_version;
-use xds_message::SotwDraft;
+use xds_message::{Body, SotwDraft, push_body};
 use xds_resource::{Refusal, ResourceType, Write};
 
 /// What a client of this cluster is answered that sends one list of names and the version that it kept: all that it sees, for
@@ -47,21 +48,24 @@ fn whole<T: ResourceType>(
     ensures refused { IfErr result (λ e. e ≡ OutOfMemory) }
 {
     let shown = catalogue.content(alloc, interest)?;
-    let draft = SotwDraft::new(alloc, T::TYPE, version, String::new(alloc));
-    push_bodies(draft, &shown)
+    let bodies = bodies_of(alloc, &shown)?;
+    let shared = ArcSlice::from_vec(bodies)?;
+    Ok(SotwDraft::new(
+        T::TYPE,
+        version,
+        String::new(alloc),
+        shared,
+    ))
 }
 
-// Adds the bodies of writes.
-fn push_bodies<T: ResourceType>(
-    draft: SotwDraft,
-    writes: &[&Write<T>],
-) -> Result<SotwDraft, Refusal>
-    ensures ok { IfOk result (λ d. d ≡ with_all draft (map (λ w. w.now) writes.now)) }
+// The texts of writes.
+fn bodies_of<T: ResourceType>(alloc: Global, writes: &[&Write<T>]) -> Result<Vec<Body>, Refusal>
+    ensures ok { IfOk result (λ v. v.items ≡ all_texts [] (map (λ w. w.now) writes.now)) }
     ensures refused { IfErr result (λ e. e ≡ OutOfMemory) }
 {
-    let mut all = draft;
+    let mut bodies = Vec::new(alloc);
     for write in writes {
-        all.push(write)?;
+        push_body(&mut bodies, write)?;
     }
-    Ok(all)
+    Ok(bodies)
 }

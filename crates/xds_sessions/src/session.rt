@@ -5,18 +5,20 @@ ghost use Rattle.xds_resource.specs.Stamps.{max_counter};
 ghost use Rattle.xds_resource.specs.declared.refusal.Refusal.TheVariants.{OutOfMemory, NonceSpent};
 ghost use Rattle.xds_ledger.specs.Offers.{offer};
 ghost use Rattle.xds_ledger.specs.Sessions as sessions;
-ghost use Rattle.xds_ledger.specs.Sessions.{HasPolled, is_stale, send, sending};
-ghost use Rattle.xds_ledger.specs.Lists.{SessionFits, new_kept};
+ghost use Rattle.xds_ledger.specs.Sessions.{HasPolled, is_stale, sending};
+ghost use Rattle.xds_ledger.specs.Lists.{SessionFits, new_kept, sent_kept};
 ghost use Rattle.xds_catalogue.specs.Holdings.{Holdings};
 ghost use Rattle.xds_ledger.specs.Listed.{changed_since};
+ghost use Rattle.xds_sessions.specs.Wildcards.{IsFirst, IsShared};
 
+use crate::published::Published;
 use crate::speaks::Speaks;
+use crate::wildcards::{Wildcard, wants_all};
 use std::alloc::Global;
 use std::marker::Model;
-use xds_catalogue::Catalogue;
 use xds_interest::ClusterText;
-use xds_ledger::{Due, Ledger, Nonces};
-use xds_resource::{NameMap, Refusal, ResourceType};
+use xds_ledger::{Due, Ledger, Nonces, SharedMap};
+use xds_resource::{Refusal, ResourceType};
 
 /// One type on one stream, in one of the two variants.
 pub struct Session<T: ResourceType, V: Speaks<T>> {
@@ -64,19 +66,19 @@ impl<T: ResourceType, V: Speaks<T>> Session<T, V> {
     }
 
     /// Whether the client is owed something: a response of the type is unanswered or due. It takes no memory.
-    pub fn owes(&self, catalogue: &Catalogue<T>) -> bool
+    pub fn owes(&self, catalogue: &Published<T>) -> bool
         requires { SessionFits V.NAME T.TYPE catalogue.now self.now }
         ensures { result ≡ sessions.owes V.NAME T.TYPE self.now.session catalogue.now.entries }
     {
-        V::has_begun(&self.names) && self.ledger.owes(V::interest(&self.names), catalogue)
+        V::has_begun(&self.names) && self.ledger.owes(V::interest(&self.names), catalogue.catalogue())
     }
 
     /// Whether `poll` has a response to send, be there a nonce for it or not. It takes no memory.
-    pub fn sends(&self, catalogue: &Catalogue<T>) -> bool
+    pub fn sends(&self, catalogue: &Published<T>) -> bool
         requires { SessionFits V.NAME T.TYPE catalogue.now self.now }
         ensures { result ≡ is_some (sending V.NAME T.TYPE self.now.session catalogue.now.entries) }
     {
-        V::has_begun(&self.names) && self.ledger.sends(V::interest(&self.names), catalogue)
+        V::has_begun(&self.names) && self.ledger.sends(V::interest(&self.names), catalogue.catalogue())
     }
 
     /// What a response says now, and that response as the one of this number, be one to be sent or not. Refused only by
@@ -85,23 +87,103 @@ impl<T: ResourceType, V: Speaks<T>> Session<T, V> {
         &self,
         alloc: Global,
         replica: u16,
-        catalogue: &Catalogue<T>,
+        catalogue: &Published<T>,
         number: u64,
-    ) -> Result<(NameMap<Due>, V::Draft), Refusal>
+    ) -> Result<(SharedMap<Due>, V::Draft), Refusal>
+        requires { SessionFits V.NAME T.TYPE catalogue.now self.now }
+        ensures offer { IfOk result (λ p. p.0 ≡ offer V.NAME T.TYPE self.now.session.asked.interest catalogue.now.entries self.now.session.account.beliefs) }
+        ensures draft { IfOk result (λ p. p.1 ≡ V.response replica T.TYPE catalogue.now self.now.session.asked.interest p.0 number) }
+        ensures refused { IfErr result (λ e. e ≡ OutOfMemory) }
+    {
+        match self.wildcard(catalogue) {
+            Some(wildcard) => self.respond_alike(alloc, replica, catalogue, wildcard, number),
+            None => self.respond_apart(alloc, replica, catalogue, number),
+        }
+    }
+
+    // What is kept for the clients of this session's interest, where its offer is the one of this session.
+    fn wildcard<'a>(&self, catalogue: &'a Published<T>) -> Option<&'a Wildcard<V::Said>>
+        ensures { IfSome result (λ w. IsShared V.NAME T.TYPE V.IsSaid catalogue.now.entries self.now.session.asked.interest.cluster w.now
+            × IsFirst V.NAME T.TYPE self.now.session) }
+    {
+        if !self.is_first() {
+            return None;
+        }
+        V::wildcard(catalogue, V::interest(&self.names).cluster())
+    }
+
+    // Whether the next offer is the one that all clients of the cluster get that want everything and hold nothing.
+    fn is_first(&self) -> bool
+        ensures { result ≡ true → IsFirst V.NAME T.TYPE self.now.session }
+    {
+        wants_all(V::interest(&self.names))
+            && (V::NAME.is_whole(T::TYPE) || self.ledger.believes_nothing())
+    }
+
+    // The response that clients of this session's interest share.
+    fn respond_alike(
+        &self,
+        alloc: Global,
+        replica: u16,
+        catalogue: &Published<T>,
+        wildcard: &Wildcard<V::Said>,
+        number: u64,
+    ) -> Result<(SharedMap<Due>, V::Draft), Refusal>
+        requires shared { IsShared V.NAME T.TYPE V.IsSaid catalogue.now.entries self.now.session.asked.interest.cluster wildcard.now }
+        requires first { IsFirst V.NAME T.TYPE self.now.session }
+        ensures offer { IfOk result (λ p. p.0 ≡ offer V.NAME T.TYPE self.now.session.asked.interest catalogue.now.entries self.now.session.account.beliefs) }
+        ensures draft { IfOk result (λ p. p.1 ≡ V.response replica T.TYPE catalogue.now self.now.session.asked.interest p.0 number) }
+        ensures refused { IfErr result (λ e. e ≡ OutOfMemory) }
+    {
+        let interest = V::interest(&self.names);
+        let offer = wildcard.offer.try_copy()?;
+        let draft = V::respond(
+            alloc,
+            replica,
+            catalogue.catalogue(),
+            interest,
+            &wildcard.said,
+            number,
+        )?;
+        Ok((offer, draft))
+    }
+
+    // The response that is made for this session alone.
+    fn respond_apart(
+        &self,
+        alloc: Global,
+        replica: u16,
+        catalogue: &Published<T>,
+        number: u64,
+    ) -> Result<(SharedMap<Due>, V::Draft), Refusal>
         requires { SessionFits V.NAME T.TYPE catalogue.now self.now }
         ensures offer { IfOk result (λ p. p.0 ≡ offer V.NAME T.TYPE self.now.session.asked.interest catalogue.now.entries self.now.session.account.beliefs) }
         ensures draft { IfOk result (λ p. p.1 ≡ V.response replica T.TYPE catalogue.now self.now.session.asked.interest p.0 number) }
         ensures refused { IfErr result (λ e. e ≡ OutOfMemory) }
     {
         let interest = V::interest(&self.names);
+        let catalogue = catalogue.catalogue();
         let offer = self.ledger.offer(alloc, interest, catalogue)?;
-        let draft = V::respond(alloc, replica, catalogue, interest, &offer, number)?;
+        let said = V::said(alloc, catalogue, interest, offer.as_map())?;
+        let draft = V::respond(alloc, replica, catalogue, interest, &said, number)?;
         Ok((offer, draft))
+    }
+
+    /// Has what the clients of this session's interest share made, where its next response shares it: as far as there is memory
+    /// for it. It changes nothing that is seen.
+    pub fn share(&self, alloc: Global, catalogue: &mut Published<T>)
+        ensures { catalogue.new ≡ catalogue.old }
+    {
+        if V::has_begun(&self.names) && self.is_first() {
+            if self.ledger.may_send(catalogue.catalogue().changes()) {
+                drop(V::share(alloc, catalogue, V::interest(&self.names)));
+            }
+        }
     }
 
     /// Lists the names that changed since the session was refreshed last, and answers how many these are; none before the
     /// first request. Refused only by `OutOfMemory`, and then the session is as it was.
-    pub fn refresh(&mut self, alloc: Global, catalogue: &Catalogue<T>) -> Result<u64, Refusal>
+    pub fn refresh(&mut self, alloc: Global, catalogue: &Published<T>) -> Result<u64, Refusal>
         requires { SessionFits V.NAME T.TYPE catalogue.now self.old }
         ensures same { self.new.session ≡ self.old.session }
         ensures fits { SessionFits V.NAME T.TYPE catalogue.now self.new }
@@ -113,11 +195,11 @@ impl<T: ResourceType, V: Speaks<T>> Session<T, V> {
         if !V::has_begun(&self.names) {
             return Ok(0);
         }
-        self.ledger.refresh(alloc, catalogue)
+        self.ledger.refresh(alloc, catalogue.catalogue())
     }
 
     /// Looks at what changed since, and lets the names go that are owed nothing, as far as there is memory for it.
-    pub fn tidy(&mut self, alloc: Global, catalogue: &Catalogue<T>)
+    pub fn tidy(&mut self, alloc: Global, catalogue: &Published<T>)
         requires { SessionFits V.NAME T.TYPE catalogue.now self.old }
         ensures same { self.new.session ≡ self.old.session }
         ensures fits { SessionFits V.NAME T.TYPE catalogue.now self.new }
@@ -125,7 +207,7 @@ impl<T: ResourceType, V: Speaks<T>> Session<T, V> {
         if !V::has_begun(&self.names) {
             return;
         }
-        self.ledger.tidy(alloc, V::interest(&self.names), catalogue);
+        self.ledger.tidy(alloc, V::interest(&self.names), catalogue.catalogue());
     }
 
     /// The next response, if one is to be sent: nothing of the type is unanswered, something is due, and it isn't
@@ -136,7 +218,7 @@ impl<T: ResourceType, V: Speaks<T>> Session<T, V> {
         &mut self,
         alloc: Global,
         replica: u16,
-        catalogue: &Catalogue<T>,
+        catalogue: &Published<T>,
         nonces: &mut Nonces,
     ) -> Result<Option<V::Draft>, Refusal>
         requires { SessionFits V.NAME T.TYPE catalogue.now self.old }
@@ -155,7 +237,7 @@ impl<T: ResourceType, V: Speaks<T>> Session<T, V> {
         &mut self,
         alloc: Global,
         replica: u16,
-        catalogue: &Catalogue<T>,
+        catalogue: &Published<T>,
         nonces: &mut Nonces,
     ) -> Result<Option<V::Draft>, Refusal>
         requires { SessionFits V.NAME T.TYPE catalogue.now self.old }
@@ -176,9 +258,10 @@ impl<T: ResourceType, V: Speaks<T>> Session<T, V> {
         Ok(Some(draft))
     }
 
-    /// Notes that a response with this offer was sent, as the one of this number. It takes no memory.
-    pub fn send(&mut self, alloc: Global, offer: NameMap<Due>, number: u64)
-        ensures { self.new ≡ record self.old { session = send self.old.session offer number } }
+    /// Notes that a response with this offer was sent, as the one of this number. It takes no memory. Where the offer is that
+    /// of a catalogue, the session still fits it (`xds_ledger::laws::books_suffice`).
+    pub fn send(&mut self, alloc: Global, offer: SharedMap<Due>, number: u64)
+        ensures { self.new ≡ sent_kept self.old offer number }
     {
         self.ledger.send(alloc, offer, number);
     }

@@ -1,67 +1,86 @@
 // The response that an offer makes.
-ghost use Rattle.std.specs.Prelude.{◌≡◌, map, IfOk, IfErr, OnOk};
+ghost use Rattle.std.specs.Prelude.{◌≡◌, [], map, decimal, IfOk, IfErr, OnOk};
+ghost use Rattle.std.specs.Arc.{arc_slice_items};
 ghost use Rattle.xds_resource.specs.declared.refusal.Refusal.TheVariants.{OutOfMemory};
+ghost use Rattle.xds_ledger.specs.Texts as texts;
 ghost use Rattle.xds_sessions.specs.SotwParts.{pushed, pushed_all};
-ghost use Rattle.xds_sessions.specs.SotwPolls.{response as response_of};
+ghost use Rattle.xds_sessions.specs.SotwPolls.{stated_bodies};
 
 use std::alloc::Global;
+use std::sync::ArcSlice;
 use xds_catalogue::Catalogue;
 use xds_interest::Interest;
 use xds_ledger::Due;
 use xds_ledger::texts::{interest_version, nonce_text};
-use xds_message::SotwDraft;
+use xds_message::{Body, SotwDraft, push_body};
 use xds_resource::{NameMap, Refusal, ResourceType, Write};
 
-// Adds a write's body, if the offer speaks of its name.
+// Puts the text of a write behind others, if the offer speaks of its name.
 fn push_offered<T: ResourceType>(
-    draft: &mut SotwDraft,
+    bodies: &mut Vec<Body>,
     offer: &NameMap<Due>,
     write: &Write<T>,
 ) -> Result<(), Refusal>
-    ensures ok { OnOk result (draft.new ≡ pushed offer.now draft.old write.now) }
+    ensures ok { OnOk result (bodies.new.items ≡ pushed offer.now bodies.old.items write.now) }
     ensures refused { IfErr result (λ e. e ≡ OutOfMemory) }
 {
     if offer.contains(write.name()) {
-        draft.push(write)?;
+        push_body(bodies, write)?;
     }
     Ok(())
 }
 
-// Adds the bodies of the writes of whose names the offer speaks.
+// The texts of the writes of whose names the offer speaks.
 fn push_all<T: ResourceType>(
-    draft: SotwDraft,
+    alloc: Global,
     offer: &NameMap<Due>,
     writes: &[&Write<T>],
-) -> Result<SotwDraft, Refusal>
-    ensures ok { IfOk result (λ d. d ≡ pushed_all offer.now draft (map (λ w. w.now) writes.now)) }
+) -> Result<Vec<Body>, Refusal>
+    ensures ok { IfOk result (λ v. v.items ≡ pushed_all offer.now [] (map (λ w. w.now) writes.now)) }
     ensures refused { IfErr result (λ e. e ≡ OutOfMemory) }
 {
-    let mut all = draft;
+    let mut all = Vec::new(alloc);
     for write in writes {
         push_offered(&mut all, offer, write)?;
     }
     Ok(all)
 }
 
-/// The response with this offer, as the response of this number on its stream.
-pub(crate) fn response<T: ResourceType>(
+/// The texts that a response with this offer states. They depend on the offer and on what is held alone, so that all clients
+/// which are offered the same share them.
+pub(crate) fn stated_bodies<T: ResourceType>(
     alloc: Global,
-    replica: u16,
     catalogue: &Catalogue<T>,
     interest: &Interest<T>,
     offer: &NameMap<Due>,
-    number: u64,
-) -> Result<SotwDraft, Refusal>
-    ensures ok { IfOk result (λ d. d ≡ response_of replica T.TYPE catalogue.now interest.now offer.now number) }
+) -> Result<ArcSlice<Body, Global>, Refusal>
+    ensures ok { IfOk result (λ b. arc_slice_items b ≡ stated_bodies catalogue.now.entries interest.now offer.now) }
     ensures refused { IfErr result (λ e. e ≡ OutOfMemory) }
 {
-    let version = interest_version(alloc, replica, catalogue.changes(), interest)?;
-    let nonce = nonce_text(alloc, number)?;
     let shown = catalogue.content(alloc, interest)?;
-    let draft = push_all(
-        SotwDraft::new(alloc, T::TYPE, version, nonce),
-        offer,
-        &shown,
-    )?;
-    Ok(draft)
+    let bodies = push_all(alloc, offer, &shown)?;
+    Ok(ArcSlice::from_vec(bodies)?)
+}
+
+/// The response of these texts, at this count of changes, as the response of this number on its stream.
+pub(crate) fn response<T: ResourceType>(
+    alloc: Global,
+    replica: u16,
+    changes: u64,
+    interest: &Interest<T>,
+    bodies: &ArcSlice<Body, Global>,
+    number: u64,
+) -> Result<SotwDraft, Refusal>
+    ensures ok { IfOk result (λ d. d ≡ record {
+      kind = T.TYPE;
+      version_info = texts.interest_version replica changes interest.now;
+      nonce = decimal number;
+      bodies = arc_slice_items bodies.now;
+    }) }
+    ensures refused { IfErr result (λ e. e ≡ OutOfMemory) }
+{
+    let version = interest_version(alloc, replica, changes, interest)?;
+    let nonce = nonce_text(alloc, number)?;
+    let shared = bodies.clone()?;
+    Ok(SotwDraft::new(T::TYPE, version, nonce, shared))
 }

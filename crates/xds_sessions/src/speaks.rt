@@ -1,26 +1,31 @@
 // What the two variants of a session differ in.
-ghost use Rattle.std.specs.Prelude.{◌≡◌, IfOk, IfErr};
+ghost use Rattle.std.specs.Prelude.{◌≡◌, IfSome, IfOk, IfErr};
+ghost use Rattle.std.specs.Arc.{arc_slice_items};
 ghost use Rattle.xds_resource.specs.declared.refusal.Refusal.TheVariants.{OutOfMemory};
 ghost use Rattle.xds_interest.specs.Asked as askeds;
 ghost use Rattle.xds_sessions.specs.DeltaPolls as delta_polls;
 ghost use Rattle.xds_sessions.specs.SotwPolls as sotw_polls;
+ghost use Rattle.xds_sessions.specs.Wildcards.{IsShared, all_of};
 
-use crate::delta_response::response as delta_response;
-use crate::sotw_response::response as sotw_response;
+use crate::delta_response::{Said, response as delta_response, said_by};
+use crate::published::Published;
+use crate::sotw_response::{response as sotw_response, stated_bodies};
+use crate::wildcards::Wildcard;
 use std::alloc::Global;
+use std::sync::ArcSlice;
 use xds_catalogue::Catalogue;
 use xds_interest::{ClusterText, DeltaNames, Interest, SotwNames};
 use xds_ledger::{Delta, Due, StateOfTheWorld, Variant};
-use xds_message::{DeltaDraft, SotwDraft};
+use xds_message::{Body, DeltaDraft, SotwDraft};
 use xds_resource::{NameMap, Refusal, ResourceType};
 
 /// What a variant decides of a session of one type: how it keeps what the requests asked for, and what a response says.
 pub trait Speaks<T: ResourceType>: Variant {
-    ghost use Rattle.std.specs.Prelude.{ℕ};
+    ghost use Rattle.std.specs.Prelude.{◌≡◌, ℕ};
     ghost use Rattle.xds_resource.specs.declared.types.TypeName.{TypeName};
     ghost use Rattle.xds_interest.specs.Asked.{Asked};
     ghost use Rattle.xds_interest.specs.Interests.{Selection};
-    ghost use Rattle.xds_catalogue.specs.Holdings.{Holdings};
+    ghost use Rattle.xds_catalogue.specs.Holdings.{Holdings, Entries};
     ghost use Rattle.xds_ledger.specs.Offers.{Offer};
 
     /// What is kept of the requests.
@@ -29,8 +34,14 @@ pub trait Speaks<T: ResourceType>: Variant {
     /// A response before it is written.
     type Draft: Drop;
 
+    /// What the responses of an offer have in common, whoever is told.
+    type Said: Drop;
+
     // What the requests asked for.
     ghost asked: { Self.Names → Asked };
+
+    // What the responses of an offer, to clients of an interest, have in common at these entries.
+    ghost IsSaid: { Entries → Selection → Offer → Self.Said → Type 0 };
 
     // The response of the replica of a number to a client of this interest, with this offer, as the one of a number on its stream.
     ghost response: { ℕ → TypeName → Holdings → Selection → Offer → ℕ → Self.Draft };
@@ -52,16 +63,42 @@ pub trait Speaks<T: ResourceType>: Variant {
         ensures ok { IfOk result (λ n. asked n ≡ asked names.now) }
         ensures err { IfErr result (λ e. e ≡ OutOfMemory) };
 
-    /// The response with this offer, as the one of this number on its stream. Refused only by `OutOfMemory`.
+    /// What the responses of this offer have in common. Refused only by `OutOfMemory`.
+    fn said(
+        alloc: Global,
+        catalogue: &Catalogue<T>,
+        interest: &Interest<T>,
+        offer: &NameMap<Due>,
+    ) -> Result<Self::Said, Refusal>
+        ensures ok { IfOk result (λ x. IsSaid catalogue.now.entries interest.now offer.now x) }
+        ensures refused { IfErr result (λ e. e ≡ OutOfMemory) };
+
+    /// What clients of this cluster share that want everything and hold nothing, if it was made.
+    fn wildcard<'a>(
+        published: &'a Published<T>,
+        cluster: &str,
+    ) -> Option<&'a Wildcard<Self::Said>>
+        ensures { IfSome result (λ w. IsShared Self.NAME T.TYPE IsSaid published.now.entries cluster.now w.now) };
+
+    /// Makes it, if it isn't there.
+    fn share(
+        alloc: Global,
+        published: &mut Published<T>,
+        interest: &Interest<T>,
+    ) -> Result<(), Refusal>
+        requires { interest.now ≡ all_of interest.now.cluster }
+        ensures { published.new ≡ published.old };
+
+    /// The response that says this, as the one of this number on its stream. Refused only by `OutOfMemory`.
     fn respond(
         alloc: Global,
         replica: u16,
         catalogue: &Catalogue<T>,
         interest: &Interest<T>,
-        offer: &NameMap<Due>,
+        said: &Self::Said,
         number: u64,
     ) -> Result<Self::Draft, Refusal>
-        ensures ok { IfOk result (λ d. d ≡ response replica T.TYPE catalogue.now interest.now offer.now number) }
+        ensures ok { IfOk result (λ d. (o : Offer) → IsSaid catalogue.now.entries interest.now o said.now → d ≡ response replica T.TYPE catalogue.now interest.now o number) }
         ensures refused { IfErr result (λ e. e ≡ OutOfMemory) };
 }
 
@@ -70,7 +107,11 @@ impl<T: ResourceType> Speaks<T> for StateOfTheWorld {
 
     type Draft = SotwDraft;
 
+    type Said = ArcSlice<Body, Global>;
+
     ghost asked = { λ n. n };
+
+    ghost IsSaid = { λ m s o x. arc_slice_items x ≡ sotw_polls.stated_bodies m s o };
 
     ghost response = { sotw_polls.response };
 
@@ -90,15 +131,39 @@ impl<T: ResourceType> Speaks<T> for StateOfTheWorld {
         names.try_copy(alloc)
     }
 
+    fn said(
+        alloc: Global,
+        catalogue: &Catalogue<T>,
+        interest: &Interest<T>,
+        offer: &NameMap<Due>,
+    ) -> Result<ArcSlice<Body, Global>, Refusal> {
+        stated_bodies(alloc, catalogue, interest, offer)
+    }
+
+    fn wildcard<'a>(
+        published: &'a Published<T>,
+        cluster: &str,
+    ) -> Option<&'a Wildcard<ArcSlice<Body, Global>>> {
+        published.sotw_wildcard(cluster)
+    }
+
+    fn share(
+        alloc: Global,
+        published: &mut Published<T>,
+        interest: &Interest<T>,
+    ) -> Result<(), Refusal> {
+        published.share_sotw(alloc, interest)
+    }
+
     fn respond(
         alloc: Global,
         replica: u16,
         catalogue: &Catalogue<T>,
         interest: &Interest<T>,
-        offer: &NameMap<Due>,
+        said: &ArcSlice<Body, Global>,
         number: u64,
     ) -> Result<SotwDraft, Refusal> {
-        sotw_response(alloc, replica, catalogue, interest, offer, number)
+        sotw_response::<T>(alloc, replica, catalogue.changes(), interest, said, number)
     }
 }
 
@@ -107,7 +172,11 @@ impl<T: ResourceType> Speaks<T> for Delta {
 
     type Draft = DeltaDraft;
 
+    type Said = Said;
+
     ghost asked = { λ n. n };
+
+    ghost IsSaid = { λ m s o x. x ≡ delta_polls.said_by m o };
 
     ghost response = { λ replica t h s o number. delta_polls.response replica t h o number };
 
@@ -127,14 +196,35 @@ impl<T: ResourceType> Speaks<T> for Delta {
         names.try_copy(alloc)
     }
 
+    fn said(
+        alloc: Global,
+        catalogue: &Catalogue<T>,
+        _interest: &Interest<T>,
+        offer: &NameMap<Due>,
+    ) -> Result<Said, Refusal> {
+        said_by(alloc, catalogue, offer)
+    }
+
+    fn wildcard<'a>(published: &'a Published<T>, cluster: &str) -> Option<&'a Wildcard<Said>> {
+        published.delta_wildcard(cluster)
+    }
+
+    fn share(
+        alloc: Global,
+        published: &mut Published<T>,
+        interest: &Interest<T>,
+    ) -> Result<(), Refusal> {
+        published.share_delta(alloc, interest)
+    }
+
     fn respond(
         alloc: Global,
         replica: u16,
         catalogue: &Catalogue<T>,
         _interest: &Interest<T>,
-        offer: &NameMap<Due>,
+        said: &Said,
         number: u64,
     ) -> Result<DeltaDraft, Refusal> {
-        delta_response(alloc, replica, catalogue, offer, number)
+        delta_response::<T>(alloc, replica, catalogue.changes(), said, number)
     }
 }

@@ -12,11 +12,11 @@ pub(crate) fn what_is_held_could_be_read(core: &Core)
     ensures { HoldsTellable core.now.store }
 {
     let held = core.catalogues();
-    each_is_tellable(&held.cluster);
-    each_is_tellable(&held.endpoint);
-    each_is_tellable(&held.listener);
-    each_is_tellable(&held.route);
-    each_is_tellable(&held.secret);
+    each_is_tellable(held.cluster.catalogue());
+    each_is_tellable(held.endpoint.catalogue());
+    each_is_tellable(held.listener.catalogue());
+    each_is_tellable(held.route.catalogue());
+    each_is_tellable(held.secret.catalogue());
 }
 
 // The same of what one type's catalogue holds.

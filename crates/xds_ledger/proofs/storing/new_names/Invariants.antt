@@ -1,7 +1,7 @@
 use Rattle.std.proofs.Common.{◌≡◌, ◌++◌, map, drop, string_bytes}
-use Rattle.xds_ledger.specs.Changes.{new_names}
+use Rattle.xds_ledger.specs.Storing.{new_names}
 use Rattle.xds_ledger.proofs.storing.new_names.Given as goal
 
 -- what is made and what is left are all
 abbrev pub invariant-loop-name : goal.invariant-loop-name
-invariant-loop-name l = map (λ n. n.now) l.new.items ++ new_names l.changes l.beliefs (map string_bytes (drop l.name-index l.names)) ≡ new_names l.changes l.beliefs (map string_bytes l.names)
+invariant-loop-name l = map (λ n. n.now) l.new.items ++ new_names l.base l.changes l.differences (map string_bytes (drop l.name-index l.names)) ≡ new_names l.base l.changes l.differences (map string_bytes l.names)

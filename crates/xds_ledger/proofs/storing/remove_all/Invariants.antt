@@ -1,7 +1,7 @@
 use Rattle.std.proofs.Common.{◌≡◌, map, drop}
-use Rattle.xds_ledger.specs.Changes.{removed_all}
+use Rattle.xds_ledger.specs.Storing.{removed_all}
 use Rattle.xds_ledger.proofs.storing.remove_all.Given as goal
 
 -- what is left decides
 abbrev pub invariant-loop-name : goal.invariant-loop-name
-invariant-loop-name l = removed_all l.beliefs (map (λ n. n.now) (drop l.name-index l.names)) ≡ removed_all l.initial.beliefs (map (λ n. n.now) l.names)
+invariant-loop-name l = removed_all l.differences (map (λ n. n.now) (drop l.name-index l.names)) ≡ removed_all l.initial.differences (map (λ n. n.now) l.names)

@@ -5,4 +5,4 @@ use Rattle.xds_message.proofs.delta_draft.resources_of.Given as goal
 
 abbrev pub invariant-loop-resource : goal.invariant-loop-resource
 invariant-loop-resource l =
-    (map resource_of l.messages.items ≡ map drafted_resource (take l.resource-index l.resources.items)) × All (λ r. IsBodyText r.body) (take l.resource-index l.resources.items)
+    (map resource_of l.messages.items ≡ map drafted_resource (take l.resource-index l.resources)) × All (λ r. IsBodyText r.body) (take l.resource-index l.resources)

@@ -2,7 +2,9 @@ use Rattle.std.proofs.Common.{◌≡◌, map, string_bytes, subst, ap, ◌∙◌
 use Rattle.std.specs.Prelude.{OnOk, is_some}
 use Rattle.std.specs.FinSet as set
 use Rattle.xds_message.specs.DeltaMessages.{DeltaRequest}
-use Rattle.xds_ledger.specs.Ledgers.{Account}
+use Rattle.xds_ledger.specs.declared.variant.VariantName.TheVariants as variants
+use Rattle.xds_ledger.specs.Ledgers.{Account, Names}
+use Rattle.xds_ledger.specs.Lists.{FitsNext}
 use Rattle.xds_sessions.proofs.DeltaMade.{taken_later}
 use Rattle.xds_sessions.proofs.delta_session.take_later.Goals as goal
 
@@ -13,3 +15,7 @@ returns-clause-ok g c =
     c.new-names.result (c.as_str-nonce.ensures.value ∙ ap (λ (m : DeltaRequest). m.response_nonce) c.request.view_is) (c.is_some-rejects.ensures ∙ ap (λ (m : DeltaRequest). is_some m.error_detail) c.request.view_is)
     c.names.ensures.names c.new-names.ensures)
     c.take.ensures.ok
+
+pub returns-clause-fits : goal.returns-clause-fits
+returns-clause-fits g c =
+    subst (λ (n : Names). OnOk c.take.result (FitsNext variants.Delta g.T.ResourceType.TYPE n.touched c.args.ledger.now c.take.new.self)) c.new-names.ensures c.take.ensures.fits

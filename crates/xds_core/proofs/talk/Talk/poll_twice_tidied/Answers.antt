@@ -9,4 +9,4 @@ returns-clause-polls c =
     c.in_ok-offer.ensures.offer c.in_ok-offer.ensures.draft (c.in_ok-number.ensures.ok.0 ∙ ap (λ n. n + 1) c.nonces-drawn.ensures) c.in_ok-number.ensures.bound c.send.ensures.sent
 
 pub returns-clause-fits : goal.returns-clause-fits
-returns-clause-fits c = sent_listing_fits c.args.held.now c.args.self.now c.send.new.self c.args.kind c.in_ok-offer.offer c.in_ok-number.number c.send.ensures.sent c.send.ensures.lists c.requires
+returns-clause-fits c = sent_listing_fits c.args.held.now c.args.self.now c.send.new.self c.args.kind c.in_ok-offer.offer c.in_ok-number.number c.send.ensures.sent c.send.ensures.lists c.in_ok-offer.ensures.offer c.requires

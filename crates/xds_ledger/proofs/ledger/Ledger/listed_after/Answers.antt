@@ -1,27 +1,26 @@
-use Rattle.std.proofs.Common.{◌≡◌, ℕ, List, map, string_bytes, ap, subst, ◌∙◌}
-use Rattle.xds_ledger.specs.Variants.{is_whole}
+use Rattle.std.proofs.Common.{◌≡◌, true, false, Some, sym, ap, subst, ◌∙◌}
+use Rattle.std.specs.Prelude.{IfSome}
+use Rattle.std.specs.List.{list_any}
+use Rattle.xds_ledger.specs.Variants.{tells_removals}
 use Rattle.xds_ledger.specs.Ledgers.{Names}
-use Rattle.xds_ledger.specs.Lists.{Books, ListsNames, accepts, listed_after}
-use Rattle.xds_ledger.proofs.Suffices.{made_in_steps, firsts_of, list_has_names}
+use Rattle.xds_ledger.specs.Lists.{Books, accepts}
+use Rattle.xds_ledger.proofs.ListedNames.{touched_are_listed, wider_is_listed}
 use Rattle.xds_ledger.proofs.ledger.Ledger.listed_after.Goals as goal
 
-pub returns-clause-ok : goal.returns-clause-ok
-returns-clause-ok g c =
+pub returns-in-Some-clause-ok : goal.returns-in-Some-clause-ok
+returns-in-Some-clause-ok g c =
     let v = g.V.Variant.NAME in
     let t = g.T.ResourceType.TYPE in
     let now : Books = c.args.self.now in
-    let nonce = c.args.nonce.now in
-    let rejects = c.args.rejects in
-    let accepting = accepts now.account nonce rejects in
-    let n = c.names.inside in
-    let pairs : List (List ℕ × List ℕ) = map (λ p. (p.0.now, p.1.now)) n.versions.now in
-    let firsts : List (List ℕ) = map (λ p. p.0.now) n.versions.now in
-    let touched = map string_bytes c.names-2.result in
-    let mentioned = map string_bytes n.mentioned in
-    let steps : c.list_changes.result ≡ listed_after now.account accepting (is_whole v t) n.touched.now.all touched mentioned firsts now.listed =
-    made_in_steps now.account now.listed c.in_ok-start.start c.in_ok-named.named c.in_ok-said.said c.in_ok-told.told c.in_ok-held.held c.list_changes.result accepting c.accepts-accepts.result
-    (is_whole v t) n.touched.now.all c.all.result c.changes_all-all.result touched (map string_bytes c.in_ok-clone.field-0) firsts
-    (c.in_ok-start.ensures.ok ∙ ap (λ (b : Books). b.listed) c.self.view_is) c.in_ok-named.ensures.ok c.in_ok-said.ensures.ok c.accepts-accepts.ensures c.in_ok-told.ensures.ok c.changes_all-all.ensures c.in_ok-held.ensures.ok c.all.ensures c.list_changes.ensures
-    ∙ (λ i. listed_after now.account accepting (is_whole v t) n.touched.now.all touched (map string_bytes (c.in_ok-clone.ensures.cases i)) firsts now.listed) in
-    subst (λ (x : Names). ListsNames v t now nonce rejects x c.list_changes.result) c.names.view_is
-    (list_has_names v t now nonce rejects n.interest.now n.touched.now touched mentioned firsts pairs c.list_changes.result c.names.invariant (firsts_of (λ p. p.0.now) (λ p. p.1.now) n.versions.now) c.names-2.ensures.names steps)
+    touched_are_listed v t now (accepts now.account c.args.nonce.now c.args.rejects) c.args.names.now c.in-Some.sent.now c.in-Some.mark c.list_touched.result
+    (sym c.accepts-accepts.ensures ∙ subst (λ o. IfSome o (λ p. c.accepts-accepts.result ≡ true)) c.in-Some.is c.foretold.ensures.accepted)
+    (subst (λ o. IfSome o (λ p. tells_removals v t ≡ true)) c.in-Some.is c.foretold.ensures.told)
+    (ap (λ (n : Names). n.touched.all) (sym c.names.view_is) ∙ subst (λ o. IfSome o (λ p. c.names.inside.touched.now.all ≡ false)) c.in-Some.is c.foretold.ensures.some)
+    (subst (λ o. IfSome o (λ p. now.account.sent ≡ Some p.0.now)) c.in-Some.is c.foretold.ensures.sent)
+    (subst (λ o. IfSome o (λ p. now.listed.sent_mark ≡ Some p.1)) c.in-Some.is c.foretold.ensures.mark)
+    (subst (λ o. IfSome o (λ p. list_any (λ x. x.all) p.0.now.touched ≡ false)) c.in-Some.is c.foretold.ensures.since)
+    c.list_touched.ensures.mark c.list_touched.ensures.names
+
+pub returns-in-None-clause-ok : goal.returns-in-None-clause-ok
+returns-in-None-clause-ok g c =
+    wider_is_listed g.V.Variant.NAME g.T.ResourceType.TYPE c.args.self.now (accepts c.args.self.now.account c.args.nonce.now c.args.rejects) c.accepts-accepts.result c.args.names.now c.listed_wider.result c.accepts-accepts.ensures c.listed_wider.ensures.ok

@@ -1,4 +1,5 @@
 use Rattle.std.proofs.Common.{option_map, sym, ap, ◌∙◌}
+use Rattle.xds_ledger.specs.Offers.{offer, same_offer}
 use Rattle.xds_ledger.proofs.Suffices.{fits_inside, refused_inside}
 use Rattle.xds_ledger.proofs.ledger.Ledger.repeats.Goals as goal
 
@@ -10,4 +11,5 @@ repeats-requires g c =
 pub returns-in-Some : goal.returns-in-Some
 returns-in-Some g c =
     refused_inside g.V.Variant.NAME c.NAME.result g.T.ResourceType.TYPE c.args.interest.now c.args.catalogue.now.entries (record { account = c.self.inside.account; listed = c.self.inside.listed }) c.args.self.now c.beliefs.result.now
-    c.in-Some.refused.now c.repeats.result c.NAME.ensures c.self.view_is c.beliefs.ensures (sym c.refused.ensures ∙ ap (λ o. option_map (λ m. m.now) o) c.in-Some.is) c.repeats.ensures
+    c.in-Some.refused.now c.repeats.result c.NAME.ensures c.self.view_is c.beliefs.ensures (sym c.refused.ensures ∙ ap (λ o. option_map (λ m. m.now) o) c.in-Some.is)
+    (c.repeats.ensures ∙ ap (same_offer (offer c.NAME.result g.T.ResourceType.TYPE c.args.interest.now c.args.catalogue.now.entries c.beliefs.result.now)) c.as_map.ensures)

@@ -1,7 +1,7 @@
 use Rattle.std.proofs.Common.{◌≡◌, ap, ◌∙◌}
 use Rattle.xds_ledger.specs.Ledgers.{Account, Names, settled, taken}
 use Rattle.xds_ledger.specs.Lists.{Books}
-use Rattle.xds_ledger.proofs.Suffices.{taken_books_fit}
+use Rattle.xds_ledger.proofs.Suffices.{next_books_fit}
 use Rattle.xds_ledger.proofs.ledger.Ledger.take.Goals as goal
 
 pub returns-clause-fits : goal.returns-clause-fits
@@ -13,4 +13,4 @@ returns-clause-fits g c =
     let names : Names = c.args.names in
     let takes : Account → Account = λ a. taken (settled v t a c.args.nonce.now c.args.rejects) names in
     let left : c.take.new.self ≡ takes now.account = c.in_ok-take.ensures.ok ∙ ap (λ (b : Books). takes b.account) c.self.view_is in
-    taken_books_fit v t now after c.args.nonce.now c.args.rejects names c.in_ok-listed.ensures.ok left
+    next_books_fit v t now after c.args.nonce.now c.args.rejects names c.in_ok-listed.ensures.ok left

@@ -10,5 +10,5 @@ tidy-requires g c =
 pub returns-clause-fits : goal.returns-clause-fits
 returns-clause-fits g c =
     let account = c.self.inside.account in
-    fits_outside g.V.Variant.NAME c.NAME.result g.T.ResourceType.TYPE c.args.interest.now c.args.catalogue.now (record { account = account; listed = c.self.inside.listed }) (record { account = account; listed = c.tidy.new.self })
-    c.beliefs-beliefs.result.now c.NAME.ensures c.beliefs-beliefs.ensures refl c.tidy.ensures
+    fits_outside g.V.Variant.NAME c.NAME.result g.T.ResourceType.TYPE c.args.interest.now c.args.catalogue.now (record { account = account; listed = c.self.inside.listed }) c.args.self.now
+    (record { account = account; listed = c.tidy.new.self }) c.beliefs-beliefs.result.now c.NAME.ensures c.self.view_is c.beliefs-beliefs.ensures refl c.tidy.ensures.sending c.tidy.ensures.fits c.requires

@@ -8,4 +8,5 @@ returns-clause-ok c =
     (λ i. record {
       mark = c.self.inside.mark;
       names = (c.in_ok-with_names.ensures.ok ∙ (λ j. put_all (λ name number. Some number) (c.new.ensures j) (c.iter.ensures j)) ∙ copied c.self.inside.names) i;
+      sent_mark = c.self.inside.sent_mark;
     }) ∙ c.self.view_is

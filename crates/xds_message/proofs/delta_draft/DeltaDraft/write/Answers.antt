@@ -1,4 +1,5 @@
 use Rattle.std.proofs.Common.{[], ◌∷◌, map, codes, string_bytes, ap, ◌∙◌}
+use Rattle.std.specs.Arc.{arc_slice_items}
 use Rattle.serde_json.specs.Data.{string}
 use Rattle.serde_json.specs.Written.{compact_text}
 use Rattle.xds_message.specs.Written.{Fields, text_data, list_data, object_set}
@@ -12,13 +13,14 @@ pub returns-clause-text : goal.returns-clause-text
 returns-clause-text c =
     let types : Fields = (codes "typeUrl", text_data c.url.result.now) ∷ [] in
     let versions : Fields = (codes "systemVersionInfo", text_data c.as_str-2.result.now) ∷ types in
-    let resources : Fields = (codes "resources", list_data (map (λ (r : DraftedResource). resource_object (drafted_resource r)) c.self.inside.resources.items)) ∷ versions in
-    let removed : Fields = (codes "removedResources", list_data (map (λ s. string (string_bytes s)) c.self.inside.removed.items)) ∷ resources in
+    let resources : Fields = (codes "resources", list_data (map (λ (r : DraftedResource). resource_object (drafted_resource r)) c.as_slice-2.result.now)) ∷ versions in
+    let removed : Fields = (codes "removedResources", list_data (map (λ s. string (string_bytes s)) c.as_slice.result.now)) ∷ resources in
     let all : Fields = (codes "nonce", text_data c.as_str.result.now) ∷ removed in
     let members = c.in_ok-join_text.ensures.ok [] ∙ c.in_ok-later-4.ensures.ok types ∙ c.in_ok-later-3.ensures.ok versions ∙ c.in_ok-later-2.ensures.ok resources ∙ c.in_ok-later.ensures.ok removed in
     let joined = object_joined [] _ _ _ c.in_ok-join_text.field-0 all c.in_ok-out.ensures.ok members c.in_ok-push_str.ensures.bytes tt in
-    let texts = map-twice string_bytes string c.self.inside.removed.items in
-    let objects = map-twice drafted_resource resource_object c.self.inside.resources.items in
+    let texts = ap (map (λ s. string (string_bytes s))) c.as_slice.ensures.value ∙ map-twice string_bytes string c.self.inside.removed.items in
+    let objects =
+    ap (map (λ (r : DraftedResource). resource_object (drafted_resource r))) c.as_slice-2.ensures.value ∙ map-twice drafted_resource resource_object (arc_slice_items c.self.inside.resources) in
     joined
     ∙ (λ i. compact_text (object_set (
     (codes "nonce", text_data (c.as_str.ensures.value i))

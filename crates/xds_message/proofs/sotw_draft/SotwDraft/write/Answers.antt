@@ -10,14 +10,14 @@ pub returns-clause-text : goal.returns-clause-text
 returns-clause-text c =
     let versions : Fields = (codes "versionInfo", text_data c.as_str-2.result.now) ∷ [] in
     let types : Fields = (codes "typeUrl", text_data c.url.result.now) ∷ versions in
-    let resources : Fields = (codes "resources", list_data (map value_of c.self.inside.bodies.items)) ∷ types in
+    let resources : Fields = (codes "resources", list_data (map value_of c.as_slice.result.now)) ∷ types in
     let all : Fields = (codes "nonce", text_data c.as_str.result.now) ∷ resources in
     let members = c.in_ok-join_text.ensures.ok [] ∙ c.in_ok-later-3.ensures.ok versions ∙ c.in_ok-later-2.ensures.ok types ∙ c.in_ok-later.ensures.ok resources in
     let joined = object_joined [] _ _ _ c.in_ok-join_text.field-0 all c.in_ok-out.ensures.ok members c.in_ok-push_str.ensures.bytes tt in
     joined
     ∙ (λ i. compact_text (object_set (
     (codes "nonce", text_data (c.as_str.ensures.value i))
-    ∷ (codes "resources", list_data (map value_of c.self.inside.bodies.items))
+    ∷ (codes "resources", list_data (map value_of (c.as_slice.ensures.value i)))
     ∷ (codes "typeUrl", text_data (c.url.ensures i))
     ∷ (codes "versionInfo", text_data (c.as_str-2.ensures.value i))
     ∷ [])))

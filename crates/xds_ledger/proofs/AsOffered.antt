@@ -1,0 +1,86 @@
+-- That an offer which was accepted, with the differences of the names that were touched since, is what is believed then.
+use Rattle.std.proofs.Common.{◌≡◌, ℕ, List, [], ◌∷◌, Bool, true, false, ◌||◌, Option, Some, None, refl, sym, ap, ◌∙◌}
+use Rattle.std.specs.Prelude.{unwrap_or, option_map, if◌then◌else◌, IfSome}
+use Rattle.std.specs.Option.{option_or, option_and_then}
+use Rattle.std.specs.List.{list_any}
+use Rattle.std.specs.FinMap as finmap
+use Rattle.std.specs.FinSet as set
+use Rattle.xds_resource.specs.declared.types.TypeName.{TypeName}
+use Rattle.xds_resource.specs.Writes.{text_cmp}
+use Rattle.xds_resource.specs.Names.{put_each}
+use Rattle.xds_resource.proofs.NameMaps.{same_names}
+use Rattle.xds_resource.proofs.MadeMaps.{get-put_each}
+use Rattle.xds_interest.specs.Touches.{Touch, touches}
+use Rattle.xds_interest.proofs.Texts.{contains-from_texts}
+use Rattle.xds_ledger.specs.declared.variant.VariantName.{VariantName}
+use Rattle.xds_ledger.specs.declared.entry.Entry.{Entry}
+use Rattle.xds_ledger.specs.declared.entry.Due.{Due}
+use Rattle.xds_ledger.specs.Variants.{is_whole}
+use Rattle.xds_ledger.specs.Owed.{Beliefs}
+use Rattle.xds_ledger.specs.Believing.{Sent, was_touched, once_told, believed_accepted, beliefs_accepted}
+use Rattle.xds_ledger.specs.Overlay.{Differences, told_by, overlaid}
+use Rattle.xds_ledger.specs.Accepting.{is_named_since, change_since}
+use Rattle.xds_ledger.specs.Ledgers.{Account, Names, answered, beliefs_after, taken}
+use Rattle.xds_ledger.proofs.BeliefsByName.{accepted_by_name}
+use Rattle.xds_ledger.proofs.Overlaying.{believed_at}
+
+-- ---- touched names
+
+not_first : (a b : Bool) → (a || b) ≡ false → a ≡ false
+not_first true b e = absurd cc
+not_first false b e = refl
+
+not_second : (a b : Bool) → (a || b) ≡ false → b ≡ false
+not_second true b e = absurd cc
+not_second false b e = e
+
+first_of : (a b : Bool) → a ≡ false → (a || b) ≡ b
+first_of true b e = absurd cc
+first_of false b e = refl
+
+-- a name is touched by itself, where no request touched all
+pub named_if_touched : (ts : List Touch) (q : List ℕ) → list_any (λ t. t.all) ts ≡ false → list_any (λ t. touches t q) ts ≡ list_any (λ t. set.contains t.names q) ts
+named_if_touched [] q none = refl
+named_if_touched (t ∷ ts) q none =
+    let first = not_first t.all (list_any (λ t. t.all) ts) none in
+    let later = not_second t.all (list_any (λ t. t.all) ts) none in
+    (λ i. first_of t.all (set.contains t.names q) first i || named_if_touched ts q later i)
+
+-- once f was put at each of some names
+pub names_put : (f : List ℕ → Option (Option Entry)) (old : Differences) (names : List (List ℕ)) (of : set.FinSet text_cmp) (q : List ℕ) → set.from_list names ≡ of
+    → finmap.get (put_each f old names) q ≡ (if set.contains of q then option_or (f q) (finmap.get old q) else finmap.get old q)
+names_put f old names of q is =
+    get-put_each f old names q ∙ ap (λ b. if b then option_or (f q) (finmap.get old q) else finmap.get old q) (sym (contains-from_texts names q) ∙ ap (λ s. set.contains s q) is)
+
+-- ---- one name
+
+kept : (whole : Bool) (e : Option Entry) → unwrap_or (option_map Some (believed_accepted false true None e)) None ≡ believed_accepted whole true None e
+kept true None = refl
+kept true (Some x) = refl
+kept false None = refl
+kept false (Some x) = refl
+
+accept_step : (touched whole : Bool) (o : Option Due) (e : Option Entry) → (whole ≡ false → e ≡ None)
+    → unwrap_or (if touched then option_map Some (believed_accepted false true o e) else None) (option_and_then once_told o) ≡ believed_accepted whole touched o e
+accept_step true whole (Some d) e alone = refl
+accept_step true whole None e alone = kept whole e
+accept_step false whole (Some d) e alone = refl
+accept_step false true None e alone = refl
+accept_step false false None e alone = sym (alone refl)
+
+pub accepted_is : (whole : Bool) (sent : Sent) (b : Beliefs) (d : Differences) → list_any (λ t. t.all) sent.touched ≡ false → (whole ≡ false → b ≡ finmap.empty)
+    → ((q : List ℕ) → finmap.get d q ≡ (if is_named_since sent q then change_since sent b q else None))
+    → overlaid (told_by (Some sent.offer)) d ≡ beliefs_accepted whole sent b
+accepted_is whole sent b d some alone is =
+    same_names _ _ (λ q. believed_at (Some sent.offer) d q
+    ∙ ap (λ o. unwrap_or o (option_and_then once_told (finmap.get sent.offer q))) (is q ∙ ap (λ t. if t then change_since sent b q else None) (sym (named_if_touched sent.touched q some)))
+    ∙ accept_step (was_touched sent q) whole (finmap.get sent.offer q) (finmap.get b q) (λ partly. ap (λ (m : Beliefs). finmap.get m q) (alone partly) ∙ finmap.get-empty text_cmp q)
+    ∙ sym (accepted_by_name whole sent b q))
+
+-- ---- an account
+
+pub taken_as_offered : (v : VariantName) (t : TypeName) (a out : Account) (o : Option Sent) (names : Names) (next new : Beliefs) → IfSome o (λ sent. next ≡ beliefs_accepted (is_whole v t) sent a.beliefs)
+    → new ≡ beliefs_after names next → IfSome o (λ sent. out ≡ record (answered v t a sent false) { beliefs = a.beliefs }) → IfSome o (λ sent. record out { beliefs = new } ≡ taken (answered v t a sent false) names)
+taken_as_offered v t a out None names next new told made settled = tt
+taken_as_offered v t a out (Some sent) names next new told made settled =
+    λ i. record (settled i) { beliefs = (made ∙ ap (beliefs_after names) told) i }

@@ -1,9 +1,0 @@
-use Rattle.std.proofs.Common.{◌≡◌}
-use Rattle.std.specs.FinMap as finmap
-use Rattle.xds_resource.specs.Names.{pairs, put_all}
-use Rattle.xds_ledger.specs.Parts.{kept_beside}
-use Rattle.xds_ledger.proofs.beliefs.accepted.Given as goal
-
--- what is left decides
-abbrev pub invariant-loop-name : goal.invariant-loop-name
-invariant-loop-name l = put_all (kept_beside l.whole l.sent) l.next (pairs l.name-iterator) ≡ put_all (kept_beside l.whole l.sent) l.initial.next (finmap.entries l.beliefs)

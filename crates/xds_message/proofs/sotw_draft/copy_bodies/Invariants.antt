@@ -1,5 +1,0 @@
-use Rattle.std.proofs.Common.{◌≡◌, take}
-use Rattle.xds_message.proofs.sotw_draft.copy_bodies.Given as goal
-
-abbrev pub invariant-loop-body : goal.invariant-loop-body
-invariant-loop-body l = l.copies.items ≡ take l.body-index l.bodies.items

@@ -1,0 +1,61 @@
+-- That what is kept for the clients of a cluster that want everything is what each of them is told.
+use Rattle.std.proofs.Common.{◌≡◌, ◌⊎◌, ℕ, List, Bool, true, false, cond, Option, Some, None, Result, Ok, Err, refl, sym, ap, ◌∙◌, subst, inl, inr}
+use Rattle.std.specs.Prelude.{IfSome, OnOk, OnErr, bytes_eq, if◌then◌else◌, option_map}
+use Rattle.std.specs.FinMap as finmap
+use Rattle.xds_resource.specs.declared.refusal.Refusal.{Refusal}
+use Rattle.xds_resource.specs.declared.types.TypeName.{TypeName}
+use Rattle.xds_resource.specs.Writes.{text_cmp}
+use Rattle.xds_resource.proofs.NameMaps.{bytes_eq_tells, get-insert, same_names}
+use Rattle.xds_interest.specs.Interests.{Selection}
+use Rattle.xds_catalogue.specs.Holdings.{Entries}
+use Rattle.xds_ledger.specs.declared.variant.VariantName.{VariantName}
+use Rattle.xds_ledger.specs.declared.entry.Due.TheVariants.{Stated}
+use Rattle.xds_ledger.specs.Owed.{Beliefs, present, owed_of, is_owed}
+use Rattle.xds_ledger.specs.Offers.{Offer, offered, offer}
+use Rattle.xds_ledger.specs.Sessions.{Session}
+use Rattle.xds_ledger.specs.Variants.{is_whole}
+use Rattle.xds_ledger.proofs.ByName.{offer_says_it}
+use Rattle.xds_sessions.specs.declared.wildcards.Wildcard.{Wildcard}
+use Rattle.xds_sessions.specs.Wildcards.{all_of, first_offer, IsFirst, IsShared, AreShared}
+
+-- nothing is kept
+pub none_shared : {S : Type 0} (v : VariantName) (t : TypeName) (IsSaid : Entries → Selection → Offer → S → Type 0) (m : Entries) (kept : finmap.FinMap text_cmp (Wildcard S))
+    → kept ≡ finmap.empty → AreShared v t IsSaid m kept
+none_shared {S} v t IsSaid m kept is cluster =
+    let none : finmap.get kept cluster ≡ None = ap (λ (k : finmap.FinMap text_cmp (Wildcard S)). finmap.get k cluster) is ∙ finmap.get-empty text_cmp cluster in
+    subst (λ (o : Option (Wildcard S)). IfSome o (IsShared v t IsSaid m cluster)) (sym none) tt
+
+-- one more is kept
+more_at : {S : Type 0} (v : VariantName) (t : TypeName) (IsSaid : Entries → Selection → Offer → S → Type 0) (m : Entries) (cluster q : List ℕ) (w : Wildcard S) (held : Option (Wildcard S)) (same : Bool)
+    → bytes_eq cluster q ≡ same → IsShared v t IsSaid m cluster w → IfSome held (IsShared v t IsSaid m q) → IfSome (cond same (Some w) held) (IsShared v t IsSaid m q)
+more_at v t IsSaid m cluster q w held true equal shared before = subst (λ (c : List ℕ). IsShared v t IsSaid m c w) (bytes_eq_tells cluster q equal) shared
+more_at v t IsSaid m cluster q w held false equal shared before = before
+
+one_more : {S : Type 0} (v : VariantName) (t : TypeName) (IsSaid : Entries → Selection → Offer → S → Type 0) (m : Entries) (kept new : finmap.FinMap text_cmp (Wildcard S)) (cluster : List ℕ) (w : Wildcard S)
+    → new ≡ finmap.insert kept cluster w → IsShared v t IsSaid m cluster w → AreShared v t IsSaid m kept → AreShared v t IsSaid m new
+one_more {S} v t IsSaid m kept new cluster w is shared held q =
+    subst (λ (o : Option (Wildcard S)). IfSome o (IsShared v t IsSaid m q)) (sym (ap (λ (k : finmap.FinMap text_cmp (Wildcard S)). finmap.get k q) is ∙ get-insert kept cluster w q))
+    (more_at v t IsSaid m cluster q w (finmap.get kept q) (bytes_eq cluster q) refl shared (held q))
+
+-- one more is kept, or there was no memory for it
+pub kept_more : {S A : Type 0} (v : VariantName) (t : TypeName) (IsSaid : Entries → Selection → Offer → S → Type 0) (m : Entries) (kept new : finmap.FinMap text_cmp (Wildcard S)) (cluster : List ℕ) (w : Wildcard S)
+    (r : Result A Refusal) → OnOk r (new ≡ finmap.insert kept cluster w) → OnErr r (new ≡ kept) → IsShared v t IsSaid m cluster w → AreShared v t IsSaid m kept → AreShared v t IsSaid m new
+kept_more v t IsSaid m kept new cluster w (Ok x) done left shared held = one_more v t IsSaid m kept new cluster w done shared held
+kept_more v t IsSaid m kept new cluster w (Err e) done left shared held = subst (AreShared v t IsSaid m) (sym left) held
+
+-- a whole response is the same, whatever is believed
+stated_at : (v : VariantName) (t : TypeName) (s : Selection) (m : Entries) (b : Beliefs) (q : List ℕ) → is_whole v t ≡ true → offered v t s m b q ≡ option_map Stated (present s m q)
+stated_at v t s m b q whole = ap (λ (w : Bool). if w then option_map Stated (present s m q) else if is_owed v t s m b q then owed_of s m b q else None) whole
+
+whole_alike : (v : VariantName) (t : TypeName) (s : Selection) (m : Entries) (b c : Beliefs) → is_whole v t ≡ true → offer v t s m b ≡ offer v t s m c
+whole_alike v t s m b c whole =
+    same_names _ _ (λ q. offer_says_it v t s m b q ∙ stated_at v t s m b q whole ∙ sym (stated_at v t s m c q whole) ∙ sym (offer_says_it v t s m c q))
+
+first_of : (v : VariantName) (t : TypeName) (s : Selection) (m : Entries) (b : Beliefs) → (is_whole v t ≡ true) ⊎ (b ≡ finmap.empty) → offer v t s m finmap.empty ≡ offer v t s m b
+first_of v t s m b (inl whole) = whole_alike v t s m finmap.empty b whole
+first_of v t s m b (inr nothing) = ap (offer v t s m) (sym nothing)
+
+-- what is kept is what a session is offered next
+pub first_offered : (v : VariantName) (t : TypeName) (k : Session) (m : Entries) → IsFirst v t k → first_offer v t k.asked.interest.cluster m ≡ offer v t k.asked.interest m k.account.beliefs
+first_offered v t k m first =
+    first_of v t (all_of k.asked.interest.cluster) m k.account.beliefs first.whole ∙ ap (λ (s : Selection). offer v t s m k.account.beliefs) (sym first.wants_all)

@@ -1,0 +1,51 @@
+-- What all clients are told that want everything of a type and are believed to hold nothing of it. This project's own.
+--     all_of        the interest of a client of this cluster that wants everything, and names nothing
+--     first_offer   what such a client is offered that is believed to hold nothing
+--     IsFirst       what a session is offered next is that
+--     IsShared      what is kept for the clients of a cluster is what each of them is told
+--     AreShared     and so for each cluster
+--     Fits          what is kept of both variants is what clients are told at these entries
+use Rattle.std.specs.Prelude.{◌≡◌, ◌⊎◌, ℕ, List, true, IfSome}
+use Rattle.std.specs.Arc.{arc_slice_items}
+use Rattle.std.specs.FinMap as finmap
+use Rattle.std.specs.FinSet as set
+use Rattle.xds_resource.specs.declared.types.TypeName.{TypeName}
+use Rattle.xds_resource.specs.Writes.{text_cmp}
+use Rattle.xds_interest.specs.Interests.{Selection}
+use Rattle.xds_catalogue.specs.Holdings.{Entries}
+use Rattle.xds_ledger.specs.declared.variant.VariantName.{VariantName}
+use Rattle.xds_ledger.specs.declared.variant.VariantName.TheVariants.{StateOfTheWorld, Delta}
+use Rattle.xds_ledger.specs.Variants.{is_whole}
+use Rattle.xds_ledger.specs.Sessions.{Session}
+use Rattle.xds_ledger.specs.Offers.{Offer, offer}
+use Rattle.xds_sessions.specs.declared.wildcards.Wildcard.{Wildcard}
+use Rattle.xds_sessions.specs.declared.wildcards.Wildcards.{Wildcards}
+use Rattle.xds_sessions.specs.SotwPolls.{stated_bodies}
+use Rattle.xds_sessions.specs.DeltaPolls.{said_by}
+
+-- the interest of a client of this cluster that wants everything, and names nothing
+abbrev pub all_of : List ℕ → Selection
+all_of cluster = record { star = true; names = set.empty; cluster = cluster }
+
+-- what such a client is offered that is believed to hold nothing
+abbrev pub first_offer : VariantName → TypeName → List ℕ → Entries → Offer
+first_offer v t cluster m = offer v t (all_of cluster) m finmap.empty
+
+-- what a session is offered next is that: its client wants everything, and responses are the whole, or nothing is believed held
+pub record IsFirst (v : VariantName) (t : TypeName) (s : Session) : Type 0 where
+  pub wants_all : s.asked.interest ≡ all_of s.asked.interest.cluster
+  pub whole : (is_whole v t ≡ true) ⊎ (s.account.beliefs ≡ finmap.empty)
+
+-- what is kept for the clients of a cluster is what each of them is told
+pub record IsShared {S : Type 0} (v : VariantName) (t : TypeName) (IsSaid : Entries → Selection → Offer → S → Type 0) (m : Entries) (cluster : List ℕ) (w : Wildcard S) : Type 0 where
+  pub offer_is : w.offer ≡ first_offer v t cluster m
+  pub said_is : IsSaid m (all_of cluster) w.offer w.said
+
+-- and so for each cluster
+abbrev pub AreShared : {S : Type 0} → VariantName → TypeName → (Entries → Selection → Offer → S → Type 0) → Entries → finmap.FinMap text_cmp (Wildcard S) → Type 0
+AreShared v t IsSaid m kept = (cluster : List ℕ) → IfSome (finmap.get kept cluster) (IsShared v t IsSaid m cluster)
+
+-- what is kept of both variants is what clients are told at these entries
+pub record Fits (t : TypeName) (m : Entries) (w : Wildcards) : Type 0 where
+  pub sotw : AreShared StateOfTheWorld t (λ m s o x. arc_slice_items x ≡ stated_bodies m s o) m w.sotw
+  pub delta : AreShared Delta t (λ m s o x. x ≡ said_by m o) m w.delta
