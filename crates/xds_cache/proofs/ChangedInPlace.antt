@@ -11,8 +11,8 @@ use Rattle.xds_resource.specs.Names.{put_some, put_each}
 use Rattle.xds_resource.proofs.NameMaps.{has_text, same_names, get-insert, get-remove, bytes_eq_tells, bytes_eq_swap, bytes_eq_same, has_text-keys, cond_same}
 use Rattle.xds_resource.proofs.MadeMaps.{get-put_each}
 use Rattle.xds_cache.specs.Shelves.{Wants, Holding, Cache, is_wanted, kept_of}
-use Rattle.xds_cache.specs.Deliveries.{shown, shown_after, cache_after}
-use Rattle.xds_cache.specs.InPlace.{HoldsWanted, IsPruned, is_new, new_names, removed_all, cleared, cleared_all, replaced, stored, stored_all}
+use Rattle.xds_cache.specs.Deliveries.{shown, cache_after}
+use Rattle.xds_cache.specs.InPlace.{HoldsWanted, IsPruned, is_new, new_names, removed_all, cleared, cleared_all, stored, stored_all}
 use Rattle.xds_cache.proofs.Making.{get-cache_after, get-kept_of}
 
 -- ---- what was added is taken out again

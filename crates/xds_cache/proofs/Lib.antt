@@ -1,7 +1,6 @@
 pub mod Making
 pub mod WrittenOver
 pub mod ChangedInPlace
-pub mod Settled
 pub mod Stating
 pub mod Judging
 pub mod Interests

@@ -1,5 +1,5 @@
 -- What is held once a holding was written over.
-use Rattle.std.proofs.Common.{◌≡◌, ℕ, List, true, false, cond, String, Global, BTreeMap, Option, Some, sym, ap, ◌∙◌}
+use Rattle.std.proofs.Common.{◌≡◌, ℕ, List, true, false, cond, String, Global, BTreeMap, Some, sym, ap, ◌∙◌}
 use Rattle.std.specs.Prelude.{string_bytes, bytes_eq, is_some, if◌then◌else◌}
 use Rattle.std.specs.Ordering.{nat_cmp}
 use Rattle.std.specs.Cmp.Lexicographic.{slice_cmp}

@@ -102,7 +102,11 @@ impl Client {
         version: &str,
     ) -> Result<(), Refusal>
         ensures ok { OnOk result (self.new ≡ with_shelf self.old kind (record (shelf_of self.old kind) {
-            cache = cache_after kind (shelf_of self.old kind).wants (row kind).is_complete removed.now stated (shelf_of self.old kind).cache; nonce = []; accepted = version.now; asked = false })) }
+          cache = cache_after kind (shelf_of self.old kind).wants (row kind).is_complete removed.now stated (shelf_of self.old kind).cache;
+          nonce = [];
+          accepted = version.now;
+          asked = false;
+        })) }
         ensures same { OnErr result (self.new ≡ self.old) }
         ensures err { IfErr result (λ e. e ≡ OutOfMemory) }
     {

@@ -74,12 +74,7 @@ fn put<V: Drop>(place: &mut V, value: V)
 }
 
 // Puts a copy of what is held of a name.
-fn put_copy(
-    alloc: Global,
-    next: &mut Cache,
-    name: &str,
-    holding: &Holding,
-) -> Result<(), Refusal>
+fn put_copy(alloc: Global, next: &mut Cache, name: &str, holding: &Holding) -> Result<(), Refusal>
     ensures ok { OnOk result (next.new ≡ put_some next.old name.now (Some holding.now)) }
     ensures err { IfErr result (λ e. e ≡ OutOfMemory) }
 {
@@ -183,12 +178,7 @@ fn cache_after(
 }
 
 // What is still held once these are wanted.
-fn kept(
-    alloc: Global,
-    kind: TypeName,
-    wants: &Wants,
-    cache: &Cache,
-) -> Result<Cache, Refusal>
+fn kept(alloc: Global, kind: TypeName, wants: &Wants, cache: &Cache) -> Result<Cache, Refusal>
     ensures ok { IfOk result (λ m. m ≡ kept_of kind wants.now cache.now) }
     ensures err { IfErr result (λ e. e ≡ OutOfMemory) }
 {
@@ -289,7 +279,16 @@ impl Shelf {
         let nonce = String::from_str(alloc, nonce)?;
         let accepted = String::from_str(alloc, version)?;
         let pruned = self.pruned;
-        change_cache(alloc, kind, &self.wants, pruned, &mut self.cache, whole, removed, stated)?;
+        change_cache(
+            alloc,
+            kind,
+            &self.wants,
+            pruned,
+            &mut self.cache,
+            whole,
+            removed,
+            stated,
+        )?;
         put(&mut self.nonce, nonce);
         put(&mut self.accepted, accepted);
         self.pruned = Some(kind);

@@ -102,7 +102,9 @@ impl Asks for DiscoveryRequest {
         let next = version_after(shelf, rejects, version);
         let request = request_for(alloc, kind, None, shelf, next, nonce, fault)?;
         let whole = kind.is_complete();
-        shelf.settle(alloc, kind, rejects, whole, &removed, stated, nonce, version)?;
+        shelf.settle(
+            alloc, kind, rejects, whole, &removed, stated, nonce, version,
+        )?;
         Ok(request)
     }
 }
