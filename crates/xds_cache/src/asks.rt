@@ -42,8 +42,8 @@ pub trait Asks: Drop {
     fn type_url(response: &Self::Response) -> &str
         ensures { result.now ≡ url response.now };
 
-    /// Makes what is kept of a type what it is after a response, and answers the request that answers that. Refused only by
-    /// `OutOfMemory`, and then it stays as it was.
+    /// Makes what is kept of a type what it is after a response, and answers the request that answers that. Refused
+    /// only by `OutOfMemory`, and then it stays as it was.
     fn deliver<A: Accept>(
         alloc: Global,
         kind: TypeName,

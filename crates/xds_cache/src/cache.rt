@@ -47,7 +47,7 @@ fn put_at<V: Drop>(place: &mut V, value: V)
 }
 
 impl Cache {
-    /// Nothing.
+    /// A cache in which nothing is held.
     pub fn new(alloc: Global) -> Cache
         ensures { result ≡ finmap.empty }
     {

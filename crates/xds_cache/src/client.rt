@@ -92,7 +92,8 @@ impl Client {
         self.shelves.take(alloc, kind)
     }
 
-    /// After an answer to a poll that is taken as this version: it states this, and removes these names. All or nothing.
+    /// After an answer to a poll that is taken as this version: it states this, and removes these names. All or
+    /// nothing.
     pub(crate) fn poll(
         &mut self,
         alloc: Global,

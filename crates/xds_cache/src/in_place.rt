@@ -1,5 +1,5 @@
-// What a response that isn't the whole changes of what is held, made in place, all or nothing: what needs memory comes
-// first, and is undone by removals.
+// Changes what is held in place by a response that isn't the whole, all or nothing: what needs memory comes first, and
+// removals undo it.
 ghost use Rattle.std.specs.Prelude.{◌≡◌, false, map, string_bytes, IfOk, IfErr, OnOk, OnErr};
 ghost use Rattle.std.specs.FinMap as finmap;
 ghost use Rattle.xds_resource.specs.declared.refusal.Refusal.TheVariants.{OutOfMemory};
@@ -32,7 +32,7 @@ fn is_new(kind: TypeName, wants: &Wants, cache: &Cache, name: &str) -> bool
     is_wanted(kind, wants, name) && !cache.contains(name)
 }
 
-// Those of the names that are wanted, and of which nothing is held.
+// Finds those of the names that are wanted, and of which nothing is held.
 fn new_names<'a>(
     alloc: Global,
     kind: TypeName,
@@ -135,7 +135,7 @@ fn store(cache: &mut Cache, name: &str, holding: Option<Holding>)
     }
 }
 
-// And so for each of some names.
+// Writes what is stated of each of some names over what is held of it, if something is. It takes no memory.
 fn store_all(cache: &mut Cache, stated: NameMap<Holding>, names: &[String])
     ensures { cache.new ≡ stored_all stated cache.old (map string_bytes names.now) }
 {
@@ -146,8 +146,9 @@ fn store_all(cache: &mut Cache, stated: NameMap<Holding>, names: &[String])
     }
 }
 
-/// What is held after a response that states this, isn't the whole and removes these names, where all that is held is
-/// wanted: all or nothing. It looks at the names of which the response speaks alone. Refused only by `OutOfMemory`.
+/// Makes what is held what it is after a response that states this, isn't the whole and removes these names, where all
+/// that is held is wanted. It changes all or nothing, and looks at the names of which the response speaks alone. Refused
+/// only by `OutOfMemory`.
 pub(crate) fn change(
     alloc: Global,
     kind: TypeName,

@@ -26,8 +26,8 @@ pub struct Shelf {
     pub accepted: String,
     /// Whether the type was asked for on this stream.
     pub asked: bool,
-    // The type of which nothing is held that isn't wanted, if one is known. Then a response that isn't the whole needs no
-    // look at what it doesn't speak of. It decides nothing.
+    // The type for which all that is held is wanted, if one is known. Then a response of it that isn't the whole is taken
+    // by a look at the names of which it speaks alone. It decides nothing, and contracts don't see it.
     pruned: Option<TypeName>,
 }
 
@@ -187,8 +187,8 @@ fn kept(alloc: Global, kind: TypeName, wants: &Wants, cache: &Cache) -> Result<C
     Ok(next)
 }
 
-// Whether a response can be taken by a look at the names of which it speaks alone: it isn't the whole, and nothing is held
-// that isn't wanted, as far as is known.
+// Whether a response can be taken by a look at the names of which it speaks alone: it isn't the whole, and all that is
+// held is known to be wanted.
 fn is_partial(kind: TypeName, whole: bool, pruned: Option<TypeName>) -> bool
     ensures whole { result ≡ true → whole ≡ false }
     ensures pruned { result ≡ true → pruned ≡ Some kind }
@@ -199,7 +199,8 @@ fn is_partial(kind: TypeName, whole: bool, pruned: Option<TypeName>) -> bool
     }
 }
 
-// What is held after a response that states this, is the whole or not, and removes these names: all or nothing.
+// Makes what is held what it is after a response that states this, is the whole or not, and removes these names: all or
+// nothing.
 fn change_cache(
     alloc: Global,
     kind: TypeName,
@@ -306,8 +307,8 @@ impl Shelf {
         Ok(())
     }
 
-    /// After a response of this nonce that is rejected, or else taken as this version: it states this, is the whole or not,
-    /// and removes these names. All or nothing.
+    /// After a response of this nonce that is rejected, or else taken as this version: it states this, is the whole or
+    /// not, and removes these names. All or nothing.
     pub fn settle(
         &mut self,
         alloc: Global,
