@@ -147,8 +147,8 @@ fn store_all(cache: &mut Cache, stated: NameMap<Holding>, names: &[String])
 }
 
 /// Makes what is held what it is after a response that states this, isn't the whole and removes these names, where all
-/// that is held is wanted. It changes all or nothing, and looks at the names of which the response speaks alone. Refused
-/// only by `OutOfMemory`.
+/// that is held is wanted. It changes all or nothing, and looks at the names of which the response speaks alone.
+/// Refused only by `OutOfMemory`.
 pub(crate) fn change(
     alloc: Global,
     kind: TypeName,

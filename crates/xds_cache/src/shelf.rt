@@ -26,8 +26,8 @@ pub struct Shelf {
     pub accepted: String,
     /// Whether the type was asked for on this stream.
     pub asked: bool,
-    // The type for which all that is held is wanted, if one is known. Then a response of it that isn't the whole is taken
-    // by a look at the names of which it speaks alone. It decides nothing, and contracts don't see it.
+    // The type for which all that is held is wanted, if one is known. Then a response of it that isn't the whole is
+    // taken by a look at the names of which it speaks alone. It decides nothing, and contracts don't see it.
     pruned: Option<TypeName>,
 }
 
