@@ -1,4 +1,6 @@
 pub mod Making
+pub mod WrittenOver
+pub mod ChangedInPlace
 pub mod Stating
 pub mod Judging
 pub mod Interests

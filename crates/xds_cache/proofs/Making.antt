@@ -32,14 +32,6 @@ pub get-put_fresh : {X Y : Type 0} (f : List ℕ → X → Option Y) (m : finmap
 get-put_fresh f m q =
     get-put_all f finmap.empty m q ∙ ap (λ e. option_or (option_and_then (f q) (finmap.get m q)) e) (finmap.get-empty text_cmp q) ∙ or_none (option_and_then (f q) (finmap.get m q))
 
-as_it_is : {X : Type 0} (o : Option X) → option_and_then Some o ≡ o
-as_it_is None = refl
-as_it_is (Some x) = refl
-
--- a copy is the map itself
-pub put_all-copy : {X : Type 0} (m : finmap.FinMap text_cmp X) → put_all as_before finmap.empty (finmap.entries m) ≡ m
-put_all-copy m = same_names _ _ (λ q. get-put_fresh as_before m q ∙ as_it_is (finmap.get m q))
-
 -- ---- texts
 
 subscribed_at : (s b : Option (Unit {0})) (dropped : Bool)

@@ -2,6 +2,7 @@ pub mod Shelves
 pub mod Faults
 pub mod Deliveries
 pub mod Parts
+pub mod InPlace
 pub mod Marks
 pub mod Clients
 pub mod Sends

@@ -1,5 +1,5 @@
 // What the two variants of a client on a stream differ in.
-ghost use Rattle.std.specs.Prelude.{◌≡◌, IfOk, IfErr};
+ghost use Rattle.std.specs.Prelude.{◌≡◌, IfOk, IfErr, OnErr};
 ghost use Rattle.xds_resource.specs.declared.refusal.Refusal.TheVariants.{OutOfMemory};
 
 use crate::accept::Accept;
@@ -42,13 +42,15 @@ pub trait Asks: Drop {
     fn type_url(response: &Self::Response) -> &str
         ensures { result.now ≡ url response.now };
 
-    /// What is kept of a type after a response, and the request that answers it. Refused only by `OutOfMemory`.
+    /// Makes what is kept of a type what it is after a response, and answers the request that answers that. Refused
+    /// only by `OutOfMemory`, and then it stays as it was.
     fn deliver<A: Accept>(
         alloc: Global,
         kind: TypeName,
-        shelf: &Shelf,
+        shelf: &mut Shelf,
         response: &Self::Response,
-    ) -> Result<(Shelf, Self), Refusal>
-        ensures ok { IfOk result (λ r. r ≡ delivered A.accepts response.now kind shelf.now) }
+    ) -> Result<Self, Refusal>
+        ensures ok { IfOk result (λ q. (shelf.new, q) ≡ delivered A.accepts response.now kind shelf.old) }
+        ensures same { OnErr result (shelf.new ≡ shelf.old) }
         ensures err { IfErr result (λ e. e ≡ OutOfMemory) };
 }

@@ -1,16 +1,19 @@
 // What clients of both variants share.
-ghost use Rattle.std.specs.Prelude.{◌≡◌, true, if◌then◌else◌, string_bytes, IfOk, IfErr};
+ghost use Rattle.std.specs.Prelude.{◌≡◌, true, false, [], if◌then◌else◌, string_bytes, IfOk, IfErr, OnOk, OnErr};
 ghost use Rattle.xds_resource.specs.declared.refusal.Refusal.TheVariants.{OutOfMemory};
-ghost use Rattle.xds_cache.specs.Shelves.{wanting as wanting_now, wants_some as some_wanted};
+ghost use Rattle.xds_cache.specs.Shelves.{bare, wanting as wanting_now, wants_some as some_wanted};
+ghost use Rattle.xds_resource.specs.Types.{row};
+ghost use Rattle.xds_cache.specs.Deliveries.{cache_after};
 ghost use Rattle.xds_cache.specs.Clients.{fresh, shelf as shelf_of, with_shelf, node as node_of, is_sent as sent, changing, linked, unlinked, broken_off, addressing};
 
+use crate::holding::Holding;
 use crate::shelf::Shelf;
 use crate::shelves::Shelves;
 use crate::wants::{Wants, wants_some};
 use std::alloc::Global;
 use std::marker::Model;
 use xds_message::Node;
-use xds_resource::{Refusal, TypeName};
+use xds_resource::{NameMap, Refusal, TypeName};
 
 /// A client, whichever its variant, and whether it has a stream or not.
 pub(crate) struct Client {
@@ -79,6 +82,40 @@ impl Client {
         ensures { self.new ≡ with_shelf self.old kind shelf }
     {
         self.shelves.put(kind, shelf);
+    }
+
+    /// Takes out what is kept of a type, and leaves what a client keeps that wants nothing. It takes no memory.
+    pub(crate) fn take_shelf(&mut self, alloc: Global, kind: TypeName) -> Shelf
+        ensures taken { result ≡ shelf_of self.old kind }
+        ensures left { self.new ≡ with_shelf self.old kind bare }
+    {
+        self.shelves.take(alloc, kind)
+    }
+
+    /// After an answer to a poll that is taken as this version: it states this, and removes these names. All or
+    /// nothing.
+    pub(crate) fn poll(
+        &mut self,
+        alloc: Global,
+        kind: TypeName,
+        removed: &Wants,
+        stated: NameMap<Holding>,
+        version: &str,
+    ) -> Result<(), Refusal>
+        ensures ok { OnOk result (self.new ≡ with_shelf self.old kind (record (shelf_of self.old kind) {
+          cache = cache_after kind (shelf_of self.old kind).wants (row kind).is_complete removed.now stated (shelf_of self.old kind).cache;
+          nonce = [];
+          accepted = version.now;
+          asked = false;
+        })) }
+        ensures same { OnErr result (self.new ≡ self.old) }
+        ensures err { IfErr result (λ e. e ≡ OutOfMemory) }
+    {
+        let mut shelf = self.take_shelf(alloc, kind);
+        let whole = kind.is_complete();
+        let polled = shelf.poll(alloc, kind, whole, removed, stated, version);
+        self.put_shelf(kind, shelf);
+        polled
     }
 
     /// Whether the client sent on this stream who it is.

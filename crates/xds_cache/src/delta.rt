@@ -10,8 +10,9 @@ ghost use Rattle.xds_cache.specs.Receives.{delta_change, delta_changed};
 
 use crate::accept::Accept;
 use crate::asks::Asks;
-use crate::delta_response::delivered_to;
-use crate::holding::Holding;
+use crate::cache::Cache;
+use crate::delta_response::judged;
+use crate::judged::Judged;
 use crate::link::Link;
 use crate::rejection::rejection;
 use crate::shelf::Shelf;
@@ -70,7 +71,7 @@ fn answer_to(
 }
 
 // The versions that are held.
-fn cached_versions(alloc: Global, cache: &NameMap<Holding>) -> Result<Versions, Refusal>
+fn cached_versions(alloc: Global, cache: &Cache) -> Result<Versions, Refusal>
     ensures ok { IfOk result (λ v. v ≡ versions_cached cache.now) }
     ensures err { IfErr result (λ e. e ≡ OutOfMemory) }
 {
@@ -118,12 +119,19 @@ impl Asks for DeltaDiscoveryRequest {
     fn deliver<A: Accept>(
         alloc: Global,
         kind: TypeName,
-        shelf: &Shelf,
+        shelf: &mut Shelf,
         response: &DeltaDiscoveryResponse,
-    ) -> Result<(Shelf, DeltaDiscoveryRequest), Refusal> {
-        let (next, fault) = delivered_to::<A>(alloc, kind, shelf, response)?;
-        let request = answer_to(alloc, kind, response.nonce.as_str(), fault)?;
-        Ok((next, request))
+    ) -> Result<DeltaDiscoveryRequest, Refusal> {
+        let Judged {
+            fault,
+            removed,
+            stated,
+        } = judged::<A>(alloc, kind, response)?;
+        let rejects = fault.is_some();
+        let nonce = response.nonce.as_str();
+        let request = answer_to(alloc, kind, nonce, fault)?;
+        shelf.settle(alloc, kind, rejects, false, &removed, stated, nonce, "")?;
+        Ok(request)
     }
 }
 

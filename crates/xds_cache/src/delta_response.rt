@@ -1,15 +1,15 @@
-// What a delta response leaves of what is kept of its type.
+// What a delta response says, or why it is rejected.
 ghost use Rattle.std.specs.Prelude.{◌≡◌, map, None, string_bytes, IfOk, IfErr, Ok};
 ghost use Rattle.std.specs.Option.{option_map};
 ghost use Rattle.xds_resource.specs.declared.refusal.Refusal.TheVariants.{OutOfMemory};
 ghost use Rattle.xds_message.specs.Responses.{resource_of, delta_response_of};
 ghost use Rattle.xds_cache.specs.Faults.{fault_of, and_stated, first_fault, stated_by};
-ghost use Rattle.xds_cache.specs.Deliveries.{delta_stated, delta_delivery, delivered, fault_in};
+ghost use Rattle.xds_cache.specs.Deliveries.{delta_stated, delta_delivery, fault_in, statements};
 
 use crate::accept::Accept;
 use crate::faults::state;
 use crate::holding::Holding;
-use crate::shelf::Shelf;
+use crate::judged::Judged;
 use crate::wants::{Wants, wants_of};
 use std::alloc::Global;
 use xds_message::{DeltaDiscoveryResponse, DeltaResource};
@@ -64,26 +64,24 @@ fn judge<A: Accept>(
     Ok(None)
 }
 
-/// What is kept of a type after a response, and why that is rejected, if it is.
-pub fn delivered_to<A: Accept>(
+/// Why a response is rejected, if it is, and else what it states and which names are gone.
+pub fn judged<A: Accept>(
     alloc: Global,
     kind: TypeName,
-    shelf: &Shelf,
     response: &DeltaDiscoveryResponse,
-) -> Result<(Shelf, Option<String>), Refusal>
-    ensures shelf { IfOk result (λ r. r.0 ≡ delivered kind A.accepts shelf.now (delta_delivery (delta_response_of response.now))) }
-    ensures fault { IfOk result (λ r. option_map string_bytes r.1 ≡ fault_in kind A.accepts (delta_delivery (delta_response_of response.now))) }
+) -> Result<Judged, Refusal>
+    ensures fault { IfOk result (λ j. option_map string_bytes j.fault ≡ fault_in kind A.accepts (delta_delivery (delta_response_of response.now))) }
+    ensures removed { IfOk result (λ j. j.removed ≡ (delta_delivery (delta_response_of response.now)).removed) }
+    ensures stated { IfOk result (λ j. j.fault ≡ None → j.stated ≡ statements kind (delta_delivery (delta_response_of response.now))) }
     ensures err { IfErr result (λ e. e ≡ OutOfMemory) }
 {
     let removed = wants_of(alloc, response.removed_resources.as_slice())?;
     let mut stated = NameMap::new(alloc);
-    let nonce = response.nonce.as_str();
     let resources = response.resources.as_slice();
     let fault = judge::<A>(alloc, kind, &removed, resources, &mut stated)?;
-    if fault.is_some() {
-        let next = shelf.rejecting(alloc, nonce)?;
-        return Ok((next, fault));
-    }
-    let next = shelf.stating(alloc, kind, false, &removed, &stated, nonce, "")?;
-    Ok((next, None))
+    Ok(Judged {
+        fault,
+        removed,
+        stated,
+    })
 }

@@ -5,11 +5,14 @@
 
 pub mod accept;
 pub mod asks;
+pub mod cache;
 mod client;
 pub mod delta;
 pub mod delta_response;
 pub mod faults;
 pub mod holding;
+mod in_place;
+pub mod judged;
 pub mod laws;
 pub mod link;
 mod rejection;
@@ -23,6 +26,7 @@ pub mod wants;
 
 pub use accept::{Accept, AcceptAll, Marked};
 pub use asks::Asks;
+pub use cache::Cache;
 pub use delta::DeltaClient;
 pub use holding::Holding;
 pub use link::{Down, Link, Up};

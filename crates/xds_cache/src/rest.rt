@@ -8,14 +8,15 @@ ghost use Rattle.xds_cache.specs.Clients.{fresh, shelf as shelf_of, view as view
 ghost use Rattle.xds_cache.specs.Rest.{rest_request, rest_asking, rest_changed, rest_receive, rest_answered, answers_poll, has_body};
 
 use crate::accept::Accept;
+use crate::cache::Cache;
 use crate::client::Client;
-use crate::holding::Holding;
-use crate::sotw_response::delivered_to;
+use crate::judged::Judged;
+use crate::sotw_response::judged;
 use crate::wants::{texts_of, wants_of};
 use std::alloc::Global;
 use std::marker::{Model, PhantomData};
 use xds_message::{DiscoveryRequest, DiscoveryResponse};
-use xds_resource::{NameMap, Refusal, TypeName};
+use xds_resource::{Refusal, TypeName};
 
 /// A client that polls, for all types. `A` is its test of what it is sent. It has no stream: each poll of a type is one request
 /// and its answer.
@@ -55,7 +56,7 @@ impl<A: Accept> RestClient<A> {
     }
 
     /// What the client holds of a type.
-    pub fn view(&self, kind: TypeName) -> &NameMap<Holding>
+    pub fn view(&self, kind: TypeName) -> &Cache
         ensures { result.now ≡ view_of self.now kind }
     {
         &self.client.shelf(kind).cache
@@ -129,13 +130,16 @@ impl<A: Accept> RestClient<A> {
         ensures err { IfErr result (λ e. self.new ≡ self.old) }
         ensures refused { IfErr result (λ e. e ≡ OutOfMemory) }
     {
-        let (mut next, fault) = delivered_to::<A>(alloc, kind, self.client.shelf(kind), response)?;
+        let Judged {
+            fault,
+            removed,
+            stated,
+        } = judged::<A>(alloc, kind, response)?;
         if fault.is_some() {
             return Ok(fault);
         }
-        next.nonce.clear();
-        next.asked = false;
-        self.client.put_shelf(kind, next);
+        let version = response.version_info.as_str();
+        self.client.poll(alloc, kind, &removed, stated, version)?;
         Ok(None)
     }
 

@@ -1,14 +1,17 @@
 // What a client keeps of one type.
-ghost use Rattle.std.specs.Prelude.{◌≡◌, [], Some, string_bytes, IfOk, IfErr, OnOk};
+ghost use Rattle.std.specs.Prelude.{◌≡◌, true, false, [], Some, if◌then◌else◌, IfOk, IfErr, OnOk, OnErr};
 ghost use Rattle.std.specs.FinMap as finmap;
 ghost use Rattle.xds_resource.specs.declared.refusal.Refusal.TheVariants.{OutOfMemory};
 ghost use Rattle.xds_resource.specs.Names.{put_all, put_some};
 ghost use Rattle.xds_cache.specs.Shelves.{bare, kept_of, wanting as wanting_now, connected, lost};
 ghost use Rattle.xds_cache.specs.Deliveries.{cache_after as shown_after};
 ghost use Rattle.xds_cache.specs.Parts.{left as left_by, added as added_by};
+ghost use Rattle.xds_cache.specs.InPlace.{IsPruned};
 
+use crate::cache::Cache;
 use crate::holding::Holding;
-use crate::wants::{Wants, copy_wants, is_wanted, wants_some};
+use crate::in_place::change;
+use crate::wants::{Wants, is_wanted, wants_some};
 use std::alloc::Global;
 use std::marker::Model;
 use xds_resource::{NameMap, Refusal, TypeName};
@@ -16,13 +19,16 @@ use xds_resource::{NameMap, Refusal, TypeName};
 /// What a client wants of a type, what it holds, and how far its stream is.
 pub struct Shelf {
     pub wants: Wants,
-    pub cache: NameMap<Holding>,
+    pub cache: Cache,
     /// The nonce of the last response of the type on this stream.
     pub nonce: String,
     /// The version that was accepted last, in state of the world.
     pub accepted: String,
     /// Whether the type was asked for on this stream.
     pub asked: bool,
+    // The type for which all that is held is wanted, if one is known. Then a response of it that isn't the whole is
+    // taken by a look at the names of which it speaks alone. It decides nothing, and contracts don't see it.
+    pruned: Option<TypeName>,
 }
 
 // Written out: docs/PROVING.md, "Drops".
@@ -34,6 +40,7 @@ impl Drop for Shelf {
             nonce: _,
             accepted: _,
             asked: _,
+            pruned: _,
         } = self;
     }
 }
@@ -42,6 +49,7 @@ impl Model for Shelf {
     ghost use Rattle.std.specs.Prelude.{string_bytes};
     ghost use Rattle.xds_cache.specs.Shelves as shelves;
     ghost use Rattle.xds_cache.specs.Shelves.{shelf_code};
+    ghost use Rattle.xds_cache.specs.InPlace.{IsPruned};
 
     ghost Value = { shelves.Shelf };
 
@@ -54,15 +62,19 @@ impl Model for Shelf {
       accepted = string_bytes s.accepted;
       asked = s.asked;
     } };
+
+    ghost invariant = { λ s. IsPruned s.pruned s.wants s.cache };
+}
+
+// Puts a value in the place of another. Of a type parameter, a drop is one step to the proof.
+fn put<V: Drop>(place: &mut V, value: V)
+    ensures { place.new ≡ value }
+{
+    *place = value;
 }
 
 // Puts a copy of what is held of a name.
-fn put_copy(
-    alloc: Global,
-    next: &mut NameMap<Holding>,
-    name: &str,
-    holding: &Holding,
-) -> Result<(), Refusal>
+fn put_copy(alloc: Global, next: &mut Cache, name: &str, holding: &Holding) -> Result<(), Refusal>
     ensures ok { OnOk result (next.new ≡ put_some next.old name.now (Some holding.now)) }
     ensures err { IfErr result (λ e. e ≡ OutOfMemory) }
 {
@@ -77,7 +89,7 @@ fn put_left(
     wants: &Wants,
     whole: bool,
     removed: &Wants,
-    next: &mut NameMap<Holding>,
+    next: &mut Cache,
     name: &str,
     holding: &Holding,
 ) -> Result<(), Refusal>
@@ -96,7 +108,7 @@ fn put_added(
     alloc: Global,
     kind: TypeName,
     wants: &Wants,
-    next: &mut NameMap<Holding>,
+    next: &mut Cache,
     name: &str,
     holding: &Holding,
 ) -> Result<(), Refusal>
@@ -117,12 +129,12 @@ fn left(
     wants: &Wants,
     whole: bool,
     removed: &Wants,
-    cache: &NameMap<Holding>,
-) -> Result<NameMap<Holding>, Refusal>
+    cache: &Cache,
+) -> Result<Cache, Refusal>
     ensures ok { IfOk result (λ m. m ≡ put_all (left_by kind wants.now whole removed.now) finmap.empty (finmap.entries cache.now)) }
     ensures err { IfErr result (λ e. e ≡ OutOfMemory) }
 {
-    let mut next = NameMap::new(alloc);
+    let mut next = Cache::new(alloc);
     for (name, holding) in cache.iter() {
         put_left(alloc, kind, wants, whole, removed, &mut next, name, holding)?;
     }
@@ -135,8 +147,8 @@ fn added(
     kind: TypeName,
     wants: &Wants,
     stated: &NameMap<Holding>,
-    beside: NameMap<Holding>,
-) -> Result<NameMap<Holding>, Refusal>
+    beside: Cache,
+) -> Result<Cache, Refusal>
     ensures ok { IfOk result (λ m. m ≡ put_all (added_by kind wants.now) beside (finmap.entries stated.now)) }
     ensures err { IfErr result (λ e. e ≡ OutOfMemory) }
 {
@@ -151,26 +163,22 @@ fn added(
 fn cache_after(
     alloc: Global,
     kind: TypeName,
-    shelf: &Shelf,
+    wants: &Wants,
     whole: bool,
     removed: &Wants,
     stated: &NameMap<Holding>,
-) -> Result<NameMap<Holding>, Refusal>
-    ensures ok { IfOk result (λ m. m ≡ shown_after kind shelf.now.wants whole removed.now stated.now shelf.now.cache) }
+    cache: &Cache,
+) -> Result<Cache, Refusal>
+    ensures ok { IfOk result (λ m. m ≡ shown_after kind wants.now whole removed.now stated.now cache.now) }
     ensures err { IfErr result (λ e. e ≡ OutOfMemory) }
 {
-    let beside = left(alloc, kind, &shelf.wants, whole, removed, &shelf.cache)?;
-    let next = added(alloc, kind, &shelf.wants, stated, beside)?;
+    let beside = left(alloc, kind, wants, whole, removed, cache)?;
+    let next = added(alloc, kind, wants, stated, beside)?;
     Ok(next)
 }
 
 // What is still held once these are wanted.
-fn kept(
-    alloc: Global,
-    kind: TypeName,
-    wants: &Wants,
-    cache: &NameMap<Holding>,
-) -> Result<NameMap<Holding>, Refusal>
+fn kept(alloc: Global, kind: TypeName, wants: &Wants, cache: &Cache) -> Result<Cache, Refusal>
     ensures ok { IfOk result (λ m. m ≡ kept_of kind wants.now cache.now) }
     ensures err { IfErr result (λ e. e ≡ OutOfMemory) }
 {
@@ -179,15 +187,41 @@ fn kept(
     Ok(next)
 }
 
-fn copy_cache(alloc: Global, cache: &NameMap<Holding>) -> Result<NameMap<Holding>, Refusal>
-    ensures ok { IfOk result (λ m. m ≡ cache.now) }
+// Whether a response can be taken by a look at the names of which it speaks alone: it isn't the whole, and all that is
+// held is known to be wanted.
+fn is_partial(kind: TypeName, whole: bool, pruned: Option<TypeName>) -> bool
+    ensures whole { result ≡ true → whole ≡ false }
+    ensures pruned { result ≡ true → pruned ≡ Some kind }
+{
+    match pruned {
+        Some(known) => !whole && known == kind,
+        None => false,
+    }
+}
+
+// Makes what is held what it is after a response that states this, is the whole or not, and removes these names: all or
+// nothing.
+fn change_cache(
+    alloc: Global,
+    kind: TypeName,
+    wants: &Wants,
+    pruned: Option<TypeName>,
+    cache: &mut Cache,
+    whole: bool,
+    removed: &Wants,
+    stated: NameMap<Holding>,
+) -> Result<(), Refusal>
+    requires { IsPruned pruned wants.now cache.now }
+    ensures ok { OnOk result (cache.new ≡ shown_after kind wants.now whole removed.now stated cache.old) }
+    ensures same { OnErr result (cache.new ≡ cache.old) }
     ensures err { IfErr result (λ e. e ≡ OutOfMemory) }
 {
-    let mut copy = NameMap::new(alloc);
-    for (name, holding) in cache.iter() {
-        put_copy(alloc, &mut copy, name, holding)?;
+    if is_partial(kind, whole, pruned) {
+        return change(alloc, kind, wants, cache, removed, stated);
     }
-    Ok(copy)
+    let next = cache_after(alloc, kind, wants, whole, removed, &stated, cache)?;
+    put(cache, next);
+    Ok(())
 }
 
 impl Shelf {
@@ -197,10 +231,11 @@ impl Shelf {
     {
         Shelf {
             wants: NameMap::new(alloc),
-            cache: NameMap::new(alloc),
+            cache: Cache::new(alloc),
             nonce: String::new(alloc),
             accepted: String::new(alloc),
             asked: false,
+            pruned: None,
         }
     }
 
@@ -222,55 +257,98 @@ impl Shelf {
             nonce: String::from_str(alloc, self.nonce.as_str())?,
             accepted: String::from_str(alloc, self.accepted.as_str())?,
             asked,
+            pruned: Some(kind),
         })
     }
 
-    /// The shelf with this cache, after a response of this nonce that was taken as this version.
-    pub fn taking(
-        &self,
-        alloc: Global,
-        cache: NameMap<Holding>,
-        nonce: &str,
-        version: &str,
-    ) -> Result<Shelf, Refusal>
-        ensures ok { IfOk result (λ s. s ≡ record self.now { cache = cache; nonce = nonce.now; accepted = version.now }) }
-        ensures err { IfErr result (λ e. e ≡ OutOfMemory) }
-    {
-        Ok(Shelf {
-            wants: copy_wants(alloc, &self.wants)?,
-            cache,
-            nonce: String::from_str(alloc, nonce)?,
-            accepted: String::from_str(alloc, version)?,
-            asked: self.asked,
-        })
-    }
-
-    /// After a response of this nonce that was taken as this version: it states this, is the whole or not, and removes
-    /// these names.
-    pub fn stating(
-        &self,
+    /// After a response of this nonce that is taken as this version: it states this, is the whole or not, and removes
+    /// these names. All or nothing.
+    pub fn state(
+        &mut self,
         alloc: Global,
         kind: TypeName,
         whole: bool,
         removed: &Wants,
-        stated: &NameMap<Holding>,
+        stated: NameMap<Holding>,
         nonce: &str,
         version: &str,
-    ) -> Result<Shelf, Refusal>
-        ensures ok { IfOk result (λ s. s ≡ record self.now { cache = shown_after kind self.now.wants whole removed.now stated.now self.now.cache; nonce = nonce.now; accepted = version.now }) }
+    ) -> Result<(), Refusal>
+        ensures ok { OnOk result (self.new ≡ record self.old { cache = shown_after kind self.old.wants whole removed.now stated self.old.cache; nonce = nonce.now; accepted = version.now }) }
+        ensures same { OnErr result (self.new ≡ self.old) }
         ensures err { IfErr result (λ e. e ≡ OutOfMemory) }
     {
-        let cache = cache_after(alloc, kind, self, whole, removed, stated)?;
-        self.taking(alloc, cache, nonce, version)
+        let nonce = String::from_str(alloc, nonce)?;
+        let accepted = String::from_str(alloc, version)?;
+        let pruned = self.pruned;
+        change_cache(
+            alloc,
+            kind,
+            &self.wants,
+            pruned,
+            &mut self.cache,
+            whole,
+            removed,
+            stated,
+        )?;
+        put(&mut self.nonce, nonce);
+        put(&mut self.accepted, accepted);
+        self.pruned = Some(kind);
+        Ok(())
     }
 
-    /// After a response of this nonce that was rejected.
-    pub fn rejecting(&self, alloc: Global, nonce: &str) -> Result<Shelf, Refusal>
-        ensures ok { IfOk result (λ s. s ≡ record self.now { nonce = nonce.now }) }
+    /// After a response of this nonce that is rejected. All or nothing.
+    pub fn reject(&mut self, alloc: Global, nonce: &str) -> Result<(), Refusal>
+        ensures ok { OnOk result (self.new ≡ record self.old { nonce = nonce.now }) }
+        ensures same { OnErr result (self.new ≡ self.old) }
         ensures err { IfErr result (λ e. e ≡ OutOfMemory) }
     {
-        let cache = copy_cache(alloc, &self.cache)?;
-        self.taking(alloc, cache, nonce, self.accepted.as_str())
+        let nonce = String::from_str(alloc, nonce)?;
+        put(&mut self.nonce, nonce);
+        Ok(())
+    }
+
+    /// After a response of this nonce that is rejected, or else taken as this version: it states this, is the whole or
+    /// not, and removes these names. All or nothing.
+    pub fn settle(
+        &mut self,
+        alloc: Global,
+        kind: TypeName,
+        rejects: bool,
+        whole: bool,
+        removed: &Wants,
+        stated: NameMap<Holding>,
+        nonce: &str,
+        version: &str,
+    ) -> Result<(), Refusal>
+        ensures ok { OnOk result (self.new ≡ (if rejects then record self.old { nonce = nonce.now }
+            else record self.old { cache = shown_after kind self.old.wants whole removed.now stated self.old.cache; nonce = nonce.now; accepted = version.now })) }
+        ensures same { OnErr result (self.new ≡ self.old) }
+        ensures err { IfErr result (λ e. e ≡ OutOfMemory) }
+    {
+        if rejects {
+            return self.reject(alloc, nonce);
+        }
+        self.state(alloc, kind, whole, removed, stated, nonce, version)
+    }
+
+    /// After an answer to a poll that is taken as this version: it states this, is the whole or not, and removes these
+    /// names. All or nothing.
+    pub fn poll(
+        &mut self,
+        alloc: Global,
+        kind: TypeName,
+        whole: bool,
+        removed: &Wants,
+        stated: NameMap<Holding>,
+        version: &str,
+    ) -> Result<(), Refusal>
+        ensures ok { OnOk result (self.new ≡ record self.old { cache = shown_after kind self.old.wants whole removed.now stated self.old.cache; nonce = []; accepted = version.now; asked = false }) }
+        ensures same { OnErr result (self.new ≡ self.old) }
+        ensures err { IfErr result (λ e. e ≡ OutOfMemory) }
+    {
+        self.state(alloc, kind, whole, removed, stated, "", version)?;
+        self.asked = false;
+        Ok(())
     }
 
     /// Begins a stream, on which everything that is wanted is asked for.

@@ -6,6 +6,7 @@ ghost use Rattle.xds_cache.specs.Shelves.{bare, connected, lost};
 use crate::shelf::Shelf;
 use std::alloc::Global;
 use std::marker::Model;
+use std::mem;
 use xds_resource::{TypeName, for_type};
 
 pub(crate) struct Shelves {
@@ -73,6 +74,15 @@ impl Shelves {
         ensures { self.new ≡ with_at self.old kind shelf }
     {
         for_type!(kind, held in &mut self => set(held, shelf))
+    }
+
+    /// Takes out the shelf of a type, and leaves that of a client that wants nothing. It takes no memory.
+    pub(crate) fn take(&mut self, alloc: Global, kind: TypeName) -> Shelf
+        ensures taken { result ≡ at self.old kind }
+        ensures left { self.new ≡ with_at self.old kind bare }
+    {
+        let empty = Shelf::new(alloc);
+        for_type!(kind, held in &mut self => mem::replace(held, empty))
     }
 
     /// Begins a stream.

@@ -9,10 +9,11 @@ ghost use Rattle.xds_cache.specs.Receives.{sotw_change};
 
 use crate::accept::Accept;
 use crate::asks::Asks;
+use crate::judged::Judged;
 use crate::link::Link;
 use crate::rejection::rejection;
 use crate::shelf::Shelf;
-use crate::sotw_response::delivered_to;
+use crate::sotw_response::judged;
 use crate::streaming::StreamingClient;
 use crate::wants::{texts_of, wants_of};
 use std::alloc::Global;
@@ -29,20 +30,32 @@ fn request_for(
     kind: TypeName,
     node: Option<Node>,
     shelf: &Shelf,
+    version: &str,
     nonce: &str,
     fault: Option<String>,
 ) -> Result<DiscoveryRequest, Refusal>
-    ensures ok { IfOk result (λ q. q ≡ request_of kind node (record shelf.now { nonce = nonce.now }) (option_map string_bytes fault)) }
+    ensures ok { IfOk result (λ q. q ≡ request_of kind node (record shelf.now { accepted = version.now; nonce = nonce.now }) (option_map string_bytes fault)) }
     ensures err { IfErr result (λ e. e ≡ OutOfMemory) }
 {
     Ok(DiscoveryRequest {
-        version_info: String::from_str(alloc, shelf.accepted.as_str())?,
+        version_info: String::from_str(alloc, version)?,
         node,
         resource_names: texts_of(alloc, &shelf.wants)?,
         type_url: String::from_str(alloc, kind.url())?,
         response_nonce: String::from_str(alloc, nonce)?,
         error_detail: rejection(fault),
     })
+}
+
+// The version that a shelf has after a response of this version that is rejected or taken.
+fn version_after<'a>(shelf: &'a Shelf, rejects: bool, version: &'a str) -> &'a str
+    ensures { result.now ≡ (if rejects then shelf.now.accepted else version.now) }
+{
+    if rejects {
+        shelf.accepted.as_str()
+    } else {
+        version
+    }
 }
 
 impl Asks for DiscoveryRequest {
@@ -64,7 +77,8 @@ impl Asks for DiscoveryRequest {
         node: Option<Node>,
         shelf: &Shelf,
     ) -> Result<DiscoveryRequest, Refusal> {
-        request_for(alloc, kind, node, shelf, "", None)
+        let version = shelf.accepted.as_str();
+        request_for(alloc, kind, node, shelf, version, "", None)
     }
 
     fn type_url(response: &DiscoveryResponse) -> &str {
@@ -74,12 +88,24 @@ impl Asks for DiscoveryRequest {
     fn deliver<A: Accept>(
         alloc: Global,
         kind: TypeName,
-        shelf: &Shelf,
+        shelf: &mut Shelf,
         response: &DiscoveryResponse,
-    ) -> Result<(Shelf, DiscoveryRequest), Refusal> {
-        let (next, fault) = delivered_to::<A>(alloc, kind, shelf, response)?;
-        let request = request_for(alloc, kind, None, &next, next.nonce.as_str(), fault)?;
-        Ok((next, request))
+    ) -> Result<DiscoveryRequest, Refusal> {
+        let Judged {
+            fault,
+            removed,
+            stated,
+        } = judged::<A>(alloc, kind, response)?;
+        let rejects = fault.is_some();
+        let nonce = response.nonce.as_str();
+        let version = response.version_info.as_str();
+        let next = version_after(shelf, rejects, version);
+        let request = request_for(alloc, kind, None, shelf, next, nonce, fault)?;
+        let whole = kind.is_complete();
+        shelf.settle(
+            alloc, kind, rejects, whole, &removed, stated, nonce, version,
+        )?;
+        Ok(request)
     }
 }
 
@@ -99,7 +125,9 @@ impl<A: Accept, L: Link> StreamingClient<A, L, DiscoveryRequest> {
             return Ok(None);
         }
         let node = self.client.node(alloc, self.client.has_greeted())?;
-        let request = request_for(alloc, kind, node, next, next.nonce.as_str(), None)?;
+        let version = next.accepted.as_str();
+        let nonce = next.nonce.as_str();
+        let request = request_for(alloc, kind, node, next, version, nonce, None)?;
         Ok(Some(request))
     }
 

@@ -1,16 +1,16 @@
-// What a response of the state of the world leaves of what is kept of its type.
+// What a response of the state of the world says, or why it is rejected.
 ghost use Rattle.std.specs.Prelude.{◌≡◌, map, None, string_bytes, IfOk, IfErr, Ok};
 ghost use Rattle.std.specs.Option.{option_map};
 ghost use Rattle.serde_json.specs.View.{view as value_of};
 ghost use Rattle.xds_resource.specs.declared.refusal.Refusal.TheVariants.{OutOfMemory};
 ghost use Rattle.xds_message.specs.Responses.{response_of};
 ghost use Rattle.xds_cache.specs.Faults.{fault_of, and_stated, first_fault, stated_by};
-ghost use Rattle.xds_cache.specs.Deliveries.{sotw_stated, sotw_delivery, delivered, fault_in};
+ghost use Rattle.xds_cache.specs.Deliveries.{sotw_stated, sotw_delivery, fault_in, statements};
 
 use crate::accept::Accept;
 use crate::faults::state;
 use crate::holding::Holding;
-use crate::shelf::Shelf;
+use crate::judged::Judged;
 use crate::wants::Wants;
 use serde_json::Value;
 use std::alloc::Global;
@@ -56,28 +56,24 @@ fn judge<A: Accept>(
     Ok(None)
 }
 
-/// What is kept of a type after a response, and why that is rejected, if it is.
-pub fn delivered_to<A: Accept>(
+/// Why a response is rejected, if it is, and else what it states and which names are gone: none.
+pub fn judged<A: Accept>(
     alloc: Global,
     kind: TypeName,
-    shelf: &Shelf,
     response: &DiscoveryResponse,
-) -> Result<(Shelf, Option<String>), Refusal>
-    ensures shelf { IfOk result (λ r. r.0 ≡ delivered kind A.accepts shelf.now (sotw_delivery kind (response_of response.now))) }
-    ensures fault { IfOk result (λ r. option_map string_bytes r.1 ≡ fault_in kind A.accepts (sotw_delivery kind (response_of response.now))) }
+) -> Result<Judged, Refusal>
+    ensures fault { IfOk result (λ j. option_map string_bytes j.fault ≡ fault_in kind A.accepts (sotw_delivery kind (response_of response.now))) }
+    ensures removed { IfOk result (λ j. j.removed ≡ (sotw_delivery kind (response_of response.now)).removed) }
+    ensures stated { IfOk result (λ j. j.fault ≡ None → j.stated ≡ statements kind (sotw_delivery kind (response_of response.now))) }
     ensures err { IfErr result (λ e. e ≡ OutOfMemory) }
 {
     let removed = NameMap::new(alloc);
     let mut stated = NameMap::new(alloc);
-    let nonce = response.nonce.as_str();
     let values = response.resources.as_slice();
     let fault = judge::<A>(alloc, kind, &removed, values, &mut stated)?;
-    if fault.is_some() {
-        let next = shelf.rejecting(alloc, nonce)?;
-        return Ok((next, fault));
-    }
-    let whole = kind.is_complete();
-    let version = response.version_info.as_str();
-    let next = shelf.stating(alloc, kind, whole, &removed, &stated, nonce, version)?;
-    Ok((next, None))
+    Ok(Judged {
+        fault,
+        removed,
+        stated,
+    })
 }

@@ -10,12 +10,12 @@ ghost use Rattle.xds_cache.specs.Receives as receives;
 
 use crate::accept::Accept;
 use crate::asks::Asks;
+use crate::cache::Cache;
 use crate::client::Client;
-use crate::holding::Holding;
 use crate::link::{Down, Link, Up};
 use std::alloc::Global;
 use std::marker::{Model, PhantomData};
-use xds_resource::{NameMap, Refusal, TypeName};
+use xds_resource::{Refusal, TypeName};
 
 /// A client of one of the two variants, for all types. `A` is its test of what it is sent, `L` says whether it is
 /// [`Down`] or [`Up`], and `R` is what it sends.
@@ -42,7 +42,7 @@ impl<A: Accept, L: Link, R: Asks> Model for StreamingClient<A, L, R> {
 
 impl<A: Accept, L: Link, R: Asks> StreamingClient<A, L, R> {
     /// What the client holds of a type.
-    pub fn view(&self, kind: TypeName) -> &NameMap<Holding>
+    pub fn view(&self, kind: TypeName) -> &Cache
         ensures { result.now ≡ view_of self.now kind }
     {
         &self.client.shelf(kind).cache
@@ -134,9 +134,10 @@ impl<A: Accept, R: Asks> StreamingClient<A, Up, R> {
         ensures unasked { (e : RefusalValue) → addressing self.old (R.url response.now) ≡ Err e → result ≡ Err e }
     {
         let kind = self.client.addressed(R::type_url(response))?;
-        let (next, request) = R::deliver::<A>(alloc, kind, self.client.shelf(kind), response)?;
-        self.client.put_shelf(kind, next);
-        Ok(request)
+        let mut shelf = self.client.take_shelf(alloc, kind);
+        let answer = R::deliver::<A>(alloc, kind, &mut shelf, response);
+        self.client.put_shelf(kind, shelf);
+        answer
     }
 
     /// Takes a response whole or rejects it whole, and answers the request that says so: `error_detail` names the

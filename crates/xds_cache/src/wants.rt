@@ -64,20 +64,8 @@ pub fn wants_after(
     Ok(after)
 }
 
-/// The same texts.
-pub fn copy_wants(alloc: Global, wants: &Wants) -> Result<Wants, Refusal>
-    ensures ok { IfOk result (λ w. w ≡ wants.now) }
-    ensures err { IfErr result (λ e. e ≡ OutOfMemory) }
-{
-    let mut copy = NameMap::new(alloc);
-    for (name, _) in wants.iter() {
-        copy.put(alloc, name, Some(()))?;
-    }
-    Ok(copy)
-}
-
 // Puts a copy of a text behind others.
-fn push_text(alloc: Global, texts: &mut Vec<String>, text: &str) -> Result<(), Refusal>
+pub(crate) fn push_text(alloc: Global, texts: &mut Vec<String>, text: &str) -> Result<(), Refusal>
     ensures ok { OnOk result (map string_bytes texts.new.items ≡ map string_bytes texts.old.items ++ text.now ∷ []) }
     ensures err { IfErr result (λ e. e ≡ OutOfMemory) }
 {
