@@ -13,12 +13,12 @@ ghost use Rattle.xds_client.specs.Turning.{IsMade, IsUntellable, GivesAnswer, cl
 use crate::printing::lines_of;
 use crate::subscription::StreamVariant;
 use std::alloc::Global;
-use xds_cache::{DeltaClient, Holding, Marked, SotwClient, Up};
+use xds_cache::{Cache, DeltaClient, Marked, SotwClient, Up};
 use xds_frames::{Decoder, Frame, write_frame};
 use xds_message::{
     DeltaDiscoveryRequest, DeltaDiscoveryResponse, DiscoveryRequest, DiscoveryResponse,
 };
-use xds_resource::{NameMap, Refusal, TypeName};
+use xds_resource::{Refusal, TypeName};
 
 /// A client on its stream.
 #[derive(Drop)]
@@ -49,7 +49,7 @@ fn reply_of(
     nonce: &str,
     refused: bool,
     text: &str,
-    view: &NameMap<Holding>,
+    view: &Cache,
 ) -> Result<Reply, Refusal>
     ensures lines { IfOk result (λ r. string_bytes r.lines ≡ answer_line refused nonce.now ++ view_lines variant view.now) }
     ensures frame { IfOk result (λ r. Fits variant text.now × (r.frame.items ≡ frame_bytes (asking variant text.now))) }

@@ -5,8 +5,8 @@ ghost use Rattle.xds_client.specs.Lines.{answer_line, holding_line, view_lines};
 
 use crate::subscription::StreamVariant;
 use std::alloc::Global;
-use xds_cache::Holding;
-use xds_resource::{NameMap, Refusal};
+use xds_cache::{Cache, Holding};
+use xds_resource::Refusal;
 
 // Adds a line for a resource that is held.
 fn push_holding(text: &mut String, variant: StreamVariant, holding: &Holding) -> Result<(), Refusal>
@@ -26,11 +26,7 @@ fn push_holding(text: &mut String, variant: StreamVariant, holding: &Holding) ->
 }
 
 // Adds a line for each resource that is held, in the order of names.
-fn push_view(
-    text: &mut String,
-    variant: StreamVariant,
-    view: &NameMap<Holding>,
-) -> Result<(), Refusal>
+fn push_view(text: &mut String, variant: StreamVariant, view: &Cache) -> Result<(), Refusal>
     ensures lines { OnOk result (string_bytes text.new ≡ string_bytes text.old ++ view_lines variant view.now) }
     ensures refused { IfErr result (λ e. e ≡ OutOfMemory) }
 {
@@ -46,7 +42,7 @@ pub(crate) fn lines_of(
     variant: StreamVariant,
     nonce: &str,
     refused: bool,
-    view: &NameMap<Holding>,
+    view: &Cache,
 ) -> Result<String, Refusal>
     ensures lines { IfOk result (λ s. string_bytes s ≡ answer_line refused nonce.now ++ view_lines variant view.now) }
     ensures refused { IfErr result (λ e. e ≡ OutOfMemory) }

@@ -8,8 +8,8 @@ ghost use Rattle.xds_catalogue.specs.Content.{is_live};
 ghost use Rattle.xds_play.specs.Shown.{holding_line, holding_lines, view_head, view_text, write_line, write_lines, content_head, content_text};
 
 use std::alloc::Global;
-use xds_cache::Holding;
-use xds_resource::{NameMap, Refusal, ResourceType, TypeName, Write};
+use xds_cache::{Cache, Holding};
+use xds_resource::{Refusal, ResourceType, TypeName, Write};
 use xds_world::ClientKind;
 
 /// Adds a client's view of a type to the text. `state` is the word for how the client stands to the type.
@@ -20,7 +20,7 @@ pub fn show_view(
     kind: TypeName,
     state: &str,
     variant: ClientKind,
-    view: &NameMap<Holding>,
+    view: &Cache,
 ) -> Result<(), Refusal>
     ensures shown { OnOk result (string_bytes text.new ≡ string_bytes text.old ++ view_text client kind state.now variant view.now) }
     ensures refused { IfErr result (λ e. e ≡ OutOfMemory) }
@@ -32,7 +32,7 @@ pub fn show_view(
 }
 
 // What a view holds, in the order of names.
-fn held_in(alloc: Global, view: &NameMap<Holding>) -> Result<Vec<&Holding>, Refusal>
+fn held_in(alloc: Global, view: &Cache) -> Result<Vec<&Holding>, Refusal>
     ensures ok { IfOk result (λ v. map (λ h. h.now) v.items ≡ finmap.values view.now) }
     ensures refused { IfErr result (λ e. e ≡ OutOfMemory) }
 {

@@ -20,12 +20,12 @@ use crate::event::{ClientKind, Wish};
 use std::alloc::Global;
 use std::collections::VecDeque;
 use std::marker::Model;
-use xds_cache::{Accept, DeltaClient, Down, Holding, Link, RestClient, SotwClient, Up};
+use xds_cache::{Accept, Cache, DeltaClient, Down, Link, RestClient, SotwClient, Up};
 use xds_core::Request;
 use xds_message::{
     DeltaDiscoveryRequest, DeltaDraft, DiscoveryRequest, DiscoveryResponse, Draft, SotwDraft,
 };
-use xds_resource::{NameMap, Refusal, TypeName};
+use xds_resource::{Refusal, TypeName};
 
 #[derive(Drop)]
 enum State<A: Accept> {
@@ -298,7 +298,7 @@ impl<A: Accept> AnyClient<A> {
     }
 
     /// What the client holds of a type.
-    pub(crate) fn view(&self, kind: TypeName) -> &NameMap<Holding>
+    pub(crate) fn view(&self, kind: TypeName) -> &Cache
         ensures { result.now ≡ view_of self.now.client kind }
     {
         match &self.state {

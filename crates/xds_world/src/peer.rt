@@ -15,10 +15,10 @@ use crate::event::{ClientKind, Wish};
 use crate::link::Link;
 use std::alloc::Global;
 use std::marker::Model;
-use xds_cache::{Accept, Holding};
+use xds_cache::{Accept, Cache};
 use xds_core::Request;
 use xds_message::{DiscoveryRequest, Draft, SotwDraft};
-use xds_resource::{NameMap, Refusal, TypeName};
+use xds_resource::{Refusal, TypeName};
 
 /// Whether a client has a stream, or polls.
 #[derive(Clone, Copy, Debug, PartialEq, Eq)]
@@ -84,7 +84,7 @@ impl<A: Accept> Peer<A> {
     }
 
     /// What the client holds of a type.
-    pub fn view(&self, kind: TypeName) -> &NameMap<Holding>
+    pub fn view(&self, kind: TypeName) -> &Cache
         ensures { result.now ≡ view_of self.now.client kind }
     {
         self.client.view(kind)

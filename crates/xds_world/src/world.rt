@@ -16,10 +16,10 @@ use crate::peer::Status;
 use crate::run::Run;
 use std::alloc::Global;
 use std::marker::Model;
-use xds_cache::{Accept, Holding};
+use xds_cache::{Accept, Cache};
 use xds_core::Record;
 use xds_message::Batch;
-use xds_resource::{NameMap, Refusal, TypeName};
+use xds_resource::{Refusal, TypeName};
 
 /// A world of replicas and clients, with the list of what happened in it. `A` is the clients' test of what they are sent.
 #[derive(Drop)]
@@ -72,7 +72,7 @@ pub fn more<A: Accept>(
 
 impl<A: Accept> World<A> {
     /// What a client holds of a type; none where there is no such client.
-    pub fn view(&self, client: u32, kind: TypeName) -> Option<&NameMap<Holding>>
+    pub fn view(&self, client: u32, kind: TypeName) -> Option<&Cache>
         ensures { option_map (λ v. v.now) result ≡ option_map (λ p. view_of p.client kind) (finmap.get (world_of A.accepts self.now).peers client) }
     {
         let peer = self.run.state.peer(client)?;

@@ -2,10 +2,10 @@
 // unsubscribed.
 use crate::caches::script::{Player, answered, linked, perhaps_answered, put};
 use std::alloc::Global;
-use xds_cache::{DeltaClient, Down, Holding, Marked, Up};
+use xds_cache::{Cache, DeltaClient, Down, Marked, Up};
 use xds_cases::cases::words_of;
 use xds_message::DeltaDiscoveryResponse;
-use xds_resource::{NameMap, Refusal, TypeName};
+use xds_resource::{Refusal, TypeName};
 
 /// A client whose node id is `7`, and which refuses resources that are marked: one of both is
 /// there.
@@ -61,7 +61,7 @@ impl Player for Delta {
         answered(alloc, sent)
     }
 
-    fn view(&self, kind: TypeName) -> Result<&NameMap<Holding>, Refusal> {
+    fn view(&self, kind: TypeName) -> Result<&Cache, Refusal> {
         if let Some(client) = self.down.as_ref() {
             return Ok(client.view(kind));
         }

@@ -1,10 +1,10 @@
 // A client that polls and plays a script.
 use crate::caches::script::{Player, first_word, perhaps_answered, type_of};
 use std::alloc::Global;
-use xds_cache::{Holding, Marked, RestClient};
+use xds_cache::{Cache, Marked, RestClient};
 use xds_cases::cases::words_of;
 use xds_message::DiscoveryResponse;
-use xds_resource::{NameMap, Refusal, TypeName};
+use xds_resource::{Refusal, TypeName};
 
 /// A client whose node id is `7`, and which refuses resources that are marked.
 #[derive(Drop)]
@@ -62,7 +62,7 @@ impl Player for Rest {
         judged(alloc, answer)
     }
 
-    fn view(&self, kind: TypeName) -> Result<&NameMap<Holding>, Refusal> {
+    fn view(&self, kind: TypeName) -> Result<&Cache, Refusal> {
         Ok(self.client.view(kind))
     }
 }

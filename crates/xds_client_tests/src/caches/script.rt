@@ -2,10 +2,10 @@
 use std::alloc::{AllocError, Global};
 use std::mem;
 use std::test::Fail;
-use xds_cache::Holding;
+use xds_cache::Cache;
 use xds_cases::cases::{unfolded, written_out};
 use xds_message::{DeltaDiscoveryRequest, DiscoveryRequest};
-use xds_resource::{NameMap, Refusal, TypeName};
+use xds_resource::{Refusal, TypeName};
 
 /// A client of any variant, on a stream or not. An `Err` is of the script or of this test, as
 /// `NotFound` where a client has no such call; what the client answers is a text, its refusals
@@ -24,7 +24,7 @@ pub trait Player: Drop + Sized {
 
     fn receive(&mut self, alloc: Global, message: &str) -> Result<String, Refusal>;
 
-    fn view(&self, kind: TypeName) -> Result<&NameMap<Holding>, Refusal>;
+    fn view(&self, kind: TypeName) -> Result<&Cache, Refusal>;
 }
 
 /// A request of either variant.
@@ -119,7 +119,7 @@ fn add(all: &mut String, text: &str) -> Result<(), AllocError> {
 }
 
 // What is held, in order: the version, if there is one, and the body of each resource.
-fn held(alloc: Global, view: &NameMap<Holding>) -> Result<String, Refusal> {
+fn held(alloc: Global, view: &Cache) -> Result<String, Refusal> {
     let mut all = String::new(alloc);
     for (_, holding) in view.iter() {
         if !holding.version().is_empty() {

@@ -1,10 +1,10 @@
 // A state-of-the-world client that plays a script.
 use crate::caches::script::{Player, answered, linked, perhaps_answered, put};
 use std::alloc::Global;
-use xds_cache::{Down, Holding, Marked, SotwClient, Up};
+use xds_cache::{Cache, Down, Marked, SotwClient, Up};
 use xds_cases::cases::words_of;
 use xds_message::DiscoveryResponse;
-use xds_resource::{NameMap, Refusal, TypeName};
+use xds_resource::{Refusal, TypeName};
 
 /// A client whose node id is `7`, and which refuses resources that are marked: one of both is
 /// there.
@@ -57,7 +57,7 @@ impl Player for Sotw {
         answered(alloc, sent)
     }
 
-    fn view(&self, kind: TypeName) -> Result<&NameMap<Holding>, Refusal> {
+    fn view(&self, kind: TypeName) -> Result<&Cache, Refusal> {
         if let Some(client) = self.down.as_ref() {
             return Ok(client.view(kind));
         }
