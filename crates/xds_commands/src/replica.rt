@@ -185,7 +185,11 @@ where
     })
 }
 
-// Makes the changes that the input says. One that the replica refuses changes nothing.
+// How many changes are made at once, at most, before streams are told of them.
+const MOST_AT_ONCE: usize = 64;
+
+// Makes the changes that the input says. One that the replica refuses changes nothing. Streams are told of those that come together
+// once all of them are made.
 fn take_changes<R, A>(rt: &R, node: &A, changes: &Receiver<Event>) -> Result<(), Refusal>
 where
     R: Wait,
@@ -193,7 +197,24 @@ where
 {
     let mut seat = node.seat(rt)?;
     for event in changes.iter(rt) {
+        node.hold(rt);
         drop(called(rt, node, &NoGate, &mut seat, event));
+        take_waiting(rt, node, &mut seat, changes);
+        node.release(rt);
     }
     Ok(())
+}
+
+// Makes the changes that wait already.
+fn take_waiting<R, A>(rt: &R, node: &A, seat: &mut A::Seat, changes: &Receiver<Event>)
+where
+    R: Wait,
+    A: Served,
+{
+    for _ in 1..MOST_AT_ONCE {
+        match changes.try_recv(rt) {
+            Ok(event) => drop(called(rt, node, &NoGate, seat, event)),
+            Err(_) => return,
+        }
+    }
 }
