@@ -1,6 +1,10 @@
 pub mod Changes
+pub mod Causes
 pub mod Handing
 pub mod Inputs
+pub mod Keeping
 pub mod Messages
+pub mod Notes
 pub mod Responses
 pub mod Ends
+pub mod Servings

@@ -3,9 +3,10 @@
 --     fault_line     the line of a refused line of the input
 --     port_line      the line of a port that can't be bound
 --     replica_line   the line of a replica: its number, and its ports
+--     refusal_in     the refusal that an answer is, of which there may be a record or none
 --     first_end      what the end was told to be first stays
 --     counted_end    the end once a stream more has ended, of those that are still to end
-use Rattle.std.specs.Prelude.{ℕ, List, ◌++◌, ◌-◌, ◌==◌, if◌then◌else◌, Option, Some, None, codes, decimal}
+use Rattle.std.specs.Prelude.{ℕ, List, ◌++◌, ◌-◌, ◌==◌, if◌then◌else◌, Option, Some, None, Result, Ok, Err, codes, decimal}
 use Rattle.xds_resource.specs.declared.refusal.Refusal.{Refusal}
 use Rattle.xds_resource.specs.Refusals.{number_of, name_of}
 use Rattle.xds_commands.specs.declared.ending.End.{End}
@@ -27,6 +28,12 @@ port_line port = codes "127.0.0.1:" ++ decimal port ++ codes ": 19 Device\n"
 abbrev pub replica_line : ℕ → ℕ → ℕ → List ℕ
 replica_line number port rest_port =
     codes "replica " ++ (decimal number ++ (codes ": streams on 127.0.0.1:" ++ (decimal port ++ (codes ", REST on 127.0.0.1:" ++ (decimal rest_port ++ codes "\n")))))
+
+-- the refusal that an answer is, of which there may be a record or none
+abbrev pub refusal_in : {T : Type 0} → Result (Result T Refusal) Refusal → Option Refusal
+refusal_in (Ok (Ok reply)) = None
+refusal_in (Ok (Err refusal)) = Some refusal
+refusal_in (Err refusal) = Some refusal
 
 -- what the end was told to be first stays
 abbrev pub first_end : Option End → End → Option End

@@ -1,5 +1,9 @@
-// How a server ends: told by whichever thread comes to it first, and waited for by the first thread.
-use std::sync::{Condvar, Mutex, Wait};
+// How a server ends, and what is told until then: by whichever thread comes to it, and waited for by the first thread.
+use crate::fault::Fault;
+use crate::note::Note;
+use std::alloc::Global;
+use std::collections::VecDeque;
+use std::sync::{Condvar, Mutex, MutexGuard, Wait};
 use xds_resource::Refusal;
 
 /// Why a server ends.
@@ -13,17 +17,37 @@ pub enum End {
     Refused(Refusal),
 }
 
-// What is known of the end.
+/// As many notes as wait to be told, at most.
+pub const MOST_NOTES: usize = 1_024;
+
+/// What comes next of a server.
+#[derive(Drop)]
+pub enum Next {
+    /// Something is to be told.
+    Note(Note),
+    /// It ends.
+    End(End),
+}
+
+// What is known of the end, and what is still to be told.
 struct State {
     // How many streams are still to end, where that was said.
     left: Option<u16>,
     end: Option<End>,
+    notes: VecDeque<Note>,
+    // How many notes had no room.
+    missed: u64,
 }
 
 // Written out: docs/PROVING.md, "Drops".
 impl Drop for State {
     fn drop(self) {
-        let State { left: _, end: _ } = self;
+        let State {
+            left: _,
+            end: _,
+            notes: _,
+            missed: _,
+        } = self;
     }
 }
 
@@ -55,30 +79,73 @@ impl State {
             self.end = Some(end);
         }
     }
+
+    // A note more is to be told. Where there is no memory for it, it counts as missed.
+    fn push(&mut self, note: Note)
+        ensures { (self.new.left ≡ self.old.left) × (self.new.end ≡ self.old.end) }
+    {
+        if self.notes.push_back(note).is_err() {
+            self.missed = self.missed.saturating_add(1);
+        }
+    }
+
+    // What comes next, if something does: what is to be told comes before the end.
+    fn next(&mut self) -> Option<Next>
+        ensures { (self.new.left ≡ self.old.left) × (self.new.end ≡ self.old.end) }
+    {
+        if let Some(note) = self.notes.pop_front() {
+            return Some(Next::Note(note));
+        }
+        if self.missed > 0 {
+            let count = self.missed;
+            self.missed = 0;
+            return Some(Next::Note(Note::Missed(count)));
+        }
+        match self.end {
+            Some(end) => Some(Next::End(end)),
+            None => None,
+        }
+    }
 }
 
-/// What threads tell of the end of a server.
+/// What threads tell of a server, up to its end.
 pub struct Ending {
     state: Mutex<State>,
+    // Something was told, or the server ends.
     told: Condvar,
+    // There is room for notes.
+    room: Condvar,
+    // Whether changes that are refused are told.
+    tells: bool,
 }
 
 // Written out: docs/PROVING.md, "Drops".
 impl Drop for Ending {
     fn drop(self) {
-        let Ending { state: _, told: _ } = self;
+        let Ending {
+            state: _,
+            told: _,
+            room: _,
+            tells: _,
+        } = self;
     }
 }
 
 impl Ending {
-    /// The server ends after so many streams, where that is said.
-    pub fn after(streams: Option<u16>) -> Ending {
+    /// The server ends after so many streams, where that is said. It says whether changes that are refused are told.
+    pub fn after(alloc: Global, streams: Option<u16>, tells: bool) -> Ending
+        ensures { result.tells ≡ tells }
+    {
         Ending {
             state: Mutex::new(State {
                 left: streams,
                 end: None,
+                notes: VecDeque::new(alloc),
+                missed: 0,
             }),
             told: Condvar::new(),
+            room: Condvar::new(),
+            tells,
         }
     }
 
@@ -88,6 +155,7 @@ impl Ending {
         state.count();
         drop(state);
         self.told.notify_all();
+        self.room.notify_all();
     }
 
     /// The server ends so, unless it ended before. It may wait for the lock.
@@ -96,6 +164,49 @@ impl Ending {
         state.tell(end);
         drop(state);
         self.told.notify_all();
+        self.room.notify_all();
+    }
+
+    /// Tells that a line of the input, or the change that it says, is refused, where such are told. It waits until there is room
+    /// for a note more, unless the server ends.
+    pub fn refuse<R: Wait>(&self, rt: &R, line: u64, fault: Fault) {
+        if self.tells {
+            self.note(rt, Note::Refused(line, fault));
+        }
+    }
+
+    /// Tells something. It waits until there is room for a note more, unless the server ends.
+    pub fn note<R: Wait>(&self, rt: &R, note: Note) {
+        let mut state = self.room_in(rt);
+        state.push(note);
+        drop(state);
+        self.told.notify_all();
+    }
+
+    // The state once there is room for a note more, or the server ends.
+    fn room_in<'a, R: Wait>(&'a self, rt: &R) -> MutexGuard<'a, State> {
+        let mut state = self.state.lock(rt);
+        for _ in rt.forever() {
+            if state.notes.len() < MOST_NOTES || state.end.is_some() {
+                return state;
+            }
+            state = self.room.wait(rt, state);
+        }
+        unreachable!()
+    }
+
+    /// Waits for what comes next: what is to be told, in order, and behind all of it the end, which stays.
+    pub fn next<R: Wait>(&self, rt: &R) -> Next {
+        let mut state = self.state.lock(rt);
+        for _ in rt.forever() {
+            if let Some(next) = state.next() {
+                drop(state);
+                self.room.notify_all();
+                return next;
+            }
+            state = self.told.wait(rt, state);
+        }
+        unreachable!()
     }
 
     /// Waits for the end.

@@ -2,13 +2,18 @@
 // connect to, in one process.
 #![tactic(auto)]
 
+pub mod cause;
 pub mod change;
 pub mod commands;
 pub mod ending;
+pub mod fault;
 pub mod gate;
 pub mod held;
 pub mod input;
+pub mod keeping;
+pub mod kept;
 pub mod machine;
+pub mod note;
 pub mod polling;
 pub mod progress;
 pub mod replica;
@@ -25,13 +30,18 @@ mod weights;
 pub mod wires;
 pub mod workers;
 
-pub use change::{Change, read_change};
+pub use cause::{Cause, cause_of};
+pub use change::{Change, MAX_LINE, read_change};
 pub use commands::run;
-pub use ending::{End, Ending};
+pub use ending::{End, Ending, Next};
+pub use fault::Fault;
 pub use gate::NoGate;
 pub use held::{Held, Taken};
 pub use input::{Hands, Replicas, take_input, take_lines};
+pub use keeping::{Keeps, keep_input, keep_lines};
+pub use kept::{Kept, Said};
 pub use machine::{Machine, Runtime};
+pub use note::Note;
 pub use progress::{Progress, ProgressReader};
 pub use response::response_at;
 pub use served::Served;

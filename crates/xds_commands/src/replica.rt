@@ -1,5 +1,10 @@
 // One replica of the server: the threads that call it.
+ghost use Rattle.std.specs.Prelude.{◌≡◌};
+ghost use Rattle.xds_commands.specs.Messages.{refusal_in};
+
+use crate::change::Change;
 use crate::ending::Ending;
+use crate::fault::Fault;
 use crate::gate::NoGate;
 use crate::machine::{Machine, Runtime};
 use crate::served::Served;
@@ -10,7 +15,7 @@ use crossbeam_channel::Receiver;
 use std::alloc::Global;
 use std::net::TcpListener;
 use std::sync::{Arc, Wait};
-use xds_core::Event;
+use xds_core::{Event, Reply};
 use xds_exchange::{Incoming, Outgoing};
 use xds_http::{Replies, serve_on};
 use xds_node::{Host, Parcel, Receipt, called, exchange_in, exchange_out};
@@ -30,7 +35,7 @@ pub struct Sockets {
 }
 
 /// What a replica's thread is started with.
-pub type Replica = Bound<Sockets, Receiver<Event>, Sends, Takes>;
+pub type Replica = Bound<Sockets, Receiver<Change>, Sends, Takes>;
 
 /// Runs a replica for as long as the process runs: streams, polls, what is told to and by other replicas, and the changes
 /// that the input makes. It ends only where no change can come any more, or with the refusal by which it couldn't begin.
@@ -58,7 +63,7 @@ where
     let exchanging = start_exchange(rt, alloc, node, sends, takes);
     let serving = start_serving(rt, alloc, node, sockets, ending);
     let ended = match both(exchanging, serving) {
-        Ok(()) => take_changes(rt, &**node, &changes),
+        Ok(()) => take_changes(rt, &**node, &changes, ending),
         Err(refusal) => Err(refusal),
     };
     drop(changes);
@@ -185,15 +190,47 @@ where
     })
 }
 
-// Makes the changes that the input says. One that the replica refuses changes nothing.
-fn take_changes<R, A>(rt: &R, node: &A, changes: &Receiver<Event>) -> Result<(), Refusal>
+// Makes the changes that the input says. One that the replica refuses changes nothing, and is told.
+fn take_changes<R, A>(
+    rt: &R,
+    node: &A,
+    changes: &Receiver<Change>,
+    ending: &Ending,
+) -> Result<(), Refusal>
 where
     R: Wait,
     A: Served,
 {
     let mut seat = node.seat(rt)?;
-    for event in changes.iter(rt) {
-        drop(called(rt, node, &NoGate, &mut seat, event));
+    for change in changes.iter(rt) {
+        let line = change.line;
+        if let Some(refusal) = make_change(rt, node, &mut seat, change.event) {
+            ending.refuse(rt, line, Fault::of(refusal));
+        }
     }
     Ok(())
+}
+
+// Makes a change. Answers why it is refused, if it is.
+fn make_change<R: Wait, A: Served>(
+    rt: &R,
+    node: &A,
+    seat: &mut A::Seat,
+    event: Event,
+) -> Option<Refusal> {
+    let answer = called(rt, node, &NoGate, seat, event);
+    let refusal = refusal_in(&answer);
+    drop(answer);
+    refusal
+}
+
+// The refusal that an answer is, of which there may be a record or none.
+fn refusal_in(answer: &Result<Result<Reply, Refusal>, Refusal>) -> Option<Refusal>
+    ensures { result ≡ refusal_in answer.now }
+{
+    match answer {
+        Ok(Ok(_)) => None,
+        Ok(Err(refusal)) => Some(*refusal),
+        Err(refusal) => Some(*refusal),
+    }
 }

@@ -1,9 +1,12 @@
 // What a server tells on its error output.
 ghost use Rattle.std.specs.Prelude.{◌≡◌, ◌+◌, string_bytes, IfOk};
-ghost use Rattle.xds_commands.specs.Messages.{refusal_line, fault_line, port_line, replica_line};
+ghost use Rattle.xds_commands.specs.Messages.{refusal_line, port_line, replica_line};
 
+use crate::ending::{End, Ending, Next};
+use crate::note::fault_line;
 use std::alloc::Global;
 use std::io::Write;
+use std::sync::Wait;
 use xds_frames::{Counted, write_whole};
 use xds_resource::Refusal;
 
@@ -17,15 +20,6 @@ fn refusal_line(alloc: Global, refusal: Refusal) -> Result<String, Refusal>
     let number = refusal.number();
     let name = refusal.name();
     Ok(format!(in alloc; "{number} {name}\n")?)
-}
-
-// The line of a line of the input that is refused.
-fn fault_line(alloc: Global, line: u64, refusal: Refusal) -> Result<String, Refusal>
-    ensures { IfOk result (λ t. string_bytes t ≡ fault_line line refusal) }
-{
-    let number = refusal.number();
-    let name = refusal.name();
-    Ok(format!(in alloc; "line {line}: {number} {name}\n")?)
 }
 
 // The line of a port that can't be bound.
@@ -99,4 +93,20 @@ pub(crate) fn tell_replicas<E: Write>(
         let rest_port = rest_port.wrapping_add(index);
         put(errors, replica_line(alloc, number, port, rest_port));
     }
+}
+
+/// Tells what there is to tell, line by line, until the server ends.
+pub(crate) fn tell_until_end<R: Wait, E: Write>(
+    rt: &R,
+    alloc: Global,
+    errors: &mut Counted<E>,
+    ending: &Ending,
+) -> End {
+    for _ in rt.forever() {
+        match ending.next(rt) {
+            Next::Note(note) => put(errors, note.line(alloc)),
+            Next::End(end) => return end,
+        }
+    }
+    unreachable!()
 }

@@ -1,10 +1,11 @@
 // A server of some replicas, from its first line to its end.
 ghost use Rattle.std.specs.Prelude.{◌≤◌};
 
+use crate::change::Change;
 use crate::ending::{End, Ending};
 use crate::machine::{Machine, Runtime};
 use crate::replica::{Sends, Sockets, Takes};
-use crate::serve_telling::{tell, tell_line, tell_port, tell_replicas};
+use crate::serve_telling::{tell, tell_line, tell_port, tell_replicas, tell_until_end};
 use crate::starting::{start_input, start_replica};
 use crate::wires::{Wires, both, crossed, kept};
 use crossbeam_channel::{Receiver, Sender, unbounded};
@@ -12,7 +13,6 @@ use std::alloc::{AllocError, Global};
 use std::io::{Read, Write};
 use std::net::{Ipv4Addr, Net, SocketAddrV4, TcpListener, TcpStream};
 use std::sync::Arc;
-use xds_core::Event;
 use xds_exchange::link;
 use xds_frames::Counted;
 use xds_resource::Refusal;
@@ -28,13 +28,17 @@ pub struct Serving {
     pub rest_port: u16,
     /// After how many ended streams the server ends; never, where none is said.
     pub streams: Option<u16>,
+    /// Whether a line of the input that is refused is told, and the next is read.
+    pub keep_going: bool,
+    /// Whether changes that are refused are told. A server that keeps going tells them in any case.
+    pub tells: bool,
 }
 
 // What the replicas are started with, and what changes of the input are sent by.
-type Wiring = Wires<Sockets, Sender<Event>, Receiver<Event>, Sends, Takes>;
+type Wiring = Wires<Sockets, Sender<Change>, Receiver<Change>, Sends, Takes>;
 
 /// Serves until so many streams have ended as are asked for, or a line of the input is refused, and answers the status: 0,
-/// or 1 with the refusal on the error output. All ports are bound before anything is read; one that can't be is told with
+/// or 1 with the refusal on the error output. A server that keeps going tells such a line, and reads the next. All ports are bound before anything is read; one that can't be is told with
 /// its address as 19 Device. What is served where is told on the error output, a line a replica.
 ///
 /// The input is read in a thread of its own, so it is handed over by value. Its end ends nothing. Threads that still wait
@@ -49,14 +53,14 @@ where
     let alloc = rt.alloc();
     let ended = match bound(rt, alloc, serving) {
         Ok(sockets) => {
-            let Serving {
-                replicas,
-                port,
-                rest_port,
-                streams,
-            } = serving;
-            tell_replicas(alloc, errors, replicas, port, rest_port);
-            run(rt, alloc, input, sockets, streams)
+            tell_replicas(
+                alloc,
+                errors,
+                serving.replicas,
+                serving.port,
+                serving.rest_port,
+            );
+            run(rt, alloc, input, errors, sockets, serving)
         }
         Err(Unbound::Port(port)) => {
             drop(input);
@@ -117,22 +121,30 @@ where
     }
 }
 
-// Serves to the end.
-fn run<R, I>(
+// Serves to the end, and tells what there is to tell meanwhile.
+fn run<R, I, E>(
     rt: &R,
     alloc: Global,
     input: I,
+    errors: &mut Counted<E>,
     sockets: Vec<Sockets>,
-    streams: Option<u16>,
+    serving: Serving,
 ) -> Result<End, Refusal>
 where
     R: Machine,
     I: Read + Drop + Send + 'static,
+    E: Write,
 {
     let wires = wired(alloc, sockets)?;
-    let ending = Arc::new(alloc, Ending::after(streams))?;
-    start(rt, alloc, input, wires, &ending)?;
-    Ok(ending.wait(rt))
+    let ending = Arc::new(alloc, ending_of(alloc, serving))?;
+    start(rt, alloc, input, wires, serving.keep_going, &ending)?;
+    Ok(tell_until_end(rt, alloc, errors, &ending))
+}
+
+// How a server ends, and what it tells until then.
+fn ending_of(alloc: Global, serving: Serving) -> Ending {
+    let tells = serving.keep_going || serving.tells;
+    Ending::after(alloc, serving.streams, tells)
 }
 
 // Starts the replicas, and the thread that takes the input.
@@ -141,6 +153,7 @@ fn start<R, I>(
     alloc: Global,
     input: I,
     wires: Wiring,
+    keep_going: bool,
     ending: &Arc<Ending>,
 ) -> Result<(), Refusal>
 where
@@ -148,7 +161,7 @@ where
     I: Read + Drop + Send + 'static,
 {
     let (senders, replicas) = wires.apart();
-    let mut done = start_input(rt, alloc, input, senders, ending);
+    let mut done = start_input(rt, alloc, input, senders, keep_going, ending);
     let mut index = 0u16;
     for replica in replicas {
         done = both(done, start_replica(rt, alloc, index, replica, ending));

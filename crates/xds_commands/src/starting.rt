@@ -1,8 +1,10 @@
 // The threads that a server starts: one for each replica, and one for the input.
 ghost use Rattle.std.specs.Prelude.{◌≡◌, ◌≤◌};
 
+use crate::change::Change;
 use crate::ending::{End, Ending};
 use crate::input::take_input;
+use crate::keeping::keep_input;
 use crate::machine::{Machine, Runtime};
 use crate::replica::{Replica, run_replica};
 use crate::served::Served;
@@ -15,7 +17,6 @@ use std::io::Read;
 use std::marker::Brand;
 use std::sync::Arc;
 use std::thread;
-use xds_core::Event;
 use xds_http::Replies;
 use xds_node::{Host, Line, Node, NodeName, Opened};
 use xds_resource::Refusal;
@@ -108,12 +109,13 @@ where
     }))
 }
 
-/// Starts the thread that takes the input, which a server doesn't wait for at its end.
+/// Starts the thread that takes the input, and keeps going at a line that is refused or doesn't, which a server doesn't wait for at its end.
 pub(crate) fn start_input<R, I>(
     rt: &R,
     alloc: Global,
     input: I,
-    senders: Vec<Sender<Event>>,
+    senders: Vec<Sender<Change>>,
+    keep_going: bool,
     ending: &Arc<Ending>,
 ) -> Result<(), Refusal>
 where
@@ -122,6 +124,10 @@ where
 {
     start_worker(rt, share(ending), move |rt, ending| {
         let mut input = input;
-        take_input(rt, alloc, &mut input, senders.as_slice(), &ending);
+        if keep_going {
+            keep_input(rt, alloc, &mut input, senders.as_slice(), &ending);
+        } else {
+            take_input(rt, alloc, &mut input, senders.as_slice(), &ending);
+        }
     })
 }

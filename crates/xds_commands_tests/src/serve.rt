@@ -3,6 +3,7 @@
 mod clients;
 mod endings;
 mod inputs;
+mod keeping;
 mod servers;
 mod streams;
 mod weights;

@@ -2,6 +2,7 @@
 --     IsNumberText   the text writes this number of at most 65,535 in decimal digits; a plus may stand before them
 --     IsNumber       the value of the option is this number
 --     IsAddress      the value of `--addr` is this IPv4 address and port
+--     is_given       the option, which has no value, stands among the words
 --     text_in        the value of an option, empty where it isn't given
 --     names_in       the names, in their order
 --     Finds          what fits, or none where nothing fits
@@ -14,8 +15,8 @@
 --     IsFaultOf      why words ask for no task, as the kind of an error
 --     IsWrongBy      so it is, or there was no memory
 --     IsToldOf       an error of this kind is told of words that ask for no task, or there was no memory
-use Rattle.std.specs.Prelude.{◌≡◌, ◌⊎◌, ◌≤◌, ◌+◌, ℕ, List, [], codes, Option, Some, None, unwrap_or}
-use Rattle.std.specs.Option.{option_and_then}
+use Rattle.std.specs.Prelude.{◌≡◌, ◌⊎◌, ◌≤◌, ◌+◌, ℕ, List, [], codes, Bool, false, bytes_eq, Option, Some, None, unwrap_or}
+use Rattle.std.specs.Option.{option_and_then, option_map_or}
 use Rattle.std.specs.Str.Parse.{IsNumeral, digits_value, without_leading_plus}
 use Rattle.std.specs.Net.Grammar.{IsSocketV4Text}
 use Rattle.std.specs.declared.net.socket_addr.SocketAddrV4.{SocketAddrV4}
@@ -45,6 +46,10 @@ IsNumber rows option n = (text : Text) × (one_of option rows ≡ Some text) × 
 abbrev pub IsAddress : List Row → SocketAddrV4 → Type 0
 IsAddress rows addr = (text : Text) × (one_of (codes "addr") rows ≡ Some text) × IsSocketV4Text text addr
 
+-- the option, which has no value, stands among the words
+abbrev pub is_given : Text → List Row → Bool
+is_given option rows = option_map_or (λ text. bytes_eq text (codes "true")) (first_of option rows) false
+
 -- the value of an option, empty where it isn't given
 abbrev pub text_in : Text → List Row → Text
 text_in option rows = unwrap_or (first_of option rows) []
@@ -66,6 +71,7 @@ pub record AsksServe (rows : List Row) (task : ServeTask) : Type 0 where
   pub port : IsNumber rows (codes "port") task.port
   pub rest_port : IsNumber rows (codes "rest-port") task.rest_port
   pub streams : Finds (IsNumber rows (codes "streams")) task.streams
+  pub keep_going : is_given (codes "keep-going") rows ≡ task.keep_going
   pub ports : task.port + task.replicas ≤ 65536
   pub rest_ports : task.rest_port + task.replicas ≤ 65536
 

@@ -2,7 +2,7 @@
 ghost use Rattle.std.specs.Prelude.{◌≡◌, false, IfOk, codes};
 ghost use Rattle.clap.specs.Words.{App, app_of, new_app, rule_of, with_rule, with_subcommand};
 ghost use Rattle.xds_program.specs.CommandLine.{IsCommand, IsLocal, IsOption, answer_command, check_command, client_command};
-ghost use Rattle.xds_program.specs.CommandLine.{client_start, poll_start, port_option, rest_port_option};
+ghost use Rattle.xds_program.specs.CommandLine.{client_start, flag_option, poll_start, port_option, rest_port_option, serve_start};
 ghost use Rattle.xds_program.specs.CommandLine.{command_line, first_commands, name_words, number_option, play_command};
 ghost use Rattle.xds_program.specs.CommandLine.{poll_command, replicas_option, required, serve_command, text_option};
 ghost use Rattle.xds_program.specs.CommandLine.{with_default, wanting_command};
@@ -78,6 +78,15 @@ fn check_command<'a>(alloc: Global) -> Command<'a>
 
 fn serve_command<'a>(alloc: Global) -> Result<Command<'a>, AllocError>
     ensures { IfOk result (IsCommand serve_command) }
+{
+    let help = "Tells a line that is refused, and reads on";
+    let serve = serve_start(alloc)?;
+    with_option(serve, flag_option(alloc, "keep-going", help))
+}
+
+// `xds serve`, with the options that say what is served where, and for how long.
+fn serve_start<'a>(alloc: Global) -> Result<Command<'a>, AllocError>
+    ensures { IfOk result (IsCommand serve_start) }
 {
     let about = "Serves streams and REST on 127.0.0.1, each replica on its own ports";
     let help = "Ends once this many streams have ended";
@@ -257,6 +266,16 @@ fn text_option<'a>(alloc: Global, name: &'a str, value: &'a str, help: &'a str) 
     Arg::new(alloc, name)
         .long(name)
         .value_name(value)
+        .help(help)
+}
+
+// An option without a value.
+fn flag_option<'a>(alloc: Global, name: &'a str, help: &'a str) -> Arg<'a>
+    ensures { IsOption (flag_option name.entry.now) result }
+{
+    Arg::new(alloc, name)
+        .long(name)
+        .action(ArgAction::SetTrue)
         .help(help)
 }
 

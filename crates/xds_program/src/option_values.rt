@@ -5,7 +5,7 @@ ghost use Rattle.clap.specs.Words.{first_of, found_of, rows_of, subcommand_rows_
 ghost use Rattle.xds_resource.specs.Types.{type_of_word};
 ghost use Rattle.xds_program.specs.Tasks.{variant_of_word};
 ghost use Rattle.xds_program.specs.Words.{AsksBy, AsksClient, AsksIn, AsksPoll, AsksServe, Finds, IsAddress, IsNumber};
-ghost use Rattle.xds_program.specs.Words.{names_in, text_in};
+ghost use Rattle.xds_program.specs.Words.{is_given, names_in, text_in};
 
 use crate::tasks::{ClientTask, PollTask, ServeTask, StreamVariant, Task};
 use clap::ArgMatches;
@@ -84,12 +84,14 @@ fn serving(given: &ArgMatches) -> Option<ServeTask>
     let port = number(given, "port")?;
     let rest_port = number(given, "rest-port")?;
     let streams = number(given, "streams");
+    let keep_going = is_given(given, "keep-going");
     if has_ports(port, replicas) && has_ports(rest_port, replicas) {
         Some(ServeTask {
             replicas,
             port,
             rest_port,
             streams,
+            keep_going,
         })
     } else {
         None
@@ -170,6 +172,16 @@ fn number(given: &ArgMatches, option: &str) -> Option<u16>
     ensures { Finds (IsNumber (rows_of (found_of given.now)) option.now) result }
 {
     given.get_one::<u16>(option)
+}
+
+// Whether an option stands among the words that has no value.
+fn is_given(given: &ArgMatches, option: &str) -> bool
+    ensures { result ≡ is_given option.now (rows_of (found_of given.now)) }
+{
+    match word(given, option) {
+        Some(word) => word == "true",
+        None => false,
+    }
 }
 
 fn address(given: &ArgMatches) -> Option<SocketAddrV4>

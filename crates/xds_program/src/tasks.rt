@@ -31,6 +31,8 @@ pub struct ServeTask {
     pub rest_port: u16,
     /// After how many ended streams it ends, from 1; never, where there is none.
     pub streams: Option<u16>,
+    /// Whether a line of the input that is refused is told, and the next is read.
+    pub keep_going: bool,
 }
 
 /// How a client asks on a stream: in which of the protocol's two variants.

@@ -51,8 +51,10 @@ fn told_serve(alloc: Global, serve: ServeTask) -> Result<String, Fail> {
         port,
         rest_port,
         streams,
+        keep_going,
     } = serve;
-    Ok(format!(in alloc; "serve {replicas} {port} {rest_port} {streams:?}")?)
+    let keeps = if keep_going { " keep-going" } else { "" };
+    Ok(format!(in alloc; "serve {replicas} {port} {rest_port} {streams:?}{keeps}")?)
 }
 
 fn told_client(alloc: Global, client: &ClientTask) -> Result<String, Fail> {
@@ -138,6 +140,11 @@ serve --streams => wrong
 serve --port 1 --port 1 => wrong
 serve 1 => wrong
 serve --trace 1 => wrong
+serve --keep-going => serve 2 18000 18100 None keep-going
+serve --keep-going --streams 1 --replicas 1 => serve 1 18000 18100 Some(1) keep-going
+serve --keep-going --keep-going => wrong
+serve --keep-going=true => wrong
+serve --keep-going 1 => wrong
 serve --help => help",
     )
 }

@@ -54,12 +54,12 @@ fn it_ends_after_as_many_streams_as_are_asked_for(rt: HostRuntime) -> Result<(),
 #[test]
 fn what_is_told_first_is_the_end(rt: HostRuntime) {
     let line = End::Line(3, Refusal::BadScript);
-    let counted = Ending::after(Some(2));
+    let counted = Ending::after(rt.alloc(), Some(2), false);
     counted.stream_ended(&rt);
     counted.stream_ended(&rt);
     counted.end(&rt, line);
     assert!(rt; counted.wait(&rt) == End::Streams, "two streams have ended");
-    let early = Ending::after(Some(2));
+    let early = Ending::after(rt.alloc(), Some(2), false);
     early.stream_ended(&rt);
     early.end(&rt, line);
     early.stream_ended(&rt);
@@ -67,7 +67,7 @@ fn what_is_told_first_is_the_end(rt: HostRuntime) {
         early.wait(&rt) == line,
         "a line came before the second stream"
     );
-    let endless = Ending::after(None);
+    let endless = Ending::after(rt.alloc(), None, false);
     endless.stream_ended(&rt);
     endless.end(&rt, End::Refused(Refusal::Device));
     endless.end(&rt, line);

@@ -22,7 +22,23 @@ pub(crate) fn serving(replicas: u16, port: u16, streams: Option<u16>) -> Serving
         port,
         rest_port: port.saturating_add(10),
         streams,
+        keep_going: false,
+        tells: false,
     }
+}
+
+/// The same of a server that keeps going.
+pub(crate) fn keeping(replicas: u16, port: u16, streams: Option<u16>) -> Serving {
+    let mut serving = serving(replicas, port, streams);
+    serving.keep_going = true;
+    serving
+}
+
+/// The same of a server that tells refused changes.
+pub(crate) fn telling(replicas: u16, port: u16, streams: Option<u16>) -> Serving {
+    let mut serving = serving(replicas, port, streams);
+    serving.tells = true;
+    serving
 }
 
 /// Serves to the end.
@@ -44,8 +60,16 @@ pub(crate) fn started<R: Runtime + Net<Listener = TcpListener, Stream = TcpStrea
     input: &'static str,
     serving: Serving,
 ) -> Result<JoinHandle<Came>, Fail> {
+    started_over(rt, input.as_bytes(), serving)
+}
+
+/// The same over any input.
+pub(crate) fn started_over<
+    I: Read + Drop + Send + 'static,
+    R: Runtime + Net<Listener = TcpListener, Stream = TcpStream>,
+>(rt: &R, input: I, serving: Serving) -> Result<JoinHandle<Came>, Fail> {
     let host = *rt;
-    match thread::spawn(rt, move || served(&host, input.as_bytes(), serving)) {
+    match thread::spawn(rt, move || served(&host, input, serving)) {
         Ok(handle) => Ok(handle),
         Err(_) => Err(Fail::new(format_args!("no thread"))),
     }
