@@ -24,6 +24,7 @@ pub mod server;
 mod starting;
 pub mod streams;
 mod telling;
+mod timed;
 pub mod watching;
 pub mod weighed;
 mod weights;

@@ -1,11 +1,11 @@
 // What a server tells on its error output.
 ghost use Rattle.std.specs.Prelude.{◌≡◌, ◌+◌, string_bytes, IfOk};
-ghost use Rattle.xds_commands.specs.Messages.{refusal_line, port_line, replica_line};
+ghost use Rattle.xds_commands.specs.Messages.{refusal_line, port_fault_text, port_line, replica_line};
 
 use crate::ending::{End, Ending, Next};
 use crate::note::fault_line;
 use std::alloc::Global;
-use std::io::Write;
+use std::io::{ErrorKind, Write};
 use std::sync::Wait;
 use xds_frames::{Counted, write_whole};
 use xds_resource::Refusal;
@@ -22,11 +22,45 @@ fn refusal_line(alloc: Global, refusal: Refusal) -> Result<String, Refusal>
     Ok(format!(in alloc; "{number} {name}\n")?)
 }
 
+/// Why a port can't be bound.
+#[derive(Clone, Copy, Debug, PartialEq, Eq)]
+pub enum PortFault {
+    /// Somebody else has it.
+    InUse,
+    /// Who runs the server may not have it.
+    NotAllowed,
+    /// The system says something else.
+    Other,
+}
+
+impl PortFault {
+    /// The fault of a call that failed with an error of this kind.
+    pub(crate) fn of(kind: ErrorKind) -> PortFault {
+        match kind {
+            ErrorKind::AddrInUse => PortFault::InUse,
+            ErrorKind::PermissionDenied => PortFault::NotAllowed,
+            _ => PortFault::Other,
+        }
+    }
+
+    // What is told of it behind the refusal.
+    fn text(self) -> &'static str
+        ensures { result.now ≡ port_fault_text self }
+    {
+        match self {
+            PortFault::InUse => ": in use",
+            PortFault::NotAllowed => ": not allowed",
+            PortFault::Other => "",
+        }
+    }
+}
+
 // The line of a port that can't be bound.
-fn port_line(alloc: Global, port: u16) -> Result<String, Refusal>
-    ensures { IfOk result (λ t. string_bytes t ≡ port_line port) }
+fn port_line(alloc: Global, port: u16, fault: PortFault) -> Result<String, Refusal>
+    ensures { IfOk result (λ t. string_bytes t ≡ port_line port fault) }
 {
-    Ok(format!(in alloc; "127.0.0.1:{port}: 19 Device\n")?)
+    let why = fault.text();
+    Ok(format!(in alloc; "127.0.0.1:{port}: 19 Device{why}\n")?)
 }
 
 // The line of a replica.
@@ -71,11 +105,16 @@ pub(crate) fn tell_line<E: Write>(
     REFUSED
 }
 
-/// Tells a port that can't be bound, and answers the status.
-pub(crate) fn tell_port<E: Write>(alloc: Global, errors: &mut Counted<E>, port: u16) -> u8
+/// Tells a port that can't be bound, and why, and answers the status.
+pub(crate) fn tell_port<E: Write>(
+    alloc: Global,
+    errors: &mut Counted<E>,
+    port: u16,
+    fault: PortFault,
+) -> u8
     ensures { result ≡ 1 }
 {
-    put(errors, port_line(alloc, port));
+    put(errors, port_line(alloc, port, fault));
     REFUSED
 }
 

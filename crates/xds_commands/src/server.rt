@@ -5,7 +5,7 @@ use crate::change::Change;
 use crate::ending::{End, Ending};
 use crate::machine::{Machine, Runtime};
 use crate::replica::{Sends, Sockets, Takes};
-use crate::serve_telling::{tell, tell_line, tell_port, tell_replicas, tell_until_end};
+use crate::serve_telling::{PortFault, tell, tell_line, tell_port, tell_replicas, tell_until_end};
 use crate::starting::{start_input, start_replica};
 use crate::wires::{Wires, both, crossed, kept};
 use crossbeam_channel::{Receiver, Sender, unbounded};
@@ -39,7 +39,7 @@ type Wiring = Wires<Sockets, Sender<Change>, Receiver<Change>, Sends, Takes>;
 
 /// Serves until so many streams have ended as are asked for, or a line of the input is refused, and answers the status: 0,
 /// or 1 with the refusal on the error output. A server that keeps going tells such a line, and reads the next. All ports are bound before anything is read; one that can't be is told with
-/// its address as 19 Device. What is served where is told on the error output, a line a replica.
+/// its address as 19 Device, and why. What is served where is told on the error output, a line a replica.
 ///
 /// The input is read in a thread of its own, so it is handed over by value. Its end ends nothing. Threads that still wait
 /// at the end are left: they end with the process.
@@ -62,9 +62,9 @@ where
             );
             run(rt, alloc, input, errors, sockets, serving)
         }
-        Err(Unbound::Port(port)) => {
+        Err(Unbound::Port(port, fault)) => {
             drop(input);
-            return tell_port(alloc, errors, port);
+            return tell_port(alloc, errors, port, fault);
         }
         Err(Unbound::Refused(refusal)) => {
             drop(input);
@@ -89,7 +89,7 @@ fn tell_end<E: Write>(alloc: Global, errors: &mut Counted<E>, ended: Result<End,
 // Why the ports aren't bound.
 #[derive(Clone, Copy)]
 enum Unbound {
-    Port(u16),
+    Port(u16, PortFault),
     Refused(Refusal),
 }
 
@@ -117,7 +117,7 @@ where
     let port = first.wrapping_add(index);
     match TcpListener::bind(rt, SocketAddrV4::new(Ipv4Addr::LOCALHOST, port)) {
         Ok(listener) => Ok(listener),
-        Err(_) => Err(Unbound::Port(port)),
+        Err(error) => Err(Unbound::Port(port, PortFault::of(error.kind()))),
     }
 }
 

@@ -10,7 +10,7 @@ pub mod serve;
 pub mod service;
 pub mod told;
 
-pub use polling::{Connects, Posts, poll, poll_by};
+pub use polling::{Connects, ConnectsWithin, Posts, poll, poll_by};
 pub use question::Question;
 pub use replies::Replies;
 pub use serve::{serve_http, serve_on};

@@ -42,18 +42,20 @@ one_client rows c d h k =
     let variant = same_value _ c.variant d.variant h.variant k.variant in
     let kind = same_value _ c.kind d.kind h.kind k.kind in
     let responses = one_number rows (codes "responses") c.responses d.responses h.responses k.responses in
+    let seconds = one_found (IsNumber rows (codes "seconds")) (one_number rows (codes "seconds")) c.seconds d.seconds h.seconds k.seconds in
     let cluster = sym h.cluster ∙ k.cluster in
     let names = sym h.names ∙ k.names in
-    λ i. record { addr = addr i; variant = variant i; kind = kind i; responses = responses i; cluster = cluster i; names = names i }
+    λ i. record { addr = addr i; variant = variant i; kind = kind i; responses = responses i; seconds = seconds i; cluster = cluster i; names = names i }
 
 one_poll : (rows : List Row) (p q : Look) → AsksPoll rows p → AsksPoll rows q → p ≡ q
 one_poll rows p q h k =
     let addr = one_address rows p.addr q.addr h.addr k.addr in
     let kind = same_value _ p.kind q.kind h.kind k.kind in
+    let seconds = one_found (IsNumber rows (codes "seconds")) (one_number rows (codes "seconds")) p.seconds q.seconds h.seconds k.seconds in
     let version = sym h.version ∙ k.version in
     let cluster = sym h.cluster ∙ k.cluster in
     let names = sym h.names ∙ k.names in
-    λ i. record { addr = addr i; kind = kind i; version = version i; cluster = cluster i; names = names i }
+    λ i. record { addr = addr i; kind = kind i; seconds = seconds i; version = version i; cluster = cluster i; names = names i }
 
 -- the command is that of the task
 named : (command name : Text) (rows : List Row) (task : Task) → command ≡ name → AsksBy command rows task → AsksBy name rows task

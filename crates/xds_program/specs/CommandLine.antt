@@ -14,8 +14,8 @@
 --     client_start                     `xds client`, with the options that say where it asks, how, and for what
 --     client_command                   `xds client`, with its options and names
 --     poll_start                       `xds poll`, with the options that say where it asks, and for what
---     poll_command                     `xds poll --addr A --type TYPE [--version V] [--cluster TEXT] [NAME..]`
---     wanting_command                  `xds`, which wants a command
+--     poll_command                     `xds poll --addr A --type TYPE [--version V] [--seconds T] [--cluster TEXT] [NAME..]`
+--     wanting_command                  `xds`, which wants a command, and says its version
 --     first_commands                   and with the first three of them
 --     command_line                     `xds`, with all of them
 --     IsLocal                          the options of the command are its own
@@ -103,10 +103,11 @@ client_start =
     (required (text_option (codes "variant"))))
     (required (text_option (codes "type")))
 
--- `xds client --addr A --variant VARIANT --type TYPE --responses N [--cluster TEXT] NAME..`
+-- `xds client --addr A --variant VARIANT --type TYPE --responses N [--seconds T] [--cluster TEXT] NAME..`
 abbrev pub client_command : App
 client_command =
-    with_rule (with_rule (with_rule client_start (required (number_option (codes "responses"))))
+    with_rule (with_rule (with_rule (with_rule client_start (required (number_option (codes "responses"))))
+    (number_option (codes "seconds")))
     (text_option (codes "cluster")))
     (required name_words)
 
@@ -114,13 +115,14 @@ client_command =
 abbrev pub poll_start : App
 poll_start = with_rule (with_rule (new_app (codes "poll")) (required (text_option (codes "addr")))) (required (text_option (codes "type")))
 
--- `xds poll --addr A --type TYPE [--version V] [--cluster TEXT] [NAME..]`
+-- `xds poll --addr A --type TYPE [--version V] [--seconds T] [--cluster TEXT] [NAME..]`
 abbrev pub poll_command : App
-poll_command = with_rule (with_rule (with_rule poll_start (text_option (codes "version"))) (text_option (codes "cluster"))) name_words
+poll_command =
+    with_rule (with_rule (with_rule (with_rule poll_start (text_option (codes "version"))) (number_option (codes "seconds"))) (text_option (codes "cluster"))) name_words
 
--- `xds`, which wants a command
+-- `xds`, which wants a command, and says its version
 abbrev pub wanting_command : App
-wanting_command = on_top (λ s. record s { subcommand_required = true }) (new_app (codes "xds"))
+wanting_command = on_top (λ s. record s { has_version = true; subcommand_required = true }) (new_app (codes "xds"))
 
 -- and with the first three of them
 abbrev pub first_commands : App

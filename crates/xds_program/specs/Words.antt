@@ -6,7 +6,8 @@
 --     text_in        the value of an option, empty where it isn't given
 --     names_in       the names, in their order
 --     Finds          what fits, or none where nothing fits
---     AsksServe      `xds serve`: no replica's port is above 65,535
+--     are_apart      no port of the one is a port of the other, where so many begin at each of them
+--     AsksServe      `xds serve`: no replica's port is above 65,535, and none for streams is one for REST
 --     AsksClient     `xds client`
 --     AsksPoll       `xds poll`
 --     AsksBy         the command of this name, with these values, asks for the task
@@ -15,7 +16,7 @@
 --     IsFaultOf      why words ask for no task, as the kind of an error
 --     IsWrongBy      so it is, or there was no memory
 --     IsToldOf       an error of this kind is told of words that ask for no task, or there was no memory
-use Rattle.std.specs.Prelude.{◌≡◌, ◌⊎◌, ◌≤◌, ◌+◌, ℕ, List, [], codes, Bool, false, bytes_eq, Option, Some, None, unwrap_or}
+use Rattle.std.specs.Prelude.{◌≡◌, ◌⊎◌, ◌≤◌, ◌+◌, ℕ, List, [], codes, Bool, true, false, ◌||◌, nat_le, bytes_eq, Option, Some, None, unwrap_or}
 use Rattle.std.specs.Option.{option_and_then, option_map_or}
 use Rattle.std.specs.Str.Parse.{IsNumeral, digits_value, without_leading_plus}
 use Rattle.std.specs.Net.Grammar.{IsSocketV4Text}
@@ -65,7 +66,11 @@ Finds {X} Fits None = (x : X) → Fits x → ⊥
 
 -- ---- the tasks
 
--- `xds serve`: no replica's port is above 65,535
+-- no port of the one is a port of the other, where so many begin at each of them
+abbrev pub are_apart : ℕ → ℕ → ℕ → Bool
+are_apart port rest_port replicas = nat_le (port + replicas) rest_port || nat_le (rest_port + replicas) port
+
+-- `xds serve`: no replica's port is above 65,535, and none for streams is one for REST
 pub record AsksServe (rows : List Row) (task : ServeTask) : Type 0 where
   pub replicas : IsNumber rows (codes "replicas") task.replicas
   pub port : IsNumber rows (codes "port") task.port
@@ -74,6 +79,7 @@ pub record AsksServe (rows : List Row) (task : ServeTask) : Type 0 where
   pub keep_going : is_given (codes "keep-going") rows ≡ task.keep_going
   pub ports : task.port + task.replicas ≤ 65536
   pub rest_ports : task.rest_port + task.replicas ≤ 65536
+  pub apart : are_apart task.port task.rest_port task.replicas ≡ true
 
 -- `xds client`
 pub record AsksClient (rows : List Row) (task : Watch) : Type 0 where
@@ -81,6 +87,7 @@ pub record AsksClient (rows : List Row) (task : Watch) : Type 0 where
   pub variant : option_and_then variant_of_word (first_of (codes "variant") rows) ≡ Some task.variant
   pub kind : option_and_then type_of_word (first_of (codes "type") rows) ≡ Some task.kind
   pub responses : IsNumber rows (codes "responses") task.responses
+  pub seconds : Finds (IsNumber rows (codes "seconds")) task.seconds
   pub cluster : text_in (codes "cluster") rows ≡ task.cluster
   pub names : names_in rows ≡ task.names
 
@@ -88,6 +95,7 @@ pub record AsksClient (rows : List Row) (task : Watch) : Type 0 where
 pub record AsksPoll (rows : List Row) (task : Look) : Type 0 where
   pub addr : IsAddress rows task.addr
   pub kind : option_and_then type_of_word (first_of (codes "type") rows) ≡ Some task.kind
+  pub seconds : Finds (IsNumber rows (codes "seconds")) task.seconds
   pub version : text_in (codes "version") rows ≡ task.version
   pub cluster : text_in (codes "cluster") rows ≡ task.cluster
   pub names : names_in rows ≡ task.names

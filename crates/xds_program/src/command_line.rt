@@ -37,6 +37,7 @@ fn wanting_command<'a>(alloc: Global) -> Command<'a>
     Command::new(alloc, "xds")
         .about("A replicated control plane of Envoy's xDS protocol")
         .after_help(help::PROGRAM)
+        .version(help::VERSION)
         .subcommand_required(true)
 }
 
@@ -132,6 +133,7 @@ fn client_command<'a>(alloc: Global) -> Result<Command<'a>, AllocError>
 {
     let client = client_start(alloc)?;
     let client = with_option(client, responses_option(alloc))?;
+    let client = with_option(client, seconds_option(alloc))?;
     let client = with_option(client, cluster_option(alloc))?;
     with_option(client, wanted_names(alloc))
 }
@@ -177,6 +179,7 @@ fn poll_command<'a>(alloc: Global) -> Result<Command<'a>, AllocError>
     let help = "The version that the client has";
     let poll = poll_start(alloc)?;
     let poll = with_option(poll, text_option(alloc, "version", "V", help))?;
+    let poll = with_option(poll, seconds_option(alloc))?;
     let poll = with_option(poll, cluster_option(alloc))?;
     with_option(poll, name_words(alloc))
 }
@@ -204,6 +207,13 @@ fn type_option<'a>(alloc: Global) -> Arg<'a>
 {
     let help = "Type: cluster, endpoint, listener, route or secret";
     required(text_option(alloc, "type", "TYPE", help))
+}
+
+// `--seconds T`.
+fn seconds_option<'a>(alloc: Global) -> Arg<'a>
+    ensures { IsOption (number_option (codes "seconds")) result }
+{
+    number_option(alloc, "seconds", "T", "Gives up after this many seconds")
 }
 
 // `--cluster TEXT`.

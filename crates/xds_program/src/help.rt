@@ -1,6 +1,9 @@
 // What `--help` says behind the options: an example, what is read and printed, and the statuses.
 // No line is wider than 80 columns.
 
+/// What `xds --version` says behind the name of the program.
+pub(crate) const VERSION: &str = "0.1.0";
+
 /// At the end of `xds --help`.
 pub(crate) const PROGRAM: &str = "Example, in the repository's top folder, and what it prints:
   ./xds check < examples/mesh_broken.trace
@@ -65,6 +68,7 @@ pub(crate) const SERVE: &str = "Example:
 
 Reads lines `put`, `putin` and `delete` of scripts, and applies each while it
 serves; at the end of the input it goes on, until it is stopped (Ctrl-C).
+With --keep-going a line that is refused is told, and the next is read.
 Prints nothing; the error output has a line a replica, which says what is
 served where. docs/SERVING.md has more, docs/CLI.md the refusals.
 
@@ -85,7 +89,8 @@ docs/CLI.md.
 
 Statuses:
   0  so many responses were answered
-  1  no server, the stream broke off, or what came is no response to be taken
+  1  no server, the stream broke off, what came is no response to be taken, or
+     --seconds have passed
   2  the words are wrong; nothing was sent";
 
 /// At the end of `xds poll --help`.
@@ -98,5 +103,5 @@ line. docs/SERVING.md has more, docs/CLI.md the refusals.
 
 Statuses:
   0  a reply came, whatever its status is
-  1  no reply came
+  1  no reply came, or none within --seconds
   2  the words are wrong; nothing was sent";

@@ -5,7 +5,7 @@ ghost use Rattle.clap.specs.Words.{first_of, found_of, rows_of, subcommand_rows_
 ghost use Rattle.xds_resource.specs.Types.{type_of_word};
 ghost use Rattle.xds_program.specs.Tasks.{variant_of_word};
 ghost use Rattle.xds_program.specs.Words.{AsksBy, AsksClient, AsksIn, AsksPoll, AsksServe, Finds, IsAddress, IsNumber};
-ghost use Rattle.xds_program.specs.Words.{is_given, names_in, text_in};
+ghost use Rattle.xds_program.specs.Words.{are_apart, is_given, names_in, text_in};
 
 use crate::tasks::{ClientTask, PollTask, ServeTask, StreamVariant, Task};
 use clap::ArgMatches;
@@ -85,7 +85,10 @@ fn serving(given: &ArgMatches) -> Option<ServeTask>
     let rest_port = number(given, "rest-port")?;
     let streams = number(given, "streams");
     let keep_going = is_given(given, "keep-going");
-    if has_ports(port, replicas) && has_ports(rest_port, replicas) {
+    if has_ports(port, replicas)
+        && has_ports(rest_port, replicas)
+        && are_apart(port, rest_port, replicas)
+    {
         Some(ServeTask {
             replicas,
             port,
@@ -99,10 +102,18 @@ fn serving(given: &ArgMatches) -> Option<ServeTask>
 }
 
 // Whether each replica has a port, where the first has this one.
-fn has_ports(first: u16, replicas: u16) -> bool
+pub(crate) fn has_ports(first: u16, replicas: u16) -> bool
     ensures { (result ≡ true) ↔ (first + replicas ≤ 65536) }
 {
     u32::from(first) + u32::from(replicas) <= 65536
+}
+
+// Whether no port of the one is a port of the other, where so many follow each of them, itself among them.
+pub(crate) fn are_apart(port: u16, rest_port: u16, replicas: u16) -> bool
+    ensures { result ≡ are_apart port rest_port replicas }
+{
+    u32::from(port) + u32::from(replicas) <= u32::from(rest_port)
+        || u32::from(rest_port) + u32::from(replicas) <= u32::from(port)
 }
 
 fn watch(alloc: Global, given: &ArgMatches) -> Result<Option<ClientTask>, AllocError>
@@ -110,6 +121,7 @@ fn watch(alloc: Global, given: &ArgMatches) -> Result<Option<ClientTask>, AllocE
 {
     match watched(given) {
         Some((addr, variant, kind, responses)) => {
+            let seconds = number(given, "seconds");
             let cluster = text(alloc, given, "cluster")?;
             let names = names(alloc, given)?;
             Ok(Some(ClientTask {
@@ -117,6 +129,7 @@ fn watch(alloc: Global, given: &ArgMatches) -> Result<Option<ClientTask>, AllocE
                 variant,
                 kind,
                 responses,
+                seconds,
                 cluster,
                 names,
             }))
@@ -145,12 +158,14 @@ fn look(alloc: Global, given: &ArgMatches) -> Result<Option<PollTask>, AllocErro
 {
     match looked(given) {
         Some((addr, kind)) => {
+            let seconds = number(given, "seconds");
             let version = text(alloc, given, "version")?;
             let cluster = text(alloc, given, "cluster")?;
             let names = names(alloc, given)?;
             Ok(Some(PollTask {
                 addr,
                 kind,
+                seconds,
                 version,
                 cluster,
                 names,
@@ -168,7 +183,7 @@ fn looked(given: &ArgMatches) -> Option<(SocketAddrV4, TypeName)>
     Some((address(given)?, kind(given)?))
 }
 
-fn number(given: &ArgMatches, option: &str) -> Option<u16>
+pub(crate) fn number(given: &ArgMatches, option: &str) -> Option<u16>
     ensures { Finds (IsNumber (rows_of (found_of given.now)) option.now) result }
 {
     given.get_one::<u16>(option)
@@ -184,13 +199,13 @@ fn is_given(given: &ArgMatches, option: &str) -> bool
     }
 }
 
-fn address(given: &ArgMatches) -> Option<SocketAddrV4>
+pub(crate) fn address(given: &ArgMatches) -> Option<SocketAddrV4>
     ensures { Finds (IsAddress (rows_of (found_of given.now))) result }
 {
     given.get_one::<SocketAddrV4>("addr")
 }
 
-fn variant(given: &ArgMatches) -> Option<StreamVariant>
+pub(crate) fn variant(given: &ArgMatches) -> Option<StreamVariant>
     ensures { result ≡ option_and_then variant_of_word (first_of (codes "variant") (rows_of (found_of given.now))) }
 {
     match word(given, "variant") {
@@ -199,7 +214,7 @@ fn variant(given: &ArgMatches) -> Option<StreamVariant>
     }
 }
 
-fn kind(given: &ArgMatches) -> Option<TypeName>
+pub(crate) fn kind(given: &ArgMatches) -> Option<TypeName>
     ensures { result ≡ option_and_then type_of_word (first_of (codes "type") (rows_of (found_of given.now))) }
 {
     match word(given, "type") {

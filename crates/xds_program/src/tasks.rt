@@ -71,6 +71,8 @@ pub struct ClientTask {
     pub kind: TypeName,
     /// After how many responses it ends, from 1.
     pub responses: u16,
+    /// After how many seconds it gives up, from 1; never, where there is none.
+    pub seconds: Option<u16>,
     /// The cluster of its node, empty where none is given.
     pub cluster: String,
     /// The names of the resources that it wants, in the order of the words.
@@ -85,6 +87,7 @@ impl Drop for ClientTask {
             variant: _,
             kind: _,
             responses: _,
+            seconds: _,
             cluster: _,
             names: _,
         } = self;
@@ -102,6 +105,7 @@ impl Model for ClientTask {
       variant = c.variant;
       kind = c.kind;
       responses = c.responses;
+      seconds = c.seconds;
       cluster = string_bytes c.cluster;
       names = map string_bytes c.names.items;
     } };
@@ -114,6 +118,8 @@ pub struct PollTask {
     pub addr: SocketAddrV4,
     /// The type of the resources.
     pub kind: TypeName,
+    /// After how many seconds it gives up, from 1; never, where there is none.
+    pub seconds: Option<u16>,
     /// The version that the client has, empty where none is given.
     pub version: String,
     /// The cluster of its node, empty where none is given.
@@ -131,6 +137,7 @@ impl Model for PollTask {
     ghost view = { λ p. record {
       addr = p.addr;
       kind = p.kind;
+      seconds = p.seconds;
       version = string_bytes p.version;
       cluster = string_bytes p.cluster;
       names = map string_bytes p.names.items;

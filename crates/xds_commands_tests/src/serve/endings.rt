@@ -14,7 +14,7 @@ fn a_port_in_use_is_told(rt: HostRuntime) -> Result<(), Fail> {
         b"" as &[u8],
         serving(2, 18_400, None),
         1,
-        "127.0.0.1:18401: 19 Device\n",
+        "127.0.0.1:18401: 19 Device: in use\n",
     )?;
     drop(held);
     Ok(())
@@ -28,7 +28,7 @@ fn a_port_of_rest_in_use_is_told(rt: HostRuntime) -> Result<(), Fail> {
         b"put\n" as &[u8],
         serving(1, 18_420, None),
         1,
-        "127.0.0.1:18430: 19 Device\n",
+        "127.0.0.1:18430: 19 Device: in use\n",
     )?;
     drop(held);
     Ok(())
