@@ -1,8 +1,10 @@
+pub mod Boards
 pub mod Changes
 pub mod Causes
 pub mod Handing
 pub mod Inputs
 pub mod Keeping
+pub mod Logging
 pub mod Messages
 pub mod Notes
 pub mod Responses

@@ -8,8 +8,9 @@ use Rattle.xds_resource.specs.Refusals.{number_of, name_of}
 use Rattle.xds_commands.specs.declared.cause.Cause.{Cause}
 use Rattle.xds_commands.specs.declared.fault.Fault.{Fault}
 use Rattle.xds_commands.specs.declared.note.Note.{Note}
-use Rattle.xds_commands.specs.declared.note.Note.TheVariants.{Refused, Missed}
+use Rattle.xds_commands.specs.declared.note.Note.TheVariants.{Refused, Event, Missed}
 use Rattle.xds_commands.specs.Causes.{cause_text}
+use Rattle.xds_commands.specs.Logging.{event_line}
 use Rattle.xds_commands.specs.Messages.{fault_line}
 
 -- the line of a line of the input that is refused, with what is wrong of it
@@ -28,4 +29,5 @@ refused_line line fault = refused_by line fault.refusal fault.cause
 -- the line of a note
 abbrev pub note_line : Note → List ℕ
 note_line (Refused line fault) = refused_line line fault
+note_line (Event event) = event_line event
 note_line (Missed count) = decimal count ++ codes " lines are left out\n"

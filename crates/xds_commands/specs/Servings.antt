@@ -13,4 +13,5 @@ serving_of task is_terminal = record {
   streams = task.streams;
   keep_going = task.keep_going;
   tells = is_terminal;
+  logs = task.log;
 }

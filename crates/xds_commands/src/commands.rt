@@ -72,5 +72,6 @@ fn serving_of(task: ServeTask, is_terminal: bool) -> Serving
         streams: task.streams,
         keep_going: task.keep_going,
         tells: is_terminal,
+        logs: task.log,
     }
 }

@@ -1,5 +1,6 @@
 // How a server ends, and what is told until then: by whichever thread comes to it, and waited for by the first thread.
 use crate::fault::Fault;
+use crate::log_event::LogEvent;
 use crate::note::Note;
 use std::alloc::Global;
 use std::collections::VecDeque;
@@ -15,6 +16,15 @@ pub enum End {
     Line(u64, Refusal),
     /// The server can't go on.
     Refused(Refusal),
+}
+
+/// What a server tells while it serves.
+#[derive(Clone, Copy, Debug, PartialEq, Eq)]
+pub struct Telling {
+    /// Whether changes that are refused are told.
+    pub changes: bool,
+    /// Whether what an operator cares for is told.
+    pub events: bool,
 }
 
 /// As many notes as wait to be told, at most.
@@ -85,8 +95,15 @@ impl State {
         ensures { (self.new.left ≡ self.old.left) × (self.new.end ≡ self.old.end) }
     {
         if self.notes.push_back(note).is_err() {
-            self.missed = self.missed.saturating_add(1);
+            self.miss();
         }
+    }
+
+    // A note isn't told.
+    fn miss(&mut self)
+        ensures { (self.new.left ≡ self.old.left) × (self.new.end ≡ self.old.end) }
+    {
+        self.missed = self.missed.saturating_add(1);
     }
 
     // What comes next, if something does: what is to be told comes before the end.
@@ -115,8 +132,7 @@ pub struct Ending {
     told: Condvar,
     // There is room for notes.
     room: Condvar,
-    // Whether changes that are refused are told.
-    tells: bool,
+    telling: Telling,
 }
 
 // Written out: docs/PROVING.md, "Drops".
@@ -126,15 +142,15 @@ impl Drop for Ending {
             state: _,
             told: _,
             room: _,
-            tells: _,
+            telling: _,
         } = self;
     }
 }
 
 impl Ending {
-    /// The server ends after so many streams, where that is said. It says whether changes that are refused are told.
-    pub fn after(alloc: Global, streams: Option<u16>, tells: bool) -> Ending
-        ensures { result.tells ≡ tells }
+    /// The server ends after so many streams, where that is said, and tells this until then.
+    pub fn after(alloc: Global, streams: Option<u16>, telling: Telling) -> Ending
+        ensures { result.telling ≡ telling }
     {
         Ending {
             state: Mutex::new(State {
@@ -145,7 +161,7 @@ impl Ending {
             }),
             told: Condvar::new(),
             room: Condvar::new(),
-            tells,
+            telling,
         }
     }
 
@@ -170,9 +186,33 @@ impl Ending {
     /// Tells that a line of the input, or the change that it says, is refused, where such are told. It waits until there is room
     /// for a note more, unless the server ends.
     pub fn refuse<R: Wait>(&self, rt: &R, line: u64, fault: Fault) {
-        if self.tells {
+        if self.telling.changes {
             self.note(rt, Note::Refused(line, fault));
         }
+    }
+
+    /// Whether what an operator cares for is told.
+    pub fn logs(&self) -> bool
+        ensures { result ≡ self.now.telling.events }
+    {
+        self.telling.events
+    }
+
+    /// Tells something that an operator cares for, where such is told. Where there is no room it counts as left out.
+    pub fn log<R: Wait>(&self, rt: &R, event: LogEvent) {
+        if !self.telling.events {
+            drop(event);
+            return;
+        }
+        let mut state = self.state.lock(rt);
+        if state.notes.len() < MOST_NOTES {
+            state.push(Note::Event(event));
+        } else {
+            drop(event);
+            state.miss();
+        }
+        drop(state);
+        self.told.notify_all();
     }
 
     /// Tells something. It waits until there is room for a note more, unless the server ends.

@@ -5,6 +5,7 @@ ghost use Rattle.xds_commands.specs.Messages.{fault_line};
 
 use crate::cause::Cause;
 use crate::fault::Fault;
+use crate::log_event::LogEvent;
 use std::alloc::Global;
 use xds_resource::Refusal;
 
@@ -13,6 +14,8 @@ use xds_resource::Refusal;
 pub enum Note {
     /// A line of the input, counted from 1, or the change that it says, is refused.
     Refused(u64, Fault),
+    /// Something that an operator cares for.
+    Event(LogEvent),
     /// So many notes had no room, and aren't told.
     Missed(u64),
 }
@@ -24,6 +27,7 @@ impl Note {
     {
         match self {
             Note::Refused(line, fault) => refused_line(alloc, *line, *fault),
+            Note::Event(event) => event.line(alloc),
             Note::Missed(count) => missed_line(alloc, *count),
         }
     }

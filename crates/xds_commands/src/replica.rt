@@ -6,6 +6,7 @@ use crate::change::Change;
 use crate::ending::Ending;
 use crate::fault::Fault;
 use crate::gate::NoGate;
+use crate::lookout::Lookout;
 use crate::machine::{Machine, Runtime};
 use crate::served::Served;
 use crate::streams::serve_streams;
@@ -44,7 +45,7 @@ pub fn run_replica<R, A>(
     alloc: Global,
     node: &Arc<A>,
     replica: Replica,
-    ending: &Arc<Ending>,
+    lookout: &Arc<Lookout>,
 ) -> Result<(), Refusal>
 where
     R: Machine,
@@ -61,9 +62,9 @@ where
         takes,
     } = replica;
     let exchanging = start_exchange(rt, alloc, node, sends, takes);
-    let serving = start_serving(rt, alloc, node, sockets, ending);
+    let serving = start_serving(rt, alloc, node, sockets, lookout);
     let ended = match both(exchanging, serving) {
-        Ok(()) => take_changes(rt, &**node, &changes, ending),
+        Ok(()) => take_changes(rt, &**node, &changes, lookout.ending()),
         Err(refusal) => Err(refusal),
     };
     drop(changes);
@@ -99,7 +100,7 @@ fn start_serving<R, A>(
     alloc: Global,
     node: &Arc<A>,
     sockets: Sockets,
-    ending: &Arc<Ending>,
+    lookout: &Arc<Lookout>,
 ) -> Result<(), Refusal>
 where
     R: Machine,
@@ -107,7 +108,7 @@ where
 {
     let Sockets { streams, polls } = sockets;
     let polled = start_polls(rt, node, polls);
-    both(polled, start_streams(rt, alloc, node, streams, ending))
+    both(polled, start_streams(rt, alloc, node, streams, lookout))
 }
 
 // A thread that tells another replica what changed here.
@@ -179,14 +180,14 @@ fn start_streams<R, A>(
     alloc: Global,
     node: &Arc<A>,
     listener: TcpListener,
-    ending: &Arc<Ending>,
+    lookout: &Arc<Lookout>,
 ) -> Result<(), Refusal>
 where
     R: Runtime,
     A: Shared,
 {
-    start_worker(rt, shares(node, ending), move |rt, (node, ending)| {
-        serve_streams(*rt, alloc, &listener, &node, &ending);
+    start_worker(rt, shares(node, lookout), move |rt, (node, lookout)| {
+        serve_streams(*rt, alloc, &listener, &node, &lookout);
     })
 }
 

@@ -2,7 +2,8 @@
 ghost use Rattle.std.specs.Prelude.{◌≤◌};
 
 use crate::change::Change;
-use crate::ending::{End, Ending};
+use crate::ending::{End, Ending, Telling};
+use crate::log_event::LogEvent;
 use crate::machine::{Machine, Runtime};
 use crate::replica::{Sends, Sockets, Takes};
 use crate::serve_telling::{PortFault, tell, tell_line, tell_port, tell_replicas, tell_until_end};
@@ -12,7 +13,7 @@ use crossbeam_channel::{Receiver, Sender, unbounded};
 use std::alloc::{AllocError, Global};
 use std::io::{Read, Write};
 use std::net::{Ipv4Addr, Net, SocketAddrV4, TcpListener, TcpStream};
-use std::sync::Arc;
+use std::sync::{Arc, Wait};
 use xds_exchange::link;
 use xds_frames::Counted;
 use xds_resource::Refusal;
@@ -30,8 +31,10 @@ pub struct Serving {
     pub streams: Option<u16>,
     /// Whether a line of the input that is refused is told, and the next is read.
     pub keep_going: bool,
-    /// Whether changes that are refused are told. A server that keeps going tells them in any case.
+    /// Whether changes that are refused are told. A server that keeps going, or logs, tells them in any case.
     pub tells: bool,
+    /// Whether what an operator cares for is told, a line each.
+    pub logs: bool,
 }
 
 // What the replicas are started with, and what changes of the input are sent by.
@@ -137,14 +140,28 @@ where
 {
     let wires = wired(alloc, sockets)?;
     let ending = Arc::new(alloc, ending_of(alloc, serving))?;
+    log_replicas(rt, &ending, serving);
     start(rt, alloc, input, wires, serving.keep_going, &ending)?;
     Ok(tell_until_end(rt, alloc, errors, &ending))
 }
 
 // How a server ends, and what it tells until then.
 fn ending_of(alloc: Global, serving: Serving) -> Ending {
-    let tells = serving.keep_going || serving.tells;
-    Ending::after(alloc, serving.streams, tells)
+    let telling = Telling {
+        changes: serving.keep_going || serving.tells || serving.logs,
+        events: serving.logs,
+    };
+    Ending::after(alloc, serving.streams, telling)
+}
+
+// Tells which replica listens where, where such is told.
+fn log_replicas<R: Wait>(rt: &R, ending: &Ending, serving: Serving) {
+    for index in 0..serving.replicas {
+        let number = index.wrapping_add(1);
+        let port = serving.port.wrapping_add(index);
+        let rest_port = serving.rest_port.wrapping_add(index);
+        ending.log(rt, LogEvent::Listening(number, port, rest_port));
+    }
 }
 
 // Starts the replicas, and the thread that takes the input.

@@ -5,9 +5,11 @@ use crate::change::Change;
 use crate::ending::{End, Ending};
 use crate::input::take_input;
 use crate::keeping::keep_input;
+use crate::lookout::Lookout;
 use crate::machine::{Machine, Runtime};
 use crate::replica::{Replica, run_replica};
 use crate::served::Served;
+use crate::watched::Watched;
 use crate::weighed::Weighed;
 use crate::wires::started;
 use crate::workers::{share, start_worker};
@@ -58,8 +60,15 @@ where
     requires first { 1 ≤ number }
     requires own { number ≡ N.replica }
 {
-    match shared::<N>(alloc, opened, number) {
-        Ok(node) => start_node(rt, alloc, node, replica, ending),
+    let lookout = match watched_by(alloc, number, ending) {
+        Ok(lookout) => lookout,
+        Err(refusal) => {
+            drop(replica);
+            return Err(refusal);
+        }
+    };
+    match shared::<N>(alloc, opened, number, &lookout) {
+        Ok(node) => start_node(rt, alloc, node, replica, &lookout),
         Err(refusal) => {
             drop(replica);
             Err(refusal)
@@ -67,18 +76,48 @@ where
     }
 }
 
+// Where threads note what happens at a replica.
+fn watched_by(
+    alloc: Global,
+    number: u16,
+    ending: &Arc<Ending>,
+) -> Result<Arc<Lookout>, Refusal> {
+    let lookout = Lookout::new(alloc, number, share(ending)?);
+    Ok(Arc::new(alloc, lookout)?)
+}
+
 // A new node, as threads share it.
 fn shared<N: NodeName>(
     alloc: Global,
     opened: Opened<Line>,
     number: u16,
-) -> Result<Arc<Weighed<Node<N>>>, Refusal>
+    lookout: &Arc<Lookout>,
+) -> Result<Arc<Weighed<Watched<Node<N>>>>, Refusal>
     requires name { opened ≡ N.id }
     requires first { 1 ≤ number }
     requires own { number ≡ N.replica }
 {
     let node = Node::<N>::new(alloc, opened, number)?;
-    Ok(Arc::new(alloc, Weighed::new(alloc, node))?)
+    let watched = watched_node(alloc, node, lookout)?;
+    Ok(Arc::new(alloc, Weighed::new(alloc, watched))?)
+}
+
+// A node whose events are noted.
+fn watched_node<A: Served>(
+    alloc: Global,
+    node: A,
+    lookout: &Arc<Lookout>,
+) -> Result<Watched<A>, Refusal>
+where
+    A: Drop,
+{
+    match share(lookout) {
+        Ok(lookout) => Ok(Watched::new(alloc, node, lookout)),
+        Err(refusal) => {
+            drop(node);
+            Err(refusal)
+        }
+    }
 }
 
 // Starts the thread of a replica.
@@ -87,7 +126,7 @@ fn start_node<R, A>(
     alloc: Global,
     node: Arc<A>,
     replica: Replica,
-    ending: &Arc<Ending>,
+    lookout: &Arc<Lookout>,
 ) -> Result<(), Refusal>
 where
     R: Machine,
@@ -97,14 +136,14 @@ where
     A::PostSeat: Send,
     <A as Replies>::Seat: Send,
 {
-    let Ok(ending) = share(ending) else {
+    let Ok(lookout) = share(lookout) else {
         drop(replica);
         return Err(Refusal::OutOfMemory);
     };
     let rt = *rt;
     started(thread::spawn(&rt, move || {
-        if let Err(refusal) = run_replica(&rt, alloc, &node, replica, &ending) {
-            ending.end(&rt, End::Refused(refusal));
+        if let Err(refusal) = run_replica(&rt, alloc, &node, replica, &lookout) {
+            lookout.ending().end(&rt, End::Refused(refusal));
         }
     }))
 }

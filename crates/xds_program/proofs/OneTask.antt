@@ -34,7 +34,8 @@ one_serve rows s t h k =
     let rest_port = one_number rows (codes "rest-port") s.rest_port t.rest_port h.rest_port k.rest_port in
     let streams = one_found (IsNumber rows (codes "streams")) (one_number rows (codes "streams")) s.streams t.streams h.streams k.streams in
     let keep_going = sym h.keep_going ∙ k.keep_going in
-    λ i. record { replicas = replicas i; port = port i; rest_port = rest_port i; streams = streams i; keep_going = keep_going i }
+    let log = sym h.log ∙ k.log in
+    λ i. record { replicas = replicas i; port = port i; rest_port = rest_port i; streams = streams i; keep_going = keep_going i; log = log i }
 
 one_client : (rows : List Row) (c d : Watch) → AsksClient rows c → AsksClient rows d → c ≡ d
 one_client rows c d h k =

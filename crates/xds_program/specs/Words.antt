@@ -77,6 +77,7 @@ pub record AsksServe (rows : List Row) (task : ServeTask) : Type 0 where
   pub rest_port : IsNumber rows (codes "rest-port") task.rest_port
   pub streams : Finds (IsNumber rows (codes "streams")) task.streams
   pub keep_going : is_given (codes "keep-going") rows ≡ task.keep_going
+  pub log : is_given (codes "log") rows ≡ task.log
   pub ports : task.port + task.replicas ≤ 65536
   pub rest_ports : task.rest_port + task.replicas ≤ 65536
   pub apart : are_apart task.port task.rest_port task.replicas ≡ true

@@ -82,7 +82,8 @@ fn serve_command<'a>(alloc: Global) -> Result<Command<'a>, AllocError>
 {
     let help = "Tells a line that is refused, and reads on";
     let serve = serve_start(alloc)?;
-    with_option(serve, flag_option(alloc, "keep-going", help))
+    let serve = with_option(serve, flag_option(alloc, "keep-going", help))?;
+    with_option(serve, flag_option(alloc, "log", "Tells what an operator cares for"))
 }
 
 // `xds serve`, with the options that say what is served where, and for how long.

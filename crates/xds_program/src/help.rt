@@ -68,7 +68,8 @@ pub(crate) const SERVE: &str = "Example:
 
 Reads lines `put`, `putin` and `delete` of scripts, and applies each while it
 serves; at the end of the input it goes on, until it is stopped (Ctrl-C).
-With --keep-going a line that is refused is told, and the next is read.
+With --keep-going a line that is refused is told, and the next is read; with
+--log what an operator cares for is told, a line an event.
 Prints nothing; the error output has a line a replica, which says what is
 served where. docs/SERVING.md has more, docs/CLI.md the refusals.
 

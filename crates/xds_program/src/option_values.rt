@@ -85,6 +85,7 @@ fn serving(given: &ArgMatches) -> Option<ServeTask>
     let rest_port = number(given, "rest-port")?;
     let streams = number(given, "streams");
     let keep_going = is_given(given, "keep-going");
+    let log = is_given(given, "log");
     if has_ports(port, replicas)
         && has_ports(rest_port, replicas)
         && are_apart(port, rest_port, replicas)
@@ -95,6 +96,7 @@ fn serving(given: &ArgMatches) -> Option<ServeTask>
             rest_port,
             streams,
             keep_going,
+            log,
         })
     } else {
         None

@@ -33,6 +33,8 @@ pub struct ServeTask {
     pub streams: Option<u16>,
     /// Whether a line of the input that is refused is told, and the next is read.
     pub keep_going: bool,
+    /// Whether what an operator cares for is told.
+    pub log: bool,
 }
 
 /// How a client asks on a stream: in which of the protocol's two variants.

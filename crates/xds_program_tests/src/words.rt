@@ -52,9 +52,11 @@ fn told_serve(alloc: Global, serve: ServeTask) -> Result<String, Fail> {
         rest_port,
         streams,
         keep_going,
+        log,
     } = serve;
     let keeps = if keep_going { " keep-going" } else { "" };
-    Ok(format!(in alloc; "serve {replicas} {port} {rest_port} {streams:?}{keeps}")?)
+    let logs = if log { " log" } else { "" };
+    Ok(format!(in alloc; "serve {replicas} {port} {rest_port} {streams:?}{keeps}{logs}")?)
 }
 
 fn told_client(alloc: Global, client: &ClientTask) -> Result<String, Fail> {
@@ -162,6 +164,8 @@ serve --trace 1 => wrong
 serve --keep-going => serve 2 18000 18100 None keep-going
 serve --keep-going --streams 1 --replicas 1 => serve 1 18000 18100 Some(1) keep-going
 serve --keep-going --keep-going => wrong
+serve --log --keep-going => serve 2 18000 18100 None keep-going log
+serve --log --log => wrong
 serve --keep-going=true => wrong
 serve --keep-going 1 => wrong
 serve --help => help",

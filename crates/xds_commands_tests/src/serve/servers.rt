@@ -24,6 +24,7 @@ pub(crate) fn serving(replicas: u16, port: u16, streams: Option<u16>) -> Serving
         streams,
         keep_going: false,
         tells: false,
+        logs: false,
     }
 }
 
@@ -38,6 +39,13 @@ pub(crate) fn keeping(replicas: u16, port: u16, streams: Option<u16>) -> Serving
 pub(crate) fn telling(replicas: u16, port: u16, streams: Option<u16>) -> Serving {
     let mut serving = serving(replicas, port, streams);
     serving.tells = true;
+    serving
+}
+
+/// The same of a server that logs.
+pub(crate) fn logging(replicas: u16, port: u16, streams: Option<u16>) -> Serving {
+    let mut serving = serving(replicas, port, streams);
+    serving.logs = true;
     serving
 }
 

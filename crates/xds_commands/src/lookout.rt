@@ -1,0 +1,153 @@
+// What is known of a replica for those who look: threads note it, and it is told or shown.
+use crate::board::Board;
+use crate::ending::Ending;
+use crate::log_event::{FirstRequest, LogEvent, Place, Rejection};
+use crate::sight::{Heard, Sight};
+use std::alloc::Global;
+use std::sync::{Arc, Mutex, Wait};
+use xds_core::Reply;
+use xds_ledger::VariantName;
+use xds_message::Draft;
+use xds_resource::Refusal;
+
+/// Where threads note what happens at a replica. It has a lock of its own, which is held for a note at a time, and never while the
+/// node's is taken.
+pub struct Lookout {
+    alloc: Global,
+    /// The number of the replica.
+    replica: u16,
+    board: Mutex<Board>,
+    ending: Arc<Ending>,
+}
+
+// Written out: docs/PROVING.md, "Drops".
+impl Drop for Lookout {
+    fn drop(self) {
+        let Lookout {
+            alloc: _,
+            replica: _,
+            board: _,
+            ending: _,
+        } = self;
+    }
+}
+
+impl Lookout {
+    /// That of a replica at which nothing happened.
+    pub fn new(alloc: Global, replica: u16, ending: Arc<Ending>) -> Lookout {
+        Lookout {
+            alloc,
+            replica,
+            board: Mutex::new(Board::new(alloc)),
+            ending,
+        }
+    }
+
+    /// What threads tell of the server.
+    pub fn ending(&self) -> &Ending {
+        &self.ending
+    }
+
+    fn place(&self, stream: u64) -> Place {
+        Place {
+            replica: self.replica,
+            stream,
+        }
+    }
+
+    // Tells an event, where events are told, and there was memory for it.
+    fn log<R: Wait>(&self, rt: &R, event: Result<LogEvent, Refusal>) {
+        if let Ok(event) = event {
+            self.ending.log(rt, event);
+        }
+    }
+
+    /// A stream was opened for a client at this address.
+    pub fn opened<R: Wait>(&self, rt: &R, stream: u64, peer: String) {
+        if self.ending.logs() {
+            let event = connected(self.alloc, self.place(stream), peer.as_str());
+            self.log(rt, event);
+        }
+        let mut board = self.board.lock(rt);
+        let _ = board.open(stream, peer);
+    }
+
+    /// A stream ended, by a refusal or without one.
+    pub fn ended<R: Wait>(&self, rt: &R, stream: u64, refusal: Option<Refusal>) {
+        self.board.lock(rt).close(stream);
+        if self.ending.logs() {
+            self.log(rt, Ok(LogEvent::Ended(self.place(stream), refusal)));
+        }
+    }
+
+    /// The journal couldn't be cut.
+    pub fn cut_failed<R: Wait>(&self, rt: &R, refusal: Refusal) {
+        if self.ending.logs() {
+            self.log(rt, Ok(LogEvent::CutFailed(self.replica, refusal)));
+        }
+    }
+
+    /// An event that showed this was answered so.
+    pub fn answered<R: Wait>(&self, rt: &R, sight: &Sight, answer: &Result<Reply, Refusal>) {
+        match (sight, answer) {
+            (Sight::Request(stream, heard), _) => self.heard(rt, *stream, heard),
+            (Sight::Poll(stream), Ok(Reply::Polled(Some(draft)))) => {
+                self.responded(rt, *stream, draft);
+            }
+            _ => {}
+        }
+    }
+
+    fn responded<R: Wait>(&self, rt: &R, stream: u64, draft: &Draft) {
+        let mut board = self.board.lock(rt);
+        let _ = board.respond(stream, draft);
+    }
+
+    fn heard<R: Wait>(&self, rt: &R, stream: u64, heard: &Heard) {
+        let mut board = self.board.lock(rt);
+        let is_first = board.hear(stream, heard).unwrap_or(false);
+        drop(board);
+        if !self.ending.logs() {
+            return;
+        }
+        if is_first {
+            self.log(rt, first_request(self.alloc, self.place(stream), heard));
+        }
+        if let Some(message) = &heard.rejection {
+            let place = self.place(stream);
+            self.log(rt, rejected(self.alloc, place, heard, message.as_str()));
+        }
+    }
+}
+
+fn connected(alloc: Global, place: Place, peer: &str) -> Result<LogEvent, Refusal> {
+    Ok(LogEvent::Connected(place, String::from_str(alloc, peer)?))
+}
+
+fn first_request(alloc: Global, place: Place, heard: &Heard) -> Result<LogEvent, Refusal> {
+    let (node, cluster) = match &heard.node {
+        Some((node, cluster)) => (node.as_str(), cluster.as_str()),
+        None => ("", ""),
+    };
+    let first = FirstRequest {
+        node: String::from_str(alloc, node)?,
+        cluster: String::from_str(alloc, cluster)?,
+        type_url: String::from_str(alloc, heard.type_url.as_str())?,
+        is_delta: heard.variant == VariantName::Delta,
+    };
+    Ok(LogEvent::FirstRequest(place, first))
+}
+
+fn rejected(
+    alloc: Global,
+    place: Place,
+    heard: &Heard,
+    message: &str,
+) -> Result<LogEvent, Refusal> {
+    let rejection = Rejection {
+        type_url: String::from_str(alloc, heard.type_url.as_str())?,
+        nonce: String::from_str(alloc, heard.nonce.as_str())?,
+        message: String::from_str(alloc, message)?,
+    };
+    Ok(LogEvent::Rejected(place, rejection))
+}
