@@ -4,6 +4,7 @@ pub mod Causes
 pub mod Handing
 pub mod Inputs
 pub mod Keeping
+pub mod Limits
 pub mod Logging
 pub mod Messages
 pub mod Notes

@@ -20,7 +20,7 @@ use Rattle.xds_commands.specs.declared.log_event.Place.{Place}
 use Rattle.xds_commands.specs.declared.log_event.FirstRequest.{FirstRequest as First}
 use Rattle.xds_commands.specs.declared.log_event.Rejection.{Rejection}
 use Rattle.xds_commands.specs.declared.log_event.LogEvent.{LogEvent}
-use Rattle.xds_commands.specs.declared.log_event.LogEvent.TheVariants.{Listening, Connected, FirstRequest, Rejected, Ended, CutFailed}
+use Rattle.xds_commands.specs.declared.log_event.LogEvent.TheVariants.{Listening, Connected, FirstRequest, Rejected, Ended, TurnedAway, CutFailed}
 
 -- what stands for a character of a text that a client sent: a question mark for one of control, and for a quote
 abbrev pub shown_char : ℕ → ℕ
@@ -63,6 +63,8 @@ message_of (Connected place peer) = place_text place ++ codes "connected from " 
 message_of (FirstRequest place first) = first_text place first
 message_of (Rejected place rejection) = rejected_text place rejection
 message_of (Ended place refusal) = ended_text place refusal
+message_of (TurnedAway replica) =
+    codes "replica " ++ (decimal replica ++ codes ": a connection is closed, there are as many streams as there may be")
 message_of (CutFailed replica refusal) =
     codes "replica " ++ (decimal replica ++ (codes ": the journal is not cut: " ++ (decimal (number_of refusal) ++ (codes " " ++ name_of refusal))))
 
@@ -77,6 +79,7 @@ level_of (Connected place peer) = Info
 level_of (FirstRequest place first) = Info
 level_of (Rejected place rejection) = Warn
 level_of (Ended place refusal) = end_level refusal
+level_of (TurnedAway replica) = Warn
 level_of (CutFailed replica refusal) = Warn
 
 -- the line of a message

@@ -1,4 +1,5 @@
 // What is known of the streams of a replica, and what was counted of it: for those who look, and of no account to what is answered.
+use crate::doors::Doors;
 use crate::sight::Heard;
 use std::alloc::Global;
 use std::collections::BTreeMap;
@@ -112,6 +113,8 @@ pub struct Board {
     /// Its open streams, by their numbers.
     pub streams: BTreeMap<u64, StreamStatus>,
     pub counts: Counts,
+    /// The connections that are served as streams, and those that weren't.
+    pub doors: Doors,
 }
 
 impl Board {
@@ -121,6 +124,7 @@ impl Board {
             alloc,
             streams: BTreeMap::new(alloc),
             counts: Counts::new(),
+            doors: Doors::new(),
         }
     }
 

@@ -73,5 +73,7 @@ fn serving_of(task: ServeTask, is_terminal: bool) -> Serving
         keep_going: task.keep_going,
         tells: is_terminal,
         logs: task.log,
+        max_streams: task.max_streams,
+        idle_seconds: task.idle_seconds,
     }
 }

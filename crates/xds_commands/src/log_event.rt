@@ -51,6 +51,8 @@ pub enum LogEvent {
     Rejected(Place, Rejection),
     /// A stream ended, by a refusal or without one.
     Ended(Place, Option<Refusal>),
+    /// A connection was closed at once, since this replica has as many streams as it may.
+    TurnedAway(u16),
     /// The journal of a replica couldn't be cut.
     CutFailed(u16, Refusal),
 }
@@ -88,9 +90,10 @@ impl LogEvent {
             | LogEvent::Connected(_, _)
             | LogEvent::FirstRequest(_, _)
             | LogEvent::Ended(_, None) => Level::Info,
-            LogEvent::Rejected(_, _) | LogEvent::Ended(_, Some(_)) | LogEvent::CutFailed(_, _) => {
-                Level::Warn
-            }
+            LogEvent::Rejected(_, _)
+            | LogEvent::Ended(_, Some(_))
+            | LogEvent::TurnedAway(_)
+            | LogEvent::CutFailed(_, _) => Level::Warn,
         }
     }
 
@@ -106,6 +109,7 @@ impl LogEvent {
             LogEvent::FirstRequest(place, first) => first_text(alloc, *place, first),
             LogEvent::Rejected(place, rejection) => rejected_text(alloc, *place, rejection),
             LogEvent::Ended(place, refusal) => ended_text(alloc, *place, *refusal),
+            LogEvent::TurnedAway(replica) => turned_text(alloc, *replica),
             LogEvent::CutFailed(replica, refusal) => cut_text(alloc, *replica, *refusal),
         }
     }
@@ -198,6 +202,14 @@ fn ended_text(alloc: Global, place: Place, refusal: Option<Refusal>) -> Result<S
         text.push_str(by.as_str())?;
     }
     Ok(text)
+}
+
+fn turned_text(alloc: Global, replica: u16) -> Result<String, Refusal>
+    ensures { IfOk result (λ t. string_bytes t ≡ message_of (LogEvent.TurnedAway replica)) }
+{
+    Ok(format!(in alloc;
+        "replica {replica}: a connection is closed, there are as many streams as there may be"
+    )?)
 }
 
 fn cut_text(alloc: Global, replica: u16, refusal: Refusal) -> Result<String, Refusal>

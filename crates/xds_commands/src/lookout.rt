@@ -1,4 +1,6 @@
 // What is known of a replica for those who look: threads note it, and it is told or shown.
+ghost use Rattle.std.specs.Prelude.{◌≡◌};
+
 use crate::board::Board;
 use crate::ending::Ending;
 use crate::log_event::{FirstRequest, LogEvent, Place, Rejection};
@@ -10,12 +12,22 @@ use xds_ledger::VariantName;
 use xds_message::Draft;
 use xds_resource::Refusal;
 
+/// What a replica's streams may be.
+#[derive(Clone, Copy, Debug, PartialEq, Eq)]
+pub struct Limits {
+    /// How many there are at a time, at most; any number, where none is said.
+    pub streams: Option<u16>,
+    /// Within how many seconds the first frame of each comes; at any time, where none is said.
+    pub idle_seconds: Option<u16>,
+}
+
 /// Where threads note what happens at a replica. It has a lock of its own, which is held for a note at a time, and never while the
 /// node's is taken.
 pub struct Lookout {
     alloc: Global,
     /// The number of the replica.
     replica: u16,
+    limits: Limits,
     board: Mutex<Board>,
     ending: Arc<Ending>,
 }
@@ -26,6 +38,7 @@ impl Drop for Lookout {
         let Lookout {
             alloc: _,
             replica: _,
+            limits: _,
             board: _,
             ending: _,
         } = self;
@@ -34,10 +47,11 @@ impl Drop for Lookout {
 
 impl Lookout {
     /// That of a replica at which nothing happened.
-    pub fn new(alloc: Global, replica: u16, ending: Arc<Ending>) -> Lookout {
+    pub fn new(alloc: Global, replica: u16, limits: Limits, ending: Arc<Ending>) -> Lookout {
         Lookout {
             alloc,
             replica,
+            limits,
             board: Mutex::new(Board::new(alloc)),
             ending,
         }
@@ -46,6 +60,29 @@ impl Lookout {
     /// What threads tell of the server.
     pub fn ending(&self) -> &Ending {
         &self.ending
+    }
+
+    /// Within how many seconds the first frame of a stream has to come.
+    pub fn idle_seconds(&self) -> Option<u16>
+        ensures { result ≡ self.now.limits.idle_seconds }
+    {
+        self.limits.idle_seconds
+    }
+
+    /// A connection came: whether it is served as a stream. If so, it leaves once it ends.
+    pub fn admit<R: Wait>(&self, rt: &R) -> bool {
+        let mut board = self.board.lock(rt);
+        let is_served = board.doors.admit(self.limits.streams);
+        drop(board);
+        if !is_served && self.ending.logs() {
+            self.log(rt, Ok(LogEvent::TurnedAway(self.replica)));
+        }
+        is_served
+    }
+
+    /// A connection that was served has ended.
+    pub fn leave<R: Wait>(&self, rt: &R) {
+        self.board.lock(rt).doors.leave();
     }
 
     fn place(&self, stream: u64) -> Place {

@@ -1,9 +1,11 @@
 // A server of some replicas, from its first line to its end.
-ghost use Rattle.std.specs.Prelude.{◌≤◌};
+ghost use Rattle.std.specs.Prelude.{◌≡◌, ◌≤◌};
+ghost use Rattle.xds_commands.specs.Servings.{limits_of};
 
 use crate::change::Change;
 use crate::ending::{End, Ending, Telling};
 use crate::log_event::LogEvent;
+use crate::lookout::Limits;
 use crate::machine::{Machine, Runtime};
 use crate::replica::{Sends, Sockets, Takes};
 use crate::serve_telling::{PortFault, tell, tell_line, tell_port, tell_replicas, tell_until_end};
@@ -35,6 +37,10 @@ pub struct Serving {
     pub tells: bool,
     /// Whether what an operator cares for is told, a line each.
     pub logs: bool,
+    /// How many streams a replica has at a time, at most; any number, where none is said.
+    pub max_streams: Option<u16>,
+    /// Within how many seconds the first frame of a stream comes; at any time, where none is said.
+    pub idle_seconds: Option<u16>,
 }
 
 // What the replicas are started with, and what changes of the input are sent by.
@@ -141,7 +147,7 @@ where
     let wires = wired(alloc, sockets)?;
     let ending = Arc::new(alloc, ending_of(alloc, serving))?;
     log_replicas(rt, &ending, serving);
-    start(rt, alloc, input, wires, serving.keep_going, &ending)?;
+    start(rt, alloc, input, wires, serving, &ending)?;
     Ok(tell_until_end(rt, alloc, errors, &ending))
 }
 
@@ -152,6 +158,16 @@ fn ending_of(alloc: Global, serving: Serving) -> Ending {
         events: serving.logs,
     };
     Ending::after(alloc, serving.streams, telling)
+}
+
+// What the streams of a replica may be.
+fn limits_of(serving: Serving) -> Limits
+    ensures { result ≡ limits_of serving }
+{
+    Limits {
+        streams: serving.max_streams,
+        idle_seconds: serving.idle_seconds,
+    }
 }
 
 // Tells which replica listens where, where such is told.
@@ -170,7 +186,7 @@ fn start<R, I>(
     alloc: Global,
     input: I,
     wires: Wiring,
-    keep_going: bool,
+    serving: Serving,
     ending: &Arc<Ending>,
 ) -> Result<(), Refusal>
 where
@@ -178,10 +194,11 @@ where
     I: Read + Drop + Send + 'static,
 {
     let (senders, replicas) = wires.apart();
-    let mut done = start_input(rt, alloc, input, senders, keep_going, ending);
+    let mut done = start_input(rt, alloc, input, senders, serving.keep_going, ending);
+    let limits = limits_of(serving);
     let mut index = 0u16;
     for replica in replicas {
-        done = both(done, start_replica(rt, alloc, index, replica, ending));
+        done = both(done, start_replica(rt, alloc, index, replica, limits, ending));
         index = index.saturating_add(1);
     }
     done

@@ -5,7 +5,7 @@ use crate::change::Change;
 use crate::ending::{End, Ending};
 use crate::input::take_input;
 use crate::keeping::keep_input;
-use crate::lookout::Lookout;
+use crate::lookout::{Limits, Lookout};
 use crate::machine::{Machine, Runtime};
 use crate::replica::{Replica, run_replica};
 use crate::served::Served;
@@ -29,6 +29,7 @@ pub(crate) fn start_replica<R>(
     alloc: Global,
     index: u16,
     replica: Replica,
+    limits: Limits,
     ending: &Arc<Ending>,
 ) -> Result<(), Refusal>
 where
@@ -36,7 +37,7 @@ where
 {
     let number = index.saturating_add(1);
     match Opened::<Line>::new(alloc) {
-        Ok(opened) => start_named::<R, Brand>(rt, alloc, opened, number, replica, ending),
+        Ok(opened) => start_named::<R, Brand>(rt, alloc, opened, number, replica, limits, ending),
         Err(_) => {
             drop(replica);
             Err(Refusal::OutOfMemory)
@@ -51,6 +52,7 @@ fn start_named<R, N>(
     opened: Opened<Line>,
     number: u16,
     replica: Replica,
+    limits: Limits,
     ending: &Arc<Ending>,
 ) -> Result<(), Refusal>
 where
@@ -60,7 +62,7 @@ where
     requires first { 1 ≤ number }
     requires own { number ≡ N.replica }
 {
-    let lookout = match watched_by(alloc, number, ending) {
+    let lookout = match watched_by(alloc, number, limits, ending) {
         Ok(lookout) => lookout,
         Err(refusal) => {
             drop(replica);
@@ -80,9 +82,10 @@ where
 fn watched_by(
     alloc: Global,
     number: u16,
+    limits: Limits,
     ending: &Arc<Ending>,
 ) -> Result<Arc<Lookout>, Refusal> {
-    let lookout = Lookout::new(alloc, number, share(ending)?);
+    let lookout = Lookout::new(alloc, number, limits, share(ending)?);
     Ok(Arc::new(alloc, lookout)?)
 }
 

@@ -1,5 +1,6 @@
 // The streams of a replica: each connection has a thread that reads its requests and one that writes its responses.
 use crate::gate::NoGate;
+use crate::idle::IdleReader;
 use crate::lookout::Lookout;
 use crate::served::Served;
 use crate::workers::{Shared, shares, start_worker};
@@ -35,7 +36,8 @@ where
     }
 }
 
-// Serves a connection in a thread of its own. Where there is none, or no memory, it is closed.
+// Serves a connection in a thread of its own. Where there is none, or no memory, or there are as many streams as there may be, it is
+// closed.
 fn start_stream<R, A>(
     rt: R,
     alloc: Global,
@@ -44,19 +46,27 @@ fn start_stream<R, A>(
     lookout: &Arc<Lookout>,
 )
 where
-    R: Wait + Threads + Copy + Drop + Send + Sync + 'static,
+    R: Wait + Threads + Clock + Copy + Drop + Send + Sync + 'static,
     A: Shared,
 {
-    let _ = start_worker(&rt, shares(node, lookout), move |rt, (node, lookout)| {
+    if !lookout.admit(&rt) {
+        drop(socket);
+        return;
+    }
+    let started = start_worker(&rt, shares(node, lookout), move |rt, (node, lookout)| {
         serve_stream(rt, alloc, &socket, &*node, &lookout);
+        lookout.leave(rt);
         lookout.ending().stream_ended(rt);
     });
+    if started.is_err() {
+        lookout.leave(&rt);
+    }
 }
 
 // One stream, from its opening to its end.
 fn serve_stream<R, A>(rt: &R, alloc: Global, socket: &TcpStream, node: &A, lookout: &Lookout)
 where
-    R: Wait + Threads + Sync,
+    R: Wait + Threads + Clock + Sync,
     A: Shared,
 {
     let (Ok(mut reading), Ok(mut writing)) = (node.seat(rt), node.seat(rt)) else {
@@ -66,6 +76,7 @@ where
         return;
     };
     lookout.opened(rt, stream, peer_text(alloc, socket));
+    let seconds = lookout.idle_seconds();
     let ended = Mutex::new(Ok(()));
     let shared = &ended;
     thread::scope(thread::scope_env(), rt, |scope| {
@@ -74,7 +85,7 @@ where
             note_end(rt, shared, written);
         });
         if writer.is_ok() {
-            let read = read_all(rt, alloc, socket, node, &mut reading, stream);
+            let read = read_all(rt, alloc, socket, seconds, node, &mut reading, stream);
             note_end(rt, shared, read);
         } else {
             close(rt, node, &mut reading, stream);
@@ -115,16 +126,17 @@ fn write_all<R: Wait, A: Served>(
     written
 }
 
-// Reads what a stream is asked until it is over.
-fn read_all<R: Wait, A: Served>(
+// Reads what a stream is asked until it is over. Its first frame has to come within so many seconds, where that is said.
+fn read_all<R: Wait + Clock, A: Served>(
     rt: &R,
     alloc: Global,
     socket: &TcpStream,
+    seconds: Option<u16>,
     node: &A,
     seat: &mut A::Seat,
     stream: u64,
 ) -> Result<(), Refusal> {
-    let mut from = Counted::new(socket);
+    let mut from = Counted::new(IdleReader::new(rt, socket, seconds));
     serve_reader(rt, alloc, node, seat, stream, &mut from, &NoGate)
 }
 

@@ -46,6 +46,16 @@ impl Deadline {
         Deadline { at }
     }
 
+    /// Never.
+    pub(crate) fn never() -> Deadline {
+        Deadline { at: None }
+    }
+
+    /// Whether it comes at all.
+    pub(crate) fn is_set(self) -> bool {
+        self.at.is_some()
+    }
+
     /// How long it is until then, if it comes at all: no time, once it has come.
     pub(crate) fn left<C: Clock>(self, clock: &C) -> io::Result<Option<Duration>> {
         match self.at {

@@ -4,6 +4,7 @@ mod clients;
 mod endings;
 mod inputs;
 mod keeping;
+mod limits;
 mod logging;
 mod servers;
 mod streams;

@@ -35,7 +35,9 @@ one_serve rows s t h k =
     let streams = one_found (IsNumber rows (codes "streams")) (one_number rows (codes "streams")) s.streams t.streams h.streams k.streams in
     let keep_going = sym h.keep_going ∙ k.keep_going in
     let log = sym h.log ∙ k.log in
-    λ i. record { replicas = replicas i; port = port i; rest_port = rest_port i; streams = streams i; keep_going = keep_going i; log = log i }
+    let max_streams = one_found (IsNumber rows (codes "max-streams")) (one_number rows (codes "max-streams")) s.max_streams t.max_streams h.max_streams k.max_streams in
+    let idle_seconds = one_found (IsNumber rows (codes "idle-seconds")) (one_number rows (codes "idle-seconds")) s.idle_seconds t.idle_seconds h.idle_seconds k.idle_seconds in
+    λ i. record { replicas = replicas i; port = port i; rest_port = rest_port i; streams = streams i; keep_going = keep_going i; log = log i; max_streams = max_streams i; idle_seconds = idle_seconds i }
 
 one_client : (rows : List Row) (c d : Watch) → AsksClient rows c → AsksClient rows d → c ≡ d
 one_client rows c d h k =

@@ -78,6 +78,8 @@ pub record AsksServe (rows : List Row) (task : ServeTask) : Type 0 where
   pub streams : Finds (IsNumber rows (codes "streams")) task.streams
   pub keep_going : is_given (codes "keep-going") rows ≡ task.keep_going
   pub log : is_given (codes "log") rows ≡ task.log
+  pub max_streams : Finds (IsNumber rows (codes "max-streams")) task.max_streams
+  pub idle_seconds : Finds (IsNumber rows (codes "idle-seconds")) task.idle_seconds
   pub ports : task.port + task.replicas ≤ 65536
   pub rest_ports : task.rest_port + task.replicas ≤ 65536
   pub apart : are_apart task.port task.rest_port task.replicas ≡ true

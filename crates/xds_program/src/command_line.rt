@@ -83,7 +83,12 @@ fn serve_command<'a>(alloc: Global) -> Result<Command<'a>, AllocError>
     let help = "Tells a line that is refused, and reads on";
     let serve = serve_start(alloc)?;
     let serve = with_option(serve, flag_option(alloc, "keep-going", help))?;
-    with_option(serve, flag_option(alloc, "log", "Tells what an operator cares for"))
+    let help = "Tells what an operator cares for";
+    let serve = with_option(serve, flag_option(alloc, "log", help))?;
+    let help = "At most this many streams a replica";
+    let serve = with_option(serve, number_option(alloc, "max-streams", "N", help))?;
+    let help = "Ends a stream without a first frame after this";
+    with_option(serve, number_option(alloc, "idle-seconds", "T", help))
 }
 
 // `xds serve`, with the options that say what is served where, and for how long.

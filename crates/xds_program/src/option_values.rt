@@ -86,6 +86,8 @@ fn serving(given: &ArgMatches) -> Option<ServeTask>
     let streams = number(given, "streams");
     let keep_going = is_given(given, "keep-going");
     let log = is_given(given, "log");
+    let max_streams = number(given, "max-streams");
+    let idle_seconds = number(given, "idle-seconds");
     if has_ports(port, replicas)
         && has_ports(rest_port, replicas)
         && are_apart(port, rest_port, replicas)
@@ -97,6 +99,8 @@ fn serving(given: &ArgMatches) -> Option<ServeTask>
             streams,
             keep_going,
             log,
+            max_streams,
+            idle_seconds,
         })
     } else {
         None

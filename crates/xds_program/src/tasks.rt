@@ -35,6 +35,10 @@ pub struct ServeTask {
     pub keep_going: bool,
     /// Whether what an operator cares for is told.
     pub log: bool,
+    /// How many streams a replica has at a time, from 1; any number, where there is none.
+    pub max_streams: Option<u16>,
+    /// Within how many seconds the first frame of a stream comes, from 1; at any time, where there is none.
+    pub idle_seconds: Option<u16>,
 }
 
 /// How a client asks on a stream: in which of the protocol's two variants.

@@ -53,10 +53,28 @@ fn told_serve(alloc: Global, serve: ServeTask) -> Result<String, Fail> {
         streams,
         keep_going,
         log,
+        max_streams,
+        idle_seconds,
     } = serve;
     let keeps = if keep_going { " keep-going" } else { "" };
     let logs = if log { " log" } else { "" };
-    Ok(format!(in alloc; "serve {replicas} {port} {rest_port} {streams:?}{keeps}{logs}")?)
+    let limits = limits_told(alloc, max_streams, idle_seconds)?;
+    let limits = limits.as_str();
+    Ok(format!(in alloc;
+        "serve {replicas} {port} {rest_port} {streams:?}{keeps}{logs}{limits}"
+    )?)
+}
+
+// The limits of streams, where there are some.
+fn limits_told(
+    alloc: Global,
+    max_streams: Option<u16>,
+    idle_seconds: Option<u16>,
+) -> Result<String, Fail> {
+    if max_streams.is_none() && idle_seconds.is_none() {
+        return Ok(String::new(alloc));
+    }
+    Ok(format!(in alloc; " {max_streams:?} {idle_seconds:?}")?)
 }
 
 fn told_client(alloc: Global, client: &ClientTask) -> Result<String, Fail> {
@@ -166,6 +184,10 @@ serve --keep-going --streams 1 --replicas 1 => serve 1 18000 18100 Some(1) keep-
 serve --keep-going --keep-going => wrong
 serve --log --keep-going => serve 2 18000 18100 None keep-going log
 serve --log --log => wrong
+serve --max-streams 5 => serve 2 18000 18100 None Some(5) None
+serve --idle-seconds 7 --max-streams 1 => serve 2 18000 18100 None Some(1) Some(7)
+serve --max-streams 0 => wrong
+serve --idle-seconds 0 => wrong
 serve --keep-going=true => wrong
 serve --keep-going 1 => wrong
 serve --help => help",

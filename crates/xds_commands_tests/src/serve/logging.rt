@@ -3,12 +3,12 @@ use crate::serve::clients::{ask, connected, response};
 use crate::serve::servers::{Came, logging, started};
 use std::alloc::Global;
 use std::io::Write;
-use std::net::TcpStream;
+use std::net::{Net, TcpListener, TcpStream};
 use std::str;
 use std::test::Fail;
 use std::thread::JoinHandle;
 use xds_cases::cases::{Outcome, hold};
-use xds_commands::excerpt;
+use xds_commands::{Runtime, excerpt};
 
 const ASKS_AS_C: &str = "{\"node\":{\"cluster\":\"g\",\"id\":\"c\"},\
      \"typeUrl\":\"type.googleapis.com/envoy.config.cluster.v3.Cluster\"}";
@@ -35,7 +35,11 @@ fn holds(text: &str, part: &str) -> Result<(), Fail> {
 }
 
 // That a server ended well, and told each of these parts.
-fn told(rt: &HostRuntime, server: JoinHandle<Came>, parts: &[&str]) -> Result<(), Fail> {
+fn told<R: Runtime + Net<Listener = TcpListener, Stream = TcpStream>>(
+    rt: &R,
+    server: JoinHandle<Came>,
+    parts: &[&str],
+) -> Result<(), Fail> {
     let came = server.join(rt);
     let text = str::from_utf8(came.errors.as_slice()).unwrap_or("no text");
     for part in parts {

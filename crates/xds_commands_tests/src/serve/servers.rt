@@ -25,6 +25,8 @@ pub(crate) fn serving(replicas: u16, port: u16, streams: Option<u16>) -> Serving
         keep_going: false,
         tells: false,
         logs: false,
+        max_streams: None,
+        idle_seconds: None,
     }
 }
 
@@ -98,6 +100,19 @@ pub(crate) fn ends_well<R: Runtime + Net<Listener = TcpListener, Stream = TcpStr
     errors: &str,
 ) -> Result<(), Fail> {
     came_to(&server.join(rt), 0, errors)
+}
+
+/// That a server which was started ends well, whatever it tells.
+pub(crate) fn came_well<R: Runtime + Net<Listener = TcpListener, Stream = TcpStream>>(
+    rt: &R,
+    server: JoinHandle<Came>,
+) -> Result<(), Fail> {
+    let came = server.join(rt);
+    if came.status == 0 {
+        return Ok(());
+    }
+    let status = came.status;
+    Err(Fail::new(format_args!("{status}")))
 }
 
 // Whether a server came to this status, and told this.
