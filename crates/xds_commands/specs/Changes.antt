@@ -47,7 +47,7 @@ only_change (Some (Some said)) = ok_or (option_map Some (written_by said)) BadSc
 
 -- as many bytes as a line may have
 abbrev pub most_line : ℕ
-most_line = 16777216
+most_line = 8388608
 
 -- what a line changes that isn't longer; none where it is skipped
 abbrev pub change_within : List ℕ → Result (Option Written) Refusal

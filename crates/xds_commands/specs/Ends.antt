@@ -12,7 +12,8 @@
 --     IsOf           the subscription is the one that a client's task asks for
 --     HasEnded       the status of a client that ended so, and what is told of that
 --     EndsClient     `xds client`: the client of its task ran over a connection, and its end is told
-use Rattle.std.specs.Prelude.{◌≡◌, ◌⊎◌, ◌++◌, ℕ, List, Option, Some, Result, Ok, Err, codes, decimal, ⊤}
+--     GoesOn         what is left to do of a run: nothing, or the task that it was handed
+use Rattle.std.specs.Prelude.{◌≡◌, ◌⊎◌, ◌≤◌, ◌++◌, ℕ, List, Option, Some, Result, Ok, Err, codes, decimal, ⊤}
 use Rattle.http.specs.declared.request.Request.{Request}
 use Rattle.http_body_util.specs.declared.full.Full.{Full}
 use Rattle.xds_frames.specs.Devices.{Device, Stays, Tells}
@@ -27,6 +28,8 @@ use Rattle.xds_client.specs.declared.subscription.StreamVariant.TheVariants as v
 use Rattle.xds_client.specs.declared.subscription.Subscription.{Subscription}
 use Rattle.xds_client.specs.Running.{RunsAt}
 use Rattle.xds_client.specs.Subscribing.{names_of}
+use Rattle.xds_program.specs.declared.run.Ran.{Ran}
+use Rattle.xds_program.specs.declared.run.Ran.TheVariants.{Done, Serve, Client, Poll}
 use Rattle.xds_program.specs.declared.tasks.StreamVariant.{StreamVariant}
 use Rattle.xds_program.specs.declared.tasks.StreamVariant.TheVariants.{Sotw, Delta}
 use Rattle.xds_program.specs.Outcomes.{Prints, refusal_line}
@@ -102,3 +105,10 @@ HasEnded task (Err e) status errors = (status ≡ 1) × TellsEnd task.seconds e 
 abbrev pub EndsClient : Watch → ℕ → Device → Device → Type 0
 EndsClient task status output errors =
     (s : Subscription) × (r : Result (Unit {0}) Refusal) × IsOf task s × RunsAt s r output × HasEnded task r status errors
+
+-- What is left to do of a run: nothing, where it is done; or the task that it was handed. A server prints nothing on the output.
+abbrev pub GoesOn : Ran → ℕ → Device → Device → Type 0
+GoesOn (Done done) status output errors = (status ≡ done) × Stays output × Stays errors
+GoesOn (Serve task) status output errors = (status ≤ 1) × Stays output
+GoesOn (Client task) status output errors = EndsClient task status output errors
+GoesOn (Poll task) status output errors = EndsPoll task status output errors

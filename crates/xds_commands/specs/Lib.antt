@@ -7,7 +7,9 @@ pub mod Keeping
 pub mod Limits
 pub mod Logging
 pub mod Messages
+pub mod Metrics
 pub mod Notes
 pub mod Responses
+pub mod Routes
 pub mod Ends
 pub mod Servings

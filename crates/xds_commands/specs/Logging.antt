@@ -22,9 +22,9 @@ use Rattle.xds_commands.specs.declared.log_event.Rejection.{Rejection}
 use Rattle.xds_commands.specs.declared.log_event.LogEvent.{LogEvent}
 use Rattle.xds_commands.specs.declared.log_event.LogEvent.TheVariants.{Listening, Connected, FirstRequest, Rejected, Ended, TurnedAway, CutFailed}
 
--- what stands for a character of a text that a client sent: a question mark for one of control, and for a quote
+-- what stands for a character of a text that a client sent: a question mark for one of control, for a quote, and for a backslash
 abbrev pub shown_char : ℕ → ℕ
-shown_char c = if nat_lt c 32 || c == 34 || (nat_le 127 c && nat_le c 159) then 63 else c
+shown_char c = if nat_lt c 32 || c == 34 || c == 92 || (nat_le 127 c && nat_le c 159) then 63 else c
 
 -- the beginning of such a text, as it is shown
 abbrev pub excerpt : List ℕ → List ℕ

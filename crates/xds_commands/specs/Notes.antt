@@ -2,6 +2,7 @@
 --     caused_line    the line of a line of the input that is refused, with what is wrong of it
 --     refused_line   the same, or without that, where it isn't known
 --     note_line      the line of a note
+--     stamp_line     the line of a line that was made a write, which has this stamp
 use Rattle.std.specs.Prelude.{ℕ, List, ◌++◌, Option, Some, None, codes, decimal}
 use Rattle.xds_resource.specs.declared.refusal.Refusal.{Refusal}
 use Rattle.xds_resource.specs.Refusals.{number_of, name_of}
@@ -31,3 +32,8 @@ abbrev pub note_line : Note → List ℕ
 note_line (Refused line fault) = refused_line line fault
 note_line (Event event) = event_line event
 note_line (Missed count) = decimal count ++ codes " lines are left out\n"
+
+-- the line of a line that was made a write, which has this stamp
+abbrev pub stamp_line : ℕ → ℕ → ℕ → List ℕ
+stamp_line line counter writer =
+    codes "line " ++ (decimal line ++ (codes ": " ++ (decimal counter ++ (codes "-" ++ (decimal writer ++ codes "\n")))))

@@ -18,6 +18,7 @@ serving_of task is_terminal = record {
   logs = task.log;
   max_streams = task.max_streams;
   idle_seconds = task.idle_seconds;
+  admin_port = task.admin_port;
 }
 
 -- what the streams of a replica may be then

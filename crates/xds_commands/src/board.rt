@@ -1,8 +1,10 @@
 // What is known of the streams of a replica, and what was counted of it: for those who look, and of no account to what is answered.
 use crate::doors::Doors;
+use crate::numbers::{Numbers, RestCounts, StreamCounts};
 use crate::sight::Heard;
 use std::alloc::Global;
 use std::collections::BTreeMap;
+use std::time::Instant;
 use xds_ledger::VariantName;
 use xds_message::Draft;
 use xds_resource::{Refusal, TypeName};
@@ -115,6 +117,16 @@ pub struct Board {
     pub counts: Counts,
     /// The connections that are served as streams, and those that weren't.
     pub doors: Doors,
+    pub rest: RestCounts,
+    pub records: u64,
+    pub cuts: u64,
+    pub failed_cuts: u64,
+    pub parts: u64,
+    pub lost_parts: u64,
+    pub refused: u64,
+    // When the last change was made, and how many milliseconds later the last response was polled.
+    changed: Option<Instant>,
+    pub lag: Option<u64>,
 }
 
 impl Board {
@@ -125,6 +137,71 @@ impl Board {
             streams: BTreeMap::new(alloc),
             counts: Counts::new(),
             doors: Doors::new(),
+            rest: RestCounts::new(),
+            records: 0,
+            cuts: 0,
+            failed_cuts: 0,
+            parts: 0,
+            lost_parts: 0,
+            refused: 0,
+            changed: None,
+            lag: None,
+        }
+    }
+
+    /// What was counted by now.
+    pub fn numbers(&self) -> Numbers {
+        let mut streams = StreamCounts::new();
+        for status in self.streams.values() {
+            streams.count(status.variant);
+        }
+        Numbers {
+            types: self.counts,
+            streams,
+            doors: self.doors,
+            rest: self.rest,
+            records: self.records,
+            cuts: self.cuts,
+            failed_cuts: self.failed_cuts,
+            parts: self.parts,
+            lost_parts: self.lost_parts,
+            refused: self.refused,
+            lag: self.lag,
+        }
+    }
+
+    /// An event left a record, or none. A part that another replica told may be lost so.
+    pub fn count(&mut self, is_part: bool, left_record: bool) {
+        if left_record {
+            self.records = self.records.saturating_add(1);
+        }
+        if is_part && left_record {
+            self.parts = self.parts.saturating_add(1);
+        }
+        if is_part && !left_record {
+            self.lost_parts = self.lost_parts.saturating_add(1);
+        }
+    }
+
+    /// The journal was cut, or couldn't be.
+    pub fn cut(&mut self, went_well: bool) {
+        if went_well {
+            self.cuts = self.cuts.saturating_add(1);
+        } else {
+            self.failed_cuts = self.failed_cuts.saturating_add(1);
+        }
+    }
+
+    /// A change was made now.
+    pub fn change(&mut self, now: Option<Instant>) {
+        self.changed = now;
+    }
+
+    /// A response was polled now.
+    pub fn polled(&mut self, now: Option<Instant>) {
+        if let (Some(changed), Some(now)) = (self.changed, now) {
+            let lag = now.saturating_duration_since(changed);
+            self.lag = Some(u64::try_from(lag.as_millis()).unwrap_or(u64::MAX));
         }
     }
 

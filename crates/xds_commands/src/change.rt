@@ -12,7 +12,7 @@ use xds_resource::Refusal;
 use xds_world::{Command, WorldEvent, read_line};
 
 /// As many bytes as a line of the input may have.
-pub const MAX_LINE: usize = 16_777_216;
+pub const MAX_LINE: usize = 8_388_608;
 
 /// A write that a line of the input makes at a replica.
 #[derive(Drop)]

@@ -1,5 +1,7 @@
 // A run of the program with a network beside it.
 ghost use Rattle.std.specs.Prelude.{◌≡◌};
+ghost use Rattle.xds_frames.specs.Devices.{seen};
+ghost use Rattle.xds_commands.specs.Ends.{GoesOn};
 ghost use Rattle.xds_commands.specs.Servings.{serving_of};
 
 use crate::machine::{Machine, Runtime};
@@ -52,6 +54,7 @@ where
     I: Read + Drop + Send + 'static,
     O: Write,
     E: Write,
+    ensures { GoesOn ran result (seen O.contents output.old output.new) (seen E.contents errors.old errors.new) }
 {
     match ran {
         Ran::Done(status) => status,
@@ -75,5 +78,6 @@ fn serving_of(task: ServeTask, is_terminal: bool) -> Serving
         logs: task.log,
         max_streams: task.max_streams,
         idle_seconds: task.idle_seconds,
+        admin_port: task.admin_port,
     }
 }

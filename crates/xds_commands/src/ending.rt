@@ -5,6 +5,7 @@ use crate::note::Note;
 use std::alloc::Global;
 use std::collections::VecDeque;
 use std::sync::{Condvar, Mutex, MutexGuard, Wait};
+use std::time::{Clock, Duration, Instant};
 use xds_resource::Refusal;
 
 /// Why a server ends.
@@ -12,6 +13,8 @@ use xds_resource::Refusal;
 pub enum End {
     /// As many streams have ended as were asked for.
     Streams,
+    /// An operator stopped it.
+    Stopped,
     /// A line of the input, counted from 1, is refused.
     Line(u64, Refusal),
     /// The server can't go on.
@@ -47,6 +50,8 @@ struct State {
     notes: VecDeque<Note>,
     // How many notes had no room.
     missed: u64,
+    // How many frames of responses are being written.
+    writing: u64,
 }
 
 // Written out: docs/PROVING.md, "Drops".
@@ -57,6 +62,7 @@ impl Drop for State {
             end: _,
             notes: _,
             missed: _,
+            writing: _,
         } = self;
     }
 }
@@ -132,6 +138,8 @@ pub struct Ending {
     told: Condvar,
     // There is room for notes.
     room: Condvar,
+    // No frame is being written.
+    quiet: Condvar,
     telling: Telling,
 }
 
@@ -142,6 +150,7 @@ impl Drop for Ending {
             state: _,
             told: _,
             room: _,
+            quiet: _,
             telling: _,
         } = self;
     }
@@ -158,9 +167,11 @@ impl Ending {
                 end: None,
                 notes: VecDeque::new(alloc),
                 missed: 0,
+                writing: 0,
             }),
             told: Condvar::new(),
             room: Condvar::new(),
+            quiet: Condvar::new(),
             telling,
         }
     }
@@ -247,6 +258,53 @@ impl Ending {
             state = self.told.wait(rt, state);
         }
         unreachable!()
+    }
+
+    /// Whether the server ends.
+    pub fn has_come<R: Wait>(&self, rt: &R) -> bool {
+        self.state.lock(rt).end.is_some()
+    }
+
+    /// A frame of a response is begun. Once the server ends it waits for ever.
+    pub fn begin_frame<R: Wait>(&self, rt: &R) {
+        let mut state = self.state.lock(rt);
+        for _ in rt.forever() {
+            if state.end.is_none() {
+                state.writing = state.writing.saturating_add(1);
+                return;
+            }
+            state = self.quiet.wait(rt, state);
+        }
+    }
+
+    /// A frame that was begun is written, or given up.
+    pub fn end_frame<R: Wait>(&self, rt: &R) {
+        let mut state = self.state.lock(rt);
+        state.writing = state.writing.saturating_sub(1);
+        drop(state);
+        self.quiet.notify_all();
+    }
+
+    /// Waits until no frame is being written, but no longer than this time.
+    pub fn drain<R: Wait + Clock>(&self, rt: &R, time: Duration) {
+        let Ok(begun) = Instant::now(rt) else {
+            return;
+        };
+        let mut state = self.state.lock(rt);
+        for _ in 0..u64::MAX {
+            if state.writing == 0 {
+                return;
+            }
+            let Ok(passed) = begun.elapsed(rt) else {
+                return;
+            };
+            let left = time.saturating_sub(passed);
+            if left.is_zero() {
+                return;
+            }
+            let (next, _) = self.quiet.wait_timeout(rt, state, left);
+            state = next;
+        }
     }
 
     /// Waits for the end.

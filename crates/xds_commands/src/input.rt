@@ -9,6 +9,7 @@ use crate::change::Change;
 use crate::ending::{End, Ending};
 use crate::fault::Fault;
 use crate::held::{Held, Taken};
+use crate::order::Order;
 use crossbeam_channel::Sender;
 use std::alloc::Global;
 use std::io::{ErrorKind, Read};
@@ -33,7 +34,7 @@ pub trait Hands {
 /// The replicas of a server, each by what changes are sent to its thread by. The first has number 1.
 #[derive(Drop)]
 pub struct Replicas<'a> {
-    pub senders: &'a [Sender<Change>],
+    pub senders: &'a [Sender<Order>],
     /// Where it is told that a replica isn't there.
     pub ending: &'a Ending,
 }
@@ -46,7 +47,8 @@ impl<'a> Hands for Replicas<'a> {
 
     fn hand<R: Wait>(&mut self, rt: &R, change: Change) {
         let line = change.line;
-        if !send(rt, self.senders, change.replica, change) {
+        let replica = change.replica;
+        if !send(rt, self.senders, replica, Order::Change(change)) {
             self.ending.refuse(rt, line, Fault::by(Cause::NoSuchReplica));
         }
     }
@@ -58,7 +60,7 @@ pub fn take_input<I: Read, R: Wait>(
     rt: &R,
     alloc: Global,
     input: &mut I,
-    senders: &[Sender<Change>],
+    senders: &[Sender<Order>],
     ending: &Ending,
 ) {
     let mut replicas = Replicas { senders, ending };

@@ -3,11 +3,11 @@ ghost use Rattle.std.specs.Prelude.{◌≡◌};
 ghost use Rattle.xds_commands.specs.Changes.{change_of};
 ghost use Rattle.xds_commands.specs.Keeping.{HandsSaid, KeepsInput};
 
-use crate::change::Change;
 use crate::ending::{End, Ending};
 use crate::fault::Fault;
 use crate::input::{Hands, Replicas};
 use crate::kept::{Kept, Said};
+use crate::order::Order;
 use crossbeam_channel::Sender;
 use std::alloc::Global;
 use std::io::{ErrorKind, Read};
@@ -48,7 +48,7 @@ pub fn keep_input<I: Read, R: Wait>(
     rt: &R,
     alloc: Global,
     input: &mut I,
-    senders: &[Sender<Change>],
+    senders: &[Sender<Order>],
     ending: &Ending,
 ) {
     let mut replicas = Replicas { senders, ending };

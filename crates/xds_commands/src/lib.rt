@@ -2,6 +2,7 @@
 // connect to, in one process.
 #![tactic(auto)]
 
+pub mod admin;
 pub mod board;
 pub mod cause;
 pub mod change;
@@ -19,7 +20,11 @@ pub mod kept;
 pub mod log_event;
 pub mod lookout;
 pub mod machine;
+pub mod metrics;
 pub mod note;
+pub mod numbers;
+pub mod order;
+mod pages;
 pub mod polling;
 pub mod progress;
 pub mod replica;
@@ -29,6 +34,7 @@ pub mod served;
 pub mod server;
 pub mod sight;
 mod starting;
+mod status_text;
 pub mod streams;
 mod telling;
 mod timed;
@@ -39,6 +45,7 @@ mod weights;
 pub mod wires;
 pub mod workers;
 
+pub use admin::{Route, routed};
 pub use cause::{Cause, cause_of};
 pub use change::{Change, MAX_LINE, read_change};
 pub use commands::run;
@@ -54,7 +61,10 @@ pub use kept::{Kept, Said};
 pub use log_event::{FirstRequest, LogEvent, MOST_SHOWN, Place, Rejection, excerpt};
 pub use lookout::{Limits, Lookout};
 pub use machine::{Machine, Runtime};
+pub use metrics::{Kind, Metrics};
 pub use note::Note;
+pub use numbers::{Numbers, RestCounts, StreamCounts};
+pub use order::{Look, Order};
 pub use progress::{Progress, ProgressReader};
 pub use response::response_at;
 pub use served::Served;

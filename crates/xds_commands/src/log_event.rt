@@ -57,11 +57,11 @@ pub enum LogEvent {
     CutFailed(u16, Refusal),
 }
 
-// What stands for a character: a question mark for one of control, and for a quote.
+// What stands for a character: a question mark for one of control, for a quote, and for a backslash.
 fn shown_char(c: char) -> char
     ensures { result ≡ shown_char c }
 {
-    if c < ' ' || c == '"' || (c >= '\u{7f}' && c <= '\u{9f}') {
+    if c < ' ' || c == '"' || c == '\\' || (c >= '\u{7f}' && c <= '\u{9f}') {
         '?'
     } else {
         c
@@ -69,7 +69,7 @@ fn shown_char(c: char) -> char
 }
 
 /// The beginning of a text that a client sent, as it is shown: at most [`MOST_SHOWN`] characters, with a question mark for each of
-/// control and for each quote. So it is no more than a part of a line.
+/// control, each quote and each backslash. So it is no more than a part of a line.
 pub fn excerpt(alloc: Global, text: &str) -> Result<String, Refusal>
     ensures { IfOk result (λ t. string_bytes t ≡ excerpt text.now) }
 {

@@ -4,9 +4,12 @@ ghost use Rattle.std.specs.Prelude.{◌≡◌};
 use crate::board::Board;
 use crate::ending::Ending;
 use crate::log_event::{FirstRequest, LogEvent, Place, Rejection};
+use crate::numbers::Numbers;
 use crate::sight::{Heard, Sight};
+use crate::status_text::streams_text;
 use std::alloc::Global;
 use std::sync::{Arc, Mutex, Wait};
+use std::time::Instant;
 use xds_core::Reply;
 use xds_ledger::VariantName;
 use xds_message::Draft;
@@ -69,8 +72,11 @@ impl Lookout {
         self.limits.idle_seconds
     }
 
-    /// A connection came: whether it is served as a stream. If so, it leaves once it ends.
+    /// A connection came: whether it is served as a stream. If so, it leaves once it ends. None is once the server ends.
     pub fn admit<R: Wait>(&self, rt: &R) -> bool {
+        if self.ending.has_come(rt) {
+            return false;
+        }
         let mut board = self.board.lock(rt);
         let is_served = board.doors.admit(self.limits.streams);
         drop(board);
@@ -117,26 +123,74 @@ impl Lookout {
         }
     }
 
+    /// The number of the replica.
+    pub fn replica(&self) -> u16
+        ensures { result ≡ self.now.replica }
+    {
+        self.replica
+    }
+
+    /// What was counted by now.
+    pub fn numbers<R: Wait>(&self, rt: &R) -> Numbers {
+        self.board.lock(rt).numbers()
+    }
+
+    /// What is known of the open streams, as a list of JSON.
+    pub fn streams<R: Wait>(&self, rt: &R, alloc: Global) -> Result<String, Refusal> {
+        streams_text(alloc, &self.board.lock(rt))
+    }
+
+    /// The journal was cut.
+    pub fn cut<R: Wait>(&self, rt: &R) {
+        self.board.lock(rt).cut(true);
+    }
+
     /// The journal couldn't be cut.
     pub fn cut_failed<R: Wait>(&self, rt: &R, refusal: Refusal) {
+        self.board.lock(rt).cut(false);
         if self.ending.logs() {
             self.log(rt, Ok(LogEvent::CutFailed(self.replica, refusal)));
         }
     }
 
-    /// An event that showed this was answered so.
-    pub fn answered<R: Wait>(&self, rt: &R, sight: &Sight, answer: &Result<Reply, Refusal>) {
+    /// A change was refused.
+    pub fn refused<R: Wait>(&self, rt: &R) {
+        let mut board = self.board.lock(rt);
+        board.refused = board.refused.saturating_add(1);
+    }
+
+    /// A poll over HTTP was answered with this status.
+    pub fn polled<R: Wait>(&self, rt: &R, status: u16) {
+        self.board.lock(rt).rest.count(status);
+    }
+
+    /// An event that showed this left no record.
+    pub fn unrecorded<R: Wait>(&self, rt: &R, sight: &Sight) {
+        self.board.lock(rt).count(is_part(sight), false);
+    }
+
+    /// An event that showed this was answered so, about now.
+    pub fn answered<R: Wait>(
+        &self,
+        rt: &R,
+        sight: &Sight,
+        answer: &Result<Reply, Refusal>,
+        now: Option<Instant>,
+    ) {
+        self.board.lock(rt).count(is_part(sight), true);
         match (sight, answer) {
             (Sight::Request(stream, heard), _) => self.heard(rt, *stream, heard),
             (Sight::Poll(stream), Ok(Reply::Polled(Some(draft)))) => {
-                self.responded(rt, *stream, draft);
+                self.responded(rt, *stream, draft, now);
             }
+            (Sight::Change, Ok(_)) => self.board.lock(rt).change(now),
             _ => {}
         }
     }
 
-    fn responded<R: Wait>(&self, rt: &R, stream: u64, draft: &Draft) {
+    fn responded<R: Wait>(&self, rt: &R, stream: u64, draft: &Draft, now: Option<Instant>) {
         let mut board = self.board.lock(rt);
+        board.polled(now);
         let _ = board.respond(stream, draft);
     }
 
@@ -187,4 +241,11 @@ fn rejected(
         message: String::from_str(alloc, message)?,
     };
     Ok(LogEvent::Rejected(place, rejection))
+}
+
+fn is_part(sight: &Sight) -> bool {
+    match sight {
+        Sight::Part => true,
+        _ => false,
+    }
 }

@@ -1,13 +1,13 @@
 // What a server tells on its error output while it serves.
 ghost use Rattle.std.specs.Prelude.{◌≡◌, string_bytes, IfOk};
-ghost use Rattle.xds_commands.specs.Notes.{note_line, refused_line, caused_line};
+ghost use Rattle.xds_commands.specs.Notes.{note_line, refused_line, caused_line, stamp_line};
 ghost use Rattle.xds_commands.specs.Messages.{fault_line};
 
 use crate::cause::Cause;
 use crate::fault::Fault;
 use crate::log_event::LogEvent;
 use std::alloc::Global;
-use xds_resource::Refusal;
+use xds_resource::{Refusal, Stamp};
 
 /// Something that is told on the error output, a line each.
 #[derive(Drop)]
@@ -39,8 +39,8 @@ fn missed_line(alloc: Global, count: u64) -> Result<String, Refusal>
     Ok(format!(in alloc; "{count} lines are left out\n")?)
 }
 
-// The line of a line of the input that is refused: with what is wrong of it, where that is known.
-fn refused_line(alloc: Global, line: u64, fault: Fault) -> Result<String, Refusal>
+/// The line of a line of the input that is refused: with what is wrong of it, where that is known.
+pub(crate) fn refused_line(alloc: Global, line: u64, fault: Fault) -> Result<String, Refusal>
     ensures { IfOk result (λ t. string_bytes t ≡ refused_line line fault) }
 {
     match fault.cause {
@@ -71,4 +71,13 @@ pub(crate) fn fault_line(alloc: Global, line: u64, refusal: Refusal) -> Result<S
     let number = refusal.number();
     let name = refusal.name();
     Ok(format!(in alloc; "line {line}: {number} {name}\n")?)
+}
+
+/// The line of a line that was made a write, which has this stamp.
+pub(crate) fn stamp_line(alloc: Global, line: u64, stamp: Stamp) -> Result<String, Refusal>
+    ensures { IfOk result (λ t. string_bytes t ≡ stamp_line line stamp.counter stamp.writer) }
+{
+    let counter = stamp.counter;
+    let writer = stamp.writer;
+    Ok(format!(in alloc; "line {line}: {counter}-{writer}\n")?)
 }

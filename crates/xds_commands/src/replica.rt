@@ -1,13 +1,13 @@
 // One replica of the server: the threads that call it.
 ghost use Rattle.std.specs.Prelude.{◌≡◌};
+ghost use Rattle.std.specs.Result.{result_err};
 ghost use Rattle.xds_commands.specs.Messages.{refusal_in};
 
-use crate::change::Change;
-use crate::ending::Ending;
 use crate::fault::Fault;
 use crate::gate::NoGate;
 use crate::lookout::Lookout;
 use crate::machine::{Machine, Runtime};
+use crate::order::{Look, Order, look_in, stamp_in};
 use crate::served::Served;
 use crate::streams::serve_streams;
 use crate::wires::{Bound, both};
@@ -16,11 +16,11 @@ use crossbeam_channel::Receiver;
 use std::alloc::Global;
 use std::net::TcpListener;
 use std::sync::{Arc, Wait};
-use xds_core::{Event, Reply};
+use xds_core::{Event, Marks, Reply};
 use xds_exchange::{Incoming, Outgoing};
 use xds_http::{Replies, serve_on};
 use xds_node::{Host, Parcel, Receipt, called, exchange_in, exchange_out};
-use xds_resource::Refusal;
+use xds_resource::{Refusal, Stamp};
 
 /// Ends of the channels by which a replica tells another what changed: for what it tells, and for what becomes of it.
 pub type Sends = (Outgoing<Parcel>, Incoming<Receipt>);
@@ -36,7 +36,7 @@ pub struct Sockets {
 }
 
 /// What a replica's thread is started with.
-pub type Replica = Bound<Sockets, Receiver<Change>, Sends, Takes>;
+pub type Replica = Bound<Sockets, Receiver<Order>, Sends, Takes>;
 
 /// Runs a replica for as long as the process runs: streams, polls, what is told to and by other replicas, and the changes
 /// that the input makes. It ends only where no change can come any more, or with the refusal by which it couldn't begin.
@@ -64,7 +64,7 @@ where
     let exchanging = start_exchange(rt, alloc, node, sends, takes);
     let serving = start_serving(rt, alloc, node, sockets, lookout);
     let ended = match both(exchanging, serving) {
-        Ok(()) => take_changes(rt, &**node, &changes, lookout.ending()),
+        Ok(()) => take_orders(rt, &**node, &changes, lookout),
         Err(refusal) => Err(refusal),
     };
     drop(changes);
@@ -191,47 +191,93 @@ where
     })
 }
 
-// Makes the changes that the input says. One that the replica refuses changes nothing, and is told.
-fn take_changes<R, A>(
+// Does what the replica is asked: makes changes, of which those that are refused change nothing, and looks at what is held.
+fn take_orders<R, A>(
     rt: &R,
     node: &A,
-    changes: &Receiver<Change>,
-    ending: &Ending,
+    orders: &Receiver<Order>,
+    lookout: &Lookout,
 ) -> Result<(), Refusal>
 where
     R: Wait,
     A: Served,
 {
     let mut seat = node.seat(rt)?;
-    for change in changes.iter(rt) {
-        let line = change.line;
-        if let Some(refusal) = make_change(rt, node, &mut seat, change.event) {
-            ending.refuse(rt, line, Fault::of(refusal));
-        }
+    for order in orders.iter(rt) {
+        do_order(rt, node, &mut seat, order, lookout);
     }
     Ok(())
 }
 
-// Makes a change. Answers why it is refused, if it is.
+fn do_order<R: Wait, A: Served>(
+    rt: &R,
+    node: &A,
+    seat: &mut A::Seat,
+    order: Order,
+    lookout: &Lookout,
+) {
+    match order {
+        Order::Change(change) => {
+            let line = change.line;
+            if let Err(refusal) = make_change(rt, node, seat, change.event) {
+                lookout.refused(rt);
+                lookout.ending().refuse(rt, line, Fault::of(refusal));
+            }
+        }
+        Order::Asked(change, reply) => {
+            let made = make_change(rt, node, seat, change.event);
+            if made.is_err() {
+                lookout.refused(rt);
+            }
+            let _ = reply.send(rt, made);
+        }
+        Order::Look(reply) => {
+            let _ = reply.send(rt, look(rt, node, seat));
+        }
+    }
+}
+
+// Makes a change. Answers its stamp.
 fn make_change<R: Wait, A: Served>(
     rt: &R,
     node: &A,
     seat: &mut A::Seat,
     event: Event,
-) -> Option<Refusal> {
+) -> Result<Stamp, Refusal> {
     let answer = called(rt, node, &NoGate, seat, event);
-    let refusal = refusal_in(&answer);
+    let stamp = match reply_in(&answer) {
+        Ok(reply) => stamp_in(reply),
+        Err(refusal) => Err(refusal),
+    };
     drop(answer);
-    refusal
+    stamp
 }
 
-// The refusal that an answer is, of which there may be a record or none.
-fn refusal_in(answer: &Result<Result<Reply, Refusal>, Refusal>) -> Option<Refusal>
-    ensures { result ≡ refusal_in answer.now }
+// Looks at all that is held, by one event.
+fn look<R: Wait, A: Served>(rt: &R, node: &A, seat: &mut A::Seat) -> Result<Look, Refusal> {
+    let nothing = Marks {
+        cluster: 0,
+        endpoint: 0,
+        listener: 0,
+        route: 0,
+        secret: 0,
+    };
+    let answer = called(rt, node, &NoGate, seat, Event::Since(nothing));
+    let look = match reply_in(&answer) {
+        Ok(reply) => look_in(reply),
+        Err(refusal) => Err(refusal),
+    };
+    drop(answer);
+    look
+}
+
+// The reply that an answer is, or its refusal, of which there may be a record or none.
+fn reply_in(answer: &Result<Result<Reply, Refusal>, Refusal>) -> Result<&Reply, Refusal>
+    ensures { result_err result ≡ refusal_in answer.now }
 {
     match answer {
-        Ok(Ok(_)) => None,
-        Ok(Err(refusal)) => Some(*refusal),
-        Err(refusal) => Some(*refusal),
+        Ok(Ok(reply)) => Ok(reply),
+        Ok(Err(refusal)) => Err(*refusal),
+        Err(refusal) => Err(*refusal),
     }
 }

@@ -1,6 +1,7 @@
 // What a server tells on its error output.
 ghost use Rattle.std.specs.Prelude.{◌≡◌, ◌+◌, string_bytes, IfOk};
-ghost use Rattle.xds_commands.specs.Messages.{refusal_line, port_fault_text, port_line, replica_line};
+ghost use Rattle.xds_commands.specs.Messages.{admin_line, fault_line, refusal_line, port_fault_text, port_line, replica_line, TellsLine, TellsText};
+ghost use Rattle.xds_frames.specs.Devices.{seen};
 
 use crate::ending::{End, Ending, Next};
 use crate::note::fault_line;
@@ -72,8 +73,10 @@ fn replica_line(alloc: Global, number: u16, port: u16, rest_port: u16) -> Result
     )?)
 }
 
-// Writes a text, if there was memory for it. An error output that fails is passed over.
-fn put<E: Write>(errors: &mut Counted<E>, text: Result<String, Refusal>) {
+// Writes a text, or that there was no memory for it. An error output that fails is passed over.
+fn put<E: Write>(errors: &mut Counted<E>, text: Result<String, Refusal>)
+    ensures { TellsText string_bytes text (seen E.contents errors.old errors.new) }
+{
     match text {
         Ok(text) => {
             let _ = write_whole(errors, text.as_bytes());
@@ -86,7 +89,8 @@ fn put<E: Write>(errors: &mut Counted<E>, text: Result<String, Refusal>) {
 
 /// Tells a refusal, and answers the status.
 pub(crate) fn tell<E: Write>(alloc: Global, errors: &mut Counted<E>, refusal: Refusal) -> u8
-    ensures { result ≡ 1 }
+    ensures told { TellsLine (refusal_line refusal) (seen E.contents errors.old errors.new) }
+    ensures status { result ≡ 1 }
 {
     put(errors, refusal_line(alloc, refusal));
     REFUSED
@@ -99,7 +103,8 @@ pub(crate) fn tell_line<E: Write>(
     line: u64,
     refusal: Refusal,
 ) -> u8
-    ensures { result ≡ 1 }
+    ensures told { TellsLine (fault_line line refusal) (seen E.contents errors.old errors.new) }
+    ensures status { result ≡ 1 }
 {
     put(errors, fault_line(alloc, line, refusal));
     REFUSED
@@ -112,7 +117,8 @@ pub(crate) fn tell_port<E: Write>(
     port: u16,
     fault: PortFault,
 ) -> u8
-    ensures { result ≡ 1 }
+    ensures told { TellsLine (port_line port fault) (seen E.contents errors.old errors.new) }
+    ensures status { result ≡ 1 }
 {
     put(errors, port_line(alloc, port, fault));
     REFUSED
@@ -132,6 +138,20 @@ pub(crate) fn tell_replicas<E: Write>(
         let rest_port = rest_port.wrapping_add(index);
         put(errors, replica_line(alloc, number, port, rest_port));
     }
+}
+
+// The line of an operator's port.
+fn admin_line(alloc: Global, port: u16) -> Result<String, Refusal>
+    ensures { IfOk result (λ t. string_bytes t ≡ admin_line port) }
+{
+    Ok(format!(in alloc; "an operator's port on 127.0.0.1:{port}\n")?)
+}
+
+/// Tells where an operator's port is.
+pub(crate) fn tell_admin<E: Write>(alloc: Global, errors: &mut Counted<E>, port: u16)
+    ensures { TellsLine (admin_line port) (seen E.contents errors.old errors.new) }
+{
+    put(errors, admin_line(alloc, port));
 }
 
 /// Tells what there is to tell, line by line, until the server ends.

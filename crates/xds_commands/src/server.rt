@@ -1,21 +1,27 @@
 // A server of some replicas, from its first line to its end.
 ghost use Rattle.std.specs.Prelude.{◌≡◌, ◌≤◌};
+ghost use Rattle.xds_frames.specs.Devices.{seen};
+ghost use Rattle.xds_commands.specs.Messages.{TellsEnd, status_of};
 ghost use Rattle.xds_commands.specs.Servings.{limits_of};
 
-use crate::change::Change;
+use crate::admin::{Admin, Reached};
 use crate::ending::{End, Ending, Telling};
 use crate::log_event::LogEvent;
-use crate::lookout::Limits;
+use crate::lookout::{Limits, Lookout};
 use crate::machine::{Machine, Runtime};
+use crate::order::Order;
 use crate::replica::{Sends, Sockets, Takes};
-use crate::serve_telling::{PortFault, tell, tell_line, tell_port, tell_replicas, tell_until_end};
-use crate::starting::{start_input, start_replica};
+use crate::serve_telling::{PortFault, tell, tell_admin, tell_line, tell_port, tell_replicas, tell_until_end};
+use crate::starting::{start_admin, start_input, start_replica};
 use crate::wires::{Wires, both, crossed, kept};
+use crate::workers::share;
 use crossbeam_channel::{Receiver, Sender, unbounded};
 use std::alloc::{AllocError, Global};
 use std::io::{Read, Write};
 use std::net::{Ipv4Addr, Net, SocketAddrV4, TcpListener, TcpStream};
 use std::sync::{Arc, Wait};
+use std::thread;
+use std::time::Duration;
 use xds_exchange::link;
 use xds_frames::Counted;
 use xds_resource::Refusal;
@@ -41,10 +47,17 @@ pub struct Serving {
     pub max_streams: Option<u16>,
     /// Within how many seconds the first frame of a stream comes; at any time, where none is said.
     pub idle_seconds: Option<u16>,
+    /// An operator's port, if there is one.
+    pub admin_port: Option<u16>,
 }
 
+// As many seconds as frames that were begun have to be written at the end, and as many milliseconds as who stopped the server has to
+// take the answer.
+const DRAIN_SECONDS: u64 = 4;
+const PARTING_MILLISECONDS: u64 = 200;
+
 // What the replicas are started with, and what changes of the input are sent by.
-type Wiring = Wires<Sockets, Sender<Change>, Receiver<Change>, Sends, Takes>;
+type Wiring = Wires<Sockets, Sender<Order>, Receiver<Order>, Sends, Takes>;
 
 /// Serves until so many streams have ended as are asked for, or a line of the input is refused, and answers the status: 0,
 /// or 1 with the refusal on the error output. A server that keeps going tells such a line, and reads the next. All ports are bound before anything is read; one that can't be is told with
@@ -60,8 +73,8 @@ where
     ensures { result ≤ 1 }
 {
     let alloc = rt.alloc();
-    let ended = match bound(rt, alloc, serving) {
-        Ok(sockets) => {
+    let ended = match all_bound(rt, alloc, serving) {
+        Ok((sockets, admin)) => {
             tell_replicas(
                 alloc,
                 errors,
@@ -69,7 +82,10 @@ where
                 serving.port,
                 serving.rest_port,
             );
-            run(rt, alloc, input, errors, sockets, serving)
+            if let Some(port) = serving.admin_port {
+                tell_admin(alloc, errors, port);
+            }
+            run(rt, alloc, input, errors, sockets, admin, serving)
         }
         Err(Unbound::Port(port, fault)) => {
             drop(input);
@@ -85,10 +101,11 @@ where
 
 // Tells why a server ended, where that is a refusal, and answers the status.
 fn tell_end<E: Write>(alloc: Global, errors: &mut Counted<E>, ended: Result<End, Refusal>) -> u8
-    ensures { result ≤ 1 }
+    ensures told { TellsEnd ended (seen E.contents errors.old errors.new) }
+    ensures status { result ≡ status_of ended }
 {
     match ended {
-        Ok(End::Streams) => 0,
+        Ok(End::Streams | End::Stopped) => 0,
         Ok(End::Line(line, refusal)) => tell_line(alloc, errors, line, refusal),
         Ok(End::Refused(refusal)) => tell(alloc, errors, refusal),
         Err(refusal) => tell(alloc, errors, refusal),
@@ -119,6 +136,25 @@ where
     Ok(sockets)
 }
 
+// The same, and the socket of an operator's port, where there is one.
+fn all_bound<R>(
+    rt: &R,
+    alloc: Global,
+    serving: Serving,
+) -> Result<(Vec<Sockets>, Option<TcpListener>), Unbound>
+where
+    R: Net<Listener = TcpListener, Stream = TcpStream>,
+{
+    let sockets = bound(rt, alloc, serving)?;
+    match serving.admin_port {
+        Some(port) => {
+            let admin = bind(rt, port, 0)?;
+            Ok((sockets, Some(admin)))
+        }
+        None => Ok((sockets, None)),
+    }
+}
+
 fn bind<R>(rt: &R, first: u16, index: u16) -> Result<TcpListener, Unbound>
 where
     R: Net<Listener = TcpListener, Stream = TcpStream>,
@@ -130,13 +166,14 @@ where
     }
 }
 
-// Serves to the end, and tells what there is to tell meanwhile.
+// Serves to the end, and tells what there is to tell meanwhile. At the end frames that were begun are written.
 fn run<R, I, E>(
     rt: &R,
     alloc: Global,
     input: I,
     errors: &mut Counted<E>,
     sockets: Vec<Sockets>,
+    admin: Option<TcpListener>,
     serving: Serving,
 ) -> Result<End, Refusal>
 where
@@ -146,9 +183,31 @@ where
 {
     let wires = wired(alloc, sockets)?;
     let ending = Arc::new(alloc, ending_of(alloc, serving))?;
+    let lookouts = lookouts_of(alloc, serving, &ending)?;
     log_replicas(rt, &ending, serving);
-    start(rt, alloc, input, wires, serving, &ending)?;
-    Ok(tell_until_end(rt, alloc, errors, &ending))
+    start(rt, alloc, input, wires, admin, serving.keep_going, &lookouts, &ending)?;
+    let end = tell_until_end(rt, alloc, errors, &ending);
+    if end == End::Stopped {
+        thread::sleep(rt, Duration::from_millis(PARTING_MILLISECONDS));
+    }
+    ending.drain(rt, Duration::from_secs(DRAIN_SECONDS));
+    Ok(end)
+}
+
+// Where threads note what happens at each replica.
+fn lookouts_of(
+    alloc: Global,
+    serving: Serving,
+    ending: &Arc<Ending>,
+) -> Result<Vec<Arc<Lookout>>, Refusal> {
+    let limits = limits_of(serving);
+    let mut lookouts = Vec::new(alloc);
+    for index in 0..serving.replicas {
+        let number = index.saturating_add(1);
+        let lookout = Lookout::new(alloc, number, limits, share(ending)?);
+        lookouts.push(Arc::new(alloc, lookout)?)?;
+    }
+    Ok(lookouts)
 }
 
 // How a server ends, and what it tells until then.
@@ -180,13 +239,15 @@ fn log_replicas<R: Wait>(rt: &R, ending: &Ending, serving: Serving) {
     }
 }
 
-// Starts the replicas, and the thread that takes the input.
+// Starts the replicas, the thread that takes the input, and that of an operator's port.
 fn start<R, I>(
     rt: &R,
     alloc: Global,
     input: I,
     wires: Wiring,
-    serving: Serving,
+    admin: Option<TcpListener>,
+    keep_going: bool,
+    lookouts: &Vec<Arc<Lookout>>,
     ending: &Arc<Ending>,
 ) -> Result<(), Refusal>
 where
@@ -194,14 +255,44 @@ where
     I: Read + Drop + Send + 'static,
 {
     let (senders, replicas) = wires.apart();
-    let mut done = start_input(rt, alloc, input, senders, serving.keep_going, ending);
-    let limits = limits_of(serving);
-    let mut index = 0u16;
+    let mut done = match admin {
+        Some(listener) => {
+            let desk = desk_of(alloc, senders.as_slice(), lookouts, ending);
+            start_admin(rt, alloc, listener, desk)
+        }
+        None => Ok(()),
+    };
+    done = both(
+        done,
+        start_input(rt, alloc, input, senders, keep_going, ending),
+    );
+    let mut lookouts = lookouts.iter();
     for replica in replicas {
-        done = both(done, start_replica(rt, alloc, index, replica, limits, ending));
-        index = index.saturating_add(1);
+        match lookouts.next() {
+            Some(lookout) => done = both(done, start_replica(rt, alloc, replica, lookout)),
+            None => drop(replica),
+        }
     }
     done
+}
+
+// What an operator's port answers by.
+fn desk_of(
+    alloc: Global,
+    senders: &[Sender<Order>],
+    lookouts: &Vec<Arc<Lookout>>,
+    ending: &Arc<Ending>,
+) -> Result<Admin, Refusal> {
+    let mut replicas = Vec::new(alloc);
+    for (sender, lookout) in senders.iter().zip(lookouts.iter()) {
+        let lookout = share(lookout)?;
+        let orders = sender.clone()?;
+        replicas.push(Reached { lookout, orders })?;
+    }
+    Ok(Admin {
+        replicas,
+        ending: share(ending)?,
+    })
 }
 
 // What each replica's thread is started with, and what hands it the changes of the input.

@@ -54,6 +54,10 @@ pub enum Sight {
     Request(u64, Heard),
     /// A poll of a stream.
     Poll(u64),
+    /// A change that is made here.
+    Change,
+    /// A part that another replica tells.
+    Part,
     /// Anything else, or there was no memory to keep what it shows.
     Other,
 }
@@ -66,6 +70,8 @@ pub fn sight_of(alloc: Global, event: &Event) -> Sight {
             Err(_) => Sight::Other,
         },
         Event::Poll(stream, _) => Sight::Poll(*stream),
+        Event::Put(_, _) | Event::Delete(_, _) => Sight::Change,
+        Event::Merge(_) => Sight::Part,
         _ => Sight::Other,
     }
 }

@@ -1,12 +1,13 @@
 // The threads that a server starts: one for each replica, and one for the input.
 ghost use Rattle.std.specs.Prelude.{◌≡◌, ◌≤◌};
 
-use crate::change::Change;
+use crate::admin::Admin;
 use crate::ending::{End, Ending};
 use crate::input::take_input;
 use crate::keeping::keep_input;
-use crate::lookout::{Limits, Lookout};
+use crate::lookout::Lookout;
 use crate::machine::{Machine, Runtime};
+use crate::order::Order;
 use crate::replica::{Replica, run_replica};
 use crate::served::Served;
 use crate::watched::Watched;
@@ -17,27 +18,27 @@ use crossbeam_channel::Sender;
 use std::alloc::Global;
 use std::io::Read;
 use std::marker::Brand;
+use std::net::TcpListener;
 use std::sync::Arc;
 use std::thread;
-use xds_http::Replies;
+use std::time::Clock;
+use xds_http::{Replies, serve_pages};
 use xds_node::{Host, Line, Node, NodeName, Opened};
 use xds_resource::Refusal;
 
-/// Starts the thread of the replica behind so many others. Its node has a name of its own.
+/// Starts the thread of a replica, whose number its lookout knows. Its node has a name of its own.
 pub(crate) fn start_replica<R>(
     rt: &R,
     alloc: Global,
-    index: u16,
     replica: Replica,
-    limits: Limits,
-    ending: &Arc<Ending>,
+    lookout: &Arc<Lookout>,
 ) -> Result<(), Refusal>
 where
     R: Machine,
 {
-    let number = index.saturating_add(1);
+    let number = lookout.replica().max(1);
     match Opened::<Line>::new(alloc) {
-        Ok(opened) => start_named::<R, Brand>(rt, alloc, opened, number, replica, limits, ending),
+        Ok(opened) => start_named::<R, Brand>(rt, alloc, opened, number, replica, lookout),
         Err(_) => {
             drop(replica);
             Err(Refusal::OutOfMemory)
@@ -52,8 +53,7 @@ fn start_named<R, N>(
     opened: Opened<Line>,
     number: u16,
     replica: Replica,
-    limits: Limits,
-    ending: &Arc<Ending>,
+    lookout: &Arc<Lookout>,
 ) -> Result<(), Refusal>
 where
     R: Machine,
@@ -62,15 +62,8 @@ where
     requires first { 1 ≤ number }
     requires own { number ≡ N.replica }
 {
-    let lookout = match watched_by(alloc, number, limits, ending) {
-        Ok(lookout) => lookout,
-        Err(refusal) => {
-            drop(replica);
-            return Err(refusal);
-        }
-    };
-    match shared::<N>(alloc, opened, number, &lookout) {
-        Ok(node) => start_node(rt, alloc, node, replica, &lookout),
+    match shared::<R, N>(rt, alloc, opened, number, lookout) {
+        Ok(node) => start_node(rt, alloc, node, replica, lookout),
         Err(refusal) => {
             drop(replica);
             Err(refusal)
@@ -78,44 +71,32 @@ where
     }
 }
 
-// Where threads note what happens at a replica.
-fn watched_by(
-    alloc: Global,
-    number: u16,
-    limits: Limits,
-    ending: &Arc<Ending>,
-) -> Result<Arc<Lookout>, Refusal> {
-    let lookout = Lookout::new(alloc, number, limits, share(ending)?);
-    Ok(Arc::new(alloc, lookout)?)
-}
-
 // A new node, as threads share it.
-fn shared<N: NodeName>(
+fn shared<R: Runtime, N: NodeName>(
+    rt: &R,
     alloc: Global,
     opened: Opened<Line>,
     number: u16,
     lookout: &Arc<Lookout>,
-) -> Result<Arc<Weighed<Watched<Node<N>>>>, Refusal>
+) -> Result<Arc<Weighed<Watched<Node<N>, R>>>, Refusal>
     requires name { opened ≡ N.id }
     requires first { 1 ≤ number }
     requires own { number ≡ N.replica }
 {
     let node = Node::<N>::new(alloc, opened, number)?;
-    let watched = watched_node(alloc, node, lookout)?;
+    let watched = watched_node(alloc, node, *rt, lookout)?;
     Ok(Arc::new(alloc, Weighed::new(alloc, watched))?)
 }
 
 // A node whose events are noted.
-fn watched_node<A: Served>(
+fn watched_node<A: Served + Drop, C: Clock + Drop>(
     alloc: Global,
     node: A,
+    clock: C,
     lookout: &Arc<Lookout>,
-) -> Result<Watched<A>, Refusal>
-where
-    A: Drop,
-{
+) -> Result<Watched<A, C>, Refusal> {
     match share(lookout) {
-        Ok(lookout) => Ok(Watched::new(alloc, node, lookout)),
+        Ok(lookout) => Ok(Watched::new(alloc, node, clock, lookout)),
         Err(refusal) => {
             drop(node);
             Err(refusal)
@@ -156,7 +137,7 @@ pub(crate) fn start_input<R, I>(
     rt: &R,
     alloc: Global,
     input: I,
-    senders: Vec<Sender<Change>>,
+    senders: Vec<Sender<Order>>,
     keep_going: bool,
     ending: &Arc<Ending>,
 ) -> Result<(), Refusal>
@@ -171,5 +152,24 @@ where
         } else {
             take_input(rt, alloc, &mut input, senders.as_slice(), &ending);
         }
+    })
+}
+
+/// Starts the thread of an operator's port.
+pub(crate) fn start_admin<R>(
+    rt: &R,
+    alloc: Global,
+    listener: TcpListener,
+    desk: Result<Admin, Refusal>,
+) -> Result<(), Refusal>
+where
+    R: Machine,
+{
+    let desk = match desk {
+        Ok(desk) => Arc::new(alloc, desk).map_err(|_| Refusal::OutOfMemory),
+        Err(refusal) => Err(refusal),
+    };
+    start_worker(rt, desk, move |rt, desk| {
+        let _ = serve_pages(rt, listener, desk);
     })
 }

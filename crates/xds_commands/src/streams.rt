@@ -1,5 +1,6 @@
 // The streams of a replica: each connection has a thread that reads its requests and one that writes its responses.
-use crate::gate::NoGate;
+use crate::ending::Ending;
+use crate::gate::{Gated, NoGate, WriterGate};
 use crate::idle::IdleReader;
 use crate::lookout::Lookout;
 use crate::served::Served;
@@ -77,11 +78,12 @@ where
     };
     lookout.opened(rt, stream, peer_text(alloc, socket));
     let seconds = lookout.idle_seconds();
+    let ending = lookout.ending();
     let ended = Mutex::new(Ok(()));
     let shared = &ended;
     thread::scope(thread::scope_env(), rt, |scope| {
         let writer = scope.spawn(move || {
-            let written = write_all(rt, alloc, socket, node, &mut writing, stream);
+            let written = write_all(rt, alloc, socket, ending, node, &mut writing, stream);
             note_end(rt, shared, written);
         });
         if writer.is_ok() {
@@ -111,17 +113,21 @@ fn note_end<R: Wait>(rt: &R, ended: &Mutex<Result<(), Refusal>>, end: Result<(),
     }
 }
 
-// Writes what a stream is due until it is over. Then its connection has ended, too.
+// Writes what a stream is due until it is over. Then its connection has ended, too. Once the server ends it begins no frame.
 fn write_all<R: Wait, A: Served>(
     rt: &R,
     alloc: Global,
     socket: &TcpStream,
+    ending: &Ending,
     node: &A,
     seat: &mut A::Seat,
     stream: u64,
 ) -> Result<(), Refusal> {
     let mut to = Counted::new(socket);
-    let written = serve_writer(rt, alloc, node, seat, stream, &mut to, &NoGate);
+    let gate = WriterGate::new(ending);
+    let gated = Gated { node, gate: &gate };
+    let written = serve_writer(rt, alloc, &gated, seat, stream, &mut to, &gate);
+    gate.finish(rt);
     let _ = socket.shutdown(Shutdown::Both);
     written
 }

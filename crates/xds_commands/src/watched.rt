@@ -4,6 +4,7 @@ use crate::served::Served;
 use crate::sight::sight_of;
 use std::alloc::Global;
 use std::sync::{Arc, Wait};
+use std::time::{Clock, Instant};
 use xds_core::{Event, Marks, Reply};
 use xds_node::{Due, Host, Unrecorded};
 use xds_polls::HttpReply;
@@ -11,34 +12,37 @@ use xds_resource::Refusal;
 use xds_rest::Posts;
 
 /// A replica of which each event is noted, once it was answered, outside of the node's lock.
-pub struct Watched<A> {
+pub struct Watched<A, C> {
     node: A,
     alloc: Global,
+    clock: C,
     lookout: Arc<Lookout>,
 }
 
 // Written out: docs/PROVING.md, "Drops".
-impl<A: Drop> Drop for Watched<A> {
+impl<A: Drop, C: Drop> Drop for Watched<A, C> {
     fn drop(self) {
         let Watched {
             node: _,
             alloc: _,
+            clock: _,
             lookout: _,
         } = self;
     }
 }
 
-impl<A: Served> Watched<A> {
-    pub fn new(alloc: Global, node: A, lookout: Arc<Lookout>) -> Watched<A> {
+impl<A: Served, C: Clock> Watched<A, C> {
+    pub fn new(alloc: Global, node: A, clock: C, lookout: Arc<Lookout>) -> Watched<A, C> {
         Watched {
             node,
             alloc,
+            clock,
             lookout,
         }
     }
 }
 
-impl<A: Served> Host for Watched<A> {
+impl<A: Served, C: Clock> Host for Watched<A, C> {
     type Seat = A::Seat;
 
     type Segment = A::Segment;
@@ -55,8 +59,12 @@ impl<A: Served> Host for Watched<A> {
     ) -> Result<Result<Reply, Refusal>, Unrecorded> {
         let sight = sight_of(self.alloc, &event);
         let answer = self.node.call(rt, seat, event);
-        if let Ok(answer) = &answer {
-            self.lookout.answered(rt, &sight, answer);
+        match &answer {
+            Ok(answer) => {
+                let now = Instant::now(&self.clock).ok();
+                self.lookout.answered(rt, &sight, answer, now);
+            }
+            Err(_) => self.lookout.unrecorded(rt, &sight),
         }
         drop(sight);
         answer
@@ -64,7 +72,10 @@ impl<A: Served> Host for Watched<A> {
 
     fn cut<R: Wait>(&self, rt: &R) -> Result<A::Segment, Refusal> {
         match self.node.cut(rt) {
-            Ok(segment) => Ok(segment),
+            Ok(segment) => {
+                self.lookout.cut(rt);
+                Ok(segment)
+            }
             Err(refusal) => {
                 self.lookout.cut_failed(rt, refusal);
                 Err(refusal)
@@ -81,7 +92,7 @@ impl<A: Served> Host for Watched<A> {
     }
 }
 
-impl<A: Served> Posts for Watched<A> {
+impl<A: Served, C: Clock> Posts for Watched<A, C> {
     type PostSeat = A::PostSeat;
 
     ghost replica = { A.replica };
@@ -100,11 +111,13 @@ impl<A: Served> Posts for Watched<A> {
         path: &str,
         body: &[u8],
     ) -> HttpReply {
-        self.node.post_reply(rt, alloc, seat, path, body)
+        let reply = self.node.post_reply(rt, alloc, seat, path, body);
+        self.lookout.polled(rt, reply.status);
+        reply
     }
 }
 
-impl<A: Served> Served for Watched<A> {
+impl<A: Served, C: Clock> Served for Watched<A, C> {
     fn seat<R: Wait>(&self, rt: &R) -> Result<A::Seat, Refusal> {
         self.node.seat(rt)
     }

@@ -1,5 +1,6 @@
 // Tests of the server as a whole, over sockets, and of a journal that is cut by its weight.
 
+mod admin;
 mod clients;
 mod endings;
 mod inputs;

@@ -61,9 +61,14 @@ where
     }
 
     fn pause(&self) -> Option<Sleep> {
-        let pause = Duration::from_millis(PAUSE_MILLISECONDS);
-        self.timers.sleep(&self.rt, pause).ok()
+        pause_of(&self.rt, &self.timers)
     }
+}
+
+/// How long to wait after a connection couldn't be accepted; none where that can't be waited for.
+pub(crate) fn pause_of<R: Clock>(rt: &R, timers: &Handle) -> Option<Sleep> {
+    let pause = Duration::from_millis(PAUSE_MILLISECONDS);
+    timers.sleep(rt, pause).ok()
 }
 
 // What serves HTTP by a node.
@@ -84,8 +89,8 @@ where
     })
 }
 
-// As many permits as there may be connections.
-fn permits(alloc: Global) -> io::Result<Arc<Semaphore>> {
+/// As many permits as there may be connections.
+pub(crate) fn permits(alloc: Global) -> io::Result<Arc<Semaphore>> {
     let permits = Semaphore::new(alloc, MAX_CONNECTIONS)?;
     Ok(Arc::new(alloc, permits)?)
 }
@@ -107,8 +112,8 @@ where
     Ok(Tasks::new(listener, http, permits))
 }
 
-// Runs each connection of a listener as a task.
-fn run_tasks<R, S>(rt: &R, runtime: &mut LocalRuntime, tasks: Tasks<S>) -> io::Result<()>
+/// Runs each connection of a listener as a task.
+pub(crate) fn run_tasks<R, S>(rt: &R, runtime: &mut LocalRuntime, tasks: Tasks<S>) -> io::Result<()>
 where
     R: Wait + Clock + RandomSource + AllocGlobal,
     S: Serves,

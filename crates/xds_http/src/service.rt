@@ -66,8 +66,8 @@ pub enum Answering<R, A, F> {
     },
 }
 
-// What a body that was to come has come to.
-type Come = Result<Result<Collected, LimitedError<hyper::Error>>, Elapsed>;
+/// What a body that was to come has come to.
+pub(crate) type Come = Result<Result<Collected, LimitedError<hyper::Error>>, Elapsed>;
 
 /// The response to a post at a path, by the bytes of its body and a seat of its own. 503 where no seat can be made, or there is
 /// no memory for the response.
@@ -185,7 +185,8 @@ fn known<I>(request: &Request<Incoming<I>>) -> Option<u16> {
     status
 }
 
-type Body<I> = Timeout<Collect<Limited<Incoming<I>>>>;
+/// A body that is to come.
+pub(crate) type Body<I> = Timeout<Collect<Limited<Incoming<I>>>>;
 
 impl<R, A, I> Service<Request<Incoming<I>>> for Rest<R, A>
 where

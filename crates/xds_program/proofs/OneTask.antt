@@ -37,7 +37,8 @@ one_serve rows s t h k =
     let log = sym h.log ∙ k.log in
     let max_streams = one_found (IsNumber rows (codes "max-streams")) (one_number rows (codes "max-streams")) s.max_streams t.max_streams h.max_streams k.max_streams in
     let idle_seconds = one_found (IsNumber rows (codes "idle-seconds")) (one_number rows (codes "idle-seconds")) s.idle_seconds t.idle_seconds h.idle_seconds k.idle_seconds in
-    λ i. record { replicas = replicas i; port = port i; rest_port = rest_port i; streams = streams i; keep_going = keep_going i; log = log i; max_streams = max_streams i; idle_seconds = idle_seconds i }
+    let admin_port = one_found (IsNumber rows (codes "admin-port")) (one_number rows (codes "admin-port")) s.admin_port t.admin_port h.admin_port k.admin_port in
+    λ i. record { replicas = replicas i; port = port i; rest_port = rest_port i; streams = streams i; keep_going = keep_going i; log = log i; max_streams = max_streams i; idle_seconds = idle_seconds i; admin_port = admin_port i }
 
 one_client : (rows : List Row) (c d : Watch) → AsksClient rows c → AsksClient rows d → c ≡ d
 one_client rows c d h k =

@@ -7,6 +7,8 @@
 --     names_in       the names, in their order
 --     Finds          what fits, or none where nothing fits
 --     are_apart      no port of the one is a port of the other, where so many begin at each of them
+--     is_outside     a port is none of so many that begin at another
+--     is_alone       an operator's port, if there is one, is none of those of streams and of REST
 --     AsksServe      `xds serve`: no replica's port is above 65,535, and none for streams is one for REST
 --     AsksClient     `xds client`
 --     AsksPoll       `xds poll`
@@ -16,7 +18,7 @@
 --     IsFaultOf      why words ask for no task, as the kind of an error
 --     IsWrongBy      so it is, or there was no memory
 --     IsToldOf       an error of this kind is told of words that ask for no task, or there was no memory
-use Rattle.std.specs.Prelude.{◌≡◌, ◌⊎◌, ◌≤◌, ◌+◌, ℕ, List, [], codes, Bool, true, false, ◌||◌, nat_le, bytes_eq, Option, Some, None, unwrap_or}
+use Rattle.std.specs.Prelude.{◌≡◌, ◌⊎◌, ◌≤◌, ◌+◌, ℕ, List, [], codes, Bool, true, false, ◌||◌, ◌&&◌, nat_lt, nat_le, bytes_eq, Option, Some, None, unwrap_or}
 use Rattle.std.specs.Option.{option_and_then, option_map_or}
 use Rattle.std.specs.Str.Parse.{IsNumeral, digits_value, without_leading_plus}
 use Rattle.std.specs.Net.Grammar.{IsSocketV4Text}
@@ -70,6 +72,15 @@ Finds {X} Fits None = (x : X) → Fits x → ⊥
 abbrev pub are_apart : ℕ → ℕ → ℕ → Bool
 are_apart port rest_port replicas = nat_le (port + replicas) rest_port || nat_le (rest_port + replicas) port
 
+-- a port is none of so many that begin at another
+abbrev pub is_outside : ℕ → ℕ → ℕ → Bool
+is_outside port first replicas = nat_lt port first || nat_le (first + replicas) port
+
+-- an operator's port, if there is one, is none of those of streams and of REST
+abbrev pub is_alone : Option ℕ → ℕ → ℕ → ℕ → Bool
+is_alone None port rest_port replicas = true
+is_alone (Some admin) port rest_port replicas = is_outside admin port replicas && is_outside admin rest_port replicas
+
 -- `xds serve`: no replica's port is above 65,535, and none for streams is one for REST
 pub record AsksServe (rows : List Row) (task : ServeTask) : Type 0 where
   pub replicas : IsNumber rows (codes "replicas") task.replicas
@@ -80,8 +91,10 @@ pub record AsksServe (rows : List Row) (task : ServeTask) : Type 0 where
   pub log : is_given (codes "log") rows ≡ task.log
   pub max_streams : Finds (IsNumber rows (codes "max-streams")) task.max_streams
   pub idle_seconds : Finds (IsNumber rows (codes "idle-seconds")) task.idle_seconds
+  pub admin_port : Finds (IsNumber rows (codes "admin-port")) task.admin_port
   pub ports : task.port + task.replicas ≤ 65536
   pub rest_ports : task.rest_port + task.replicas ≤ 65536
+  pub alone : is_alone task.admin_port task.port task.rest_port task.replicas ≡ true
   pub apart : are_apart task.port task.rest_port task.replicas ≡ true
 
 -- `xds client`

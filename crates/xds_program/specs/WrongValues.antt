@@ -10,9 +10,9 @@ use Rattle.clap.specs.Words.{Row, Text, first_of}
 use Rattle.xds_resource.specs.Types.{type_of_word}
 use Rattle.xds_program.specs.declared.tasks.Task.{Task}
 use Rattle.xds_program.specs.declared.wrong_values.WrongValue.{WrongValue}
-use Rattle.xds_program.specs.declared.wrong_values.WrongValue.TheVariants.{Addr, Variant, Type, Port, Meeting, Other}
+use Rattle.xds_program.specs.declared.wrong_values.WrongValue.TheVariants.{Addr, Variant, Type, Port, Meeting, Admin, Other}
 use Rattle.xds_program.specs.Tasks.{variant_of_word}
-use Rattle.xds_program.specs.Words.{AsksIn, IsAddress, IsNumber, are_apart}
+use Rattle.xds_program.specs.Words.{AsksIn, Finds, IsAddress, IsNumber, are_apart, is_alone}
 
 -- this value is wrong, among the values of a command's options
 abbrev pub Blames : List Row → WrongValue → Type 0
@@ -25,6 +25,9 @@ Blames rows Port =
 Blames rows Meeting =
     (replicas port rest_port : ℕ) × IsNumber rows (codes "replicas") replicas × IsNumber rows (codes "port") port
     × IsNumber rows (codes "rest-port") rest_port × (are_apart port rest_port replicas ≡ false)
+Blames rows Admin =
+    (replicas port rest_port : ℕ) (admin : Option ℕ) × IsNumber rows (codes "replicas") replicas × IsNumber rows (codes "port") port
+    × IsNumber rows (codes "rest-port") rest_port × Finds (IsNumber rows (codes "admin-port")) admin × (is_alone admin port rest_port replicas ≡ false)
 Blames rows Other = ⊤
 
 -- so it is among those of the command that was named, if one was
@@ -44,4 +47,5 @@ told_of Variant = codes "--variant: sotw or delta"
 told_of Type = codes "--type: cluster, endpoint, listener, route or secret"
 told_of Port = codes "--port, --rest-port: the port of the last replica is above 65535"
 told_of Meeting = codes "--port, --rest-port: the ports of streams and those of REST meet"
+told_of Admin = codes "--admin-port: it is a port of streams or of REST"
 told_of Other = codes "a value is none of those that the help names"

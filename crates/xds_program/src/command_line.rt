@@ -88,7 +88,9 @@ fn serve_command<'a>(alloc: Global) -> Result<Command<'a>, AllocError>
     let help = "At most this many streams a replica";
     let serve = with_option(serve, number_option(alloc, "max-streams", "N", help))?;
     let help = "Ends a stream without a first frame after this";
-    with_option(serve, number_option(alloc, "idle-seconds", "T", help))
+    let serve = with_option(serve, number_option(alloc, "idle-seconds", "T", help))?;
+    let help = "A port for who operates the server";
+    with_option(serve, number_option(alloc, "admin-port", "A", help))
 }
 
 // `xds serve`, with the options that say what is served where, and for how long.

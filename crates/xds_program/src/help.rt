@@ -69,12 +69,13 @@ pub(crate) const SERVE: &str = "Example:
 Reads lines `put`, `putin` and `delete` of scripts, and applies each while it
 serves; at the end of the input it goes on, until it is stopped (Ctrl-C).
 With --keep-going a line that is refused is told, and the next is read; with
---log what an operator cares for is told, a line an event.
+--log what an operator cares for is told, a line an event. At --admin-port it
+answers /healthz, /ready, /metrics, /status, /changes and /stop over HTTP.
 Prints nothing; the error output has a line a replica, which says what is
 served where. docs/SERVING.md has more, docs/CLI.md the refusals.
 
 Statuses:
-  0  as many streams have ended as --streams says
+  0  as many streams have ended as --streams says, or it was stopped
   1  a line was refused, a port can't be bound, or it could not go on
   2  the words are wrong; nothing was read";
 

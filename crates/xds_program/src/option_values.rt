@@ -5,7 +5,7 @@ ghost use Rattle.clap.specs.Words.{first_of, found_of, rows_of, subcommand_rows_
 ghost use Rattle.xds_resource.specs.Types.{type_of_word};
 ghost use Rattle.xds_program.specs.Tasks.{variant_of_word};
 ghost use Rattle.xds_program.specs.Words.{AsksBy, AsksClient, AsksIn, AsksPoll, AsksServe, Finds, IsAddress, IsNumber};
-ghost use Rattle.xds_program.specs.Words.{are_apart, is_given, names_in, text_in};
+ghost use Rattle.xds_program.specs.Words.{are_apart, is_alone, is_given, is_outside, names_in, text_in};
 
 use crate::tasks::{ClientTask, PollTask, ServeTask, StreamVariant, Task};
 use clap::ArgMatches;
@@ -88,9 +88,11 @@ fn serving(given: &ArgMatches) -> Option<ServeTask>
     let log = is_given(given, "log");
     let max_streams = number(given, "max-streams");
     let idle_seconds = number(given, "idle-seconds");
+    let admin_port = number(given, "admin-port");
     if has_ports(port, replicas)
         && has_ports(rest_port, replicas)
         && are_apart(port, rest_port, replicas)
+        && is_alone(admin_port, port, rest_port, replicas)
     {
         Some(ServeTask {
             replicas,
@@ -101,6 +103,7 @@ fn serving(given: &ArgMatches) -> Option<ServeTask>
             log,
             max_streams,
             idle_seconds,
+            admin_port,
         })
     } else {
         None
@@ -112,6 +115,28 @@ pub(crate) fn has_ports(first: u16, replicas: u16) -> bool
     ensures { (result ≡ true) ↔ (first + replicas ≤ 65536) }
 {
     u32::from(first) + u32::from(replicas) <= 65536
+}
+
+// Whether a port is none of so many that begin at another.
+fn is_outside(port: u16, first: u16, replicas: u16) -> bool
+    ensures { result ≡ is_outside port first replicas }
+{
+    port < first || u32::from(first) + u32::from(replicas) <= u32::from(port)
+}
+
+// Whether an operator's port, if there is one, is none of those of streams and of REST.
+pub(crate) fn is_alone(
+    admin_port: Option<u16>,
+    port: u16,
+    rest_port: u16,
+    replicas: u16,
+) -> bool
+    ensures { result ≡ is_alone admin_port port rest_port replicas }
+{
+    match admin_port {
+        Some(admin) => is_outside(admin, port, replicas) && is_outside(admin, rest_port, replicas),
+        None => true,
+    }
 }
 
 // Whether no port of the one is a port of the other, where so many follow each of them, itself among them.

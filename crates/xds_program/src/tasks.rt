@@ -39,6 +39,8 @@ pub struct ServeTask {
     pub max_streams: Option<u16>,
     /// Within how many seconds the first frame of a stream comes, from 1; at any time, where there is none.
     pub idle_seconds: Option<u16>,
+    /// An operator's port, from 1; none, where there is none.
+    pub admin_port: Option<u16>,
 }
 
 /// How a client asks on a stream: in which of the protocol's two variants.

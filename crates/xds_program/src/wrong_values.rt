@@ -3,7 +3,7 @@ ghost use Rattle.std.specs.Prelude.{◌≡◌};
 ghost use Rattle.clap.specs.Words.{found_of, rows_of, subcommand_rows_of};
 ghost use Rattle.xds_program.specs.WrongValues.{told_of, Blames, BlamesIn};
 
-use crate::option_values::{address, are_apart, has_ports, kind, number, variant};
+use crate::option_values::{address, are_apart, has_ports, is_alone, kind, number, variant};
 use clap::ArgMatches;
 
 /// A value that is none of those that it may be.
@@ -19,6 +19,8 @@ pub enum WrongValue {
     Port,
     /// The ports of streams and those of REST meet.
     Meeting,
+    /// An operator's port is one of theirs.
+    Admin,
     /// Another value.
     Other,
 }
@@ -36,6 +38,7 @@ impl WrongValue {
             WrongValue::Type => "--type: cluster, endpoint, listener, route or secret",
             WrongValue::Port => "--port, --rest-port: the port of the last replica is above 65535",
             WrongValue::Meeting => "--port, --rest-port: the ports of streams and those of REST meet",
+            WrongValue::Admin => "--admin-port: it is a port of streams or of REST",
             WrongValue::Other => "a value is none of those that the help names",
         }
     }
@@ -70,10 +73,13 @@ fn wrong_port(given: &ArgMatches) -> WrongValue
     if !has_ports(port, replicas) || !has_ports(rest_port, replicas) {
         return WrongValue::Port;
     }
-    if are_apart(port, rest_port, replicas) {
+    if !are_apart(port, rest_port, replicas) {
+        return WrongValue::Meeting;
+    }
+    if is_alone(number(given, "admin-port"), port, rest_port, replicas) {
         WrongValue::Other
     } else {
-        WrongValue::Meeting
+        WrongValue::Admin
     }
 }
 

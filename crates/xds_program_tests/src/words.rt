@@ -55,13 +55,19 @@ fn told_serve(alloc: Global, serve: ServeTask) -> Result<String, Fail> {
         log,
         max_streams,
         idle_seconds,
+        admin_port,
     } = serve;
     let keeps = if keep_going { " keep-going" } else { "" };
     let logs = if log { " log" } else { "" };
     let limits = limits_told(alloc, max_streams, idle_seconds)?;
     let limits = limits.as_str();
+    let admin = match admin_port {
+        Some(port) => format!(in alloc; " admin {port}")?,
+        None => String::new(alloc),
+    };
+    let admin = admin.as_str();
     Ok(format!(in alloc;
-        "serve {replicas} {port} {rest_port} {streams:?}{keeps}{logs}{limits}"
+        "serve {replicas} {port} {rest_port} {streams:?}{keeps}{logs}{limits}{admin}"
     )?)
 }
 
@@ -186,6 +192,12 @@ serve --log --keep-going => serve 2 18000 18100 None keep-going log
 serve --log --log => wrong
 serve --max-streams 5 => serve 2 18000 18100 None Some(5) None
 serve --idle-seconds 7 --max-streams 1 => serve 2 18000 18100 None Some(1) Some(7)
+serve --admin-port 18200 => serve 2 18000 18100 None admin 18200
+serve --admin-port 17999 => serve 2 18000 18100 None admin 17999
+serve --admin-port 18001 => wrong
+serve --admin-port 18002 => serve 2 18000 18100 None admin 18002
+serve --admin-port 18100 => wrong
+serve --admin-port 0 => wrong
 serve --max-streams 0 => wrong
 serve --idle-seconds 0 => wrong
 serve --keep-going=true => wrong
@@ -285,6 +297,11 @@ fn the_option_that_is_wrong_is_named(rt: HostRuntime) -> Result<(), Fail> {
         &rt,
         "serve --port 18101",
         "error: --port, --rest-port: the ports of streams and those of REST meet~",
+    )?;
+    tells(
+        &rt,
+        "serve --admin-port 18000",
+        "error: --admin-port: it is a port of streams or of REST~",
     )
 }
 

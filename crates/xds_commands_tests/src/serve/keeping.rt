@@ -1,14 +1,12 @@
 // Servers that keep going at a line that is refused, and what is told of lines and changes.
-use crate::serve::servers::{
-    comes_to, ends_well, keeping, serving, started, started_over, telling,
-};
+use crate::serve::servers::{comes_to, ends_well, keeping, serving, started, telling};
 use crate::serve::streams::{ASKS_FOR_R, R_ALONE, hears};
 use std::alloc::Global;
 use std::io;
 use std::io::Read;
 use std::test::Fail;
 use xds_cases::cases::{Outcome, hold};
-use xds_commands::{MAX_LINE, cause_of};
+use xds_commands::{Kept, MAX_LINE, Said, cause_of};
 
 // What is wrong of a line.
 struct Wrong;
@@ -166,23 +164,31 @@ fn a_line_as_long_as_a_line_may_be_is_taken(rt: HostRuntime) -> Result<(), Fail>
     )
 }
 
-const PUT_R: &[u8] =
-    b"\nput 1 {\"@type\":\"type.googleapis.com/envoy.config.route.v3.RouteConfiguration\",\
-     \"name\":\"r\"}";
+// What a line said, in words.
+fn word_of(said: Said) -> &'static str {
+    let Said { line: _, what } = said;
+    match what {
+        Ok(Some(_)) => "a change",
+        Ok(None) => "nothing",
+        Err(fault) => fault.refusal.name(),
+    }
+}
 
 #[test]
-fn a_server_that_keeps_going_passes_a_line_that_is_too_long_over(
-    rt: HostRuntime,
-) -> Result<(), Fail> {
-    let input = Long {
-        left: MAX_LINE + 5_000,
-        rest: PUT_R,
-    };
-    let server = started_over(&rt, input, keeping(1, 18_820, Some(1)))?;
-    hears(&rt, 18_820, ASKS_FOR_R, R_ALONE)?;
-    ends_well(
-        &rt,
-        server,
-        "replica 1: streams on 127.0.0.1:18820, REST on 127.0.0.1:18830\nline 1: 6 TooLong\n",
-    )
+fn a_line_that_is_too_long_is_passed_over(rt: HostRuntime) -> Result<(), Fail> {
+    let alloc = rt.alloc();
+    let piece = vec![in alloc; b'#'; MAX_LINE / 4]?;
+    let mut kept = Kept::new(alloc);
+    for _ in 0..4 {
+        kept.hold(piece.as_slice());
+    }
+    assert_eq!(rt; word_of(kept.end(alloc)), "nothing");
+    for _ in 0..6 {
+        kept.hold(piece.as_slice());
+    }
+    assert_eq!(rt; word_of(kept.end(alloc)), "TooLong");
+    kept.hold(b"delete 1 rou");
+    kept.hold(b"te r");
+    assert_eq!(rt; word_of(kept.end(alloc)), "a change");
+    Ok(())
 }

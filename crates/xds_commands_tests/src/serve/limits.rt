@@ -2,7 +2,7 @@
 use crate::serve::clients::{ask, connected, response};
 use crate::serve::servers::{came_well, serving, started};
 use std::alloc::Global;
-use std::io::Write;
+use std::io::{ErrorKind, Read, Write};
 use std::net::TcpStream;
 use std::test::Fail;
 use std::thread;
@@ -55,14 +55,24 @@ fn one_beside_another(rt: &HostRuntime) -> Result<(), Fail> {
 // Tried again until the first stream has left its place.
 fn one_after_another(rt: &HostRuntime) -> Result<(), Fail> {
     let alloc = rt.alloc();
-    for _ in 0..10_000 {
+    for _ in 0..1_000 {
         let socket = connected(rt, 18_880)?;
-        if is_answered(alloc, &socket).is_ok() {
-            return Ok(());
+        if is_open(&socket)? {
+            return is_answered(alloc, &socket);
         }
         thread::sleep(rt, Duration::from_millis(1));
     }
     Err(Fail::new(format_args!("no place")))
+}
+
+// Whether the server keeps a connection for a fifth of a second.
+fn is_open(socket: &TcpStream) -> Result<bool, Fail> {
+    socket.set_read_timeout(Some(Duration::from_millis(200)))?;
+    let mut from = socket;
+    match from.read(&mut [0u8]) {
+        Ok(_) => Ok(false),
+        Err(error) => Ok(error.kind() == ErrorKind::WouldBlock),
+    }
 }
 
 #[test]

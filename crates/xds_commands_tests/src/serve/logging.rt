@@ -94,7 +94,7 @@ fn a_text_of_a_client_is_a_part_of_a_line(rt: HostRuntime) -> Result<(), Fail> {
         &rt,
         "a b => a b
 \"\tx\u{7f}\u{85} => ??x??
-é/😀~'\\ => é/😀~'\\",
+é/😀~'\\ => é/😀~'?",
     )
 }
 

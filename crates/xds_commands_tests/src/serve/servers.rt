@@ -27,6 +27,7 @@ pub(crate) fn serving(replicas: u16, port: u16, streams: Option<u16>) -> Serving
         logs: false,
         max_streams: None,
         idle_seconds: None,
+        admin_port: None,
     }
 }
 
@@ -70,16 +71,8 @@ pub(crate) fn started<R: Runtime + Net<Listener = TcpListener, Stream = TcpStrea
     input: &'static str,
     serving: Serving,
 ) -> Result<JoinHandle<Came>, Fail> {
-    started_over(rt, input.as_bytes(), serving)
-}
-
-/// The same over any input.
-pub(crate) fn started_over<
-    I: Read + Drop + Send + 'static,
-    R: Runtime + Net<Listener = TcpListener, Stream = TcpStream>,
->(rt: &R, input: I, serving: Serving) -> Result<JoinHandle<Came>, Fail> {
     let host = *rt;
-    match thread::spawn(rt, move || served(&host, input, serving)) {
+    match thread::spawn(rt, move || served(&host, input.as_bytes(), serving)) {
         Ok(handle) => Ok(handle),
         Err(_) => Err(Fail::new(format_args!("no thread"))),
     }
