@@ -1,6 +1,7 @@
 -- Why a line of the server's input is no change: the first of its parts, from the left, that can't stand there. This project's own.
 --     cause_text        how a cause is told
 --     is_verb           a word that a change may begin with
+--     IsTextCause       what is wrong of a text that is no resource
 --     IsResourceCause   what is wrong of words that are no resource
 --     IsGroupsCause     what is wrong of words that are no groups with a resource behind them
 --     name_cause        what is wrong of words that are no name

@@ -3,6 +3,7 @@
 --     TellsRefusal   a refusal is told, and nothing is shown
 --     late_line      the line of a command that gave up after so many seconds
 --     http_line      the line of a client whose other end speaks HTTP
+--     TellsLate      it is told that so many seconds have passed, where they were given, and nothing is shown
 --     ShowsReply     a reply is shown: its status in a line, and its body in the next, where it has one
 --     ShowsInTime    the same, or it is told that so many seconds have passed, where they were given
 --     question_of    what a poll's task asks a server
@@ -10,6 +11,7 @@
 --     EndsPoll       `xds poll` over a connection, of which nothing is known but what it told
 --     variant_of     the variant of a client's stream
 --     IsOf           the subscription is the one that a client's task asks for
+--     TellsEnd       what is told of a refusal that a client ends by
 --     HasEnded       the status of a client that ended so, and what is told of that
 --     EndsClient     `xds client`: the client of its task ran over a connection, and its end is told
 --     GoesOn         what is left to do of a run: nothing, or the task that it was handed

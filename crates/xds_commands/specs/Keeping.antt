@@ -1,11 +1,15 @@
 -- What is made of each line of an input whose refused lines are passed over, however its bytes come. This project's own.
 --     held_of       what is held of a line of which these bytes have come: no more than shows that it is too long
 --     HasHeld       a part more of a line is held, unless there was no memory for it
+--     IsSaidBy      what a line of this number says, or why it is refused, by what was held of it
 --     IsSaid        what a line of this number says, or why it is refused
---     HandsSaid     what a line says is handed over, or its refusal told
+--     HandsWhat, HandsSaid
+--                   what a line says is handed over, or its refusal told
+--     KeepsChange   what is made of a line, by what it changes
 --     KeepsLine     a change is handed over, a refusal is told, and a line that is skipped does nothing; or there was no memory for
 --                   the line, which is told
 --     KeepsLines    so it is of each line, in order, of which the first has this number
+--     KeepsSome     the lines that had ended before a read failed
 --     KeepsInput    so it is of the lines of the bytes that came: all of them, where the input is at its end; where a read failed,
 --                   those that had ended before
 use Rattle.std.specs.Prelude.{◌≡◌, ◌⊎◌, ◌+◌, ℕ, List, [], ◌∷◌, ◌++◌, take, Bool, true, false, Option, Some, None, Result, Ok, Err}

@@ -2,6 +2,7 @@
 --     has_room       there may be one more of so many, where no more than so many may be at a time
 --     doors_after    what is counted once a connection came
 --     doors_left     what is counted once one that was served has ended
+--     frame_step     one byte more: the first four say how many follow them
 --     frame_after    what is known of a stream's first frame once bytes more have come
 --     is_whole       the first frame has come whole
 use Rattle.std.specs.Prelude.{ℕ, ◌+◌, ◌-◌, ◌*◌, ◌^◌, ◌&&◌, List, [], ◌∷◌, Bool, true, if◌then◌else◌, min, nat_lt, nat_le, Option, Some, None}

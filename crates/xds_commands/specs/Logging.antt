@@ -2,10 +2,12 @@
 --     shown_char      what stands for a character of a text that a client sent
 --     excerpt         the beginning of such a text, as it is shown
 --     place_text      which stream of which replica
+--     variant_word    the variant in a word
 --     first_text      the first request of a stream
 --     rejected_text   a response that a client rejected
 --     ended_text      the end of a stream, by a refusal or without one
 --     message_of      what is told of an event
+--     end_level       how much the end of a stream matters
 --     level_of        how much it matters
 --     log_line        the line of a message
 --     event_line      the line of an event

@@ -1,4 +1,5 @@
 -- Numbers in the text format of Prometheus.
+--     kind_word     what numbers do, in a word
 --     help_line     what the numbers of a name do: only rise, or rise and fall
 --     sample_line   the number of a name, with labels
 use Rattle.std.specs.Prelude.{ℕ, List, ◌++◌, codes, decimal}

@@ -1,5 +1,6 @@
 -- What a server tells on its error output while it serves. This project's own.
 --     caused_line    the line of a line of the input that is refused, with what is wrong of it
+--     refused_by     the same, or without that, where there is none
 --     refused_line   the same, or without that, where it isn't known
 --     note_line      the line of a note
 --     stamp_line     the line of a line that was made a write, which has this stamp

@@ -1,5 +1,6 @@
 -- What an operator's port is asked for. This project's own.
 --     found_at   what is found at a path, and by which method
+--     routed_by  what a request of this method asks for, by what is found at its path
 --     routed     what a request asks for, or the status that refuses it
 use Rattle.std.specs.Prelude.{ℕ, List, if◌then◌else◌, bytes_eq, Option, Some, None, Result, Ok, Err, codes}
 use Rattle.xds_commands.specs.declared.admin.Route.{Route}

@@ -20,7 +20,9 @@ use xds_world::lines::split_line;
 
 // The kinds of what is answered.
 const PLAIN: &str = "text/plain; charset=utf-8";
+
 const NUMBERS: &str = "text/plain; version=0.0.4";
+
 const JSON: &str = "application/json";
 
 /// What an operator asks for.
@@ -101,14 +103,7 @@ impl Drop for Admin {
 }
 
 impl Pages for Admin {
-    fn page<R: Wait>(
-        &self,
-        rt: &R,
-        alloc: Global,
-        method: &str,
-        path: &str,
-        body: &[u8],
-    ) -> Page {
+    fn page<R: Wait>(&self, rt: &R, alloc: Global, method: &str, path: &str, body: &[u8]) -> Page {
         match routed(method, path) {
             Ok(route) => match self.answer(rt, alloc, route, body) {
                 Ok(page) => page,

@@ -300,7 +300,8 @@ impl TypeStatus {
     // Notes a request. Answers whether it accepts the last response (true) or rejects it (false), where it does either for the first time.
     fn hear(&mut self, alloc: Global, heard: &Heard) -> Result<Option<bool>, Refusal> {
         self.names = heard.names.after(self.names);
-        let is_of_last = !self.nonce.as_str().is_empty() && heard.nonce.as_str() == self.nonce.as_str();
+        let is_of_last = !self.nonce.as_str().is_empty()
+            && heard.nonce.as_str() == self.nonce.as_str();
         if !is_of_last || self.is_answered {
             return Ok(None);
         }

@@ -24,7 +24,10 @@ impl FirstFrame {
     {
         for byte in piece {
             if self.come < 4 {
-                self.length = self.length.saturating_mul(256).saturating_add(u64::from(*byte));
+                self.length = self
+                    .length
+                    .saturating_mul(256)
+                    .saturating_add(u64::from(*byte));
             }
             self.come = self.come.saturating_add(1);
         }

@@ -49,7 +49,8 @@ impl<'a> Hands for Replicas<'a> {
         let line = change.line;
         let replica = change.replica;
         if !send(rt, self.senders, replica, Order::Change(change)) {
-            self.ending.refuse(rt, line, Fault::by(Cause::NoSuchReplica));
+            self.ending
+                .refuse(rt, line, Fault::by(Cause::NoSuchReplica));
         }
     }
 }

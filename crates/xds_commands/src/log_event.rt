@@ -132,12 +132,7 @@ fn log_line(alloc: Global, level: Level, message: &str) -> Result<String, Refusa
     Ok(format!(in alloc; "{line}\n")?)
 }
 
-fn listening_text(
-    alloc: Global,
-    replica: u16,
-    port: u16,
-    rest_port: u16,
-) -> Result<String, Refusal>
+fn listening_text(alloc: Global, replica: u16, port: u16, rest_port: u16) -> Result<String, Refusal>
     ensures { IfOk result (λ t. string_bytes t ≡ message_of (LogEvent.Listening replica port rest_port)) }
 {
     Ok(format!(in alloc;

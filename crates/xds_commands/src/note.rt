@@ -49,12 +49,7 @@ pub(crate) fn refused_line(alloc: Global, line: u64, fault: Fault) -> Result<Str
     }
 }
 
-fn caused_line(
-    alloc: Global,
-    line: u64,
-    refusal: Refusal,
-    cause: Cause,
-) -> Result<String, Refusal>
+fn caused_line(alloc: Global, line: u64, refusal: Refusal, cause: Cause) -> Result<String, Refusal>
     ensures { IfOk result (λ t. string_bytes t ≡ caused_line line refusal cause) }
 {
     let number = refusal.number();

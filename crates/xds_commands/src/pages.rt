@@ -151,9 +151,33 @@ fn add_streams(alloc: Global, metrics: &mut Metrics, replicas: &[Shown]) -> Resu
     for shown in replicas {
         let replica = shown.replica;
         let streams = shown.numbers.streams;
-        add_labelled(alloc, metrics, name, replica, "variant", "sotw", streams.sotw)?;
-        add_labelled(alloc, metrics, name, replica, "variant", "delta", streams.delta)?;
-        add_labelled(alloc, metrics, name, replica, "variant", "none", streams.silent)?;
+        add_labelled(
+            alloc,
+            metrics,
+            name,
+            replica,
+            "variant",
+            "sotw",
+            streams.sotw,
+        )?;
+        add_labelled(
+            alloc,
+            metrics,
+            name,
+            replica,
+            "variant",
+            "delta",
+            streams.delta,
+        )?;
+        add_labelled(
+            alloc,
+            metrics,
+            name,
+            replica,
+            "variant",
+            "none",
+            streams.silent,
+        )?;
     }
     Ok(())
 }
@@ -165,9 +189,25 @@ fn add_polls(alloc: Global, metrics: &mut Metrics, replicas: &[Shown]) -> Result
         let replica = shown.replica;
         let rest = shown.numbers.rest;
         add_labelled(alloc, metrics, name, replica, "status", "200", rest.ok)?;
-        add_labelled(alloc, metrics, name, replica, "status", "304", rest.unchanged)?;
+        add_labelled(
+            alloc,
+            metrics,
+            name,
+            replica,
+            "status",
+            "304",
+            rest.unchanged,
+        )?;
         add_labelled(alloc, metrics, name, replica, "status", "400", rest.bad)?;
-        add_labelled(alloc, metrics, name, replica, "status", "503", rest.unavailable)?;
+        add_labelled(
+            alloc,
+            metrics,
+            name,
+            replica,
+            "status",
+            "503",
+            rest.unavailable,
+        )?;
         add_labelled(alloc, metrics, name, replica, "status", "other", rest.other)?;
     }
     Ok(())
@@ -175,22 +215,99 @@ fn add_polls(alloc: Global, metrics: &mut Metrics, replicas: &[Shown]) -> Result
 
 fn add_held(alloc: Global, metrics: &mut Metrics, shown: &[Shown]) -> Result<(), Refusal> {
     let (counter, gauge) = (Kind::Counter, Kind::Gauge);
-    add_types(alloc, metrics, "xds_changes_total", counter, OfType::Changes, shown)?;
-    add_types(alloc, metrics, "xds_resources", gauge, OfType::Resources, shown)?;
-    add_types(alloc, metrics, "xds_tombstones", gauge, OfType::Tombstones, shown)?;
-    add_types(alloc, metrics, "xds_responses_total", counter, OfType::Responses, shown)?;
-    add_types(alloc, metrics, "xds_acks_total", counter, OfType::Acks, shown)?;
-    add_types(alloc, metrics, "xds_nacks_total", counter, OfType::Nacks, shown)
+    add_types(
+        alloc,
+        metrics,
+        "xds_changes_total",
+        counter,
+        OfType::Changes,
+        shown,
+    )?;
+    add_types(
+        alloc,
+        metrics,
+        "xds_resources",
+        gauge,
+        OfType::Resources,
+        shown,
+    )?;
+    add_types(
+        alloc,
+        metrics,
+        "xds_tombstones",
+        gauge,
+        OfType::Tombstones,
+        shown,
+    )?;
+    add_types(
+        alloc,
+        metrics,
+        "xds_responses_total",
+        counter,
+        OfType::Responses,
+        shown,
+    )?;
+    add_types(
+        alloc,
+        metrics,
+        "xds_acks_total",
+        counter,
+        OfType::Acks,
+        shown,
+    )?;
+    add_types(
+        alloc,
+        metrics,
+        "xds_nacks_total",
+        counter,
+        OfType::Nacks,
+        shown,
+    )
 }
 
 fn add_journal(alloc: Global, metrics: &mut Metrics, shown: &[Shown]) -> Result<(), Refusal> {
     let c = Kind::Counter;
-    add_replicas(alloc, metrics, "xds_records_total", c, OfReplica::Records, shown)?;
+    add_replicas(
+        alloc,
+        metrics,
+        "xds_records_total",
+        c,
+        OfReplica::Records,
+        shown,
+    )?;
     add_replicas(alloc, metrics, "xds_cuts_total", c, OfReplica::Cuts, shown)?;
-    add_replicas(alloc, metrics, "xds_cuts_failed_total", c, OfReplica::FailedCuts, shown)?;
-    add_replicas(alloc, metrics, "xds_exchange_parts_total", c, OfReplica::Parts, shown)?;
-    add_replicas(alloc, metrics, "xds_exchange_lost_total", c, OfReplica::LostParts, shown)?;
-    add_replicas(alloc, metrics, "xds_changes_refused_total", c, OfReplica::Refused, shown)?;
+    add_replicas(
+        alloc,
+        metrics,
+        "xds_cuts_failed_total",
+        c,
+        OfReplica::FailedCuts,
+        shown,
+    )?;
+    add_replicas(
+        alloc,
+        metrics,
+        "xds_exchange_parts_total",
+        c,
+        OfReplica::Parts,
+        shown,
+    )?;
+    add_replicas(
+        alloc,
+        metrics,
+        "xds_exchange_lost_total",
+        c,
+        OfReplica::LostParts,
+        shown,
+    )?;
+    add_replicas(
+        alloc,
+        metrics,
+        "xds_changes_refused_total",
+        c,
+        OfReplica::Refused,
+        shown,
+    )?;
     let name = "xds_put_to_last_poll_milliseconds";
     add_replicas(alloc, metrics, name, Kind::Gauge, OfReplica::Lag, shown)
 }

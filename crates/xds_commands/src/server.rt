@@ -11,7 +11,9 @@ use crate::lookout::{Limits, Lookout};
 use crate::machine::{Machine, Runtime};
 use crate::order::Order;
 use crate::replica::{Sends, Sockets, Takes};
-use crate::serve_telling::{PortFault, tell, tell_admin, tell_line, tell_port, tell_replicas, tell_until_end};
+use crate::serve_telling::{
+    PortFault, tell, tell_admin, tell_line, tell_port, tell_replicas, tell_until_end,
+};
 use crate::starting::{start_admin, start_input, start_replica};
 use crate::wires::{Wires, both, crossed, kept};
 use crate::workers::share;
@@ -54,6 +56,7 @@ pub struct Serving {
 // As many seconds as frames that were begun have to be written at the end, and as many milliseconds as who stopped the server has to
 // take the answer.
 const DRAIN_SECONDS: u64 = 4;
+
 const PARTING_MILLISECONDS: u64 = 200;
 
 // What the replicas are started with, and what changes of the input are sent by.
@@ -185,7 +188,16 @@ where
     let ending = Arc::new(alloc, ending_of(alloc, serving))?;
     let lookouts = lookouts_of(alloc, serving, &ending)?;
     log_replicas(rt, &ending, serving);
-    start(rt, alloc, input, wires, admin, serving.keep_going, &lookouts, &ending)?;
+    start(
+        rt,
+        alloc,
+        input,
+        wires,
+        admin,
+        serving.keep_going,
+        &lookouts,
+        &ending,
+    )?;
     let end = tell_until_end(rt, alloc, errors, &ending);
     if end == End::Stopped {
         thread::sleep(rt, Duration::from_millis(PARTING_MILLISECONDS));

@@ -14,12 +14,5 @@ pub struct Page {
 /// What answers requests, shared by all connections.
 pub trait Pages {
     /// The answer to a request of this method at this path, with this body. It may wait.
-    fn page<R: Wait>(
-        &self,
-        rt: &R,
-        alloc: Global,
-        method: &str,
-        path: &str,
-        body: &[u8],
-    ) -> Page;
+    fn page<R: Wait>(&self, rt: &R, alloc: Global, method: &str, path: &str, body: &[u8]) -> Page;
 }

@@ -125,12 +125,7 @@ fn is_outside(port: u16, first: u16, replicas: u16) -> bool
 }
 
 // Whether an operator's port, if there is one, is none of those of streams and of REST.
-pub(crate) fn is_alone(
-    admin_port: Option<u16>,
-    port: u16,
-    rest_port: u16,
-    replicas: u16,
-) -> bool
+pub(crate) fn is_alone(admin_port: Option<u16>, port: u16, rest_port: u16, replicas: u16) -> bool
     ensures { result ≡ is_alone admin_port port rest_port replicas }
 {
     match admin_port {

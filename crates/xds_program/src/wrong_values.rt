@@ -14,7 +14,7 @@ pub enum WrongValue {
     /// `--variant` is none.
     Variant,
     /// `--type` is none.
-    Type,
+    Kind,
     /// A port of the last replica is above 65,535.
     Port,
     /// The ports of streams and those of REST meet.
@@ -35,9 +35,10 @@ impl WrongValue {
                 "--addr: an address of IPv4 and a port, as 127.0.0.1:18000; for localhost write 127.0.0.1"
             }
             WrongValue::Variant => "--variant: sotw or delta",
-            WrongValue::Type => "--type: cluster, endpoint, listener, route or secret",
+            WrongValue::Kind => "--type: cluster, endpoint, listener, route or secret",
             WrongValue::Port => "--port, --rest-port: the port of the last replica is above 65535",
-            WrongValue::Meeting => "--port, --rest-port: the ports of streams and those of REST meet",
+            WrongValue::Meeting =>
+                "--port, --rest-port: the ports of streams and those of REST meet",
             WrongValue::Admin => "--admin-port: it is a port of streams or of REST",
             WrongValue::Other => "a value is none of those that the help names",
         }
@@ -108,7 +109,7 @@ fn wrong_type(given: &ArgMatches) -> WrongValue
     ensures { Blames (rows_of (found_of given.now)) result }
 {
     if kind(given).is_none() {
-        WrongValue::Type
+        WrongValue::Kind
     } else {
         WrongValue::Other
     }

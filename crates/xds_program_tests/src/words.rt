@@ -91,7 +91,9 @@ fn told_client(alloc: Global, client: &ClientTask) -> Result<String, Fail> {
     let seconds = seconds_told(alloc, client.seconds)?;
     let seconds = seconds.as_str();
     let cluster = client.cluster.as_str();
-    let mut text = format!(in alloc; "client {addr} {variant:?} {kind:?} {responses}{seconds} ({cluster})")?;
+    let mut text = format!(in alloc;
+        "client {addr} {variant:?} {kind:?} {responses}{seconds} ({cluster})"
+    )?;
     tell_names(&mut text, &client.names)?;
     Ok(text)
 }

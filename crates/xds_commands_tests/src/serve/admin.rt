@@ -71,14 +71,16 @@ view 1 route";
 const ASKS_AS_C: &str = "{\"node\":{\"cluster\":\"g\",\"id\":\"c\"},\"resourceNames\":[\"r\"],\
      \"typeUrl\":\"type.googleapis.com/envoy.config.route.v3.RouteConfiguration\"}";
 
-const ACCEPTS: &str = "{\"resourceNames\":[\"r\",\"t\"],\"responseNonce\":\"1\",\"versionInfo\":\"1.1.named\",\
+const ACCEPTS: &str =
+    "{\"resourceNames\":[\"r\",\"t\"],\"responseNonce\":\"1\",\"versionInfo\":\"1.1.named\",\
      \"typeUrl\":\"type.googleapis.com/envoy.config.route.v3.RouteConfiguration\"}";
 
 const REJECTS: &str = "{\"resourceNames\":[\"r\",\"t\"],\"responseNonce\":\"2\",\
      \"errorDetail\":{\"message\":\"no\"},\
      \"typeUrl\":\"type.googleapis.com/envoy.config.route.v3.RouteConfiguration\"}";
 
-const PUT_T: &str = "put 1 {\"@type\":\"type.googleapis.com/envoy.config.route.v3.RouteConfiguration\",\"name\":\"t\"}\n";
+const PUT_T: &str =
+    "put 1 {\"@type\":\"type.googleapis.com/envoy.config.route.v3.RouteConfiguration\",\"name\":\"t\"}\n";
 
 // What a client is told once; and then its answer.
 fn replies(alloc: Global, socket: &TcpStream, text: &str) -> Result<(), Fail> {

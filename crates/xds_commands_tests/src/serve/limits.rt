@@ -13,9 +13,17 @@ use xds_commands::{Doors, FirstFrame, Serving};
 const ASKS_FOR_CLUSTERS: &str =
     "{\"typeUrl\":\"type.googleapis.com/envoy.config.cluster.v3.Cluster\"}";
 
+const ASKS_FOR_LISTENERS: &str =
+    "{\"typeUrl\":\"type.googleapis.com/envoy.config.listener.v3.Listener\"}";
+
 // That a client is answered here.
 fn is_answered(alloc: Global, socket: &TcpStream) -> Result<(), Fail> {
-    ask(alloc, socket, ASKS_FOR_CLUSTERS)?;
+    is_told(alloc, socket, ASKS_FOR_CLUSTERS)
+}
+
+// The same for this request.
+fn is_told(alloc: Global, socket: &TcpStream, request: &str) -> Result<(), Fail> {
+    ask(alloc, socket, request)?;
     match response(alloc, socket)? {
         Some(_) => Ok(()),
         None => Err(Fail::new(format_args!("the stream was ended"))),
@@ -94,9 +102,7 @@ fn one_is_idle(rt: &HostRuntime) -> Result<(), Fail> {
     is_ended(alloc, &idle)?;
     let silent = connected(rt, 18_900)?;
     is_ended(alloc, &silent)?;
-    ask(alloc, &asks, "{\"typeUrl\":\"type.googleapis.com/envoy.config.listener.v3.Listener\"}")?;
-    drop(response(alloc, &asks)?);
-    Ok(())
+    is_told(alloc, &asks, ASKS_FOR_LISTENERS)
 }
 
 #[test]
