@@ -9,10 +9,13 @@
 --     KeepsLine     a change is handed over, a refusal is told, and a line that is skipped does nothing; or there was no memory for
 --                   the line, which is told
 --     KeepsLines    so it is of each line, in order, of which the first has this number
+--     next_line     the number of the next line, which stops at the greatest that can be told
+--     IsHeldOf      this is held of a line of which these bytes have come, or there was no memory for it
+--     KeepsPiece    a piece more: what is made of the lines that end in it, and what is held of the one behind them
 --     KeepsSome     the lines that had ended before a read failed
 --     KeepsInput    so it is of the lines of the bytes that came: all of them, where the input is at its end; where a read failed,
 --                   those that had ended before
-use Rattle.std.specs.Prelude.{◌≡◌, ◌⊎◌, ◌+◌, ℕ, List, [], ◌∷◌, ◌++◌, take, Bool, true, false, Option, Some, None, Result, Ok, Err}
+use Rattle.std.specs.Prelude.{◌≡◌, ◌⊎◌, ◌+◌, ℕ, List, [], ◌∷◌, ◌++◌, length, take, Bool, true, false, Option, Some, None, Result, Ok, Err}
 use Rattle.std.specs.Io.KnownBytes.{Consumes, IsAtEnd}
 use Rattle.xds_resource.specs.declared.refusal.Refusal.{Refusal}
 use Rattle.xds_resource.specs.declared.refusal.Refusal.TheVariants.{Device, OutOfMemory}
@@ -21,6 +24,7 @@ use Rattle.xds_commands.specs.declared.change.Change.{Change}
 use Rattle.xds_commands.specs.declared.ending.End.{End}
 use Rattle.xds_commands.specs.declared.ending.End.TheVariants.{Refused}
 use Rattle.xds_commands.specs.declared.fault.Fault.{Fault}
+use Rattle.xds_commands.specs.declared.kept.Kept.{Kept}
 use Rattle.xds_commands.specs.declared.kept.Said.{Said}
 use Rattle.xds_commands.specs.Causes.{IsFaultOf}
 use Rattle.xds_commands.specs.Changes.{Written, most_line, change_in, change_of}
@@ -70,6 +74,21 @@ abbrev pub KeepsLines : {S : Type 0} → (S → S → Written → Type 0) → (S
 KeepsLines hands refuses s t number [] = t ≡ s
 KeepsLines {S} hands refuses s t number (line ∷ lines) =
     (u : S) × KeepsLine hands refuses s u number line × KeepsLines hands refuses u t (line_after number 1) lines
+
+-- the number of the next line, which stops at the greatest that can be told
+abbrev pub next_line : ℕ → ℕ
+next_line number = line_after number 1
+
+-- this is held of a line of which these bytes have come, or there was no memory for it
+abbrev pub IsHeldOf : List ℕ → Kept → Type 0
+IsHeldOf bytes kept = (kept.is_lost ≡ true) ⊎ (kept.bytes.items ≡ held_of bytes)
+
+-- A piece more, behind what has come of a line: what is made of the lines that end in it, and what is held of the one behind them.
+abbrev pub KeepsPiece : {S : Type 0} → (S → S → Written → Type 0) → (S → S → ℕ → Refusal → Type 0) → S → S → Kept → Kept → List ℕ → Type 0
+KeepsPiece hands refuses s t old new piece =
+    (came : List ℕ) → IsHeldOf came old
+    → (ended : List (List ℕ)) × (left : List ℕ) × (pieces feed (came ++ piece) ≡ ended ++ left ∷ []) × IsHeldOf left new
+    × (new.line ≡ line_after old.line (length ended)) × KeepsLines hands refuses s t old.line ended
 
 -- the lines that had ended before a read failed
 pub record KeepsSome {S : Type 0} (hands : S → S → Written → Type 0) (refuses : S → S → ℕ → Refusal → Type 0) (s t : S) (bytes : List ℕ) : Type 0 where

@@ -1,7 +1,7 @@
 // The input of a server that keeps going: a line that is refused is told, and the next is read.
 ghost use Rattle.std.specs.Prelude.{◌≡◌};
 ghost use Rattle.xds_commands.specs.Changes.{change_of};
-ghost use Rattle.xds_commands.specs.Keeping.{HandsSaid, KeepsInput};
+ghost use Rattle.xds_commands.specs.Keeping.{HandsSaid, KeepsInput, KeepsPiece};
 
 use crate::ending::{End, Ending};
 use crate::fault::Fault;
@@ -90,7 +90,9 @@ fn keep_piece<H: Keeps, R: Wait>(
     hands: &mut H,
     kept: &mut Kept,
     piece: &[u8],
-) {
+)
+    ensures { KeepsPiece H.hands H.refuses hands.old hands.new kept.old kept.new piece.now }
+{
     let mut rest = piece;
     while let Some((part, following)) = split_line(rest) {
         kept.hold(part);

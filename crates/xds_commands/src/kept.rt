@@ -1,6 +1,7 @@
 // The lines of an input whose refused lines are passed over, as they come in pieces.
-ghost use Rattle.std.specs.Prelude.{◌≡◌, [], ◌++◌, false};
-ghost use Rattle.xds_commands.specs.Keeping.{HasHeld, IsSaid};
+ghost use Rattle.std.specs.Prelude.{◌≡◌, ◌≤◌, ◌+◌, length, [], ◌++◌, false};
+ghost use Rattle.xds_commands.specs.Changes.{most_line};
+ghost use Rattle.xds_commands.specs.Keeping.{HasHeld, IsSaid, next_line};
 
 use crate::cause::cause_of;
 use crate::change::{Change, MAX_LINE, read_change};
@@ -19,10 +20,12 @@ pub struct Said {
 
 /// What has come of the line at work: no more of it than shows that it is too long.
 pub struct Kept {
-    bytes: Vec<u8>,
-    // Whether there was no memory for it.
-    is_lost: bool,
-    line: u64,
+    pub bytes: Vec<u8>,
+    /// Whether there was no memory for it.
+    pub is_lost: bool,
+    /// Its number, from 1.
+    pub line: u64,
+    ghost short: { length bytes.items ≤ most_line + 1 },
 }
 
 // Written out: docs/PROVING.md, "Drops".
@@ -68,6 +71,7 @@ impl Kept {
     pub fn end(&mut self, alloc: Global) -> Said
         ensures said { IsSaid self.old.bytes.items self.old.is_lost self.old.line result }
         ensures nothing { (self.new.bytes.items ≡ []) × (self.new.is_lost ≡ false) }
+        ensures line { self.new.line ≡ next_line self.old.line }
     {
         let bytes = mem::replace(&mut self.bytes, Vec::new(alloc));
         let is_lost = mem::replace(&mut self.is_lost, false);
