@@ -20,7 +20,7 @@ use Rattle.http.specs.declared.request.Request.{Request}
 use Rattle.http_body_util.specs.declared.full.Full.{Full}
 use Rattle.xds_frames.specs.Devices.{Device, Stays, Tells}
 use Rattle.xds_resource.specs.declared.refusal.Refusal.{Refusal}
-use Rattle.xds_resource.specs.declared.refusal.Refusal.TheVariants.{OutOfMemory}
+use Rattle.xds_resource.specs.declared.refusal.Refusal.TheVariants.{OutOfMemory, Device as DeviceRefusal}
 use Rattle.xds_resource.specs.Refusals.{number_of, name_of}
 use Rattle.xds_http.specs.declared.told.Told.{Told}
 use Rattle.xds_http.specs.Questions.{Question, shown}
@@ -63,7 +63,8 @@ TellsLate seconds status output errors = (s : ℕ) × (seconds ≡ Some s) × St
 
 -- A reply is shown, or why there is none; or it is told that so many seconds have passed, where they were given.
 abbrev pub ShowsInTime : Option ℕ → Result Told Refusal → ℕ → Device → Device → Type 0
-ShowsInTime seconds r status output errors = ShowsReply r status output errors ⊎ TellsLate seconds status output errors
+ShowsInTime seconds r status output errors =
+    ShowsReply r status output errors ⊎ ((r ≡ Err DeviceRefusal) × TellsLate seconds status output errors)
 
 -- what a poll's task asks a server
 abbrev pub question_of : Look → Question
@@ -96,7 +97,7 @@ pub record IsOf (task : Watch) (s : Subscription) : Type 0 where
 abbrev pub TellsEnd : Option ℕ → Refusal → Device → Type 0
 TellsEnd seconds e errors =
     Tells errors (refusal_line e) ⊎ (Tells errors (refusal_line OutOfMemory) ⊎ (Tells errors (http_line e)
-    ⊎ ((s : ℕ) × (seconds ≡ Some s) × Tells errors (late_line s))))
+    ⊎ ((s : ℕ) × (e ≡ DeviceRefusal) × (seconds ≡ Some s) × Tells errors (late_line s))))
 
 -- the status of a client that ended so, and what is told of that
 abbrev pub HasEnded : {T : Type 0} → Watch → Result T Refusal → ℕ → Device → Type 0

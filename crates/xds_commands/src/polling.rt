@@ -1,5 +1,5 @@
 // `xds poll`: one poll of a server, and what is shown of its reply.
-ghost use Rattle.std.specs.Prelude.{◌≡◌, IfErr, IfSome, Ok, Some};
+ghost use Rattle.std.specs.Prelude.{◌≡◌, Err, IfErr, IfSome, Ok, Some};
 ghost use Rattle.xds_frames.specs.Devices.{seen};
 ghost use Rattle.xds_http.specs.Sent.{TellsNothing};
 ghost use Rattle.xds_commands.specs.Ends.{EndsPoll, EndsPollBy, ShowsReply, question_of};
@@ -73,10 +73,10 @@ fn late<R: Clock>(
     seconds: Option<u16>,
     deadline: Deadline,
 ) -> Option<u16>
-    ensures { IfSome result (λ s. seconds ≡ Some s) }
+    ensures { IfSome result (λ s. (seconds ≡ Some s) × (polled.now ≡ Err Refusal.Device)) }
 {
     match (polled, seconds) {
-        (Err(_), Some(seconds)) if deadline.has_come(rt) => Some(seconds),
+        (Err(Refusal::Device), Some(seconds)) if deadline.has_come(rt) => Some(seconds),
         _ => None,
     }
 }

@@ -112,7 +112,9 @@ fn tell_why<R: Clock, E: Write>(
         return tell_http(alloc, refusal, errors);
     }
     match task.seconds {
-        Some(seconds) if deadline.has_come(rt) => tell_late(alloc, seconds, errors),
+        Some(seconds) if refusal == Refusal::Device && deadline.has_come(rt) => {
+            tell_late(alloc, seconds, errors)
+        }
         _ => tell_refusal(alloc, refusal, errors),
     }
 }

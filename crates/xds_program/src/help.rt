@@ -70,12 +70,13 @@ Reads lines `put`, `putin` and `delete` of scripts, and applies each while it
 serves; at the end of the input it goes on, until it is stopped (Ctrl-C).
 With --keep-going a line that is refused is told, and the next is read; with
 --log what an operator cares for is told, a line an event. At --admin-port it
-answers /healthz, /ready, /metrics, /status, /changes and /stop over HTTP.
+answers /healthz, /ready, /metrics, /status, /changes and /stop over HTTP;
+the last ends it with status 0.
 Prints nothing; the error output has a line a replica, which says what is
 served where. docs/SERVING.md has more, docs/CLI.md the refusals.
 
 Statuses:
-  0  as many streams have ended as --streams says, or it was stopped
+  0  as many streams have ended as --streams says
   1  a line was refused, a port can't be bound, or it could not go on
   2  the words are wrong; nothing was read";
 
@@ -85,14 +86,14 @@ pub(crate) const CLIENT: &str = "Example, beside `./xds serve < examples/mesh.se
       --type cluster --responses 1 '*'
 
 Reads no input; `*` asks for all clusters or listeners.
+With --seconds T it gives up after T seconds, with status 1.
 Prints for each response `taken NONCE` or `refused NONCE`, and then what it
 shows, a line a resource. The formats are in docs/FORMATS.md, the refusals in
 docs/CLI.md.
 
 Statuses:
   0  so many responses were answered
-  1  no server, the stream broke off, what came is no response to be taken, or
-     --seconds have passed
+  1  no server, the stream broke off, or what came is no response to be taken
   2  the words are wrong; nothing was sent";
 
 /// At the end of `xds poll --help`.
@@ -100,10 +101,11 @@ pub(crate) const POLL: &str = "Example, beside `./xds serve < examples/mesh.serv
   ./xds poll --addr 127.0.0.1:18101 --type route shop
 
 Reads no input; without a NAME it asks for all clusters or listeners.
+With --seconds T it gives up after T seconds, with status 1.
 Prints the status of the reply, and its body, where it has one, in the next
 line. docs/SERVING.md has more, docs/CLI.md the refusals.
 
 Statuses:
   0  a reply came, whatever its status is
-  1  no reply came, or none within --seconds
+  1  no reply came
   2  the words are wrong; nothing was sent";
