@@ -16,6 +16,6 @@ pub use pages::{Page, Pages};
 pub use polling::{Connects, ConnectsWithin, Posts, poll, poll_by};
 pub use question::Question;
 pub use replies::Replies;
-pub use serve::{serve_http, serve_on};
+pub use serve::{MAX_CONNECTIONS, serve_http, serve_on, serve_some};
 pub use site::serve_pages;
 pub use told::Told;

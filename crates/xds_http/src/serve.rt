@@ -1,7 +1,7 @@
 // The server of polls over HTTP.
 ghost use Rattle.std.specs.Prelude.{IfSome};
 
-use crate::accept::{Serves, Tasks};
+use crate::accept::{Asked, Serves, Tasks};
 use crate::replies::Replies;
 use crate::service::Rest;
 use bytes::Bytes;
@@ -53,10 +53,10 @@ where
 {
     type Conn = Connection<TcpStream, Rest<R, A>, Full<Bytes>, TokioTimer<R>>;
 
-    fn serve(&self, socket: TcpStream) -> Option<Self::Conn> {
+    fn serve(&self, socket: TcpStream, asked: Asked) -> Option<Self::Conn> {
         let shared = Arc::try_clone(&self.shared).ok()?;
         let timers = self.timers.clone().ok()?;
-        let rest = Rest::new(self.rt, timers, shared);
+        let rest = Rest::new(self.rt, timers, shared, asked);
         Some(self.builder.serve_connection(socket, rest))
     }
 
@@ -90,8 +90,8 @@ where
 }
 
 /// As many permits as there may be connections.
-pub(crate) fn permits(alloc: Global) -> io::Result<Arc<Semaphore>> {
-    let permits = Semaphore::new(alloc, MAX_CONNECTIONS)?;
+pub(crate) fn permits(alloc: Global, connections: usize) -> io::Result<Arc<Semaphore>> {
+    let permits = Semaphore::new(alloc, connections)?;
     Ok(Arc::new(alloc, permits)?)
 }
 
@@ -101,15 +101,16 @@ fn tasks_of<R, A>(
     runtime: &LocalRuntime,
     listener: std::net::TcpListener,
     node: Arc<A>,
+    connections: usize,
 ) -> io::Result<Tasks<Http<R, A>>>
 where
     R: Wait + Clock + RandomSource + AllocGlobal + Copy + Drop,
     A: Replies + Drop,
 {
     let http = http_of(rt, runtime.handle().time(), node)?;
-    let permits = permits(rt.alloc())?;
+    let permits = permits(rt.alloc(), connections)?;
     let listener = TcpListener::from_std(listener, runtime.handle().reactor())?;
-    Ok(Tasks::new(listener, http, permits))
+    Ok(Tasks::new(rt.alloc(), listener, http, permits))
 }
 
 /// Runs each connection of a listener as a task.
@@ -134,7 +135,7 @@ where
     R: Wait + Clock + RandomSource + AllocGlobal + Copy + Drop,
     A: Replies + Drop,
 {
-    let tasks = tasks_of(rt, runtime, listener, node)?;
+    let tasks = tasks_of(rt, runtime, listener, node, MAX_CONNECTIONS)?;
     run_tasks(rt, runtime, tasks)
 }
 
@@ -146,4 +147,20 @@ where
 {
     let mut runtime = LocalRuntime::new(rt)?;
     serve_http(rt, &mut runtime, listener, node)
+}
+
+/// The same with at most so many connections at once.
+pub fn serve_some<R, A>(
+    rt: &R,
+    listener: std::net::TcpListener,
+    node: Arc<A>,
+    connections: usize,
+) -> io::Result<()>
+where
+    R: Wait + Clock + Net + RandomSource + AllocGlobal + Copy + Drop,
+    A: Replies + Drop,
+{
+    let mut runtime = LocalRuntime::new(rt)?;
+    let tasks = tasks_of(rt, &runtime, listener, node, connections)?;
+    run_tasks(rt, &mut runtime, tasks)
 }

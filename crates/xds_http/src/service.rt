@@ -4,6 +4,7 @@ ghost use Rattle.xds_resource.specs.declared.types.TypeName.{TypeName as Kind};
 ghost use Rattle.xds_polls.specs.Polls.{addressed};
 ghost use Rattle.xds_http.specs.Carried.{IsAnswer};
 
+use crate::accept::Asked;
 use crate::replies::Replies;
 use crate::response::{bare, response_of};
 use bytes::Bytes;
@@ -31,6 +32,7 @@ pub struct Rest<R, A> {
     rt: R,
     timers: Handle,
     shared: Arc<A>,
+    asked: Asked,
 }
 
 // Written out: docs/PROVING.md, "Drops".
@@ -40,15 +42,21 @@ impl<R: Drop, A: Drop> Drop for Rest<R, A> {
             rt: _,
             timers: _,
             shared: _,
+            asked: _,
         } = self;
     }
 }
 
 impl<R, A> Rest<R, A> {
-    pub fn new(rt: R, timers: Handle, shared: Arc<A>) -> Rest<R, A>
+    pub fn new(rt: R, timers: Handle, shared: Arc<A>, asked: Asked) -> Rest<R, A>
         ensures { result.shared ≡ shared }
     {
-        Rest { rt, timers, shared }
+        Rest {
+            rt,
+            timers,
+            shared,
+            asked,
+        }
     }
 }
 
@@ -201,6 +209,7 @@ where
     type Future = Answering<R, A, Body<I>>;
 
     fn call(&self, request: Request<Incoming<I>>) -> Self::Future {
+        self.asked.note();
         let alloc = self.rt.alloc();
         if let Some(status) = known(&request) {
             return Answering::Known(alloc, status);

@@ -1,10 +1,10 @@
 // The server of pages over HTTP: the service of one connection, and the connections of a listener.
 ghost use Rattle.std.specs.Prelude.{IfSome};
 
-use crate::accept::{Serves, Tasks};
+use crate::accept::{Asked, Serves, Tasks};
 use crate::pages::{Page, Pages};
 use crate::response::bare;
-use crate::serve::{pause_of, permits, run_tasks};
+use crate::serve::{MAX_CONNECTIONS, pause_of, permits, run_tasks};
 use crate::service::{BODY_SECONDS, Body, Come};
 use bytes::Bytes;
 use futures::task::{Context, Poll};
@@ -34,6 +34,7 @@ pub struct Site<R, A> {
     rt: R,
     timers: Handle,
     shared: Arc<A>,
+    asked: Asked,
 }
 
 // Written out: docs/PROVING.md, "Drops".
@@ -43,6 +44,7 @@ impl<R: Drop, A: Drop> Drop for Site<R, A> {
             rt: _,
             timers: _,
             shared: _,
+            asked: _,
         } = self;
     }
 }
@@ -155,6 +157,7 @@ where
     type Future = Paging<R, A, Body<I>>;
 
     fn call(&self, request: Request<Incoming<I>>) -> Self::Future {
+        self.asked.note();
         let alloc = self.rt.alloc();
         let Ok(method) = String::from_str(alloc, request.method().as_str()) else {
             return Paging::Unavailable(alloc);
@@ -207,13 +210,14 @@ where
 {
     type Conn = Connection<TcpStream, Site<R, A>, Full<Bytes>, TokioTimer<R>>;
 
-    fn serve(&self, socket: TcpStream) -> Option<Self::Conn> {
+    fn serve(&self, socket: TcpStream, asked: Asked) -> Option<Self::Conn> {
         let shared = Arc::try_clone(&self.shared).ok()?;
         let timers = self.timers.clone().ok()?;
         let site = Site {
             rt: self.rt,
             timers,
             shared,
+            asked,
         };
         Some(self.builder.serve_connection(socket, site))
     }
@@ -250,7 +254,11 @@ where
 {
     let mut runtime = LocalRuntime::new(rt)?;
     let sites = sites_of(rt, runtime.handle().time(), pages)?;
-    let permits = permits(rt.alloc())?;
+    let permits = permits(rt.alloc(), MAX_CONNECTIONS)?;
     let listener = TcpListener::from_std(listener, runtime.handle().reactor())?;
-    run_tasks(rt, &mut runtime, Tasks::new(listener, sites, permits))
+    run_tasks(
+        rt,
+        &mut runtime,
+        Tasks::new(rt.alloc(), listener, sites, permits),
+    )
 }
