@@ -17,7 +17,7 @@ use Rattle.xds_commands.specs.declared.ending.End.TheVariants.{Line, Refused}
 use Rattle.xds_commands.specs.Changes.{Written, change_of, change_in}
 use Rattle.xds_commands.specs.Handing.{AllHanded, line_after, behind, HandsLast, TakesAll, TakesUpTo, TakesSome, StopsInput, TakesInput}
 use Rattle.xds_commands.specs.Inputs.{brings, is_wrong, AreTaken, AreRefused, AreEnded, Takes}
-use Rattle.xds_commands.proofs.Changing.{good_line, wrong_line}
+use Rattle.xds_commands.proofs.Changing.{good_line}
 use Rattle.xds_commands.proofs.Takings.{line_more, why_of}
 
 -- ---- bytes behind bytes
@@ -259,7 +259,7 @@ module _ {S : Type 0} (hands : S → S → Written → Type 0) where
       lines_are = so_far.ended.lines_are;
       taken = so_far.ended.taken;
       count_is = so_far.ended.count_is;
-      why = why_of e held (wrong_line held e reads);
+      why = why_of e held reads;
     };
     line_is = so_far.line_is;
     handed = so_far.handed;
