@@ -1,4 +1,6 @@
 mod Changing
 mod Handings
 mod Takings
+mod KeptLines
 mod Responding
+mod GivingUp

@@ -10,7 +10,7 @@
 --                   the line, which is told
 --     KeepsLines    so it is of each line, in order, of which the first has this number
 --     next_line     the number of the next line, which stops at the greatest that can be told
---     IsHeldOf      this is held of a line of which these bytes have come, or there was no memory for it
+--     IsHeldOf      this is held of a line of which these bytes have come, and which hasn't ended; or there was no memory for it
 --     KeepsPiece    a piece more: what is made of the lines that end in it, and what is held of the one behind them
 --     KeepsSome     the lines that had ended before a read failed
 --     KeepsInput    so it is of the lines of the bytes that came: all of them, where the input is at its end; where a read failed,
@@ -79,9 +79,9 @@ KeepsLines {S} hands refuses s t number (line ∷ lines) =
 abbrev pub next_line : ℕ → ℕ
 next_line number = line_after number 1
 
--- this is held of a line of which these bytes have come, or there was no memory for it
+-- this is held of a line of which these bytes have come, and which hasn't ended; or there was no memory for it
 abbrev pub IsHeldOf : List ℕ → Kept → Type 0
-IsHeldOf bytes kept = (kept.is_lost ≡ true) ⊎ (kept.bytes.items ≡ held_of bytes)
+IsHeldOf bytes kept = (pieces feed bytes ≡ bytes ∷ []) × ((kept.is_lost ≡ true) ⊎ (kept.bytes.items ≡ held_of bytes))
 
 -- A piece more, behind what has come of a line: what is made of the lines that end in it, and what is held of the one behind them.
 abbrev pub KeepsPiece : {S : Type 0} → (S → S → Written → Type 0) → (S → S → ℕ → Refusal → Type 0) → S → S → Kept → Kept → List ℕ → Type 0

@@ -1,7 +1,6 @@
 // How a refusal that is of no line is told, and that a command gave up.
-ghost use Rattle.std.specs.Prelude.{◌≡◌, ◌⊎◌, IfOk, MatchResult, string_bytes};
+ghost use Rattle.std.specs.Prelude.{◌≡◌, ◌⊎◌, IfOk, string_bytes};
 ghost use Rattle.xds_frames.specs.Devices.{Tells, seen};
-ghost use Rattle.xds_resource.specs.declared.refusal.Refusal.TheVariants.{OutOfMemory};
 ghost use Rattle.xds_program.specs.Outcomes.{refusal_line};
 ghost use Rattle.xds_commands.specs.Ends.{late_line, http_line};
 
@@ -28,21 +27,6 @@ pub(crate) fn tell_refusal<E: Write>(alloc: Global, refusal: Refusal, errors: &m
     }
 }
 
-// Tells a text, or that there was no memory for it, and answers the status.
-fn tell_text<E: Write>(text: Result<String, Refusal>, errors: &mut Counted<E>) -> u8
-    ensures told { MatchResult text (λ t. Tells (seen E.contents errors.old errors.new) (string_bytes t))
-        (λ _. Tells (seen E.contents errors.old errors.new) (refusal_line Refusal.OutOfMemory)) }
-    ensures status { result ≡ 1 }
-{
-    match text {
-        Ok(text) => {
-            let _ = write_whole(errors, text.as_bytes());
-            REFUSED
-        }
-        Err(_) => tell(Refusal::OutOfMemory, errors),
-    }
-}
-
 // The line of a command that gave up.
 fn late_line(alloc: Global, seconds: u16) -> Result<String, Refusal>
     ensures { IfOk result (λ t. string_bytes t ≡ late_line seconds) }
@@ -61,13 +45,19 @@ fn http_line(alloc: Global, refusal: Refusal) -> Result<String, Refusal>
     )?)
 }
 
-/// Tells that a command gave up after so many seconds, or that there was no memory to say so, and answers the status.
+/// Tells that a command gave up after so many seconds, or only `Device` where there was no memory to say so, and answers the status.
 pub(crate) fn tell_late<E: Write>(alloc: Global, seconds: u16, errors: &mut Counted<E>) -> u8
     ensures told { Tells (seen E.contents errors.old errors.new) (late_line seconds)
-        ⊎ Tells (seen E.contents errors.old errors.new) (refusal_line Refusal.OutOfMemory) }
+        ⊎ Tells (seen E.contents errors.old errors.new) (refusal_line Refusal.Device) }
     ensures status { result ≡ 1 }
 {
-    tell_text(late_line(alloc, seconds), errors)
+    match late_line(alloc, seconds) {
+        Ok(text) => {
+            let _ = write_whole(errors, text.as_bytes());
+            REFUSED
+        }
+        Err(_) => tell(Refusal::Device, errors),
+    }
 }
 
 /// Tells a refusal, and that the other end speaks HTTP, or that there was no memory to say so, and answers the status.
@@ -76,5 +66,11 @@ pub(crate) fn tell_http<E: Write>(alloc: Global, refusal: Refusal, errors: &mut 
         ⊎ Tells (seen E.contents errors.old errors.new) (refusal_line Refusal.OutOfMemory) }
     ensures status { result ≡ 1 }
 {
-    tell_text(http_line(alloc, refusal), errors)
+    match http_line(alloc, refusal) {
+        Ok(text) => {
+            let _ = write_whole(errors, text.as_bytes());
+            REFUSED
+        }
+        Err(_) => tell(Refusal::OutOfMemory, errors),
+    }
 }

@@ -71,8 +71,14 @@ pub struct Task<C> {
 }
 
 impl<C> Task<C> {
+    ghost use Rattle.std.specs.Prelude.{◌≡◌};
+    ghost use Rattle.futures.specs.Task.{Keeps};
+
     // Whether it is told to give way, and does.
-    fn gives_way(&mut self, cx: &mut Context<'_>) -> bool {
+    fn gives_way(&mut self, cx: &mut Context<'_>) -> bool
+        ensures conn { self.new.conn ≡ self.old.conn }
+        ensures kept { Keeps cx.old cx.new }
+    {
         if self.asked.has_come() {
             self.told = None;
         }
@@ -205,7 +211,10 @@ impl<S: Serves> Tasks<S> {
 
     // Tells the oldest connection over which no head has come to give way, if there is one.
     fn make_room(&mut self) -> bool {
-        while let Some(waiting) = self.waiting.pop_front() {
+        for _ in 0..self.waiting.len() {
+            let Some(waiting) = self.waiting.pop_front() else {
+                return false;
+            };
             if waiting.may_yield() {
                 let Waiting { asked: _, tells } = waiting;
                 return tells.send(()).is_ok();

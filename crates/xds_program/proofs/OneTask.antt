@@ -13,7 +13,7 @@ use Rattle.xds_program.specs.Words.{Asks, AsksBy, AsksClient, AsksIn, AsksPoll, 
 use Rattle.xds_program.proofs.Values.{one_number, only_answer, only_check, only_client, only_play, only_poll, only_serve, same_some}
 
 -- what fits one thing at most is found once
-one_found : {X : Type 0} (Fits : X → Type 0) → ((x y : X) → Fits x → Fits y → x ≡ y) → (o p : Option X) → Finds Fits o → Finds Fits p → o ≡ p
+pub one_found : {X : Type 0} (Fits : X → Type 0) → ((x y : X) → Fits x → Fits y → x ≡ y) → (o p : Option X) → Finds Fits o → Finds Fits p → o ≡ p
 one_found Fits one (Some x) (Some y) h k = ap Some (one x y h k)
 one_found Fits one (Some x) None h k = absurd (k x h)
 one_found Fits one None (Some y) h k = absurd (h y k)

@@ -71,7 +71,10 @@ fn wrong_port(given: &ArgMatches) -> WrongValue
     ) else {
         return WrongValue::Other;
     };
-    if !has_ports(port, replicas) || !has_ports(rest_port, replicas) {
+    if !has_ports(port, replicas) {
+        return WrongValue::Port;
+    }
+    if !has_ports(rest_port, replicas) {
         return WrongValue::Port;
     }
     if !are_apart(port, rest_port, replicas) {
@@ -87,22 +90,29 @@ fn wrong_port(given: &ArgMatches) -> WrongValue
 fn wrong_of_client(given: &ArgMatches) -> WrongValue
     ensures { Blames (rows_of (found_of given.now)) result }
 {
-    if address(given).is_none() {
-        return WrongValue::Addr;
+    match address(given) {
+        Some(_) => wrong_variant(given),
+        None => WrongValue::Addr,
     }
+}
+
+fn wrong_variant(given: &ArgMatches) -> WrongValue
+    ensures { Blames (rows_of (found_of given.now)) result }
+{
     if variant(given).is_none() {
-        return WrongValue::Variant;
+        WrongValue::Variant
+    } else {
+        wrong_type(given)
     }
-    wrong_type(given)
 }
 
 fn wrong_of_poll(given: &ArgMatches) -> WrongValue
     ensures { Blames (rows_of (found_of given.now)) result }
 {
-    if address(given).is_none() {
-        return WrongValue::Addr;
+    match address(given) {
+        Some(_) => wrong_type(given),
+        None => WrongValue::Addr,
     }
-    wrong_type(given)
 }
 
 fn wrong_type(given: &ArgMatches) -> WrongValue
