@@ -1,5 +1,5 @@
 -- How a command is told to have given up, and how a client's end is told.
-use Rattle.std.proofs.Common.{◌≡◌, ◌⊎◌, ℕ, inl, inr, Option, Some, Result, Ok, Err, subst, sym}
+use Rattle.std.proofs.Common.{◌≡◌, ◌⊎◌, ℕ, inl, inr, Option, Some, None, IfSome, Result, Ok, Err, ap, ◌∙◌, subst, sym}
 use Rattle.xds_frames.specs.Devices.{Device, Stays, Tells}
 use Rattle.xds_resource.specs.declared.refusal.Refusal.{Refusal}
 use Rattle.xds_resource.specs.declared.refusal.Refusal.TheVariants.{OutOfMemory, Device as DeviceRefusal}
@@ -7,6 +7,12 @@ use Rattle.xds_http.specs.declared.told.Told.{Told}
 use Rattle.xds_program.specs.Outcomes.{refusal_line}
 use Rattle.xds_program.specs.Tasks.{Watch}
 use Rattle.xds_commands.specs.Ends.{HasEnded, ShowsInTime, ShowsReply, http_line, late_line}
+
+-- a poll that ended by a refusal gave up where the refusal says so
+pub late_if : (r seconds : Option ℕ) (e : Refusal) (polled : Result Told Refusal) → polled ≡ Err e → IfSome r (λ s. (seconds ≡ Some s) × (e ≡ DeviceRefusal))
+    → IfSome r (λ s. (seconds ≡ Some s) × (polled ≡ Err DeviceRefusal))
+late_if None seconds e polled is gave = tt
+late_if (Some s) seconds e polled is gave = (gave.0, is ∙ ap Err gave.1)
 
 -- a poll that gave up tells so, or that no reply came
 pub shows_late : (seconds : Option ℕ) (s : ℕ) (r : Result Told Refusal) (status : ℕ) (output errors : Device) → seconds ≡ Some s → r ≡ Err DeviceRefusal → Stays output

@@ -28,7 +28,7 @@ first_of true b ps there = ([], ps, refl)
 first_of false b ps (o, os, is) = (b ∷ o, os, ap (onto_first b) is)
 
 -- there is a piece at least
-first_piece : (m : ℕ) (bytes : List ℕ) → (o : List ℕ) × (os : List (List ℕ)) × (pieces m bytes ≡ o ∷ os)
+pub first_piece : (m : ℕ) (bytes : List ℕ) → (o : List ℕ) × (os : List (List ℕ)) × (pieces m bytes ≡ o ∷ os)
 first_piece m [] = ([], [], refl)
 first_piece m (b ∷ bytes) = first_of (b == m) b (pieces m bytes) (first_piece m bytes)
 

@@ -17,7 +17,8 @@ use Rattle.xds_commands.specs.declared.kept.Kept.{Kept}
 use Rattle.xds_commands.specs.declared.kept.Said.{Said}
 use Rattle.xds_commands.specs.Changes.{Written, most_line, change_in}
 use Rattle.xds_commands.specs.Handing.{line_after}
-use Rattle.xds_commands.specs.Keeping.{held_of, HasHeld, IsSaid, IsSaidBy, HandsSaid, HandsWhat, KeepsChange, KeepsLine, KeepsLines, next_line, IsHeldOf, KeepsPiece, KeepsSome, KeepsInput}
+use Rattle.xds_commands.specs.HeldLines.{held_of, HasHeld, IsSaid, IsSaidBy, next_line}
+use Rattle.xds_commands.specs.Keeping.{HandsSaid, HandsWhat, KeepsChange, KeepsLine, KeepsLines, IsHeldOf, KeepsPiece, KeepsSome, KeepsInput}
 use Rattle.xds_commands.proofs.Changing.{long_line}
 use Rattle.xds_commands.proofs.Handings.{pieces_more}
 use Rattle.xds_commands.proofs.Takings.{pieces_behind}
@@ -55,7 +56,9 @@ held_by old false part new lost came (inr is) (inr has) = inr (has.1 ∙ ap (λ 
 
 least : (m : ℕ) (part : List ℕ) → (m < length part) ⊎ (length part ≤ m) → take (min (length part) m) part ≡ take m part
 least m part (inl less) = ap (λ k. take k part) (omega (arith, less))
-least m part (inr more) = ap (λ k. take k part) (omega (arith, more) : min (length part) m ≡ length part) ∙ take_all (length part) part (omega arith) ∙ sym (take_all m part more)
+least m part (inr more) =
+    let all : min (length part) m ≡ length part = omega (arith, more) in
+    ap (λ k. take k part) all ∙ take_all (length part) part (omega arith) ∙ sym (take_all m part more)
 
 -- behind what is held, as much as there is room for
 pub held_room : (old part : List ℕ) → length old ≤ most_line + 1 → old ++ take (min (length part) (most_line + 1 - length old)) part ≡ held_of (old ++ part)

@@ -1,6 +1,7 @@
 mod Changing
 mod Handings
 mod Takings
+mod Causing
 mod KeptLines
 mod Responding
 mod GivingUp

@@ -1,21 +1,16 @@
 -- What is made of each line of an input whose refused lines are passed over, however its bytes come. This project's own.
---     held_of       what is held of a line of which these bytes have come: no more than shows that it is too long
---     HasHeld       a part more of a line is held, unless there was no memory for it
---     IsSaidBy      what a line of this number says, or why it is refused, by what was held of it
---     IsSaid        what a line of this number says, or why it is refused
 --     HandsWhat, HandsSaid
 --                   what a line says is handed over, or its refusal told
 --     KeepsChange   what is made of a line, by what it changes
 --     KeepsLine     a change is handed over, a refusal is told, and a line that is skipped does nothing; or there was no memory for
 --                   the line, which is told
 --     KeepsLines    so it is of each line, in order, of which the first has this number
---     next_line     the number of the next line, which stops at the greatest that can be told
 --     IsHeldOf      this is held of a line of which these bytes have come, and which hasn't ended; or there was no memory for it
 --     KeepsPiece    a piece more: what is made of the lines that end in it, and what is held of the one behind them
 --     KeepsSome     the lines that had ended before a read failed
 --     KeepsInput    so it is of the lines of the bytes that came: all of them, where the input is at its end; where a read failed,
 --                   those that had ended before
-use Rattle.std.specs.Prelude.{◌≡◌, ◌⊎◌, ◌+◌, ℕ, List, [], ◌∷◌, ◌++◌, length, take, Bool, true, false, Option, Some, None, Result, Ok, Err}
+use Rattle.std.specs.Prelude.{◌≡◌, ◌⊎◌, ℕ, List, [], ◌∷◌, ◌++◌, length, true, Option, Some, None, Result, Ok, Err}
 use Rattle.std.specs.Io.KnownBytes.{Consumes, IsAtEnd}
 use Rattle.xds_resource.specs.declared.refusal.Refusal.{Refusal}
 use Rattle.xds_resource.specs.declared.refusal.Refusal.TheVariants.{Device, OutOfMemory}
@@ -26,29 +21,9 @@ use Rattle.xds_commands.specs.declared.ending.End.TheVariants.{Refused}
 use Rattle.xds_commands.specs.declared.fault.Fault.{Fault}
 use Rattle.xds_commands.specs.declared.kept.Kept.{Kept}
 use Rattle.xds_commands.specs.declared.kept.Said.{Said}
-use Rattle.xds_commands.specs.Causes.{IsFaultOf}
-use Rattle.xds_commands.specs.Changes.{Written, most_line, change_in, change_of}
+use Rattle.xds_commands.specs.Changes.{Written, change_in, change_of}
 use Rattle.xds_commands.specs.Handing.{line_after}
-
--- what is held of a line of which these bytes have come: no more than shows that it is too long
-abbrev pub held_of : List ℕ → List ℕ
-held_of bytes = take (most_line + 1) bytes
-
--- a part more of a line is held, unless there was no memory for it
-abbrev pub HasHeld : List ℕ → Bool → List ℕ → List ℕ → Bool → Type 0
-HasHeld old true part new lost = (lost ≡ true) × (new ≡ old)
-HasHeld old false part new lost = (lost ≡ true) ⊎ ((lost ≡ false) × (new ≡ held_of (old ++ part)))
-
--- what a line of this number says, or why it is refused, by what was held of it
-abbrev pub IsSaidBy : List ℕ → ℕ → Result (Option Change) Fault → Type 0
-IsSaidBy line number (Ok None) = change_in line ≡ Ok None
-IsSaidBy line number (Ok (Some c)) = (change_in line ≡ Ok (Some (change_of c))) × (c.line ≡ number)
-IsSaidBy line number (Err f) = ((f.refusal ≡ OutOfMemory) ⊎ (change_in line ≡ Err f.refusal)) × IsFaultOf line f
-
--- what a line of this number says, or why it is refused; or there was no memory for it
-abbrev pub IsSaid : List ℕ → Bool → ℕ → Said → Type 0
-IsSaid line true number said = (said.line ≡ number) × (said.what ≡ Err (record { refusal = OutOfMemory; cause = None }))
-IsSaid line false number said = (said.line ≡ number) × IsSaidBy line number said.what
+use Rattle.xds_commands.specs.HeldLines.{held_of}
 
 -- what a line says is handed over, or its refusal told
 abbrev pub HandsWhat : {S : Type 0} → (S → S → Written → Type 0) → (S → S → ℕ → Refusal → Type 0) → S → S → ℕ → Result (Option Change) Fault → Type 0
@@ -74,10 +49,6 @@ abbrev pub KeepsLines : {S : Type 0} → (S → S → Written → Type 0) → (S
 KeepsLines hands refuses s t number [] = t ≡ s
 KeepsLines {S} hands refuses s t number (line ∷ lines) =
     (u : S) × KeepsLine hands refuses s u number line × KeepsLines hands refuses u t (line_after number 1) lines
-
--- the number of the next line, which stops at the greatest that can be told
-abbrev pub next_line : ℕ → ℕ
-next_line number = line_after number 1
 
 -- this is held of a line of which these bytes have come, and which hasn't ended; or there was no memory for it
 abbrev pub IsHeldOf : List ℕ → Kept → Type 0

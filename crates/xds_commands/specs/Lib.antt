@@ -3,6 +3,7 @@ pub mod Changes
 pub mod Causes
 pub mod Handing
 pub mod Inputs
+pub mod HeldLines
 pub mod Keeping
 pub mod Limits
 pub mod Logging

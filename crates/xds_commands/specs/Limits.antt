@@ -31,7 +31,7 @@ doors_left doors = record doors { inside = doors.inside - 1 }
 abbrev pub frame_step : FirstFrame → ℕ → FirstFrame
 frame_step frame byte = record {
   come = min (frame.come + 1) most_count;
-  length = if nat_lt frame.come 4 then frame.length * 256 + byte else frame.length;
+  length = if nat_lt frame.come 4 then min (min (frame.length * 256) most_count + byte) most_count else frame.length;
 }
 
 -- what is known of a stream's first frame once bytes more have come
@@ -41,4 +41,4 @@ frame_after frame (byte ∷ bytes) = frame_after (frame_step frame byte) bytes
 
 -- the first frame has come whole
 abbrev pub is_whole : FirstFrame → Bool
-is_whole frame = nat_le 4 frame.come && nat_le (frame.length + 4) frame.come
+is_whole frame = nat_le 4 frame.come && nat_le frame.length (frame.come - 4)

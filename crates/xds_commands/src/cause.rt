@@ -1,10 +1,11 @@
 // Why a line of the server's input is no change.
-ghost use Rattle.std.specs.Prelude.{◌≡◌, string_bytes, IfOk, IfErr, is_some, true};
+ghost use Rattle.std.specs.Prelude.{◌≡◌, ◌≢◌, ◌&&◌, nat_le, map, string_bytes, IfOk, IfErr, is_some, true, false};
 ghost use Rattle.std.specs.Option.{option_map};
 ghost use Rattle.xds_resource.specs.declared.refusal.Refusal.TheVariants.{OutOfMemory};
 ghost use Rattle.xds_world.specs.Words.{split_first, words, words_in, replica_number};
-ghost use Rattle.xds_world.specs.Commands.{groups_in};
-ghost use Rattle.xds_commands.specs.Causes.{cause_text, is_verb, deletion_cause, IsResourceCause, IsGroupsCause, IsBehindNumber, IsWordsCause, IsCauseOf};
+ghost use Rattle.xds_world.specs.Lines.{pieces};
+ghost use Rattle.xds_world.specs.Commands.{comma, groups_in};
+ghost use Rattle.xds_commands.specs.Causes.{cause_text, is_verb, name_cause, deletion_cause, IsResourceCause, IsGroupsCause, IsBehindNumber, IsWordsCause, IsCauseOf};
 
 use std::alloc::Global;
 use std::str;
@@ -88,9 +89,16 @@ fn is_replica_number(word: &str) -> bool
     ensures { result ≡ is_some (replica_number word.now) }
 {
     match decimal_number(word) {
-        Some(number) => number >= 1 && number <= 65_535,
+        Some(number) => is_within(number),
         None => false,
     }
+}
+
+// Whether a replica may have this number.
+fn is_within(number: u64) -> bool
+    ensures { result ≡ (nat_le 1 number && nat_le number 65535) }
+{
+    number >= 1 && number <= 65_535
 }
 
 // What is wrong of a text.
@@ -115,7 +123,7 @@ fn cause_in(alloc: Global, text: &str) -> Result<Cause, Refusal>
 // What is wrong of what stands behind the number of the replica.
 fn cause_behind(alloc: Global, verb: &str, rest: Option<&str>) -> Result<Cause, Refusal>
     requires { is_verb verb.now ≡ true }
-    ensures cause { IfOk result (IsBehindNumber verb.now (words_in (option_map (λ s. s.now) rest))) }
+    ensures cause { IfOk result (IsBehindNumber verb.now (words_in (option_map (λ s. s.now) rest.entry))) }
     ensures refused { IfErr result (λ e. e ≡ OutOfMemory) }
 {
     if verb == "put" {
@@ -129,22 +137,33 @@ fn cause_behind(alloc: Global, verb: &str, rest: Option<&str>) -> Result<Cause, 
 
 // What is wrong of a resource.
 fn resource_cause(alloc: Global, rest: Option<&str>) -> Result<Cause, Refusal>
-    ensures cause { IfOk result (IsResourceCause (words_in (option_map (λ s. s.now) rest))) }
+    ensures cause { IfOk result (IsResourceCause (words_in (option_map (λ s. s.now) rest.entry))) }
     ensures refused { IfErr result (λ e. e ≡ OutOfMemory) }
 {
     let Some(text) = rest else {
         return Ok(Cause::WrongWords);
     };
     match AnyResource::parse(alloc, text) {
-        Ok(_) => Ok(Cause::WrongWords),
-        Err(Refusal::OutOfMemory) => Err(Refusal::OutOfMemory),
-        Err(refusal) => Ok(Cause::Refused(refusal)),
+        Ok(_resource) => Ok(Cause::WrongWords),
+        Err(refusal) => refused_cause(refusal),
+    }
+}
+
+// The cause that a refusal is, or that there was no memory to find one.
+fn refused_cause(refusal: Refusal) -> Result<Cause, Refusal>
+    ensures cause { IfOk result (λ c. (refusal ≢ OutOfMemory) × (c ≡ Cause.Refused refusal)) }
+    ensures refused { IfErr result (λ e. e ≡ OutOfMemory) }
+{
+    if refusal == Refusal::OutOfMemory {
+        Err(refusal)
+    } else {
+        Ok(Cause::Refused(refusal))
     }
 }
 
 // What is wrong of groups and of the resource behind them.
 fn groups_cause(alloc: Global, rest: Option<&str>) -> Result<Cause, Refusal>
-    ensures cause { IfOk result (IsGroupsCause (words_in (option_map (λ s. s.now) rest))) }
+    ensures cause { IfOk result (IsGroupsCause (words_in (option_map (λ s. s.now) rest.entry))) }
     ensures refused { IfErr result (λ e. e ≡ OutOfMemory) }
 {
     let Some(rest) = rest else {
@@ -163,20 +182,40 @@ fn are_groups(alloc: Global, word: &str) -> Result<bool, Refusal>
     ensures are { IfOk result (λ b. b ≡ is_some (groups_in word.now)) }
     ensures refused { IfErr result (λ e. e ≡ OutOfMemory) }
 {
+    let texts = pieces_of(alloc, word)?;
+    match Groups::new(alloc, texts.as_slice()) {
+        Ok(_groups) => Ok(true),
+        Err(refusal) => are_none(refusal),
+    }
+}
+
+// That a refusal says of a word that it lists no groups, or that there was no memory to find that.
+fn are_none(refusal: Refusal) -> Result<bool, Refusal>
+    ensures are { IfOk result (λ b. (refusal ≢ OutOfMemory) × (b ≡ false)) }
+    ensures refused { IfErr result (λ e. e ≡ OutOfMemory) }
+{
+    if refusal == Refusal::OutOfMemory {
+        Err(refusal)
+    } else {
+        Ok(false)
+    }
+}
+
+// What stands between the commas of a word.
+fn pieces_of(alloc: Global, word: &str) -> Result<Vec<String>, Refusal>
+    ensures pieces { IfOk result (λ v. map string_bytes v.items ≡ pieces comma word.now) }
+    ensures refused { IfErr result (λ e. e ≡ OutOfMemory) }
+{
     let mut texts = Vec::new(alloc);
     for text in word.split(',') {
         texts.push(String::from_str(alloc, text)?)?;
     }
-    match Groups::new(alloc, texts.as_slice()) {
-        Ok(_) => Ok(true),
-        Err(Refusal::OutOfMemory) => Err(Refusal::OutOfMemory),
-        Err(_) => Ok(false),
-    }
+    Ok(texts)
 }
 
 // What is wrong of a type and a name.
 fn deletion_cause(rest: Option<&str>) -> Cause
-    ensures { result ≡ deletion_cause (words_in (option_map (λ s. s.now) rest)) }
+    ensures { result ≡ deletion_cause (words_in (option_map (λ s. s.now) rest.entry)) }
 {
     let Some(rest) = rest else {
         return Cause::WrongWords;
@@ -185,8 +224,19 @@ fn deletion_cause(rest: Option<&str>) -> Cause
     if TypeName::from_word(kind).is_none() {
         return Cause::UnknownType;
     }
-    match rest {
-        Some("") => Cause::Refused(Refusal::BadName),
-        _ => Cause::WrongWords,
+    name_cause(rest)
+}
+
+// What is wrong of a name.
+fn name_cause(rest: Option<&str>) -> Cause
+    ensures { result ≡ name_cause (words_in (option_map (λ s. s.now) rest.entry)) }
+{
+    let Some(name) = rest else {
+        return Cause::WrongWords;
+    };
+    if name.is_empty() {
+        Cause::Refused(Refusal::BadName)
+    } else {
+        Cause::WrongWords
     }
 }

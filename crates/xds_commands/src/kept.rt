@@ -1,7 +1,8 @@
 // The lines of an input whose refused lines are passed over, as they come in pieces.
 ghost use Rattle.std.specs.Prelude.{◌≡◌, ◌≤◌, ◌+◌, length, [], ◌++◌, false};
+ghost use Rattle.xds_commands.specs.Causes.{IsFaultOf};
 ghost use Rattle.xds_commands.specs.Changes.{most_line};
-ghost use Rattle.xds_commands.specs.Keeping.{HasHeld, IsSaid, next_line};
+ghost use Rattle.xds_commands.specs.HeldLines.{HasHeld, IsSaid, next_line};
 
 use crate::cause::cause_of;
 use crate::change::{Change, MAX_LINE, read_change};
@@ -61,8 +62,8 @@ impl Kept {
             return;
         }
         let room = (MAX_LINE + 1).saturating_sub(self.bytes.as_slice().len());
-        let part = &part[..part.len().min(room)];
-        if self.bytes.extend_from_slice(part).is_err() {
+        let taken = &part[..part.len().min(room)];
+        if self.bytes.extend_from_slice(taken).is_err() {
             self.is_lost = true;
         }
     }
@@ -98,7 +99,8 @@ fn read_said(alloc: Global, number: u64, line: &[u8]) -> Result<Option<Change>, 
 
 // How a line is refused. Where there is no memory to find its cause, it has none.
 fn fault_of(alloc: Global, refusal: Refusal, line: &[u8]) -> Fault
-    ensures { result.refusal ≡ refusal }
+    ensures refusal { result.refusal ≡ refusal }
+    ensures cause { IsFaultOf line.now result }
 {
     if refusal != Refusal::BadScript {
         return Fault::of(refusal);

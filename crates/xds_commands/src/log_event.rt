@@ -1,6 +1,6 @@
 // What an operator cares for of a server, a line each.
 ghost use Rattle.std.specs.Prelude.{◌≡◌, ◌++◌, codes, string_bytes, IfOk};
-ghost use Rattle.xds_commands.specs.Logging.{log_line, excerpt, shown_char, message_of, level_of, ended_text, first_text, place_text, rejected_text, event_line};
+ghost use Rattle.xds_commands.specs.Logging.{log_line, excerpt, shown_char, message_of, level_of, ended_text, first_text, place_text, rejected_text, event_line, variant_word};
 
 use log::{Level, Line, Metadata, Record};
 use std::alloc::Global;
@@ -158,12 +158,19 @@ fn connected_text(alloc: Global, place: Place, peer: &str) -> Result<String, Ref
     Ok(text)
 }
 
+// The variant in a word.
+fn variant_word(is_delta: bool) -> &'static str
+    ensures { result.now ≡ variant_word is_delta }
+{
+    if is_delta { "delta" } else { "sotw" }
+}
+
 fn first_text(alloc: Global, place: Place, first: &FirstRequest) -> Result<String, Refusal>
     ensures { IfOk result (λ t. string_bytes t ≡ first_text place first.now) }
 {
     let place = place_text(alloc, place)?;
     let place = place.as_str();
-    let variant = if first.is_delta { "delta" } else { "sotw" };
+    let variant = variant_word(first.is_delta);
     let node = first.node.as_str();
     let cluster = first.cluster.as_str();
     let type_url = first.type_url.as_str();

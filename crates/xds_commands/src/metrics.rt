@@ -1,6 +1,6 @@
 // Numbers of a server in the text format of Prometheus.
 ghost use Rattle.std.specs.Prelude.{◌≡◌, ◌++◌, [], string_bytes, OnOk};
-ghost use Rattle.xds_commands.specs.Metrics.{help_line, sample_line};
+ghost use Rattle.xds_commands.specs.Metrics.{help_line, kind_word, sample_line};
 
 use std::alloc::Global;
 use xds_resource::Refusal;
@@ -12,6 +12,18 @@ pub enum Kind {
     Counter,
     /// It rises and falls.
     Gauge,
+}
+
+impl Kind {
+    // Its word in the format.
+    fn word(self) -> &'static str
+        ensures { result.now ≡ kind_word self }
+    {
+        match self {
+            Kind::Counter => "counter",
+            Kind::Gauge => "gauge",
+        }
+    }
 }
 
 /// A text of numbers, line by line.
@@ -36,10 +48,7 @@ impl Metrics {
     pub fn about(&mut self, name: &str, kind: Kind) -> Result<(), Refusal>
         ensures { OnOk result (string_bytes self.new.text ≡ string_bytes self.old.text ++ help_line name.now kind) }
     {
-        let kind = match kind {
-            Kind::Counter => "counter",
-            Kind::Gauge => "gauge",
-        };
+        let kind = kind.word();
         let line = format!(in self.alloc; "# TYPE {name} {kind}\n")?;
         self.text.push_str(line.as_str())?;
         Ok(())

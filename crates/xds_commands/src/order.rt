@@ -51,7 +51,7 @@ impl Look {
 }
 
 // What is held of a type, by all its entries.
-fn held<T: ResourceType>(changes: u64, writes: &[Write<T>]) -> Held {
+fn counted<T: ResourceType>(changes: u64, writes: &[Write<T>]) -> Held {
     let mut resources = 0u64;
     let mut tombstones = 0u64;
     for write in writes {
@@ -71,11 +71,11 @@ fn held<T: ResourceType>(changes: u64, writes: &[Write<T>]) -> Held {
 /// How much is held where all entries are these, and there were so many changes.
 pub fn look_of(batch: &Batch, marks: Marks) -> Look {
     Look {
-        cluster: held(marks.cluster, batch.cluster.as_slice()),
-        endpoint: held(marks.endpoint, batch.endpoint.as_slice()),
-        listener: held(marks.listener, batch.listener.as_slice()),
-        route: held(marks.route, batch.route.as_slice()),
-        secret: held(marks.secret, batch.secret.as_slice()),
+        cluster: counted(marks.cluster, batch.cluster.as_slice()),
+        endpoint: counted(marks.endpoint, batch.endpoint.as_slice()),
+        listener: counted(marks.listener, batch.listener.as_slice()),
+        route: counted(marks.route, batch.route.as_slice()),
+        secret: counted(marks.secret, batch.secret.as_slice()),
     }
 }
 

@@ -5,7 +5,7 @@ ghost use Rattle.xds_http.specs.Sent.{TellsNothing};
 ghost use Rattle.xds_commands.specs.Ends.{EndsPoll, EndsPollBy, ShowsReply, question_of};
 
 use crate::telling::tell_late;
-use crate::timed::Deadline;
+use crate::timed::{Deadline, gave_up};
 use std::alloc::{AllocGlobal, Global};
 use std::io::Write;
 use std::net::{Net, SocketAddr};
@@ -75,9 +75,9 @@ fn late<R: Clock>(
 ) -> Option<u16>
     ensures { IfSome result (λ s. (seconds ≡ Some s) × (polled.now ≡ Err Refusal.Device)) }
 {
-    match (polled, seconds) {
-        (Err(Refusal::Device), Some(seconds)) if deadline.has_come(rt) => Some(seconds),
-        _ => None,
+    match polled {
+        Ok(_) => None,
+        Err(refusal) => gave_up(rt, *refusal, seconds, deadline),
     }
 }
 

@@ -65,7 +65,7 @@ pub enum Sight {
 /// What an event shows.
 pub fn sight_of(alloc: Global, event: &Event) -> Sight {
     match event {
-        Event::Request(stream, request) => match heard(alloc, request) {
+        Event::Request(stream, request) => match heard_in(alloc, request) {
             Ok(heard) => Sight::Request(*stream, heard),
             Err(_) => Sight::Other,
         },
@@ -76,7 +76,7 @@ pub fn sight_of(alloc: Global, event: &Event) -> Sight {
     }
 }
 
-fn heard(alloc: Global, request: &Request) -> Result<Heard, Refusal> {
+fn heard_in(alloc: Global, request: &Request) -> Result<Heard, Refusal> {
     match request {
         Request::Sotw(request) => heard_sotw(alloc, request),
         Request::Delta(request) => heard_delta(alloc, request),

@@ -1,11 +1,12 @@
 // A connection of a client, which is read until a time has passed.
-ghost use Rattle.std.specs.Prelude.{◌≡◌};
+ghost use Rattle.std.specs.Prelude.{◌≡◌, IfSome, Some};
 ghost use Rattle.std.specs.Io.{ReadsAtMost};
 
 use std::io;
 use std::io::{ErrorKind, Read};
 use std::net::{Net, SocketAddr, SocketAddrV4, TcpStream};
 use std::time::{Clock, Duration, Instant};
+use xds_resource::Refusal;
 
 /// A connection, made within so many seconds where such are given.
 pub(crate) fn connected<N: Net<Stream = TcpStream>>(
@@ -70,6 +71,25 @@ impl Deadline {
             Ok(Some(left)) => left.is_zero(),
             _ => false,
         }
+    }
+}
+
+/// After how many seconds a command gave up, where it ended by this refusal: after those that it was given, if they have passed.
+pub(crate) fn gave_up<C: Clock>(
+    clock: &C,
+    refusal: Refusal,
+    seconds: Option<u16>,
+    deadline: Deadline,
+) -> Option<u16>
+    ensures { IfSome result (λ s. (seconds ≡ Some s) × (refusal ≡ Refusal.Device)) }
+{
+    if refusal != Refusal::Device {
+        return None;
+    }
+    if deadline.has_come(clock) {
+        seconds
+    } else {
+        None
     }
 }
 

@@ -5,7 +5,7 @@ ghost use Rattle.xds_client.specs.Running.{RunsAt};
 ghost use Rattle.xds_commands.specs.Ends.{EndsClient, HasEnded, variant_of};
 
 use crate::telling::{tell_http, tell_late, tell_refusal};
-use crate::timed::{Deadline, TimedReader, connected};
+use crate::timed::{Deadline, TimedReader, connected, gave_up};
 use std::alloc::{AllocGlobal, Global};
 use std::io::Write;
 use std::net::{Net, TcpStream};
@@ -111,11 +111,9 @@ fn tell_why<R: Clock, E: Write>(
     if speaks_http {
         return tell_http(alloc, refusal, errors);
     }
-    match task.seconds {
-        Some(seconds) if refusal == Refusal::Device && deadline.has_come(rt) => {
-            tell_late(alloc, seconds, errors)
-        }
-        _ => tell_refusal(alloc, refusal, errors),
+    match gave_up(rt, refusal, task.seconds, deadline) {
+        Some(seconds) => tell_late(alloc, seconds, errors),
+        None => tell_refusal(alloc, refusal, errors),
     }
 }
 

@@ -1,0 +1,142 @@
+-- What is wrong of a line, by the words of which its first parts are made.
+use Rattle.std.proofs.Common.{◌≡◌, ◌≢◌, ◌⊎◌, ◌<◌, ◌^◌, ℕ, List, [], ◌∷◌, length, Bool, true, false, cond, inl, inr, Option, Some, None, Result, Ok, Err, IfOk, refl, ap, sym, ◌∙◌, subst, true≢false}
+use Rattle.std.specs.Prelude.{◌&&◌, ◌||◌, ◌==◌, nat_le, is_some, bytes_eq, decimal, codes}
+use Rattle.std.specs.Option.{option_map}
+use Rattle.std.specs.Result.{result_ok}
+use Rattle.std.specs.List.{onto_first}
+use Rattle.std.specs.Str.Parse.{digits_value}
+use Rattle.std.proofs.lemmas.Fmt.{decimal_is_IsNumeral}
+use Rattle.xds_resource.specs.declared.refusal.Refusal.{Refusal}
+use Rattle.xds_resource.specs.declared.refusal.Refusal.TheVariants.{OutOfMemory, BadName, BadGroup}
+use Rattle.xds_resource.specs.Refusals.{Gives}
+use Rattle.xds_resource.specs.Resources.{IsRefused, NamedBody, parsed}
+use Rattle.xds_resource.specs.Groups.{groups_of}
+use Rattle.xds_resource.specs.declared.types.TypeName.{TypeName}
+use Rattle.xds_resource.specs.Types.{type_of_word}
+use Rattle.xds_resource.proofs.NameMaps.{bytes_eq_same}
+use Rattle.xds_world.specs.Lines.{pieces}
+use Rattle.xds_world.specs.Words.{Text, space, split_first, words, words_in, replica_number}
+use Rattle.xds_world.specs.Commands.{comma, groups_in, resource_in}
+use Rattle.xds_world.proofs.Named.{resource_in-parsed}
+use Rattle.xds_world.proofs.ShortNumbers.{number_in-none}
+use Rattle.xds_world.proofs.Wording.{text_of-words}
+use Rattle.xds_commands.specs.declared.cause.Cause.{Cause}
+use Rattle.xds_commands.specs.declared.cause.Cause.TheVariants.{UnknownCommand, NoNumber, WrongWords, Refused, UnknownType}
+use Rattle.xds_commands.specs.Causes.{IsTextCause, IsResourceCause, IsGroupsCause, IsBehindNumber, IsBehindVerb, IsWordsCause, is_verb, name_cause, deletion_cause}
+use Rattle.xds_commands.proofs.Handings.{first_piece}
+
+-- ---- the first word
+
+-- the words are the first one and those behind it
+pub split_is : (ws : List Text) (w : Text) (rest : List Text) → split_first ws ≡ Some (w, rest) → ws ≡ w ∷ rest
+split_is [] w rest is = absurd cc
+split_is (v ∷ vs) w rest is =
+    let first : v ≡ w = cc in
+    let others : vs ≡ rest = cc in
+    λ i. first i ∷ others i
+
+-- ---- numbers
+
+some_if : (t : Bool) (v : ℕ) → is_some (cond t (Some v) None) ≡ t
+some_if true v = refl
+some_if false v = refl
+
+-- a number is one of a replica where it is within the bounds
+pub number_some : (n : ℕ) (w : Text) → (n < 2 ^ 64) × (w ≡ decimal n) → (nat_le 1 n && nat_le n 65535) ≡ is_some (replica_number w)
+number_some n w is =
+    let value : digits_value 10 w ≡ n = ap (digits_value 10) is.1 ∙ (decimal_is_IsNumeral n is.0).1 in
+    let same : bytes_eq w (decimal n) ≡ true = subst (λ (x : Text). bytes_eq w x ≡ true) is.1 (bytes_eq_same w) in
+    sym (
+    some_if (bytes_eq w (decimal (digits_value 10 w)) && (nat_le 1 (digits_value 10 w) && nat_le (digits_value 10 w) 65535)) (digits_value 10 w)
+    ∙ ap (λ v. bytes_eq w (decimal v) && (nat_le 1 v && nat_le v 65535)) value ∙ ap (λ b. b && (nat_le 1 n && nat_le n 65535)) same
+    )
+
+-- a word that is no number is none
+pub number_none : (w : Text) (r : Option ℕ) → ((n : ℕ) → n < 2 ^ 64 → w ≡ decimal n → r ≡ Some n) → r ≡ None → false ≡ is_some (replica_number w)
+number_none w r all none =
+    sym (ap is_some (number_in-none 1 65535 w (λ n e from to. let there : r ≡ Some n = all n (omega (arith, to)) e in absurd cc)))
+
+-- ---- resources
+
+pub text_cause : (line : Text) (c : Cause) → IsTextCause (Some line) c → IsResourceCause (words line) c
+text_cause line c is = subst (λ o. IsTextCause o c) (text_of-words line (words line) refl) is
+
+-- a resource has nothing wrong but what stands around it
+pub resource_fine : (line : Text) (t : TypeName) (r : NamedBody) → parsed t line ≡ Ok r → IsResourceCause (words line) WrongWords
+resource_fine line t r read = text_cause line WrongWords (inr (ap is_some (resource_in-parsed t line r read), refl))
+
+-- and a text that is refused as one has that wrong
+pub resource_refused : {E : Type 0} (line : Text) (e : Refusal) (r : Result Cause E) → (e ≢ OutOfMemory → IsRefused line e) → IfOk r (λ c. (e ≢ OutOfMemory) × (c ≡ Refused e))
+    → IfOk r (IsResourceCause (words line))
+resource_refused line e (Ok c) refused is = text_cause line c (inl (e, refused is.0, is.1))
+resource_refused line e (Err x) refused is = tt
+
+-- ---- groups
+
+-- whether a word lists groups, by what they are refused as
+pub groups_some : {G : Type 0} (word : Text) (texts : List Text) (g : G) (view : G → List Text) → texts ≡ pieces comma word → groups_of texts ≡ Ok (view g)
+    → true ≡ is_some (groups_in word)
+groups_some word texts g view are given = sym (ap (λ (ts : List Text). is_some (result_ok (groups_of ts))) (sym are) ∙ ap (λ r. is_some (result_ok r)) given)
+
+pub groups_none : {E : Type 0} (word : Text) (texts : List Text) (e : Refusal) (r : Result Bool E) → texts ≡ pieces comma word → (e ≢ OutOfMemory → groups_of texts ≡ Err e)
+    → IfOk r (λ b. (e ≢ OutOfMemory) × (b ≡ false)) → IfOk r (λ b. b ≡ is_some (groups_in word))
+groups_none word texts e (Ok b) are given is =
+    is.1 ∙ sym (ap (λ (ts : List Text). is_some (result_ok (groups_of ts))) (sym are) ∙ ap (λ r. is_some (result_ok r)) (given is.0))
+groups_none word texts e (Err x) are given is = tt
+
+pub with_groups : {E : Type 0} (ws : List Text) (w : Text) (rest : List Text) (r : Result Cause E) → split_first ws ≡ Some (w, rest) → true ≡ is_some (groups_in w)
+    → IfOk r (IsResourceCause rest) → IfOk r (IsGroupsCause ws)
+with_groups ws w rest (Ok c) split some is = subst (λ (x : List Text). IsGroupsCause x c) (sym (split_is ws w rest split)) (inl (sym some, is))
+with_groups ws w rest (Err e) split some is = tt
+
+pub no_groups : (ws : List Text) (w : Text) (rest : List Text) → split_first ws ≡ Some (w, rest) → false ≡ is_some (groups_in w) → IsGroupsCause ws (Refused BadGroup)
+no_groups ws w rest split none = subst (λ (x : List Text). IsGroupsCause x (Refused BadGroup)) (sym (split_is ws w rest split)) (inr (sym none, refl))
+
+-- ---- names
+
+two_words : (o : Text) (os : List Text) → name_cause ([] ∷ o ∷ os) ≡ WrongWords
+two_words o os = refl
+
+more_words : (b : ℕ) (o : Text) (os : List Text) → name_cause ((b ∷ o) ∷ os) ≡ WrongWords
+more_words b o [] = refl
+more_words b o (x ∷ os) = refl
+
+name_by : (t : Bool) (b : ℕ) (ps : List Text) → ((o : Text) × (os : List Text) × (ps ≡ o ∷ os)) → name_cause (cond t ([] ∷ ps) (onto_first b ps)) ≡ WrongWords
+name_by true b ps (o, os, is) = ap (λ (x : List Text). name_cause ([] ∷ x)) is ∙ two_words o os
+name_by false b ps (o, os, is) = ap (λ (x : List Text). name_cause (onto_first b x)) is ∙ more_words b o os
+
+-- an empty name is none
+pub name_words : (name : Text) → name_cause (words name) ≡ cond (length name == 0) (Refused BadName) WrongWords
+name_words [] = refl
+name_words (b ∷ bs) = name_by (b == space) b (pieces space bs) (first_piece space bs)
+
+pub deletion_unknown : (ws : List Text) (w : Text) (rest : List Text) → split_first ws ≡ Some (w, rest) → is_some (type_of_word w) ≡ false → UnknownType ≡ deletion_cause ws
+deletion_unknown ws w rest split none = sym (ap deletion_cause (split_is ws w rest split) ∙ ap (λ b. cond b (name_cause rest) UnknownType) none)
+
+pub deletion_known : (ws : List Text) (w : Text) (rest : List Text) (c : Cause) → split_first ws ≡ Some (w, rest) → is_some (type_of_word w) ≡ true → c ≡ name_cause rest → c ≡ deletion_cause ws
+deletion_known ws w rest c split some is = is ∙ sym (ap deletion_cause (split_is ws w rest split) ∙ ap (λ b. cond b (name_cause rest) UnknownType) some)
+
+-- ---- lines
+
+-- a verb that is none of the first two is the third
+pub third_verb : (verb : Text) → is_verb verb ≡ true → bytes_eq verb (codes "put") ≡ false → bytes_eq verb (codes "putin") ≡ false → bytes_eq verb (codes "delete") ≡ true
+third_verb verb is put putin =
+    let rest : (bytes_eq verb (codes "putin") || bytes_eq verb (codes "delete")) ≡ true = sym (ap (λ b. b || (bytes_eq verb (codes "putin") || bytes_eq verb (codes "delete"))) put) ∙ is in
+    sym (ap (λ b. b || bytes_eq verb (codes "delete")) putin) ∙ rest
+
+pub no_verb : (ws : List Text) (w : Text) (rest : List Text) (c : Cause) → split_first ws ≡ Some (w, rest) → (is_verb w ≡ false) × (c ≡ UnknownCommand) → IsWordsCause ws c
+no_verb ws w rest c split is = subst (λ (x : List Text). IsWordsCause x c) (sym (split_is ws w rest split)) (inl is)
+
+pub behind_verb : (ws : List Text) (w : Text) (rest : List Text) (c : Cause) → split_first ws ≡ Some (w, rest) → is_verb w ≡ true → IsBehindVerb w rest c → IsWordsCause ws c
+behind_verb ws w rest c split is behind = subst (λ (x : List Text). IsWordsCause x c) (sym (split_is ws w rest split)) (inr (is, behind))
+
+pub no_number : (verb : Text) (ws : List Text) (w : Text) (rest : List Text) (c : Cause) → split_first ws ≡ Some (w, rest) → (is_some (replica_number w) ≡ false) × (c ≡ NoNumber)
+    → IsBehindVerb verb ws c
+no_number verb ws w rest c split is = subst (λ (x : List Text). IsBehindVerb verb x c) (sym (split_is ws w rest split)) (inl is)
+
+-- what is wrong behind the number is wrong of the line
+pub behind_number : {E : Type 0} (ws : List Text) (verb : Text) (vs : List Text) (w : Text) (rest : List Text) (r : Result Cause E) → split_first ws ≡ Some (verb, vs)
+    → split_first vs ≡ Some (w, rest) → is_verb verb ≡ true → is_some (replica_number w) ≡ true → IfOk r (IsBehindNumber verb rest) → IfOk r (IsWordsCause ws)
+behind_number ws verb vs w rest (Ok c) split again is number behind =
+    behind_verb ws verb vs c split is (subst (λ (x : List Text). IsBehindVerb verb x c) (sym (split_is vs w rest again)) (inr (number, behind)))
+behind_number ws verb vs w rest (Err e) split again is number behind = tt
