@@ -97,6 +97,10 @@ impl<'a, A: Served> Host for Gated<'a, A> {
         self.node.cut(rt)
     }
 
+    fn cut_full<R: Wait>(&self, rt: &R) -> Result<Option<A::Segment>, Refusal> {
+        self.node.cut_full(rt)
+    }
+
     fn wait_due<R: Wait>(&self, rt: &R, stream: u64) -> Due {
         self.gate.finish(rt);
         self.node.wait_due(rt, stream)

@@ -191,7 +191,11 @@ where
     })
 }
 
-// Does what the replica is asked: makes changes, of which those that are refused change nothing, and looks at what is held.
+// How many orders are done at once, at most, before streams are told of the changes.
+const MOST_AT_ONCE: usize = 64;
+
+// Does what the replica is asked: makes changes, of which those that are refused change nothing, and looks at what is held. Streams are
+// told of changes that come together once all of them are made.
 fn take_orders<R, A>(
     rt: &R,
     node: &A,
@@ -204,11 +208,35 @@ where
 {
     let mut seat = node.seat(rt)?;
     for order in orders.iter(rt) {
+        node.hold(rt);
         do_order(rt, node, &mut seat, order, lookout);
+        do_waiting(rt, node, &mut seat, orders, lookout);
+        node.release(rt);
     }
     Ok(())
 }
 
+// Does the orders that wait already.
+fn do_waiting<R, A>(
+    rt: &R,
+    node: &A,
+    seat: &mut A::Seat,
+    orders: &Receiver<Order>,
+    lookout: &Lookout,
+)
+where
+    R: Wait,
+    A: Served,
+{
+    for _ in 1..MOST_AT_ONCE {
+        match orders.try_recv(rt) {
+            Ok(order) => do_order(rt, node, seat, order, lookout),
+            Err(_) => return,
+        }
+    }
+}
+
+// Does one order. Writers go on while a refusal is told, which may wait for who reads the error output.
 fn do_order<R: Wait, A: Served>(
     rt: &R,
     node: &A,
@@ -221,7 +249,9 @@ fn do_order<R: Wait, A: Served>(
             let line = change.line;
             if let Err(refusal) = make_change(rt, node, seat, change.event) {
                 lookout.refused(rt);
+                node.release(rt);
                 lookout.ending().refuse(rt, line, Fault::of(refusal));
+                node.hold(rt);
             }
         }
         Order::Asked(change, reply) => {

@@ -12,10 +12,24 @@ pub trait Served: Host + Posts {
     fn seat<R: Wait>(&self, rt: &R) -> Result<Self::Seat, Refusal>
         ensures told { IfOk result (λ s. (Self.told s ≡ []) × (Self.refused s ≡ [])) }
         ensures refused { IfErr result (λ e. e ≡ Refusal.CounterSpent) };
+
+    /// From here on to `release` no writer begins a response, so that several changes make one. It may wait.
+    fn hold<R: Wait>(&self, rt: &R);
+
+    /// Ends what `hold` began. It may wait.
+    fn release<R: Wait>(&self, rt: &R);
 }
 
 impl<N: NodeName> Served for Node<N> {
     fn seat<R: Wait>(&self, rt: &R) -> Result<Seat<N>, Refusal> {
         Node::seat(self, rt)
+    }
+
+    fn hold<R: Wait>(&self, rt: &R) {
+        Node::hold(self, rt)
+    }
+
+    fn release<R: Wait>(&self, rt: &R) {
+        Node::release(self, rt)
     }
 }

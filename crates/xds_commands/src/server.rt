@@ -17,7 +17,7 @@ use crate::serve_telling::{
 use crate::starting::{start_admin, start_input, start_replica};
 use crate::wires::{Wires, both, crossed, kept};
 use crate::workers::share;
-use crossbeam_channel::{Receiver, Sender, unbounded};
+use crossbeam_channel::{Receiver, Sender, bounded};
 use std::alloc::{AllocError, Global};
 use std::io::{Read, Write};
 use std::net::{Ipv4Addr, Net, SocketAddrV4, TcpListener, TcpStream};
@@ -307,13 +307,19 @@ fn desk_of(
     })
 }
 
+// How many orders may wait for a replica. The input isn't read on where they do.
+const MOST_WAITING: usize = 1_024;
+
 // What each replica's thread is started with, and what hands it the changes of the input.
 fn wired(alloc: Global, sockets: Vec<Sockets>) -> Result<Wiring, Refusal> {
     let mut wires = Wires::new(alloc);
     let mut done = Ok(());
     let count = sockets.len();
     for sockets in sockets {
-        done = both(done, wires.add(alloc, sockets, unbounded(alloc)));
+        done = both(
+            done,
+            wires.add(alloc, sockets, bounded(alloc, MOST_WAITING)),
+        );
     }
     for from in 0..count {
         for to in 0..count {

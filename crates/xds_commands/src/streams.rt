@@ -31,7 +31,11 @@ where
 {
     for accepted in listener.incoming() {
         match accepted {
-            Ok(socket) => start_stream(rt, alloc, socket, node, lookout),
+            Ok(socket) => {
+                // Without it a response would wait for the acknowledgement of the one before.
+                let _ = socket.set_nodelay(true);
+                start_stream(rt, alloc, socket, node, lookout);
+            }
             Err(_) => thread::sleep(&rt, Duration::from_millis(10)),
         }
     }

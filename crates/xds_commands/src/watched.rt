@@ -83,6 +83,20 @@ impl<A: Served, C: Clock> Host for Watched<A, C> {
         }
     }
 
+    fn cut_full<R: Wait>(&self, rt: &R) -> Result<Option<A::Segment>, Refusal> {
+        match self.node.cut_full(rt) {
+            Ok(Some(segment)) => {
+                self.lookout.cut(rt);
+                Ok(Some(segment))
+            }
+            Ok(None) => Ok(None),
+            Err(refusal) => {
+                self.lookout.cut_failed(rt, refusal);
+                Err(refusal)
+            }
+        }
+    }
+
     fn wait_due<R: Wait>(&self, rt: &R, stream: u64) -> Due {
         self.node.wait_due(rt, stream)
     }
@@ -120,5 +134,13 @@ impl<A: Served, C: Clock> Posts for Watched<A, C> {
 impl<A: Served, C: Clock> Served for Watched<A, C> {
     fn seat<R: Wait>(&self, rt: &R) -> Result<A::Seat, Refusal> {
         self.node.seat(rt)
+    }
+
+    fn hold<R: Wait>(&self, rt: &R) {
+        self.node.hold(rt)
+    }
+
+    fn release<R: Wait>(&self, rt: &R) {
+        self.node.release(rt)
     }
 }

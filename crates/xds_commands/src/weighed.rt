@@ -10,8 +10,8 @@ use xds_polls::HttpReply;
 use xds_resource::Refusal;
 use xds_rest::Posts;
 
-/// About how many bytes the records of a journal may take: 256 MiB. A journal with more of them is cut, whatever its length.
-pub const MOST_BYTES: u64 = 268_435_456;
+/// About how many bytes the records of a journal may take: 4 MiB. A journal with more of them is cut, whatever its length.
+pub const MOST_BYTES: u64 = 4_194_304;
 
 /// A replica whose journal is cut once its records take about [`MOST_BYTES`], and what was cut is dropped. So requests as long
 /// as a frame may be, or responses that state very much, take no more memory than that, beside what the replica holds.
@@ -82,6 +82,10 @@ impl<A: Served> Host for Weighed<A> {
 
     fn cut<R: Wait>(&self, rt: &R) -> Result<A::Segment, Refusal> {
         self.node.cut(rt)
+    }
+
+    fn cut_full<R: Wait>(&self, rt: &R) -> Result<Option<A::Segment>, Refusal> {
+        self.node.cut_full(rt)
     }
 
     fn wait_due<R: Wait>(&self, rt: &R, stream: u64) -> Due {
@@ -161,5 +165,13 @@ impl<A: Served> Replies for Weighed<A> {
 impl<A: Served> Served for Weighed<A> {
     fn seat<R: Wait>(&self, rt: &R) -> Result<A::Seat, Refusal> {
         self.node.seat(rt)
+    }
+
+    fn hold<R: Wait>(&self, rt: &R) {
+        self.node.hold(rt)
+    }
+
+    fn release<R: Wait>(&self, rt: &R) {
+        self.node.release(rt)
     }
 }

@@ -8,8 +8,9 @@ use xds_resource::{Refusal, ResourceType, Write};
 // What a record, an entry of a list or a text takes beside its bytes: its place, and what the allocator adds.
 const PLACE: u64 = 64;
 
-// What a pointer to a shared text takes.
-const SHARED: u64 = 16;
+// What a pointer to a shared text counts. It takes 16 bytes; but the list that it stands in is one for all streams that are told
+// the same, and stands in the journal once for each of them.
+const SHARED: u64 = 1;
 
 /// About how many bytes an event keeps in a journal. A body counts whole, since the replica may let go of it before the
 /// journal does.

@@ -195,8 +195,20 @@ impl DeltaDraft {
     {
         let mut out = String::from_str(alloc, "{")?;
         let later = join_text(alloc, &mut out, false, "nonce", self.nonce.as_str())?;
-        let later = join_list(alloc, &mut out, later, "removedResources", self.removed.as_slice())?;
-        let later = join_list(alloc, &mut out, later, "resources", self.resources.as_slice())?;
+        let later = join_list(
+            alloc,
+            &mut out,
+            later,
+            "removedResources",
+            self.removed.as_slice(),
+        )?;
+        let later = join_list(
+            alloc,
+            &mut out,
+            later,
+            "resources",
+            self.resources.as_slice(),
+        )?;
         let later = join_text(
             alloc,
             &mut out,
@@ -245,10 +257,7 @@ pub fn push_resource<T: ResourceType>(
     Ok(())
 }
 
-fn resources_of(
-    alloc: Global,
-    resources: &[DraftResource],
-) -> Result<Vec<DeltaResource>, Refusal>
+fn resources_of(alloc: Global, resources: &[DraftResource]) -> Result<Vec<DeltaResource>, Refusal>
     ensures ok { IfOk result
         (λ v. map resource_of v.items ≡ map drafted_resource resources.now) }
     ensures sound { OnOk result (All (λ r. IsBodyText r.body) resources.now) }

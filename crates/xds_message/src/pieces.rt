@@ -72,11 +72,7 @@ impl<'a> Pieces<'a> {
 
     /// Writes what a block holds, and the whole behind it, in pieces that fill the block. It takes no memory. Where a call of the
     /// writer fails, `Device` is answered, and a beginning of all these bytes was written.
-    pub fn write<W: Write>(
-        &self,
-        writer: &mut Counted<W>,
-        block: Vec<u8>,
-    ) -> Result<(), Refusal>
+    pub fn write<W: Write>(&self, writer: &mut Counted<W>, block: Vec<u8>) -> Result<(), Refusal>
         ensures written { OnOk result (Wrote (seen W.contents writer.old writer.new) (block.items ++ self.now)) }
         ensures none_failed { OnOk result (writer.new.failed ≡ writer.old.failed) }
         ensures failed { IfErr result (λ e. (e ≡ refusals.Device)

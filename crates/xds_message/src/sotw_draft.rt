@@ -130,14 +130,7 @@ impl SotwDraft {
         let mut head = String::from_str(alloc, "{")?;
         let mut tail = String::new(alloc);
         let later = join_text(alloc, &mut head, false, "nonce", self.nonce.as_str())?;
-        let later = join_list_ends(
-            alloc,
-            &mut head,
-            &mut tail,
-            later,
-            "resources",
-            bodies,
-        )?;
+        let later = join_list_ends(alloc, &mut head, &mut tail, later, "resources", bodies)?;
         let later = join_text(alloc, &mut tail, later, "typeUrl", self.kind.url())?;
         join_text(
             alloc,

@@ -142,13 +142,7 @@ fn delta_draft(alloc: Global) -> Result<DeltaDraft, Refusal> {
     let version = text(alloc, "1.2")?;
     let nonce = text(alloc, "1")?;
     let stated = ArcSlice::from_vec(resources)?;
-    Ok(DeltaDraft::new(
-        TypeName::Cluster,
-        version,
-        nonce,
-        stated,
-        removed,
-    ))
+    Ok(DeltaDraft::new(TypeName::Cluster, version, nonce, stated, removed))
 }
 
 // The version and the nonce of a draft, how many it states and removes, what it is put together as, and what a copy of it shows.

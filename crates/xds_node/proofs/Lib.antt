@@ -1,3 +1,4 @@
+mod Framing
 pub mod Passing
 pub mod Sendings
 pub mod Askings

@@ -12,8 +12,8 @@ use std::sync::Wait;
 use xds_core::{Event, Reply};
 use xds_resource::Refusal;
 
-/// One event of a seat, as [`Host::call`] makes it. Where the journal is full it is cut, the gate keeps the segment, and
-/// the event is tried once more. So `JournalFull` comes only where that was in vain, and else `OutOfMemory`, where there
+/// One event of a seat, as [`Host::call`] makes it. Where the journal is full it is cut, unless another thread has done so, the gate
+/// keeps the segment, and the event is tried once more. So `JournalFull` comes only where that was in vain, and else `OutOfMemory`, where there
 /// was no memory; then no record is left. An event is never tried thrice, and never twice but where the journal was full.
 pub fn called<H: Host, G: Gate<H::Segment>, R: Wait>(
     rt: &R,
@@ -34,7 +34,7 @@ pub fn called<H: Host, G: Gate<H::Segment>, R: Wait>(
                 drop(event);
                 return Err(refusal);
             }
-            if let Ok(segment) = node.cut(rt) {
+            if let Ok(Some(segment)) = node.cut_full(rt) {
                 gate.keep(rt, segment);
             }
             called_again(rt, node, seat, event)

@@ -55,6 +55,8 @@ pub struct Desk<N: NodeName> {
     // Whose writers wait, and whether the node was stopped. Nothing that is recorded depends on it.
     waiting: Waiting,
     stopped: bool,
+    // How many hold writers back.
+    holders: u64,
 }
 
 // Written out: docs/PROVING.md, "Drops".
@@ -70,6 +72,7 @@ impl<N: NodeName> Drop for Desk<N> {
             alloc: _,
             waiting: _,
             stopped: _,
+            holders: _,
         } = self;
     }
 }
@@ -106,6 +109,7 @@ impl<N: NodeName> Desk<N> {
             alloc,
             waiting: Waiting::new(),
             stopped: false,
+            holders: 0,
         }
     }
 
@@ -205,6 +209,7 @@ impl<N: NodeName> Desk<N> {
             alloc: _,
             waiting: _,
             stopped: _,
+            holders: _,
         } = self;
         drop(core);
         let complete = seats.len() as u64 == made;
@@ -235,6 +240,40 @@ impl<N: NodeName> Desk<N> {
         }
     }
 
+    /// From here on no writer is told that something is due, until whoever holds them back releases them. It is no event.
+    pub fn hold(&mut self)
+        ensures { self.new ≡ self.old }
+    {
+        self.holders = self.holders.saturating_add(1);
+    }
+
+    /// Whether writers are held back.
+    pub fn is_held(&self) -> bool {
+        self.holders != 0
+    }
+
+    /// The writer of this stream waits, too.
+    pub fn note_waiting(&mut self, stream: u64)
+        ensures { self.new ≡ self.old }
+    {
+        self.waiting.add(stream);
+    }
+
+    /// One holds them back no longer. Answers the writers that wait, where none does.
+    pub fn release(&mut self) -> Waiting
+        ensures { self.new ≡ self.old }
+    {
+        self.holders = self.holders.saturating_sub(1);
+        self.woken(Wake::All)
+    }
+
+    /// Whether the journal has no room for one more record.
+    pub fn is_full(&self) -> bool
+        ensures { MatchBool result (IsFull self.now) (¬ IsFull self.now) }
+    {
+        is_full(self.journal.len(), self.cut)
+    }
+
     /// Whom an event wakes, but for a writer whose stream is owed nothing.
     pub fn narrowed(&self, wake: Wake) -> Wake
         ensures { result ≡ narrowed (present self.now) wake }
@@ -248,10 +287,13 @@ impl<N: NodeName> Desk<N> {
         }
     }
 
-    /// The writers that wait, where an event wakes all of them; they count no longer.
+    /// The writers that wait, where an event wakes all of them and nobody holds them back; they count no longer.
     pub fn woken(&mut self, wake: Wake) -> Waiting
         ensures { self.new ≡ self.old }
     {
+        if self.is_held() {
+            return Waiting::new();
+        }
         match wake {
             Wake::All => self.waiting.take(),
             Wake::Writer(_) | Wake::Nobody => Waiting::new(),

@@ -43,6 +43,9 @@ pub trait Host {
     /// Hands out the records of the journal, which is empty then.
     fn cut<R: Wait>(&self, rt: &R) -> Result<Self::Segment, Refusal>;
 
+    /// The same where the journal is full, and none where it isn't, as where another thread has cut it meanwhile.
+    fn cut_full<R: Wait>(&self, rt: &R) -> Result<Option<Self::Segment>, Refusal>;
+
     /// Waits until a poll of a stream would give something, or the stream isn't open. It is no event.
     fn wait_due<R: Wait>(&self, rt: &R, stream: u64) -> Due;
 

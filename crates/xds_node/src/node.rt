@@ -96,12 +96,26 @@ impl<N: NodeName> Node<N> {
     pub fn wait_due<R: Wait>(&self, rt: &R, stream: u64) -> Due {
         let mut desk = self.desk.lock(rt);
         for _ in rt.forever() {
-            if let Some(due) = desk.await_due(stream) {
+            if desk.is_held() {
+                desk.note_waiting(stream);
+            } else if let Some(due) = desk.await_due(stream) {
                 return due;
             }
             desk = self.lanes.writer(stream).wait(rt, desk);
         }
         unreachable!()
+    }
+
+    /// From here on to [`Node::release`] no writer begins a response, so that several changes make one. It is no event. It may wait
+    /// for the lock.
+    pub fn hold<R: Wait>(&self, rt: &R) {
+        self.desk.lock(rt).hold();
+    }
+
+    /// Ends what [`Node::hold`] began, and wakes the writers that wait. It is no event. It may wait for the lock.
+    pub fn release<R: Wait>(&self, rt: &R) {
+        let waiting = self.desk.lock(rt).release();
+        self.lanes.wake(Wake::All, &waiting);
     }
 
     /// Waits until the counts of changes differ from these, and answers them; none once the node was stopped. It is no
@@ -127,6 +141,23 @@ impl<N: NodeName> Node<N> {
     pub fn stop<R: Wait>(&self, rt: &R) {
         self.desk.lock(rt).stop();
         self.lanes.changed().notify_all();
+    }
+
+    /// The same where the journal is full, and none where it isn't, as where another thread has cut it meanwhile. Refused only by
+    /// `OutOfMemory`; then nothing changes. It may wait for the lock.
+    pub fn cut_full<R: Wait>(&self, rt: &R) -> Result<Option<Segment<N>>, Refusal>
+        ensures refused { IfErr result (λ e. e ≡ OutOfMemory) }
+        ensures legal { IfOk result (λ o. IfSome o (λ s. IsLegal s.base s.records)) }
+        ensures goes_on { IfOk result (λ o. IfSome o (λ s. GoesOn N.replica s.base s.first s.before)) }
+    {
+        let mut desk = self.desk.lock(rt);
+        if !desk.is_full() {
+            return Ok(None);
+        }
+        match desk.cut(&self.tokens) {
+            Ok(segment) => Ok(Some(segment)),
+            Err(refusal) => Err(refusal),
+        }
     }
 
     /// Hands out base and journal, and begins anew from a copy of the present replica. Refused only by `OutOfMemory`; then
@@ -158,7 +189,7 @@ impl<N: NodeName> Node<N> {
     }
 }
 
-fn differ(marks: Marks, seen: Marks) -> bool
+pub(crate) fn differ(marks: Marks, seen: Marks) -> bool
     ensures { MatchBool result (counts_of marks ≢ counts_of seen) (counts_of marks ≡ counts_of seen) }
 {
     marks.cluster != seen.cluster

@@ -32,6 +32,10 @@ impl<N: NodeName> Host for Node<N> {
         Node::cut(self, rt)
     }
 
+    fn cut_full<R: Wait>(&self, rt: &R) -> Result<Option<Segment<N>>, Refusal> {
+        Node::cut_full(self, rt)
+    }
+
     fn wait_due<R: Wait>(&self, rt: &R, stream: u64) -> Due {
         Node::wait_due(self, rt, stream)
     }

@@ -15,6 +15,7 @@ ghost use Rattle.xds_node.specs.declared.parcels.Receipt.{Receipt};
 use crate::calls::answered;
 use crate::exchange::{Ended, Unsent};
 use crate::hosts::{Gate, Host};
+use crate::node::differ;
 use crate::parcels::{Parcel, Receipt};
 use std::alloc::Global;
 use std::sync::Wait;
@@ -23,10 +24,14 @@ use xds_exchange::{Incoming, Outbox, Outgoing};
 use xds_message::Batch;
 use xds_resource::Refusal;
 
+/// How often in a row a batch that was lost or given up is told again at once.
+pub const MOST_AGAIN: u64 = 16;
+
 /// The thread that tells another replica what changed here. It waits until the counts of changes differ from those that
 /// it saw, asks for what changed since the peer was told, puts that as parcels, and takes one receipt for them; where
 /// nothing changed there is neither. Where the receipt is lost, or the batch is given up (`OutOfMemory`, or `JournalFull` in
-/// spite of a cut), all is told again at the next change. Each part fits a frame.
+/// spite of a cut), all is told again at once: up to [`MOST_AGAIN`] times in a row, and then at the next change. Each part fits a
+/// frame.
 ///
 /// After the node is stopped it does so once more. Then it answers `Stopped`, or the refusal for which that batch was given
 /// up; and `Unlinked` as soon as the other end of a channel is gone.
@@ -48,16 +53,17 @@ pub fn exchange_out<H: Host, G: Gate<H::Segment>, R: Wait>(
 {
     let mut peer = nothing();
     let mut seen = nothing();
+    let mut again = 0;
     for _ in rt.forever() {
         let changed = node.wait_changed(rt, seen);
         match tell(rt, alloc, node, seat, &mut peer, out, receipts, gate) {
             Ok(true) => match changed {
-                Some(marks) => seen = marks,
+                Some(marks) => seen = seen_after(peer, marks, &mut again),
                 None => return Ok(Ended::Stopped),
             },
             Ok(false) => return Ok(Ended::Unlinked),
             Err(refusal) => match changed {
-                Some(marks) => seen = marks,
+                Some(marks) => seen = seen_after(peer, marks, &mut again),
                 None => return Err(refusal),
             },
         }
@@ -76,6 +82,21 @@ fn nothing() -> Marks
         route: 0,
         secret: 0,
     }
+}
+
+// What counts as seen after a turn: what the peer was told, which is nothing where the batch was lost, so that it is told again at
+// once. Once it was lost too often in a row, these marks.
+fn seen_after(told: Marks, marks: Marks, again: &mut u64) -> Marks {
+    if differ(told, nothing()) {
+        *again = 0;
+        return told;
+    }
+    if *again < MOST_AGAIN {
+        *again += 1;
+        return told;
+    }
+    *again = 0;
+    marks
 }
 
 // Tells the peer what changed after its marks. Answers whether the channels have their other ends.

@@ -47,11 +47,7 @@ fn room_for(length: usize) -> usize {
 
 /// Writes a response as a frame: the texts of resources from where they are stored, so that the whole is never in memory.
 /// `FrameTooLong` where the text is too long for a frame, and `Device` where a call of the writer failed.
-pub fn send<W: Write>(
-    alloc: Global,
-    draft: &Draft,
-    writer: &mut Counted<W>,
-) -> Result<(), Refusal>
+pub fn send<W: Write>(alloc: Global, draft: &Draft, writer: &mut Counted<W>) -> Result<(), Refusal>
     ensures { Sends draft.now result (seen W.contents writer.old writer.new) }
 {
     let text = draft.pieces(alloc)?;

@@ -38,12 +38,22 @@ fn full_and_cut<A: Site, R: Wait>(
     node: &A,
     seat: &mut A::Seat,
 ) -> Result<A::Segment, Refusal> {
+    none_is_cut(node.cut_full(rt)?)?;
     fill(rt, node, seat)?;
     let event = A::Event::put(alloc, "a")?;
     let event = turned_away(node.call(rt, seat, event))?;
-    let segment = node.cut(rt)?;
+    let cut = node.cut_full(rt)?;
+    none_is_cut(node.cut_full(rt)?)?;
     counter(node.call(rt, seat, event))?;
-    Ok(segment)
+    cut.ok_or(Refusal::BadTrace)
+}
+
+// A journal that isn't full isn't cut as a full one.
+fn none_is_cut<S: Drop>(segment: Option<S>) -> Result<(), Refusal> {
+    match segment {
+        Some(_) => Err(Refusal::BadTrace),
+        None => Ok(()),
+    }
 }
 
 // What is left of a node whose journal was full once.

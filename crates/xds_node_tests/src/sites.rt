@@ -185,6 +185,8 @@ pub(crate) trait Site: Drop {
 
     fn cut<R: Wait>(&self, rt: &R) -> Result<Self::Segment, Refusal>;
 
+    fn cut_full<R: Wait>(&self, rt: &R) -> Result<Option<Self::Segment>, Refusal>;
+
     fn close(self, seats: Vec<Self::Seat>) -> Self::Left;
 
     fn wait_due<R: Wait>(&self, rt: &R, stream: u64) -> Due;
@@ -220,6 +222,10 @@ impl<N: NodeName> Site for Node<N> {
 
     fn cut<R: Wait>(&self, rt: &R) -> Result<Segment<N>, Refusal> {
         Node::cut(self, rt)
+    }
+
+    fn cut_full<R: Wait>(&self, rt: &R) -> Result<Option<Segment<N>>, Refusal> {
+        Node::cut_full(self, rt)
     }
 
     fn close(self, seats: Vec<Seat<N>>) -> History<N> {

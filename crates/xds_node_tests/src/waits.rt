@@ -3,13 +3,13 @@ ghost use Rattle.std.specs.Prelude.{◌≡◌};
 
 use crate::calls::{NOTHING, refused, stream};
 use crate::sites::{Happens, Site};
-use crate::threads::{waits_and_calls, waits_and_stops};
+use crate::threads::{counts_and_holds, waits_and_calls, waits_and_stops};
 use std::alloc::Global;
 use std::marker::Brand;
 use std::sync::Wait;
 use std::test::Fail;
 use std::thread::Threads;
-use xds_core::Marks;
+use xds_core::{Event, Marks};
 use xds_node::{Due, Line, Node, NodeName, Opened};
 use xds_resource::Refusal;
 
@@ -105,6 +105,41 @@ fn waited<N: NodeName + Send + Sync, R: Threads + Wait + Sync>(
         clusters,
         stopped,
     })
+}
+
+// How many clusters a writer finds that was held back while two were put.
+fn counted<N: NodeName + Send + Sync, R: Threads + Wait + Sync>(
+    rt: &R,
+    alloc: Global,
+    node: &Node<N>,
+) -> Result<usize, Refusal> {
+    let (seat, number, first) = begun(rt, alloc, node)?;
+    let last = Event::put(alloc, "b")?;
+    let (count, done) = counts_and_holds(rt, node, number, (node.seat(rt)?, seat), (first, last));
+    done?;
+    count
+}
+
+fn holds<N: NodeName + Send + Sync, R: Threads + Wait + Sync>(
+    rt: &R,
+    alloc: Global,
+    opened: Opened<Line>,
+) -> Result<usize, Refusal>
+    requires name { opened ≡ N.id }
+    requires number { N.replica ≡ 1 }
+{
+    let node = Node::<N>::new(alloc, opened, 1)?;
+    let count = counted(rt, alloc, &node);
+    drop(node);
+    count
+}
+
+#[test]
+fn a_writer_that_is_held_back_finds_all_changes(rt: HostRuntime) -> Result<(), Fail> {
+    let opened = Opened::<Line>::new(rt.alloc())?;
+    let count = holds::<Brand, _>(&rt, rt.alloc(), opened)?;
+    assert!(rt; count == 2, "both clusters were put before it went on");
+    Ok(())
 }
 
 fn waits<N: NodeName + Send + Sync, R: Threads + Wait + Sync>(

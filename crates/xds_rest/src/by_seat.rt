@@ -95,7 +95,7 @@ fn reply_by_calls<R: Wait, N: NodeName>(
                 drop(event);
                 return Err(refusal);
             }
-            let _ = node.cut(rt);
+            let _ = node.cut_full(rt);
             reply_by_call(rt, alloc, node, seat, event)
         }
     }

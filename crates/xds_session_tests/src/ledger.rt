@@ -91,7 +91,8 @@ impl<V: Variant> Client<V> {
     fn offered(&self, alloc: Global) -> Result<SharedMap<Due>, Refusal>
         ensures { IfOk result (λ o. o ≡ offer V.NAME types.Cluster self.now.interest self.now.catalogue.entries self.now.ledger.account.beliefs) }
     {
-        self.ledger.offer(alloc, &self.interest, self.catalogue.catalogue())
+        self.ledger
+            .offer(alloc, &self.interest, self.catalogue.catalogue())
     }
 
     fn sent(&mut self, alloc: Global, number: &str) -> Result<String, Refusal> {
@@ -102,7 +103,10 @@ impl<V: Variant> Client<V> {
     }
 
     fn sending(&self, alloc: Global) -> Result<String, Refusal> {
-        if self.ledger.sends(&self.interest, self.catalogue.catalogue()) {
+        if self
+            .ledger
+            .sends(&self.interest, self.catalogue.catalogue())
+        {
             offer_text(alloc, self.offered(alloc)?.as_map())
         } else {
             Ok(String::from_str(alloc, "none")?)
@@ -114,7 +118,9 @@ impl<V: Variant> Client<V> {
         Ok(match verb {
             "answers" => self.ledger.answers(rest),
             "stale" => self.ledger.is_stale(rest),
-            "due" => self.ledger.is_due(&self.interest, self.catalogue.catalogue()),
+            "due" => self
+                .ledger
+                .is_due(&self.interest, self.catalogue.catalogue()),
             _ => self.ledger.owes(&self.interest, self.catalogue.catalogue()),
         })
     }

@@ -50,12 +50,7 @@ fn whole<T: ResourceType>(
     let shown = catalogue.content(alloc, interest)?;
     let bodies = bodies_of(alloc, &shown)?;
     let shared = ArcSlice::from_vec(bodies)?;
-    Ok(SotwDraft::new(
-        T::TYPE,
-        version,
-        String::new(alloc),
-        shared,
-    ))
+    Ok(SotwDraft::new(T::TYPE, version, String::new(alloc), shared))
 }
 
 // The texts of writes.

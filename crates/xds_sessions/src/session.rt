@@ -70,7 +70,10 @@ impl<T: ResourceType, V: Speaks<T>> Session<T, V> {
         requires { SessionFits V.NAME T.TYPE catalogue.now self.now }
         ensures { result ≡ sessions.owes V.NAME T.TYPE self.now.session catalogue.now.entries }
     {
-        V::has_begun(&self.names) && self.ledger.owes(V::interest(&self.names), catalogue.catalogue())
+        V::has_begun(&self.names)
+            && self
+                .ledger
+                .owes(V::interest(&self.names), catalogue.catalogue())
     }
 
     /// Whether `poll` has a response to send, be there a nonce for it or not. It takes no memory.
@@ -78,7 +81,10 @@ impl<T: ResourceType, V: Speaks<T>> Session<T, V> {
         requires { SessionFits V.NAME T.TYPE catalogue.now self.now }
         ensures { result ≡ is_some (sending V.NAME T.TYPE self.now.session catalogue.now.entries) }
     {
-        V::has_begun(&self.names) && self.ledger.sends(V::interest(&self.names), catalogue.catalogue())
+        V::has_begun(&self.names)
+            && self
+                .ledger
+                .sends(V::interest(&self.names), catalogue.catalogue())
     }
 
     /// What a response says now, and that response as the one of this number, be one to be sent or not. Refused only by
@@ -207,7 +213,8 @@ impl<T: ResourceType, V: Speaks<T>> Session<T, V> {
         if !V::has_begun(&self.names) {
             return;
         }
-        self.ledger.tidy(alloc, V::interest(&self.names), catalogue.catalogue());
+        self.ledger
+            .tidy(alloc, V::interest(&self.names), catalogue.catalogue());
     }
 
     /// The next response, if one is to be sent: nothing of the type is unanswered, something is due, and it isn't

@@ -74,10 +74,7 @@ pub trait Speaks<T: ResourceType>: Variant {
         ensures refused { IfErr result (λ e. e ≡ OutOfMemory) };
 
     /// What clients of this cluster share that want everything and hold nothing, if it was made.
-    fn wildcard<'a>(
-        published: &'a Published<T>,
-        cluster: &str,
-    ) -> Option<&'a Wildcard<Self::Said>>
+    fn wildcard<'a>(published: &'a Published<T>, cluster: &str) -> Option<&'a Wildcard<Self::Said>>
         ensures { IfSome result (λ w. IsShared Self.NAME T.TYPE IsSaid published.now.entries cluster.now w.now) };
 
     /// Makes it, if it isn't there.

@@ -97,6 +97,13 @@ impl<A: Host> Host for Frail<A> {
         self.node.cut(rt)
     }
 
+    fn cut_full<R: Wait>(&self, rt: &R) -> Result<Option<A::Segment>, Refusal> {
+        if !self.has_failed(rt) {
+            return Err(Refusal::OutOfMemory);
+        }
+        self.node.cut_full(rt)
+    }
+
     fn wait_due<R: Wait>(&self, rt: &R, stream: u64) -> Due {
         self.node.wait_due(rt, stream)
     }
@@ -179,6 +186,10 @@ impl<A: Host> Host for Watched<A> {
 
     fn cut<R: Wait>(&self, rt: &R) -> Result<A::Segment, Refusal> {
         self.node.cut(rt)
+    }
+
+    fn cut_full<R: Wait>(&self, rt: &R) -> Result<Option<A::Segment>, Refusal> {
+        self.node.cut_full(rt)
     }
 
     fn wait_due<R: Wait>(&self, rt: &R, stream: u64) -> Due {

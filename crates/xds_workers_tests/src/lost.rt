@@ -4,7 +4,7 @@ ghost use Rattle.std.specs.Thread.{IsSend};
 
 use crate::calls::{held, put};
 use crate::exchanges::{
-    Done, Exchanged, Ready, crossed, exchange, outcome_of, ready, told_all, two,
+    Done, Exchanged, NOTHING, Ready, crossed, exchange, outcome_of, ready, told_all, two,
 };
 use crate::frail::{Batches, Frail, Watched};
 use crate::gates::Open;
@@ -155,19 +155,11 @@ fn a_merge_without_a_record_is_receipted_as_lost(rt: HostRuntime) -> Result<(), 
     Ok(())
 }
 
-// Puts a cluster once a merge at another node left no record, and stops the node.
-fn puts_once_lost<A: Site, B: Site, R: Wait>(
-    rt: &R,
-    alloc: Global,
-    node: &A,
-    seat: A::Seat,
-    other: &Frail<B>,
-) -> Result<(), Refusal> {
-    let mut seat = seat;
+// Stops a node once what another took no record of was told again and merged.
+fn stops_once_told<A: Site, B: Site, R: Wait>(rt: &R, node: &A, other: &Frail<B>) {
     other.wait_failed(rt);
-    let done = put(rt, alloc, node, &mut seat, "b");
+    let _ = other.wait_changed(rt, NOTHING);
     node.stop(rt);
-    done
 }
 
 fn exchange_frail<A: Site + Sync, B: Site + Sync, R: Threads + Wait + Sync>(
@@ -200,15 +192,15 @@ where
 {
     let mut puts = from.node.seat(rt)?;
     put(rt, alloc, &from.node, &mut puts, "a")?;
+    drop(puts);
     let ready = ready(rt, alloc, &from.node, &to.node)?;
-    let (done, all_put) = join(
+    let (done, _) = join(
         rt,
         move || -> Done
             requires { IsSend A.Seat.row × IsSend A.Segment.row × IsSend B.Seat.row × IsSend B.Segment.row }
         { exchange_frail(rt, alloc, from, to, ready) },
-        move || puts_once_lost(rt, alloc, &from.node, puts, to),
+        move || stops_once_told(rt, &from.node, to),
     );
-    all_put?;
     let outcome = outcome_of(rt, alloc, &from.node, &to.node, done)?;
     Ok((outcome, from.told(rt)))
 }
@@ -242,7 +234,7 @@ fn lost_and_told<M: NodeName + Send + Sync, N: NodeName + Send + Sync, R: Thread
 }
 
 #[test]
-fn what_is_lost_is_told_again_whole(rt: HostRuntime) -> Result<(), Fail> {
+fn what_is_lost_is_told_again_at_once(rt: HostRuntime) -> Result<(), Fail> {
     let first = Opened::<Line>::new(rt.alloc())?;
     let second = Opened::<Line>::new(rt.alloc())?;
     let (outcome, batches) = lost_and_told::<Brand, Brand, _>(&rt, rt.alloc(), first, second)?;
@@ -250,6 +242,6 @@ fn what_is_lost_is_told_again_whole(rt: HostRuntime) -> Result<(), Fail> {
     drop(outcome);
     told?;
     assert!(rt; batches.first == 1, "the first batch had one cluster");
-    assert!(rt; batches.second == 2, "the next one has both");
+    assert!(rt; batches.second == 1, "the next one has it again");
     Ok(())
 }

@@ -77,6 +77,21 @@ impl<A: Host> Host for Short<A> {
         Ok(segment)
     }
 
+    fn cut_full<R: Wait>(&self, rt: &R) -> Result<Option<A::Segment>, Refusal> {
+        let mut filler = self.filler.lock(rt);
+        let Some(segment) = self.node.cut_full(rt)? else {
+            return Ok(None);
+        };
+        filler.cuts = filler.cuts.saturating_add(1);
+        let _ = fill(
+            rt,
+            &self.node,
+            &mut filler.seat,
+            MOST_RECORDS.saturating_sub(self.most),
+        );
+        Ok(Some(segment))
+    }
+
     fn wait_due<R: Wait>(&self, rt: &R, stream: u64) -> Due {
         self.node.wait_due(rt, stream)
     }

@@ -12,7 +12,7 @@ returns-in-Err-clause-failed g c =
     let head = subst (λ (t : List ℕ). WrotePart (seen g.W.Write.contents c.args.writer.now c.gather.new.writer) (c.args.block.items ++ t)) c.as_bytes.ensures.value c.in-Err.ensures.failed.1 in (
       c.in-Err.ensures.failed.0,
       subst (λ (t : List ℕ). WrotePart (seen g.W.Write.contents c.args.writer.now c.gather.new.writer) (c.args.block.items ++ t)) c.self.view_is
-      (head_part _ c.args.block.items (string_bytes c.self.inside.head) (with_commas (map body_text c.self.inside.bodies.now)) (string_bytes c.self.inside.tail) head),
+          (head_part _ c.args.block.items (string_bytes c.self.inside.head) (with_commas (map body_text c.self.inside.bodies.now)) (string_bytes c.self.inside.tail) head),
     )
 
 pub returns-in-Err-put_bodies-clause-failed : goal.returns-in-Err-put_bodies-clause-failed
@@ -20,7 +20,7 @@ returns-in-Err-put_bodies-clause-failed g c =
     let head = subst (λ (t : List ℕ). Passes (seen g.W.Write.contents c.args.writer.now c.gather.new.writer) c.args.block.items t c.gather.new.block.items) c.as_bytes.ensures.value c.in_default.ensures.put in (
       c.in-Err-put_bodies.ensures.failed.0,
       subst (λ (t : List ℕ). WrotePart (seen g.W.Write.contents c.args.writer.now c.put_bodies.new.writer) (c.args.block.items ++ t)) c.self.view_is
-      (bodies_part _ _ _ _ _ _ c.args.block.items _ _ (string_bytes c.self.inside.tail) _ head c.in-Err-put_bodies.ensures.failed.1),
+          (bodies_part _ _ _ _ _ _ c.args.block.items _ _ (string_bytes c.self.inside.tail) _ head c.in-Err-put_bodies.ensures.failed.1),
     )
 
 pub returns-in-Err-gather-clause-failed : goal.returns-in-Err-gather-clause-failed
@@ -29,7 +29,7 @@ returns-in-Err-gather-clause-failed g c =
     let part = subst (λ (t : List ℕ). WrotePart (seen g.W.Write.contents c.put_bodies.new.writer c.gather-2.new.writer) (c.put_bodies.new.block.items ++ t)) c.as_bytes-2.ensures.value c.in-Err-gather.ensures.failed.1 in (
       c.in-Err-gather.ensures.failed.0,
       subst (λ (t : List ℕ). WrotePart (seen g.W.Write.contents c.args.writer.now c.gather-2.new.writer) (c.args.block.items ++ t)) c.self.view_is
-      (tail_part _ _ _ _ _ _ _ _ c.args.block.items _ _ _ _ _ head c.in_default-put_bodies.ensures.put part),
+          (tail_part _ _ _ _ _ _ _ _ c.args.block.items _ _ _ _ _ head c.in_default-put_bodies.ensures.put part),
     )
 
 pub returns-in-Err-write_bytes-clause-failed : goal.returns-in-Err-write_bytes-clause-failed
