@@ -19,7 +19,7 @@ use Rattle.xds_world.specs.Words.{Text, space, split_first, words, words_in, rep
 use Rattle.xds_world.specs.Commands.{comma, groups_in, resource_in}
 use Rattle.xds_world.proofs.Named.{resource_in-parsed}
 use Rattle.xds_world.proofs.ShortNumbers.{number_in-none}
-use Rattle.xds_world.proofs.Wording.{text_of-words}
+use Rattle.xds_world.proofs.Wording.{text_of-words_in}
 use Rattle.xds_commands.specs.declared.cause.Cause.{Cause}
 use Rattle.xds_commands.specs.declared.cause.Cause.TheVariants.{UnknownCommand, NoNumber, WrongWords, Refused, UnknownType}
 use Rattle.xds_commands.specs.Causes.{IsTextCause, IsResourceCause, IsGroupsCause, IsBehindNumber, IsBehindVerb, IsWordsCause, is_verb, name_cause, deletion_cause}
@@ -59,7 +59,7 @@ number_none w r all none =
 -- ---- resources
 
 pub text_cause : (line : Text) (c : Cause) → IsTextCause (Some line) c → IsResourceCause (words line) c
-text_cause line c is = subst (λ o. IsTextCause o c) (text_of-words line (words line) refl) is
+text_cause line c is = subst (λ o. IsTextCause o c) (text_of-words_in (Some line) (words line) refl) is
 
 -- a resource has nothing wrong but what stands around it
 pub resource_fine : (line : Text) (t : TypeName) (r : NamedBody) → parsed t line ≡ Ok r → IsResourceCause (words line) WrongWords
@@ -74,9 +74,8 @@ resource_refused line e (Err x) refused is = tt
 -- ---- groups
 
 -- whether a word lists groups, by what they are refused as
-pub groups_some : {G : Type 0} (word : Text) (texts : List Text) (g : G) (view : G → List Text) → texts ≡ pieces comma word → groups_of texts ≡ Ok (view g)
-    → true ≡ is_some (groups_in word)
-groups_some word texts g view are given = sym (ap (λ (ts : List Text). is_some (result_ok (groups_of ts))) (sym are) ∙ ap (λ r. is_some (result_ok r)) given)
+pub groups_some : (word : Text) (texts g : List Text) → texts ≡ pieces comma word → groups_of texts ≡ Ok g → true ≡ is_some (groups_in word)
+groups_some word texts g are given = sym (ap (λ (ts : List Text). is_some (result_ok (groups_of ts))) (sym are) ∙ ap (λ r. is_some (result_ok r)) given)
 
 pub groups_none : {E : Type 0} (word : Text) (texts : List Text) (e : Refusal) (r : Result Bool E) → texts ≡ pieces comma word → (e ≢ OutOfMemory → groups_of texts ≡ Err e)
     → IfOk r (λ b. (e ≢ OutOfMemory) × (b ≡ false)) → IfOk r (λ b. b ≡ is_some (groups_in word))

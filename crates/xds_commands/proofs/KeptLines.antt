@@ -75,8 +75,14 @@ further most a b c = omega arith
 line_twice : (line count more : ℕ) → line_after (line_after line count) more ≡ line_after line (count + more)
 line_twice line count more = further (2 ^ 64 - 1) line count more
 
+same_by : (most line : ℕ) → line ≤ most → min (line + 0) most ≡ line
+same_by most line small = omega (arith, small)
+
 line_same : (line : ℕ) → line ≤ 2 ^ 64 - 1 → line_after line 0 ≡ line
-line_same line most = omega (arith, most)
+line_same line small = same_by (2 ^ 64 - 1) line small
+
+at_most : (most line : ℕ) → min line most ≤ most
+at_most most line = omega arith
 
 -- ---- what is made of lines
 
@@ -105,7 +111,7 @@ module _ {S : Type 0} (hands : S → S → Written → Type 0) (refuses : S → 
   lines_both s t u number (line ∷ lines) more most (v, first, rest) other = (
     v,
     first,
-    lines_both v t u (line_after number 1) lines more (omega arith) rest
+    lines_both v t u (line_after number 1) lines more (at_most (2 ^ 64 - 1) (number + 1)) rest
         (subst (λ n. KeepsLines hands refuses t u n more) (sym (line_twice number 1 (length lines))) other),
   )
 
@@ -200,18 +206,19 @@ module _ {S : Type 0} (hands : S → S → Written → Type 0) (refuses : S → 
   pub input_more : (s t u : S) (before mid after : Option (List ℕ)) (old new : Kept) (piece : List ℕ) → IsKeptSoFar s t before mid old → Consumes mid after piece
       → KeepsPiece hands refuses t u old new piece → IsKeptSoFar s u before after new
   input_more s t u before mid after old new piece so_far reads keeps =
-      let (ended, left, split, held, numbered, made) = keeps so_far.left so_far.held in
+      let piece_kept = keeps so_far.left so_far.held in
+      let ended = piece_kept.0 in
       record {
         came = so_far.came ++ piece;
         ended = so_far.ended ++ ended;
-        left = left;
+        left = piece_kept.1;
         read = Consumes-trans before mid after so_far.came piece so_far.read reads;
-        bytes_are = pieces_more feed so_far.came piece so_far.ended so_far.left so_far.bytes_are ∙ ap (λ (ps : List (List ℕ)). so_far.ended ++ ps) split
-            ∙ sym (append_assoc so_far.ended ended (left ∷ []));
-        held = held;
-        line_is = numbered ∙ ap (λ n. line_after n (length ended)) so_far.line_is ∙ line_twice 1 (length so_far.ended) (length ended)
+        bytes_are = pieces_more feed so_far.came piece so_far.ended so_far.left so_far.bytes_are ∙ ap (λ (ps : List (List ℕ)). so_far.ended ++ ps) piece_kept.2
+            ∙ sym (append_assoc so_far.ended ended (piece_kept.1 ∷ []));
+        held = piece_kept.3;
+        line_is = piece_kept.4 ∙ ap (λ n. line_after n (length ended)) so_far.line_is ∙ line_twice 1 (length so_far.ended) (length ended)
             ∙ ap (line_after 1) (sym (length-append so_far.ended ended));
-        made = lines_both s t u 1 so_far.ended ended (omega arith) so_far.made (subst (λ n. KeepsLines hands refuses t u n ended) so_far.line_is made);
+        made = lines_both s t u 1 so_far.ended ended (omega arith) so_far.made (subst (λ n. KeepsLines hands refuses t u n ended) so_far.line_is piece_kept.5);
       }
 
   -- the input is at its end
