@@ -1,9 +1,10 @@
 -- What is wrong of a line, by the words of which its first parts are made.
-use Rattle.std.proofs.Common.{◌≡◌, ◌≢◌, ◌⊎◌, ◌<◌, ◌^◌, ℕ, List, [], ◌∷◌, length, Bool, true, false, cond, inl, inr, Option, Some, None, Result, Ok, Err, IfOk, refl, ap, sym, ◌∙◌, subst, true≢false}
+use Rattle.std.proofs.Common.{◌≡◌, ◌≢◌, ◌⊎◌, ◌<◌, ◌^◌, ℕ, List, [], ◌∷◌, length, Bool, true, false, cond, inl, inr, Option, Some, None, Result, Ok, Err, IfOk, refl, ap, sym, ◌∙◌, Bor, arith, ne_eqb, subst, suc}
 use Rattle.std.specs.Prelude.{◌&&◌, ◌||◌, ◌==◌, nat_le, is_some, bytes_eq, decimal, codes}
 use Rattle.std.specs.Option.{option_map}
 use Rattle.std.specs.Result.{result_ok}
 use Rattle.std.specs.List.{onto_first}
+use Rattle.std.specs.Str.{IsUtf8}
 use Rattle.std.specs.Str.Parse.{digits_value}
 use Rattle.std.proofs.lemmas.Fmt.{decimal_is_IsNumeral}
 use Rattle.xds_resource.specs.declared.refusal.Refusal.{Refusal}
@@ -22,7 +23,7 @@ use Rattle.xds_world.proofs.ShortNumbers.{number_in-none}
 use Rattle.xds_world.proofs.Wording.{text_of-words_in}
 use Rattle.xds_commands.specs.declared.cause.Cause.{Cause}
 use Rattle.xds_commands.specs.declared.cause.Cause.TheVariants.{UnknownCommand, NoNumber, WrongWords, Refused, UnknownType}
-use Rattle.xds_commands.specs.Causes.{IsTextCause, IsResourceCause, IsGroupsCause, IsBehindNumber, IsBehindVerb, IsWordsCause, is_verb, name_cause, deletion_cause}
+use Rattle.xds_commands.specs.Causes.{IsTextCause, IsResourceCause, IsGroupsCause, IsBehindNumber, IsBehindVerb, IsCauseOf, IsWordsCause, is_verb, name_cause, deletion_cause}
 use Rattle.xds_commands.proofs.Handings.{first_piece}
 
 -- ---- the first word
@@ -31,9 +32,13 @@ use Rattle.xds_commands.proofs.Handings.{first_piece}
 pub split_is : (ws : List Text) (w : Text) (rest : List Text) → split_first ws ≡ Some (w, rest) → ws ≡ w ∷ rest
 split_is [] w rest is = absurd cc
 split_is (v ∷ vs) w rest is =
-    let first : v ≡ w = cc in
-    let others : vs ≡ rest = cc in
-    λ i. first i ∷ others i
+    let same : (v, vs) ≡ (w, rest) = cc in
+    λ i. (same i).0 ∷ (same i).1
+
+-- of the text that there is
+pub some_split : (o : Option (Bor Text)) (text : Bor Text) (r : Option (Text × List Text)) → o ≡ Some text → split_first (words text.now) ≡ r
+    → split_first (words_in (option_map (λ (s : Bor Text). s.now) o)) ≡ r
+some_split o text r is split = ap (λ (x : Option (Bor Text)). split_first (words_in (option_map (λ (s : Bor Text). s.now) x))) is ∙ split
 
 -- ---- numbers
 
@@ -96,8 +101,11 @@ no_groups ws w rest split none = subst (λ (x : List Text). IsGroupsCause x (Ref
 two_words : (o : Text) (os : List Text) → name_cause ([] ∷ o ∷ os) ≡ WrongWords
 two_words o os = refl
 
+more : (n : ℕ) → (suc n == 0) ≡ false
+more n = ne_eqb (suc n) 0 (λ e. omega (arith, e))
+
 more_words : (b : ℕ) (o : Text) (os : List Text) → name_cause ((b ∷ o) ∷ os) ≡ WrongWords
-more_words b o [] = refl
+more_words b o [] = ap (λ t. cond t (Refused BadName) WrongWords) (more (length o))
 more_words b o (x ∷ os) = refl
 
 name_by : (t : Bool) (b : ℕ) (ps : List Text) → ((o : Text) × (os : List Text) × (ps ≡ o ∷ os)) → name_cause (cond t ([] ∷ ps) (onto_first b ps)) ≡ WrongWords
@@ -115,13 +123,24 @@ deletion_unknown ws w rest split none = sym (ap deletion_cause (split_is ws w re
 pub deletion_known : (ws : List Text) (w : Text) (rest : List Text) (c : Cause) → split_first ws ≡ Some (w, rest) → is_some (type_of_word w) ≡ true → c ≡ name_cause rest → c ≡ deletion_cause ws
 deletion_known ws w rest c split some is = is ∙ sym (ap deletion_cause (split_is ws w rest split) ∙ ap (λ b. cond b (name_cause rest) UnknownType) some)
 
+-- a name that isn't empty is one
+pub name_some : (o : Option (Bor Text)) (name : Bor Text) (empty : Bool) → o ≡ Some name → empty ≡ (length name.now == 0) → empty ≡ false
+    → WrongWords ≡ name_cause (words_in (option_map (λ (s : Bor Text). s.now) o))
+name_some o name empty is tells none =
+    sym (
+    ap (λ (x : Option (Bor Text)). name_cause (words_in (option_map (λ (s : Bor Text). s.now) x))) is ∙ name_words name.now
+    ∙ ap (λ b. cond b (Refused BadName) WrongWords) (sym tells ∙ none)
+    )
+
 -- ---- lines
 
 -- a verb that is none of the first two is the third
 pub third_verb : (verb : Text) → is_verb verb ≡ true → bytes_eq verb (codes "put") ≡ false → bytes_eq verb (codes "putin") ≡ false → bytes_eq verb (codes "delete") ≡ true
 third_verb verb is put putin =
-    let rest : (bytes_eq verb (codes "putin") || bytes_eq verb (codes "delete")) ≡ true = sym (ap (λ b. b || (bytes_eq verb (codes "putin") || bytes_eq verb (codes "delete"))) put) ∙ is in
-    sym (ap (λ b. b || bytes_eq verb (codes "delete")) putin) ∙ rest
+    sym (
+    ap (λ b. (b || bytes_eq verb (codes "putin")) || bytes_eq verb (codes "delete")) put
+    ∙ ap (λ b. b || bytes_eq verb (codes "delete")) putin
+    ) ∙ is
 
 pub no_verb : (ws : List Text) (w : Text) (rest : List Text) (c : Cause) → split_first ws ≡ Some (w, rest) → (is_verb w ≡ false) × (c ≡ UnknownCommand) → IsWordsCause ws c
 no_verb ws w rest c split is = subst (λ (x : List Text). IsWordsCause x c) (sym (split_is ws w rest split)) (inl is)
@@ -139,3 +158,20 @@ pub behind_number : {E : Type 0} (ws : List Text) (verb : Text) (vs : List Text)
 behind_number ws verb vs w rest (Ok c) split again is number behind =
     behind_verb ws verb vs c split is (subst (λ (x : List Text). IsBehindVerb verb x c) (sym (split_is vs w rest again)) (inr (number, behind)))
 behind_number ws verb vs w rest (Err e) split again is number behind = tt
+
+-- a verb alone lacks words
+pub no_words : (o : Option (Bor Text)) (verb : Text) → o ≡ None → IsBehindVerb verb (words_in (option_map (λ (s : Bor Text). s.now) o)) WrongWords
+no_words o verb is = subst (λ (x : Option (Bor Text)). IsBehindVerb verb (words_in (option_map (λ (s : Bor Text). s.now) x)) WrongWords) (sym is) refl
+
+pub behind_put : {E : Type 0} (verb : Text) (ws : List Text) (r : Result Cause E) → bytes_eq verb (codes "put") ≡ true → IfOk r (IsResourceCause ws) → IfOk r (IsBehindNumber verb ws)
+behind_put verb ws (Ok c) put is = inl (put, is)
+behind_put verb ws (Err e) put is = tt
+
+pub behind_put_in : {E : Type 0} (verb : Text) (ws : List Text) (r : Result Cause E) → bytes_eq verb (codes "putin") ≡ true → IfOk r (IsGroupsCause ws) → IfOk r (IsBehindNumber verb ws)
+behind_put_in verb ws (Ok c) putin is = inr (inl (putin, is))
+behind_put_in verb ws (Err e) putin is = tt
+
+-- a line is a text
+pub line_cause : {E : Type 0} (line text : List ℕ) (r : Result Cause E) → (text ≡ line) × IsUtf8 line → IfOk r (IsWordsCause (words text)) → IfOk r (IsCauseOf line)
+line_cause line text (Ok c) is cause = inr (is.1, subst (λ (l : List ℕ). IsWordsCause (words l) c) is.0 cause)
+line_cause line text (Err e) is cause = tt

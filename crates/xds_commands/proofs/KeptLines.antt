@@ -1,24 +1,24 @@
 -- What is held of a line, and what is made of each line of an input whose refused lines are told.
-use Rattle.std.proofs.Common.{◌≡◌, ◌⊎◌, ◌<◌, ◌≤◌, ◌+◌, ◌-◌, ◌^◌, ℕ, List, [], ◌∷◌, ◌++◌, length, take, Bool, true, false, inl, inr, Option, Some, None, Result, Ok, Err, refl, ap, sym, ◌∙◌, subst, arith, append_assoc, append-nil, length-append}
+use Rattle.std.proofs.Common.{◌≡◌, ◌⊎◌, ◌<◌, ◌≤◌, ◌+◌, ◌-◌, ◌^◌, ℕ, List, [], ◌∷◌, ◌++◌, length, take, Bool, true, false, inl, inr, Option, Some, None, IfSome, Result, Ok, Err, refl, ap, sym, ◌∙◌, subst, arith, append_assoc, append-nil, length-append}
 use Rattle.std.specs.Prelude.{min}
+use Rattle.std.specs.Option.{option_map}
 use Rattle.std.specs.Io.KnownBytes.{Consumes, IsAtEnd, Keeps}
 use Rattle.std.proofs.KnownBytes.{Consumes-nil, Consumes-trans, Consumes-kept}
 use Rattle.std.proofs.lemmas.Bool.{cases_lt, lt-ltb}
 use Rattle.std.proofs.lemmas.List.{length-take-le, take-append-le, take_all}
 use Rattle.std.proofs.Math.Seq.{take-append-add, take-nil}
 use Rattle.xds_resource.specs.declared.refusal.Refusal.{Refusal}
-use Rattle.xds_resource.specs.declared.refusal.Refusal.TheVariants.{OutOfMemory, TooLong, Device}
+use Rattle.xds_resource.specs.declared.refusal.Refusal.TheVariants.{OutOfMemory, TooLong}
 use Rattle.xds_world.specs.Lines.{feed, pieces}
 use Rattle.xds_commands.specs.declared.change.Change.{Change}
 use Rattle.xds_commands.specs.declared.ending.End.{End}
-use Rattle.xds_commands.specs.declared.ending.End.TheVariants.{Refused}
 use Rattle.xds_commands.specs.declared.fault.Fault.{Fault}
 use Rattle.xds_commands.specs.declared.kept.Kept.{Kept}
 use Rattle.xds_commands.specs.declared.kept.Said.{Said}
-use Rattle.xds_commands.specs.Changes.{Written, most_line, change_in}
+use Rattle.xds_commands.specs.Changes.{Written, change_in, change_of, most_line}
 use Rattle.xds_commands.specs.Handing.{line_after}
 use Rattle.xds_commands.specs.HeldLines.{held_of, HasHeld, IsSaid, IsSaidBy, next_line}
-use Rattle.xds_commands.specs.Keeping.{HandsSaid, HandsWhat, KeepsChange, KeepsLine, KeepsLines, IsHeldOf, KeepsPiece, KeepsSome, KeepsInput}
+use Rattle.xds_commands.specs.Keeping.{HandsSaid, HandsWhat, KeepsChange, KeepsLine, KeepsLines, IsHeldOf, KeepsPiece, KeepsInput, number_behind}
 use Rattle.xds_commands.proofs.Changing.{long_line}
 use Rattle.xds_commands.proofs.Handings.{pieces_more}
 use Rattle.xds_commands.proofs.Takings.{pieces_behind}
@@ -63,28 +63,30 @@ least m part (inr more) =
 -- behind what is held, as much as there is room for
 pub held_room : (old part : List ℕ) → length old ≤ most_line + 1 → old ++ take (min (length part) (most_line + 1 - length old)) part ≡ held_of (old ++ part)
 held_room old part short =
+    let whole : length old + (most_line + 1 - length old) ≡ most_line + 1 = omega (arith, short) in
     ap (λ (l : List ℕ). old ++ l) (least (most_line + 1 - length old) part (cases_lt (most_line + 1 - length old) (length part)))
-    ∙ sym (take-append-add old part (most_line + 1 - length old))
-    ∙ ap (λ k. take k (old ++ part)) (omega (arith, short))
+    ∙ sym (take-append-add old part (most_line + 1 - length old)) ∙ ap (λ k. take k (old ++ part)) whole
+
+-- so it is held where no memory lacks
+pub held_more : (old part new : List ℕ) (was : Bool) (room count : ℕ) → was ≡ false → length old ≤ most_line + 1 → room ≡ most_line + 1 - length old → count ≡ min (length part) room
+    → new ≡ old ++ take count part → HasHeld old was part new was
+held_more old part new true room count kept short room_is count_is is = absurd cc
+held_more old part new false room count kept short room_is count_is is =
+    let fits : count ≡ min (length part) (most_line + 1 - length old) = count_is ∙ ap (min (length part)) room_is in
+    inr (refl, is ∙ ap (λ k. old ++ take k part) fits ∙ held_room old part short)
 
 -- ---- the numbers of lines
 
-further : (most a b c : ℕ) → min (min (a + b) most + c) most ≡ min (a + (b + c)) most
-further most a b c = omega arith
-
-line_twice : (line count more : ℕ) → line_after (line_after line count) more ≡ line_after line (count + more)
-line_twice line count more = further (2 ^ 64 - 1) line count more
-
-same_by : (most line : ℕ) → line ≤ most → min (line + 0) most ≡ line
-same_by most line small = omega (arith, small)
-
-line_same : (line : ℕ) → line ≤ 2 ^ 64 - 1 → line_after line 0 ≡ line
-line_same line small = same_by (2 ^ 64 - 1) line small
-
-at_most : (most line : ℕ) → min line most ≤ most
-at_most most line = omega arith
+behind_both : (number : ℕ) (lines more : List (List ℕ)) → number_behind number (lines ++ more) ≡ number_behind (number_behind number lines) more
+behind_both number [] more = refl
+behind_both number (line ∷ lines) more = behind_both (line_after number 1) lines more
 
 -- ---- what is made of lines
+
+-- what a line says that was read
+pub said_read : (o : Option Change) (line : List ℕ) (number : ℕ) → change_in line ≡ Ok (option_map change_of o) → IfSome o (λ c. c.line ≡ number) → IsSaidBy line number (Ok o)
+said_read None line number is same = is
+said_read (Some c) line number is same = (is, same)
 
 module _ {S : Type 0} (hands : S → S → Written → Type 0) (refuses : S → S → ℕ → Refusal → Type 0) where
   said_what : (s t : S) (number : ℕ) (bytes line : List ℕ) (what : Result (Option Change) Fault) → change_in bytes ≡ change_in line → IsSaidBy bytes number what
@@ -104,16 +106,10 @@ module _ {S : Type 0} (hands : S → S → Written → Type 0) (refuses : S → 
       said_what s t number bytes line said.what (ap change_in held ∙ change_held line) is.1 (subst (λ n. HandsWhat hands refuses s t n said.what) is.0 handed)
 
   -- lines behind lines
-  lines_both : (s t u : S) (number : ℕ) (lines more : List (List ℕ)) → number ≤ 2 ^ 64 - 1 → KeepsLines hands refuses s t number lines
-      → KeepsLines hands refuses t u (line_after number (length lines)) more → KeepsLines hands refuses s u number (lines ++ more)
-  lines_both s t u number [] more most same other =
-      subst (λ n. KeepsLines hands refuses s u n more) (line_same number most) (subst (λ x. KeepsLines hands refuses x u (line_after number 0) more) same other)
-  lines_both s t u number (line ∷ lines) more most (v, first, rest) other = (
-    v,
-    first,
-    lines_both v t u (line_after number 1) lines more (at_most (2 ^ 64 - 1) (number + 1)) rest
-        (subst (λ n. KeepsLines hands refuses t u n more) (sym (line_twice number 1 (length lines))) other),
-  )
+  lines_both : (s t u : S) (number : ℕ) (lines more : List (List ℕ)) → KeepsLines hands refuses s t number lines → KeepsLines hands refuses t u (number_behind number lines) more
+      → KeepsLines hands refuses s u number (lines ++ more)
+  lines_both s t u number [] more same other = subst (λ x. KeepsLines hands refuses x u number more) same other
+  lines_both s t u number (line ∷ lines) more (v, first, rest) other = (v, first, lines_both v t u (line_after number 1) lines more rest other)
 
   -- How far a piece was taken behind what had come of a line: these lines have ended, and this is held of the next.
   pub record KeptTo (s t : S) (first : ℕ) (now : Kept) (bytes rest : List ℕ) : Type 0 where
@@ -121,21 +117,21 @@ module _ {S : Type 0} (hands : S → S → Written → Type 0) (refuses : S → 
     pub left : List ℕ
     pub bytes_are : pieces feed bytes ≡ ended ++ pieces feed (left ++ rest)
     pub held : IsHeldOf left now
-    pub line_is : now.line ≡ line_after first (length ended)
+    pub line_is : now.line ≡ number_behind first ended
     pub kept : KeepsLines hands refuses s t first ended
 
   abbrev pub IsKeptTo : S → S → Kept → Kept → List ℕ → List ℕ → Type 0
   IsKeptTo s t old now piece rest = (came : List ℕ) → IsHeldOf came old → KeptTo s t old.line now (came ++ piece) rest
 
-  pub kept_none : (s : S) (old : Kept) (piece : List ℕ) → old.line ≤ 2 ^ 64 - 1 → IsKeptTo s s old old piece piece
-  kept_none s old piece most came held = record { ended = []; left = came; bytes_are = refl; held = held; line_is = sym (line_same old.line most); kept = refl }
+  pub kept_none : (s : S) (old : Kept) (piece : List ℕ) → IsKeptTo s s old old piece piece
+  kept_none s old piece came held = record { ended = []; left = came; bytes_are = refl; held = held; line_is = refl; kept = refl }
 
   -- a line has ended
-  pub kept_more : (s t u : S) (old now mid new : Kept) (piece rest part next : List ℕ) (said : Said) → old.line ≤ 2 ^ 64 - 1 → IsKeptTo s t old now piece rest
+  pub kept_more : (s t u : S) (old now mid new : Kept) (piece rest part next : List ℕ) (said : Said) → IsKeptTo s t old now piece rest
       → pieces feed rest ≡ part ∷ pieces feed next → HasHeld now.bytes.items now.is_lost part mid.bytes.items mid.is_lost → mid.line ≡ now.line
       → IsSaid mid.bytes.items mid.is_lost mid.line said → new.bytes.items ≡ [] → new.line ≡ next_line mid.line → HandsSaid hands refuses t u said
       → IsKeptTo s u old new piece next
-  kept_more s t u old now mid new piece rest part next said most so_far split has same is none further handed came held =
+  kept_more s t u old now mid new piece rest part next said so_far split has same is none further handed came held =
       let at = so_far came held in
       let numbered = same ∙ at.line_is in
       let line = said_by t u mid.line mid.bytes.items (at.left ++ part) mid.is_lost said (held_by now.bytes.items now.is_lost part mid.bytes.items mid.is_lost at.left at.held.1 has) is handed in
@@ -145,9 +141,8 @@ module _ {S : Type 0} (hands : S → S → Written → Type 0) (refuses : S → 
         bytes_are = at.bytes_are ∙ ap (λ (ps : List (List ℕ)). at.ended ++ ps) (pieces_behind feed at.left rest part (pieces feed next) at.held.0 split)
             ∙ sym (append_assoc at.ended ((at.left ++ part) ∷ []) (pieces feed next));
         held = (refl, inr (none ∙ sym (take-nil (most_line + 1))));
-        line_is = further ∙ ap (λ n. line_after n 1) numbered ∙ line_twice old.line (length at.ended) 1
-            ∙ ap (line_after old.line) (sym (length-append at.ended ((at.left ++ part) ∷ [])));
-        kept = lines_both s t u old.line at.ended ((at.left ++ part) ∷ []) most at.kept
+        line_is = further ∙ ap (λ n. line_after n 1) numbered ∙ sym (behind_both old.line at.ended ((at.left ++ part) ∷ []));
+        kept = lines_both s t u old.line at.ended ((at.left ++ part) ∷ []) at.kept
             (u, subst (λ n. KeepsLine hands refuses t u n (at.left ++ part)) numbered line, refl);
       }
 
@@ -175,7 +170,7 @@ module _ {S : Type 0} (hands : S → S → Written → Type 0) (refuses : S → 
     pub read : Consumes before after came
     pub bytes_are : pieces feed came ≡ ended ++ left ∷ []
     pub held : IsHeldOf left kept
-    pub line_is : kept.line ≡ line_after 1 (length ended)
+    pub line_is : kept.line ≡ number_behind 1 ended
     pub made : KeepsLines hands refuses s t 1 ended
 
   pub input_begun : (s : S) (before : Option (List ℕ)) (kept : Kept) → kept.bytes.items ≡ [] → kept.line ≡ 1 → IsKeptSoFar s s before before kept
@@ -216,9 +211,8 @@ module _ {S : Type 0} (hands : S → S → Written → Type 0) (refuses : S → 
         bytes_are = pieces_more feed so_far.came piece so_far.ended so_far.left so_far.bytes_are ∙ ap (λ (ps : List (List ℕ)). so_far.ended ++ ps) piece_kept.2
             ∙ sym (append_assoc so_far.ended ended (piece_kept.1 ∷ []));
         held = piece_kept.3;
-        line_is = piece_kept.4 ∙ ap (λ n. line_after n (length ended)) so_far.line_is ∙ line_twice 1 (length so_far.ended) (length ended)
-            ∙ ap (line_after 1) (sym (length-append so_far.ended ended));
-        made = lines_both s t u 1 so_far.ended ended (omega arith) so_far.made (subst (λ n. KeepsLines hands refuses t u n ended) so_far.line_is piece_kept.5);
+        line_is = piece_kept.4 ∙ ap (λ n. number_behind n ended) so_far.line_is ∙ sym (behind_both 1 so_far.ended ended);
+        made = lines_both s t u 1 so_far.ended ended so_far.made (subst (λ n. KeepsLines hands refuses t u n ended) so_far.line_is piece_kept.5);
       }
 
   -- the input is at its end
@@ -230,16 +224,6 @@ module _ {S : Type 0} (hands : S → S → Written → Type 0) (refuses : S → 
         subst (Consumes before after) (append-nil so_far.came) (Consumes-trans before mid after so_far.came [] so_far.read reads),
         at_end,
         subst (KeepsLines hands refuses s u 1) (sym so_far.bytes_are)
-            (lines_both s t u 1 so_far.ended (so_far.left ∷ []) (omega arith) so_far.made
+            (lines_both s t u 1 so_far.ended (so_far.left ∷ []) so_far.made
             (u, subst (λ n. KeepsLine hands refuses t u n so_far.left) so_far.line_is line, refl)),
       )
-
-  -- a read fails
-  pub input_failed : {T : Type 0} (s t : S) (before mid after : Option (List ℕ)) (kept : Kept) → IsKeptSoFar s t before mid kept → Keeps mid after
-      → KeepsInput {T = T} hands refuses s t before after (Err (Refused Device))
-  input_failed s t before mid after kept so_far keeps = (
-    so_far.came,
-    Consumes-kept before mid after so_far.came so_far.read keeps,
-    refl,
-    record { ended = so_far.ended; left = so_far.left; bytes_are = so_far.bytes_are; kept = so_far.made },
-  )

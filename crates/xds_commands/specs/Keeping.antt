@@ -5,12 +5,13 @@
 --     KeepsLine     a change is handed over, a refusal is told, and a line that is skipped does nothing; or there was no memory for
 --                   the line, which is told
 --     KeepsLines    so it is of each line, in order, of which the first has this number
+--     number_behind  the number of the line behind these, of which the first has this number
 --     IsHeldOf      this is held of a line of which these bytes have come, and which hasn't ended; or there was no memory for it
 --     KeepsPiece    a piece more: what is made of the lines that end in it, and what is held of the one behind them
 --     KeepsSome     the lines that had ended before a read failed
 --     KeepsInput    so it is of the lines of the bytes that came: all of them, where the input is at its end; where a read failed,
 --                   those that had ended before
-use Rattle.std.specs.Prelude.{◌≡◌, ◌⊎◌, ℕ, List, [], ◌∷◌, ◌++◌, length, true, Option, Some, None, Result, Ok, Err}
+use Rattle.std.specs.Prelude.{◌≡◌, ◌⊎◌, ℕ, List, [], ◌∷◌, ◌++◌, true, Option, Some, None, Result, Ok, Err}
 use Rattle.std.specs.Io.KnownBytes.{Consumes, IsAtEnd}
 use Rattle.xds_resource.specs.declared.refusal.Refusal.{Refusal}
 use Rattle.xds_resource.specs.declared.refusal.Refusal.TheVariants.{Device, OutOfMemory}
@@ -50,6 +51,11 @@ KeepsLines hands refuses s t number [] = t ≡ s
 KeepsLines {S} hands refuses s t number (line ∷ lines) =
     (u : S) × KeepsLine hands refuses s u number line × KeepsLines hands refuses u t (line_after number 1) lines
 
+-- the number of the line behind these, of which the first has this number
+abbrev pub number_behind : ℕ → List (List ℕ) → ℕ
+number_behind number [] = number
+number_behind number (line ∷ lines) = number_behind (line_after number 1) lines
+
 -- this is held of a line of which these bytes have come, and which hasn't ended; or there was no memory for it
 abbrev pub IsHeldOf : List ℕ → Kept → Type 0
 IsHeldOf bytes kept = (pieces feed bytes ≡ bytes ∷ []) × ((kept.is_lost ≡ true) ⊎ (kept.bytes.items ≡ held_of bytes))
@@ -59,7 +65,7 @@ abbrev pub KeepsPiece : {S : Type 0} → (S → S → Written → Type 0) → (S
 KeepsPiece hands refuses s t old new piece =
     (came : List ℕ) → IsHeldOf came old
     → (ended : List (List ℕ)) × (left : List ℕ) × (pieces feed (came ++ piece) ≡ ended ++ left ∷ []) × IsHeldOf left new
-    × (new.line ≡ line_after old.line (length ended)) × KeepsLines hands refuses s t old.line ended
+    × (new.line ≡ number_behind old.line ended) × KeepsLines hands refuses s t old.line ended
 
 -- the lines that had ended before a read failed
 pub record KeepsSome {S : Type 0} (hands : S → S → Written → Type 0) (refuses : S → S → ℕ → Refusal → Type 0) (s t : S) (bytes : List ℕ) : Type 0 where

@@ -2,6 +2,7 @@
 --     has_room       there may be one more of so many, where no more than so many may be at a time
 --     doors_after    what is counted once a connection came
 --     doors_left     what is counted once one that was served has ended
+--     length_after   what the first four bytes say of the length, once one byte more has come
 --     frame_step     one byte more: the first four say how many follow them
 --     frame_after    what is known of a stream's first frame once bytes more have come
 --     is_whole       the first frame has come whole
@@ -27,12 +28,13 @@ doors_after doors most =
 abbrev pub doors_left : Doors → Doors
 doors_left doors = record doors { inside = doors.inside - 1 }
 
+-- what the first four bytes say of the length, once one byte more has come
+abbrev pub length_after : FirstFrame → ℕ → ℕ
+length_after frame byte = if nat_lt frame.come 4 then min (min (frame.length * 256) most_count + byte) most_count else frame.length
+
 -- one byte more: the first four say how many follow them
 abbrev pub frame_step : FirstFrame → ℕ → FirstFrame
-frame_step frame byte = record {
-  come = min (frame.come + 1) most_count;
-  length = if nat_lt frame.come 4 then min (min (frame.length * 256) most_count + byte) most_count else frame.length;
-}
+frame_step frame byte = record { come = min (frame.come + 1) most_count; length = length_after frame byte }
 
 -- what is known of a stream's first frame once bytes more have come
 abbrev pub frame_after : FirstFrame → List ℕ → FirstFrame

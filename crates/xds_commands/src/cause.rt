@@ -1,7 +1,8 @@
 // Why a line of the server's input is no change.
-ghost use Rattle.std.specs.Prelude.{◌≡◌, ◌≢◌, ◌&&◌, nat_le, map, string_bytes, IfOk, IfErr, is_some, true, false};
+ghost use Rattle.std.specs.Prelude.{◌≡◌, ◌≢◌, ◌&&◌, bytes_eq, codes, nat_le, map, string_bytes, IfOk, IfErr, is_some, true, false};
 ghost use Rattle.std.specs.Option.{option_map};
 ghost use Rattle.xds_resource.specs.declared.refusal.Refusal.TheVariants.{OutOfMemory};
+ghost use Rattle.xds_resource.specs.Types.{type_of_word};
 ghost use Rattle.xds_world.specs.Words.{split_first, words, words_in, replica_number};
 ghost use Rattle.xds_world.specs.Lines.{pieces};
 ghost use Rattle.xds_world.specs.Commands.{comma, groups_in};
@@ -113,11 +114,11 @@ fn cause_in(alloc: Global, text: &str) -> Result<Cause, Refusal>
     let Some(rest) = rest else {
         return Ok(Cause::WrongWords);
     };
-    let (number, rest) = first_word(rest);
+    let (number, behind) = first_word(rest);
     if !is_replica_number(number) {
         return Ok(Cause::NoNumber);
     }
-    cause_behind(alloc, verb, rest)
+    cause_behind(alloc, verb, behind)
 }
 
 // What is wrong of what stands behind the number of the replica.
@@ -126,13 +127,25 @@ fn cause_behind(alloc: Global, verb: &str, rest: Option<&str>) -> Result<Cause, 
     ensures cause { IfOk result (IsBehindNumber verb.now (words_in (option_map (λ s. s.now) rest.entry))) }
     ensures refused { IfErr result (λ e. e ≡ OutOfMemory) }
 {
-    if verb == "put" {
+    if is_put(verb) {
         return resource_cause(alloc, rest);
     }
-    if verb == "putin" {
+    if is_put_in(verb) {
         return groups_cause(alloc, rest);
     }
     Ok(deletion_cause(rest))
+}
+
+fn is_put(verb: &str) -> bool
+    ensures { result ≡ bytes_eq verb.now (codes "put") }
+{
+    verb == "put"
+}
+
+fn is_put_in(verb: &str) -> bool
+    ensures { result ≡ bytes_eq verb.now (codes "putin") }
+{
+    verb == "putin"
 }
 
 // What is wrong of a resource.
@@ -169,9 +182,10 @@ fn groups_cause(alloc: Global, rest: Option<&str>) -> Result<Cause, Refusal>
     let Some(rest) = rest else {
         return Ok(Cause::WrongWords);
     };
-    let (groups, rest) = first_word(rest);
-    if are_groups(alloc, groups)? {
-        resource_cause(alloc, rest)
+    let (groups, behind) = first_word(rest);
+    let are = are_groups(alloc, groups)?;
+    if are {
+        resource_cause(alloc, behind)
     } else {
         Ok(Cause::Refused(Refusal::BadGroup))
     }
@@ -220,11 +234,19 @@ fn deletion_cause(rest: Option<&str>) -> Cause
     let Some(rest) = rest else {
         return Cause::WrongWords;
     };
-    let (kind, rest) = first_word(rest);
-    if TypeName::from_word(kind).is_none() {
-        return Cause::UnknownType;
+    let (kind, behind) = first_word(rest);
+    if is_type(kind) {
+        name_cause(behind)
+    } else {
+        Cause::UnknownType
     }
-    name_cause(rest)
+}
+
+// Whether a word is that of a type.
+fn is_type(word: &str) -> bool
+    ensures { result ≡ is_some (type_of_word word.now) }
+{
+    TypeName::from_word(word).is_some()
 }
 
 // What is wrong of a name.

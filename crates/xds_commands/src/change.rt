@@ -1,5 +1,5 @@
 // What a line of the server's input changes.
-ghost use Rattle.std.specs.Prelude.{◌≡◌, ◌<◌, ◌≤◌, Some, MatchResult, length, nat_lt, true, false};
+ghost use Rattle.std.specs.Prelude.{◌≡◌, ◌<◌, ◌≤◌, IfOk, IfSome, Some, MatchResult, length, nat_lt, true, false};
 ghost use Rattle.std.specs.Option.{option_map, ok_or};
 ghost use Rattle.xds_resource.specs.declared.refusal.Refusal.TheVariants.{BadScript, TooLong};
 ghost use Rattle.xds_resource.specs.Refusals.{Gives};
@@ -28,7 +28,8 @@ pub struct Change {
 /// What a line changes, which has this number: `put`, `putin` and `delete` of scripts; none where the line is skipped. Any
 /// other line is `BadScript`; one longer than [`MAX_LINE`] bytes is `TooLong`, whatever it says.
 pub fn read_change(alloc: Global, number: u64, line: &[u8]) -> Result<Option<Change>, Refusal>
-    ensures { Gives (option_map change_of) result (change_in line.now) }
+    ensures change { Gives (option_map change_of) result (change_in line.now) }
+    ensures line { IfOk result (λ o. IfSome o (λ c. c.line ≡ number)) }
 {
     match within_limit(line) {
         Ok(()) => read_within(alloc, number, line),
@@ -49,7 +50,8 @@ pub(crate) fn within_limit(line: &[u8]) -> Result<(), Refusal>
 
 // What a line changes that isn't too long.
 fn read_within(alloc: Global, number: u64, line: &[u8]) -> Result<Option<Change>, Refusal>
-    ensures { Gives (option_map change_of) result (change_within line.now) }
+    ensures change { Gives (option_map change_of) result (change_within line.now) }
+    ensures line { IfOk result (λ o. IfSome o (λ c. c.line ≡ number)) }
 {
     match read_line(alloc, line) {
         Err(refusal) => Err(refusal),
@@ -60,7 +62,8 @@ fn read_within(alloc: Global, number: u64, line: &[u8]) -> Result<Option<Change>
 
 // The change that a command is.
 fn change_by(number: u64, command: Command) -> Result<Option<Change>, Refusal>
-    ensures { Gives (option_map change_of) result (ok_or (option_map Some (change_said command)) BadScript) }
+    ensures change { Gives (option_map change_of) result (ok_or (option_map Some (change_said command)) BadScript) }
+    ensures line { IfOk result (λ o. IfSome o (λ c. c.line ≡ number)) }
 {
     match change_from(number, command) {
         Some(change) => Ok(Some(change)),
@@ -70,7 +73,8 @@ fn change_by(number: u64, command: Command) -> Result<Option<Change>, Refusal>
 
 // The change that a command is, if it is one.
 fn change_from(number: u64, command: Command) -> Option<Change>
-    ensures { option_map change_of result ≡ change_said command }
+    ensures change { option_map change_of result ≡ change_said command }
+    ensures line { IfSome result (λ c. c.line ≡ number) }
 {
     match command {
         Command::Event(event) => change_at(number, event),
@@ -80,7 +84,8 @@ fn change_from(number: u64, command: Command) -> Option<Change>
 
 // The write that happens at a replica, if one does.
 fn change_at(line: u64, event: WorldEvent) -> Option<Change>
-    ensures { option_map change_of result ≡ write_of (happening_of event) }
+    ensures change { option_map change_of result ≡ write_of (happening_of event) }
+    ensures line { IfSome result (λ c. c.line ≡ line) }
 {
     match event {
         WorldEvent::Put(replica, resource, groups) => Some(Change {

@@ -9,7 +9,7 @@ pub struct FirstFrame {
 
 impl FirstFrame {
     ghost use Rattle.std.specs.Prelude.{◌≡◌};
-    ghost use Rattle.xds_commands.specs.Limits.{frame_after, is_whole};
+    ghost use Rattle.xds_commands.specs.Limits.{frame_after, frame_step, is_whole, length_after};
 
     /// Nothing has come.
     pub fn new() -> FirstFrame
@@ -23,14 +23,29 @@ impl FirstFrame {
         ensures { self.new ≡ frame_after self.old piece.now }
     {
         for byte in piece {
-            if self.come < 4 {
-                self.length = self
-                    .length
-                    .saturating_mul(256)
-                    .saturating_add(u64::from(*byte));
-            }
-            self.come = self.come.saturating_add(1);
+            self.step(*byte);
         }
+    }
+
+    // One byte more has come.
+    fn step(&mut self, byte: u8)
+        ensures { self.new ≡ frame_step self.old byte }
+    {
+        self.length = self.length_after(byte);
+        self.come = self.come.saturating_add(1);
+    }
+
+    // What the first four bytes say of the length, once one byte more has come.
+    fn length_after(self, byte: u8) -> u64
+        ensures { result ≡ length_after self byte }
+    {
+        if self.come < 4 {
+            return self
+                .length
+                .saturating_mul(256)
+                .saturating_add(u64::from(byte));
+        }
+        self.length
     }
 
     /// Whether it has come whole.

@@ -63,8 +63,9 @@ impl Kept {
         }
         let room = (MAX_LINE + 1).saturating_sub(self.bytes.as_slice().len());
         let taken = &part[..part.len().min(room)];
-        if self.bytes.extend_from_slice(taken).is_err() {
-            self.is_lost = true;
+        match self.bytes.extend_from_slice(taken) {
+            Ok(()) => {}
+            Err(_) => self.is_lost = true,
         }
     }
 
