@@ -32,13 +32,18 @@ use Rattle.xds_commands.proofs.Handings.{first_piece}
 pub split_is : (ws : List Text) (w : Text) (rest : List Text) → split_first ws ≡ Some (w, rest) → ws ≡ w ∷ rest
 split_is [] w rest is = absurd cc
 split_is (v ∷ vs) w rest is =
-    let same : (v, vs) ≡ (w, rest) = cc in
+    let same : ◌≡◌ {A = Text × List Text} (v, vs) (w, rest) = cc in
     λ i. (same i).0 ∷ (same i).1
 
--- of the text that there is
-pub some_split : (o : Option (Bor Text)) (text : Bor Text) (r : Option (Text × List Text)) → o ≡ Some text → split_first (words text.now) ≡ r
-    → split_first (words_in (option_map (λ (s : Bor Text). s.now) o)) ≡ r
-some_split o text r is split = ap (λ (x : Option (Bor Text)). split_first (words_in (option_map (λ (s : Bor Text). s.now) x))) is ∙ split
+-- the words of a text that may be there
+abbrev pub words_of : Option (Bor Text) → List Text
+words_of o = words_in (option_map (λ (s : Bor Text). s.now) o)
+
+some_words : (o : Option (Bor Text)) (text : Bor Text) → o ≡ Some text → words_of o ≡ words text.now
+some_words o text is = ap words_of is
+
+split_of : (o : Option (Bor Text)) (text : Bor Text) (w : Text) (rest : List Text) → o ≡ Some text → split_first (words text.now) ≡ Some (w, rest) → words_of o ≡ w ∷ rest
+split_of o text w rest is split = some_words o text is ∙ split_is (words text.now) w rest split
 
 -- ---- numbers
 
@@ -88,13 +93,14 @@ groups_none word texts e (Ok b) are given is =
     is.1 ∙ sym (ap (λ (ts : List Text). is_some (result_ok (groups_of ts))) (sym are) ∙ ap (λ r. is_some (result_ok r)) (given is.0))
 groups_none word texts e (Err x) are given is = tt
 
-pub with_groups : {E : Type 0} (ws : List Text) (w : Text) (rest : List Text) (r : Result Cause E) → split_first ws ≡ Some (w, rest) → true ≡ is_some (groups_in w)
-    → IfOk r (IsResourceCause rest) → IfOk r (IsGroupsCause ws)
-with_groups ws w rest (Ok c) split some is = subst (λ (x : List Text). IsGroupsCause x c) (sym (split_is ws w rest split)) (inl (sym some, is))
-with_groups ws w rest (Err e) split some is = tt
+pub with_groups : {E : Type 0} (o : Option (Bor Text)) (text : Bor Text) (w : Text) (rest : List Text) (r : Result Cause E) → o ≡ Some text → split_first (words text.now) ≡ Some (w, rest)
+    → true ≡ is_some (groups_in w) → IfOk r (IsResourceCause rest) → IfOk r (IsGroupsCause (words_of o))
+with_groups o text w rest (Ok c) is split some cause = subst (λ (x : List Text). IsGroupsCause x c) (sym (split_of o text w rest is split)) (inl (sym some, cause))
+with_groups o text w rest (Err e) is split some cause = tt
 
-pub no_groups : (ws : List Text) (w : Text) (rest : List Text) → split_first ws ≡ Some (w, rest) → false ≡ is_some (groups_in w) → IsGroupsCause ws (Refused BadGroup)
-no_groups ws w rest split none = subst (λ (x : List Text). IsGroupsCause x (Refused BadGroup)) (sym (split_is ws w rest split)) (inr (sym none, refl))
+pub no_groups : (o : Option (Bor Text)) (text : Bor Text) (w : Text) (rest : List Text) → o ≡ Some text → split_first (words text.now) ≡ Some (w, rest)
+    → false ≡ is_some (groups_in w) → IsGroupsCause (words_of o) (Refused BadGroup)
+no_groups o text w rest is split none = subst (λ (x : List Text). IsGroupsCause x (Refused BadGroup)) (sym (split_of o text w rest is split)) (inr (sym none, refl))
 
 -- ---- names
 
@@ -115,13 +121,17 @@ name_by false b ps (o, os, is) = ap (λ (x : List Text). name_cause (onto_first 
 -- an empty name is none
 pub name_words : (name : Text) → name_cause (words name) ≡ cond (length name == 0) (Refused BadName) WrongWords
 name_words [] = refl
-name_words (b ∷ bs) = name_by (b == space) b (pieces space bs) (first_piece space bs)
+name_words (b ∷ bs) = name_by (b == space) b (pieces space bs) (first_piece space bs) ∙ sym (ap (λ t. cond t (Refused BadName) WrongWords) (more (length bs)))
 
-pub deletion_unknown : (ws : List Text) (w : Text) (rest : List Text) → split_first ws ≡ Some (w, rest) → is_some (type_of_word w) ≡ false → UnknownType ≡ deletion_cause ws
-deletion_unknown ws w rest split none = sym (ap deletion_cause (split_is ws w rest split) ∙ ap (λ b. cond b (name_cause rest) UnknownType) none)
+pub deletion_unknown : (o : Option (Bor Text)) (text : Bor Text) (w : Text) (rest : List Text) → o ≡ Some text → split_first (words text.now) ≡ Some (w, rest)
+    → is_some (type_of_word w) ≡ false → UnknownType ≡ deletion_cause (words_of o)
+deletion_unknown o text w rest is split none =
+    sym (ap deletion_cause (split_of o text w rest is split) ∙ ap (λ b. cond b (name_cause rest) UnknownType) none)
 
-pub deletion_known : (ws : List Text) (w : Text) (rest : List Text) (c : Cause) → split_first ws ≡ Some (w, rest) → is_some (type_of_word w) ≡ true → c ≡ name_cause rest → c ≡ deletion_cause ws
-deletion_known ws w rest c split some is = is ∙ sym (ap deletion_cause (split_is ws w rest split) ∙ ap (λ b. cond b (name_cause rest) UnknownType) some)
+pub deletion_known : (o : Option (Bor Text)) (text : Bor Text) (w : Text) (rest : List Text) (c : Cause) → o ≡ Some text → split_first (words text.now) ≡ Some (w, rest)
+    → is_some (type_of_word w) ≡ true → c ≡ name_cause rest → c ≡ deletion_cause (words_of o)
+deletion_known o text w rest c is split some cause =
+    cause ∙ sym (ap deletion_cause (split_of o text w rest is split) ∙ ap (λ b. cond b (name_cause rest) UnknownType) some)
 
 -- a name that isn't empty is one
 pub name_some : (o : Option (Bor Text)) (name : Bor Text) (empty : Bool) → o ≡ Some name → empty ≡ (length name.now == 0) → empty ≡ false
@@ -142,26 +152,27 @@ third_verb verb is put putin =
     ∙ ap (λ b. b || bytes_eq verb (codes "delete")) putin
     ) ∙ is
 
-pub no_verb : (ws : List Text) (w : Text) (rest : List Text) (c : Cause) → split_first ws ≡ Some (w, rest) → (is_verb w ≡ false) × (c ≡ UnknownCommand) → IsWordsCause ws c
-no_verb ws w rest c split is = subst (λ (x : List Text). IsWordsCause x c) (sym (split_is ws w rest split)) (inl is)
+pub no_verb : (line w : Text) (rest : List Text) → split_first (words line) ≡ Some (w, rest) → is_verb w ≡ false → IsWordsCause (words line) UnknownCommand
+no_verb line w rest split none = subst (λ (x : List Text). IsWordsCause x UnknownCommand) (sym (split_is (words line) w rest split)) (inl (none, refl))
 
-pub behind_verb : (ws : List Text) (w : Text) (rest : List Text) (c : Cause) → split_first ws ≡ Some (w, rest) → is_verb w ≡ true → IsBehindVerb w rest c → IsWordsCause ws c
-behind_verb ws w rest c split is behind = subst (λ (x : List Text). IsWordsCause x c) (sym (split_is ws w rest split)) (inr (is, behind))
+module _ (line verb : Text) (behind : Option (Bor Text)) (split : split_first (words line) ≡ Some (verb, words_of behind)) (is : is_verb verb ≡ true) where
+  behind_verb : (c : Cause) → IsBehindVerb verb (words_of behind) c → IsWordsCause (words line) c
+  behind_verb c cause = subst (λ (x : List Text). IsWordsCause x c) (sym (split_is (words line) verb (words_of behind) split)) (inr (is, cause))
 
-pub no_number : (verb : Text) (ws : List Text) (w : Text) (rest : List Text) (c : Cause) → split_first ws ≡ Some (w, rest) → (is_some (replica_number w) ≡ false) × (c ≡ NoNumber)
-    → IsBehindVerb verb ws c
-no_number verb ws w rest c split is = subst (λ (x : List Text). IsBehindVerb verb x c) (sym (split_is ws w rest split)) (inl is)
+  -- a verb alone lacks words
+  pub no_words : behind ≡ None → IsWordsCause (words line) WrongWords
+  no_words none = behind_verb WrongWords (subst (λ (x : Option (Bor Text)). IsBehindVerb verb (words_of x) WrongWords) (sym none) refl)
 
--- what is wrong behind the number is wrong of the line
-pub behind_number : {E : Type 0} (ws : List Text) (verb : Text) (vs : List Text) (w : Text) (rest : List Text) (r : Result Cause E) → split_first ws ≡ Some (verb, vs)
-    → split_first vs ≡ Some (w, rest) → is_verb verb ≡ true → is_some (replica_number w) ≡ true → IfOk r (IsBehindNumber verb rest) → IfOk r (IsWordsCause ws)
-behind_number ws verb vs w rest (Ok c) split again is number behind =
-    behind_verb ws verb vs c split is (subst (λ (x : List Text). IsBehindVerb verb x c) (sym (split_is vs w rest again)) (inr (number, behind)))
-behind_number ws verb vs w rest (Err e) split again is number behind = tt
+  module _ (text : Bor Text) (some : behind ≡ Some text) (w : Text) (rest : List Text) (again : split_first (words text.now) ≡ Some (w, rest)) where
+    pub no_number : is_some (replica_number w) ≡ false → IsWordsCause (words line) NoNumber
+    no_number none =
+        behind_verb NoNumber (subst (λ (x : List Text). IsBehindVerb verb x NoNumber) (sym (split_of behind text w rest some again)) (inl (none, refl)))
 
--- a verb alone lacks words
-pub no_words : (o : Option (Bor Text)) (verb : Text) → o ≡ None → IsBehindVerb verb (words_in (option_map (λ (s : Bor Text). s.now) o)) WrongWords
-no_words o verb is = subst (λ (x : Option (Bor Text)). IsBehindVerb verb (words_in (option_map (λ (s : Bor Text). s.now) x)) WrongWords) (sym is) refl
+    -- what is wrong behind the number is wrong of the line
+    pub behind_number : {E : Type 0} (r : Result Cause E) → is_some (replica_number w) ≡ true → IfOk r (IsBehindNumber verb rest) → IfOk r (IsWordsCause (words line))
+    behind_number (Ok c) number cause =
+        behind_verb c (subst (λ (x : List Text). IsBehindVerb verb x c) (sym (split_of behind text w rest some again)) (inr (number, cause)))
+    behind_number (Err e) number cause = tt
 
 pub behind_put : {E : Type 0} (verb : Text) (ws : List Text) (r : Result Cause E) → bytes_eq verb (codes "put") ≡ true → IfOk r (IsResourceCause ws) → IfOk r (IsBehindNumber verb ws)
 behind_put verb ws (Ok c) put is = inl (put, is)

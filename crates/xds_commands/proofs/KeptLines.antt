@@ -11,14 +11,13 @@ use Rattle.xds_resource.specs.declared.refusal.Refusal.{Refusal}
 use Rattle.xds_resource.specs.declared.refusal.Refusal.TheVariants.{OutOfMemory, TooLong}
 use Rattle.xds_world.specs.Lines.{feed, pieces}
 use Rattle.xds_commands.specs.declared.change.Change.{Change}
-use Rattle.xds_commands.specs.declared.ending.End.{End}
 use Rattle.xds_commands.specs.declared.fault.Fault.{Fault}
 use Rattle.xds_commands.specs.declared.kept.Kept.{Kept}
 use Rattle.xds_commands.specs.declared.kept.Said.{Said}
 use Rattle.xds_commands.specs.Changes.{Written, change_in, change_of, most_line}
 use Rattle.xds_commands.specs.Handing.{line_after}
 use Rattle.xds_commands.specs.HeldLines.{held_of, HasHeld, IsSaid, IsSaidBy, next_line}
-use Rattle.xds_commands.specs.Keeping.{HandsSaid, HandsWhat, KeepsChange, KeepsLine, KeepsLines, IsHeldOf, KeepsPiece, KeepsInput, number_behind}
+use Rattle.xds_commands.specs.Keeping.{HandsSaid, HandsWhat, KeepsChange, KeepsLine, KeepsLines, IsHeldOf, KeepsPiece, number_behind}
 use Rattle.xds_commands.proofs.Changing.{long_line}
 use Rattle.xds_commands.proofs.Handings.{pieces_more}
 use Rattle.xds_commands.proofs.Takings.{pieces_behind}
@@ -216,9 +215,10 @@ module _ {S : Type 0} (hands : S → S → Written → Type 0) (refuses : S → 
       }
 
   -- the input is at its end
-  pub input_done : {T : Type 0} (s t u : S) (before mid after : Option (List ℕ)) (kept : Kept) (said : Said) (x : T) → IsKeptSoFar s t before mid kept → Consumes mid after []
-      → IsAtEnd after → IsSaid kept.bytes.items kept.is_lost kept.line said → HandsSaid hands refuses t u said → KeepsInput {T = T} hands refuses s u before after (Ok x)
-  input_done s t u before mid after kept said x so_far reads at_end is handed =
+  pub input_done : (s t u : S) (before mid after : Option (List ℕ)) (kept : Kept) (said : Said) → IsKeptSoFar s t before mid kept → Consumes mid after [] → IsAtEnd after
+      → IsSaid kept.bytes.items kept.is_lost kept.line said → HandsSaid hands refuses t u said
+      → (came : List ℕ) × Consumes before after came × IsAtEnd after × KeepsLines hands refuses s u 1 (pieces feed came)
+  input_done s t u before mid after kept said so_far reads at_end is handed =
       let line = said_by t u kept.line kept.bytes.items so_far.left kept.is_lost said so_far.held.1 is handed in (
         so_far.came,
         subst (Consumes before after) (append-nil so_far.came) (Consumes-trans before mid after so_far.came [] so_far.read reads),
