@@ -1,5 +1,5 @@
 -- What is wrong of a line, by the words of which its first parts are made.
-use Rattle.std.proofs.Common.{◌≡◌, ◌≢◌, ◌⊎◌, ◌<◌, ◌^◌, ℕ, List, [], ◌∷◌, length, Bool, true, false, cond, inl, inr, Option, Some, None, Result, Ok, Err, IfOk, refl, ap, sym, ◌∙◌, Bor, arith, ne_eqb, subst, suc}
+use Rattle.std.proofs.Common.{◌≡◌, ◌≢◌, ◌<◌, ◌^◌, ℕ, List, [], ◌∷◌, length, Bool, true, false, cond, inl, inr, Option, Some, None, Result, Ok, Err, IfOk, refl, ap, sym, ◌∙◌, Bor, arith, ne_eqb, subst, suc}
 use Rattle.std.specs.Prelude.{◌&&◌, ◌||◌, ◌==◌, nat_le, is_some, bytes_eq, decimal, codes}
 use Rattle.std.specs.Option.{option_map}
 use Rattle.std.specs.Result.{result_ok}
@@ -9,7 +9,6 @@ use Rattle.std.specs.Str.Parse.{digits_value}
 use Rattle.std.proofs.lemmas.Fmt.{decimal_is_IsNumeral}
 use Rattle.xds_resource.specs.declared.refusal.Refusal.{Refusal}
 use Rattle.xds_resource.specs.declared.refusal.Refusal.TheVariants.{OutOfMemory, BadName, BadGroup}
-use Rattle.xds_resource.specs.Refusals.{Gives}
 use Rattle.xds_resource.specs.Resources.{IsRefused, NamedBody, parsed}
 use Rattle.xds_resource.specs.Groups.{groups_of}
 use Rattle.xds_resource.specs.declared.types.TypeName.{TypeName}

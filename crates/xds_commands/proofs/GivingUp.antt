@@ -1,5 +1,5 @@
 -- How a command is told to have given up, and how a client's end is told.
-use Rattle.std.proofs.Common.{◌≡◌, ◌⊎◌, ℕ, inl, inr, Option, Some, None, IfSome, Result, Ok, Err, ap, ◌∙◌, subst, sym}
+use Rattle.std.proofs.Common.{◌≡◌, ◌⊎◌, ℕ, inl, inr, Option, Some, None, IfSome, Result, Err, ap, ◌∙◌, subst, sym}
 use Rattle.xds_frames.specs.Devices.{Device, Stays, Tells}
 use Rattle.xds_resource.specs.declared.refusal.Refusal.{Refusal}
 use Rattle.xds_resource.specs.declared.refusal.Refusal.TheVariants.{OutOfMemory, Device as DeviceRefusal}

@@ -6,7 +6,7 @@
 --     AreRefused   the first lines bring these changes, and the one behind so many of them is refused
 --     AreEnded     a piece behind what is held of the last line: so many lines end in it, and what is left is held
 --     Takes        what was taken of bytes: the lines that end there, or those before one that is refused
-use Rattle.std.specs.Prelude.{◌≡◌, ◌⊎◌, ℕ, List, [], ◌∷◌, ◌++◌, length, Bool, true, false, All, Option, Some, None, Result, Ok, Err, is_err}
+use Rattle.std.specs.Prelude.{◌≡◌, ◌⊎◌, ℕ, List, [], ◌∷◌, ◌++◌, length, Bool, false, All, Option, Some, None, Result, Ok, Err, is_err}
 use Rattle.std.specs.Option.{option_to_list}
 use Rattle.std.specs.List.{flat_map}
 use Rattle.xds_resource.specs.declared.refusal.Refusal.{Refusal}
