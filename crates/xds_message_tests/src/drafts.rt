@@ -57,8 +57,8 @@ fn push(alloc: Global, bodies: &mut Vec<Body>, stamp: Stamp) -> Result<(), Refus
 // A draft of so many resources.
 fn draft_of(alloc: Global, count: u64) -> Result<SotwDraft, Refusal> {
     let mut bodies = Vec::new(alloc);
-    for number in 0..count {
-        push(alloc, &mut bodies, Stamp::new(number + 1, 1))?;
+    for _ in 0..count {
+        push(alloc, &mut bodies, Stamp::new(1, 1))?;
     }
     let version = text(alloc, "1.2")?;
     let nonce = text(alloc, "1")?;
@@ -75,7 +75,7 @@ fn put_together(alloc: Global, text: &Pieces<'_>, room: usize) -> Result<String,
     text.write(&mut writer, block)?;
     let length = text.length_up_to(1_000_000);
     let short = match length {
-        Some(length) => text.length_up_to(length - 1).is_none(),
+        Some(length) => text.length_up_to(length.saturating_sub(1)).is_none(),
         None => false,
     };
     let written = String::from_utf8(writer.inner).map_err(|_| Refusal::NotJson)?;

@@ -1,3 +1,4 @@
+pub mod Flushing
 pub mod FirstPoll
 pub mod Responding
 pub mod Taking

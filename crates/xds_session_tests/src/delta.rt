@@ -23,7 +23,7 @@ struct Server<T: ResourceType> {
     session: Session<T>,
     nonces: Nonces,
     ghost named: { IsCatalogue catalogue.entries } by { Prim.hlevel props },
-    ghost fits: { SessionFits variants.Delta T.TYPE catalogue session },
+    ghost fits: { SessionFits variants.Delta T.TYPE catalogue session } by { Prim.hlevel props },
 }
 
 impl<T: ResourceType> Actor for Server<T> {

@@ -29,7 +29,7 @@ struct Client<V: Variant> {
     ledger: Ledger<Cluster, V>,
     ghost named: { IsCatalogue catalogue.entries } by { Prim.hlevel props },
     ghost anywhere: { interest.cluster ≡ [] },
-    ghost fits: { Fits V.NAME types.Cluster interest catalogue ledger },
+    ghost fits: { Fits V.NAME types.Cluster interest catalogue ledger } by { Prim.hlevel props },
 }
 
 // The names of an offer, each with `=` and its version, or with `-` where it is removed.

@@ -23,7 +23,7 @@ struct Stream<T: ResourceType> {
     session: Session<T>,
     nonces: Nonces,
     ghost named: { IsCatalogue catalogue.entries } by { Prim.hlevel props },
-    ghost fits: { SessionFits variants.StateOfTheWorld T.TYPE catalogue session },
+    ghost fits: { SessionFits variants.StateOfTheWorld T.TYPE catalogue session } by { Prim.hlevel props },
 }
 
 impl<T: ResourceType> Stream<T> {

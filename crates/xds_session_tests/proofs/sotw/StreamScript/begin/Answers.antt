@@ -1,8 +1,9 @@
+use Rattle.std.proofs.Common.{◌∙◌}
 use Rattle.xds_session_tests.proofs.Later.{new_named}
 use Rattle.xds_session_tests.proofs.sotw.StreamScript.begin.Goals as goal
 
 pub invariant_of-result-clause-named : goal.invariant_of-result-clause-named
-invariant_of-result-clause-named g c = new_named c.new.result c.new.ensures
+invariant_of-result-clause-named g c = new_named c.of.result (c.of.ensures ∙ c.new.ensures)
 
 pub invariant_of-result-clause-fits : goal.invariant_of-result-clause-fits
-invariant_of-result-clause-fits g c = c.new-2.ensures.fits c.new.result
+invariant_of-result-clause-fits g c = c.new-2.ensures.fits c.of.result
