@@ -5,3 +5,4 @@ mod Causing
 mod KeptLines
 mod Responding
 mod GivingUp
+mod Tellings

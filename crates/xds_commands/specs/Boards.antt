@@ -1,5 +1,6 @@
 -- What is counted of a replica for those who look. This project's own.
 --     names_after     how many names a stream asks for after a request, where it asked for so many before
+--     more            the count once one more has come
 --     rest_after      the replies to polls over HTTP once one of this status was given
 --     streams_after   the open streams once one more of this variant is counted, or on which no request has come
 use Rattle.std.specs.Prelude.{ℕ, ◌+◌, ◌-◌, ◌^◌, ◌==◌, if◌then◌else◌, min, Option, Some, None}
@@ -16,7 +17,7 @@ names_after (Listed count) before = count
 names_after (Edited more fewer) before = min (before + more) (2 ^ 64 - 1) - fewer
 
 -- the count once one more has come
-abbrev more : ℕ → ℕ
+abbrev pub more : ℕ → ℕ
 more count = min (count + 1) (2 ^ 64 - 1)
 
 -- the replies to polls over HTTP once one of this status was given

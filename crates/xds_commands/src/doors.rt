@@ -1,4 +1,7 @@
 // How many streams a replica has, and may have.
+ghost use Rattle.std.specs.Prelude.{◌≡◌};
+ghost use Rattle.xds_commands.specs.Limits.{has_room};
+
 /// How many connections are served as streams, and how many were turned away.
 #[derive(Clone, Copy, Debug, PartialEq, Eq)]
 pub struct Doors {

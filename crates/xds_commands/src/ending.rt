@@ -1,4 +1,6 @@
 // How a server ends, and what is told until then: by whichever thread comes to it, and waited for by the first thread.
+ghost use Rattle.std.specs.Prelude.{◌≡◌};
+
 use crate::fault::Fault;
 use crate::log_event::LogEvent;
 use crate::note::Note;

@@ -1,6 +1,4 @@
 // A stream's connection, of which the first frame has to come within a time.
-ghost use Rattle.std.specs.Prelude.{◌≡◌};
-ghost use Rattle.std.specs.Io.{ReadsAtMost};
 
 use crate::first_frame::FirstFrame;
 use crate::timed::Deadline;
@@ -58,9 +56,7 @@ impl<'a, C: Clock> IdleReader<'a, C> {
 }
 
 impl<'a, C: Clock> Read for IdleReader<'a, C> {
-    fn read(&mut self, buf: &mut [u8]) -> io::Result<usize>
-        ensures { ReadsAtMost result buf.new }
-    {
+    fn read(&mut self, buf: &mut [u8]) -> io::Result<usize> {
         let mut from = self.socket;
         if !self.deadline.is_set() {
             return from.read(buf);

@@ -1,7 +1,17 @@
 // What is counted of a replica.
+ghost use Rattle.std.specs.Prelude.{◌≡◌};
+ghost use Rattle.xds_commands.specs.Boards.{more};
+
 use crate::board::Counts;
 use crate::doors::Doors;
 use xds_ledger::VariantName;
+
+// The count once one more has come.
+fn more(count: u64) -> u64
+    ensures { result ≡ more count }
+{
+    count.saturating_add(1)
+}
 
 /// How many replies to polls over HTTP had which status.
 #[derive(Clone, Copy, Debug, PartialEq, Eq)]
@@ -39,14 +49,23 @@ impl RestCounts {
     pub fn count(&mut self, status: u16)
         ensures { self.new ≡ rest_after self.old status }
     {
-        let place = match status {
-            200 => &mut self.ok,
-            304 => &mut self.unchanged,
-            400 => &mut self.bad,
-            503 => &mut self.unavailable,
-            _ => &mut self.other,
-        };
-        *place = place.saturating_add(1);
+        if status == 200 {
+            self.ok = more(self.ok);
+            return;
+        }
+        if status == 304 {
+            self.unchanged = more(self.unchanged);
+            return;
+        }
+        if status == 400 {
+            self.bad = more(self.bad);
+            return;
+        }
+        if status == 503 {
+            self.unavailable = more(self.unavailable);
+            return;
+        }
+        self.other = more(self.other);
     }
 }
 
@@ -78,12 +97,15 @@ impl StreamCounts {
     pub fn count(&mut self, variant: Option<VariantName>)
         ensures { self.new ≡ streams_after self.old variant }
     {
-        let place = match variant {
-            Some(VariantName::StateOfTheWorld) => &mut self.sotw,
-            Some(VariantName::Delta) => &mut self.delta,
-            None => &mut self.silent,
+        let Some(variant) = variant else {
+            self.silent = more(self.silent);
+            return;
         };
-        *place = place.saturating_add(1);
+        if variant == VariantName::StateOfTheWorld {
+            self.sotw = more(self.sotw);
+            return;
+        }
+        self.delta = more(self.delta);
     }
 }
 

@@ -9,6 +9,7 @@ use std::alloc::Global;
 use std::io::{ErrorKind, Write};
 use std::sync::Wait;
 use xds_frames::{Counted, write_whole};
+use xds_program::run;
 use xds_resource::Refusal;
 
 /// The status of a server that ended by a refusal.
@@ -82,7 +83,7 @@ fn put<E: Write>(errors: &mut Counted<E>, text: Result<String, Refusal>)
             let _ = write_whole(errors, text.as_bytes());
         }
         Err(_) => {
-            let _ = write_whole(errors, b"8 OutOfMemory\n");
+            let _ = run::tell(Refusal::OutOfMemory, errors);
         }
     }
 }

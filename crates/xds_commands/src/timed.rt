@@ -1,6 +1,5 @@
 // A connection of a client, which is read until a time has passed.
 ghost use Rattle.std.specs.Prelude.{◌≡◌, IfSome, Some};
-ghost use Rattle.std.specs.Io.{ReadsAtMost};
 
 use std::io;
 use std::io::{ErrorKind, Read};
@@ -147,9 +146,7 @@ impl<'a, C: Clock> TimedReader<'a, C> {
 }
 
 impl<'a, C: Clock> Read for TimedReader<'a, C> {
-    fn read(&mut self, buf: &mut [u8]) -> io::Result<usize>
-        ensures { ReadsAtMost result buf.new }
-    {
+    fn read(&mut self, buf: &mut [u8]) -> io::Result<usize> {
         self.limit()?;
         let mut from = self.socket;
         let count = from.read(buf)?;

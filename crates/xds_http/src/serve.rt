@@ -89,9 +89,9 @@ where
     })
 }
 
-/// As many permits as there may be connections.
+/// As many permits as there may be connections: so many, but no more than [`MAX_CONNECTIONS`].
 pub(crate) fn permits(alloc: Global, connections: usize) -> io::Result<Arc<Semaphore>> {
-    let permits = Semaphore::new(alloc, connections)?;
+    let permits = Semaphore::new(alloc, connections.min(MAX_CONNECTIONS))?;
     Ok(Arc::new(alloc, permits)?)
 }
 
@@ -149,7 +149,7 @@ where
     serve_http(rt, &mut runtime, listener, node)
 }
 
-/// The same with at most so many connections at once.
+/// The same with at most so many connections at once, and no more than [`MAX_CONNECTIONS`].
 pub fn serve_some<R, A>(
     rt: &R,
     listener: std::net::TcpListener,
