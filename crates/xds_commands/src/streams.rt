@@ -59,13 +59,22 @@ where
         return;
     }
     let started = start_worker(&rt, shares(node, lookout), move |rt, (node, lookout)| {
-        serve_stream(rt, alloc, &socket, &*node, &lookout);
-        lookout.leave(rt);
-        lookout.ending().stream_ended(rt);
+        serve_and_leave(rt, alloc, &socket, &*node, &lookout);
     });
     if started.is_err() {
         lookout.leave(&rt);
     }
+}
+
+// One stream, and what is counted at its end.
+fn serve_and_leave<R, A>(rt: &R, alloc: Global, socket: &TcpStream, node: &A, lookout: &Lookout)
+where
+    R: Wait + Threads + Clock + Sync,
+    A: Shared,
+{
+    serve_stream(rt, alloc, socket, node, lookout);
+    lookout.leave(rt);
+    lookout.ending().stream_ended(rt);
 }
 
 // One stream, from its opening to its end.
