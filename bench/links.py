@@ -10,6 +10,7 @@ star in a path or in a crate's name must find something, and words in capitals, 
 docs/GUARANTEES.md each call must be a function, type or constant in the src of the section's crate, and each definition,
 `File.name` or `crate.File.name`, must stand in its specs. It prints what it doesn't find, with its page and line, and ends with 1
 then; else it prints how many names it checked. Python 3, standard library alone."""
+import functools
 import glob
 import os
 import re
@@ -83,12 +84,18 @@ def check_link(target, page):
     return True
 
 
+@functools.cache
+def numbers():
+    """The names of the numbers that a server shows."""
+    return set(re.findall(r'"(xds_\w+)"', open(f"{TOP}/crates/xds_commands/src/pages.rt").read()))
+
+
 def check_text(text):
     """What is wrong with a text in backticks, True where it names something that is there, or False where it names nothing."""
     if "/" in text and text.split("/")[0] in FOLDERS and re.fullmatch(r"[\w./*-]+", text):
         return is_there(text) or f"no file {text}"
     if re.fullmatch(r"xds_\w+|(xds_\w*)?\*_tests", text):
-        return text in NO_CRATES or bool(glob.glob(f"{TOP}/crates/{text}")) or f"no crate {text}"
+        return text in NO_CRATES or text in numbers() or bool(glob.glob(f"{TOP}/crates/{text}")) or f"no crate {text}"
     named = re.fullmatch(r"(xds\w*)((?:::\w+)+)", text)
     if named:
         crate, last = named.group(1), named.group(2).rpartition("::")[2]

@@ -1,13 +1,12 @@
 -- What a line changes, by what it says in a script.
-use Rattle.std.proofs.Common.{◌≡◌, ◌≢◌, ℕ, List, true, false, Option, Some, None, Result, Ok, Err, refl, ap, sym, subst}
-use Rattle.std.specs.Prelude.{is_err}
+use Rattle.std.proofs.Common.{◌≡◌, ◌≢◌, ℕ, List, length, Bool, true, false, Option, Some, None, Result, Ok, Err, refl, ap, sym, subst}
+use Rattle.std.specs.Prelude.{IfErr, MatchResult, is_err, nat_lt, if◌then◌else◌}
 use Rattle.std.specs.Option.{option_map, option_to_list, ok_or}
 use Rattle.xds_resource.specs.declared.refusal.Refusal.{Refusal}
-use Rattle.xds_resource.specs.declared.refusal.Refusal.TheVariants.{OutOfMemory, BadScript}
+use Rattle.xds_resource.specs.declared.refusal.Refusal.TheVariants.{OutOfMemory, BadScript, TooLong}
 use Rattle.xds_world.specs.Commands.{Said}
-use Rattle.xds_world.specs.Scripts.{line_says}
-use Rattle.xds_commands.specs.Changes.{Written, written_by, only_change, change_in}
-use Rattle.xds_commands.specs.Inputs.{brought, is_wrong}
+use Rattle.xds_commands.specs.Changes.{Written, written_by, only_change, most_line, change_within, change_in}
+use Rattle.xds_commands.specs.Inputs.{brought}
 
 refused_by : (o : Option (Option Said)) (e : Refusal) → ok_or o BadScript ≡ Err e → only_change o ≡ Err e
 refused_by None e h = let same : BadScript ≡ e = cc in ap Err same
@@ -29,19 +28,28 @@ line_said None said h = cc
 line_said (Some None) said h = cc
 line_said (Some (Some other)) said h = let same : other ≡ said = cc in ap (λ s. ok_or (option_map Some (written_by s)) BadScript) same
 
-wrong_behind : (w : Option Written) (e : Refusal) → ok_or (option_map Some w) BadScript ≡ Err e → (e ≡ BadScript) × (is_err (ok_or (option_map Some w) BadScript) ≡ true)
-wrong_behind None e h = (cc, refl)
-wrong_behind (Some written) e h = cc
+by_limit : (b : Bool) (r : Result (Option Written) Refusal) (e : Refusal) → b ≡ true → e ≡ TooLong → (if b then Err TooLong else r) ≡ Err e
+by_limit true r e long is = ap Err (sym is)
+by_limit false r e long is = cc
 
-wrong_if : (o : Option (Option Said)) (e : Refusal) → only_change o ≡ Err e → (e ≡ BadScript) × (is_err (only_change o) ≡ true)
-wrong_if None e h = (cc, refl)
-wrong_if (Some None) e h = cc
-wrong_if (Some (Some said)) e h = wrong_behind (written_by said) e h
+within : (b : Bool) (r : Result (Option Written) Refusal) → b ≡ false → (if b then Err TooLong else r) ≡ r
+within true r short = cc
+within false r short = refl
 
--- a line that is refused, but for memory, is wrong
-pub wrong_line : (line : List ℕ) (e : Refusal) → (e ≢ OutOfMemory → change_in line ≡ Err e) → e ≢ OutOfMemory → (e ≡ BadScript) × (is_wrong line ≡ true)
-wrong_line line e h other = wrong_if (line_says line) e (h other)
+-- a line that is too long is refused as that
+pub long_line : (line : List ℕ) (e : Refusal) → nat_lt most_line (length line) ≡ true → e ≡ TooLong → change_in line ≡ Err e
+long_line line e long is = by_limit (nat_lt most_line (length line)) (change_within line) e long is
+
+-- one that isn't changes what it says
+pub short_line : (line : List ℕ) → nat_lt most_line (length line) ≡ false → change_in line ≡ change_within line
+short_line line short = within (nat_lt most_line (length line)) (change_within line) short
 
 -- one that is read isn't wrong, and brings what was read
 pub good_line : (r : Result (Option Written) Refusal) (change : Option Written) → r ≡ Ok change → (is_err r ≡ false) × (brought r ≡ option_to_list change)
 good_line r change h = subst (λ (x : Result (Option Written) Refusal). (is_err x ≡ false) × (brought x ≡ option_to_list change)) (sym h) (refl, refl)
+
+-- a line that the limit refuses is refused so
+pub limit_refused : {T : Type 0} (r : Result T Refusal) (held line : List ℕ) → held ≡ line
+    → MatchResult r (λ x. nat_lt most_line (length held) ≡ false) (λ e. (e ≡ TooLong) × (nat_lt most_line (length held) ≡ true)) → IfErr r (λ e. e ≢ OutOfMemory → change_in line ≡ Err e)
+limit_refused (Ok x) held line is h = tt
+limit_refused (Err e) held line is h = λ other. subst (λ (l : List ℕ). change_in l ≡ Err e) is (long_line held e h.1 h.0)

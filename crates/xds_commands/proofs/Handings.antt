@@ -1,23 +1,23 @@
 -- How far the lines of an input were taken and their changes handed over, as its bytes come, and how that ends.
-use Rattle.std.proofs.Common.{◌≡◌, ◌≢◌, ◌⊎◌, ◌<◌, ◌+◌, ◌==◌, ℕ, List, [], ◌∷◌, ◌++◌, length, map, ◌-◌, ◌^◌, Bool, true, false, cond, Option, Some, None, Result, Ok, Err, refl, ap, sym, ◌∙◌, subst, arith, append_assoc, append-nil, length-append}
+use Rattle.std.proofs.Common.{◌≡◌, ◌≢◌, ◌<◌, ◌+◌, ◌==◌, ℕ, List, [], ◌∷◌, ◌++◌, length, map, ◌-◌, ◌^◌, Bool, true, false, cond, Option, Some, None, Result, Ok, Err, refl, ap, sym, ◌∙◌, subst, arith, append_assoc, append-nil, length-append}
 use Rattle.std.specs.Prelude.{min}
 use Rattle.std.specs.Option.{option_map, option_to_list}
 use Rattle.std.specs.List.{flat_map, onto_first}
 use Rattle.std.specs.Io.KnownBytes.{Consumes, IsAtEnd, Keeps, ReadConsumes}
 use Rattle.std.proofs.KnownBytes.{Consumes-nil, Consumes-trans, Consumes-kept}
-use Rattle.std.proofs.lemmas.List.Elements.{All-nil, All-push, All-append}
+use Rattle.std.proofs.lemmas.List.Elements.{All-nil, All-append}
 use Rattle.std.proofs.lemmas.Grind.{flat_map-append}
 use Rattle.xds_resource.specs.Refusals.{Gives}
 use Rattle.xds_resource.specs.declared.refusal.Refusal.{Refusal}
-use Rattle.xds_resource.specs.declared.refusal.Refusal.TheVariants.{OutOfMemory, BadScript, Device}
+use Rattle.xds_resource.specs.declared.refusal.Refusal.TheVariants.{OutOfMemory, Device}
 use Rattle.xds_world.specs.Lines.{feed, pieces}
 use Rattle.xds_commands.specs.declared.change.Change.{Change}
 use Rattle.xds_commands.specs.declared.ending.End.{End}
 use Rattle.xds_commands.specs.declared.ending.End.TheVariants.{Line, Refused}
 use Rattle.xds_commands.specs.Changes.{Written, change_of, change_in}
-use Rattle.xds_commands.specs.Handing.{AllHanded, line_after, behind, HandsLast, TakesAll, TakesUpTo, TakesSome, StopsInput, TakesInput}
+use Rattle.xds_commands.specs.Handing.{AllHanded, line_after, behind, HandsLast, TakesAll, TakesUpTo, StopsInput, TakesInput}
 use Rattle.xds_commands.specs.Inputs.{brings, is_wrong, AreTaken, AreRefused, AreEnded, Takes}
-use Rattle.xds_commands.proofs.Changing.{good_line, wrong_line}
+use Rattle.xds_commands.proofs.Changing.{good_line}
 use Rattle.xds_commands.proofs.Takings.{line_more, why_of}
 
 -- ---- bytes behind bytes
@@ -28,7 +28,7 @@ first_of true b ps there = ([], ps, refl)
 first_of false b ps (o, os, is) = (b ∷ o, os, ap (onto_first b) is)
 
 -- there is a piece at least
-first_piece : (m : ℕ) (bytes : List ℕ) → (o : List ℕ) × (os : List (List ℕ)) × (pieces m bytes ≡ o ∷ os)
+pub first_piece : (m : ℕ) (bytes : List ℕ) → (o : List ℕ) × (os : List (List ℕ)) × (pieces m bytes ≡ o ∷ os)
 first_piece m [] = ([], [], refl)
 first_piece m (b ∷ bytes) = first_of (b == m) b (pieces m bytes) (first_piece m bytes)
 
@@ -259,7 +259,7 @@ module _ {S : Type 0} (hands : S → S → Written → Type 0) where
       lines_are = so_far.ended.lines_are;
       taken = so_far.ended.taken;
       count_is = so_far.ended.count_is;
-      why = why_of e held (wrong_line held e reads);
+      why = why_of e held reads;
     };
     line_is = so_far.line_is;
     handed = so_far.handed;

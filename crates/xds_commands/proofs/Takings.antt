@@ -1,13 +1,13 @@
 -- How far a piece of the input was taken, and how the taking of it ends.
-use Rattle.std.proofs.Common.{◌≡◌, ◌≢◌, ◌⊎◌, ◌<◌, ◌≤◌, ◌+◌, ◌==◌, ℕ, List, [], ◌∷◌, ◌++◌, length, Bool, true, false, cond, inl, inr, refl, ap, sym, ◌∙◌, subst, arith, append_assoc, append-nil, length-append}
+use Rattle.std.proofs.Common.{◌≡◌, ◌≢◌, ◌⊎◌, ◌<◌, ◌≤◌, ◌+◌, ◌==◌, ℕ, List, [], ◌∷◌, ◌++◌, length, Bool, true, false, cond, inl, inr, Err, refl, ap, sym, ◌∙◌, subst, arith, append_assoc, append-nil, length-append}
 use Rattle.std.specs.List.{flat_map, onto_first}
 use Rattle.std.proofs.lemmas.List.Elements.{All-nil, All-push}
 use Rattle.std.proofs.lemmas.Grind.{flat_map-append}
 use Rattle.xds_resource.specs.declared.refusal.Refusal.{Refusal}
-use Rattle.xds_resource.specs.declared.refusal.Refusal.TheVariants.{OutOfMemory, BadScript}
+use Rattle.xds_resource.specs.declared.refusal.Refusal.TheVariants.{OutOfMemory}
 use Rattle.xds_resource.proofs.Refusing.{memory_or_not}
 use Rattle.xds_world.specs.Lines.{feed, pieces}
-use Rattle.xds_commands.specs.Changes.{Written}
+use Rattle.xds_commands.specs.Changes.{Written, change_in}
 use Rattle.xds_commands.specs.Inputs.{brings, is_wrong, AreTaken, AreRefused, AreEnded}
 
 -- ---- a line that comes in two parts
@@ -75,11 +75,11 @@ taken_more bytes held rest part next left changes new count size so_far one spli
 
 -- ---- the ends
 
-pub why_of : (e : Refusal) (line : List ℕ) → (e ≢ OutOfMemory → (e ≡ BadScript) × (is_wrong line ≡ true)) → (e ≡ OutOfMemory) ⊎ ((e ≡ BadScript) × (is_wrong line ≡ true))
+pub why_of : (e : Refusal) (line : List ℕ) → (e ≢ OutOfMemory → change_in line ≡ Err e) → (e ≡ OutOfMemory) ⊎ (change_in line ≡ Err e)
 why_of e line why = elim (memory_or_not e) [ inl memory ↦ inl memory | inr other ↦ inr (why other) ]
 
 pub taken_refused : (bytes held rest part : List ℕ) (more : List (List ℕ)) (changes new : List Written) (count size : ℕ) (e : Refusal) → IsTakenTo bytes held rest changes count size
-    → pieces feed held ≡ held ∷ [] → pieces feed rest ≡ part ∷ more → new ≡ changes → (e ≢ OutOfMemory → (e ≡ BadScript) × (is_wrong (held ++ part) ≡ true))
+    → pieces feed held ≡ held ∷ [] → pieces feed rest ≡ part ∷ more → new ≡ changes → (e ≢ OutOfMemory → change_in (held ++ part) ≡ Err e)
     → AreRefused (pieces feed bytes) new count e
 taken_refused bytes held rest part more changes new count size e so_far one split same why = record {
   before = so_far.before;
@@ -110,7 +110,3 @@ kept_one held part left one last is =
 pub kept_if : (b : Bool) (held part left : List ℕ) → pieces feed held ≡ held ∷ [] → pieces feed part ≡ part ∷ [] → left ≡ cond b (held ++ part) held → pieces feed left ≡ left ∷ []
 kept_if true held part left one last is = kept_one held part left one last is
 kept_if false held part left one last is = ap (pieces feed) is ∙ one ∙ ap (λ (l : List ℕ). l ∷ []) (sym is)
-
--- a refusal for want of memory is no matter of the line
-pub no_memory : (e : Refusal) (line : List ℕ) → e ≡ OutOfMemory → e ≢ OutOfMemory → (e ≡ BadScript) × (is_wrong line ≡ true)
-no_memory e line is other = absurd (other is)

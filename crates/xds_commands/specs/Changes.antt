@@ -2,11 +2,13 @@
 --     Written, change_of               a replica's number, and what happens there
 --     write_of, written_by, change_said  the write that may happen so, if it is one
 --     only_change                      what a line says has to be a change, if it says anything
+--     most_line                        as many bytes as a line may have
+--     change_within                    what a line changes that isn't longer; none where it is skipped
 --     change_in                        what a line changes; none where it is skipped
-use Rattle.std.specs.Prelude.{ℕ, List, Option, Some, None, Result, Ok, Err, option_map}
+use Rattle.std.specs.Prelude.{ℕ, List, length, nat_lt, if◌then◌else◌, Option, Some, None, Result, Ok, Err, option_map}
 use Rattle.std.specs.Option.{ok_or}
 use Rattle.xds_resource.specs.declared.refusal.Refusal.{Refusal}
-use Rattle.xds_resource.specs.declared.refusal.Refusal.TheVariants.{BadScript}
+use Rattle.xds_resource.specs.declared.refusal.Refusal.TheVariants.{BadScript, TooLong}
 use Rattle.xds_core.specs.Events as events
 use Rattle.xds_core.specs.Events.{Event}
 use Rattle.xds_core.specs.Seen.{event_of}
@@ -43,6 +45,14 @@ only_change None = Err BadScript
 only_change (Some None) = Ok None
 only_change (Some (Some said)) = ok_or (option_map Some (written_by said)) BadScript
 
+-- as many bytes as a line may have
+abbrev pub most_line : ℕ
+most_line = 8388608
+
+-- what a line changes that isn't longer; none where it is skipped
+abbrev pub change_within : List ℕ → Result (Option Written) Refusal
+change_within line = only_change (line_says line)
+
 -- what a line changes; none where it is skipped
 abbrev pub change_in : List ℕ → Result (Option Written) Refusal
-change_in line = only_change (line_says line)
+change_in line = if nat_lt most_line (length line) then Err TooLong else change_within line

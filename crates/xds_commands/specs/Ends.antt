@@ -1,20 +1,27 @@
 -- How the commands that ask a server end, by what they write and their status: `xds poll`, with the post that goes out and the reply that
 -- is shown, and `xds client`, with the subscription that its task asks for. This project's own.
 --     TellsRefusal   a refusal is told, and nothing is shown
+--     late_line      the line of a command that gave up after so many seconds
+--     http_line      the line of a client whose other end speaks HTTP
+--     TellsLate      it is told that so many seconds have passed, where they were given, and nothing is shown
 --     ShowsReply     a reply is shown: its status in a line, and its body in the next, where it has one
+--     ShowsInTime    the same, or it is told that so many seconds have passed, where they were given
 --     question_of    what a poll's task asks a server
 --     EndsPollBy     `xds poll`, by what posts its request
 --     EndsPoll       `xds poll` over a connection, of which nothing is known but what it told
 --     variant_of     the variant of a client's stream
 --     IsOf           the subscription is the one that a client's task asks for
+--     TellsEnd       what is told of a refusal that a client ends by
 --     HasEnded       the status of a client that ended so, and what is told of that
 --     EndsClient     `xds client`: the client of its task ran over a connection, and its end is told
-use Rattle.std.specs.Prelude.{◌≡◌, ◌⊎◌, ℕ, List, Result, Ok, Err, ⊤}
+--     GoesOn         what is left to do of a run: nothing, or the task that it was handed
+use Rattle.std.specs.Prelude.{◌≡◌, ◌⊎◌, ◌≤◌, ◌++◌, ℕ, List, Option, Some, Result, Ok, Err, codes, decimal, ⊤}
 use Rattle.http.specs.declared.request.Request.{Request}
 use Rattle.http_body_util.specs.declared.full.Full.{Full}
 use Rattle.xds_frames.specs.Devices.{Device, Stays, Tells}
 use Rattle.xds_resource.specs.declared.refusal.Refusal.{Refusal}
-use Rattle.xds_resource.specs.declared.refusal.Refusal.TheVariants.{OutOfMemory}
+use Rattle.xds_resource.specs.declared.refusal.Refusal.TheVariants.{OutOfMemory, Device as DeviceRefusal}
+use Rattle.xds_resource.specs.Refusals.{number_of, name_of}
 use Rattle.xds_http.specs.declared.told.Told.{Told}
 use Rattle.xds_http.specs.Questions.{Question, shown}
 use Rattle.xds_http.specs.Sent.{IsPolled}
@@ -23,6 +30,8 @@ use Rattle.xds_client.specs.declared.subscription.StreamVariant.TheVariants as v
 use Rattle.xds_client.specs.declared.subscription.Subscription.{Subscription}
 use Rattle.xds_client.specs.Running.{RunsAt}
 use Rattle.xds_client.specs.Subscribing.{names_of}
+use Rattle.xds_program.specs.declared.run.Ran.{Ran}
+use Rattle.xds_program.specs.declared.run.Ran.TheVariants.{Done, Serve, Client, Poll}
 use Rattle.xds_program.specs.declared.tasks.StreamVariant.{StreamVariant}
 use Rattle.xds_program.specs.declared.tasks.StreamVariant.TheVariants.{Sotw, Delta}
 use Rattle.xds_program.specs.Outcomes.{Prints, refusal_line}
@@ -39,6 +48,24 @@ ShowsReply (Ok told) status output errors =
     Prints (shown told.status told.body) 0 status output errors ⊎ TellsRefusal OutOfMemory status output errors
 ShowsReply (Err e) status output errors = TellsRefusal e status output errors
 
+-- the line of a command that gave up after so many seconds
+abbrev pub late_line : ℕ → List ℕ
+late_line seconds = codes "19 Device: gave up after " ++ (decimal seconds ++ codes " s\n")
+
+-- the line of a client whose other end speaks HTTP
+abbrev pub http_line : Refusal → List ℕ
+http_line refusal =
+    decimal (number_of refusal) ++ (codes " " ++ (name_of refusal ++ codes ": HTTP is spoken there; --addr of a client is a port of streams\n"))
+
+-- It is told that so many seconds have passed, where they were given, and nothing is shown.
+abbrev pub TellsLate : Option ℕ → ℕ → Device → Device → Type 0
+TellsLate seconds status output errors = (s : ℕ) × (seconds ≡ Some s) × Stays output × Tells errors (late_line s) × (status ≡ 1)
+
+-- A reply is shown, or why there is none; or it is told that so many seconds have passed, where they were given.
+abbrev pub ShowsInTime : Option ℕ → Result Told Refusal → ℕ → Device → Device → Type 0
+ShowsInTime seconds r status output errors =
+    ShowsReply r status output errors ⊎ ((r ≡ Err DeviceRefusal) × TellsLate seconds status output errors)
+
 -- what a poll's task asks a server
 abbrev pub question_of : Look → Question
 question_of look = record { kind = look.kind; names = look.names; version = look.version; cluster = look.cluster }
@@ -46,7 +73,7 @@ question_of look = record { kind = look.kind; names = look.names; version = look
 -- `xds poll`, by what posts its request: the post of its question goes out, and what that tells is shown
 abbrev pub EndsPollBy : (Request (Full (List ℕ)) → Result Told Refusal → Type 0) → Look → ℕ → Device → Device → Type 0
 EndsPollBy tells look status output errors =
-    (r : Result Told Refusal) × IsPolled tells (question_of look) r × ShowsReply r status output errors
+    (r : Result Told Refusal) × IsPolled tells (question_of look) r × ShowsInTime look.seconds r status output errors
 
 -- `xds poll` over a connection, of which nothing is known but what it told
 abbrev pub EndsPoll : Look → ℕ → Device → Device → Type 0
@@ -65,12 +92,26 @@ pub record IsOf (task : Watch) (s : Subscription) : Type 0 where
   pub names : names_of s ≡ task.names
   pub responses : s.responses ≡ task.responses
 
--- the status of a client that ended so, and what is told of that: its refusal, or that there was no memory to say it
-abbrev pub HasEnded : {T : Type 0} → Result T Refusal → ℕ → Device → Type 0
-HasEnded (Ok x) status errors = (status ≡ 0) × Stays errors
-HasEnded (Err e) status errors = (status ≡ 1) × (Tells errors (refusal_line e) ⊎ Tells errors (refusal_line OutOfMemory))
+-- what is told of a refusal that a client ends by: it, with the word that the other end speaks HTTP where that is so; that it gave up
+-- after the seconds that it was given; or that there was no memory to say it
+abbrev pub TellsEnd : Option ℕ → Refusal → Device → Type 0
+TellsEnd seconds e errors =
+    Tells errors (refusal_line e) ⊎ (Tells errors (refusal_line OutOfMemory) ⊎ (Tells errors (http_line e)
+    ⊎ ((s : ℕ) × (e ≡ DeviceRefusal) × (seconds ≡ Some s) × Tells errors (late_line s))))
+
+-- the status of a client that ended so, and what is told of that
+abbrev pub HasEnded : {T : Type 0} → Watch → Result T Refusal → ℕ → Device → Type 0
+HasEnded task (Ok x) status errors = (status ≡ 0) × Stays errors
+HasEnded task (Err e) status errors = (status ≡ 1) × TellsEnd task.seconds e errors
 
 -- `xds client`: the client of its task ran over a connection, and its end is told
 abbrev pub EndsClient : Watch → ℕ → Device → Device → Type 0
 EndsClient task status output errors =
-    (s : Subscription) × (r : Result (Unit {0}) Refusal) × IsOf task s × RunsAt s r output × HasEnded r status errors
+    (s : Subscription) × (r : Result (Unit {0}) Refusal) × IsOf task s × RunsAt s r output × HasEnded task r status errors
+
+-- What is left to do of a run: nothing, where it is done; or the task that it was handed. A server prints nothing on the output.
+abbrev pub GoesOn : Ran → ℕ → Device → Device → Type 0
+GoesOn (Done done) status output errors = (status ≡ done) × Stays output × Stays errors
+GoesOn (Serve task) status output errors = (status ≤ 1) × Stays output
+GoesOn (Client task) status output errors = EndsClient task status output errors
+GoesOn (Poll task) status output errors = EndsPoll task status output errors

@@ -15,7 +15,7 @@ use Rattle.xds_resource.specs.declared.refusal.Refusal.TheVariants.{Device}
 use Rattle.xds_world.specs.Lines.{feed, pieces}
 use Rattle.xds_commands.specs.declared.change.Change.{Change}
 use Rattle.xds_commands.specs.declared.ending.End.{End}
-use Rattle.xds_commands.specs.declared.ending.End.TheVariants.{Streams, Line, Refused}
+use Rattle.xds_commands.specs.declared.ending.End.TheVariants.{Streams, Stopped, Line, Refused}
 use Rattle.xds_commands.specs.Changes.{Written, change_of}
 use Rattle.xds_commands.specs.Inputs.{AreTaken, AreRefused, AreEnded}
 
@@ -66,6 +66,7 @@ abbrev pub StopsInput : {S : Type 0} → (S → S → Written → Type 0) → S 
 StopsInput hands s t before after (Line line refusal) = (came : List ℕ) × Consumes before after came × TakesUpTo hands s t came line refusal
 StopsInput hands s t before after (Refused refusal) = (came : List ℕ) × Consumes before after came × (refusal ≡ Device) × TakesSome hands s t came
 StopsInput hands s t before after Streams = ⊥
+StopsInput hands s t before after Stopped = ⊥
 
 -- The lines of the bytes that came are taken: all of them, where the input is at its end.
 abbrev pub TakesInput : {S T : Type 0} → (S → S → Written → Type 0) → S → S → Option (List ℕ) → Option (List ℕ) → Result T End → Type 0

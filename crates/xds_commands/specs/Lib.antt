@@ -1,6 +1,16 @@
+pub mod Boards
 pub mod Changes
+pub mod Causes
 pub mod Handing
 pub mod Inputs
+pub mod HeldLines
+pub mod Keeping
+pub mod Limits
+pub mod Logging
 pub mod Messages
+pub mod Metrics
+pub mod Notes
 pub mod Responses
+pub mod Routes
 pub mod Ends
+pub mod Servings

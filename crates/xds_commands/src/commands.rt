@@ -1,4 +1,9 @@
 // A run of the program with a network beside it.
+ghost use Rattle.std.specs.Prelude.{◌≡◌};
+ghost use Rattle.xds_frames.specs.Devices.{seen};
+ghost use Rattle.xds_commands.specs.Ends.{GoesOn};
+ghost use Rattle.xds_commands.specs.Servings.{serving_of};
+
 use crate::machine::{Machine, Runtime};
 use crate::polling::poll_once;
 use crate::progress::ProgressReader;
@@ -29,9 +34,10 @@ where
     E: Write,
     P: Write + Drop + Send + 'static,
 {
+    let is_terminal = terminal.is_some();
     let mut input = Counted::new(ProgressReader::start(rt, input, terminal));
     let ran = xds_program::run::run(rt.alloc(), words, &mut input, output, errors);
-    go_on(rt, ran, input.inner.finish(), output, errors)
+    go_on(rt, ran, input.inner.finish(), output, errors, is_terminal)
 }
 
 // Does what is left to do of a run.
@@ -41,27 +47,37 @@ fn go_on<R, I, O, E>(
     input: I,
     output: &mut Counted<O>,
     errors: &mut Counted<E>,
+    is_terminal: bool,
 ) -> u8
 where
     R: Machine,
     I: Read + Drop + Send + 'static,
     O: Write,
     E: Write,
+    ensures { GoesOn ran result (seen O.contents output.old output.new) (seen E.contents errors.old errors.new) }
 {
     match ran {
         Ran::Done(status) => status,
         Ran::Poll(task) => poll_once(rt, task, output, errors),
         Ran::Client(task) => watch(rt, &task, output, errors),
-        Ran::Serve(task) => serve(rt, input, errors, serving_of(task)),
+        Ran::Serve(task) => serve(rt, input, errors, serving_of(task, is_terminal)),
     }
 }
 
-// What the server is asked for.
-fn serving_of(task: ServeTask) -> Serving {
+// What the server is asked for. At a terminal it tells refused changes.
+fn serving_of(task: ServeTask, is_terminal: bool) -> Serving
+    ensures { result ≡ serving_of task is_terminal }
+{
     Serving {
         replicas: task.replicas,
         port: task.port,
         rest_port: task.rest_port,
         streams: task.streams,
+        keep_going: task.keep_going,
+        tells: is_terminal,
+        logs: task.log,
+        max_streams: task.max_streams,
+        idle_seconds: task.idle_seconds,
+        admin_port: task.admin_port,
     }
 }

@@ -2,7 +2,7 @@
 ghost use Rattle.std.specs.Prelude.{◌≡◌, ◌∷◌, []};
 ghost use Rattle.xds_world.specs.Lines.{feed, pieces};
 
-use crate::change::{Change, read_change};
+use crate::change::{Change, read_change, within_limit};
 use std::alloc::Global;
 use std::mem;
 use xds_resource::Refusal;
@@ -11,13 +11,15 @@ use xds_world::lines::split_line;
 /// What has come of the input's last line.
 pub struct Held {
     pub bytes: Vec<u8>,
+    // Its number, from 1.
+    line: u64,
     ghost one: { pieces feed bytes.items ≡ bytes.items ∷ [] },
 }
 
 // Written out: docs/PROVING.md, "Drops".
 impl Drop for Held {
     fn drop(self) {
-        let Held { bytes: _ } = self;
+        let Held { bytes: _, line: _ } = self;
     }
 }
 
@@ -33,9 +35,9 @@ pub struct Taken {
 }
 
 impl Held {
-    ghost use Rattle.std.specs.Prelude.{◌≡◌, ◌≢◌, ◌∷◌, ◌++◌, [], OnOk, OnErr, IfErr, map, true, false};
+    ghost use Rattle.std.specs.Prelude.{◌≡◌, ◌≢◌, ◌∷◌, ◌++◌, [], Err, OnOk, OnErr, IfErr, map, false};
     ghost use Rattle.std.specs.Option.{option_map};
-    ghost use Rattle.xds_resource.specs.declared.refusal.Refusal.TheVariants.{BadScript, OutOfMemory};
+    ghost use Rattle.xds_resource.specs.declared.refusal.Refusal.TheVariants.{OutOfMemory};
     ghost use Rattle.xds_resource.specs.Refusals.{Gives};
     ghost use Rattle.xds_world.specs.Lines.{feed, pieces};
     ghost use Rattle.xds_commands.specs.Changes.{change_of, change_in};
@@ -47,11 +49,12 @@ impl Held {
     {
         Held {
             bytes: Vec::new(alloc),
+            line: 1,
         }
     }
 
-    /// Takes a piece more: the lines that end in it, up to one that is refused, as `BadScript` where it is no change, and with
-    /// `OutOfMemory` where there was no memory for it. Behind a line that is refused nothing more is to be taken.
+    /// Takes a piece more: the lines that end in it, up to one that is refused, as `BadScript` where it is no change, as `TooLong` where more has come
+    /// of it than a line may have, and with `OutOfMemory` where there was no memory for it. Behind a line that is refused nothing more is to be taken.
     pub fn take(&mut self, alloc: Global, piece: &[u8]) -> Taken
         ensures { Takes (self.old.bytes.items ++ piece.now) (map change_of result.changes.items) result.lines result.refused self.new.bytes.items }
     {
@@ -83,11 +86,11 @@ impl Held {
         }
     }
 
-    /// What the last line changes, which no line feed ends: none where it is skipped. Any other line is `BadScript`.
+    /// What the last line changes, which no line feed ends: none where it is skipped. Any other line is `BadScript`, or `TooLong`.
     pub fn finish(&self, alloc: Global) -> Result<Option<Change>, Refusal>
         ensures { Gives (option_map change_of) result (change_in self.now.bytes.items) }
     {
-        read_change(alloc, self.bytes.as_slice())
+        read_change(alloc, self.line, self.bytes.as_slice())
     }
 
     // Adds what the line changes that this part ends. Then nothing is held.
@@ -100,7 +103,7 @@ impl Held {
         ensures held { self.new.bytes.items ≡ [] }
         ensures good { OnOk result (is_wrong (self.old.bytes.items ++ part.now) ≡ false) }
         ensures brought { OnOk result (map change_of changes.new.items ≡ map change_of changes.old.items ++ brings (self.old.bytes.items ++ part.now)) }
-        ensures refused { IfErr result (λ e. e ≢ OutOfMemory → (e ≡ BadScript) × (is_wrong (self.old.bytes.items ++ part.now) ≡ true)) }
+        ensures refused { IfErr result (λ e. e ≢ OutOfMemory → change_in (self.old.bytes.items ++ part.now) ≡ Err e) }
         ensures err { OnErr result (map change_of changes.new.items ≡ map change_of changes.old.items) }
     {
         match self.completed(alloc, part) {
@@ -119,20 +122,22 @@ impl Held {
         ensures held { self.new.bytes.items ≡ [] }
     {
         let mut line = mem::replace(&mut self.bytes, Vec::new(alloc));
+        let number = self.line;
+        self.line = number.saturating_add(1);
         match line.extend_from_slice(part) {
-            Ok(()) => read_change(alloc, line.as_slice()),
+            Ok(()) => read_change(alloc, number, line.as_slice()),
             Err(_) => Err(Refusal::OutOfMemory),
         }
     }
 
-    // Holds a part more, in which no line ends.
+    // Holds a part more, in which no line ends. What has come of a line may be too long for one.
     fn keep(&mut self, part: &[u8]) -> Result<(), Refusal>
         requires { pieces feed part.now ≡ part.now ∷ [] }
         ensures kept { OnOk result (self.new.bytes.items ≡ self.old.bytes.items ++ part.now) }
-        ensures refused { IfErr result (λ e. e ≡ OutOfMemory) }
+        ensures refused { IfErr result (λ e. e ≢ OutOfMemory → change_in (self.old.bytes.items ++ part.now) ≡ Err e) }
     {
         match self.bytes.extend_from_slice(part) {
-            Ok(()) => Ok(()),
+            Ok(()) => within_limit(self.bytes.as_slice()),
             Err(_) => Err(Refusal::OutOfMemory),
         }
     }

@@ -1,17 +1,19 @@
 // The input of a server: lines that say what is put and deleted, taken while it serves.
-ghost use Rattle.std.specs.Prelude.{◌≡◌, map, List, [], ◌++◌};
+ghost use Rattle.std.specs.Prelude.{◌≡◌, ◌<◌, ◌+◌, ◌⊎◌, map, List, [], ◌++◌, IfSome, IfNone};
 ghost use Rattle.xds_commands.specs.Changes.{change_of};
 ghost use Rattle.xds_commands.specs.Inputs.{brought};
 ghost use Rattle.xds_commands.specs.Handing.{AllHanded, line_after, behind, HandsLast, TakesInput};
 
+use crate::cause::Cause;
 use crate::change::Change;
 use crate::ending::{End, Ending};
+use crate::fault::Fault;
 use crate::held::{Held, Taken};
+use crate::order::Order;
 use crossbeam_channel::Sender;
 use std::alloc::Global;
 use std::io::{ErrorKind, Read};
 use std::sync::Wait;
-use xds_core::Event;
 use xds_resource::Refusal;
 
 /// How many bytes are read at once, at most.
@@ -32,7 +34,9 @@ pub trait Hands {
 /// The replicas of a server, each by what changes are sent to its thread by. The first has number 1.
 #[derive(Drop)]
 pub struct Replicas<'a> {
-    pub senders: &'a [Sender<Event>],
+    pub senders: &'a [Sender<Order>],
+    /// Where it is told that a replica isn't there.
+    pub ending: &'a Ending,
 }
 
 impl<'a> Hands for Replicas<'a> {
@@ -42,8 +46,12 @@ impl<'a> Hands for Replicas<'a> {
     ghost hands = { λ _ _ _. ⊤ };
 
     fn hand<R: Wait>(&mut self, rt: &R, change: Change) {
-        let Change { replica, event } = change;
-        send(rt, self.senders, replica, event);
+        let line = change.line;
+        let replica = change.replica;
+        if !send(rt, self.senders, replica, Order::Change(change)) {
+            self.ending
+                .refuse(rt, line, Fault::by(Cause::NoSuchReplica));
+        }
     }
 }
 
@@ -53,17 +61,17 @@ pub fn take_input<I: Read, R: Wait>(
     rt: &R,
     alloc: Global,
     input: &mut I,
-    replicas: &[Sender<Event>],
+    senders: &[Sender<Order>],
     ending: &Ending,
 ) {
-    let mut replicas = Replicas { senders: replicas };
+    let mut replicas = Replicas { senders, ending };
     if let Err(end) = take_lines(rt, alloc, input, &mut replicas) {
         ending.end(rt, end);
     }
 }
 
 /// Takes the lines of an input, however its bytes come, and hands over each change, in order: to the end of the input, or to the
-/// first line that is no change (`BadScript`) or for which there was no memory, which is told with its number, or until a read fails
+/// first line that is no change (`BadScript`), that is too long (`TooLong`) or for which there was no memory, which is told with its number, or until a read fails
 /// (`Device`). A read that was interrupted is made again.
 pub fn take_lines<I: Read, H: Hands, R: Wait>(
     rt: &R,
@@ -141,10 +149,28 @@ fn take_last<H: Hands, R: Wait>(
     }
 }
 
-// Sends something to the replica of this number, if it is there.
-fn send<R: Wait, T: Drop>(rt: &R, replicas: &[Sender<T>], number: u16, it: T) {
-    let place = (number as usize).wrapping_sub(1);
-    if let Some(replica) = replicas.get(place) {
-        let _ = replica.send(rt, it);
+// The place of the replica of this number among so many, if it is there.
+fn place_of(number: u16, replicas: usize) -> Option<usize>
+    ensures there { IfSome result (λ place. (place + 1 ≡ number) × (place < replicas)) }
+    ensures none { IfNone result ((number ≡ 0) ⊎ (replicas < number)) }
+{
+    let number = number as usize;
+    if number == 0 || number > replicas {
+        return None;
+    }
+    Some(number - 1)
+}
+
+// Sends something to the replica of this number. Answers whether it is there.
+fn send<R: Wait, T: Drop>(rt: &R, replicas: &[Sender<T>], number: u16, it: T) -> bool {
+    let Some(place) = place_of(number, replicas.len()) else {
+        return false;
+    };
+    match replicas.get(place) {
+        Some(replica) => {
+            let _ = replica.send(rt, it);
+            true
+        }
+        None => false,
     }
 }

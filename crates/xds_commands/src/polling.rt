@@ -1,9 +1,11 @@
 // `xds poll`: one poll of a server, and what is shown of its reply.
-ghost use Rattle.std.specs.Prelude.{◌≡◌, IfErr, Ok};
+ghost use Rattle.std.specs.Prelude.{◌≡◌, Err, IfErr, IfSome, Ok, Some};
 ghost use Rattle.xds_frames.specs.Devices.{seen};
 ghost use Rattle.xds_http.specs.Sent.{TellsNothing};
 ghost use Rattle.xds_commands.specs.Ends.{EndsPoll, EndsPollBy, ShowsReply, question_of};
 
+use crate::telling::tell_late;
+use crate::timed::{Deadline, gave_up};
 use std::alloc::{AllocGlobal, Global};
 use std::io::Write;
 use std::net::{Net, SocketAddr};
@@ -11,7 +13,7 @@ use std::random::RandomSource;
 use std::sync::Wait;
 use std::time::Clock;
 use xds_frames::Counted;
-use xds_http::{Connects, Posts, Question, Told, poll_by};
+use xds_http::{Connects, ConnectsWithin, Posts, Question, Told, poll_by};
 use xds_program::PollTask;
 use xds_program::run::{DONE, print, tell};
 use xds_resource::Refusal;
@@ -29,10 +31,14 @@ where
     E: Write,
     ensures { EndsPoll task result (seen O.contents output.old output.new) (seen E.contents errors.old errors.new) }
 {
-    let posts = Connects {
-        server: SocketAddr::V4(task.addr),
-    };
-    poll_once_by(rt, &posts, task, output, errors)
+    let server = SocketAddr::V4(task.addr);
+    match task.seconds {
+        None => poll_once_by(rt, &Connects { server }, task, output, errors),
+        Some(seconds) => {
+            let posts = ConnectsWithin { server, seconds };
+            poll_once_by(rt, &posts, task, output, errors)
+        }
+    }
 }
 
 /// The same by what posts the request: the post that goes out is that of the task's question, and what is shown is its reply.
@@ -51,8 +57,28 @@ where
     ensures { EndsPollBy P.tells task result (seen O.contents output.old output.new) (seen E.contents errors.old errors.new) }
 {
     let host = SocketAddr::V4(task.addr);
+    let seconds = task.seconds;
+    let deadline = Deadline::after(rt, seconds);
     let polled = poll_by(rt, posts, host, question_of(task));
-    show(rt.alloc(), &polled, output, errors)
+    match late(rt, &polled, seconds, deadline) {
+        Some(seconds) => tell_late(rt.alloc(), seconds, errors),
+        None => show(rt.alloc(), &polled, output, errors),
+    }
+}
+
+// After how many seconds a poll gave up, if no reply came and so many had passed.
+fn late<R: Clock>(
+    rt: &R,
+    polled: &Result<Told, Refusal>,
+    seconds: Option<u16>,
+    deadline: Deadline,
+) -> Option<u16>
+    ensures { IfSome result (λ s. (seconds ≡ Some s) × (polled.now ≡ Err Refusal.Device)) }
+{
+    match polled {
+        Ok(_) => None,
+        Err(refusal) => gave_up(rt, *refusal, seconds, deadline),
+    }
 }
 
 // What a task asks a server.
@@ -62,6 +88,7 @@ fn question_of(task: PollTask) -> Question
     let PollTask {
         addr: _,
         kind,
+        seconds: _,
         version,
         cluster,
         names,

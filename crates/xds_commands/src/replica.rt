@@ -1,7 +1,13 @@
 // One replica of the server: the threads that call it.
-use crate::ending::Ending;
+ghost use Rattle.std.specs.Prelude.{◌≡◌};
+ghost use Rattle.std.specs.Result.{result_err};
+ghost use Rattle.xds_commands.specs.Messages.{refusal_in};
+
+use crate::fault::Fault;
 use crate::gate::NoGate;
+use crate::lookout::Lookout;
 use crate::machine::{Machine, Runtime};
+use crate::order::{Look, Order, look_in, stamp_in};
 use crate::served::Served;
 use crate::streams::serve_streams;
 use crate::wires::{Bound, both};
@@ -10,11 +16,11 @@ use crossbeam_channel::Receiver;
 use std::alloc::Global;
 use std::net::TcpListener;
 use std::sync::{Arc, Wait};
-use xds_core::Event;
+use xds_core::{Event, Marks, Reply};
 use xds_exchange::{Incoming, Outgoing};
 use xds_http::{Replies, serve_on};
 use xds_node::{Host, Parcel, Receipt, called, exchange_in, exchange_out};
-use xds_resource::Refusal;
+use xds_resource::{Refusal, Stamp};
 
 /// Ends of the channels by which a replica tells another what changed: for what it tells, and for what becomes of it.
 pub type Sends = (Outgoing<Parcel>, Incoming<Receipt>);
@@ -30,7 +36,7 @@ pub struct Sockets {
 }
 
 /// What a replica's thread is started with.
-pub type Replica = Bound<Sockets, Receiver<Event>, Sends, Takes>;
+pub type Replica = Bound<Sockets, Receiver<Order>, Sends, Takes>;
 
 /// Runs a replica for as long as the process runs: streams, polls, what is told to and by other replicas, and the changes
 /// that the input makes. It ends only where no change can come any more, or with the refusal by which it couldn't begin.
@@ -39,7 +45,7 @@ pub fn run_replica<R, A>(
     alloc: Global,
     node: &Arc<A>,
     replica: Replica,
-    ending: &Arc<Ending>,
+    lookout: &Arc<Lookout>,
 ) -> Result<(), Refusal>
 where
     R: Machine,
@@ -56,9 +62,9 @@ where
         takes,
     } = replica;
     let exchanging = start_exchange(rt, alloc, node, sends, takes);
-    let serving = start_serving(rt, alloc, node, sockets, ending);
+    let serving = start_serving(rt, alloc, node, sockets, lookout);
     let ended = match both(exchanging, serving) {
-        Ok(()) => take_changes(rt, &**node, &changes),
+        Ok(()) => take_orders(rt, &**node, &changes, lookout),
         Err(refusal) => Err(refusal),
     };
     drop(changes);
@@ -94,7 +100,7 @@ fn start_serving<R, A>(
     alloc: Global,
     node: &Arc<A>,
     sockets: Sockets,
-    ending: &Arc<Ending>,
+    lookout: &Arc<Lookout>,
 ) -> Result<(), Refusal>
 where
     R: Machine,
@@ -102,7 +108,7 @@ where
 {
     let Sockets { streams, polls } = sockets;
     let polled = start_polls(rt, node, polls);
-    both(polled, start_streams(rt, alloc, node, streams, ending))
+    both(polled, start_streams(rt, alloc, node, streams, lookout))
 }
 
 // A thread that tells another replica what changed here.
@@ -174,47 +180,134 @@ fn start_streams<R, A>(
     alloc: Global,
     node: &Arc<A>,
     listener: TcpListener,
-    ending: &Arc<Ending>,
+    lookout: &Arc<Lookout>,
 ) -> Result<(), Refusal>
 where
     R: Runtime,
     A: Shared,
 {
-    start_worker(rt, shares(node, ending), move |rt, (node, ending)| {
-        serve_streams(*rt, alloc, &listener, &node, &ending);
+    start_worker(rt, shares(node, lookout), move |rt, (node, lookout)| {
+        serve_streams(*rt, alloc, &listener, &node, &lookout);
     })
 }
 
-// How many changes are made at once, at most, before streams are told of them.
+// How many orders are done at once, at most, before streams are told of the changes.
 const MOST_AT_ONCE: usize = 64;
 
-// Makes the changes that the input says. One that the replica refuses changes nothing. Streams are told of those that come together
-// once all of them are made.
-fn take_changes<R, A>(rt: &R, node: &A, changes: &Receiver<Event>) -> Result<(), Refusal>
+// Does what the replica is asked: makes changes, of which those that are refused change nothing, and looks at what is held. Streams are
+// told of changes that come together once all of them are made.
+fn take_orders<R, A>(
+    rt: &R,
+    node: &A,
+    orders: &Receiver<Order>,
+    lookout: &Lookout,
+) -> Result<(), Refusal>
 where
     R: Wait,
     A: Served,
 {
     let mut seat = node.seat(rt)?;
-    for event in changes.iter(rt) {
+    for order in orders.iter(rt) {
         node.hold(rt);
-        drop(called(rt, node, &NoGate, &mut seat, event));
-        take_waiting(rt, node, &mut seat, changes);
+        do_order(rt, node, &mut seat, order, lookout);
+        do_waiting(rt, node, &mut seat, orders, lookout);
         node.release(rt);
     }
     Ok(())
 }
 
-// Makes the changes that wait already.
-fn take_waiting<R, A>(rt: &R, node: &A, seat: &mut A::Seat, changes: &Receiver<Event>)
+// Does the orders that wait already.
+fn do_waiting<R, A>(
+    rt: &R,
+    node: &A,
+    seat: &mut A::Seat,
+    orders: &Receiver<Order>,
+    lookout: &Lookout,
+)
 where
     R: Wait,
     A: Served,
 {
     for _ in 1..MOST_AT_ONCE {
-        match changes.try_recv(rt) {
-            Ok(event) => drop(called(rt, node, &NoGate, seat, event)),
+        match orders.try_recv(rt) {
+            Ok(order) => do_order(rt, node, seat, order, lookout),
             Err(_) => return,
         }
+    }
+}
+
+// Does one order. Writers go on while a refusal is told, which may wait for who reads the error output.
+fn do_order<R: Wait, A: Served>(
+    rt: &R,
+    node: &A,
+    seat: &mut A::Seat,
+    order: Order,
+    lookout: &Lookout,
+) {
+    match order {
+        Order::Change(change) => {
+            let line = change.line;
+            if let Err(refusal) = make_change(rt, node, seat, change.event) {
+                lookout.refused(rt);
+                node.release(rt);
+                lookout.ending().refuse(rt, line, Fault::of(refusal));
+                node.hold(rt);
+            }
+        }
+        Order::Asked(change, reply) => {
+            let made = make_change(rt, node, seat, change.event);
+            if made.is_err() {
+                lookout.refused(rt);
+            }
+            let _ = reply.send(rt, made);
+        }
+        Order::Look(reply) => {
+            let _ = reply.send(rt, look(rt, node, seat));
+        }
+    }
+}
+
+// Makes a change. Answers its stamp.
+fn make_change<R: Wait, A: Served>(
+    rt: &R,
+    node: &A,
+    seat: &mut A::Seat,
+    event: Event,
+) -> Result<Stamp, Refusal> {
+    let answer = called(rt, node, &NoGate, seat, event);
+    let stamp = match reply_in(&answer) {
+        Ok(reply) => stamp_in(reply),
+        Err(refusal) => Err(refusal),
+    };
+    drop(answer);
+    stamp
+}
+
+// Looks at all that is held, by one event.
+fn look<R: Wait, A: Served>(rt: &R, node: &A, seat: &mut A::Seat) -> Result<Look, Refusal> {
+    let nothing = Marks {
+        cluster: 0,
+        endpoint: 0,
+        listener: 0,
+        route: 0,
+        secret: 0,
+    };
+    let answer = called(rt, node, &NoGate, seat, Event::Since(nothing));
+    let look = match reply_in(&answer) {
+        Ok(reply) => look_in(reply),
+        Err(refusal) => Err(refusal),
+    };
+    drop(answer);
+    look
+}
+
+// The reply that an answer is, or its refusal, of which there may be a record or none.
+fn reply_in(answer: &Result<Result<Reply, Refusal>, Refusal>) -> Result<&Reply, Refusal>
+    ensures { result_err result ≡ refusal_in answer.now }
+{
+    match answer {
+        Ok(Ok(reply)) => Ok(reply),
+        Ok(Err(refusal)) => Err(*refusal),
+        Err(refusal) => Err(*refusal),
     }
 }

@@ -1,10 +1,15 @@
 // What a server tells on its error output.
 ghost use Rattle.std.specs.Prelude.{◌≡◌, ◌+◌, string_bytes, IfOk};
-ghost use Rattle.xds_commands.specs.Messages.{refusal_line, fault_line, port_line, replica_line};
+ghost use Rattle.xds_commands.specs.Messages.{admin_line, fault_line, refusal_line, port_fault_text, port_line, replica_line, TellsLine, TellsText};
+ghost use Rattle.xds_frames.specs.Devices.{seen};
 
+use crate::ending::{End, Ending, Next};
+use crate::note::fault_line;
 use std::alloc::Global;
-use std::io::Write;
+use std::io::{ErrorKind, Write};
+use std::sync::Wait;
 use xds_frames::{Counted, write_whole};
+use xds_program::run;
 use xds_resource::Refusal;
 
 /// The status of a server that ended by a refusal.
@@ -19,20 +24,45 @@ fn refusal_line(alloc: Global, refusal: Refusal) -> Result<String, Refusal>
     Ok(format!(in alloc; "{number} {name}\n")?)
 }
 
-// The line of a line of the input that is refused.
-fn fault_line(alloc: Global, line: u64, refusal: Refusal) -> Result<String, Refusal>
-    ensures { IfOk result (λ t. string_bytes t ≡ fault_line line refusal) }
-{
-    let number = refusal.number();
-    let name = refusal.name();
-    Ok(format!(in alloc; "line {line}: {number} {name}\n")?)
+/// Why a port can't be bound.
+#[derive(Clone, Copy, Debug, PartialEq, Eq)]
+pub enum PortFault {
+    /// Somebody else has it.
+    InUse,
+    /// Who runs the server may not have it.
+    NotAllowed,
+    /// The system says something else.
+    Other,
+}
+
+impl PortFault {
+    /// The fault of a call that failed with an error of this kind.
+    pub(crate) fn of(kind: ErrorKind) -> PortFault {
+        match kind {
+            ErrorKind::AddrInUse => PortFault::InUse,
+            ErrorKind::PermissionDenied => PortFault::NotAllowed,
+            _ => PortFault::Other,
+        }
+    }
+
+    // What is told of it behind the refusal.
+    fn text(self) -> &'static str
+        ensures { result.now ≡ port_fault_text self }
+    {
+        match self {
+            PortFault::InUse => ": in use",
+            PortFault::NotAllowed => ": not allowed",
+            PortFault::Other => "",
+        }
+    }
 }
 
 // The line of a port that can't be bound.
-fn port_line(alloc: Global, port: u16) -> Result<String, Refusal>
-    ensures { IfOk result (λ t. string_bytes t ≡ port_line port) }
+fn port_line(alloc: Global, port: u16, fault: PortFault) -> Result<String, Refusal>
+    ensures { IfOk result (λ t. string_bytes t ≡ port_line port fault) }
 {
-    Ok(format!(in alloc; "127.0.0.1:{port}: 19 Device\n")?)
+    let why = fault.text();
+    Ok(format!(in alloc; "127.0.0.1:{port}: 19 Device{why}\n")?)
 }
 
 // The line of a replica.
@@ -44,21 +74,24 @@ fn replica_line(alloc: Global, number: u16, port: u16, rest_port: u16) -> Result
     )?)
 }
 
-// Writes a text, if there was memory for it. An error output that fails is passed over.
-fn put<E: Write>(errors: &mut Counted<E>, text: Result<String, Refusal>) {
+// Writes a text, or that there was no memory for it. An error output that fails is passed over.
+fn put<E: Write>(errors: &mut Counted<E>, text: Result<String, Refusal>)
+    ensures { TellsText string_bytes text (seen E.contents errors.old errors.new) }
+{
     match text {
         Ok(text) => {
             let _ = write_whole(errors, text.as_bytes());
         }
         Err(_) => {
-            let _ = write_whole(errors, b"8 OutOfMemory\n");
+            let _ = run::tell(Refusal::OutOfMemory, errors);
         }
     }
 }
 
 /// Tells a refusal, and answers the status.
 pub(crate) fn tell<E: Write>(alloc: Global, errors: &mut Counted<E>, refusal: Refusal) -> u8
-    ensures { result ≡ 1 }
+    ensures told { TellsLine (refusal_line refusal) (seen E.contents errors.old errors.new) }
+    ensures status { result ≡ 1 }
 {
     put(errors, refusal_line(alloc, refusal));
     REFUSED
@@ -71,17 +104,24 @@ pub(crate) fn tell_line<E: Write>(
     line: u64,
     refusal: Refusal,
 ) -> u8
-    ensures { result ≡ 1 }
+    ensures told { TellsLine (fault_line line refusal) (seen E.contents errors.old errors.new) }
+    ensures status { result ≡ 1 }
 {
     put(errors, fault_line(alloc, line, refusal));
     REFUSED
 }
 
-/// Tells a port that can't be bound, and answers the status.
-pub(crate) fn tell_port<E: Write>(alloc: Global, errors: &mut Counted<E>, port: u16) -> u8
-    ensures { result ≡ 1 }
+/// Tells a port that can't be bound, and why, and answers the status.
+pub(crate) fn tell_port<E: Write>(
+    alloc: Global,
+    errors: &mut Counted<E>,
+    port: u16,
+    fault: PortFault,
+) -> u8
+    ensures told { TellsLine (port_line port fault) (seen E.contents errors.old errors.new) }
+    ensures status { result ≡ 1 }
 {
-    put(errors, port_line(alloc, port));
+    put(errors, port_line(alloc, port, fault));
     REFUSED
 }
 
@@ -99,4 +139,34 @@ pub(crate) fn tell_replicas<E: Write>(
         let rest_port = rest_port.wrapping_add(index);
         put(errors, replica_line(alloc, number, port, rest_port));
     }
+}
+
+// The line of an operator's port.
+fn admin_line(alloc: Global, port: u16) -> Result<String, Refusal>
+    ensures { IfOk result (λ t. string_bytes t ≡ admin_line port) }
+{
+    Ok(format!(in alloc; "an operator's port on 127.0.0.1:{port}\n")?)
+}
+
+/// Tells where an operator's port is.
+pub(crate) fn tell_admin<E: Write>(alloc: Global, errors: &mut Counted<E>, port: u16)
+    ensures { TellsLine (admin_line port) (seen E.contents errors.old errors.new) }
+{
+    put(errors, admin_line(alloc, port));
+}
+
+/// Tells what there is to tell, line by line, until the server ends.
+pub(crate) fn tell_until_end<R: Wait, E: Write>(
+    rt: &R,
+    alloc: Global,
+    errors: &mut Counted<E>,
+    ending: &Ending,
+) -> End {
+    for _ in rt.forever() {
+        match ending.next(rt) {
+            Next::Note(note) => put(errors, note.line(alloc)),
+            Next::End(end) => return end,
+        }
+    }
+    unreachable!()
 }

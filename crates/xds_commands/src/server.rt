@@ -1,18 +1,29 @@
 // A server of some replicas, from its first line to its end.
-ghost use Rattle.std.specs.Prelude.{◌≤◌};
+ghost use Rattle.std.specs.Prelude.{◌≡◌, ◌≤◌};
+ghost use Rattle.xds_frames.specs.Devices.{seen};
+ghost use Rattle.xds_commands.specs.Messages.{TellsEnd, status_of};
+ghost use Rattle.xds_commands.specs.Servings.{limits_of};
 
-use crate::ending::{End, Ending};
+use crate::admin::{Admin, Reached};
+use crate::ending::{End, Ending, Telling};
+use crate::log_event::LogEvent;
+use crate::lookout::{Limits, Lookout};
 use crate::machine::{Machine, Runtime};
+use crate::order::Order;
 use crate::replica::{Sends, Sockets, Takes};
-use crate::serve_telling::{tell, tell_line, tell_port, tell_replicas};
-use crate::starting::{start_input, start_replica};
+use crate::serve_telling::{
+    PortFault, tell, tell_admin, tell_line, tell_port, tell_replicas, tell_until_end,
+};
+use crate::starting::{start_admin, start_input, start_replica};
 use crate::wires::{Wires, both, crossed, kept};
+use crate::workers::share;
 use crossbeam_channel::{Receiver, Sender, bounded};
 use std::alloc::{AllocError, Global};
 use std::io::{Read, Write};
 use std::net::{Ipv4Addr, Net, SocketAddrV4, TcpListener, TcpStream};
-use std::sync::Arc;
-use xds_core::Event;
+use std::sync::{Arc, Wait};
+use std::thread;
+use std::time::Duration;
 use xds_exchange::link;
 use xds_frames::Counted;
 use xds_resource::Refusal;
@@ -28,14 +39,32 @@ pub struct Serving {
     pub rest_port: u16,
     /// After how many ended streams the server ends; never, where none is said.
     pub streams: Option<u16>,
+    /// Whether a line of the input that is refused is told, and the next is read.
+    pub keep_going: bool,
+    /// Whether changes that are refused are told. A server that keeps going, or logs, tells them in any case.
+    pub tells: bool,
+    /// Whether what an operator cares for is told, a line each.
+    pub logs: bool,
+    /// How many streams a replica has at a time, at most; any number, where none is said.
+    pub max_streams: Option<u16>,
+    /// Within how many seconds the first frame of a stream comes; at any time, where none is said.
+    pub idle_seconds: Option<u16>,
+    /// An operator's port, if there is one.
+    pub admin_port: Option<u16>,
 }
 
+// As many seconds as frames that were begun have to be written at the end, and as many milliseconds as who stopped the server has to
+// take the answer.
+const DRAIN_SECONDS: u64 = 4;
+
+const PARTING_MILLISECONDS: u64 = 200;
+
 // What the replicas are started with, and what changes of the input are sent by.
-type Wiring = Wires<Sockets, Sender<Event>, Receiver<Event>, Sends, Takes>;
+type Wiring = Wires<Sockets, Sender<Order>, Receiver<Order>, Sends, Takes>;
 
 /// Serves until so many streams have ended as are asked for, or a line of the input is refused, and answers the status: 0,
-/// or 1 with the refusal on the error output. All ports are bound before anything is read; one that can't be is told with
-/// its address as 19 Device. What is served where is told on the error output, a line a replica.
+/// or 1 with the refusal on the error output. A server that keeps going tells such a line, and reads the next. All ports are bound before anything is read; one that can't be is told with
+/// its address as 19 Device, and why. What is served where is told on the error output, a line a replica.
 ///
 /// The input is read in a thread of its own, so it is handed over by value. Its end ends nothing. Threads that still wait
 /// at the end are left: they end with the process.
@@ -47,20 +76,23 @@ where
     ensures { result ≤ 1 }
 {
     let alloc = rt.alloc();
-    let ended = match bound(rt, alloc, serving) {
-        Ok(sockets) => {
-            let Serving {
-                replicas,
-                port,
-                rest_port,
-                streams,
-            } = serving;
-            tell_replicas(alloc, errors, replicas, port, rest_port);
-            run(rt, alloc, input, sockets, streams)
+    let ended = match all_bound(rt, alloc, serving) {
+        Ok((sockets, admin)) => {
+            tell_replicas(
+                alloc,
+                errors,
+                serving.replicas,
+                serving.port,
+                serving.rest_port,
+            );
+            if let Some(port) = serving.admin_port {
+                tell_admin(alloc, errors, port);
+            }
+            run(rt, alloc, input, errors, sockets, admin, serving)
         }
-        Err(Unbound::Port(port)) => {
+        Err(Unbound::Port(port, fault)) => {
             drop(input);
-            return tell_port(alloc, errors, port);
+            return tell_port(alloc, errors, port, fault);
         }
         Err(Unbound::Refused(refusal)) => {
             drop(input);
@@ -72,10 +104,11 @@ where
 
 // Tells why a server ended, where that is a refusal, and answers the status.
 fn tell_end<E: Write>(alloc: Global, errors: &mut Counted<E>, ended: Result<End, Refusal>) -> u8
-    ensures { result ≤ 1 }
+    ensures told { TellsEnd ended (seen E.contents errors.old errors.new) }
+    ensures status { result ≡ status_of ended }
 {
     match ended {
-        Ok(End::Streams) => 0,
+        Ok(End::Streams | End::Stopped) => 0,
         Ok(End::Line(line, refusal)) => tell_line(alloc, errors, line, refusal),
         Ok(End::Refused(refusal)) => tell(alloc, errors, refusal),
         Err(refusal) => tell(alloc, errors, refusal),
@@ -85,7 +118,7 @@ fn tell_end<E: Write>(alloc: Global, errors: &mut Counted<E>, ended: Result<End,
 // Why the ports aren't bound.
 #[derive(Clone, Copy)]
 enum Unbound {
-    Port(u16),
+    Port(u16, PortFault),
     Refused(Refusal),
 }
 
@@ -106,6 +139,25 @@ where
     Ok(sockets)
 }
 
+// The same, and the socket of an operator's port, where there is one.
+fn all_bound<R>(
+    rt: &R,
+    alloc: Global,
+    serving: Serving,
+) -> Result<(Vec<Sockets>, Option<TcpListener>), Unbound>
+where
+    R: Net<Listener = TcpListener, Stream = TcpStream>,
+{
+    let sockets = bound(rt, alloc, serving)?;
+    match serving.admin_port {
+        Some(port) => {
+            let admin = bind(rt, port, 0)?;
+            Ok((sockets, Some(admin)))
+        }
+        None => Ok((sockets, None)),
+    }
+}
+
 fn bind<R>(rt: &R, first: u16, index: u16) -> Result<TcpListener, Unbound>
 where
     R: Net<Listener = TcpListener, Stream = TcpStream>,
@@ -113,34 +165,101 @@ where
     let port = first.wrapping_add(index);
     match TcpListener::bind(rt, SocketAddrV4::new(Ipv4Addr::LOCALHOST, port)) {
         Ok(listener) => Ok(listener),
-        Err(_) => Err(Unbound::Port(port)),
+        Err(error) => Err(Unbound::Port(port, PortFault::of(error.kind()))),
     }
 }
 
-// Serves to the end.
-fn run<R, I>(
+// Serves to the end, and tells what there is to tell meanwhile. At the end frames that were begun are written.
+fn run<R, I, E>(
     rt: &R,
     alloc: Global,
     input: I,
+    errors: &mut Counted<E>,
     sockets: Vec<Sockets>,
-    streams: Option<u16>,
+    admin: Option<TcpListener>,
+    serving: Serving,
 ) -> Result<End, Refusal>
 where
     R: Machine,
     I: Read + Drop + Send + 'static,
+    E: Write,
 {
     let wires = wired(alloc, sockets)?;
-    let ending = Arc::new(alloc, Ending::after(streams))?;
-    start(rt, alloc, input, wires, &ending)?;
-    Ok(ending.wait(rt))
+    let ending = Arc::new(alloc, ending_of(alloc, serving))?;
+    let lookouts = lookouts_of(alloc, serving, &ending)?;
+    log_replicas(rt, &ending, serving);
+    start(
+        rt,
+        alloc,
+        input,
+        wires,
+        admin,
+        serving.keep_going,
+        &lookouts,
+        &ending,
+    )?;
+    let end = tell_until_end(rt, alloc, errors, &ending);
+    if end == End::Stopped {
+        thread::sleep(rt, Duration::from_millis(PARTING_MILLISECONDS));
+    }
+    ending.drain(rt, Duration::from_secs(DRAIN_SECONDS));
+    Ok(end)
 }
 
-// Starts the replicas, and the thread that takes the input.
+// Where threads note what happens at each replica.
+fn lookouts_of(
+    alloc: Global,
+    serving: Serving,
+    ending: &Arc<Ending>,
+) -> Result<Vec<Arc<Lookout>>, Refusal> {
+    let limits = limits_of(serving);
+    let mut lookouts = Vec::new(alloc);
+    for index in 0..serving.replicas {
+        let number = index.saturating_add(1);
+        let lookout = Lookout::new(alloc, number, limits, share(ending)?);
+        lookouts.push(Arc::new(alloc, lookout)?)?;
+    }
+    Ok(lookouts)
+}
+
+// How a server ends, and what it tells until then.
+fn ending_of(alloc: Global, serving: Serving) -> Ending {
+    let telling = Telling {
+        changes: serving.keep_going || serving.tells || serving.logs,
+        events: serving.logs,
+    };
+    Ending::after(alloc, serving.streams, telling)
+}
+
+// What the streams of a replica may be.
+fn limits_of(serving: Serving) -> Limits
+    ensures { result ≡ limits_of serving }
+{
+    Limits {
+        streams: serving.max_streams,
+        idle_seconds: serving.idle_seconds,
+    }
+}
+
+// Tells which replica listens where, where such is told.
+fn log_replicas<R: Wait>(rt: &R, ending: &Ending, serving: Serving) {
+    for index in 0..serving.replicas {
+        let number = index.wrapping_add(1);
+        let port = serving.port.wrapping_add(index);
+        let rest_port = serving.rest_port.wrapping_add(index);
+        ending.log(rt, LogEvent::Listening(number, port, rest_port));
+    }
+}
+
+// Starts the replicas, the thread that takes the input, and that of an operator's port.
 fn start<R, I>(
     rt: &R,
     alloc: Global,
     input: I,
     wires: Wiring,
+    admin: Option<TcpListener>,
+    keep_going: bool,
+    lookouts: &Vec<Arc<Lookout>>,
     ending: &Arc<Ending>,
 ) -> Result<(), Refusal>
 where
@@ -148,16 +267,47 @@ where
     I: Read + Drop + Send + 'static,
 {
     let (senders, replicas) = wires.apart();
-    let mut done = start_input(rt, alloc, input, senders, ending);
-    let mut index = 0u16;
+    let mut done = match admin {
+        Some(listener) => {
+            let desk = desk_of(alloc, senders.as_slice(), lookouts, ending);
+            start_admin(rt, alloc, listener, desk)
+        }
+        None => Ok(()),
+    };
+    done = both(
+        done,
+        start_input(rt, alloc, input, senders, keep_going, ending),
+    );
+    let mut lookouts = lookouts.iter();
     for replica in replicas {
-        done = both(done, start_replica(rt, alloc, index, replica, ending));
-        index = index.saturating_add(1);
+        match lookouts.next() {
+            Some(lookout) => done = both(done, start_replica(rt, alloc, replica, lookout)),
+            None => drop(replica),
+        }
     }
     done
 }
 
-// How many changes of the input may wait for a replica. The input isn't read on where they do.
+// What an operator's port answers by.
+fn desk_of(
+    alloc: Global,
+    senders: &[Sender<Order>],
+    lookouts: &Vec<Arc<Lookout>>,
+    ending: &Arc<Ending>,
+) -> Result<Admin, Refusal> {
+    let mut replicas = Vec::new(alloc);
+    for (sender, lookout) in senders.iter().zip(lookouts.iter()) {
+        let lookout = share(lookout)?;
+        let orders = sender.clone()?;
+        replicas.push(Reached { lookout, orders })?;
+    }
+    Ok(Admin {
+        replicas,
+        ending: share(ending)?,
+    })
+}
+
+// How many orders may wait for a replica. The input isn't read on where they do.
 const MOST_WAITING: usize = 1_024;
 
 // What each replica's thread is started with, and what hands it the changes of the input.

@@ -1,11 +1,16 @@
 // The threads that a server starts: one for each replica, and one for the input.
 ghost use Rattle.std.specs.Prelude.{◌≡◌, ◌≤◌};
 
+use crate::admin::Admin;
 use crate::ending::{End, Ending};
 use crate::input::take_input;
+use crate::keeping::keep_input;
+use crate::lookout::Lookout;
 use crate::machine::{Machine, Runtime};
+use crate::order::Order;
 use crate::replica::{Replica, run_replica};
 use crate::served::Served;
+use crate::watched::Watched;
 use crate::weighed::Weighed;
 use crate::wires::started;
 use crate::workers::{share, start_worker};
@@ -13,27 +18,27 @@ use crossbeam_channel::Sender;
 use std::alloc::Global;
 use std::io::Read;
 use std::marker::Brand;
+use std::net::TcpListener;
 use std::sync::Arc;
 use std::thread;
-use xds_core::Event;
-use xds_http::Replies;
+use std::time::Clock;
+use xds_http::{Replies, serve_pages};
 use xds_node::{Host, Line, Node, NodeName, Opened};
 use xds_resource::Refusal;
 
-/// Starts the thread of the replica behind so many others. Its node has a name of its own.
+/// Starts the thread of a replica, whose number its lookout knows. Its node has a name of its own.
 pub(crate) fn start_replica<R>(
     rt: &R,
     alloc: Global,
-    index: u16,
     replica: Replica,
-    ending: &Arc<Ending>,
+    lookout: &Arc<Lookout>,
 ) -> Result<(), Refusal>
 where
     R: Machine,
 {
-    let number = index.saturating_add(1);
+    let number = lookout.replica().max(1);
     match Opened::<Line>::new(alloc) {
-        Ok(opened) => start_named::<R, Brand>(rt, alloc, opened, number, replica, ending),
+        Ok(opened) => start_named::<R, Brand>(rt, alloc, opened, number, replica, lookout),
         Err(_) => {
             drop(replica);
             Err(Refusal::OutOfMemory)
@@ -48,7 +53,7 @@ fn start_named<R, N>(
     opened: Opened<Line>,
     number: u16,
     replica: Replica,
-    ending: &Arc<Ending>,
+    lookout: &Arc<Lookout>,
 ) -> Result<(), Refusal>
 where
     R: Machine,
@@ -57,8 +62,8 @@ where
     requires first { 1 ≤ number }
     requires own { number ≡ N.replica }
 {
-    match shared::<N>(alloc, opened, number) {
-        Ok(node) => start_node(rt, alloc, node, replica, ending),
+    match shared::<R, N>(rt, alloc, opened, number, lookout) {
+        Ok(node) => start_node(rt, alloc, node, replica, lookout),
         Err(refusal) => {
             drop(replica);
             Err(refusal)
@@ -67,17 +72,36 @@ where
 }
 
 // A new node, as threads share it.
-fn shared<N: NodeName>(
+fn shared<R: Runtime, N: NodeName>(
+    rt: &R,
     alloc: Global,
     opened: Opened<Line>,
     number: u16,
-) -> Result<Arc<Weighed<Node<N>>>, Refusal>
+    lookout: &Arc<Lookout>,
+) -> Result<Arc<Weighed<Watched<Node<N>, R>>>, Refusal>
     requires name { opened ≡ N.id }
     requires first { 1 ≤ number }
     requires own { number ≡ N.replica }
 {
     let node = Node::<N>::new(alloc, opened, number)?;
-    Ok(Arc::new(alloc, Weighed::new(alloc, node))?)
+    let watched = watched_node(alloc, node, *rt, lookout)?;
+    Ok(Arc::new(alloc, Weighed::new(alloc, watched))?)
+}
+
+// A node whose events are noted.
+fn watched_node<A: Served + Drop, C: Clock + Drop>(
+    alloc: Global,
+    node: A,
+    clock: C,
+    lookout: &Arc<Lookout>,
+) -> Result<Watched<A, C>, Refusal> {
+    match share(lookout) {
+        Ok(lookout) => Ok(Watched::new(alloc, node, clock, lookout)),
+        Err(refusal) => {
+            drop(node);
+            Err(refusal)
+        }
+    }
 }
 
 // Starts the thread of a replica.
@@ -86,7 +110,7 @@ fn start_node<R, A>(
     alloc: Global,
     node: Arc<A>,
     replica: Replica,
-    ending: &Arc<Ending>,
+    lookout: &Arc<Lookout>,
 ) -> Result<(), Refusal>
 where
     R: Machine,
@@ -96,24 +120,25 @@ where
     A::PostSeat: Send,
     <A as Replies>::Seat: Send,
 {
-    let Ok(ending) = share(ending) else {
+    let Ok(lookout) = share(lookout) else {
         drop(replica);
         return Err(Refusal::OutOfMemory);
     };
     let rt = *rt;
     started(thread::spawn(&rt, move || {
-        if let Err(refusal) = run_replica(&rt, alloc, &node, replica, &ending) {
-            ending.end(&rt, End::Refused(refusal));
+        if let Err(refusal) = run_replica(&rt, alloc, &node, replica, &lookout) {
+            lookout.ending().end(&rt, End::Refused(refusal));
         }
     }))
 }
 
-/// Starts the thread that takes the input, which a server doesn't wait for at its end.
+/// Starts the thread that takes the input, and keeps going at a line that is refused or doesn't, which a server doesn't wait for at its end.
 pub(crate) fn start_input<R, I>(
     rt: &R,
     alloc: Global,
     input: I,
-    senders: Vec<Sender<Event>>,
+    senders: Vec<Sender<Order>>,
+    keep_going: bool,
     ending: &Arc<Ending>,
 ) -> Result<(), Refusal>
 where
@@ -122,6 +147,29 @@ where
 {
     start_worker(rt, share(ending), move |rt, ending| {
         let mut input = input;
-        take_input(rt, alloc, &mut input, senders.as_slice(), &ending);
+        if keep_going {
+            keep_input(rt, alloc, &mut input, senders.as_slice(), &ending);
+        } else {
+            take_input(rt, alloc, &mut input, senders.as_slice(), &ending);
+        }
+    })
+}
+
+/// Starts the thread of an operator's port.
+pub(crate) fn start_admin<R>(
+    rt: &R,
+    alloc: Global,
+    listener: TcpListener,
+    desk: Result<Admin, Refusal>,
+) -> Result<(), Refusal>
+where
+    R: Machine,
+{
+    let desk = match desk {
+        Ok(desk) => Arc::new(alloc, desk).map_err(|_| Refusal::OutOfMemory),
+        Err(refusal) => Err(refusal),
+    };
+    start_worker(rt, desk, move |rt, desk| {
+        let _ = serve_pages(rt, listener, desk);
     })
 }

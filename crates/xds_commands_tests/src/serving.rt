@@ -230,3 +230,72 @@ fn a_bad_line_ends_a_server(rt: HostRuntime) -> Result<(), Fail> {
     );
     begins(ended.as_str(), "1 ")
 }
+
+// Takes a connection, and says nothing for as long as it is kept.
+fn stays_silent<R: Runtime + Net<Listener = TcpListener, Stream = TcpStream>>(
+    rt: &R,
+    port: u16,
+    line: &'static str,
+    wanted: &str,
+) -> Result<(), Fail> {
+    let listener = TcpListener::bind(rt, SocketAddrV4::new(Ipv4Addr::LOCALHOST, port))?;
+    let run = started(rt, line, NO_INPUT)?;
+    let held = listener.accept()?;
+    let told = run.join(rt)?;
+    drop(held);
+    is_told(rt.alloc(), told.as_str(), wanted)
+}
+
+#[test]
+fn who_waits_no_longer_says_so(rt: HostRuntime) -> Result<(), Fail> {
+    stays_silent(
+        &rt,
+        18692,
+        "xds client --addr 127.0.0.1:18692 --variant sotw --type cluster --responses 1 --seconds 1 *",
+        "1 19 Device: gave up after 1 s~",
+    )?;
+    stays_silent(
+        &rt,
+        18693,
+        "xds poll --addr 127.0.0.1:18693 --type cluster --seconds 1",
+        "1 19 Device: gave up after 1 s~",
+    )
+}
+
+// The seconds are many more than it takes.
+#[test]
+fn who_is_answered_in_time_doesnt_give_up(rt: HostRuntime) -> Result<(), Fail> {
+    let server = started(
+        &rt,
+        "xds serve --replicas 1 --port 18694 --rest-port 18695 --streams 2",
+        A_CLUSTER,
+    )?;
+    drop(connected(&rt, 18694)?);
+    drop(once_told(
+        &rt,
+        "xds poll --addr 127.0.0.1:18695 --type cluster --seconds 60 a",
+        "\"1.1.named\"",
+    )?);
+    tells_once_served(
+        &rt,
+        "xds client --addr 127.0.0.1:18694 --variant sotw --type cluster --responses 1 --seconds 60 *",
+        "0 taken 1~{\"@type\":\"CDS\",\"name\":\"a\"}~",
+    )?;
+    ends(&rt, server, "0 ")
+}
+
+#[test]
+fn a_client_at_a_port_of_rest_is_told_so(rt: HostRuntime) -> Result<(), Fail> {
+    let server = started(
+        &rt,
+        "xds serve --replicas 1 --port 18696 --rest-port 18697 --streams 1",
+        NO_INPUT,
+    )?;
+    tells_once_served(
+        &rt,
+        "xds client --addr 127.0.0.1:18697 --variant sotw --type cluster --responses 1 *",
+        "1 16 FrameTooLong: HTTP is spoken there; --addr of a client is a port of streams~",
+    )?;
+    drop(connected(&rt, 18696)?);
+    ends(&rt, server, "0 ")
+}

@@ -2,16 +2,20 @@
 #![tactic(auto)]
 
 pub mod accept;
+pub mod pages;
 pub mod polling;
 pub mod question;
 pub mod replies;
 pub mod response;
 pub mod serve;
 pub mod service;
+pub mod site;
 pub mod told;
 
-pub use polling::{Connects, Posts, poll, poll_by};
+pub use pages::{Page, Pages};
+pub use polling::{Connects, ConnectsWithin, Posts, poll, poll_by};
 pub use question::Question;
 pub use replies::Replies;
-pub use serve::{serve_http, serve_on};
+pub use serve::{MAX_CONNECTIONS, serve_http, serve_on, serve_some};
+pub use site::serve_pages;
 pub use told::Told;

@@ -7,7 +7,7 @@ use crate::question::Question;
 use crate::told::Told;
 use bytes::Bytes;
 use futures::future::join;
-use futures::{FutureExt, TryFutureExt};
+use futures::{Future, FutureExt, TryFutureExt};
 use http_body_util::{BodyExt, Full};
 use hyper::client::conn::http1::handshake;
 use hyper::{Request, header};
@@ -17,7 +17,7 @@ use std::io;
 use std::net::{Net, SocketAddr};
 use std::random::RandomSource;
 use std::sync::Wait;
-use std::time::Clock;
+use std::time::{Clock, Duration, Instant};
 use tokio::io::{AsyncRead, AsyncWrite};
 use tokio::net::TcpStream;
 use tokio::runtime::LocalRuntime;
@@ -74,12 +74,13 @@ fn post(
     post_to(alloc, host.as_str(), path, body).map_err(|_| Refusal::OutOfMemory)
 }
 
-// Sends a request over a connection, and reads the reply whole.
+// Sends a request over a connection, and reads the reply whole, until a time, where one is given.
 fn exchange<R, I>(
     rt: &R,
     runtime: &mut LocalRuntime,
     io: I,
     request: Request<Full<Bytes>>,
+    until: Option<Instant>,
 ) -> Result<Told, Refusal>
 where
     R: Wait + Clock + RandomSource + AllocGlobal,
@@ -100,9 +101,7 @@ where
             })
     });
     drop(sender);
-    let (answered, _ended) = runtime
-        .block_on(rt, join(answer, connection))
-        .map_err(of_system)?;
+    let (answered, _ended) = run_until(rt, runtime, join(answer, connection), until)?;
     let (status, body) = answered.map_err(of_http)?;
     Ok(Told {
         status: status.as_u16(),
@@ -110,21 +109,48 @@ where
     })
 }
 
-// A connection to a server.
+// What a future comes to, until a time, where one is given.
+fn run_until<R, F>(
+    rt: &R,
+    runtime: &mut LocalRuntime,
+    future: F,
+    until: Option<Instant>,
+) -> Result<F::Output, Refusal>
+where
+    R: Wait + Clock + RandomSource + AllocGlobal,
+    F: Future + Drop,
+    requires { F.can_poll future }
+    ensures { IfErr result TellsNothing }
+{
+    let Some(until) = until else {
+        return runtime.block_on(rt, future).map_err(of_system);
+    };
+    let Ok(timed) = runtime.handle().time().timeout_at(until, future) else {
+        return Err(Refusal::OutOfMemory);
+    };
+    match runtime.block_on(rt, timed) {
+        Ok(Ok(come)) => Ok(come),
+        Ok(Err(_elapsed)) => Err(Refusal::Device),
+        Err(e) => Err(of_system(e)),
+    }
+}
+
+// A connection to a server, made until a time, where one is given.
 fn connected<R>(
     rt: &R,
     runtime: &mut LocalRuntime,
     server: SocketAddr,
+    until: Option<Instant>,
 ) -> Result<TcpStream, Refusal>
 where
     R: Wait + Clock + Net + RandomSource + AllocGlobal,
     ensures { IfErr result TellsNothing }
 {
     let connect = TcpStream::connect(rt, server, runtime.handle().reactor());
-    match runtime.block_on(rt, connect) {
+    match run_until(rt, runtime, connect, until) {
         Ok(Ok(socket)) => Ok(socket),
         Ok(Err(e)) => Err(of_system(e)),
-        Err(e) => Err(of_system(e)),
+        Err(refusal) => Err(refusal),
     }
 }
 
@@ -165,10 +191,47 @@ impl Posts for Connects {
     where
         R: Wait + Clock + Net + RandomSource + AllocGlobal,
     {
-        let mut runtime = LocalRuntime::new(rt).map_err(of_system)?;
-        let socket = connected(rt, &mut runtime, self.server)?;
-        exchange(rt, &mut runtime, socket, request)
+        send_until(rt, self.server, request, None)
     }
+}
+
+/// Posts as [`Connects`] does, and gives up once so many seconds have passed, as `Device`.
+#[derive(Clone, Copy, Debug)]
+pub struct ConnectsWithin {
+    pub server: SocketAddr,
+    pub seconds: u16,
+}
+
+impl Posts for ConnectsWithin {
+    ghost use Rattle.std.specs.Prelude.{⊤};
+
+    // Nothing is claimed of what goes over a socket.
+    ghost tells = { λ _ _. ⊤ };
+
+    fn send<R>(&self, rt: &R, request: Request<Full<Bytes>>) -> Result<Told, Refusal>
+    where
+        R: Wait + Clock + Net + RandomSource + AllocGlobal,
+    {
+        let time = Duration::from_secs(u64::from(self.seconds));
+        let now = Instant::now(rt).map_err(of_system)?;
+        send_until(rt, self.server, request, now.checked_add(time))
+    }
+}
+
+// Sends a request over a connection of its own, until a time, where one is given.
+fn send_until<R>(
+    rt: &R,
+    server: SocketAddr,
+    request: Request<Full<Bytes>>,
+    until: Option<Instant>,
+) -> Result<Told, Refusal>
+where
+    R: Wait + Clock + Net + RandomSource + AllocGlobal,
+    ensures { IfErr result TellsNothing }
+{
+    let mut runtime = LocalRuntime::new(rt).map_err(of_system)?;
+    let socket = connected(rt, &mut runtime, server, until)?;
+    exchange(rt, &mut runtime, socket, request, until)
 }
 
 /// One poll by what posts it, to this host: the request that is posted is the question's, and what is told is what that post is

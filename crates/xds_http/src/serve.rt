@@ -1,7 +1,7 @@
 // The server of polls over HTTP.
 ghost use Rattle.std.specs.Prelude.{IfSome};
 
-use crate::accept::{Serves, Tasks};
+use crate::accept::{Asked, Serves, Tasks};
 use crate::replies::Replies;
 use crate::service::Rest;
 use bytes::Bytes;
@@ -53,17 +53,22 @@ where
 {
     type Conn = Connection<TcpStream, Rest<R, A>, Full<Bytes>, TokioTimer<R>>;
 
-    fn serve(&self, socket: TcpStream) -> Option<Self::Conn> {
+    fn serve(&self, socket: TcpStream, asked: Asked) -> Option<Self::Conn> {
         let shared = Arc::try_clone(&self.shared).ok()?;
         let timers = self.timers.clone().ok()?;
-        let rest = Rest::new(self.rt, timers, shared);
+        let rest = Rest::new(self.rt, timers, shared, asked);
         Some(self.builder.serve_connection(socket, rest))
     }
 
     fn pause(&self) -> Option<Sleep> {
-        let pause = Duration::from_millis(PAUSE_MILLISECONDS);
-        self.timers.sleep(&self.rt, pause).ok()
+        pause_of(&self.rt, &self.timers)
     }
+}
+
+/// How long to wait after a connection couldn't be accepted; none where that can't be waited for.
+pub(crate) fn pause_of<R: Clock>(rt: &R, timers: &Handle) -> Option<Sleep> {
+    let pause = Duration::from_millis(PAUSE_MILLISECONDS);
+    timers.sleep(rt, pause).ok()
 }
 
 // What serves HTTP by a node.
@@ -84,9 +89,9 @@ where
     })
 }
 
-// As many permits as there may be connections.
-fn permits(alloc: Global) -> io::Result<Arc<Semaphore>> {
-    let permits = Semaphore::new(alloc, MAX_CONNECTIONS)?;
+/// As many permits as there may be connections: so many, but no more than [`MAX_CONNECTIONS`].
+pub(crate) fn permits(alloc: Global, connections: usize) -> io::Result<Arc<Semaphore>> {
+    let permits = Semaphore::new(alloc, connections.min(MAX_CONNECTIONS))?;
     Ok(Arc::new(alloc, permits)?)
 }
 
@@ -96,19 +101,20 @@ fn tasks_of<R, A>(
     runtime: &LocalRuntime,
     listener: std::net::TcpListener,
     node: Arc<A>,
+    connections: usize,
 ) -> io::Result<Tasks<Http<R, A>>>
 where
     R: Wait + Clock + RandomSource + AllocGlobal + Copy + Drop,
     A: Replies + Drop,
 {
     let http = http_of(rt, runtime.handle().time(), node)?;
-    let permits = permits(rt.alloc())?;
+    let permits = permits(rt.alloc(), connections)?;
     let listener = TcpListener::from_std(listener, runtime.handle().reactor())?;
-    Ok(Tasks::new(listener, http, permits))
+    Ok(Tasks::new(rt.alloc(), listener, http, permits))
 }
 
-// Runs each connection of a listener as a task.
-fn run_tasks<R, S>(rt: &R, runtime: &mut LocalRuntime, tasks: Tasks<S>) -> io::Result<()>
+/// Runs each connection of a listener as a task.
+pub(crate) fn run_tasks<R, S>(rt: &R, runtime: &mut LocalRuntime, tasks: Tasks<S>) -> io::Result<()>
 where
     R: Wait + Clock + RandomSource + AllocGlobal,
     S: Serves,
@@ -129,7 +135,7 @@ where
     R: Wait + Clock + RandomSource + AllocGlobal + Copy + Drop,
     A: Replies + Drop,
 {
-    let tasks = tasks_of(rt, runtime, listener, node)?;
+    let tasks = tasks_of(rt, runtime, listener, node, MAX_CONNECTIONS)?;
     run_tasks(rt, runtime, tasks)
 }
 
@@ -141,4 +147,20 @@ where
 {
     let mut runtime = LocalRuntime::new(rt)?;
     serve_http(rt, &mut runtime, listener, node)
+}
+
+/// The same with at most so many connections at once, and no more than [`MAX_CONNECTIONS`].
+pub fn serve_some<R, A>(
+    rt: &R,
+    listener: std::net::TcpListener,
+    node: Arc<A>,
+    connections: usize,
+) -> io::Result<()>
+where
+    R: Wait + Clock + Net + RandomSource + AllocGlobal + Copy + Drop,
+    A: Replies + Drop,
+{
+    let mut runtime = LocalRuntime::new(rt)?;
+    let tasks = tasks_of(rt, &runtime, listener, node, connections)?;
+    run_tasks(rt, &mut runtime, tasks)
 }

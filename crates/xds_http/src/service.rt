@@ -4,6 +4,7 @@ ghost use Rattle.xds_resource.specs.declared.types.TypeName.{TypeName as Kind};
 ghost use Rattle.xds_polls.specs.Polls.{addressed};
 ghost use Rattle.xds_http.specs.Carried.{IsAnswer};
 
+use crate::accept::Asked;
 use crate::replies::Replies;
 use crate::response::{bare, response_of};
 use bytes::Bytes;
@@ -31,6 +32,7 @@ pub struct Rest<R, A> {
     rt: R,
     timers: Handle,
     shared: Arc<A>,
+    asked: Asked,
 }
 
 // Written out: docs/PROVING.md, "Drops".
@@ -40,15 +42,21 @@ impl<R: Drop, A: Drop> Drop for Rest<R, A> {
             rt: _,
             timers: _,
             shared: _,
+            asked: _,
         } = self;
     }
 }
 
 impl<R, A> Rest<R, A> {
-    pub fn new(rt: R, timers: Handle, shared: Arc<A>) -> Rest<R, A>
+    pub fn new(rt: R, timers: Handle, shared: Arc<A>, asked: Asked) -> Rest<R, A>
         ensures { result.shared ≡ shared }
     {
-        Rest { rt, timers, shared }
+        Rest {
+            rt,
+            timers,
+            shared,
+            asked,
+        }
     }
 }
 
@@ -66,8 +74,8 @@ pub enum Answering<R, A, F> {
     },
 }
 
-// What a body that was to come has come to.
-type Come = Result<Result<Collected, LimitedError<hyper::Error>>, Elapsed>;
+/// What a body that was to come has come to.
+pub(crate) type Come = Result<Result<Collected, LimitedError<hyper::Error>>, Elapsed>;
 
 /// The response to a post at a path, by the bytes of its body and a seat of its own. 503 where no seat can be made, or there is
 /// no memory for the response.
@@ -185,7 +193,8 @@ fn known<I>(request: &Request<Incoming<I>>) -> Option<u16> {
     status
 }
 
-type Body<I> = Timeout<Collect<Limited<Incoming<I>>>>;
+/// A body that is to come.
+pub(crate) type Body<I> = Timeout<Collect<Limited<Incoming<I>>>>;
 
 impl<R, A, I> Service<Request<Incoming<I>>> for Rest<R, A>
 where
@@ -200,6 +209,7 @@ where
     type Future = Answering<R, A, Body<I>>;
 
     fn call(&self, request: Request<Incoming<I>>) -> Self::Future {
+        self.asked.note();
         let alloc = self.rt.alloc();
         if let Some(status) = known(&request) {
             return Answering::Known(alloc, status);

@@ -11,6 +11,8 @@ mod full;
 #[cfg(test)]
 mod memory;
 #[cfg(test)]
+mod places;
+#[cfg(test)]
 mod polls;
 #[cfg(test)]
 mod posts;

@@ -13,7 +13,7 @@ use std::thread;
 use std::thread::Threads;
 use std::time::Clock;
 use xds_core::{Event, Reply};
-use xds_http::{Replies, serve_on};
+use xds_http::{MAX_CONNECTIONS, Replies, serve_some};
 use xds_node::{Line, Node, NodeName, Opened, Seat, Unrecorded};
 use xds_resource::{AnyResource, Groups, Refusal, TypeName};
 
@@ -80,8 +80,14 @@ pub(crate) fn node_with_a<N: NodeName, R: Wait>(
     kept(node, done)
 }
 
-// Serves what replies in a thread of its own, until the process ends.
-fn serve_in_thread<R, A>(rt: &R, listener: TcpListener, replies: A) -> Result<(), Fail>
+// Serves what replies in a thread of its own, until the process ends, over so many connections at
+// most.
+fn serve_in_thread<R, A>(
+    rt: &R,
+    listener: TcpListener,
+    replies: A,
+    connections: usize,
+) -> Result<(), Fail>
 where
     R: Wait
         + Threads
@@ -99,13 +105,15 @@ where
 {
     let shared = Arc::new(rt.alloc(), replies)?;
     let host = *rt;
-    let _ = thread::spawn(rt, move || serve_on(&host, listener, shared))?;
+    let _ = thread::spawn(rt, move || {
+        serve_some(&host, listener, shared, connections)
+    })?;
     Ok(())
 }
 
 // Serves such a node in a thread of its own, at a port that the system picks, until the process
 // ends.
-fn begin<N, R>(rt: &R, opened: Opened<Line>) -> Result<SocketAddr, Fail>
+fn begin<N, R>(rt: &R, opened: Opened<Line>, connections: usize) -> Result<SocketAddr, Fail>
 where
     N: NodeName + Send + Sync + 'static,
     R: Wait
@@ -125,7 +133,7 @@ where
     let listener = TcpListener::bind(rt, SocketAddr::from((Ipv4Addr::LOCALHOST, 0)))?;
     let server = listener.local_addr()?;
     let node = node_with_a::<N, R>(rt, rt.alloc(), opened)?;
-    serve_in_thread(rt, listener, Asked { node })?;
+    serve_in_thread(rt, listener, Asked { node }, connections)?;
     Ok(server)
 }
 
@@ -145,8 +153,26 @@ where
         + Net<Listener = TcpListener, Stream = TcpStream>
         + 'static,
 {
+    started_for(rt, MAX_CONNECTIONS)
+}
+
+/// The same over so many connections at most.
+pub(crate) fn started_for<R>(rt: &R, connections: usize) -> Result<SocketAddr, Fail>
+where
+    R: Wait
+        + Threads
+        + Clock
+        + RandomSource
+        + AllocGlobal
+        + Copy
+        + Drop
+        + Send
+        + Sync
+        + Net<Listener = TcpListener, Stream = TcpStream>
+        + 'static,
+{
     let opened = Opened::<Line>::new(rt.alloc())?;
-    begin::<Brand, R>(rt, opened)
+    begin::<Brand, R>(rt, opened, connections)
 }
 
 /// Connects, writes these bytes, and leaves the connection open.

@@ -132,3 +132,22 @@ joined_behind p q old new later f then joins fs =
 
 pub closed_behind : (p q last closed : List ℕ) → closed ≡ last ++ 125 ∷ [] → p ++ (q ++ closed) ≡ (p ++ (q ++ last)) ++ 125 ∷ []
 closed_behind p q last closed ends = ap (λ (t : List ℕ). p ++ (q ++ t)) ends ∙ sym (behind_two p q last (125 ∷ []))
+
+-- ---- a member whose value stands between two texts, between two other members
+
+keyed : (old comma key value rest : List ℕ) → (old ++ (comma ++ (key ++ 58 ∷ []))) ++ (value ++ rest) ≡ old ++ (comma ++ (key ++ 58 ∷ (value ++ rest)))
+keyed old comma key value rest = simp append_assoc
+
+pub member_around : (key : List ℕ) (d : Data) (before behind : List ℕ × Option Data) (opened named head untold last tail : List ℕ) (later last_later : Bool) → opened ≡ 123 ∷ []
+    → JoinsMember opened false before named later → head ≡ named ++ (comma_if later ++ (compact_text (string key) ++ 58 ∷ [])) → untold ≡ [] → JoinsMember untold true behind last last_later
+    → tail ≡ last ++ 125 ∷ [] → T (ascend (before ∷ (key, Some d) ∷ behind ∷ [])) → head ++ (compact_text d ++ tail) ≡ compact_text (object_set (before ∷ (key, Some d) ∷ behind ∷ []))
+member_around key d before behind opened named head untold last tail later last_later begins name with_key empty told closes rising =
+    let fs : Fields = (key, Some d) ∷ behind ∷ [] in
+    let rest = members_text true (members_in_order (behind ∷ [])) in
+    let tail_is : tail ≡ rest = closes ∙ told [] ∙ ap (λ (t : List ℕ). t ++ rest) empty in
+    ap (λ (h : List ℕ). h ++ (compact_text d ++ tail)) with_key
+    ∙ ap (λ (t : List ℕ). (named ++ (comma_if later ++ (compact_text (string key) ++ 58 ∷ []))) ++ (compact_text d ++ t)) tail_is
+    ∙ keyed named (comma_if later) (compact_text (string key)) (compact_text d) rest
+    ∙ name fs
+    ∙ ap (λ s. s ++ members_text false (members_in_order (before ∷ fs))) begins
+    ∙ ap (λ ms. 123 ∷ members_text false ms) (sym (members_set-ascending (before ∷ fs) rising))

@@ -4,22 +4,10 @@ use Rattle.std.specs.Io.KnownBytes.{Appends}
 use Rattle.xds_frames.specs.Devices.{Device, WrotePart}
 use Rattle.xds_frames.specs.Gathering.{Passes}
 use Rattle.xds_frames.proofs.Gatherings.{of_calls, part_of_more, part_behind, passes_none, passes_more, passes_whole}
-use Rattle.xds_message.specs.Drafts.{body_text}
 use Rattle.xds_message.specs.Joined.{with_commas, behind_commas}
 use Rattle.xds_message.specs.Pieces.{comma_before}
 
--- ---- bodies with commas between them
-
--- the text of what is left, behind a body or as the first
-abbrev pub rest_behind : Bool → List (List ℕ) → List ℕ
-rest_behind false bodies = with_commas (map body_text bodies)
-rest_behind true bodies = behind_commas (map body_text bodies)
-
-rest_step : (later : Bool) (body : List ℕ) (bodies : List (List ℕ)) → rest_behind later (body ∷ bodies) ≡ (comma_before later ++ body_text body) ++ rest_behind true bodies
-rest_step false body bodies = refl
-rest_step true body bodies = refl
-
--- bodies came through, and the rest of the text is left
+-- some texts came through, and the rest is left
 pub record ArePut (d : Device) (held left rest all : List ℕ) : Type 0 where
   pub bytes : List ℕ
   pub passes : Passes d held bytes left
@@ -28,55 +16,69 @@ pub record ArePut (d : Device) (held left rest all : List ℕ) : Type 0 where
 pub put_none : (b : Option (List ℕ)) (f : ℕ) (held all : List ℕ) → ArePut (of_calls b b f f) held held all all
 put_none b f held all = record { bytes = []; passes = passes_none b f held [] held (sym (append-nil held)); all_is = refl }
 
-pub put_more : (b m a : Option (List ℕ)) (f g h : ℕ) (held middle left all : List ℕ) (later : Bool) (body : List ℕ) (bodies these : List (List ℕ)) → these ≡ body ∷ bodies
-    → ArePut (of_calls b m f g) held middle (rest_behind later these) all → Passes (of_calls m a g h) middle ((comma_before later ++ body_text body)) left
-    → ArePut (of_calls b a f h) held left (rest_behind true bodies) all
-put_more b m a f g h held middle left all later body bodies these is p q = record {
-  bytes = p.bytes ++ (comma_before later ++ body_text body);
-  passes = passes_more b m a f g h held p.bytes middle ((comma_before later ++ body_text body)) left p.passes q;
-  all_is =
-      append_assoc p.bytes ((comma_before later ++ body_text body)) (rest_behind true bodies)
-      ∙ ap (λ (l : List ℕ). p.bytes ++ l) (sym (rest_step later body bodies) ∙ ap (rest_behind later) (sym is))
-      ∙ p.all_is;
-}
+-- ---- stored texts with commas between them
 
-pub put_part : (b m a : Option (List ℕ)) (f g h : ℕ) (held middle all : List ℕ) (later : Bool) (body : List ℕ) (bodies these : List (List ℕ)) → these ≡ body ∷ bodies
-    → ArePut (of_calls b m f g) held middle (rest_behind later these) all → WrotePart (of_calls m a g h) (middle ++ (comma_before later ++ body_text body))
-    → WrotePart (of_calls b a f h) (held ++ all)
-put_part b m a f g h held middle all later body bodies these is p part =
-    let whole : (p.bytes ++ (comma_before later ++ body_text body)) ++ rest_behind true bodies ≡ all =
-    append_assoc p.bytes ((comma_before later ++ body_text body)) (rest_behind true bodies)
-    ∙ ap (λ (l : List ℕ). p.bytes ++ l) (sym (rest_step later body bodies) ∙ ap (rest_behind later) (sym is))
-    ∙ p.all_is in
-    let before = part_behind b m a f g h held p.bytes middle ((comma_before later ++ body_text body)) p.passes part in
-    let longer = part_of_more (of_calls b a f h) (held ++ (p.bytes ++ (comma_before later ++ body_text body))) (rest_behind true bodies) before in
-    subst (WrotePart (of_calls b a f h)) (append_assoc held (p.bytes ++ (comma_before later ++ body_text body)) (rest_behind true bodies) ∙ ap (λ (l : List ℕ). held ++ l) whole) longer
+module _ {A : Type 0} (text : A → List ℕ) where
+  -- the text of what is left, behind another or as the first
+  abbrev pub rest_behind : Bool → List A → List ℕ
+  rest_behind false items = with_commas (map text items)
+  rest_behind true items = behind_commas (map text items)
 
-nothing_behind : (later : Bool) → rest_behind later [] ≡ []
-nothing_behind false = refl
-nothing_behind true = refl
+  rest_step : (later : Bool) (item : A) (items : List A) → rest_behind later (item ∷ items) ≡ (comma_before later ++ text item) ++ rest_behind true items
+  rest_step false item items = refl
+  rest_step true item items = refl
 
-pub put_all : (d : Device) (held left all : List ℕ) (later : Bool) (these : List (List ℕ)) → these ≡ [] → ArePut d held left (rest_behind later these) all → Passes d held all left
-put_all d held left all later these none p =
-    subst (λ (bytes : List ℕ). Passes d held bytes left) (sym (append-nil p.bytes) ∙ ap (λ (l : List ℕ). p.bytes ++ l) (sym (ap (rest_behind later) none ∙ nothing_behind later)) ∙ p.all_is) p.passes
+  nothing_behind : (later : Bool) → rest_behind later [] ≡ []
+  nothing_behind false = refl
+  nothing_behind true = refl
 
--- ---- how many bytes
+  pub put_more : (b m a : Option (List ℕ)) (f g h : ℕ) (held middle left all : List ℕ) (later : Bool) (item : A) (items these : List A) → these ≡ item ∷ items
+      → ArePut (of_calls b m f g) held middle (rest_behind later these) all → Passes (of_calls m a g h) middle ((comma_before later ++ text item)) left
+      → ArePut (of_calls b a f h) held left (rest_behind true items) all
+  put_more b m a f g h held middle left all later item items these is p q = record {
+    bytes = p.bytes ++ (comma_before later ++ text item);
+    passes = passes_more b m a f g h held p.bytes middle ((comma_before later ++ text item)) left p.passes q;
+    all_is =
+        append_assoc p.bytes ((comma_before later ++ text item)) (rest_behind true items)
+        ∙ ap (λ (l : List ℕ). p.bytes ++ l) (sym (rest_step later item items) ∙ ap (rest_behind later) (sym is))
+        ∙ p.all_is;
+  }
 
--- a body is counted, and the comma before it
-pub count_more : (later : Bool) (body : List ℕ) (bodies these : List (List ℕ)) (all more whole : ℕ) → these ≡ body ∷ bodies → all + length (rest_behind later these) ≡ whole
-    → more ≡ all + length (comma_before later ++ body_text body) → more + length (rest_behind true bodies) ≡ whole
-count_more later body bodies these all more whole is counted added =
-    omega (arith, counted, added, ap (λ (l : List ℕ). length l) (ap (rest_behind later) is ∙ rest_step later body bodies), length-append (comma_before later ++ body_text body) (rest_behind true bodies))
+  pub put_part : (b m a : Option (List ℕ)) (f g h : ℕ) (held middle all : List ℕ) (later : Bool) (item : A) (items these : List A) → these ≡ item ∷ items
+      → ArePut (of_calls b m f g) held middle (rest_behind later these) all → WrotePart (of_calls m a g h) (middle ++ (comma_before later ++ text item))
+      → WrotePart (of_calls b a f h) (held ++ all)
+  put_part b m a f g h held middle all later item items these is p part =
+      let whole : (p.bytes ++ (comma_before later ++ text item)) ++ rest_behind true items ≡ all =
+      append_assoc p.bytes ((comma_before later ++ text item)) (rest_behind true items)
+      ∙ ap (λ (l : List ℕ). p.bytes ++ l) (sym (rest_step later item items) ∙ ap (rest_behind later) (sym is))
+      ∙ p.all_is in
+      let before = part_behind b m a f g h held p.bytes middle ((comma_before later ++ text item)) p.passes part in
+      let longer = part_of_more (of_calls b a f h) (held ++ (p.bytes ++ (comma_before later ++ text item))) (rest_behind true items) before in
+      subst (WrotePart (of_calls b a f h)) (append_assoc held (p.bytes ++ (comma_before later ++ text item)) (rest_behind true items) ∙ ap (λ (l : List ℕ). held ++ l) whole) longer
 
--- with them it is too much
-pub count_beyond : (later : Bool) (body : List ℕ) (bodies these : List (List ℕ)) (all whole limit : ℕ) → these ≡ body ∷ bodies → all + length (rest_behind later these) ≡ whole
-    → limit < all + length (comma_before later ++ body_text body) → limit < whole
-count_beyond later body bodies these all whole limit is counted beyond =
-    omega (arith, counted, beyond, ap (λ (l : List ℕ). length l) (ap (rest_behind later) is ∙ rest_step later body bodies), length-append (comma_before later ++ body_text body) (rest_behind true bodies))
+  pub put_all : (d : Device) (held left all : List ℕ) (later : Bool) (these : List A) → these ≡ [] → ArePut d held left (rest_behind later these) all → Passes d held all left
+  put_all d held left all later these none p =
+      subst (λ (bytes : List ℕ). Passes d held bytes left) (sym (append-nil p.bytes) ∙ ap (λ (l : List ℕ). p.bytes ++ l) (sym (ap (rest_behind later) none ∙ nothing_behind later)) ∙ p.all_is) p.passes
 
--- nothing is left to be counted
-pub count_all : (later : Bool) (these : List (List ℕ)) (all whole : ℕ) → these ≡ [] → all + length (rest_behind later these) ≡ whole → all ≡ whole
-count_all later these all whole none counted = omega (arith, counted, ap (λ (l : List ℕ). length l) (ap (rest_behind later) none ∙ nothing_behind later))
+  -- a text is counted, and the comma before it
+  pub count_more : (later : Bool) (item : A) (items these : List A) (all more whole : ℕ) → these ≡ item ∷ items → all + length (rest_behind later these) ≡ whole
+      → more ≡ all + length (comma_before later ++ text item) → more + length (rest_behind true items) ≡ whole
+  count_more later item items these all more whole is counted added =
+      omega (arith, counted, added, ap (λ (l : List ℕ). length l) (ap (rest_behind later) is ∙ rest_step later item items), length-append (comma_before later ++ text item) (rest_behind true items))
+
+  -- with them it is too much
+  pub count_beyond : (later : Bool) (item : A) (items these : List A) (all whole limit : ℕ) → these ≡ item ∷ items → all + length (rest_behind later these) ≡ whole
+      → limit < all + length (comma_before later ++ text item) → limit < whole
+  count_beyond later item items these all whole limit is counted beyond =
+      omega (arith, counted, beyond, ap (λ (l : List ℕ). length l) (ap (rest_behind later) is ∙ rest_step later item items), length-append (comma_before later ++ text item) (rest_behind true items))
+
+  -- nothing is left to be counted
+  pub count_all : (later : Bool) (these : List A) (all whole : ℕ) → these ≡ [] → all + length (rest_behind later these) ≡ whole → all ≡ whole
+  count_all later these all whole none counted = omega (arith, counted, ap (λ (l : List ℕ). length l) (ap (rest_behind later) none ∙ nothing_behind later))
+
+-- a text in three pieces, behind a comma or none
+pub pieces_of : (comma head body tail text : List ℕ) → head ++ (body ++ tail) ≡ text → (comma ++ head) ++ (body ++ tail) ≡ comma ++ text
+pieces_of comma head body tail text is = append_assoc comma head (body ++ tail) ∙ ap (λ (l : List ℕ). comma ++ l) is
 
 -- ---- a text's head, what is between, and its tail
 

@@ -7,6 +7,7 @@ ghost use Rattle.xds_resource.specs.declared.refusal.Refusal.TheVariants.{OutOfM
 ghost use Rattle.xds_message.specs.Drafts.{IsBodyText, body_text};
 
 use crate::joining::Join;
+use crate::pieces::{Parts, Stored};
 use serde_json::Value;
 use std::alloc::Global;
 use std::marker::Model;
@@ -46,6 +47,18 @@ impl Join for Body {
 
     fn join(&self, _alloc: Global, out: &mut String) -> Result<(), Refusal> {
         Ok(out.push_str(self.text.as_str())?)
+    }
+}
+
+impl Stored for Body {
+    ghost text = { body_text };
+
+    fn parts(&self) -> Parts<'_> {
+        Parts {
+            head: "",
+            body: self.text(),
+            tail: "",
+        }
     }
 }
 

@@ -1,26 +1,31 @@
 // Responses of the incremental variant before they are written.
-ghost use Rattle.std.specs.Prelude.{◌≡◌, length, map, string_bytes, IfOk, IfErr, OnOk, OnErr, All};
+ghost use Rattle.std.specs.Prelude.{◌≡◌, ◌++◌, List, ℕ, length, map, string_bytes, IfOk, IfErr, OnOk, OnErr, All};
 ghost use Rattle.std.specs.Arc.{arc_slice_items};
 ghost use Rattle.serde_json.specs.Written.{compact_text};
 ghost use Rattle.xds_resource.specs.declared.refusal.Refusal.TheVariants.{OutOfMemory};
 ghost use Rattle.xds_message.specs.DeltaWritten.{resource_object, delta_response_object};
-ghost use Rattle.xds_message.specs.Drafts.{drafted_resource, delta_message_of, with_resource, IsBodyText, IsSoundDelta};
+ghost use Rattle.xds_message.specs.Pieces.{resource_text};
+ghost use Rattle.xds_message.specs.Drafts.{body_text, drafted_resource, delta_message_of, with_resource, IsBodyText, IsSoundDelta};
 ghost use Rattle.xds_message.specs.Responses.{resource_of, delta_response_of};
 
 use crate::body::Body;
 use crate::delta_response::{DeltaDiscoveryResponse, DeltaResource};
-use crate::joining::{Join, join_list, join_member, join_text};
+use crate::joining::{Join, join_key, join_list, join_list_ends, join_text};
+use crate::pieces::{Parts, Pieces, Stored};
 use std::alloc::Global;
 use std::marker::Model;
 use std::sync::{ArcSlice, ArcStr};
 use xds_json::copy_texts;
 use xds_resource::{Refusal, ResourceType, TypeName, Write};
 
-/// A resource of a response, with its name and its version. Its text is shared with the write that it stands in.
+/// A resource of a response, with its name and its version. Its text is shared with the write that it stands in; what stands round it
+/// in the response is made once.
 pub struct DraftResource {
     name: ArcStr<Global>,
     version: String,
+    head: String,
     body: Body,
+    tail: String,
 }
 
 // Written out: docs/PROVING.md, "Drops".
@@ -29,7 +34,9 @@ impl Drop for DraftResource {
         let DraftResource {
             name: _,
             version: _,
+            head: _,
             body: _,
+            tail: _,
         } = self;
     }
 }
@@ -37,27 +44,46 @@ impl Drop for DraftResource {
 impl Model for DraftResource {
     ghost use Rattle.std.specs.Prelude.{string_bytes};
     ghost use Rattle.std.specs.Arc.{arc_str_bytes};
-    ghost use Rattle.xds_message.specs.Drafts.{DraftedResource};
+    ghost use Rattle.std.specs.Prelude.{◌≡◌, ◌++◌};
+    ghost use Rattle.xds_message.specs.Drafts.{DraftedResource, body_text};
+    ghost use Rattle.xds_message.specs.Pieces.{resource_text};
 
     ghost Value = { DraftedResource };
 
     ghost view = { λ r. record { name = arc_str_bytes r.name; version = string_bytes r.version; body = r.body } };
+
+    ghost invariant = { λ r. string_bytes r.head ++ (body_text r.body ++ string_bytes r.tail)
+        ≡ resource_text (record { name = arc_str_bytes r.name; version = string_bytes r.version; body = r.body }) };
+}
+
+impl Stored for DraftResource {
+    ghost text = { resource_text };
+
+    fn parts(&self) -> Parts<'_> {
+        Parts {
+            head: self.head.as_str(),
+            body: self.body.text(),
+            tail: self.tail.as_str(),
+        }
+    }
 }
 
 impl Join for DraftResource {
     ghost json = { λ r. resource_object (drafted_resource r) };
 
     fn size(&self) -> usize {
-        let texts = self.name.len().saturating_add(self.version.as_str().len());
-        self.body.size().saturating_add(texts).saturating_add(40)
+        let ends = self
+            .head
+            .as_str()
+            .len()
+            .saturating_add(self.tail.as_str().len());
+        self.body.size().saturating_add(ends)
     }
 
-    fn join(&self, alloc: Global, out: &mut String) -> Result<(), Refusal> {
-        out.push_str("{")?;
-        let later = join_text(alloc, out, false, "name", self.name.as_str())?;
-        let later = join_member(alloc, out, later, "resource", &self.body)?;
-        join_text(alloc, out, later, "version", self.version.as_str())?;
-        Ok(out.push_str("}")?)
+    fn join(&self, _alloc: Global, out: &mut String) -> Result<(), Refusal> {
+        out.push_str(self.head.as_str())?;
+        out.push_str(self.body.text())?;
+        Ok(out.push_str(self.tail.as_str())?)
     }
 }
 
@@ -221,6 +247,25 @@ impl DeltaDraft {
         Ok(out)
     }
 
+    /// The same text in pieces, in which the resources' texts are where they are stored.
+    pub fn pieces(&self, alloc: Global) -> Result<Pieces<'_>, Refusal>
+        ensures text { IfOk result (λ p. p ≡ compact_text (delta_response_object (delta_message_of self.now))) }
+        ensures refused { IfErr result (λ e. e ≡ OutOfMemory) }
+    {
+        let resources = self.resources.as_slice();
+        let mut head = String::from_str(alloc, "{")?;
+        let mut tail = String::new(alloc);
+        let later = join_text(alloc, &mut head, false, "nonce", self.nonce.as_str())?;
+        let removed = self.removed.as_slice();
+        let later = join_list(alloc, &mut head, later, "removedResources", removed)?;
+        let later = join_list_ends(alloc, &mut head, &mut tail, later, "resources", resources)?;
+        let version = self.version.as_str();
+        let later = join_text(alloc, &mut tail, later, "systemVersionInfo", version)?;
+        join_text(alloc, &mut tail, later, "typeUrl", self.kind.url())?;
+        tail.push_str("}")?;
+        Ok(Pieces::around_resources(head, resources, tail))
+    }
+
     /// An equal draft. No body is copied.
     pub fn try_copy(&self, alloc: Global) -> Result<DeltaDraft, Refusal>
         ensures ok { IfOk result (λ d. d ≡ self.now) }
@@ -248,13 +293,32 @@ pub fn push_resource<T: ResourceType>(
     ensures refused { IfErr result (λ e. e ≡ OutOfMemory) }
 {
     if let Some(text) = write.shared_body()? {
+        let version = write.stamp().version_text(alloc)?;
+        let (head, tail) = ends_of(alloc, write.name(), version.as_str())?;
         resources.push(DraftResource {
             name: write.shared_name()?,
-            version: write.stamp().version_text(alloc)?,
+            version,
+            head,
             body: Body::new(text),
+            tail,
         })?;
     }
     Ok(())
+}
+
+// What stands round the body of a resource in a response.
+fn ends_of(alloc: Global, name: &str, version: &str) -> Result<(String, String), Refusal>
+    ensures ok { IfOk result (λ e. (body : List ℕ) → string_bytes e.0 ++ (body_text body ++ string_bytes e.1)
+        ≡ resource_text (record { name = name.now; version = version.now; body = body })) }
+    ensures refused { IfErr result (λ e. e ≡ OutOfMemory) }
+{
+    let mut head = String::from_str(alloc, "{")?;
+    let later = join_text(alloc, &mut head, false, "name", name)?;
+    join_key(alloc, &mut head, later, "resource")?;
+    let mut tail = String::new(alloc);
+    join_text(alloc, &mut tail, true, "version", version)?;
+    tail.push_str("}")?;
+    Ok((head, tail))
 }
 
 fn resources_of(alloc: Global, resources: &[DraftResource]) -> Result<Vec<DeltaResource>, Refusal>

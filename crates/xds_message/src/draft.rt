@@ -76,7 +76,7 @@ impl Draft {
     {
         match self {
             Draft::Sotw(draft) => draft.pieces(alloc),
-            Draft::Delta(draft) => Ok(Pieces::whole(alloc, draft.write(alloc)?)),
+            Draft::Delta(draft) => draft.pieces(alloc),
         }
     }
 

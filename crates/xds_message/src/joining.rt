@@ -56,31 +56,19 @@ fn join_comma(out: &mut String, later: bool) -> Result<(), Refusal>
     Ok(())
 }
 
-// Appends what stands before a member's value: a comma where a member stands before, the key and a colon.
-fn join_key(alloc: Global, out: &mut String, later: bool, key: &str) -> Result<(), Refusal>
+/// Appends what stands before a member's value: a comma where a member stands before, the key and a colon.
+pub(crate) fn join_key(
+    alloc: Global,
+    out: &mut String,
+    later: bool,
+    key: &str,
+) -> Result<(), Refusal>
     ensures ok { OnOk result (string_bytes out.new ≡ string_bytes out.old ++ (comma_if later ++ (compact_text (string key.now) ++ 58 ∷ []))) }
     ensures refused { IfErr result (λ e. e ≡ OutOfMemory) }
 {
     join_comma(out, later)?;
     join_quoted(alloc, out, key)?;
     Ok(out.push_str(":")?)
-}
-
-/// Appends a member, and answers that one stands there.
-pub(crate) fn join_member<I: Join>(
-    alloc: Global,
-    out: &mut String,
-    later: bool,
-    key: &str,
-    value: &I,
-) -> Result<bool, Refusal>
-    ensures ok { IfOk result
-        (λ l. JoinsMember (string_bytes out.old) later (key.now, Some (I.json value.now)) (string_bytes out.new) l) }
-    ensures refused { IfErr result (λ e. e ≡ OutOfMemory) }
-{
-    join_key(alloc, out, later, key)?;
-    value.join(alloc, out)?;
-    Ok(true)
 }
 
 /// Appends a member that is a text, unless the text is empty, and answers whether a member stands there.

@@ -5,20 +5,43 @@ ghost use Rattle.xds_frames.specs.Devices.{Wrote, WrotePart, seen};
 ghost use Rattle.xds_frames.specs.Gathering.{Passes};
 ghost use Rattle.xds_message.specs.Drafts.{body_text};
 ghost use Rattle.xds_message.specs.Joined.{with_commas};
-ghost use Rattle.xds_message.specs.Pieces.{comma_before};
+ghost use Rattle.xds_message.specs.Pieces.{comma_before, resource_text};
 
 use crate::body::Body;
+use crate::delta_draft::DraftResource;
 use std::alloc::Global;
 use std::io::Write;
 use std::marker::Model;
 use xds_frames::{Counted, gather, write_bytes};
 use xds_resource::Refusal;
 
-/// A text in three pieces: what stands before the texts of resources, these with commas between them, and what stands behind.
-/// The texts of resources are where they are stored, so the whole is nowhere in memory. Contracts see the whole.
+/// A stored text in pieces that follow one another.
+#[derive(Clone, Copy)]
+pub(crate) struct Parts<'a> {
+    pub(crate) head: &'a str,
+    pub(crate) body: &'a str,
+    pub(crate) tail: &'a str,
+}
+
+/// What has a compact text that is stored, in pieces.
+pub(crate) trait Stored {
+    ghost use Rattle.std.specs.Prelude.{◌≡◌, ◌++◌, List, ℕ};
+
+    // The text.
+    ghost text: { Self → List ℕ };
+
+    /// The pieces of the text.
+    fn parts(&self) -> Parts<'_>
+        ensures { result.head.now ++ (result.body.now ++ result.tail.now) ≡ text self.now };
+}
+
+/// A text in pieces: what stands before the texts of resources, these with commas between them, and what stands behind. The texts of
+/// resources are where they are stored, so the whole is nowhere in memory. Contracts see the whole.
 #[derive(Drop)]
 pub struct Pieces<'a> {
     head: String,
+    // One of these two has none.
+    resources: &'a [DraftResource],
     bodies: &'a [Body],
     tail: String,
 }
@@ -27,27 +50,38 @@ impl<'a> Model for Pieces<'a> {
     ghost use Rattle.std.specs.Prelude.{ℕ, List, ◌++◌, map, string_bytes};
     ghost use Rattle.xds_message.specs.Drafts.{body_text};
     ghost use Rattle.xds_message.specs.Joined.{with_commas};
+    ghost use Rattle.xds_message.specs.Pieces.{resource_text};
 
     ghost Value = { List ℕ };
 
-    ghost view = { λ p. string_bytes p.head ++ (with_commas (map body_text p.bodies.now) ++ string_bytes p.tail) };
+    ghost view = { λ p. string_bytes p.head ++ ((with_commas (map resource_text p.resources.now) ++ with_commas (map body_text p.bodies.now)) ++ string_bytes p.tail) };
 }
 
 impl<'a> Pieces<'a> {
     pub(crate) fn around(head: String, bodies: &'a [Body], tail: String) -> Pieces<'a>
         ensures { result ≡ string_bytes head ++ (with_commas (map body_text bodies.now) ++ string_bytes tail) }
     {
-        Pieces { head, bodies, tail }
+        Pieces {
+            head,
+            resources: &[],
+            bodies,
+            tail,
+        }
     }
 
-    /// A text in one piece.
-    pub(crate) fn whole(alloc: Global, text: String) -> Pieces<'a>
-        ensures { result ≡ string_bytes text }
+    /// The same round resources with their names and versions.
+    pub(crate) fn around_resources(
+        head: String,
+        resources: &'a [DraftResource],
+        tail: String,
+    ) -> Pieces<'a>
+        ensures { result ≡ string_bytes head ++ (with_commas (map resource_text resources.now) ++ string_bytes tail) }
     {
         Pieces {
-            head: text,
+            head,
+            resources,
             bodies: &[],
-            tail: String::new(alloc),
+            tail,
         }
     }
 
@@ -66,7 +100,8 @@ impl<'a> Pieces<'a> {
         ensures beyond { IfNone result (limit < length self.now) }
     {
         let head = counted(0, self.head.as_bytes(), limit)?;
-        let bodies = bodies_counted(head, self.bodies, limit)?;
+        let resources = items_counted(head, self.resources, limit)?;
+        let bodies = items_counted(resources, self.bodies, limit)?;
         counted(bodies, self.tail.as_bytes(), limit)
     }
 
@@ -82,7 +117,7 @@ impl<'a> Pieces<'a> {
         if let Err(refusal) = gather(writer, &mut block, self.head.as_bytes()) {
             return Err(refusal);
         }
-        if let Err(refusal) = put_bodies(writer, &mut block, self.bodies) {
+        if let Err(refusal) = put_middle(writer, &mut block, self.resources, self.bodies) {
             return Err(refusal);
         }
         if let Err(refusal) = gather(writer, &mut block, self.tail.as_bytes()) {
@@ -95,19 +130,40 @@ impl<'a> Pieces<'a> {
     }
 }
 
-// Puts bodies with commas between them.
-fn put_bodies<W: Write>(
+// Puts resources and bodies, each with commas between them.
+fn put_middle<W: Write>(
     writer: &mut Counted<W>,
     block: &mut Vec<u8>,
+    resources: &[DraftResource],
     bodies: &[Body],
 ) -> Result<(), Refusal>
-    ensures put { OnOk result (Passes (seen W.contents writer.old writer.new) block.old.items (with_commas (map body_text bodies.now)) block.new.items) }
+    ensures put { OnOk result (Passes (seen W.contents writer.old writer.new) block.old.items
+        (with_commas (map resource_text resources.now) ++ with_commas (map body_text bodies.now)) block.new.items) }
+    ensures failed { IfErr result (λ e. (e ≡ refusals.Device) × WrotePart (seen W.contents writer.old writer.new)
+        (block.old.items ++ (with_commas (map resource_text resources.now) ++ with_commas (map body_text bodies.now)))) }
+{
+    if let Err(refusal) = put_items(writer, block, resources) {
+        return Err(refusal);
+    }
+    if let Err(refusal) = put_items(writer, block, bodies) {
+        return Err(refusal);
+    }
+    Ok(())
+}
+
+// Puts stored texts with commas between them.
+fn put_items<S: Stored, W: Write>(
+    writer: &mut Counted<W>,
+    block: &mut Vec<u8>,
+    items: &[S],
+) -> Result<(), Refusal>
+    ensures put { OnOk result (Passes (seen W.contents writer.old writer.new) block.old.items (with_commas (map S.text items.now)) block.new.items) }
     ensures failed { IfErr result (λ e. (e ≡ refusals.Device)
-        × WrotePart (seen W.contents writer.old writer.new) (block.old.items ++ with_commas (map body_text bodies.now))) }
+        × WrotePart (seen W.contents writer.old writer.new) (block.old.items ++ with_commas (map S.text items.now))) }
 {
     let mut later = false;
-    for body in bodies {
-        if let Err(refusal) = put_body(writer, block, later, body) {
+    for item in items {
+        if let Err(refusal) = put_item(writer, block, later, item) {
             return Err(refusal);
         }
         later = true;
@@ -115,27 +171,48 @@ fn put_bodies<W: Write>(
     Ok(())
 }
 
-// Puts a body, and a comma before it where one stands before.
-fn put_body<W: Write>(
+// Puts a stored text, and a comma before it where one stands before.
+fn put_item<S: Stored, W: Write>(
     writer: &mut Counted<W>,
     block: &mut Vec<u8>,
     later: bool,
-    body: &Body,
+    item: &S,
 ) -> Result<(), Refusal>
-    ensures put { OnOk result (Passes (seen W.contents writer.old writer.new) block.old.items (comma_before later ++ body_text body.now) block.new.items) }
+    ensures put { OnOk result (Passes (seen W.contents writer.old writer.new) block.old.items (comma_before later ++ S.text item.now) block.new.items) }
     ensures failed { IfErr result (λ e. (e ≡ refusals.Device)
-        × WrotePart (seen W.contents writer.old writer.new) (block.old.items ++ (comma_before later ++ body_text body.now))) }
+        × WrotePart (seen W.contents writer.old writer.new) (block.old.items ++ (comma_before later ++ S.text item.now))) }
 {
-    if let Err(refusal) = gather(writer, block, comma(later)) {
+    let parts = item.parts();
+    if let Err(refusal) = put_two(writer, block, comma(later), parts.head.as_bytes()) {
         return Err(refusal);
     }
-    if let Err(refusal) = gather(writer, block, body.text().as_bytes()) {
+    if let Err(refusal) = put_two(writer, block, parts.body.as_bytes(), parts.tail.as_bytes()) {
         return Err(refusal);
     }
     Ok(())
 }
 
-// The bytes that stand before a body: a comma, where a body stands before.
+// Puts bytes, and more behind them.
+fn put_two<W: Write>(
+    writer: &mut Counted<W>,
+    block: &mut Vec<u8>,
+    first: &[u8],
+    second: &[u8],
+) -> Result<(), Refusal>
+    ensures put { OnOk result (Passes (seen W.contents writer.old writer.new) block.old.items (first.now ++ second.now) block.new.items) }
+    ensures failed { IfErr result (λ e. (e ≡ refusals.Device)
+        × WrotePart (seen W.contents writer.old writer.new) (block.old.items ++ (first.now ++ second.now))) }
+{
+    if let Err(refusal) = gather(writer, block, first) {
+        return Err(refusal);
+    }
+    if let Err(refusal) = gather(writer, block, second) {
+        return Err(refusal);
+    }
+    Ok(())
+}
+
+// The bytes that stand before a text: a comma, where one stands before.
 fn comma(later: bool) -> &'static [u8]
     ensures { result.now ≡ comma_before later }
 {
@@ -155,28 +232,40 @@ fn counted(count: usize, bytes: &[u8], limit: usize) -> Option<usize>
     Some(count + bytes.len())
 }
 
-// A count of bytes with those of a body, and of a comma before it where one stands before.
-fn body_counted(count: usize, later: bool, body: &Body, limit: usize) -> Option<usize>
+// The same with two texts.
+fn two_counted(count: usize, first: &[u8], second: &[u8], limit: usize) -> Option<usize>
     requires { count ≤ limit }
-    ensures within { IfSome result (λ n. n ≡ count + length (comma_before later ++ body_text body.now)) }
+    ensures within { IfSome result (λ n. n ≡ count + length (first.now ++ second.now)) }
     ensures bounded { IfSome result (λ n. n ≤ limit) }
-    ensures beyond { IfNone result (limit < count + length (comma_before later ++ body_text body.now)) }
+    ensures beyond { IfNone result (limit < count + length (first.now ++ second.now)) }
 {
-    let before = counted(count, comma(later), limit)?;
-    counted(before, body.text().as_bytes(), limit)
+    let before = counted(count, first, limit)?;
+    counted(before, second, limit)
 }
 
-// A count of bytes with those of bodies with commas between them.
-fn bodies_counted(count: usize, bodies: &[Body], limit: usize) -> Option<usize>
+// A count of bytes with those of a stored text, and of a comma before it where one stands before.
+fn item_counted<S: Stored>(count: usize, later: bool, item: &S, limit: usize) -> Option<usize>
     requires { count ≤ limit }
-    ensures within { IfSome result (λ n. n ≡ count + length (with_commas (map body_text bodies.now))) }
+    ensures within { IfSome result (λ n. n ≡ count + length (comma_before later ++ S.text item.now)) }
     ensures bounded { IfSome result (λ n. n ≤ limit) }
-    ensures beyond { IfNone result (limit < count + length (with_commas (map body_text bodies.now))) }
+    ensures beyond { IfNone result (limit < count + length (comma_before later ++ S.text item.now)) }
+{
+    let parts = item.parts();
+    let before = two_counted(count, comma(later), parts.head.as_bytes(), limit)?;
+    two_counted(before, parts.body.as_bytes(), parts.tail.as_bytes(), limit)
+}
+
+// A count of bytes with those of stored texts with commas between them.
+fn items_counted<S: Stored>(count: usize, items: &[S], limit: usize) -> Option<usize>
+    requires { count ≤ limit }
+    ensures within { IfSome result (λ n. n ≡ count + length (with_commas (map S.text items.now))) }
+    ensures bounded { IfSome result (λ n. n ≤ limit) }
+    ensures beyond { IfNone result (limit < count + length (with_commas (map S.text items.now))) }
 {
     let mut all = count;
     let mut later = false;
-    for body in bodies {
-        all = body_counted(all, later, body, limit)?;
+    for item in items {
+        all = item_counted(all, later, item, limit)?;
         later = true;
     }
     Some(all)

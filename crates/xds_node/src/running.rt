@@ -23,7 +23,7 @@ use xds_resource::Refusal;
 /// where a call of the reader or the writer failed, and `OutOfMemory`. What came before the fault was answered.
 ///
 /// The writer isn't flushed. The memory in use is that of one frame and one piece of the input, and for a response that of a
-/// block of 32 KiB; one of the incremental variant is put together as a text first, which is let go once it is written.
+/// block of 32 KiB.
 pub fn run_stream<R: Read, W: Write>(
     alloc: Global,
     core: &mut Core,

@@ -10,6 +10,7 @@ pub mod CommandLine
 pub mod Values
 pub mod Asking
 pub mod OneTask
+pub mod Ports
 pub mod LongWords
 pub mod OneOption
 pub mod OnlyRight

@@ -13,7 +13,7 @@ use Rattle.xds_program.specs.Words.{Asks, AsksBy, AsksClient, AsksIn, AsksPoll, 
 use Rattle.xds_program.proofs.Values.{one_number, only_answer, only_check, only_client, only_play, only_poll, only_serve, same_some}
 
 -- what fits one thing at most is found once
-one_found : {X : Type 0} (Fits : X → Type 0) → ((x y : X) → Fits x → Fits y → x ≡ y) → (o p : Option X) → Finds Fits o → Finds Fits p → o ≡ p
+pub one_found : {X : Type 0} (Fits : X → Type 0) → ((x y : X) → Fits x → Fits y → x ≡ y) → (o p : Option X) → Finds Fits o → Finds Fits p → o ≡ p
 one_found Fits one (Some x) (Some y) h k = ap Some (one x y h k)
 one_found Fits one (Some x) None h k = absurd (k x h)
 one_found Fits one None (Some y) h k = absurd (h y k)
@@ -33,7 +33,12 @@ one_serve rows s t h k =
     let port = one_number rows (codes "port") s.port t.port h.port k.port in
     let rest_port = one_number rows (codes "rest-port") s.rest_port t.rest_port h.rest_port k.rest_port in
     let streams = one_found (IsNumber rows (codes "streams")) (one_number rows (codes "streams")) s.streams t.streams h.streams k.streams in
-    λ i. record { replicas = replicas i; port = port i; rest_port = rest_port i; streams = streams i }
+    let keep_going = sym h.keep_going ∙ k.keep_going in
+    let log = sym h.log ∙ k.log in
+    let max_streams = one_found (IsNumber rows (codes "max-streams")) (one_number rows (codes "max-streams")) s.max_streams t.max_streams h.max_streams k.max_streams in
+    let idle_seconds = one_found (IsNumber rows (codes "idle-seconds")) (one_number rows (codes "idle-seconds")) s.idle_seconds t.idle_seconds h.idle_seconds k.idle_seconds in
+    let admin_port = one_found (IsNumber rows (codes "admin-port")) (one_number rows (codes "admin-port")) s.admin_port t.admin_port h.admin_port k.admin_port in
+    λ i. record { replicas = replicas i; port = port i; rest_port = rest_port i; streams = streams i; keep_going = keep_going i; log = log i; max_streams = max_streams i; idle_seconds = idle_seconds i; admin_port = admin_port i }
 
 one_client : (rows : List Row) (c d : Watch) → AsksClient rows c → AsksClient rows d → c ≡ d
 one_client rows c d h k =
@@ -41,18 +46,20 @@ one_client rows c d h k =
     let variant = same_value _ c.variant d.variant h.variant k.variant in
     let kind = same_value _ c.kind d.kind h.kind k.kind in
     let responses = one_number rows (codes "responses") c.responses d.responses h.responses k.responses in
+    let seconds = one_found (IsNumber rows (codes "seconds")) (one_number rows (codes "seconds")) c.seconds d.seconds h.seconds k.seconds in
     let cluster = sym h.cluster ∙ k.cluster in
     let names = sym h.names ∙ k.names in
-    λ i. record { addr = addr i; variant = variant i; kind = kind i; responses = responses i; cluster = cluster i; names = names i }
+    λ i. record { addr = addr i; variant = variant i; kind = kind i; responses = responses i; seconds = seconds i; cluster = cluster i; names = names i }
 
 one_poll : (rows : List Row) (p q : Look) → AsksPoll rows p → AsksPoll rows q → p ≡ q
 one_poll rows p q h k =
     let addr = one_address rows p.addr q.addr h.addr k.addr in
     let kind = same_value _ p.kind q.kind h.kind k.kind in
+    let seconds = one_found (IsNumber rows (codes "seconds")) (one_number rows (codes "seconds")) p.seconds q.seconds h.seconds k.seconds in
     let version = sym h.version ∙ k.version in
     let cluster = sym h.cluster ∙ k.cluster in
     let names = sym h.names ∙ k.names in
-    λ i. record { addr = addr i; kind = kind i; version = version i; cluster = cluster i; names = names i }
+    λ i. record { addr = addr i; kind = kind i; seconds = seconds i; version = version i; cluster = cluster i; names = names i }
 
 -- the command is that of the task
 named : (command name : Text) (rows : List Row) (task : Task) → command ≡ name → AsksBy command rows task → AsksBy name rows task

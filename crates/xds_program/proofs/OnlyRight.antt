@@ -8,7 +8,7 @@ use Rattle.std.proofs.lemmas.Slice.Eq.{bytes_eq-Decides}
 use Rattle.clap.specs.Words.{Row, Rule, Shape, Text, built}
 use Rattle.clap.specs.Lexer.{long_of, short_of}
 use Rattle.clap.specs.Kinds.{or_else}
-use Rattle.clap.specs.Simple.{filled, help_rule, names_of, new_shape}
+use Rattle.clap.specs.Simple.{filled, help_rule, names_of, new_shape, version_rule}
 use Rattle.clap.specs.Walk.{Held, Names, Step, Walk, after_step, answers_to, idle, is_empty}
 use Rattle.clap.specs.Walk.{subcommand_met, subcommand_or_other, walked}
 use Rattle.clap.specs.Faults.{entered_fault, other_fault}
@@ -82,6 +82,42 @@ module _ (s : Shape) (leaf : Bool) (word : Text) where
       let parts = or_else-none _ _ none in
       let as_plain = short_plain (filled help_rule ∷ []) [] None (help_flags_fail [] None) idle word (short_of word) parts.0 in
       absurd (stray_some leaf (ap (λ (met : Held × Step). step_fault (only_help s leaf) 1 met.0 met.1) (sym as_plain) ∙ parts.1))
+
+-- ---- the program, whose options ask for help and for its version
+
+-- what a parse reads of it
+abbrev help_and_version : Shape → Shape
+help_and_version s = record s { rules = filled help_rule ∷ filled version_rule ∷ []; is_leaf = false; args_override_self = false }
+
+-- its two flags of one letter ask for help, or for its version
+both_flags_fail : (rows : List Row) (pending : Option (Text × List Text)) → FlagsFail (filled help_rule ∷ filled version_rule ∷ []) (holding rows pending)
+both_flags_fail rows pending x rest next e = go (104 == x) (86 == x) e
+  where
+    go : (t v : Bool) → short_fault (filled help_rule ∷ filled version_rule ∷ []) false
+        (cond (t || false) (Some (filled help_rule)) (cond (v || false) (Some (filled version_rule)) None)) rest (holding rows pending) next ≡ [] → ⊥
+    go true v f = second_kind _ _ _ (or_else-none _ _ f).0
+    go false true f = second_kind _ _ _ (or_else-none _ _ f).0
+    go false false f = some_kind _ _ f
+
+module _ (s : Shape) (word : Text) where
+  -- a long word is a fault
+  both_long : (v : Option Text) (is_help is_version : Bool)
+      → long_kinds_by (help_and_version s) idle word (holding [] None)
+      (cond (is_help || false) (Some (filled help_rule)) (cond (is_version || false) (Some (filled version_rule)) None)) v ≡ [] → ⊥
+  both_long None true is_version none = some_kind _ _ none
+  both_long (Some v) true is_version none = some_kind _ _ none
+  both_long None false true none = some_kind _ _ none
+  both_long (Some v) false true none = some_kind _ _ none
+  both_long v false false none = some_kind _ _ none
+
+  -- and so is any other that names no subcommand, but for `--`
+  both_other : (dashes : Bool) (long : Option (Text × Option Text)) → kinds_by (help_and_version s) idle (holding [] None) word dashes long ≡ [] → dashes ≡ true
+  both_other true long none = refl
+  both_other false (Some p) none = absurd (both_long p.1 (bytes_eq (codes "help") p.0) (bytes_eq (codes "version") p.0) none)
+  both_other false None none =
+      let parts = or_else-none _ _ none in
+      let as_plain = short_plain (filled help_rule ∷ filled version_rule ∷ []) [] None (both_flags_fail [] None) idle word (short_of word) parts.0 in
+      absurd (stray_some false (ap (λ (met : Held × Step). step_fault (help_and_version s) 1 met.0 met.1) (sym as_plain) ∙ parts.1))
 
 -- ---- the words of a command with no option
 
@@ -176,7 +212,7 @@ top_turn word none = go (subcommand_met top_names idle word) refl none
         (subcommand_or_other top_shape.rules o idle 1 word (holding [] None)).1) ≡ []
         → ((name : Text) × (subcommand_met top_names idle word ≡ Some name)) ⊎ (word ≡ codes "--")
     go (Some name) is e = inl (name, is)
-    go None is e = inr ((bytes_eq-Decides word (codes "--")).0 (help_other top_shape false word (bytes_eq word (codes "--")) (long_of word) e))
+    go None is e = inr ((bytes_eq-Decides word (codes "--")).0 (both_other top_shape word (bytes_eq word (codes "--")) (long_of word) e))
 
 -- with no word but the program's name a subcommand is missing
 no_word : faults [] ≡ [] → ⊥

@@ -1,6 +1,7 @@
 -- The command line of `xds`, in the words in which `clap` says what a command is. This project's own.
 --     text_option                      an option whose value is any text
 --     number_up_to, number_option      an option whose value is a number from 1 to the most
+--     flag_option                      an option without a value
 --     with_default                     the value of an option that isn't given
 --     required                         an option, or a word at least, that has to be given
 --     name_words                       words that are no options: the names of resources
@@ -8,12 +9,14 @@
 --     play_command                     `xds play [--trace N]`
 --     check_command, replicas_option, port_option,
 --     rest_port_option                 `xds check`, which has no options
---     serve_command                    `xds serve [--replicas N] [--port P] [--rest-port Q] [--streams S]`
+--     serve_start                      `xds serve`, with the options that say what is served where, and for how long
+--     serve_command                    `xds serve [--replicas N] [--port P] [--rest-port Q] [--streams S] [--keep-going] [--log]
+--                                      [--max-streams N] [--idle-seconds T] [--admin-port A]`
 --     client_start                     `xds client`, with the options that say where it asks, how, and for what
 --     client_command                   `xds client`, with its options and names
 --     poll_start                       `xds poll`, with the options that say where it asks, and for what
---     poll_command                     `xds poll --addr A --type TYPE [--version V] [--cluster TEXT] [NAME..]`
---     wanting_command                  `xds`, which wants a command
+--     poll_command                     `xds poll --addr A --type TYPE [--version V] [--seconds T] [--cluster TEXT] [NAME..]`
+--     wanting_command                  `xds`, which wants a command, and says its version
 --     first_commands                   and with the first three of them
 --     command_line                     `xds`, with all of them
 --     IsLocal                          the options of the command are its own
@@ -27,7 +30,7 @@ use Rattle.clap.specs.declared.builder.command.Command.{Command}
 use Rattle.clap.specs.declared.builder.command.Command.TheViews.{out-Command}
 use Rattle.clap.specs.Words.{App, Kinds, Row, Rule, Text, app_of, fault_of, rule_of, new_app, new_rule, subcommand_of, with_rule, with_subcommand}
 use Rattle.clap.specs.Simple.{on_top}
-use Rattle.clap.specs.declared.builder.action.ArgAction.TheVariants.{Append}
+use Rattle.clap.specs.declared.builder.action.ArgAction.TheVariants.{Append, SetTrue}
 use Rattle.clap.specs.declared.builder.value_parser.ValueParser.TheVariants as vp
 
 -- ---- what a command is described by
@@ -42,6 +45,10 @@ number_up_to most name = record (text_option name) { parser = Some (vp.Signed (p
 
 abbrev pub number_option : Text → Rule
 number_option name = number_up_to 65535 name
+
+-- an option without a value
+abbrev pub flag_option : Text → Rule
+flag_option name = record (new_rule name) { long = Some name; action = Some SetTrue }
 
 -- the value of an option that isn't given
 abbrev pub with_default : Text → Rule → Rule
@@ -78,13 +85,22 @@ port_option = with_default (codes "18000") (number_option (codes "port"))
 abbrev pub rest_port_option : Rule
 rest_port_option = with_default (codes "18100") (number_option (codes "rest-port"))
 
--- `xds serve [--replicas N] [--port P] [--rest-port Q] [--streams S]`
-abbrev pub serve_command : App
-serve_command =
+-- `xds serve`, with the options that say what is served where, and for how long
+abbrev pub serve_start : App
+serve_start =
     with_rule (with_rule (with_rule (with_rule (new_app (codes "serve")) replicas_option)
     port_option)
     rest_port_option)
     (number_option (codes "streams"))
+
+-- `xds serve [--replicas N] [--port P] [--rest-port Q] [--streams S] [--keep-going] [--log] [--max-streams N] [--idle-seconds T] [--admin-port A]`
+abbrev pub serve_command : App
+serve_command =
+    with_rule (with_rule (with_rule (with_rule (with_rule serve_start (flag_option (codes "keep-going")))
+    (flag_option (codes "log")))
+    (number_option (codes "max-streams")))
+    (number_option (codes "idle-seconds")))
+    (number_option (codes "admin-port"))
 
 -- `xds client`, with the options that say where it asks, how, and for what
 abbrev pub client_start : App
@@ -93,10 +109,11 @@ client_start =
     (required (text_option (codes "variant"))))
     (required (text_option (codes "type")))
 
--- `xds client --addr A --variant VARIANT --type TYPE --responses N [--cluster TEXT] NAME..`
+-- `xds client --addr A --variant VARIANT --type TYPE --responses N [--seconds T] [--cluster TEXT] NAME..`
 abbrev pub client_command : App
 client_command =
-    with_rule (with_rule (with_rule client_start (required (number_option (codes "responses"))))
+    with_rule (with_rule (with_rule (with_rule client_start (required (number_option (codes "responses"))))
+    (number_option (codes "seconds")))
     (text_option (codes "cluster")))
     (required name_words)
 
@@ -104,13 +121,14 @@ client_command =
 abbrev pub poll_start : App
 poll_start = with_rule (with_rule (new_app (codes "poll")) (required (text_option (codes "addr")))) (required (text_option (codes "type")))
 
--- `xds poll --addr A --type TYPE [--version V] [--cluster TEXT] [NAME..]`
+-- `xds poll --addr A --type TYPE [--version V] [--seconds T] [--cluster TEXT] [NAME..]`
 abbrev pub poll_command : App
-poll_command = with_rule (with_rule (with_rule poll_start (text_option (codes "version"))) (text_option (codes "cluster"))) name_words
+poll_command =
+    with_rule (with_rule (with_rule (with_rule poll_start (text_option (codes "version"))) (number_option (codes "seconds"))) (text_option (codes "cluster"))) name_words
 
--- `xds`, which wants a command
+-- `xds`, which wants a command, and says its version
 abbrev pub wanting_command : App
-wanting_command = on_top (λ s. record s { subcommand_required = true }) (new_app (codes "xds"))
+wanting_command = on_top (λ s. record s { has_version = true; subcommand_required = true }) (new_app (codes "xds"))
 
 -- and with the first three of them
 abbrev pub first_commands : App

@@ -4,6 +4,7 @@ pub mod Gathered
 pub mod Tasks
 pub mod CommandLine
 pub mod Words
+pub mod WrongValues
 pub mod PlainWords
 pub mod Laws
 pub mod Judged

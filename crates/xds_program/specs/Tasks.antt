@@ -20,6 +20,7 @@ pub record Watch : Type 0 where
   pub variant : StreamVariant
   pub kind : TypeName
   pub responses : ℕ
+  pub seconds : Option ℕ
   pub cluster : List ℕ
   pub names : List (List ℕ)
 
@@ -27,6 +28,7 @@ pub record Watch : Type 0 where
 pub record Look : Type 0 where
   pub addr : SocketAddrV4
   pub kind : TypeName
+  pub seconds : Option ℕ
   pub version : List ℕ
   pub cluster : List ℕ
   pub names : List (List ℕ)

@@ -2,10 +2,14 @@
 --     IsNumberText   the text writes this number of at most 65,535 in decimal digits; a plus may stand before them
 --     IsNumber       the value of the option is this number
 --     IsAddress      the value of `--addr` is this IPv4 address and port
+--     is_given       the option, which has no value, stands among the words
 --     text_in        the value of an option, empty where it isn't given
 --     names_in       the names, in their order
 --     Finds          what fits, or none where nothing fits
---     AsksServe      `xds serve`: no replica's port is above 65,535
+--     are_apart      no port of the one is a port of the other, where so many begin at each of them
+--     is_outside     a port is none of so many that begin at another
+--     is_alone       an operator's port, if there is one, is none of those of streams and of REST
+--     AsksServe      `xds serve`: no replica's port is above 65,535, and none for streams is one for REST
 --     AsksClient     `xds client`
 --     AsksPoll       `xds poll`
 --     AsksBy         the command of this name, with these values, asks for the task
@@ -14,8 +18,8 @@
 --     IsFaultOf      why words ask for no task, as the kind of an error
 --     IsWrongBy      so it is, or there was no memory
 --     IsToldOf       an error of this kind is told of words that ask for no task, or there was no memory
-use Rattle.std.specs.Prelude.{◌≡◌, ◌⊎◌, ◌≤◌, ◌+◌, ℕ, List, [], codes, Option, Some, None, unwrap_or}
-use Rattle.std.specs.Option.{option_and_then}
+use Rattle.std.specs.Prelude.{◌≡◌, ◌⊎◌, ◌≤◌, ◌+◌, ℕ, List, [], codes, Bool, true, false, ◌||◌, ◌&&◌, nat_lt, nat_le, bytes_eq, Option, Some, None, unwrap_or}
+use Rattle.std.specs.Option.{option_and_then, option_map_or}
 use Rattle.std.specs.Str.Parse.{IsNumeral, digits_value, without_leading_plus}
 use Rattle.std.specs.Net.Grammar.{IsSocketV4Text}
 use Rattle.std.specs.declared.net.socket_addr.SocketAddrV4.{SocketAddrV4}
@@ -45,6 +49,10 @@ IsNumber rows option n = (text : Text) × (one_of option rows ≡ Some text) × 
 abbrev pub IsAddress : List Row → SocketAddrV4 → Type 0
 IsAddress rows addr = (text : Text) × (one_of (codes "addr") rows ≡ Some text) × IsSocketV4Text text addr
 
+-- the option, which has no value, stands among the words
+abbrev pub is_given : Text → List Row → Bool
+is_given option rows = option_map_or (λ text. bytes_eq text (codes "true")) (first_of option rows) false
+
 -- the value of an option, empty where it isn't given
 abbrev pub text_in : Text → List Row → Text
 text_in option rows = unwrap_or (first_of option rows) []
@@ -60,14 +68,34 @@ Finds {X} Fits None = (x : X) → Fits x → ⊥
 
 -- ---- the tasks
 
--- `xds serve`: no replica's port is above 65,535
+-- no port of the one is a port of the other, where so many begin at each of them
+abbrev pub are_apart : ℕ → ℕ → ℕ → Bool
+are_apart port rest_port replicas = nat_le (port + replicas) rest_port || nat_le (rest_port + replicas) port
+
+-- a port is none of so many that begin at another
+abbrev pub is_outside : ℕ → ℕ → ℕ → Bool
+is_outside port first replicas = nat_lt port first || nat_le (first + replicas) port
+
+-- an operator's port, if there is one, is none of those of streams and of REST
+abbrev pub is_alone : Option ℕ → ℕ → ℕ → ℕ → Bool
+is_alone None port rest_port replicas = true
+is_alone (Some admin) port rest_port replicas = is_outside admin port replicas && is_outside admin rest_port replicas
+
+-- `xds serve`: no replica's port is above 65,535, and none for streams is one for REST
 pub record AsksServe (rows : List Row) (task : ServeTask) : Type 0 where
   pub replicas : IsNumber rows (codes "replicas") task.replicas
   pub port : IsNumber rows (codes "port") task.port
   pub rest_port : IsNumber rows (codes "rest-port") task.rest_port
   pub streams : Finds (IsNumber rows (codes "streams")) task.streams
+  pub keep_going : is_given (codes "keep-going") rows ≡ task.keep_going
+  pub log : is_given (codes "log") rows ≡ task.log
+  pub max_streams : Finds (IsNumber rows (codes "max-streams")) task.max_streams
+  pub idle_seconds : Finds (IsNumber rows (codes "idle-seconds")) task.idle_seconds
+  pub admin_port : Finds (IsNumber rows (codes "admin-port")) task.admin_port
   pub ports : task.port + task.replicas ≤ 65536
   pub rest_ports : task.rest_port + task.replicas ≤ 65536
+  pub alone : is_alone task.admin_port task.port task.rest_port task.replicas ≡ true
+  pub apart : are_apart task.port task.rest_port task.replicas ≡ true
 
 -- `xds client`
 pub record AsksClient (rows : List Row) (task : Watch) : Type 0 where
@@ -75,6 +103,7 @@ pub record AsksClient (rows : List Row) (task : Watch) : Type 0 where
   pub variant : option_and_then variant_of_word (first_of (codes "variant") rows) ≡ Some task.variant
   pub kind : option_and_then type_of_word (first_of (codes "type") rows) ≡ Some task.kind
   pub responses : IsNumber rows (codes "responses") task.responses
+  pub seconds : Finds (IsNumber rows (codes "seconds")) task.seconds
   pub cluster : text_in (codes "cluster") rows ≡ task.cluster
   pub names : names_in rows ≡ task.names
 
@@ -82,6 +111,7 @@ pub record AsksClient (rows : List Row) (task : Watch) : Type 0 where
 pub record AsksPoll (rows : List Row) (task : Look) : Type 0 where
   pub addr : IsAddress rows task.addr
   pub kind : option_and_then type_of_word (first_of (codes "type") rows) ≡ Some task.kind
+  pub seconds : Finds (IsNumber rows (codes "seconds")) task.seconds
   pub version : text_in (codes "version") rows ≡ task.version
   pub cluster : text_in (codes "cluster") rows ≡ task.cluster
   pub names : names_in rows ≡ task.names

@@ -2,7 +2,7 @@
 ghost use Rattle.std.specs.Prelude.{◌≡◌, false, IfOk, codes};
 ghost use Rattle.clap.specs.Words.{App, app_of, new_app, rule_of, with_rule, with_subcommand};
 ghost use Rattle.xds_program.specs.CommandLine.{IsCommand, IsLocal, IsOption, answer_command, check_command, client_command};
-ghost use Rattle.xds_program.specs.CommandLine.{client_start, poll_start, port_option, rest_port_option};
+ghost use Rattle.xds_program.specs.CommandLine.{client_start, flag_option, poll_start, port_option, rest_port_option, serve_start};
 ghost use Rattle.xds_program.specs.CommandLine.{command_line, first_commands, name_words, number_option, play_command};
 ghost use Rattle.xds_program.specs.CommandLine.{poll_command, replicas_option, required, serve_command, text_option};
 ghost use Rattle.xds_program.specs.CommandLine.{with_default, wanting_command};
@@ -37,6 +37,7 @@ fn wanting_command<'a>(alloc: Global) -> Command<'a>
     Command::new(alloc, "xds")
         .about("A replicated control plane of Envoy's xDS protocol")
         .after_help(help::PROGRAM)
+        .version(help::VERSION)
         .subcommand_required(true)
 }
 
@@ -78,6 +79,23 @@ fn check_command<'a>(alloc: Global) -> Command<'a>
 
 fn serve_command<'a>(alloc: Global) -> Result<Command<'a>, AllocError>
     ensures { IfOk result (IsCommand serve_command) }
+{
+    let help = "Tells a line that is refused, and reads on";
+    let serve = serve_start(alloc)?;
+    let serve = with_option(serve, flag_option(alloc, "keep-going", help))?;
+    let help = "Tells what an operator cares for";
+    let serve = with_option(serve, flag_option(alloc, "log", help))?;
+    let help = "At most this many streams a replica";
+    let serve = with_option(serve, number_option(alloc, "max-streams", "N", help))?;
+    let help = "Ends a stream without a first frame after this";
+    let serve = with_option(serve, number_option(alloc, "idle-seconds", "T", help))?;
+    let help = "A port for who operates the server";
+    with_option(serve, number_option(alloc, "admin-port", "A", help))
+}
+
+// `xds serve`, with the options that say what is served where, and for how long.
+fn serve_start<'a>(alloc: Global) -> Result<Command<'a>, AllocError>
+    ensures { IfOk result (IsCommand serve_start) }
 {
     let about = "Serves streams and REST on 127.0.0.1, each replica on its own ports";
     let help = "Ends once this many streams have ended";
@@ -123,6 +141,7 @@ fn client_command<'a>(alloc: Global) -> Result<Command<'a>, AllocError>
 {
     let client = client_start(alloc)?;
     let client = with_option(client, responses_option(alloc))?;
+    let client = with_option(client, seconds_option(alloc))?;
     let client = with_option(client, cluster_option(alloc))?;
     with_option(client, wanted_names(alloc))
 }
@@ -168,6 +187,7 @@ fn poll_command<'a>(alloc: Global) -> Result<Command<'a>, AllocError>
     let help = "The version that the client has";
     let poll = poll_start(alloc)?;
     let poll = with_option(poll, text_option(alloc, "version", "V", help))?;
+    let poll = with_option(poll, seconds_option(alloc))?;
     let poll = with_option(poll, cluster_option(alloc))?;
     with_option(poll, name_words(alloc))
 }
@@ -195,6 +215,13 @@ fn type_option<'a>(alloc: Global) -> Arg<'a>
 {
     let help = "Type: cluster, endpoint, listener, route or secret";
     required(text_option(alloc, "type", "TYPE", help))
+}
+
+// `--seconds T`.
+fn seconds_option<'a>(alloc: Global) -> Arg<'a>
+    ensures { IsOption (number_option (codes "seconds")) result }
+{
+    number_option(alloc, "seconds", "T", "Gives up after this many seconds")
 }
 
 // `--cluster TEXT`.
@@ -257,6 +284,16 @@ fn text_option<'a>(alloc: Global, name: &'a str, value: &'a str, help: &'a str) 
     Arg::new(alloc, name)
         .long(name)
         .value_name(value)
+        .help(help)
+}
+
+// An option without a value.
+fn flag_option<'a>(alloc: Global, name: &'a str, help: &'a str) -> Arg<'a>
+    ensures { IsOption (flag_option name.entry.now) result }
+{
+    Arg::new(alloc, name)
+        .long(name)
+        .action(ArgAction::SetTrue)
         .help(help)
 }
 

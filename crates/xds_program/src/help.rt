@@ -1,6 +1,9 @@
 // What `--help` says behind the options: an example, what is read and printed, and the statuses.
 // No line is wider than 80 columns.
 
+/// What `xds --version` says behind the name of the program.
+pub(crate) const VERSION: &str = "0.1.0";
+
 /// At the end of `xds --help`.
 pub(crate) const PROGRAM: &str = "Example, in the repository's top folder, and what it prints:
   ./xds check < examples/mesh_broken.trace
@@ -65,6 +68,10 @@ pub(crate) const SERVE: &str = "Example:
 
 Reads lines `put`, `putin` and `delete` of scripts, and applies each while it
 serves; at the end of the input it goes on, until it is stopped (Ctrl-C).
+With --keep-going a line that is refused is told, and the next is read; with
+--log what an operator cares for is told, a line an event. At --admin-port it
+answers /healthz, /ready, /metrics, /status, /changes and /stop over HTTP;
+the last ends it with status 0.
 Prints nothing; the error output has a line a replica, which says what is
 served where. docs/SERVING.md has more, docs/CLI.md the refusals.
 
@@ -79,6 +86,7 @@ pub(crate) const CLIENT: &str = "Example, beside `./xds serve < examples/mesh.se
       --type cluster --responses 1 '*'
 
 Reads no input; `*` asks for all clusters or listeners.
+With --seconds T it gives up after T seconds, with status 1.
 Prints for each response `taken NONCE` or `refused NONCE`, and then what it
 shows, a line a resource. The formats are in docs/FORMATS.md, the refusals in
 docs/CLI.md.
@@ -93,6 +101,7 @@ pub(crate) const POLL: &str = "Example, beside `./xds serve < examples/mesh.serv
   ./xds poll --addr 127.0.0.1:18101 --type route shop
 
 Reads no input; without a NAME it asks for all clusters or listeners.
+With --seconds T it gives up after T seconds, with status 1.
 Prints the status of the reply, and its body, where it has one, in the next
 line. docs/SERVING.md has more, docs/CLI.md the refusals.
 

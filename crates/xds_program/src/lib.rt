@@ -12,8 +12,10 @@ pub mod output;
 pub mod run;
 pub mod tasks;
 pub mod words;
+pub mod wrong_values;
 
 pub use answer::{answer_lines, draft_answer};
 pub use gathering::LineFault;
 pub use tasks::{ClientTask, PollTask, ServeTask, StreamVariant, Task};
 pub use words::task_of;
+pub use wrong_values::WrongValue;

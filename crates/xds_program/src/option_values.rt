@@ -5,7 +5,7 @@ ghost use Rattle.clap.specs.Words.{first_of, found_of, rows_of, subcommand_rows_
 ghost use Rattle.xds_resource.specs.Types.{type_of_word};
 ghost use Rattle.xds_program.specs.Tasks.{variant_of_word};
 ghost use Rattle.xds_program.specs.Words.{AsksBy, AsksClient, AsksIn, AsksPoll, AsksServe, Finds, IsAddress, IsNumber};
-ghost use Rattle.xds_program.specs.Words.{names_in, text_in};
+ghost use Rattle.xds_program.specs.Words.{are_apart, is_alone, is_given, is_outside, names_in, text_in};
 
 use crate::tasks::{ClientTask, PollTask, ServeTask, StreamVariant, Task};
 use clap::ArgMatches;
@@ -84,12 +84,26 @@ fn serving(given: &ArgMatches) -> Option<ServeTask>
     let port = number(given, "port")?;
     let rest_port = number(given, "rest-port")?;
     let streams = number(given, "streams");
-    if has_ports(port, replicas) && has_ports(rest_port, replicas) {
+    let keep_going = is_given(given, "keep-going");
+    let log = is_given(given, "log");
+    let max_streams = number(given, "max-streams");
+    let idle_seconds = number(given, "idle-seconds");
+    let admin_port = number(given, "admin-port");
+    if has_ports(port, replicas)
+        && has_ports(rest_port, replicas)
+        && are_apart(port, rest_port, replicas)
+        && is_alone(admin_port, port, rest_port, replicas)
+    {
         Some(ServeTask {
             replicas,
             port,
             rest_port,
             streams,
+            keep_going,
+            log,
+            max_streams,
+            idle_seconds,
+            admin_port,
         })
     } else {
         None
@@ -97,10 +111,35 @@ fn serving(given: &ArgMatches) -> Option<ServeTask>
 }
 
 // Whether each replica has a port, where the first has this one.
-fn has_ports(first: u16, replicas: u16) -> bool
+pub(crate) fn has_ports(first: u16, replicas: u16) -> bool
     ensures { (result ≡ true) ↔ (first + replicas ≤ 65536) }
 {
     u32::from(first) + u32::from(replicas) <= 65536
+}
+
+// Whether a port is none of so many that begin at another.
+fn is_outside(port: u16, first: u16, replicas: u16) -> bool
+    ensures { result ≡ is_outside port first replicas }
+{
+    port < first || u32::from(first) + u32::from(replicas) <= u32::from(port)
+}
+
+// Whether an operator's port, if there is one, is none of those of streams and of REST.
+pub(crate) fn is_alone(admin_port: Option<u16>, port: u16, rest_port: u16, replicas: u16) -> bool
+    ensures { result ≡ is_alone admin_port port rest_port replicas }
+{
+    match admin_port {
+        Some(admin) => is_outside(admin, port, replicas) && is_outside(admin, rest_port, replicas),
+        None => true,
+    }
+}
+
+// Whether no port of the one is a port of the other, where so many follow each of them, itself among them.
+pub(crate) fn are_apart(port: u16, rest_port: u16, replicas: u16) -> bool
+    ensures { result ≡ are_apart port rest_port replicas }
+{
+    u32::from(port) + u32::from(replicas) <= u32::from(rest_port)
+        || u32::from(rest_port) + u32::from(replicas) <= u32::from(port)
 }
 
 fn watch(alloc: Global, given: &ArgMatches) -> Result<Option<ClientTask>, AllocError>
@@ -108,6 +147,7 @@ fn watch(alloc: Global, given: &ArgMatches) -> Result<Option<ClientTask>, AllocE
 {
     match watched(given) {
         Some((addr, variant, kind, responses)) => {
+            let seconds = number(given, "seconds");
             let cluster = text(alloc, given, "cluster")?;
             let names = names(alloc, given)?;
             Ok(Some(ClientTask {
@@ -115,6 +155,7 @@ fn watch(alloc: Global, given: &ArgMatches) -> Result<Option<ClientTask>, AllocE
                 variant,
                 kind,
                 responses,
+                seconds,
                 cluster,
                 names,
             }))
@@ -143,12 +184,14 @@ fn look(alloc: Global, given: &ArgMatches) -> Result<Option<PollTask>, AllocErro
 {
     match looked(given) {
         Some((addr, kind)) => {
+            let seconds = number(given, "seconds");
             let version = text(alloc, given, "version")?;
             let cluster = text(alloc, given, "cluster")?;
             let names = names(alloc, given)?;
             Ok(Some(PollTask {
                 addr,
                 kind,
+                seconds,
                 version,
                 cluster,
                 names,
@@ -166,19 +209,29 @@ fn looked(given: &ArgMatches) -> Option<(SocketAddrV4, TypeName)>
     Some((address(given)?, kind(given)?))
 }
 
-fn number(given: &ArgMatches, option: &str) -> Option<u16>
+pub(crate) fn number(given: &ArgMatches, option: &str) -> Option<u16>
     ensures { Finds (IsNumber (rows_of (found_of given.now)) option.now) result }
 {
     given.get_one::<u16>(option)
 }
 
-fn address(given: &ArgMatches) -> Option<SocketAddrV4>
+// Whether an option stands among the words that has no value.
+fn is_given(given: &ArgMatches, option: &str) -> bool
+    ensures { result ≡ is_given option.now (rows_of (found_of given.now)) }
+{
+    match word(given, option) {
+        Some(word) => word == "true",
+        None => false,
+    }
+}
+
+pub(crate) fn address(given: &ArgMatches) -> Option<SocketAddrV4>
     ensures { Finds (IsAddress (rows_of (found_of given.now))) result }
 {
     given.get_one::<SocketAddrV4>("addr")
 }
 
-fn variant(given: &ArgMatches) -> Option<StreamVariant>
+pub(crate) fn variant(given: &ArgMatches) -> Option<StreamVariant>
     ensures { result ≡ option_and_then variant_of_word (first_of (codes "variant") (rows_of (found_of given.now))) }
 {
     match word(given, "variant") {
@@ -187,7 +240,7 @@ fn variant(given: &ArgMatches) -> Option<StreamVariant>
     }
 }
 
-fn kind(given: &ArgMatches) -> Option<TypeName>
+pub(crate) fn kind(given: &ArgMatches) -> Option<TypeName>
     ensures { result ≡ option_and_then type_of_word (first_of (codes "type") (rows_of (found_of given.now))) }
 {
     match word(given, "type") {

@@ -31,6 +31,16 @@ pub struct ServeTask {
     pub rest_port: u16,
     /// After how many ended streams it ends, from 1; never, where there is none.
     pub streams: Option<u16>,
+    /// Whether a line of the input that is refused is told, and the next is read.
+    pub keep_going: bool,
+    /// Whether what an operator cares for is told.
+    pub log: bool,
+    /// How many streams a replica has at a time, from 1; any number, where there is none.
+    pub max_streams: Option<u16>,
+    /// Within how many seconds the first frame of a stream comes, from 1; at any time, where there is none.
+    pub idle_seconds: Option<u16>,
+    /// An operator's port, from 1; none, where there is none.
+    pub admin_port: Option<u16>,
 }
 
 /// How a client asks on a stream: in which of the protocol's two variants.
@@ -69,6 +79,8 @@ pub struct ClientTask {
     pub kind: TypeName,
     /// After how many responses it ends, from 1.
     pub responses: u16,
+    /// After how many seconds it gives up, from 1; never, where there is none.
+    pub seconds: Option<u16>,
     /// The cluster of its node, empty where none is given.
     pub cluster: String,
     /// The names of the resources that it wants, in the order of the words.
@@ -83,6 +95,7 @@ impl Drop for ClientTask {
             variant: _,
             kind: _,
             responses: _,
+            seconds: _,
             cluster: _,
             names: _,
         } = self;
@@ -100,6 +113,7 @@ impl Model for ClientTask {
       variant = c.variant;
       kind = c.kind;
       responses = c.responses;
+      seconds = c.seconds;
       cluster = string_bytes c.cluster;
       names = map string_bytes c.names.items;
     } };
@@ -112,6 +126,8 @@ pub struct PollTask {
     pub addr: SocketAddrV4,
     /// The type of the resources.
     pub kind: TypeName,
+    /// After how many seconds it gives up, from 1; never, where there is none.
+    pub seconds: Option<u16>,
     /// The version that the client has, empty where none is given.
     pub version: String,
     /// The cluster of its node, empty where none is given.
@@ -129,6 +145,7 @@ impl Model for PollTask {
     ghost view = { λ p. record {
       addr = p.addr;
       kind = p.kind;
+      seconds = p.seconds;
       version = string_bytes p.version;
       cluster = string_bytes p.cluster;
       names = map string_bytes p.names.items;

@@ -2,18 +2,16 @@
 ghost use Rattle.std.specs.Prelude.{◌≡◌, ◌⊎◌, IfOk, IfErr, map, string_bytes};
 ghost use Rattle.clap.specs.Words.{kind_of, subcommand_rows_of};
 ghost use Rattle.xds_program.specs.CommandLine.{IsCommand, command_line};
-ghost use Rattle.xds_program.specs.Words.{Asks, AsksIn, Finds, IsToldOf, IsWrongBy};
+ghost use Rattle.xds_program.specs.Words.{Asks, IsToldOf, IsWrongBy};
+ghost use Rattle.xds_program.specs.WrongValues.{FindsOrBlames};
 
 use crate::command_line::command_line;
 use crate::option_values::task_in;
 use crate::tasks::Task;
+use crate::wrong_values::{WrongValue, wrong_value};
 use clap::error::ErrorKind;
 use clap::{ArgMatches, Command, Error};
 use std::alloc::{AllocError, Global};
-
-// What is told where `clap` takes the words, and yet a value is none of those that it may be.
-const BAD_VALUE: &str =
-    "an address, a type or a variant is none of those that the help names, or a port is above 65535";
 
 /// Reads the words, of which the first is the program's name. An error holds the text to show, which may also be the
 /// help that was asked for.
@@ -34,25 +32,34 @@ fn task_by<'a>(alloc: Global, command: &mut Command<'a>, words: &'a [String]) ->
 {
     let matches = command.try_get_matches_from_mut(words)?;
     match task_found(alloc, matches)? {
-        Some(task) => Ok(task),
-        None => Err(bad_value(command)),
+        Ok(task) => Ok(task),
+        Err(wrong) => Err(bad_value(command, wrong)),
     }
 }
 
-// The task that the matches ask for.
-fn task_found(alloc: Global, matches: ArgMatches) -> Result<Option<Task>, AllocError>
-    ensures { IfOk result (Finds (AsksIn (subcommand_rows_of matches.entry))) }
+// The task that the matches ask for, or which value is wrong.
+fn task_found(alloc: Global, matches: ArgMatches) -> Result<Result<Task, WrongValue>, AllocError>
+    ensures { IfOk result (FindsOrBlames (subcommand_rows_of matches.entry)) }
 {
-    let found = task_in(alloc, &matches);
+    let found = found_in(alloc, &matches);
     drop(matches);
     found
 }
 
+fn found_in(alloc: Global, matches: &ArgMatches) -> Result<Result<Task, WrongValue>, AllocError>
+    ensures { IfOk result (FindsOrBlames (subcommand_rows_of matches.now)) }
+{
+    match task_in(alloc, matches)? {
+        Some(task) => Ok(Ok(task)),
+        None => Ok(Err(wrong_value(matches))),
+    }
+}
+
 // The error of a value that is none of those that it may be.
-fn bad_value(command: &mut Command) -> Error
+fn bad_value(command: &mut Command, wrong: WrongValue) -> Error
     ensures { (kind_of result ≡ ErrorKind.OutOfMemory) ⊎ (kind_of result ≡ ErrorKind.ValueValidation) }
 {
-    match command.error(ErrorKind::ValueValidation, BAD_VALUE) {
+    match command.error(ErrorKind::ValueValidation, wrong.text()) {
         Ok(error) => error,
         Err(error) => Error::from(error),
     }

@@ -1,5 +1,5 @@
 // Which words ask for which task: right words and wrong ones.
-use crate::program::words;
+use crate::program::{told as told_by_run, words};
 use std::alloc::Global;
 use std::test::Fail;
 use xds_cases::cases::{Outcome, hold};
@@ -51,8 +51,36 @@ fn told_serve(alloc: Global, serve: ServeTask) -> Result<String, Fail> {
         port,
         rest_port,
         streams,
+        keep_going,
+        log,
+        max_streams,
+        idle_seconds,
+        admin_port,
     } = serve;
-    Ok(format!(in alloc; "serve {replicas} {port} {rest_port} {streams:?}")?)
+    let keeps = if keep_going { " keep-going" } else { "" };
+    let logs = if log { " log" } else { "" };
+    let limits = limits_told(alloc, max_streams, idle_seconds)?;
+    let limits = limits.as_str();
+    let admin = match admin_port {
+        Some(port) => format!(in alloc; " admin {port}")?,
+        None => String::new(alloc),
+    };
+    let admin = admin.as_str();
+    Ok(format!(in alloc;
+        "serve {replicas} {port} {rest_port} {streams:?}{keeps}{logs}{limits}{admin}"
+    )?)
+}
+
+// The limits of streams, where there are some.
+fn limits_told(
+    alloc: Global,
+    max_streams: Option<u16>,
+    idle_seconds: Option<u16>,
+) -> Result<String, Fail> {
+    if max_streams.is_none() && idle_seconds.is_none() {
+        return Ok(String::new(alloc));
+    }
+    Ok(format!(in alloc; " {max_streams:?} {idle_seconds:?}")?)
 }
 
 fn told_client(alloc: Global, client: &ClientTask) -> Result<String, Fail> {
@@ -60,8 +88,12 @@ fn told_client(alloc: Global, client: &ClientTask) -> Result<String, Fail> {
     let variant = client.variant;
     let kind = client.kind;
     let responses = client.responses;
+    let seconds = seconds_told(alloc, client.seconds)?;
+    let seconds = seconds.as_str();
     let cluster = client.cluster.as_str();
-    let mut text = format!(in alloc; "client {addr} {variant:?} {kind:?} {responses} ({cluster})")?;
+    let mut text = format!(in alloc;
+        "client {addr} {variant:?} {kind:?} {responses}{seconds} ({cluster})"
+    )?;
     tell_names(&mut text, &client.names)?;
     Ok(text)
 }
@@ -69,11 +101,21 @@ fn told_client(alloc: Global, client: &ClientTask) -> Result<String, Fail> {
 fn told_poll(alloc: Global, poll: &PollTask) -> Result<String, Fail> {
     let addr = poll.addr;
     let kind = poll.kind;
+    let seconds = seconds_told(alloc, poll.seconds)?;
+    let seconds = seconds.as_str();
     let version = poll.version.as_str();
     let cluster = poll.cluster.as_str();
-    let mut text = format!(in alloc; "poll {addr} {kind:?} ({version}) ({cluster})")?;
+    let mut text = format!(in alloc; "poll {addr} {kind:?}{seconds} ({version}) ({cluster})")?;
     tell_names(&mut text, &poll.names)?;
     Ok(text)
+}
+
+// After how many seconds it gives up, if it does.
+fn seconds_told(alloc: Global, seconds: Option<u16>) -> Result<String, Fail> {
+    match seconds {
+        Some(seconds) => Ok(format!(in alloc; " {seconds}s")?),
+        None => Ok(String::new(alloc)),
+    }
 }
 
 fn tell_names(text: &mut String, names: &Vec<String>) -> Result<(), Fail> {
@@ -121,7 +163,14 @@ fn words_ask_for_servers(rt: HostRuntime) -> Result<(), Fail> {
 serve --replicas 1 => serve 1 18000 18100 None
 serve --streams 3 --rest-port 9000 --port 8000 --replicas 16 => serve 16 8000 9000 Some(3)
 serve --replicas=2 --port=65534 --rest-port=1 --streams=65535 -- => serve 2 65534 1 Some(65535)
-serve --replicas 1 --port 65535 --rest-port 65535 => serve 1 65535 65535 None
+serve --replicas 1 --port 65535 --rest-port 65535 => wrong
+serve --replicas 1 --port 65535 --rest-port 65534 => serve 1 65535 65534 None
+serve --replicas 2 --port 9000 --rest-port 9001 => wrong
+serve --replicas 2 --port 9001 --rest-port 9000 => wrong
+serve --replicas 2 --port 9000 --rest-port 9002 => serve 2 9000 9002 None
+serve --replicas 2 --port 9002 --rest-port 9000 => serve 2 9002 9000 None
+serve --rest-port 18001 => wrong
+serve --port 18099 => wrong
 serve --port 65535 => wrong
 serve --replicas 16 --port 65521 => wrong
 serve --replicas 16 --port 65520 => serve 16 65520 18100 None
@@ -138,6 +187,23 @@ serve --streams => wrong
 serve --port 1 --port 1 => wrong
 serve 1 => wrong
 serve --trace 1 => wrong
+serve --keep-going => serve 2 18000 18100 None keep-going
+serve --keep-going --streams 1 --replicas 1 => serve 1 18000 18100 Some(1) keep-going
+serve --keep-going --keep-going => wrong
+serve --log --keep-going => serve 2 18000 18100 None keep-going log
+serve --log --log => wrong
+serve --max-streams 5 => serve 2 18000 18100 None Some(5) None
+serve --idle-seconds 7 --max-streams 1 => serve 2 18000 18100 None Some(1) Some(7)
+serve --admin-port 18200 => serve 2 18000 18100 None admin 18200
+serve --admin-port 17999 => serve 2 18000 18100 None admin 17999
+serve --admin-port 18001 => wrong
+serve --admin-port 18002 => serve 2 18000 18100 None admin 18002
+serve --admin-port 18100 => wrong
+serve --admin-port 0 => wrong
+serve --max-streams 0 => wrong
+serve --idle-seconds 0 => wrong
+serve --keep-going=true => wrong
+serve --keep-going 1 => wrong
 serve --help => help",
     )
 }
@@ -172,6 +238,10 @@ client --addr 127.0.0.1:18000 --variant sotw --type route --responses 65536 q =>
 client --addr 127.0.0.1:18000 --variant sotw --type route --responses 1 --version 1.0 q => wrong
 client --addr 127.0.0.1:18000 --addr 127.0.0.1:18000 --variant sotw --type route --responses 1 q
      => wrong
+client --addr 127.0.0.1:18000 --variant sotw --type route --responses 1 --seconds 5 q
+     => client 127.0.0.1:18000 Sotw Route 1 5s () q
+client --addr 127.0.0.1:18000 --variant sotw --type route --responses 1 --seconds 0 q => wrong
+client --addr 127.0.0.1:18000 --variant sotw --type route --responses 1 --seconds q => wrong
 client --help => help",
     )
 }
@@ -193,6 +263,53 @@ poll --addr 127.0.0.1:18100 --type cluster --variant sotw => wrong
 poll --addr 127.0.0.1:18100 --type cluster --version 1 --version 1 => wrong
 poll --addr 127.0.0.1:18100 --type cluster -x => wrong
 poll --addr 127.0.0.1:18100 --type cluster -- -x => poll 127.0.0.1:18100 Cluster () () -x
+poll --addr 127.0.0.1:18100 --type cluster --seconds 65535
+     => poll 127.0.0.1:18100 Cluster 65535s () ()
+poll --addr 127.0.0.1:18100 --type cluster --seconds 65536 => wrong
 poll --help => help",
     )
+}
+
+// That what words tell holds this part.
+fn tells(rt: &HostRuntime, given: &str, part: &str) -> Result<(), Fail> {
+    let told = told_by_run(rt.alloc(), given, b"")?;
+    if told.as_str().contains(part) {
+        return Ok(());
+    }
+    Err(Fail::new(format_args!("{told} and not {part}")))
+}
+
+#[test]
+fn the_option_that_is_wrong_is_named(rt: HostRuntime) -> Result<(), Fail> {
+    let addr = "error: --addr: an address of IPv4 and a port, as 127.0.0.1:18000; for localhost \
+         write 127.0.0.1~";
+    tells(&rt, "poll --addr localhost:18100 --type cluster", addr)?;
+    let client = "client --addr 127.0.0.1 --variant x --type y --responses 1 q";
+    tells(&rt, client, addr)?;
+    let client = "client --addr 127.0.0.1:1 --variant x --type y --responses 1 q";
+    tells(&rt, client, "error: --variant: sotw or delta~")?;
+    let kind = "error: --type: cluster, endpoint, listener, route or secret~";
+    tells(&rt, "poll --addr 127.0.0.1:1 --type y", kind)?;
+    tells(
+        &rt,
+        "serve --port 65535",
+        "error: --port, --rest-port: the port of the last replica is above 65535~",
+    )?;
+    tells(
+        &rt,
+        "serve --port 18101",
+        "error: --port, --rest-port: the ports of streams and those of REST meet~",
+    )?;
+    tells(
+        &rt,
+        "serve --admin-port 18000",
+        "error: --admin-port: it is a port of streams or of REST~",
+    )
+}
+
+#[test]
+fn the_version_is_told(rt: HostRuntime) -> Result<(), Fail> {
+    tells(&rt, "--version", "0 xds 0.1.0~")?;
+    tells(&rt, "-V", "0 xds 0.1.0~")?;
+    tells(&rt, "serve --version", "2 ")
 }

@@ -3,7 +3,7 @@ use crate::serve::clients::connected;
 use crate::serve::servers::{comes_to, ends_well, serving, started};
 use std::net::{Ipv4Addr, SocketAddrV4, TcpListener};
 use std::test::Fail;
-use xds_commands::{End, Ending};
+use xds_commands::{End, Ending, Telling};
 use xds_resource::Refusal;
 
 #[test]
@@ -14,7 +14,7 @@ fn a_port_in_use_is_told(rt: HostRuntime) -> Result<(), Fail> {
         b"" as &[u8],
         serving(2, 18_400, None),
         1,
-        "127.0.0.1:18401: 19 Device\n",
+        "127.0.0.1:18401: 19 Device: in use\n",
     )?;
     drop(held);
     Ok(())
@@ -28,7 +28,7 @@ fn a_port_of_rest_in_use_is_told(rt: HostRuntime) -> Result<(), Fail> {
         b"put\n" as &[u8],
         serving(1, 18_420, None),
         1,
-        "127.0.0.1:18430: 19 Device\n",
+        "127.0.0.1:18430: 19 Device: in use\n",
     )?;
     drop(held);
     Ok(())
@@ -51,15 +51,21 @@ fn it_ends_after_as_many_streams_as_are_asked_for(rt: HostRuntime) -> Result<(),
     Ok(())
 }
 
+// Neither changes nor events are told.
+const NOTHING: Telling = Telling {
+    changes: false,
+    events: false,
+};
+
 #[test]
 fn what_is_told_first_is_the_end(rt: HostRuntime) {
     let line = End::Line(3, Refusal::BadScript);
-    let counted = Ending::after(Some(2));
+    let counted = Ending::after(rt.alloc(), Some(2), NOTHING);
     counted.stream_ended(&rt);
     counted.stream_ended(&rt);
     counted.end(&rt, line);
     assert!(rt; counted.wait(&rt) == End::Streams, "two streams have ended");
-    let early = Ending::after(Some(2));
+    let early = Ending::after(rt.alloc(), Some(2), NOTHING);
     early.stream_ended(&rt);
     early.end(&rt, line);
     early.stream_ended(&rt);
@@ -67,7 +73,7 @@ fn what_is_told_first_is_the_end(rt: HostRuntime) {
         early.wait(&rt) == line,
         "a line came before the second stream"
     );
-    let endless = Ending::after(None);
+    let endless = Ending::after(rt.alloc(), None, NOTHING);
     endless.stream_ended(&rt);
     endless.end(&rt, End::Refused(Refusal::Device));
     endless.end(&rt, line);

@@ -22,7 +22,34 @@ pub(crate) fn serving(replicas: u16, port: u16, streams: Option<u16>) -> Serving
         port,
         rest_port: port.saturating_add(10),
         streams,
+        keep_going: false,
+        tells: false,
+        logs: false,
+        max_streams: None,
+        idle_seconds: None,
+        admin_port: None,
     }
+}
+
+/// The same of a server that keeps going.
+pub(crate) fn keeping(replicas: u16, port: u16, streams: Option<u16>) -> Serving {
+    let mut serving = serving(replicas, port, streams);
+    serving.keep_going = true;
+    serving
+}
+
+/// The same of a server that tells refused changes.
+pub(crate) fn telling(replicas: u16, port: u16, streams: Option<u16>) -> Serving {
+    let mut serving = serving(replicas, port, streams);
+    serving.tells = true;
+    serving
+}
+
+/// The same of a server that logs.
+pub(crate) fn logging(replicas: u16, port: u16, streams: Option<u16>) -> Serving {
+    let mut serving = serving(replicas, port, streams);
+    serving.logs = true;
+    serving
 }
 
 /// Serves to the end.
@@ -66,6 +93,19 @@ pub(crate) fn ends_well<R: Runtime + Net<Listener = TcpListener, Stream = TcpStr
     errors: &str,
 ) -> Result<(), Fail> {
     came_to(&server.join(rt), 0, errors)
+}
+
+/// That a server which was started ends well, whatever it tells.
+pub(crate) fn came_well<R: Runtime + Net<Listener = TcpListener, Stream = TcpStream>>(
+    rt: &R,
+    server: JoinHandle<Came>,
+) -> Result<(), Fail> {
+    let came = server.join(rt);
+    if came.status == 0 {
+        return Ok(());
+    }
+    let status = came.status;
+    Err(Fail::new(format_args!("{status}")))
 }
 
 // Whether a server came to this status, and told this.

@@ -47,7 +47,7 @@ fn holds(text: &str, part: &str) -> Result<(), Fail> {
 }
 
 // That what a client at this port is sent for a request holds this part.
-fn hears(rt: &HostRuntime, port: u16, text: &str, part: &str) -> Result<(), Fail> {
+pub(crate) fn hears(rt: &HostRuntime, port: u16, text: &str, part: &str) -> Result<(), Fail> {
     let text = answered(rt, port, text)?;
     holds(text.as_str(), part)
 }
@@ -94,13 +94,13 @@ const CHANGES: &str =
      put 1 {\"@type\":\"type.googleapis.com/envoy.config.route.v3.RouteConfiguration\",\
      \"name\":\"r\"}";
 
-const ASKS_FOR_R: &str = "{\"resourceNames\":[\"r\"],\
+pub(crate) const ASKS_FOR_R: &str = "{\"resourceNames\":[\"r\"],\
      \"typeUrl\":\"type.googleapis.com/envoy.config.route.v3.RouteConfiguration\"}";
 
 const ASKS_FOR_BOTH: &str = "{\"resourceNames\":[\"q\",\"r\"],\
      \"typeUrl\":\"type.googleapis.com/envoy.config.route.v3.RouteConfiguration\"}";
 
-const R_ALONE: &str =
+pub(crate) const R_ALONE: &str =
     "\"resources\":[{\"@type\":\"type.googleapis.com/envoy.config.route.v3.RouteConfiguration\",\
      \"name\":\"r\"}]";
 

@@ -1,20 +1,14 @@
-use Rattle.std.proofs.Common.{◌∙◌, Option, Result, Ok, ap, subst, sym}
+use Rattle.std.proofs.Common.{Option, Result, subst, sym}
 use Rattle.std.specs.Option.{option_map}
 use Rattle.xds_resource.specs.declared.refusal.Refusal.{Refusal}
 use Rattle.xds_resource.specs.Refusals.{Gives}
-use Rattle.xds_world.specs.Commands.{said_of}
-use Rattle.xds_world.specs.Scripts.{line_says}
 use Rattle.xds_commands.specs.Changes.{Written, change_of}
-use Rattle.xds_commands.proofs.Changing.{line_refused, line_skipped, line_said}
+use Rattle.xds_commands.proofs.Changing.{long_line, short_line}
 use Rattle.xds_commands.proofs.change.read_change.Goals as goal
 
-pub returns-in-Err : goal.returns-in-Err
-returns-in-Err c = line_refused (line_says c.args.line.now) c.in-Err.refusal c.in-Err.ensures
+pub returns-in-Ok-clause-change : goal.returns-in-Ok-clause-change
+returns-in-Ok-clause-change c =
+    subst (λ (r : Result (Option Written) Refusal). Gives (option_map change_of) c.read_within.result r) (sym (short_line c.args.line.now c.in-Ok.ensures)) c.read_within.ensures.change
 
-pub returns-in-Ok-None : goal.returns-in-Ok-None
-returns-in-Ok-None c = line_skipped (line_says c.args.line.now) (c.in-Ok-None.ensures ∙ ap (λ o. Ok (option_map said_of o)) c.in-Ok-None.field-0-is)
-
-pub returns-in-Ok-Some : goal.returns-in-Ok-Some
-returns-in-Ok-Some c =
-    let read = line_said (line_says c.args.line.now) (said_of c.in-Ok-Some.command) (c.in-Ok-Some.ensures ∙ ap (λ o. Ok (option_map said_of o)) c.in-Ok-Some.field-0-is) in
-    subst (λ (r : Result (Option Written) Refusal). Gives (option_map change_of) c.change_by.result r) (sym read) c.change_by.ensures
+pub returns-in-Err-clause-change : goal.returns-in-Err-clause-change
+returns-in-Err-clause-change c = λ other. long_line c.args.line.now c.in-Err.refusal c.in-Err.ensures.1 c.in-Err.ensures.0

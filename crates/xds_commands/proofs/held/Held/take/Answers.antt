@@ -1,7 +1,7 @@
 use Rattle.std.proofs.Common.{[], ◌++◌, length, map, refl}
 use Rattle.xds_world.specs.Lines.{feed, pieces}
 use Rattle.xds_commands.specs.Changes.{change_of}
-use Rattle.xds_commands.proofs.Takings.{no_memory, taken_more, taken_refused}
+use Rattle.xds_commands.proofs.Takings.{taken_more, taken_refused}
 use Rattle.xds_commands.proofs.held.Held.take.Goals as goal
 
 pub returns-in-Err : goal.returns-in-Err
@@ -18,4 +18,4 @@ loop-part-preserved c =
 pub returns-in-Err-keep : goal.returns-in-Err-keep
 returns-in-Err-keep c =
     taken_refused (c.args.self.now.bytes.items ++ c.args.piece.now) c.loop-part.self.bytes.items c.loop-part.rest.now c.loop-part.rest.now [] (map change_of c.loop-part.changes.items) _
-    c.loop-part.lines (length c.args.piece.now) c.in-Err-keep.refusal c.loop-part.invariant c.loop-part.self.one c.in_default.ensures.last refl (no_memory c.in-Err-keep.refusal (c.loop-part.self.bytes.items ++ c.loop-part.rest.now) c.in-Err-keep.ensures.refused)
+    c.loop-part.lines (length c.args.piece.now) c.in-Err-keep.refusal c.loop-part.invariant c.loop-part.self.one c.in_default.ensures.last refl c.in-Err-keep.ensures.refused

@@ -1,0 +1,26 @@
+-- What an operator's port is asked for. This project's own.
+--     found_at   what is found at a path, and by which method
+--     routed_by  what a request of this method asks for, by what is found at its path
+--     routed     what a request asks for, or the status that refuses it
+use Rattle.std.specs.Prelude.{ℕ, List, if◌then◌else◌, bytes_eq, Option, Some, None, Result, Ok, Err, codes}
+use Rattle.xds_commands.specs.declared.admin.Route.{Route}
+use Rattle.xds_commands.specs.declared.admin.Route.TheVariants.{Health, Ready, Metrics, Status, Changes, Stop}
+
+-- what is found at a path, and by which method
+abbrev pub found_at : List ℕ → Option (Route × List ℕ)
+found_at path =
+    if bytes_eq path (codes "/healthz") then Some (Health, codes "GET")
+    else if bytes_eq path (codes "/ready") then Some (Ready, codes "GET")
+    else if bytes_eq path (codes "/metrics") then Some (Metrics, codes "GET")
+    else if bytes_eq path (codes "/status") then Some (Status, codes "GET")
+    else if bytes_eq path (codes "/changes") then Some (Changes, codes "POST")
+    else if bytes_eq path (codes "/stop") then Some (Stop, codes "POST")
+    else None
+
+abbrev pub routed_by : List ℕ → Option (Route × List ℕ) → Result Route ℕ
+routed_by method None = Err 404
+routed_by method (Some found) = if bytes_eq method found.1 then Ok found.0 else Err 405
+
+-- what a request asks for, or the status that refuses it
+abbrev pub routed : List ℕ → List ℕ → Result Route ℕ
+routed method path = routed_by method (found_at path)

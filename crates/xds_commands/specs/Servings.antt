@@ -1,0 +1,26 @@
+-- What a server is asked for. This project's own.
+--     serving_of   what the words ask of a server, where its error output is a terminal or isn't
+--     limits_of    what the streams of a replica may be then
+use Rattle.std.specs.Prelude.{Bool}
+use Rattle.xds_program.specs.declared.tasks.ServeTask.{ServeTask}
+use Rattle.xds_commands.specs.declared.lookout.Limits.{Limits}
+use Rattle.xds_commands.specs.declared.server.Serving.{Serving}
+
+-- what the words ask of a server, where its error output is a terminal or isn't
+abbrev pub serving_of : ServeTask → Bool → Serving
+serving_of task is_terminal = record {
+  replicas = task.replicas;
+  port = task.port;
+  rest_port = task.rest_port;
+  streams = task.streams;
+  keep_going = task.keep_going;
+  tells = is_terminal;
+  logs = task.log;
+  max_streams = task.max_streams;
+  idle_seconds = task.idle_seconds;
+  admin_port = task.admin_port;
+}
+
+-- what the streams of a replica may be then
+abbrev pub limits_of : Serving → Limits
+limits_of serving = record { streams = serving.max_streams; idle_seconds = serving.idle_seconds }

@@ -1,0 +1,251 @@
+// What is known of a replica for those who look: threads note it, and it is told or shown.
+ghost use Rattle.std.specs.Prelude.{◌≡◌};
+
+use crate::board::Board;
+use crate::ending::Ending;
+use crate::log_event::{FirstRequest, LogEvent, Place, Rejection};
+use crate::numbers::Numbers;
+use crate::sight::{Heard, Sight};
+use crate::status_text::streams_text;
+use std::alloc::Global;
+use std::sync::{Arc, Mutex, Wait};
+use std::time::Instant;
+use xds_core::Reply;
+use xds_ledger::VariantName;
+use xds_message::Draft;
+use xds_resource::Refusal;
+
+/// What a replica's streams may be.
+#[derive(Clone, Copy, Debug, PartialEq, Eq)]
+pub struct Limits {
+    /// How many there are at a time, at most; any number, where none is said.
+    pub streams: Option<u16>,
+    /// Within how many seconds the first frame of each comes; at any time, where none is said.
+    pub idle_seconds: Option<u16>,
+}
+
+/// Where threads note what happens at a replica. It has a lock of its own, which is held for a note at a time, and never while the
+/// node's is taken.
+pub struct Lookout {
+    alloc: Global,
+    /// The number of the replica.
+    replica: u16,
+    limits: Limits,
+    board: Mutex<Board>,
+    ending: Arc<Ending>,
+}
+
+// Written out: docs/PROVING.md, "Drops".
+impl Drop for Lookout {
+    fn drop(self) {
+        let Lookout {
+            alloc: _,
+            replica: _,
+            limits: _,
+            board: _,
+            ending: _,
+        } = self;
+    }
+}
+
+impl Lookout {
+    /// That of a replica at which nothing happened.
+    pub fn new(alloc: Global, replica: u16, limits: Limits, ending: Arc<Ending>) -> Lookout {
+        Lookout {
+            alloc,
+            replica,
+            limits,
+            board: Mutex::new(Board::new(alloc)),
+            ending,
+        }
+    }
+
+    /// What threads tell of the server.
+    pub fn ending(&self) -> &Ending {
+        &self.ending
+    }
+
+    /// Within how many seconds the first frame of a stream has to come.
+    pub fn idle_seconds(&self) -> Option<u16>
+        ensures { result ≡ self.now.limits.idle_seconds }
+    {
+        self.limits.idle_seconds
+    }
+
+    /// A connection came: whether it is served as a stream. If so, it leaves once it ends. None is once the server ends.
+    pub fn admit<R: Wait>(&self, rt: &R) -> bool {
+        if self.ending.has_come(rt) {
+            return false;
+        }
+        let mut board = self.board.lock(rt);
+        let is_served = board.doors.admit(self.limits.streams);
+        drop(board);
+        if !is_served && self.ending.logs() {
+            self.log(rt, Ok(LogEvent::TurnedAway(self.replica)));
+        }
+        is_served
+    }
+
+    /// A connection that was served has ended.
+    pub fn leave<R: Wait>(&self, rt: &R) {
+        self.board.lock(rt).doors.leave();
+    }
+
+    fn place(&self, stream: u64) -> Place {
+        Place {
+            replica: self.replica,
+            stream,
+        }
+    }
+
+    // Tells an event, where events are told, and there was memory for it.
+    fn log<R: Wait>(&self, rt: &R, event: Result<LogEvent, Refusal>) {
+        if let Ok(event) = event {
+            self.ending.log(rt, event);
+        }
+    }
+
+    /// A stream was opened for a client at this address.
+    pub fn opened<R: Wait>(&self, rt: &R, stream: u64, peer: String) {
+        if self.ending.logs() {
+            let event = connected(self.alloc, self.place(stream), peer.as_str());
+            self.log(rt, event);
+        }
+        let mut board = self.board.lock(rt);
+        let _ = board.open(stream, peer);
+    }
+
+    /// A stream ended, by a refusal or without one.
+    pub fn ended<R: Wait>(&self, rt: &R, stream: u64, refusal: Option<Refusal>) {
+        self.board.lock(rt).close(stream);
+        if self.ending.logs() {
+            self.log(rt, Ok(LogEvent::Ended(self.place(stream), refusal)));
+        }
+    }
+
+    /// The number of the replica.
+    pub fn replica(&self) -> u16
+        ensures { result ≡ self.now.replica }
+    {
+        self.replica
+    }
+
+    /// What was counted by now.
+    pub fn numbers<R: Wait>(&self, rt: &R) -> Numbers {
+        self.board.lock(rt).numbers()
+    }
+
+    /// What is known of the open streams, as a list of JSON.
+    pub fn streams<R: Wait>(&self, rt: &R, alloc: Global) -> Result<String, Refusal> {
+        streams_text(alloc, &self.board.lock(rt))
+    }
+
+    /// The journal was cut.
+    pub fn cut<R: Wait>(&self, rt: &R) {
+        self.board.lock(rt).cut(true);
+    }
+
+    /// The journal couldn't be cut.
+    pub fn cut_failed<R: Wait>(&self, rt: &R, refusal: Refusal) {
+        self.board.lock(rt).cut(false);
+        if self.ending.logs() {
+            self.log(rt, Ok(LogEvent::CutFailed(self.replica, refusal)));
+        }
+    }
+
+    /// A change was refused.
+    pub fn refused<R: Wait>(&self, rt: &R) {
+        let mut board = self.board.lock(rt);
+        board.refused = board.refused.saturating_add(1);
+    }
+
+    /// A poll over HTTP was answered with this status.
+    pub fn polled<R: Wait>(&self, rt: &R, status: u16) {
+        self.board.lock(rt).rest.count(status);
+    }
+
+    /// An event that showed this left no record.
+    pub fn unrecorded<R: Wait>(&self, rt: &R, sight: &Sight) {
+        self.board.lock(rt).count(is_part(sight), false);
+    }
+
+    /// An event that showed this was answered so, about now.
+    pub fn answered<R: Wait>(
+        &self,
+        rt: &R,
+        sight: &Sight,
+        answer: &Result<Reply, Refusal>,
+        now: Option<Instant>,
+    ) {
+        self.board.lock(rt).count(is_part(sight), true);
+        match (sight, answer) {
+            (Sight::Request(stream, heard), _) => self.heard(rt, *stream, heard),
+            (Sight::Poll(stream), Ok(Reply::Polled(Some(draft)))) => {
+                self.responded(rt, *stream, draft, now);
+            }
+            (Sight::Change, Ok(_)) => self.board.lock(rt).change(now),
+            _ => {}
+        }
+    }
+
+    fn responded<R: Wait>(&self, rt: &R, stream: u64, draft: &Draft, now: Option<Instant>) {
+        let mut board = self.board.lock(rt);
+        board.polled(now);
+        let _ = board.respond(stream, draft);
+    }
+
+    fn heard<R: Wait>(&self, rt: &R, stream: u64, heard: &Heard) {
+        let mut board = self.board.lock(rt);
+        let is_first = board.hear(stream, heard).unwrap_or(false);
+        drop(board);
+        if !self.ending.logs() {
+            return;
+        }
+        if is_first {
+            self.log(rt, first_request(self.alloc, self.place(stream), heard));
+        }
+        if let Some(message) = &heard.rejection {
+            let place = self.place(stream);
+            self.log(rt, rejected(self.alloc, place, heard, message.as_str()));
+        }
+    }
+}
+
+fn connected(alloc: Global, place: Place, peer: &str) -> Result<LogEvent, Refusal> {
+    Ok(LogEvent::Connected(place, String::from_str(alloc, peer)?))
+}
+
+fn first_request(alloc: Global, place: Place, heard: &Heard) -> Result<LogEvent, Refusal> {
+    let (node, cluster) = match &heard.node {
+        Some((node, cluster)) => (node.as_str(), cluster.as_str()),
+        None => ("", ""),
+    };
+    let first = FirstRequest {
+        node: String::from_str(alloc, node)?,
+        cluster: String::from_str(alloc, cluster)?,
+        type_url: String::from_str(alloc, heard.type_url.as_str())?,
+        is_delta: heard.variant == VariantName::Delta,
+    };
+    Ok(LogEvent::FirstRequest(place, first))
+}
+
+fn rejected(
+    alloc: Global,
+    place: Place,
+    heard: &Heard,
+    message: &str,
+) -> Result<LogEvent, Refusal> {
+    let rejection = Rejection {
+        type_url: String::from_str(alloc, heard.type_url.as_str())?,
+        nonce: String::from_str(alloc, heard.nonce.as_str())?,
+        message: String::from_str(alloc, message)?,
+    };
+    Ok(LogEvent::Rejected(place, rejection))
+}
+
+fn is_part(sight: &Sight) -> bool {
+    match sight {
+        Sight::Part => true,
+        _ => false,
+    }
+}

@@ -1,0 +1,78 @@
+// What a server tells on its error output while it serves.
+ghost use Rattle.std.specs.Prelude.{◌≡◌, string_bytes, IfOk};
+ghost use Rattle.xds_commands.specs.Notes.{note_line, refused_line, caused_line, stamp_line};
+ghost use Rattle.xds_commands.specs.Messages.{fault_line};
+
+use crate::cause::Cause;
+use crate::fault::Fault;
+use crate::log_event::LogEvent;
+use std::alloc::Global;
+use xds_resource::{Refusal, Stamp};
+
+/// Something that is told on the error output, a line each.
+#[derive(Drop)]
+pub enum Note {
+    /// A line of the input, counted from 1, or the change that it says, is refused.
+    Refused(u64, Fault),
+    /// Something that an operator cares for.
+    Event(LogEvent),
+    /// So many notes had no room, and aren't told.
+    Missed(u64),
+}
+
+impl Note {
+    /// Its line.
+    pub fn line(&self, alloc: Global) -> Result<String, Refusal>
+        ensures { IfOk result (λ t. string_bytes t ≡ note_line self.now) }
+    {
+        match self {
+            Note::Refused(line, fault) => refused_line(alloc, *line, *fault),
+            Note::Event(event) => event.line(alloc),
+            Note::Missed(count) => missed_line(alloc, *count),
+        }
+    }
+}
+
+fn missed_line(alloc: Global, count: u64) -> Result<String, Refusal>
+    ensures { IfOk result (λ t. string_bytes t ≡ note_line (Note.Missed count)) }
+{
+    Ok(format!(in alloc; "{count} lines are left out\n")?)
+}
+
+/// The line of a line of the input that is refused: with what is wrong of it, where that is known.
+pub(crate) fn refused_line(alloc: Global, line: u64, fault: Fault) -> Result<String, Refusal>
+    ensures { IfOk result (λ t. string_bytes t ≡ refused_line line fault) }
+{
+    match fault.cause {
+        Some(cause) => caused_line(alloc, line, fault.refusal, cause),
+        None => fault_line(alloc, line, fault.refusal),
+    }
+}
+
+fn caused_line(alloc: Global, line: u64, refusal: Refusal, cause: Cause) -> Result<String, Refusal>
+    ensures { IfOk result (λ t. string_bytes t ≡ caused_line line refusal cause) }
+{
+    let number = refusal.number();
+    let name = refusal.name();
+    let text = cause.text(alloc)?;
+    let text = text.as_str();
+    Ok(format!(in alloc; "line {line}: {number} {name}: {text}\n")?)
+}
+
+/// The line of a line of the input that is refused.
+pub(crate) fn fault_line(alloc: Global, line: u64, refusal: Refusal) -> Result<String, Refusal>
+    ensures { IfOk result (λ t. string_bytes t ≡ fault_line line refusal) }
+{
+    let number = refusal.number();
+    let name = refusal.name();
+    Ok(format!(in alloc; "line {line}: {number} {name}\n")?)
+}
+
+/// The line of a line that was made a write, which has this stamp.
+pub(crate) fn stamp_line(alloc: Global, line: u64, stamp: Stamp) -> Result<String, Refusal>
+    ensures { IfOk result (λ t. string_bytes t ≡ stamp_line line stamp.counter stamp.writer) }
+{
+    let counter = stamp.counter;
+    let writer = stamp.writer;
+    Ok(format!(in alloc; "line {line}: {counter}-{writer}\n")?)
+}

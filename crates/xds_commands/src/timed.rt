@@ -1,0 +1,156 @@
+// A connection of a client, which is read until a time has passed.
+ghost use Rattle.std.specs.Prelude.{◌≡◌, IfSome, Some};
+
+use std::io;
+use std::io::{ErrorKind, Read};
+use std::net::{Net, SocketAddr, SocketAddrV4, TcpStream};
+use std::time::{Clock, Duration, Instant};
+use xds_resource::Refusal;
+
+/// A connection, made within so many seconds where such are given.
+pub(crate) fn connected<N: Net<Stream = TcpStream>>(
+    net: &N,
+    addr: SocketAddrV4,
+    seconds: Option<u16>,
+) -> io::Result<TcpStream> {
+    match seconds {
+        None => TcpStream::connect(net, addr),
+        Some(seconds) => connected_within(net, addr, Duration::from_secs(u64::from(seconds))),
+    }
+}
+
+// A connection that is made within a time, and of which no write waits longer.
+fn connected_within<N: Net<Stream = TcpStream>>(
+    net: &N,
+    addr: SocketAddrV4,
+    time: Duration,
+) -> io::Result<TcpStream> {
+    let socket = TcpStream::connect_timeout(net, &SocketAddr::V4(addr), time)?;
+    socket.set_write_timeout(Some(time))?;
+    Ok(socket)
+}
+
+/// When it is time to give up, if ever.
+#[derive(Clone, Copy)]
+pub(crate) struct Deadline {
+    at: Option<Instant>,
+}
+
+impl Deadline {
+    /// In so many seconds from now; never, where none are given, or the time isn't known.
+    pub(crate) fn after<C: Clock>(clock: &C, seconds: Option<u16>) -> Deadline {
+        let at = match (seconds, Instant::now(clock)) {
+            (Some(seconds), Ok(now)) => now.checked_add(Duration::from_secs(u64::from(seconds))),
+            _ => None,
+        };
+        Deadline { at }
+    }
+
+    /// Never.
+    pub(crate) fn never() -> Deadline {
+        Deadline { at: None }
+    }
+
+    /// Whether it comes at all.
+    pub(crate) fn is_set(self) -> bool {
+        self.at.is_some()
+    }
+
+    /// How long it is until then, if it comes at all: no time, once it has come.
+    pub(crate) fn left<C: Clock>(self, clock: &C) -> io::Result<Option<Duration>> {
+        match self.at {
+            None => Ok(None),
+            Some(at) => Ok(Some(at.saturating_duration_since(Instant::now(clock)?))),
+        }
+    }
+
+    /// Whether it has come.
+    pub(crate) fn has_come<C: Clock>(self, clock: &C) -> bool {
+        match self.left(clock) {
+            Ok(Some(left)) => left.is_zero(),
+            _ => false,
+        }
+    }
+}
+
+/// After how many seconds a command gave up, where it ended by this refusal: after those that it was given, if they have passed.
+pub(crate) fn gave_up<C: Clock>(
+    clock: &C,
+    refusal: Refusal,
+    seconds: Option<u16>,
+    deadline: Deadline,
+) -> Option<u16>
+    ensures { IfSome result (λ s. (seconds ≡ Some s) × (refusal ≡ Refusal.Device)) }
+{
+    if refusal != Refusal::Device {
+        return None;
+    }
+    if deadline.has_come(clock) {
+        seconds
+    } else {
+        None
+    }
+}
+
+/// A connection that is read until a deadline. It notes whether what comes first is an answer of HTTP.
+#[derive(Drop)]
+pub(crate) struct TimedReader<'a, C> {
+    clock: &'a C,
+    socket: &'a TcpStream,
+    deadline: Deadline,
+    // Whether something has come.
+    has_come: bool,
+    speaks_http: bool,
+}
+
+impl<'a, C: Clock> TimedReader<'a, C> {
+    pub(crate) fn new(
+        clock: &'a C,
+        socket: &'a TcpStream,
+        deadline: Deadline,
+    ) -> TimedReader<'a, C> {
+        TimedReader {
+            clock,
+            socket,
+            deadline,
+            has_come: false,
+            speaks_http: false,
+        }
+    }
+
+    /// Whether the other end answers HTTP.
+    pub(crate) fn speaks_http(&self) -> bool {
+        self.speaks_http
+    }
+
+    // Lets the next read wait as long as is left.
+    fn limit(&mut self) -> io::Result<()> {
+        match self.deadline.left(self.clock)? {
+            None => Ok(()),
+            Some(left) => {
+                if left.is_zero() {
+                    return Err(ErrorKind::TimedOut.into());
+                }
+                self.socket.set_read_timeout(Some(left))
+            }
+        }
+    }
+
+    // Looks at what comes first.
+    fn look(&mut self, piece: &[u8]) {
+        if !self.has_come {
+            self.has_come = true;
+            self.speaks_http = piece.starts_with(b"HTTP/");
+        }
+    }
+}
+
+impl<'a, C: Clock> Read for TimedReader<'a, C> {
+    fn read(&mut self, buf: &mut [u8]) -> io::Result<usize> {
+        self.limit()?;
+        let mut from = self.socket;
+        let count = from.read(buf)?;
+        self.look(&buf[..count]);
+        Ok(count)
+    }
+}

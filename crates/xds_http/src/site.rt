@@ -1,0 +1,264 @@
+// The server of pages over HTTP: the service of one connection, and the connections of a listener.
+ghost use Rattle.std.specs.Prelude.{IfSome};
+
+use crate::accept::{Asked, Serves, Tasks};
+use crate::pages::{Page, Pages};
+use crate::response::bare;
+use crate::serve::{MAX_CONNECTIONS, pause_of, permits, run_tasks};
+use crate::service::{BODY_SECONDS, Body, Come};
+use bytes::Bytes;
+use futures::task::{Context, Poll};
+use futures::{Future, ready};
+use http::header::{CONTENT_TYPE, HeaderValue};
+use http_body_util::{BodyExt, Full, Limited, LimitedError};
+use hyper::body::Incoming;
+use hyper::rt::TokioTimer;
+use hyper::server::conn::http1::{Builder, Connection};
+use hyper::service::Service;
+use hyper::{Request, Response, StatusCode};
+use std::alloc::{AllocGlobal, Global};
+use std::hash::RandomState;
+use std::io;
+use std::net::Net;
+use std::random::RandomSource;
+use std::sync::{Arc, Wait};
+use std::time::{Clock, Duration};
+use tokio::net::{TcpListener, TcpStream};
+use tokio::runtime::LocalRuntime;
+use tokio::time::{Handle, Sleep};
+use xds_polls::MAX_BODY;
+use xds_resource::Refusal;
+
+/// The service of a connection.
+pub struct Site<R, A> {
+    rt: R,
+    timers: Handle,
+    shared: Arc<A>,
+    asked: Asked,
+}
+
+// Written out: docs/PROVING.md, "Drops".
+impl<R: Drop, A: Drop> Drop for Site<R, A> {
+    fn drop(self) {
+        let Site {
+            rt: _,
+            timers: _,
+            shared: _,
+            asked: _,
+        } = self;
+    }
+}
+
+/// A response that will be there.
+#[derive(Drop)]
+pub enum Paging<R, A, F> {
+    /// There was no memory for the request.
+    Unavailable(Global),
+    /// The body is still to come.
+    Collecting {
+        rt: R,
+        shared: Arc<A>,
+        method: String,
+        path: String,
+        body: F,
+    },
+}
+
+// A page as a response, where there is memory for it.
+fn made(alloc: Global, page: Page) -> Result<Response<Full<Bytes>>, Refusal> {
+    let Page { status, kind, text } = page;
+    let status = StatusCode::from_u16(status).unwrap_or(StatusCode::INTERNAL_SERVER_ERROR);
+    let mut response = Response::new(alloc, Full::new(Bytes::from_string(text)?));
+    *response.status_mut() = status;
+    let kind = HeaderValue::from_str(alloc, kind).map_err(|_| Refusal::OutOfMemory)?;
+    response
+        .headers_mut()
+        .insert(CONTENT_TYPE, kind)
+        .map_err(|_| Refusal::OutOfMemory)?;
+    Ok(response)
+}
+
+// The page that answers a request, as a response; 503 where there is no memory for it.
+fn response_of(alloc: Global, page: Page) -> Response<Full<Bytes>> {
+    match made(alloc, page) {
+        Ok(response) => response,
+        Err(_) => bare(alloc, StatusCode::SERVICE_UNAVAILABLE),
+    }
+}
+
+// The response to a request whose body has come to this. One that breaks off has none, which ends the connection.
+fn response_to<R: Wait + AllocGlobal, A: Pages>(
+    rt: &R,
+    pages: &A,
+    method: &str,
+    path: &str,
+    body: Come,
+) -> Result<Response<Full<Bytes>>, hyper::Error> {
+    let alloc = rt.alloc();
+    match body {
+        Ok(Ok(body)) => match body.to_bytes() {
+            Ok(body) => {
+                let page = pages.page(rt, alloc, method, path, body.as_slice());
+                Ok(response_of(alloc, page))
+            }
+            Err(_) => Ok(bare(alloc, StatusCode::SERVICE_UNAVAILABLE)),
+        },
+        Ok(Err(LimitedError::LengthLimit)) => Ok(bare(alloc, StatusCode::PAYLOAD_TOO_LARGE)),
+        Ok(Err(LimitedError::Body(e))) => Err(e),
+        Err(_elapsed) => Ok(bare(alloc, StatusCode::REQUEST_TIMEOUT)),
+    }
+}
+
+impl<R, A, F> Future for Paging<R, A, F>
+where
+    R: Wait + AllocGlobal + Drop,
+    A: Pages + Drop,
+    F: Future<Output = Come>,
+{
+    ghost use Rattle.std.specs.Prelude.{⊤};
+    ghost use Rattle.xds_http.specs.declared.site.Paging.TheVariants.{Unavailable, Collecting};
+
+    type Output = Result<Response<Full<Bytes>>, hyper::Error>;
+
+    ghost can_poll = { elim [ Unavailable _ ↦ ⊤ | Collecting _ _ _ _ body ↦ F.can_poll body ] };
+
+    ghost needs = { λ a s. elim a [ Unavailable _ ↦ ⊥ | Collecting _ _ _ _ body ↦ F.needs body s ] };
+
+    fn poll(&mut self, cx: &mut Context<'_>) -> Poll<Self::Output> {
+        match self {
+            Paging::Unavailable(alloc) => {
+                Poll::Ready(Ok(bare(*alloc, StatusCode::SERVICE_UNAVAILABLE)))
+            }
+            Paging::Collecting {
+                rt,
+                shared,
+                method,
+                path,
+                body,
+            } => {
+                let come = ready!(body.poll(cx));
+                let method = method.as_str();
+                Poll::Ready(response_to(rt, &**shared, method, path.as_str(), come))
+            }
+        }
+    }
+}
+
+impl<R, A, I> Service<Request<Incoming<I>>> for Site<R, A>
+where
+    R: Wait + Clock + AllocGlobal + Copy + Drop,
+    A: Pages + Drop,
+    I: Drop,
+{
+    type Response = Response<Full<Bytes>>;
+
+    type Error = hyper::Error;
+
+    type Future = Paging<R, A, Body<I>>;
+
+    fn call(&self, request: Request<Incoming<I>>) -> Self::Future {
+        self.asked.note();
+        let alloc = self.rt.alloc();
+        let Ok(method) = String::from_str(alloc, request.method().as_str()) else {
+            return Paging::Unavailable(alloc);
+        };
+        let Ok(path) = String::from_str(alloc, request.uri().path()) else {
+            return Paging::Unavailable(alloc);
+        };
+        let Ok(shared) = Arc::try_clone(&self.shared) else {
+            return Paging::Unavailable(alloc);
+        };
+        let body = Limited::new(request.into_body(), MAX_BODY).collect(alloc);
+        let limit = Duration::from_secs(BODY_SECONDS);
+        let Ok(body) = self.timers.timeout(&self.rt, limit, body) else {
+            return Paging::Unavailable(alloc);
+        };
+        Paging::Collecting {
+            rt: self.rt,
+            shared,
+            method,
+            path,
+            body,
+        }
+    }
+}
+
+// Serves pages by what all connections share.
+struct Sites<R, A> {
+    rt: R,
+    timers: Handle,
+    builder: Builder<TokioTimer<R>>,
+    shared: Arc<A>,
+}
+
+// Written out: docs/PROVING.md, "Drops".
+impl<R: Drop, A: Drop> Drop for Sites<R, A> {
+    fn drop(self) {
+        let Sites {
+            rt: _,
+            timers: _,
+            builder: _,
+            shared: _,
+        } = self;
+    }
+}
+
+impl<R, A> Serves for Sites<R, A>
+where
+    R: Wait + Clock + AllocGlobal + Copy + Drop,
+    A: Pages + Drop,
+{
+    type Conn = Connection<TcpStream, Site<R, A>, Full<Bytes>, TokioTimer<R>>;
+
+    fn serve(&self, socket: TcpStream, asked: Asked) -> Option<Self::Conn> {
+        let shared = Arc::try_clone(&self.shared).ok()?;
+        let timers = self.timers.clone().ok()?;
+        let site = Site {
+            rt: self.rt,
+            timers,
+            shared,
+            asked,
+        };
+        Some(self.builder.serve_connection(socket, site))
+    }
+
+    fn pause(&self) -> Option<Sleep> {
+        pause_of(&self.rt, &self.timers)
+    }
+}
+
+// What serves pages.
+fn sites_of<R, A>(rt: &R, timers: &Handle, shared: Arc<A>) -> io::Result<Sites<R, A>>
+where
+    R: Clock + RandomSource + AllocGlobal + Copy + Drop,
+    A: Drop,
+{
+    let keys = RandomState::new(rt)?;
+    let timer = TokioTimer::new(*rt, timers.clone()?);
+    let timers = timers.clone()?;
+    let builder = Builder::new(rt.alloc(), keys).timer(timer);
+    Ok(Sites {
+        rt: *rt,
+        timers,
+        builder,
+        shared,
+    })
+}
+
+/// Serves pages at a listener that is bound, by a runtime of its own. All connections are served by the thread that calls it. It
+/// returns as `serve_http` does.
+pub fn serve_pages<R, A>(rt: &R, listener: std::net::TcpListener, pages: Arc<A>) -> io::Result<()>
+where
+    R: Wait + Clock + Net + RandomSource + AllocGlobal + Copy + Drop,
+    A: Pages + Drop,
+{
+    let mut runtime = LocalRuntime::new(rt)?;
+    let sites = sites_of(rt, runtime.handle().time(), pages)?;
+    let permits = permits(rt.alloc(), MAX_CONNECTIONS)?;
+    let listener = TcpListener::from_std(listener, runtime.handle().reactor())?;
+    run_tasks(
+        rt,
+        &mut runtime,
+        Tasks::new(rt.alloc(), listener, sites, permits),
+    )
+}
