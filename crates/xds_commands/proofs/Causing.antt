@@ -16,7 +16,7 @@ use Rattle.xds_resource.specs.Types.{type_of_word}
 use Rattle.xds_resource.proofs.NameMaps.{bytes_eq_same}
 use Rattle.xds_world.specs.Lines.{pieces}
 use Rattle.xds_world.specs.Words.{Text, space, split_first, words, words_in, replica_number}
-use Rattle.xds_world.specs.Commands.{comma, groups_in, resource_in}
+use Rattle.xds_world.specs.Commands.{comma, groups_in}
 use Rattle.xds_world.proofs.Named.{resource_in-parsed}
 use Rattle.xds_world.proofs.ShortNumbers.{number_in-none}
 use Rattle.xds_world.proofs.Wording.{text_of-words_in}
