@@ -158,7 +158,7 @@ impl Lookout {
     pub fn recording_ended<R: Wait>(&self, rt: &R, ended: Result<(), Refusal>) {
         if let Err(refusal) = ended {
             self.ending
-                .note(rt, Note::RecordingEnded(self.replica, refusal));
+                .announce(rt, Note::RecordingEnded(self.replica, refusal));
         }
     }
 

@@ -277,7 +277,7 @@ fn wait_tapes<R: Wait + Clock>(rt: &R, tapes: &Vec<Arc<Tape>>, ending: &Ending) 
     for tape in tapes {
         if !tape.wait(rt, time) {
             time = Duration::from_secs(0);
-            ending.note(rt, Note::RecordingEnded(tape.replica(), Refusal::Device));
+            ending.announce(rt, Note::RecordingEnded(tape.replica(), Refusal::Device));
         }
     }
 }
