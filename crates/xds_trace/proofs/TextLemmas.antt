@@ -13,8 +13,6 @@ use Rattle.xds_message.specs.declared.draft.Draft.{Draft}
 use Rattle.xds_message.specs.declared.draft.Draft.TheVariants as drafts
 use Rattle.xds_message.specs.Drafts.{DraftedResource, drafted_resource}
 use Rattle.xds_resource.specs.Types.{row}
-use Rattle.xds_message.specs.Messages.{Response}
-use Rattle.xds_message.specs.DeltaMessages.{DeltaResponse}
 use Rattle.xds_message.specs.Written.{response_object}
 use Rattle.xds_message.specs.DeltaWritten.{delta_response_object}
 use Rattle.xds_message.specs.DraftTexts.{text_of}
@@ -36,7 +34,7 @@ use Rattle.xds_trace.specs.Making.{own_names, statement_of, labelled_of, answer_
 use Rattle.xds_trace.specs.Telling.{IsSoundRecord, IsTold, BeginsUntold}
 use Rattle.xds_trace.specs.Texts.{records_text, pieces_text, draft_kind, WroteSome}
 use Rattle.xds_trace.proofs.AnyBase.{short_from_base}
-use Rattle.xds_trace.proofs.Joining.{sound_more, untold_at}
+use Rattle.xds_trace.proofs.Joining.{untold_at}
 
 -- ---- texts one after another
 

@@ -6,7 +6,7 @@
 --     WritesText     what a call answers that writes a text
 --     WritesTold     the same of the text of records that may not all be told
 --     TextsJoin      the texts of segments and of the history that they join are the text of the whole trace
-use Rattle.std.specs.Prelude.{◌≡◌, ◌⊎◌, ℕ, List, ◌++◌, take, Result, Ok, Err, All, codes}
+use Rattle.std.specs.Prelude.{◌≡◌, ◌⊎◌, ℕ, List, ◌++◌, take, Result, Ok, Err, codes}
 use Rattle.std.specs.List.{flat_map}
 use Rattle.xds_resource.specs.declared.refusal.Refusal.{Refusal}
 use Rattle.xds_resource.specs.declared.refusal.Refusal.TheVariants.{OutOfMemory, BadTrace, Device as DeviceRefusal}

@@ -1,7 +1,6 @@
 // What a node left, as the text of a trace: written piece by piece, so that the whole is nowhere in memory.
-ghost use Rattle.std.specs.Prelude.{◌≡◌, ◌++◌, ◌∷◌, [], string_bytes, decimal, codes, IfOk, IfErr, ⊤};
+ghost use Rattle.std.specs.Prelude.{◌≡◌, ◌∷◌, [], string_bytes, IfOk, IfErr};
 ghost use Rattle.xds_resource.specs.declared.refusal.Refusal.TheVariants.{OutOfMemory};
-ghost use Rattle.xds_message.specs.DraftTexts.{text_of};
 ghost use Rattle.xds_frames.specs.Devices.{seen};
 ghost use Rattle.xds_check.specs.declared.line.Line.TheVariants as forms;
 ghost use Rattle.xds_check.specs.Texts.{trace_text};

@@ -1,4 +1,3 @@
-use Rattle.xds_frames.specs.Devices.{seen}
 use Rattle.xds_trace.proofs.TextLemmas.{legal_unwritten}
 use Rattle.xds_trace.proofs.texts.write_legal.Goals as goal
 

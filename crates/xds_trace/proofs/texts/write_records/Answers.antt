@@ -29,7 +29,7 @@ loop-line-preserved g c =
     let i = c.loop-line.line-index in
     let below : i < length records = omega arith in (
       text_more records i c.line-item.result (record_of c.record.result.now) below c.line-item.is c.record.ensures _ _ _ _ _ _ _ _ _ (c.as_bytes.ensures.value ∙ c.in-Ok-record_text.ensures.told)
-      c.loop-line.invariant.0 c.in_default-gather.ensures.put,
+          c.loop-line.invariant.0 c.in_default-gather.ensures.put,
       sound_more records i c.line-item.result (record_of c.record.result.now) below c.line-item.is c.record.ensures c.loop-line.invariant.1 c.in-Ok-record_text.ensures.sound,
     )
 
