@@ -2,19 +2,21 @@
 ghost use Rattle.std.specs.Prelude.{◌≡◌};
 
 use crate::running::{is_told, ran_on};
-use crate::serve::servers::{Came, came_to, recorded, serving};
+use crate::serve::servers::{Came, came_to, ends_well, recorded, serving};
 use crate::serve::streams::hears;
 use std::alloc::{AllocGlobal, Global};
 use std::fs::File;
 use std::io::Write;
 use std::marker::Brand;
+use std::net::{Net, TcpListener, TcpStream};
+use std::rt::Files;
 use std::sync::Wait;
 use std::test::Fail;
 use std::thread::JoinHandle;
 use std::time::{SystemTime, UNIX_EPOCH};
 use std::{fs, io, thread};
 use xds_cases::cases::replaced;
-use xds_commands::{Piece, Recording, Reel, Seals};
+use xds_commands::{Piece, Recording, Reel, Runtime, Seals};
 use xds_core::Event;
 use xds_node::{Host, Line, Node, NodeName, Opened, Segment};
 use xds_resource::{AnyResource, Groups, Refusal};
@@ -37,7 +39,11 @@ fn new_folder(rt: &HostRuntime) -> Result<String, Fail> {
 }
 
 // Starts a server of one replica that records in a folder, and ends with its first stream.
-fn recording(rt: &HostRuntime, port: u16, folder: &str) -> Result<JoinHandle<Came>, Fail> {
+fn recording<R: Runtime + Net<Listener = TcpListener, Stream = TcpStream> + Files<File = File>>(
+    rt: &R,
+    port: u16,
+    folder: &str,
+) -> Result<JoinHandle<Came>, Fail> {
     let host = *rt;
     let folder = String::from_str(rt.alloc(), folder)?;
     match thread::spawn(rt, move || {
@@ -50,19 +56,19 @@ fn recording(rt: &HostRuntime, port: u16, folder: &str) -> Result<JoinHandle<Cam
 }
 
 // That this is said of the trace in a file.
-fn is_judged(rt: &HostRuntime, path: &str, wanted: &str) -> Result<(), Fail> {
+fn is_judged<R: Runtime + Net<Listener = TcpListener, Stream = TcpStream> + Files<File = File>>(
+    rt: &R,
+    path: &str,
+    wanted: &str,
+) -> Result<(), Fail> {
     let told = ran_on(rt, "xds check", File::open(rt, path)?)?;
     is_told(rt.alloc(), told.as_str(), wanted)
 }
 
 // That this is said of it once a word is another.
-fn is_judged_with(
-    rt: &HostRuntime,
-    path: &str,
-    word: &str,
-    by: &str,
-    wanted: &str,
-) -> Result<(), Fail> {
+fn is_judged_with<
+    R: Runtime + Net<Listener = TcpListener, Stream = TcpStream> + Files<File = File>,
+>(rt: &R, path: &str, word: &str, by: &str, wanted: &str) -> Result<(), Fail> {
     let text = fs::read_to_string(rt, path)?;
     let text = replaced(rt.alloc(), text.as_str(), word, by)?;
     let copy = format!(in rt.alloc(); "{path}.copy")?;
@@ -70,13 +76,15 @@ fn is_judged_with(
     is_judged(rt, copy.as_str(), wanted)
 }
 
-// What is said of the trace of a server that a client asked, and of copies that are spoilt.
-fn is_recorded(rt: &HostRuntime, folder: &str) -> Result<(), Fail> {
-    let server = recording(rt, 18_880, folder)?;
-    hears(rt, 18_880, ASKS, P)?;
-    came_to(
-        &server.join(rt),
-        0,
+// What is said of a server that ended, of its trace, and of copies that are spoilt.
+fn is_recorded<R: Runtime + Net<Listener = TcpListener, Stream = TcpStream> + Files<File = File>>(
+    rt: &R,
+    server: JoinHandle<Came>,
+    folder: &str,
+) -> Result<(), Fail> {
+    ends_well(
+        rt,
+        server,
         "replica 1: streams on 127.0.0.1:18880, REST on 127.0.0.1:18890\n",
     )?;
     let path = format!(in rt.alloc(); "{folder}/replica-1.trace")?;
@@ -89,52 +97,53 @@ fn is_recorded(rt: &HostRuntime, folder: &str) -> Result<(), Fail> {
         "\"nonce\":\"\"",
         "1 broken 4 P1~",
     )?;
-    is_judged_with(rt, path, "open 1\n", "", "1 line 2: 22 BadTrace~")
+    is_judged_with(rt, path, "open 1", "open 2", "1 line 3: 22 BadTrace~")
 }
 
 #[test]
 fn a_recorded_run_is_checked(rt: HostRuntime) -> Result<(), Fail> {
     let folder = new_folder(&rt)?;
-    let recorded = is_recorded(&rt, folder.as_str());
+    let server = recording(&rt, 18_880, folder.as_str())?;
+    hears(&rt, 18_880, ASKS, P)?;
+    let recorded = is_recorded(&rt, server, folder.as_str());
     fs::remove_dir_all(&rt, folder.as_str())?;
     recorded
 }
 
-// What a server tells whose files can't be made.
-fn is_refused(rt: &HostRuntime, folder: &str) -> Result<(), Fail> {
-    let path = format!(in rt.alloc(); "{folder}/replica-2.trace")?;
-    drop(File::create(rt, path.as_str())?);
-    let wanted = format!(in rt.alloc();
-        "{folder}/replica-2.trace: 19 Device: it is there already\n"
-    )?;
+// What a server tells of a folder in which no file can be made.
+fn is_refused<R: Runtime + Net<Listener = TcpListener, Stream = TcpStream> + Files<File = File>>(
+    rt: &R,
+    folder: &str,
+    file: &str,
+    why: &str,
+) -> Result<(), Fail> {
+    let wanted = format!(in rt.alloc(); "{folder}/{file}: 19 Device: {why}\n")?;
     let came = recorded(
         rt,
         b"put\n" as &[u8],
         serving(2, 18_900, None),
         Some(folder),
     );
-    came_to(&came, 1, wanted.as_str())?;
-    let path = format!(in rt.alloc(); "{folder}/replica-1.trace")?;
-    if fs::exists(rt, path.as_str())? {
-        return Err(Fail::new(format_args!("a file is left behind")));
-    }
-    let wanted = format!(in rt.alloc();
-        "{folder}/none/replica-1.trace: 19 Device: no such folder\n"
-    )?;
-    let none = format!(in rt.alloc(); "{folder}/none")?;
-    let came = recorded(
-        rt,
-        b"put\n" as &[u8],
-        serving(2, 18_900, None),
-        Some(none.as_str()),
-    );
     came_to(&came, 1, wanted.as_str())
+}
+
+// What it tells of a folder with a file in it, in which it leaves no other, and of one that isn't there.
+fn are_refused<R: Runtime + Net<Listener = TcpListener, Stream = TcpStream> + Files<File = File>>(
+    rt: &R,
+    folder: &str,
+) -> Result<(), Fail> {
+    let path = format!(in rt.alloc(); "{folder}/replica-2.trace")?;
+    drop(File::create(rt, path.as_str())?);
+    is_refused(rt, folder, "replica-2.trace", "it is there already")?;
+    is_refused(rt, folder, "replica-2.trace", "it is there already")?;
+    let none = format!(in rt.alloc(); "{folder}/none")?;
+    is_refused(rt, none.as_str(), "replica-1.trace", "no such folder")
 }
 
 #[test]
 fn files_that_cannot_be_made_are_told(rt: HostRuntime) -> Result<(), Fail> {
     let folder = new_folder(&rt)?;
-    let refused = is_refused(&rt, folder.as_str());
+    let refused = are_refused(&rt, folder.as_str());
     fs::remove_dir_all(&rt, folder.as_str())?;
     refused
 }
