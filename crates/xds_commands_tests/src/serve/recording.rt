@@ -97,7 +97,13 @@ fn is_recorded<R: Runtime + Net<Listener = TcpListener, Stream = TcpStream> + Fi
         "\"nonce\":\"\"",
         "1 broken 4 P1~",
     )?;
-    is_judged_with(rt, path, "open 1", "open 2", "1 line 3: 22 BadTrace~")
+    is_judged_with(
+        rt,
+        path,
+        "response 1 2",
+        "response 1 4",
+        "1 line 4: 22 BadTrace~",
+    )
 }
 
 #[test]
