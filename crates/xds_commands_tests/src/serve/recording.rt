@@ -38,6 +38,12 @@ fn new_folder(rt: &HostRuntime) -> Result<String, Fail> {
     Ok(folder)
 }
 
+// What came of a test, once its folder is taken away.
+fn cleared(rt: &HostRuntime, folder: &str, came: Result<(), Fail>) -> Result<(), Fail> {
+    let _ = fs::remove_dir_all(rt, folder);
+    came
+}
+
 // Starts a server of one replica that records in a folder, and ends with its first stream.
 fn recording<R: Runtime + Net<Listener = TcpListener, Stream = TcpStream> + Files<File = File>>(
     rt: &R,
@@ -112,8 +118,7 @@ fn a_recorded_run_is_checked(rt: HostRuntime) -> Result<(), Fail> {
     let server = recording(&rt, 18_880, folder.as_str())?;
     hears(&rt, 18_880, ASKS, P)?;
     let recorded = is_recorded(&rt, server, folder.as_str());
-    fs::remove_dir_all(&rt, folder.as_str())?;
-    recorded
+    cleared(&rt, folder.as_str(), recorded)
 }
 
 // What a server tells of a folder in which no file can be made.
@@ -150,8 +155,7 @@ fn are_refused<R: Runtime + Net<Listener = TcpListener, Stream = TcpStream> + Fi
 fn files_that_cannot_be_made_are_told(rt: HostRuntime) -> Result<(), Fail> {
     let folder = new_folder(&rt)?;
     let refused = are_refused(&rt, folder.as_str());
-    fs::remove_dir_all(&rt, folder.as_str())?;
-    refused
+    cleared(&rt, folder.as_str(), refused)
 }
 
 // That a file holds this.
@@ -184,14 +188,15 @@ fn a_file_passes_for_no_trace_until_it_is_sealed(rt: HostRuntime) -> Result<(), 
     let folder = new_folder(&rt)?;
     let path = format!(in rt.alloc(); "{folder}/a")?;
     let path = path.as_str();
-    let one = is_sealed(&rt, path, "open 1\n", "close 1\n");
-    let none = is_sealed(&rt, path, "", "");
-    fs::remove_dir_all(&rt, folder.as_str())?;
-    one?;
-    none
+    let sealed = match is_sealed(&rt, path, "open 1\n", "close 1\n") {
+        Ok(()) => is_sealed(&rt, path, "", ""),
+        Err(fail) => Err(fail),
+    };
+    cleared(&rt, folder.as_str(), sealed)
 }
 
 // A tape on which so many bytes find room.
+#[derive(Drop)]
 struct Short {
     left: usize,
     taken: Vec<u8>,
