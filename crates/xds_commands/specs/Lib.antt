@@ -14,3 +14,4 @@ pub mod Responses
 pub mod Routes
 pub mod Ends
 pub mod Servings
+pub mod Recordings

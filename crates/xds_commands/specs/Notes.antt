@@ -10,10 +10,11 @@ use Rattle.xds_resource.specs.Refusals.{number_of, name_of}
 use Rattle.xds_commands.specs.declared.cause.Cause.{Cause}
 use Rattle.xds_commands.specs.declared.fault.Fault.{Fault}
 use Rattle.xds_commands.specs.declared.note.Note.{Note}
-use Rattle.xds_commands.specs.declared.note.Note.TheVariants.{Refused, Event, Missed}
+use Rattle.xds_commands.specs.declared.note.Note.TheVariants.{Refused, Event, Missed, RecordingEnded}
 use Rattle.xds_commands.specs.Causes.{cause_text}
 use Rattle.xds_commands.specs.Logging.{event_line}
 use Rattle.xds_commands.specs.Messages.{fault_line}
+use Rattle.xds_commands.specs.Recordings.{recording_line}
 
 -- the line of a line of the input that is refused, with what is wrong of it
 abbrev pub caused_line : ℕ → Refusal → Cause → List ℕ
@@ -33,6 +34,7 @@ abbrev pub note_line : Note → List ℕ
 note_line (Refused line fault) = refused_line line fault
 note_line (Event event) = event_line event
 note_line (Missed count) = decimal count ++ codes " lines are left out\n"
+note_line (RecordingEnded replica refusal) = recording_line replica refusal
 
 -- the line of a line that was made a write, which has this stamp
 abbrev pub stamp_line : ℕ → ℕ → ℕ → List ℕ

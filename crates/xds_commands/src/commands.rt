@@ -1,5 +1,5 @@
 // A run of the program with a network beside it.
-ghost use Rattle.std.specs.Prelude.{◌≡◌};
+ghost use Rattle.std.specs.Prelude.{◌≡◌, option_map};
 ghost use Rattle.xds_frames.specs.Devices.{seen};
 ghost use Rattle.xds_commands.specs.Ends.{GoesOn};
 ghost use Rattle.xds_commands.specs.Servings.{serving_of};
@@ -9,11 +9,13 @@ use crate::polling::poll_once;
 use crate::progress::ProgressReader;
 use crate::server::{Serving, serve};
 use crate::watching::watch;
+use std::fs::File;
 use std::io::{Read, Write};
 use std::net::{Net, TcpListener, TcpStream};
+use std::rt::Files;
 use xds_frames::Counted;
-use xds_program::ServeTask;
 use xds_program::run::Ran;
+use xds_program::{ServeTask, ServeWords};
 
 /// Runs the program with these words, the first of which is its name, and answers the status. The words are looked
 /// at before any input, and before any connection. A server takes the input in a thread of its own, and its threads go
@@ -28,7 +30,7 @@ pub fn run<R, I, O, E, P>(
     terminal: Option<P>,
 ) -> u8
 where
-    R: Runtime + Net<Listener = TcpListener, Stream = TcpStream>,
+    R: Runtime + Net<Listener = TcpListener, Stream = TcpStream> + Files<File = File>,
     I: Read + Drop + Send + 'static,
     O: Write,
     E: Write,
@@ -60,7 +62,20 @@ where
         Ran::Done(status) => status,
         Ran::Poll(task) => poll_once(rt, task, output, errors),
         Ran::Client(task) => watch(rt, &task, output, errors),
-        Ran::Serve(task) => serve(rt, input, errors, serving_of(task, is_terminal)),
+        Ran::Serve(words) => {
+            let serving = serving_of(words.task, is_terminal);
+            serve(rt, input, errors, serving, folder_in(&words))
+        }
+    }
+}
+
+// The folder that traces are recorded into, if there is one.
+fn folder_in(words: &ServeWords) -> Option<&str>
+    ensures { option_map (λ f. f.now) result ≡ words.now.folder }
+{
+    match &words.folder {
+        Some(folder) => Some(folder.as_str()),
+        None => None,
     }
 }
 

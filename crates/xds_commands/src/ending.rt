@@ -236,6 +236,14 @@ impl Ending {
         self.told.notify_all();
     }
 
+    /// Tells something that there is only once in a while. It waits for no room.
+    pub fn announce<R: Wait>(&self, rt: &R, note: Note) {
+        let mut state = self.state.lock(rt);
+        state.push(note);
+        drop(state);
+        self.told.notify_all();
+    }
+
     // The state once there is room for a note more, or the server ends.
     fn room_in<'a, R: Wait>(&'a self, rt: &R) -> MutexGuard<'a, State> {
         let mut state = self.state.lock(rt);

@@ -1,4 +1,5 @@
-// The server's gates: one holds nobody up, and one keeps new frames from being begun once the server ends. They keep no segment.
+// The server's gates: one holds nobody up, and one keeps new frames from being begun once the server ends. They keep no segment: what is
+// cut of a replica that is recorded is written as it is cut.
 use crate::ending::Ending;
 use crate::served::Served;
 use std::sync::Wait;

@@ -4,6 +4,7 @@ ghost use Rattle.std.specs.Prelude.{◌≡◌};
 use crate::board::Board;
 use crate::ending::Ending;
 use crate::log_event::{FirstRequest, LogEvent, Place, Rejection};
+use crate::note::Note;
 use crate::numbers::Numbers;
 use crate::sight::{Heard, Sight};
 use crate::status_text::streams_text;
@@ -150,6 +151,14 @@ impl Lookout {
         self.board.lock(rt).cut(false);
         if self.ending.logs() {
             self.log(rt, Ok(LogEvent::CutFailed(self.replica, refusal)));
+        }
+    }
+
+    /// The recording of the replica's trace ended by a refusal, if it did. That is told in any case.
+    pub fn recording_ended<R: Wait>(&self, rt: &R, ended: Result<(), Refusal>) {
+        if let Err(refusal) = ended {
+            self.ending
+                .announce(rt, Note::RecordingEnded(self.replica, refusal));
         }
     }
 

@@ -2,6 +2,7 @@
 ghost use Rattle.std.specs.Prelude.{◌≡◌, string_bytes, IfOk};
 ghost use Rattle.xds_commands.specs.Notes.{note_line, refused_line, caused_line, stamp_line};
 ghost use Rattle.xds_commands.specs.Messages.{fault_line};
+ghost use Rattle.xds_commands.specs.Recordings.{recording_line};
 
 use crate::cause::Cause;
 use crate::fault::Fault;
@@ -18,6 +19,8 @@ pub enum Note {
     Event(LogEvent),
     /// So many notes had no room, and aren't told.
     Missed(u64),
+    /// The recording of a replica's trace ended by a refusal.
+    RecordingEnded(u16, Refusal),
 }
 
 impl Note {
@@ -29,6 +32,7 @@ impl Note {
             Note::Refused(line, fault) => refused_line(alloc, *line, *fault),
             Note::Event(event) => event.line(alloc),
             Note::Missed(count) => missed_line(alloc, *count),
+            Note::RecordingEnded(replica, refusal) => recording_line(alloc, *replica, *refusal),
         }
     }
 }
@@ -37,6 +41,14 @@ fn missed_line(alloc: Global, count: u64) -> Result<String, Refusal>
     ensures { IfOk result (λ t. string_bytes t ≡ note_line (Note.Missed count)) }
 {
     Ok(format!(in alloc; "{count} lines are left out\n")?)
+}
+
+fn recording_line(alloc: Global, replica: u16, refusal: Refusal) -> Result<String, Refusal>
+    ensures { IfOk result (λ t. string_bytes t ≡ recording_line replica refusal) }
+{
+    let number = refusal.number();
+    let name = refusal.name();
+    Ok(format!(in alloc; "recording of replica {replica} ended: {number} {name}\n")?)
 }
 
 /// The line of a line of the input that is refused: with what is wrong of it, where that is known.

@@ -2,9 +2,11 @@
 ghost use Rattle.std.specs.Prelude.{◌≡◌, ◌+◌, string_bytes, IfOk};
 ghost use Rattle.xds_commands.specs.Messages.{admin_line, fault_line, refusal_line, port_fault_text, port_line, replica_line, TellsLine, TellsText};
 ghost use Rattle.xds_frames.specs.Devices.{seen};
+ghost use Rattle.xds_commands.specs.Recordings.{tape_line};
 
 use crate::ending::{End, Ending, Next};
 use crate::note::fault_line;
+use crate::tapes::{TapeFault, tape_line};
 use std::alloc::Global;
 use std::io::{ErrorKind, Write};
 use std::sync::Wait;
@@ -122,6 +124,21 @@ pub(crate) fn tell_port<E: Write>(
     ensures status { result ≡ 1 }
 {
     put(errors, port_line(alloc, port, fault));
+    REFUSED
+}
+
+/// Tells a file of a trace that can't be made, and why, and answers the status.
+pub(crate) fn tell_tape<E: Write>(
+    alloc: Global,
+    errors: &mut Counted<E>,
+    folder: &str,
+    replica: u16,
+    fault: TapeFault,
+) -> u8
+    ensures told { TellsLine (tape_line folder.now replica fault) (seen E.contents errors.old errors.new) }
+    ensures status { result ≡ 1 }
+{
+    put(errors, tape_line(alloc, folder, replica, fault));
     REFUSED
 }
 

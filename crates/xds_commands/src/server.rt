@@ -9,21 +9,26 @@ use crate::ending::{End, Ending, Telling};
 use crate::log_event::LogEvent;
 use crate::lookout::{Limits, Lookout};
 use crate::machine::{Machine, Runtime};
+use crate::note::Note;
 use crate::order::Order;
+use crate::recorder::Tape;
 use crate::replica::{Sends, Sockets, Takes};
 use crate::serve_telling::{
-    PortFault, tell, tell_admin, tell_line, tell_port, tell_replicas, tell_until_end,
+    PortFault, tell, tell_admin, tell_line, tell_port, tell_replicas, tell_tape, tell_until_end,
 };
-use crate::starting::{start_admin, start_input, start_replica};
+use crate::starting::{DRAIN_SECONDS, start_admin, start_input, start_replica};
+use crate::tapes::{Unrecordable, tapes_in};
 use crate::wires::{Wires, both, crossed, kept};
 use crate::workers::share;
 use crossbeam_channel::{Receiver, Sender, bounded};
 use std::alloc::{AllocError, Global};
+use std::fs::File;
 use std::io::{Read, Write};
 use std::net::{Ipv4Addr, Net, SocketAddrV4, TcpListener, TcpStream};
+use std::rt::Files;
 use std::sync::{Arc, Wait};
 use std::thread;
-use std::time::Duration;
+use std::time::{Clock, Duration};
 use xds_exchange::link;
 use xds_frames::Counted;
 use xds_resource::Refusal;
@@ -53,11 +58,11 @@ pub struct Serving {
     pub admin_port: Option<u16>,
 }
 
-// As many seconds as frames that were begun have to be written at the end, and as many milliseconds as who stopped the server has to
-// take the answer.
-const DRAIN_SECONDS: u64 = 4;
-
+// As many milliseconds as who stopped the server has to take the answer.
 const PARTING_MILLISECONDS: u64 = 200;
+
+// As many seconds as the rest of the traces has at most to be written at the end. It is no more than a journal has.
+const RECORD_SECONDS: u64 = 60;
 
 // What the replicas are started with, and what changes of the input are sent by.
 type Wiring = Wires<Sockets, Sender<Order>, Receiver<Order>, Sends, Takes>;
@@ -66,40 +71,94 @@ type Wiring = Wires<Sockets, Sender<Order>, Receiver<Order>, Sends, Takes>;
 /// or 1 with the refusal on the error output. A server that keeps going tells such a line, and reads the next. All ports are bound before anything is read; one that can't be is told with
 /// its address as 19 Device, and why. What is served where is told on the error output, a line a replica.
 ///
+/// Where a folder is given, the trace of replica K is recorded in its file `replica-K.trace`, which is new: where it can't be made, that
+/// is told with its name as 19 Device, and why, and nothing is read. A recording that ends by a refusal is told; the server goes on.
+///
 /// The input is read in a thread of its own, so it is handed over by value. Its end ends nothing. Threads that still wait
 /// at the end are left: they end with the process.
-pub fn serve<R, I, E>(rt: &R, input: I, errors: &mut Counted<E>, serving: Serving) -> u8
+pub fn serve<R, I, E>(
+    rt: &R,
+    input: I,
+    errors: &mut Counted<E>,
+    serving: Serving,
+    folder: Option<&str>,
+) -> u8
 where
-    R: Runtime + Net<Listener = TcpListener, Stream = TcpStream>,
+    R: Runtime + Net<Listener = TcpListener, Stream = TcpStream> + Files<File = File>,
     I: Read + Drop + Send + 'static,
     E: Write,
     ensures { result ≤ 1 }
 {
     let alloc = rt.alloc();
-    let ended = match all_bound(rt, alloc, serving) {
+    match all_bound(rt, alloc, serving) {
         Ok((sockets, admin)) => {
-            tell_replicas(
-                alloc,
-                errors,
-                serving.replicas,
-                serving.port,
-                serving.rest_port,
-            );
-            if let Some(port) = serving.admin_port {
-                tell_admin(alloc, errors, port);
-            }
-            run(rt, alloc, input, errors, sockets, admin, serving)
+            serve_recorded(rt, alloc, input, errors, sockets, admin, serving, folder)
         }
         Err(Unbound::Port(port, fault)) => {
             drop(input);
-            return tell_port(alloc, errors, port, fault);
+            tell_port(alloc, errors, port, fault)
         }
         Err(Unbound::Refused(refusal)) => {
             drop(input);
-            Err(refusal)
+            tell_end(alloc, errors, Err(refusal))
         }
+    }
+}
+
+// Serves at these sockets, and records in this folder, if there is one.
+fn serve_recorded<R, I, E>(
+    rt: &R,
+    alloc: Global,
+    input: I,
+    errors: &mut Counted<E>,
+    sockets: Vec<Sockets>,
+    admin: Option<TcpListener>,
+    serving: Serving,
+    folder: Option<&str>,
+) -> u8
+where
+    R: Machine,
+    I: Read + Drop + Send + 'static,
+    E: Write,
+    ensures { result ≤ 1 }
+{
+    let tapes = match folder {
+        Some(folder) => match tapes_in(rt, alloc, folder, serving.replicas) {
+            Ok(tapes) => tapes,
+            Err(fault) => {
+                drop(input);
+                return tell_unrecordable(alloc, errors, folder, fault);
+            }
+        },
+        None => Vec::new(alloc),
     };
+    tell_replicas(
+        alloc,
+        errors,
+        serving.replicas,
+        serving.port,
+        serving.rest_port,
+    );
+    if let Some(port) = serving.admin_port {
+        tell_admin(alloc, errors, port);
+    }
+    let ended = run(rt, alloc, input, errors, sockets, admin, &tapes, serving);
     tell_end(alloc, errors, ended)
+}
+
+// Tells why traces can't be recorded in a folder, and answers the status.
+fn tell_unrecordable<E: Write>(
+    alloc: Global,
+    errors: &mut Counted<E>,
+    folder: &str,
+    fault: Unrecordable,
+) -> u8
+    ensures { result ≡ 1 }
+{
+    match fault {
+        Unrecordable::File(replica, fault) => tell_tape(alloc, errors, folder, replica, fault),
+        Unrecordable::Refused(refusal) => tell(alloc, errors, refusal),
+    }
 }
 
 // Tells why a server ended, where that is a refusal, and answers the status.
@@ -177,6 +236,7 @@ fn run<R, I, E>(
     errors: &mut Counted<E>,
     sockets: Vec<Sockets>,
     admin: Option<TcpListener>,
+    tapes: &Vec<Arc<Tape>>,
     serving: Serving,
 ) -> Result<End, Refusal>
 where
@@ -196,6 +256,7 @@ where
         admin,
         serving.keep_going,
         &lookouts,
+        tapes,
         &ending,
     )?;
     let end = tell_until_end(rt, alloc, errors, &ending);
@@ -203,7 +264,22 @@ where
         thread::sleep(rt, Duration::from_millis(PARTING_MILLISECONDS));
     }
     ending.drain(rt, Duration::from_secs(DRAIN_SECONDS));
+    if !tapes.is_empty() {
+        wait_tapes(rt, tapes, &ending);
+        tell_until_end(rt, alloc, errors, &ending);
+    }
     Ok(end)
+}
+
+// Waits until the traces are written to their ends. One that isn't in time has ended.
+fn wait_tapes<R: Wait + Clock>(rt: &R, tapes: &Vec<Arc<Tape>>, ending: &Ending) {
+    let mut time = Duration::from_secs(RECORD_SECONDS);
+    for tape in tapes {
+        if !tape.wait(rt, time) {
+            time = Duration::from_secs(0);
+            ending.announce(rt, Note::RecordingEnded(tape.replica(), Refusal::Device));
+        }
+    }
 }
 
 // Where threads note what happens at each replica.
@@ -260,6 +336,7 @@ fn start<R, I>(
     admin: Option<TcpListener>,
     keep_going: bool,
     lookouts: &Vec<Arc<Lookout>>,
+    tapes: &Vec<Arc<Tape>>,
     ending: &Arc<Ending>,
 ) -> Result<(), Refusal>
 where
@@ -279,9 +356,11 @@ where
         start_input(rt, alloc, input, senders, keep_going, ending),
     );
     let mut lookouts = lookouts.iter();
+    let mut tapes = tapes.iter();
     for replica in replicas {
+        let tape = tapes.next();
         match lookouts.next() {
-            Some(lookout) => done = both(done, start_replica(rt, alloc, replica, lookout)),
+            Some(lookout) => done = both(done, start_replica(rt, alloc, replica, lookout, tape)),
             None => drop(replica),
         }
     }

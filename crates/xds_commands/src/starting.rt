@@ -8,37 +8,44 @@ use crate::keeping::keep_input;
 use crate::lookout::Lookout;
 use crate::machine::{Machine, Runtime};
 use crate::order::Order;
+use crate::recorded::Recorded;
+use crate::recorder::Tape;
+use crate::recording::Piece;
 use crate::replica::{Replica, run_replica};
 use crate::served::Served;
 use crate::watched::Watched;
 use crate::weighed::Weighed;
-use crate::wires::started;
-use crate::workers::{share, start_worker};
+use crate::wires::{both, started};
+use crate::workers::{share, shares, start_worker};
 use crossbeam_channel::Sender;
 use std::alloc::Global;
 use std::io::Read;
 use std::marker::Brand;
 use std::net::TcpListener;
-use std::sync::Arc;
+use std::sync::{Arc, Wait};
 use std::thread;
-use std::time::Clock;
+use std::time::{Clock, Duration};
 use xds_http::{Replies, serve_pages};
 use xds_node::{Host, Line, Node, NodeName, Opened};
 use xds_resource::Refusal;
 
-/// Starts the thread of a replica, whose number its lookout knows. Its node has a name of its own.
+/// As many seconds as frames that were begun have to be written at the end.
+pub(crate) const DRAIN_SECONDS: u64 = 4;
+
+/// Starts the thread of a replica, whose number its lookout knows, and that of its tape, if it has one. Its node has a name of its own.
 pub(crate) fn start_replica<R>(
     rt: &R,
     alloc: Global,
     replica: Replica,
     lookout: &Arc<Lookout>,
+    tape: Option<&Arc<Tape>>,
 ) -> Result<(), Refusal>
 where
     R: Machine,
 {
     let number = lookout.replica().max(1);
     match Opened::<Line>::new(alloc) {
-        Ok(opened) => start_named::<R, Brand>(rt, alloc, opened, number, replica, lookout),
+        Ok(opened) => start_named::<R, Brand>(rt, alloc, opened, number, replica, lookout, tape),
         Err(_) => {
             drop(replica);
             Err(Refusal::OutOfMemory)
@@ -54,6 +61,7 @@ fn start_named<R, N>(
     number: u16,
     replica: Replica,
     lookout: &Arc<Lookout>,
+    tape: Option<&Arc<Tape>>,
 ) -> Result<(), Refusal>
 where
     R: Machine,
@@ -62,8 +70,8 @@ where
     requires first { 1 ≤ number }
     requires own { number ≡ N.replica }
 {
-    match shared::<R, N>(rt, alloc, opened, number, lookout) {
-        Ok(node) => start_node(rt, alloc, node, replica, lookout),
+    match shared::<R, N>(rt, alloc, opened, number, lookout, tape) {
+        Ok(node) => start_node(rt, alloc, node, replica, lookout, tape),
         Err(refusal) => {
             drop(replica);
             Err(refusal)
@@ -78,14 +86,39 @@ fn shared<R: Runtime, N: NodeName>(
     opened: Opened<Line>,
     number: u16,
     lookout: &Arc<Lookout>,
-) -> Result<Arc<Weighed<Watched<Node<N>, R>>>, Refusal>
+    tape: Option<&Arc<Tape>>,
+) -> Result<Arc<Weighed<Watched<Recorded<Node<N>>, R>>>, Refusal>
     requires name { opened ≡ N.id }
     requires first { 1 ≤ number }
     requires own { number ≡ N.replica }
 {
     let node = Node::<N>::new(alloc, opened, number)?;
-    let watched = watched_node(alloc, node, *rt, lookout)?;
+    let recorded = recorded_node(node, lookout, tape)?;
+    let watched = watched_node(alloc, recorded, *rt, lookout)?;
     Ok(Arc::new(alloc, Weighed::new(alloc, watched))?)
+}
+
+// A node whose journal goes to this tape, if there is one.
+fn recorded_node<A: Served + Host<Segment: Piece> + Drop>(
+    node: A,
+    lookout: &Arc<Lookout>,
+    tape: Option<&Arc<Tape>>,
+) -> Result<Recorded<A>, Refusal> {
+    match (share(lookout), shared_tape(tape)) {
+        (Ok(lookout), Ok(tape)) => Ok(Recorded::new(node, tape, lookout)),
+        _ => {
+            drop(node);
+            Err(Refusal::OutOfMemory)
+        }
+    }
+}
+
+// A share of a tape, if there is one.
+fn shared_tape(tape: Option<&Arc<Tape>>) -> Result<Option<Arc<Tape>>, Refusal> {
+    match tape {
+        Some(tape) => Ok(Some(share(tape)?)),
+        None => Ok(None),
+    }
 }
 
 // A node whose events are noted.
@@ -104,8 +137,68 @@ fn watched_node<A: Served + Drop, C: Clock + Drop>(
     }
 }
 
-// Starts the thread of a replica.
+// Starts the threads of a replica and of its tape.
 fn start_node<R, A>(
+    rt: &R,
+    alloc: Global,
+    node: Arc<A>,
+    replica: Replica,
+    lookout: &Arc<Lookout>,
+    tape: Option<&Arc<Tape>>,
+) -> Result<(), Refusal>
+where
+    R: Machine,
+    A: Served + Replies + Drop + Send + Sync + 'static,
+    <A as Host>::Seat: Send + 'static,
+    A::Segment: Send,
+    A::PostSeat: Send,
+    <A as Replies>::Seat: Send,
+{
+    let taping = match tape {
+        Some(tape) => start_tape(rt, &node, tape, lookout),
+        None => Ok(()),
+    };
+    both(taping, start_calls(rt, alloc, node, replica, lookout))
+}
+
+// Starts the thread that finishes a tape at the end.
+fn start_tape<R, A>(
+    rt: &R,
+    node: &Arc<A>,
+    tape: &Arc<Tape>,
+    lookout: &Arc<Lookout>,
+) -> Result<(), Refusal>
+where
+    R: Machine,
+    A: Host + Drop + Send + Sync + 'static,
+{
+    let owned = match (shares(node, lookout), share(tape)) {
+        (Ok((node, lookout)), Ok(tape)) => Ok((node, lookout, tape)),
+        _ => Err(Refusal::OutOfMemory),
+    };
+    start_worker(rt, owned, move |rt, (node, lookout, tape)| {
+        finish_tape(rt, &*node, &tape, &lookout);
+    })
+}
+
+// Waits for the end, and for frames that are being written, and writes the rest of what happened.
+fn finish_tape<R: Wait + Clock, A: Host>(rt: &R, node: &A, tape: &Tape, lookout: &Lookout) {
+    let ending = lookout.ending();
+    ending.wait(rt);
+    ending.drain(rt, Duration::from_secs(DRAIN_SECONDS));
+    let rest = match node.cut(rt) {
+        Ok(segment) => {
+            drop(segment);
+            Ok(())
+        }
+        Err(refusal) => Err(refusal),
+    };
+    lookout.recording_ended(rt, tape.seal(rt, rest));
+    tape.finish(rt);
+}
+
+// Starts the thread of a replica.
+fn start_calls<R, A>(
     rt: &R,
     alloc: Global,
     node: Arc<A>,

@@ -13,13 +13,15 @@ use xds_rest::Posts;
 /// About how many bytes the records of a journal may take: 4 MiB. A journal with more of them is cut, whatever its length.
 pub const MOST_BYTES: u64 = 4_194_304;
 
-/// A replica whose journal is cut once its records take about [`MOST_BYTES`], and what was cut is dropped. So requests as long
-/// as a frame may be, or responses that state very much, take no more memory than that, beside what the replica holds.
+/// A replica whose journal is cut once its records take about [`MOST_BYTES`]. So requests as long as a frame may be, or responses
+/// that state very much, take no more memory than that, beside what the replica holds.
 pub struct Weighed<A> {
     node: A,
     alloc: Global,
     // What the journal takes since it was cut for that, about.
     weight: Mutex<u64>,
+    // Whose turn it is to cut it for that.
+    turn: Mutex<()>,
 }
 
 // Written out: docs/PROVING.md, "Drops".
@@ -29,6 +31,7 @@ impl<A: Drop> Drop for Weighed<A> {
             node: _,
             alloc: _,
             weight: _,
+            turn: _,
         } = self;
     }
 }
@@ -40,20 +43,35 @@ impl<A: Served> Weighed<A> {
             node,
             alloc,
             weight: Mutex::new(0),
+            turn: Mutex::new(()),
         }
     }
 
-    // Counts what a record takes, and cuts the journal where that is too much. A cut that finds no memory is tried again once
-    // as much came again.
+    // Counts what a record takes, and cuts the journal where that is too much.
     fn count<R: Wait>(&self, rt: &R, bytes: u64) {
         let mut weight = self.weight.lock(rt);
-        let sum = (*weight).saturating_add(bytes);
-        let is_heavy = sum > MOST_BYTES;
-        *weight = if is_heavy { 0 } else { sum };
+        *weight = (*weight).saturating_add(bytes);
+        let is_heavy = *weight > MOST_BYTES;
+        drop(weight);
+        if is_heavy {
+            self.lighten(rt);
+        }
+    }
+
+    // Cuts the journal, unless another did while this waited for its turn. So no more is held back than a journal, where what is cut
+    // is written slowly. A cut that finds no memory is tried again once as much came again.
+    fn lighten<R: Wait>(&self, rt: &R) {
+        let turn = self.turn.lock(rt);
+        let mut weight = self.weight.lock(rt);
+        let is_heavy = *weight > MOST_BYTES;
+        if is_heavy {
+            *weight = 0;
+        }
         drop(weight);
         if is_heavy {
             let _ = self.node.cut(rt);
         }
+        drop(turn);
     }
 }
 

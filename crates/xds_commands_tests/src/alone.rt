@@ -1,6 +1,8 @@
 // Runs that need nobody else.
 use crate::running::{begins, ran, tells};
+use std::fs::File;
 use std::net::{Net, TcpListener, TcpStream};
+use std::rt::Files;
 use std::test::Fail;
 use xds_commands::Runtime;
 
@@ -19,7 +21,7 @@ fn what_needs_no_network_is_done(rt: HostRuntime) -> Result<(), Fail> {
 }
 
 // That a run over these words and this input ends with this status.
-fn ends_with<R: Runtime + Net<Listener = TcpListener, Stream = TcpStream>>(
+fn ends_with<R: Runtime + Net<Listener = TcpListener, Stream = TcpStream> + Files<File = File>>(
     rt: &R,
     line: &str,
     input: &'static [u8],

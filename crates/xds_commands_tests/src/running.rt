@@ -1,6 +1,9 @@
 // A run of the program, over an input in memory.
 use std::alloc::Global;
+use std::fs::File;
+use std::io::Read;
 use std::net::{Net, TcpListener, TcpStream};
+use std::rt::Files;
 use std::test::Fail;
 use xds_cases::cases::{replaced, words_of, written_out};
 use xds_commands::{Runtime, run};
@@ -9,11 +12,17 @@ use xds_resource::Refusal;
 
 /// The status of a run over these words and this input, its output and its error output, with `~`
 /// for a line feed.
-pub(crate) fn ran<R: Runtime + Net<Listener = TcpListener, Stream = TcpStream>>(
-    rt: &R,
-    line: &str,
-    input: &'static [u8],
-) -> Result<String, Refusal> {
+pub(crate) fn ran<
+    R: Runtime + Net<Listener = TcpListener, Stream = TcpStream> + Files<File = File>,
+>(rt: &R, line: &str, input: &'static [u8]) -> Result<String, Refusal> {
+    ran_on(rt, line, input)
+}
+
+/// The same over any input.
+pub(crate) fn ran_on<
+    R: Runtime + Net<Listener = TcpListener, Stream = TcpStream> + Files<File = File>,
+    I: Read + Drop + Send + 'static,
+>(rt: &R, line: &str, input: I) -> Result<String, Refusal> {
     let alloc = rt.alloc();
     let words = words_of(alloc, line)?;
     let mut output = Counted::new(Vec::new(alloc));
@@ -55,12 +64,9 @@ pub(crate) fn is_told(alloc: Global, found: &str, wanted: &str) -> Result<(), Fa
 }
 
 /// That a run over these words and this input tells what is wanted.
-pub(crate) fn tells<R: Runtime + Net<Listener = TcpListener, Stream = TcpStream>>(
-    rt: &R,
-    line: &str,
-    input: &'static [u8],
-    wanted: &str,
-) -> Result<(), Fail> {
+pub(crate) fn tells<
+    R: Runtime + Net<Listener = TcpListener, Stream = TcpStream> + Files<File = File>,
+>(rt: &R, line: &str, input: &'static [u8], wanted: &str) -> Result<(), Fail> {
     let found = ran(rt, line, input)?;
     is_told(rt.alloc(), found.as_str(), wanted)
 }

@@ -7,6 +7,7 @@ mod inputs;
 mod keeping;
 mod limits;
 mod logging;
+mod recording;
 mod servers;
 mod streams;
 mod weights;

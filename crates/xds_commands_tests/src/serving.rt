@@ -1,8 +1,10 @@
 // A server, a client and a poll in one process.
 use crate::running::{begins, is_told, ran};
 use std::alloc::Global;
+use std::fs::File;
 use std::io::{Read, Write};
 use std::net::{Ipv4Addr, Net, Shutdown, SocketAddrV4, TcpListener, TcpStream};
+use std::rt::Files;
 use std::test::Fail;
 use std::thread;
 use std::thread::JoinHandle;
@@ -26,7 +28,7 @@ const A_CLUSTER: &[u8] =
 type Run = JoinHandle<Result<String, Refusal>>;
 
 // Starts a server in a thread of its own.
-fn started<R: Runtime + Net<Listener = TcpListener, Stream = TcpStream>>(
+fn started<R: Runtime + Net<Listener = TcpListener, Stream = TcpStream> + Files<File = File>>(
     rt: &R,
     line: &'static str,
     input: &'static [u8],
@@ -36,7 +38,7 @@ fn started<R: Runtime + Net<Listener = TcpListener, Stream = TcpStream>>(
 }
 
 // That a server ends with this status.
-fn ends<R: Runtime + Net<Listener = TcpListener, Stream = TcpStream>>(
+fn ends<R: Runtime + Net<Listener = TcpListener, Stream = TcpStream> + Files<File = File>>(
     rt: &R,
     server: Run,
     status: &str,
@@ -46,7 +48,7 @@ fn ends<R: Runtime + Net<Listener = TcpListener, Stream = TcpStream>>(
 }
 
 // What a run tells, tried again while it is refused for want of a server.
-fn once_served<R: Runtime + Net<Listener = TcpListener, Stream = TcpStream>>(
+fn once_served<R: Runtime + Net<Listener = TcpListener, Stream = TcpStream> + Files<File = File>>(
     rt: &R,
     line: &str,
 ) -> Result<String, Refusal> {
@@ -61,17 +63,15 @@ fn once_served<R: Runtime + Net<Listener = TcpListener, Stream = TcpStream>>(
 }
 
 // That a run tells what is wanted, once there is a server.
-fn tells_once_served<R: Runtime + Net<Listener = TcpListener, Stream = TcpStream>>(
-    rt: &R,
-    line: &str,
-    wanted: &str,
-) -> Result<(), Fail> {
+fn tells_once_served<
+    R: Runtime + Net<Listener = TcpListener, Stream = TcpStream> + Files<File = File>,
+>(rt: &R, line: &str, wanted: &str) -> Result<(), Fail> {
     let told = once_served(rt, line)?;
     is_told(rt.alloc(), told.as_str(), wanted)
 }
 
 // A connection to a port of this machine, tried again while there is none.
-fn connected<R: Runtime + Net<Listener = TcpListener, Stream = TcpStream>>(
+fn connected<R: Runtime + Net<Listener = TcpListener, Stream = TcpStream> + Files<File = File>>(
     rt: &R,
     port: u16,
 ) -> Result<TcpStream, Refusal> {
@@ -106,9 +106,9 @@ fn a_client_hears_of_what_the_other_replica_took(rt: HostRuntime) -> Result<(), 
 }
 
 // While a connection holds half a frame, a client hears of what there is.
-fn beside_half_a_frame<R: Runtime + Net<Listener = TcpListener, Stream = TcpStream>>(
-    rt: &R,
-) -> Result<(), Fail> {
+fn beside_half_a_frame<
+    R: Runtime + Net<Listener = TcpListener, Stream = TcpStream> + Files<File = File>,
+>(rt: &R) -> Result<(), Fail> {
     let mut held = connected(rt, 18630)?;
     held.write_all(b"\x00\x00\x00\x40\x01")?;
     tells_once_served(
@@ -131,7 +131,7 @@ fn a_half_frame_holds_up_no_other_stream(rt: HostRuntime) -> Result<(), Fail> {
 }
 
 // What a poll tells once this part is told, and in the end whatever it tells.
-fn once_told<R: Runtime + Net<Listener = TcpListener, Stream = TcpStream>>(
+fn once_told<R: Runtime + Net<Listener = TcpListener, Stream = TcpStream> + Files<File = File>>(
     rt: &R,
     line: &str,
     part: &str,
@@ -146,7 +146,7 @@ fn once_told<R: Runtime + Net<Listener = TcpListener, Stream = TcpStream>>(
 }
 
 // Polls until the cluster `a` is told.
-fn is_polled<R: Runtime + Net<Listener = TcpListener, Stream = TcpStream>>(
+fn is_polled<R: Runtime + Net<Listener = TcpListener, Stream = TcpStream> + Files<File = File>>(
     rt: &R,
 ) -> Result<(), Fail> {
     let line = "xds poll --addr 127.0.0.1:18660 --type cluster a";
@@ -187,7 +187,7 @@ fn hangs_up(alloc: Global, listener: &TcpListener) -> Result<(), Fail> {
 }
 
 // What a run tells of such a peer.
-fn hung_up<R: Runtime + Net<Listener = TcpListener, Stream = TcpStream>>(
+fn hung_up<R: Runtime + Net<Listener = TcpListener, Stream = TcpStream> + Files<File = File>>(
     rt: &R,
     port: u16,
     line: &'static str,
@@ -232,7 +232,7 @@ fn a_bad_line_ends_a_server(rt: HostRuntime) -> Result<(), Fail> {
 }
 
 // Takes a connection, and says nothing for as long as it is kept.
-fn stays_silent<R: Runtime + Net<Listener = TcpListener, Stream = TcpStream>>(
+fn stays_silent<R: Runtime + Net<Listener = TcpListener, Stream = TcpStream> + Files<File = File>>(
     rt: &R,
     port: u16,
     line: &'static str,

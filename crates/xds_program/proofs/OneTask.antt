@@ -7,9 +7,9 @@ use Rattle.clap.specs.Words.{Row, Text, one_of}
 use Rattle.xds_program.specs.declared.tasks.Task.{Task}
 use Rattle.xds_program.specs.declared.tasks.Task.TheVariants.{Answer, Play, Check, Serve, Client, Poll}
 use Rattle.xds_program.specs.declared.tasks.ServeTask.{ServeTask}
-use Rattle.xds_program.specs.Tasks.{Look, Watch}
+use Rattle.xds_program.specs.Tasks.{Look, Serves, Watch}
 use Rattle.xds_program.specs.CommandLine.{named_in}
-use Rattle.xds_program.specs.Words.{Asks, AsksBy, AsksClient, AsksIn, AsksPoll, AsksServe, Finds, IsAddress, IsNumber}
+use Rattle.xds_program.specs.Words.{Asks, AsksBy, AsksClient, AsksIn, AsksPoll, AsksServe, AsksServed, Finds, IsAddress, IsNumber}
 use Rattle.xds_program.proofs.Values.{one_number, only_answer, only_check, only_client, only_play, only_poll, only_serve, same_some}
 
 -- what fits one thing at most is found once
@@ -39,6 +39,12 @@ one_serve rows s t h k =
     let idle_seconds = one_found (IsNumber rows (codes "idle-seconds")) (one_number rows (codes "idle-seconds")) s.idle_seconds t.idle_seconds h.idle_seconds k.idle_seconds in
     let admin_port = one_found (IsNumber rows (codes "admin-port")) (one_number rows (codes "admin-port")) s.admin_port t.admin_port h.admin_port k.admin_port in
     λ i. record { replicas = replicas i; port = port i; rest_port = rest_port i; streams = streams i; keep_going = keep_going i; log = log i; max_streams = max_streams i; idle_seconds = idle_seconds i; admin_port = admin_port i }
+
+one_served : (rows : List Row) (s t : Serves) → AsksServed rows s → AsksServed rows t → s ≡ t
+one_served rows s t h k =
+    let task = one_serve rows s.task t.task h.task k.task in
+    let folder = sym h.folder ∙ k.folder in
+    λ i. record { task = task i; folder = folder i }
 
 one_client : (rows : List Row) (c d : Watch) → AsksClient rows c → AsksClient rows d → c ≡ d
 one_client rows c d h k =
@@ -75,7 +81,7 @@ one_by command rows (Play trace) other h k =
 one_by command rows Check other h k = sym (only_check rows other (named command _ rows other h k))
 one_by command rows (Serve s) other h k =
     let only = only_serve rows other (named command _ rows other h.0 k) in
-    ap Serve (one_serve rows s only.0 h.1 only.2) ∙ sym only.1
+    ap Serve (one_served rows s only.0 h.1 only.2) ∙ sym only.1
 one_by command rows (Client c) other h k =
     let only = only_client rows other (named command _ rows other h.0 k) in
     ap Client (one_client rows c only.0 h.1 only.2) ∙ sym only.1

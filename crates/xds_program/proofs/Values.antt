@@ -14,9 +14,8 @@ use Rattle.clap.specs.declared.parser.matches.Found.{Found}
 use Rattle.clap.proofs.WalkLemmas.{one_text-rows, raw_values-rows}
 use Rattle.xds_program.specs.declared.tasks.Task.{Task}
 use Rattle.xds_program.specs.declared.tasks.Task.TheVariants.{Answer, Play, Check, Serve, Client, Poll}
-use Rattle.xds_program.specs.declared.tasks.ServeTask.{ServeTask}
-use Rattle.xds_program.specs.Tasks.{Look, Watch}
-use Rattle.xds_program.specs.Words.{AsksBy, AsksClient, AsksIn, AsksPoll, AsksServe, Finds, IsAddress, IsNumber, IsNumberText, names_in}
+use Rattle.xds_program.specs.Tasks.{Look, Serves, Watch}
+use Rattle.xds_program.specs.Words.{AsksBy, AsksClient, AsksIn, AsksPoll, AsksServed, Finds, IsAddress, IsNumber, IsNumberText, names_in}
 
 -- ---- one value
 
@@ -110,7 +109,7 @@ only_play rows (Client c) h = absurd (apart _ _ refl h.0)
 only_play rows (Poll p) h = absurd (apart _ _ refl h.0)
 
 -- `serve` asks for nothing else
-pub only_serve : (rows : List Row) (task : Task) → AsksBy (codes "serve") rows task → (x : ServeTask) × (task ≡ Serve x) × AsksServe rows x
+pub only_serve : (rows : List Row) (task : Task) → AsksBy (codes "serve") rows task → (x : Serves) × (task ≡ Serve x) × AsksServed rows x
 only_serve rows (Answer n) h = absurd (apart _ _ refl h.0)
 only_serve rows (Play trace) h = absurd (apart _ _ refl h.0)
 only_serve rows Check h = absurd (apart _ _ refl h)
@@ -150,7 +149,7 @@ no_answer rows none task h =
     let only = only_answer rows task h in
     none only.0 only.2
 
-pub no_serve : (rows : List Row) → ((x : ServeTask) → AsksServe rows x → ⊥) → (task : Task) → AsksBy (codes "serve") rows task → ⊥
+pub no_serve : (rows : List Row) → ((x : Serves) → AsksServed rows x → ⊥) → (task : Task) → AsksBy (codes "serve") rows task → ⊥
 no_serve rows none task h =
     let only = only_serve rows task h in
     none only.0 only.2

@@ -11,7 +11,7 @@
 --     rest_port_option                 `xds check`, which has no options
 --     serve_start                      `xds serve`, with the options that say what is served where, and for how long
 --     serve_command                    `xds serve [--replicas N] [--port P] [--rest-port Q] [--streams S] [--keep-going] [--log]
---                                      [--max-streams N] [--idle-seconds T] [--admin-port A]`
+--                                      [--max-streams N] [--idle-seconds T] [--admin-port A] [--record DIR]`
 --     client_start                     `xds client`, with the options that say where it asks, how, and for what
 --     client_command                   `xds client`, with its options and names
 --     poll_start                       `xds poll`, with the options that say where it asks, and for what
@@ -93,14 +93,15 @@ serve_start =
     rest_port_option)
     (number_option (codes "streams"))
 
--- `xds serve [--replicas N] [--port P] [--rest-port Q] [--streams S] [--keep-going] [--log] [--max-streams N] [--idle-seconds T] [--admin-port A]`
+-- `xds serve [--replicas N] [--port P] [--rest-port Q] [--streams S] [--keep-going] [--log] [--max-streams N] [--idle-seconds T] [--admin-port A] [--record DIR]`
 abbrev pub serve_command : App
 serve_command =
-    with_rule (with_rule (with_rule (with_rule (with_rule serve_start (flag_option (codes "keep-going")))
+    with_rule (with_rule (with_rule (with_rule (with_rule (with_rule serve_start (flag_option (codes "keep-going")))
     (flag_option (codes "log")))
     (number_option (codes "max-streams")))
     (number_option (codes "idle-seconds")))
-    (number_option (codes "admin-port"))
+    (number_option (codes "admin-port")))
+    (text_option (codes "record"))
 
 -- `xds client`, with the options that say where it asks, how, and for what
 abbrev pub client_start : App

@@ -1,11 +1,13 @@
 -- What the program may be asked for, as contracts see it: texts as their bytes. This project's own.
 --     variant_of_word   the variant that the programs call by this word
+--     Serves            `xds serve`: what is served, and the folder of the traces, if there is one
 --     Watch             `xds client`: a client that subscribes on a stream
 --     Look              `xds poll`: one look at a replica, over REST
 use Rattle.std.specs.Prelude.{ℕ, List, codes, Option, Some, None, if◌then◌else◌}
 use Rattle.std.specs.Str.{bytes_eq}
 use Rattle.std.specs.declared.net.socket_addr.SocketAddrV4.{SocketAddrV4}
 use Rattle.xds_resource.specs.declared.types.TypeName.{TypeName}
+use Rattle.xds_program.specs.declared.tasks.ServeTask.{ServeTask}
 use Rattle.xds_program.specs.declared.tasks.StreamVariant.{StreamVariant}
 use Rattle.xds_program.specs.declared.tasks.StreamVariant.TheVariants.{Sotw, Delta}
 
@@ -13,6 +15,11 @@ use Rattle.xds_program.specs.declared.tasks.StreamVariant.TheVariants.{Sotw, Del
 abbrev pub variant_of_word : List ℕ → Option StreamVariant
 variant_of_word word =
     if bytes_eq word (codes "sotw") then Some Sotw else if bytes_eq word (codes "delta") then Some Delta else None
+
+-- `xds serve`: what is served, and the folder of the traces, if there is one
+pub record Serves : Type 0 where
+  pub task : ServeTask
+  pub folder : Option (List ℕ)
 
 -- `xds client`: a client that subscribes on a stream
 pub record Watch : Type 0 where

@@ -10,6 +10,7 @@
 --     is_outside     a port is none of so many that begin at another
 --     is_alone       an operator's port, if there is one, is none of those of streams and of REST
 --     AsksServe      `xds serve`: no replica's port is above 65,535, and none for streams is one for REST
+--     AsksServed     the same, and the folder of the traces, if one is given
 --     AsksClient     `xds client`
 --     AsksPoll       `xds poll`
 --     AsksBy         the command of this name, with these values, asks for the task
@@ -30,7 +31,7 @@ use Rattle.xds_resource.specs.Types.{type_of_word}
 use Rattle.xds_program.specs.declared.tasks.Task.{Task}
 use Rattle.xds_program.specs.declared.tasks.Task.TheVariants.{Answer, Play, Check, Serve, Client, Poll}
 use Rattle.xds_program.specs.declared.tasks.ServeTask.{ServeTask}
-use Rattle.xds_program.specs.Tasks.{Look, Watch, variant_of_word}
+use Rattle.xds_program.specs.Tasks.{Look, Serves, Watch, variant_of_word}
 use Rattle.xds_program.specs.CommandLine.{faults, named_in}
 
 -- ---- the values of a command's options
@@ -97,6 +98,11 @@ pub record AsksServe (rows : List Row) (task : ServeTask) : Type 0 where
   pub alone : is_alone task.admin_port task.port task.rest_port task.replicas ≡ true
   pub apart : are_apart task.port task.rest_port task.replicas ≡ true
 
+-- the same, and the folder of the traces, if one is given
+pub record AsksServed (rows : List Row) (serves : Serves) : Type 0 where
+  pub task : AsksServe rows serves.task
+  pub folder : first_of (codes "record") rows ≡ serves.folder
+
 -- `xds client`
 pub record AsksClient (rows : List Row) (task : Watch) : Type 0 where
   pub addr : IsAddress rows task.addr
@@ -121,7 +127,7 @@ abbrev pub AsksBy : Text → List Row → Task → Type 0
 AsksBy command rows (Answer replica) = (command ≡ codes "answer") × IsNumber rows (codes "replica") replica
 AsksBy command rows (Play trace) = (command ≡ codes "play") × Finds (IsNumber rows (codes "trace")) trace
 AsksBy command rows Check = command ≡ codes "check"
-AsksBy command rows (Serve task) = (command ≡ codes "serve") × AsksServe rows task
+AsksBy command rows (Serve task) = (command ≡ codes "serve") × AsksServed rows task
 AsksBy command rows (Client task) = (command ≡ codes "client") × AsksClient rows task
 AsksBy command rows (Poll task) = (command ≡ codes "poll") × AsksPoll rows task
 

@@ -90,7 +90,9 @@ fn serve_command<'a>(alloc: Global) -> Result<Command<'a>, AllocError>
     let help = "Ends a stream without a first frame after this";
     let serve = with_option(serve, number_option(alloc, "idle-seconds", "T", help))?;
     let help = "A port for who operates the server";
-    with_option(serve, number_option(alloc, "admin-port", "A", help))
+    let serve = with_option(serve, number_option(alloc, "admin-port", "A", help))?;
+    let help = "Writes each replica's trace into this folder";
+    with_option(serve, text_option(alloc, "record", "DIR", help))
 }
 
 // `xds serve`, with the options that say what is served where, and for how long.

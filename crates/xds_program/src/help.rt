@@ -71,13 +71,15 @@ serves; at the end of the input it goes on, until it is stopped (Ctrl-C).
 With --keep-going a line that is refused is told, and the next is read; with
 --log what an operator cares for is told, a line an event. At --admin-port it
 answers /healthz, /ready, /metrics, /status, /changes and /stop over HTTP;
-the last ends it with status 0.
+the last ends it with status 0. With --record DIR what replica K does is
+written to DIR/replica-K.trace, which `xds check` reads once it has ended.
 Prints nothing; the error output has a line a replica, which says what is
 served where. docs/SERVING.md has more, docs/CLI.md the refusals.
 
 Statuses:
   0  as many streams have ended as --streams says
-  1  a line was refused, a port can't be bound, or it could not go on
+  1  a line was refused, a port can't be bound, a trace can't be begun, or it
+     could not go on
   2  the words are wrong; nothing was read";
 
 /// At the end of `xds client --help`.

@@ -16,6 +16,6 @@ pub mod wrong_values;
 
 pub use answer::{answer_lines, draft_answer};
 pub use gathering::LineFault;
-pub use tasks::{ClientTask, PollTask, ServeTask, StreamVariant, Task};
+pub use tasks::{ClientTask, PollTask, ServeTask, ServeWords, StreamVariant, Task};
 pub use words::task_of;
 pub use wrong_values::WrongValue;

@@ -4,10 +4,10 @@ ghost use Rattle.std.specs.Option.{option_and_then};
 ghost use Rattle.clap.specs.Words.{first_of, found_of, rows_of, subcommand_rows_of};
 ghost use Rattle.xds_resource.specs.Types.{type_of_word};
 ghost use Rattle.xds_program.specs.Tasks.{variant_of_word};
-ghost use Rattle.xds_program.specs.Words.{AsksBy, AsksClient, AsksIn, AsksPoll, AsksServe, Finds, IsAddress, IsNumber};
+ghost use Rattle.xds_program.specs.Words.{AsksBy, AsksClient, AsksIn, AsksPoll, AsksServe, AsksServed, Finds, IsAddress, IsNumber};
 ghost use Rattle.xds_program.specs.Words.{are_apart, is_alone, is_given, is_outside, names_in, text_in};
 
-use crate::tasks::{ClientTask, PollTask, ServeTask, StreamVariant, Task};
+use crate::tasks::{ClientTask, PollTask, ServeTask, ServeWords, StreamVariant, Task};
 use clap::ArgMatches;
 use std::alloc::{AllocError, Global};
 use std::net::SocketAddrV4;
@@ -27,7 +27,7 @@ pub(crate) fn task_in(alloc: Global, matches: &ArgMatches) -> Result<Option<Task
         return Ok(Some(Task::Check));
     }
     if let Some(given) = matches.subcommand_matches("serve") {
-        return Ok(serve_in(given));
+        return serve_in(alloc, given);
     }
     if let Some(given) = matches.subcommand_matches("client") {
         return client_in(alloc, given);
@@ -53,10 +53,13 @@ fn play_in(given: &ArgMatches) -> Task
     }
 }
 
-fn serve_in(given: &ArgMatches) -> Option<Task>
-    ensures { Finds (AsksBy (codes "serve") (rows_of (found_of given.now))) result }
+fn serve_in(alloc: Global, given: &ArgMatches) -> Result<Option<Task>, AllocError>
+    ensures { IfOk result (Finds (AsksBy (codes "serve") (rows_of (found_of given.now)))) }
 {
-    Some(Task::Serve(serving(given)?))
+    match served(alloc, given)? {
+        Some(task) => Ok(Some(Task::Serve(task))),
+        None => Ok(None),
+    }
 }
 
 fn client_in(alloc: Global, given: &ArgMatches) -> Result<Option<Task>, AllocError>
@@ -73,6 +76,18 @@ fn poll_in(alloc: Global, given: &ArgMatches) -> Result<Option<Task>, AllocError
 {
     match look(alloc, given)? {
         Some(task) => Ok(Some(Task::Poll(task))),
+        None => Ok(None),
+    }
+}
+
+fn served(alloc: Global, given: &ArgMatches) -> Result<Option<ServeWords>, AllocError>
+    ensures { IfOk result (Finds (AsksServed (rows_of (found_of given.now)))) }
+{
+    match serving(given) {
+        Some(task) => {
+            let folder = text_given(alloc, given, "record")?;
+            Ok(Some(ServeWords { task, folder }))
+        }
         None => Ok(None),
     }
 }
@@ -255,6 +270,16 @@ fn text(alloc: Global, given: &ArgMatches, option: &str) -> Result<String, Alloc
     match word(given, option) {
         Some(text) => String::from_str(alloc, text),
         None => Ok(String::new(alloc)),
+    }
+}
+
+// The value of an option, if it is given.
+fn text_given(alloc: Global, given: &ArgMatches, option: &str) -> Result<Option<String>, AllocError>
+    ensures { IfOk result (λ t. option_map string_bytes t ≡ first_of option.now (rows_of (found_of given.now))) }
+{
+    match word(given, option) {
+        Some(text) => Ok(Some(String::from_str(alloc, text)?)),
+        None => Ok(None),
     }
 }
 

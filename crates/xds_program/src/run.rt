@@ -9,7 +9,7 @@ use crate::answer::draft_answer;
 use crate::gathering::LineFault;
 use crate::judge::{Unjudged, judge};
 use crate::output::write_answer;
-use crate::tasks::{ClientTask, PollTask, ServeTask, Task};
+use crate::tasks::{ClientTask, PollTask, ServeWords, Task};
 use crate::words::task_of;
 use clap::error::ErrorKind;
 use std::alloc::Global;
@@ -33,7 +33,7 @@ pub enum Ran {
     /// It is done, with this status.
     Done(u8),
     /// It is up to the caller to serve. Nothing was read or written.
-    Serve(ServeTask),
+    Serve(ServeWords),
     /// It is up to the caller to run a client. Nothing was read or written.
     Client(ClientTask),
     /// It is up to the caller to poll. Nothing was read or written.

@@ -13,14 +13,14 @@ pub enum Task {
     /// `xds check`.
     Check,
     /// `xds serve`.
-    Serve(ServeTask),
+    Serve(ServeWords),
     /// `xds client`.
     Client(ClientTask),
     /// `xds poll`.
     Poll(PollTask),
 }
 
-/// What `xds serve` is asked for.
+/// What a server is asked for.
 #[derive(Clone, Copy, Debug, PartialEq, Eq)]
 pub struct ServeTask {
     /// How many replicas serve, from 1 to 16.
@@ -41,6 +41,24 @@ pub struct ServeTask {
     pub idle_seconds: Option<u16>,
     /// An operator's port, from 1; none, where there is none.
     pub admin_port: Option<u16>,
+}
+
+/// What the words of `xds serve` ask for.
+#[derive(Debug, Drop)]
+pub struct ServeWords {
+    /// What is served.
+    pub task: ServeTask,
+    /// The folder that the replicas' traces are recorded into; none, where there is none.
+    pub folder: Option<String>,
+}
+
+impl Model for ServeWords {
+    ghost use Rattle.std.specs.Prelude.{option_map, string_bytes};
+    ghost use Rattle.xds_program.specs.Tasks.{Serves};
+
+    ghost Value = { Serves };
+
+    ghost view = { λ s. record { task = s.task; folder = option_map string_bytes s.folder } };
 }
 
 /// How a client asks on a stream: in which of the protocol's two variants.

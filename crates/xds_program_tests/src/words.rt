@@ -3,7 +3,7 @@ use crate::program::{told as told_by_run, words};
 use std::alloc::Global;
 use std::test::Fail;
 use xds_cases::cases::{Outcome, hold};
-use xds_program::{ClientTask, PollTask, ServeTask, Task, task_of};
+use xds_program::{ClientTask, PollTask, ServeTask, ServeWords, Task, task_of};
 
 // What words ask for, told in words; `help`, or `wrong`.
 struct Asked;
@@ -31,7 +31,7 @@ fn told(alloc: Global, task: &Task) -> Result<String, Fail> {
         Task::Answer { replica } => told_answer(alloc, *replica),
         Task::Play { trace } => told_play(alloc, *trace),
         Task::Check => Ok(String::from_str(alloc, "check")?),
-        Task::Serve(serve) => told_serve(alloc, *serve),
+        Task::Serve(serve) => told_recorded(alloc, serve),
         Task::Client(client) => told_client(alloc, client),
         Task::Poll(poll) => told_poll(alloc, poll),
     }
@@ -43,6 +43,15 @@ fn told_answer(alloc: Global, replica: u16) -> Result<String, Fail> {
 
 fn told_play(alloc: Global, trace: Option<u16>) -> Result<String, Fail> {
     Ok(format!(in alloc; "play {trace:?}")?)
+}
+
+fn told_recorded(alloc: Global, serve: &ServeWords) -> Result<String, Fail> {
+    let mut text = told_serve(alloc, serve.task)?;
+    if let Some(folder) = &serve.folder {
+        text.push_str(" record ")?;
+        text.push_str(folder.as_str())?;
+    }
+    Ok(text)
 }
 
 fn told_serve(alloc: Global, serve: ServeTask) -> Result<String, Fail> {
@@ -204,6 +213,10 @@ serve --max-streams 0 => wrong
 serve --idle-seconds 0 => wrong
 serve --keep-going=true => wrong
 serve --keep-going 1 => wrong
+serve --record run/1 => serve 2 18000 18100 None record run/1
+serve --replicas 1 --record= --log => serve 1 18000 18100 None log record 
+serve --record => wrong
+serve --record a --record b => wrong
 serve --help => help",
     )
 }

@@ -23,5 +23,6 @@ pub mod Told
 pub mod Tellable
 pub mod Traced
 mod Joining
+mod TextLemmas
 mod AnyBase
 mod Sites

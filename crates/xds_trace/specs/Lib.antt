@@ -4,3 +4,4 @@ pub mod Telling
 pub mod Joined
 pub mod Bases
 pub mod Sites
+pub mod Texts

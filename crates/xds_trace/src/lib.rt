@@ -7,9 +7,11 @@ pub mod histories;
 pub mod histories_laws;
 pub mod laws;
 pub mod telling;
+pub mod texts;
 pub mod worlds;
 
 pub use histories::{of_audited, of_history};
 pub use telling::{push_record, trace_of};
+pub use texts::{write_history, write_segment};
 pub use worlds::of_world;
 pub use xds_check::{Broken, Trace, TraceFault, check};

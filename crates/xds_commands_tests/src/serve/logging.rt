@@ -2,8 +2,10 @@
 use crate::serve::clients::{ask, connected, response};
 use crate::serve::servers::{Came, logging, started};
 use std::alloc::Global;
+use std::fs::File;
 use std::io::Write;
 use std::net::{Net, TcpListener, TcpStream};
+use std::rt::Files;
 use std::str;
 use std::test::Fail;
 use std::thread::JoinHandle;
@@ -35,7 +37,7 @@ fn holds(text: &str, part: &str) -> Result<(), Fail> {
 }
 
 // That a server ended well, and told each of these parts.
-fn told<R: Runtime + Net<Listener = TcpListener, Stream = TcpStream>>(
+fn told<R: Runtime + Net<Listener = TcpListener, Stream = TcpStream> + Files<File = File>>(
     rt: &R,
     server: JoinHandle<Came>,
     parts: &[&str],

@@ -1,6 +1,8 @@
 // A server in a thread of a test.
+use std::fs::File;
 use std::io::Read;
 use std::net::{Net, TcpListener, TcpStream};
+use std::rt::Files;
 use std::test::Fail;
 use std::thread::JoinHandle;
 use std::{str, thread};
@@ -55,10 +57,18 @@ pub(crate) fn logging(replicas: u16, port: u16, streams: Option<u16>) -> Serving
 /// Serves to the end.
 pub(crate) fn served<
     I: Read + Drop + Send + 'static,
-    R: Runtime + Net<Listener = TcpListener, Stream = TcpStream>,
+    R: Runtime + Net<Listener = TcpListener, Stream = TcpStream> + Files<File = File>,
 >(rt: &R, input: I, serving: Serving) -> Came {
+    recorded(rt, input, serving, None)
+}
+
+/// The same, and records into this folder, if one is given.
+pub(crate) fn recorded<
+    I: Read + Drop + Send + 'static,
+    R: Runtime + Net<Listener = TcpListener, Stream = TcpStream> + Files<File = File>,
+>(rt: &R, input: I, serving: Serving, folder: Option<&str>) -> Came {
     let mut errors = Counted::new(Vec::new(rt.alloc()));
-    let status = serve(rt, input, &mut errors, serving);
+    let status = serve(rt, input, &mut errors, serving, folder);
     Came {
         status,
         errors: errors.inner,
@@ -66,11 +76,9 @@ pub(crate) fn served<
 }
 
 /// The same in a thread of its own.
-pub(crate) fn started<R: Runtime + Net<Listener = TcpListener, Stream = TcpStream>>(
-    rt: &R,
-    input: &'static str,
-    serving: Serving,
-) -> Result<JoinHandle<Came>, Fail> {
+pub(crate) fn started<
+    R: Runtime + Net<Listener = TcpListener, Stream = TcpStream> + Files<File = File>,
+>(rt: &R, input: &'static str, serving: Serving) -> Result<JoinHandle<Came>, Fail> {
     let host = *rt;
     match thread::spawn(rt, move || served(&host, input.as_bytes(), serving)) {
         Ok(handle) => Ok(handle),
@@ -81,25 +89,22 @@ pub(crate) fn started<R: Runtime + Net<Listener = TcpListener, Stream = TcpStrea
 /// That a server comes to this status, and tells this.
 pub(crate) fn comes_to<
     I: Read + Drop + Send + 'static,
-    R: Runtime + Net<Listener = TcpListener, Stream = TcpStream>,
+    R: Runtime + Net<Listener = TcpListener, Stream = TcpStream> + Files<File = File>,
 >(rt: &R, input: I, serving: Serving, status: u8, errors: &str) -> Result<(), Fail> {
     came_to(&served(rt, input, serving), status, errors)
 }
 
 /// That a server which was started ends well, and tells this.
-pub(crate) fn ends_well<R: Runtime + Net<Listener = TcpListener, Stream = TcpStream>>(
-    rt: &R,
-    server: JoinHandle<Came>,
-    errors: &str,
-) -> Result<(), Fail> {
+pub(crate) fn ends_well<
+    R: Runtime + Net<Listener = TcpListener, Stream = TcpStream> + Files<File = File>,
+>(rt: &R, server: JoinHandle<Came>, errors: &str) -> Result<(), Fail> {
     came_to(&server.join(rt), 0, errors)
 }
 
 /// That a server which was started ends well, whatever it tells.
-pub(crate) fn came_well<R: Runtime + Net<Listener = TcpListener, Stream = TcpStream>>(
-    rt: &R,
-    server: JoinHandle<Came>,
-) -> Result<(), Fail> {
+pub(crate) fn came_well<
+    R: Runtime + Net<Listener = TcpListener, Stream = TcpStream> + Files<File = File>,
+>(rt: &R, server: JoinHandle<Came>) -> Result<(), Fail> {
     let came = server.join(rt);
     if came.status == 0 {
         return Ok(());
@@ -108,8 +113,8 @@ pub(crate) fn came_well<R: Runtime + Net<Listener = TcpListener, Stream = TcpStr
     Err(Fail::new(format_args!("{status}")))
 }
 
-// Whether a server came to this status, and told this.
-fn came_to(came: &Came, status: u8, errors: &str) -> Result<(), Fail> {
+/// Whether a server came to this status, and told this.
+pub(crate) fn came_to(came: &Came, status: u8, errors: &str) -> Result<(), Fail> {
     let told = str::from_utf8(came.errors.as_slice()).unwrap_or("no text");
     if came.status == status && told == errors {
         return Ok(());

@@ -1,0 +1,304 @@
+// Servers that record what their replicas do, and the files that they leave.
+ghost use Rattle.std.specs.Prelude.{◌≡◌};
+
+use crate::running::{is_told, ran_on};
+use crate::serve::servers::{Came, came_to, ends_well, recorded, serving};
+use crate::serve::streams::hears;
+use std::alloc::{AllocGlobal, Global};
+use std::fs::File;
+use std::io::Write;
+use std::marker::Brand;
+use std::net::{Net, TcpListener, TcpStream};
+use std::rt::Files;
+use std::sync::Wait;
+use std::test::Fail;
+use std::thread::JoinHandle;
+use std::time::{SystemTime, UNIX_EPOCH};
+use std::{fs, io, thread};
+use xds_cases::cases::replaced;
+use xds_commands::{Piece, Recording, Reel, Runtime, Seals};
+use xds_core::Event;
+use xds_node::{Host, Line, Node, NodeName, Opened, Segment};
+use xds_resource::{AnyResource, Groups, Refusal};
+
+const PUTS: &str =
+    "put 1 {\"@type\":\"type.googleapis.com/envoy.config.route.v3.RouteConfiguration\",\
+     \"name\":\"p\"}\n";
+
+const ASKS: &str = "{\"resourceNames\":[\"p\"],\
+     \"typeUrl\":\"type.googleapis.com/envoy.config.route.v3.RouteConfiguration\"}";
+
+const P: &str = "\"name\":\"p\"";
+
+// A new folder.
+fn new_folder(rt: &HostRuntime) -> Result<String, Fail> {
+    let now = SystemTime::now(rt)?.duration_since(UNIX_EPOCH)?.as_nanos();
+    let folder = format!(in rt.alloc(); "/tmp/xds-recording-{now}")?;
+    fs::create_dir(rt, folder.as_str())?;
+    Ok(folder)
+}
+
+// What came of a test, once its folder is taken away.
+fn cleared(rt: &HostRuntime, folder: &str, came: Result<(), Fail>) -> Result<(), Fail> {
+    let _ = fs::remove_dir_all(rt, folder);
+    came
+}
+
+// Starts a server of one replica that records in a folder, and ends with its first stream.
+fn recording<R: Runtime + Net<Listener = TcpListener, Stream = TcpStream> + Files<File = File>>(
+    rt: &R,
+    port: u16,
+    folder: &str,
+) -> Result<JoinHandle<Came>, Fail> {
+    let host = *rt;
+    let folder = String::from_str(rt.alloc(), folder)?;
+    match thread::spawn(rt, move || {
+        let serving = serving(1, port, Some(1));
+        recorded(&host, PUTS.as_bytes(), serving, Some(folder.as_str()))
+    }) {
+        Ok(handle) => Ok(handle),
+        Err(_) => Err(Fail::new(format_args!("no thread"))),
+    }
+}
+
+// That this is said of the trace in a file.
+fn is_judged<R: Runtime + Net<Listener = TcpListener, Stream = TcpStream> + Files<File = File>>(
+    rt: &R,
+    path: &str,
+    wanted: &str,
+) -> Result<(), Fail> {
+    let told = ran_on(rt, "xds check", File::open(rt, path)?)?;
+    is_told(rt.alloc(), told.as_str(), wanted)
+}
+
+// That this is said of it once a word is another.
+fn is_judged_with<
+    R: Runtime + Net<Listener = TcpListener, Stream = TcpStream> + Files<File = File>,
+>(rt: &R, path: &str, word: &str, by: &str, wanted: &str) -> Result<(), Fail> {
+    let text = fs::read_to_string(rt, path)?;
+    let text = replaced(rt.alloc(), text.as_str(), word, by)?;
+    let copy = format!(in rt.alloc(); "{path}.copy")?;
+    fs::write(rt, copy.as_str(), text)?;
+    is_judged(rt, copy.as_str(), wanted)
+}
+
+// What is said of a server that ended, of its trace, and of copies that are spoilt.
+fn is_recorded<R: Runtime + Net<Listener = TcpListener, Stream = TcpStream> + Files<File = File>>(
+    rt: &R,
+    server: JoinHandle<Came>,
+    folder: &str,
+) -> Result<(), Fail> {
+    ends_well(
+        rt,
+        server,
+        "replica 1: streams on 127.0.0.1:18880, REST on 127.0.0.1:18890\n",
+    )?;
+    let path = format!(in rt.alloc(); "{folder}/replica-1.trace")?;
+    let path = path.as_str();
+    is_judged(rt, path, "0 ok~")?;
+    is_judged_with(
+        rt,
+        path,
+        "\"nonce\":\"1\"",
+        "\"nonce\":\"\"",
+        "1 broken 4 P1~",
+    )?;
+    is_judged_with(
+        rt,
+        path,
+        "response 1 2",
+        "response 1 4",
+        "1 line 4: 22 BadTrace~",
+    )
+}
+
+#[test]
+fn a_recorded_run_is_checked(rt: HostRuntime) -> Result<(), Fail> {
+    let folder = new_folder(&rt)?;
+    let server = recording(&rt, 18_880, folder.as_str())?;
+    hears(&rt, 18_880, ASKS, P)?;
+    let recorded = is_recorded(&rt, server, folder.as_str());
+    cleared(&rt, folder.as_str(), recorded)
+}
+
+// What a server tells of a folder in which no file can be made.
+fn is_refused<R: Runtime + Net<Listener = TcpListener, Stream = TcpStream> + Files<File = File>>(
+    rt: &R,
+    folder: &str,
+    file: &str,
+    why: &str,
+) -> Result<(), Fail> {
+    let wanted = format!(in rt.alloc(); "{folder}/{file}: 19 Device: {why}\n")?;
+    let came = recorded(
+        rt,
+        b"put\n" as &[u8],
+        serving(2, 18_900, None),
+        Some(folder),
+    );
+    came_to(&came, 1, wanted.as_str())
+}
+
+// What it tells of a folder with a file in it, in which it leaves no other, and of one that isn't there.
+fn are_refused<R: Runtime + Net<Listener = TcpListener, Stream = TcpStream> + Files<File = File>>(
+    rt: &R,
+    folder: &str,
+) -> Result<(), Fail> {
+    let path = format!(in rt.alloc(); "{folder}/replica-2.trace")?;
+    drop(File::create(rt, path.as_str())?);
+    is_refused(rt, folder, "replica-2.trace", "it is there already")?;
+    is_refused(rt, folder, "replica-2.trace", "it is there already")?;
+    let none = format!(in rt.alloc(); "{folder}/none")?;
+    is_refused(rt, none.as_str(), "replica-1.trace", "no such folder")
+}
+
+#[test]
+fn files_that_cannot_be_made_are_told(rt: HostRuntime) -> Result<(), Fail> {
+    let folder = new_folder(&rt)?;
+    let refused = are_refused(&rt, folder.as_str());
+    cleared(&rt, folder.as_str(), refused)
+}
+
+// That a file holds this.
+fn has(rt: &HostRuntime, path: &str, wanted: &str) -> Result<(), Fail> {
+    let text = fs::read_to_string(rt, path)?;
+    if text.as_str() == wanted {
+        return Ok(());
+    }
+    let text = text.as_str();
+    Err(Fail::new(format_args!("{text} and not {wanted}")))
+}
+
+// A file on its way to a trace of these texts.
+fn is_sealed(rt: &HostRuntime, path: &str, one: &str, other: &str) -> Result<(), Fail> {
+    let mut reel = Reel::begun(File::create(rt, path)?)?;
+    has(rt, path, "?")?;
+    reel.write_all(one.as_bytes())?;
+    reel.write_all(other.as_bytes())?;
+    let whole = format!(in rt.alloc(); "{one}{other}")?;
+    let whole = whole.as_str();
+    let behind = if whole.is_empty() { "" } else { &whole[1..] };
+    let unsealed = format!(in rt.alloc(); "?{behind}")?;
+    has(rt, path, unsealed.as_str())?;
+    reel.seal()?;
+    has(rt, path, whole)
+}
+
+#[test]
+fn a_file_passes_for_no_trace_until_it_is_sealed(rt: HostRuntime) -> Result<(), Fail> {
+    let folder = new_folder(&rt)?;
+    let path = format!(in rt.alloc(); "{folder}/a")?;
+    let path = path.as_str();
+    let sealed = match is_sealed(&rt, path, "open 1\n", "close 1\n") {
+        Ok(()) => is_sealed(&rt, path, "", ""),
+        Err(fail) => Err(fail),
+    };
+    cleared(&rt, folder.as_str(), sealed)
+}
+
+// A tape on which so many bytes find room.
+#[derive(Drop)]
+struct Short {
+    left: usize,
+    taken: Vec<u8>,
+}
+
+impl Write for Short {
+    ghost use Rattle.std.specs.Prelude.{None};
+
+    ghost contents = { λ s. None };
+
+    fn write(&mut self, buf: &[u8]) -> io::Result<usize> {
+        let count = buf.len().min(self.left);
+        if count == 0 && !buf.is_empty() {
+            return Err(io::Error::from(io::ErrorKind::StorageFull));
+        }
+        if self.taken.extend_from_slice(&buf[..count]).is_err() {
+            return Err(io::Error::from(io::ErrorKind::OutOfMemory));
+        }
+        self.left -= count;
+        Ok(count)
+    }
+
+    fn flush(&mut self) -> io::Result<()> {
+        Ok(())
+    }
+}
+
+impl Seals for Short {
+    fn seal(&mut self) -> io::Result<()> {
+        self.write_all(b"sealed")
+    }
+}
+
+// How a recording ends of these segments but for some, on a tape on which so many bytes find room; and how many it has.
+fn end_of<N: NodeName>(
+    alloc: Global,
+    segments: &[Segment<N>],
+    left_out: Option<usize>,
+    room: usize,
+) -> Result<String, Refusal> {
+    let mut recording = Recording::new(Short {
+        left: room,
+        taken: Vec::new(alloc),
+    });
+    for (index, segment) in segments.iter().enumerate() {
+        if left_out != Some(index) {
+            let _ = recording.take(alloc, segment);
+        }
+    }
+    let end = match recording.seal() {
+        Ok(()) => "whole",
+        Err(refusal) => refusal.name(),
+    };
+    let taken = recording.writer.inner.taken.len();
+    Ok(format!(in alloc; "{end} {taken}")?)
+}
+
+// What becomes of recordings of three segments, each of one put.
+fn ends_of<N: NodeName, R: Wait>(
+    rt: &R,
+    alloc: Global,
+    opened: Opened<Line>,
+) -> Result<String, Refusal>
+    requires name { opened ≡ N.id }
+    requires own { 1 ≡ N.replica }
+{
+    let node = Node::<N>::new(alloc, opened, 1)?;
+    let mut seat = node.seat(rt)?;
+    let mut segments = Vec::new(alloc);
+    for _ in 0..3 {
+        let resource = AnyResource::parse(
+            alloc,
+            "{\"@type\":\"type.googleapis.com/envoy.config.cluster.v3.Cluster\",\"name\":\"a\"}",
+        )?;
+        if let Err(unrecorded) = node.call(rt, &mut seat, Event::Put(resource, Groups::none())) {
+            return Err(unrecorded.refusal);
+        }
+        segments.push(node.cut(rt)?)?;
+    }
+    let segments = segments.as_slice();
+    let line = segments[0].count();
+    let whole = end_of(alloc, segments, None, 10_000)?;
+    let gap = end_of(alloc, segments, Some(1), 10_000)?;
+    let late = end_of(alloc, segments, Some(0), 10_000)?;
+    let short = end_of(alloc, segments, None, 250)?;
+    let unsealed = end_of(alloc, segments, None, 3 * 188)?;
+    Ok(format!(in alloc; "{line}: {whole}, {gap}, {late}, {short}, {unsealed}")?)
+}
+
+fn ended<R: Wait + AllocGlobal>(rt: &R) -> Result<String, Refusal> {
+    let alloc = rt.alloc();
+    let opened = Opened::<Line>::new(alloc)?;
+    ends_of::<Brand, R>(rt, alloc, opened)
+}
+
+// Each line has 188 bytes.
+#[test]
+fn a_recording_ends_by_the_first_refusal(rt: HostRuntime) -> Result<(), Fail> {
+    let found = ended(&rt)?;
+    let found = found.as_str();
+    if found == "1: whole 570, Gap 188, Gap 0, Device 250, Device 564" {
+        return Ok(());
+    }
+    Err(Fail::new(format_args!("{found}")))
+}
