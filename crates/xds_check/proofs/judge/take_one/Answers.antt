@@ -3,7 +3,7 @@ use Rattle.std.specs.FinMap as finmap
 use Rattle.xds_catalogue.specs.Holdings.{Holdings}
 use Rattle.xds_check.specs.LiveNames.{AreLive}
 use Rattle.xds_check.proofs.Living.{joined_beside}
-use Rattle.xds_check.proofs.checking.take_one.Goals as goal
+use Rattle.xds_check.proofs.judge.take_one.Goals as goal
 
 pub put_name-requires : goal.put_name-requires
 put_name-requires g c =

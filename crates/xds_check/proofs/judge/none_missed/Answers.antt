@@ -2,7 +2,7 @@ use Rattle.std.proofs.Common.{Option, sym, ap, ◌∙◌}
 use Rattle.std.specs.Option.{unwrap_or}
 use Rattle.xds_check.specs.Kept.{Talk, unheard, none_missed}
 use Rattle.xds_check.proofs.Hearing.{unheard_waits}
-use Rattle.xds_check.proofs.checking.none_missed.Goals as goal
+use Rattle.xds_check.proofs.judge.none_missed.Goals as goal
 
 pub returns-in-None : goal.returns-in-None
 returns-in-None g c =
