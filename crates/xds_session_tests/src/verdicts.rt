@@ -1,36 +1,30 @@
 // Traces and the verdict on each.
-use crate::traces::told_fault;
+use crate::pieces::{is_told, told};
 use std::alloc::Global;
 use std::test::Fail;
 use xds_cases::cases::{Outcome, hold_stories};
-use xds_check::{Trace, check};
+use xds_check::{Broken, Trace, TraceFault, check};
 
 // What is told of a trace: that it is well, the first broken line and its rule, or its first bad
-// line. A trace whose last line is ended has the outcome on a line of its own.
+// line. The same is told where its bytes come in pieces. A trace whose last line is ended has the outcome on a line of its own.
 struct Verdict;
 
 impl Outcome for Verdict {
     fn of(alloc: Global, given: &str) -> Result<String, Fail> {
-        match Trace::read(alloc, given.as_bytes()) {
-            Ok(trace) => {
-                let told = told(alloc, &trace);
-                drop(trace);
-                told
-            }
-            Err(fault) => Ok(told_fault(alloc, fault)?),
-        }
+        let told = told(alloc, verdict(alloc, given))?;
+        is_told(alloc, given, told.as_str())?;
+        Ok(told)
     }
 }
 
-fn told(alloc: Global, trace: &Trace) -> Result<String, Fail> {
-    match check(alloc, trace.lines()) {
-        Ok(Some(broken)) => {
-            let line = broken.line;
-            let rule = broken.rule.word();
-            Ok(format!(in alloc; "broken {line} {rule}")?)
-        }
-        Ok(None) => Ok(String::from_str(alloc, "ok")?),
-        Err(_) => Err(Fail::new(format_args!("no memory"))),
+// The verdict on a trace that is held whole.
+fn verdict(alloc: Global, given: &str) -> Result<Option<Broken>, TraceFault> {
+    let trace = Trace::read(alloc, given.as_bytes())?;
+    let checked = check(alloc, trace.lines());
+    drop(trace);
+    match checked {
+        Ok(broken) => Ok(broken),
+        Err(refusal) => Err(TraceFault { line: 0, refusal }),
     }
 }
 
