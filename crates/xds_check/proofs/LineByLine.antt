@@ -1,7 +1,7 @@
 -- Lines that are taken one after another: what is kept is what they say, and the first broken one is told.
 use Rattle.std.proofs.Common.{◌≡◌, ◌≢◌, ◌<◌, ◌≤◌, ◌+◌, inl, inr, ℕ, zero, suc, List, [], ◌∷◌, ◌++◌, length, reverse, take, drop, get_or, Bool, true, false, cond, ◌&&◌, Option, Some, None, refl, sym, ap, subst, ◌∙◌, arith, add-one, append-nil, append_assoc, length-append}
 use Rattle.std.proofs.lemmas.Bool.{eqb-true, eq-eqb}
-use Rattle.std.specs.Prelude.{◌==◌, not, is_none, if◌then◌else◌}
+use Rattle.std.specs.Prelude.{◌==◌, not, is_none, is_some}
 use Rattle.std.specs.Option.{option_map_or, option_or, unwrap_or}
 use Rattle.std.specs.FinMap as finmap
 use Rattle.std.proofs.Math.Seq.{take-suc}
@@ -90,13 +90,13 @@ turns_end trace i judges past r = subst NoneBroken (take_all i trace past) r.kep
 -- ---- which streams are left
 
 opened_left : (o : Option Bool) → unwrap_or o false ≡ true → option_map_or not o false ≡ false
-opened_left None open = absurd cc
-opened_left (Some true) open = refl
-opened_left (Some false) open = absurd cc
+opened_left None is = absurd cc
+opened_left (Some true) is = refl
+opened_left (Some false) is = absurd cc
 
 none_left : (o : Option Bool) → is_none o ≡ true → option_map_or not o false ≡ false
-none_left None new = refl
-none_left (Some b) new = absurd cc
+none_left None is = refl
+none_left (Some b) is = absurd cc
 
 first_holds : (a b : Bool) → (a && b) ≡ true → a ≡ true
 first_holds true b e = refl
@@ -162,19 +162,37 @@ let_go e (lines.Idle s u) judges follows are t = fewer e (lines.Idle s u) t (at 
 
 -- ---- a line more
 
-module _ (trace : List Line) (l : Line) (old : PerType JudgeKept) (follows : may_follow (reverse trace) l ≡ true) where
-  pub judged_broken : (new : PerType JudgeKept) (b : Broken) → IsJudged trace old (Some b) → IsJudged (trace ++ l ∷ []) new (Some b)
-  judged_broken new b first = record {
-    before = first.before;
-    line = first.line;
-    after = first.after ++ l ∷ [];
-    trace_is = ap (λ (xs : List Line). xs ++ l ∷ []) first.trace_is ∙ append_assoc first.before (first.line ∷ first.after) (l ∷ []);
-    number_is = first.number_is;
-    kept = first.kept;
-    broken = first.broken;
-    least = first.least;
-  }
+judged_broken : (trace : List Line) (l : Line) (old new : PerType JudgeKept) (b : Broken) → IsJudged trace old (Some b) → IsJudged (trace ++ l ∷ []) new (Some b)
+judged_broken trace l old new b first = record {
+  before = first.before;
+  line = first.line;
+  after = first.after ++ l ∷ [];
+  trace_is = ap (λ (xs : List Line). xs ++ l ∷ []) first.trace_is ∙ append_assoc first.before (first.line ∷ first.after) (l ∷ []);
+  number_is = first.number_is;
+  kept = first.kept;
+  broken = first.broken;
+  least = first.least;
+}
 
+-- behind a broken line
+pub still_broken : (trace : List Line) (l : Line) (old new : PerType JudgeKept) (o : Option Broken) → is_some o ≡ true → IsJudged trace old o → IsJudged (trace ++ l ∷ []) new o
+still_broken trace l old new None is judged = absurd cc
+still_broken trace l old new (Some b) is judged = judged_broken trace l old new b judged
+
+-- where no line is broken so far
+pub unbroken : (trace : List Line) (old : PerType JudgeKept) (o : Option Broken) → is_some o ≡ false → IsJudged trace old o → IsJudged trace old None
+unbroken trace old None is judged = judged
+unbroken trace old (Some b) is judged = absurd cc
+
+none_there : (o : Option Broken) → is_some o ≡ false → o ≡ None
+none_there None is = refl
+none_there (Some b) is = absurd cc
+
+pub judged_verdict : (trace : List Line) (judges : PerType JudgeKept) (o : Option Broken) → IsJudged trace judges o → IsVerdict trace o
+judged_verdict trace judges None judged = judged.0
+judged_verdict trace judges (Some b) judged = judged
+
+module _ (trace : List Line) (l : Line) (old : PerType JudgeKept) (follows : may_follow (reverse trace) l ≡ true) where
   pub judged_told : (new : PerType JudgeKept) (taken : ℕ) (b : Broken) → taken ≡ length trace → IsJudged trace old None → TellsOfAll l old new (Some b.rule) → b.line ≡ taken + 1
       → (any : PerType JudgeKept) → IsJudged (trace ++ l ∷ []) any (Some b)
   judged_told new taken b count judged told number any =
@@ -188,6 +206,13 @@ module _ (trace : List Line) (l : Line) (old : PerType JudgeKept) (follows : may
       let are = let_go e l new follows (λ t. judge_more (is_left e) t e l (at old t) (at new t) (judged.1 t) (told t)) in
       (subst AllKeep (sym (reverse-push trace l)) kept, subst (λ (x : List Line). AreJudgesOf (is_left x) x (let_go_after l new)) (sym (reverse-push trace l)) are)
 
+-- the same, where none is broken so far
+pub judged_still : (trace : List Line) (l : Line) (old new after : PerType JudgeKept) (o : Option Broken) → may_follow (reverse trace) l ≡ true → is_some o ≡ false → IsJudged trace old o → TellsOfAll l old new None
+    → after ≡ let_go_after l new → IsJudged (trace ++ l ∷ []) after o
+judged_still trace l old new after o follows none judged told is =
+    subst (λ (x : Option Broken). IsJudged (trace ++ l ∷ []) after x) (sym (none_there o none))
+    (subst (λ (j : PerType JudgeKept). IsJudged (trace ++ l ∷ []) j None) (sym is) (judged_on trace l old follows new (unbroken trace old o none judged) told))
+
 -- there are no more changes than lines
 pub judged_room : (trace : List Line) (judges : PerType JudgeKept) → IsJudged trace judges None → (t : TypeName) → (at judges t).held.changes ≤ length trace
 judged_room trace judges judged t = omega (arith, few_changes (is_left (reverse trace)) t (reverse trace) (at judges t) (judged.1 t), length-reverse trace)
@@ -195,5 +220,27 @@ judged_room trace judges judged t = omega (arith, few_changes (is_left (reverse 
 pub judged_live : (trace : List Line) (judges : PerType JudgeKept) → IsJudged trace judges None → (t : TypeName) → AreLive (at judges t).held.entries (at judges t).live_names
 judged_live trace judges judged t = (judged.1 t).live
 
-pub judged_none : (judges : PerType JudgeKept) → judges ≡ each nothing_judged → IsJudged [] judges None
+-- a checker that has taken one line more
+pub taken_more : (lines : List Line) (l : Line) (old new : Checker) → HasTaken lines old → old.taken < most_lines → new.taken ≡ old.taken + 1 → new.order ≡ kept_after old.order l
+    → IsJudged (lines ++ l ∷ []) new.judges new.broken → HasTaken (lines ++ l ∷ []) new
+taken_more lines l old new h room count order judged = record {
+  count = omega (arith, h.count, count, length-append lines (l ∷ []));
+  few = omega (arith, room, count);
+  order =
+      subst (λ (e : List Line). IsOrderOf e new.order) (sym (reverse-push lines l)) (subst (λ (k : OrderKept). IsOrderOf (l ∷ reverse lines) k) (sym order) (order_after (reverse lines) old.order l h.order));
+  judged = judged;
+}
+
+pub may_come : (lines : List Line) (l : Line) (c : Checker) (may : Bool) → HasTaken lines c → may ≡ may_follow_in c.order l → may ≡ true → may_follow (reverse lines) l ≡ true
+may_come lines l c may h is yes_so = sym (follows_same (reverse lines) c.order l h.order) ∙ sym is ∙ yes_so
+
+judged_none : (judges : PerType JudgeKept) → judges ≡ each nothing_judged → IsJudged [] judges None
 judged_none judges is = (tt, all_first (is_left []) judges is)
+
+pub taken_none : (c : Checker) → c.order ≡ nothing_kept → c.judges ≡ each nothing_judged → c.broken ≡ None → c.taken ≡ 0 → HasTaken [] c
+taken_none c order judges broken count = record {
+  count = count;
+  few = omega (arith, count);
+  order = subst (IsOrderOf []) (sym order) nothing_yet;
+  judged = subst (IsJudged [] c.judges) (sym broken) (judged_none c.judges judges);
+}

@@ -129,7 +129,7 @@ IsCounted Counts (lines.Request s q) = ⊤
 IsCounted Counts (lines.Response s a) = Counts s
 IsCounted Counts (lines.Idle s u) = Counts s
 
-any_counted : (l : Line) → IsCounted any_stream l
+pub any_counted : (l : Line) → IsCounted any_stream l
 any_counted (lines.Write w) = tt
 any_counted (lines.Open s) = tt
 any_counted (lines.Close s) = tt

@@ -1,6 +1,7 @@
 -- The bytes of a trace that come in pieces: whole lines, and the beginning of one.
-use Rattle.std.proofs.Common.{◌≡◌, ◌≢◌, ◌<◌, ◌+◌, ℕ, List, [], ◌∷◌, ◌++◌, length, reverse, All, Bool, true, false, ◌||◌, Some, None, Option, inl, inr, refl, ap, sym, ◌∙◌, subst, arith, append_assoc, append-nil, length-append}
+use Rattle.std.proofs.Common.{◌≡◌, ◌≢◌, ◌<◌, ◌+◌, ℕ, List, [], ◌∷◌, ◌++◌, length, reverse, All, Bool, true, false, ◌||◌, Some, None, Option, inl, inr, refl, ap, sym, ◌∙◌, subst, arith, append_assoc, append-nil, true≢false}
 use Rattle.std.specs.Prelude.{◌==◌}
+use Rattle.std.proofs.lemmas.Bool.{eqb-true, eq-eqb}
 use Rattle.std.specs.List.{list_any}
 use Rattle.std.proofs.lemmas.List.Elements.{All-push, All-nil}
 use Rattle.xds_resource.specs.declared.refusal.Refusal.{Refusal}
@@ -14,6 +15,7 @@ use Rattle.xds_check.specs.Checkers.{HasTaken, IsNext, TakesText, HasRead, IsVer
 use Rattle.xds_check.specs.Streams.{may_follow}
 use Rattle.xds_check.specs.Texts.{Says, SayAll, ended, IsOneLine, IsTrace, IsBad, IsFirstBad, IsRefusedAt}
 use Rattle.xds_check.specs.Verdicts.{IsVerdict}
+use Rattle.xds_check.proofs.Hearing.{nothing_in}
 use Rattle.xds_check.proofs.Traces.{ended-more, say-more}
 
 -- ---- texts
@@ -47,6 +49,13 @@ all_bytes bytes front piece rest part following more piece_is split =
     append_assoc (bytes ++ front) part (10 ∷ (following ++ more)) ∙ append_assoc bytes front (part ++ 10 ∷ (following ++ more))
     ∙ ap (λ (l : List ℕ). bytes ++ l) (ap (λ (l : List ℕ). front ++ l) (sym (append_assoc part (10 ∷ following) more) ∙ ap (λ (l : List ℕ). l ++ more) (sym split)) ∙ sym (append_assoc front rest more) ∙ ap (λ (l : List ℕ). l ++ more) (sym piece_is))
     ∙ sym (append_assoc bytes piece more)
+
+-- what is_empty tells of what is held
+pub held_none : (length_of : ℕ) (items : List ℕ) (b : Bool) → b ≡ (length_of == 0) → length_of ≡ length items → b ≡ true → items ≡ []
+held_none n items b is same none = nothing_in items (sym same ∙ eqb-true n 0 (sym is ∙ none))
+
+pub held_some : (length_of : ℕ) (items : List ℕ) (b : Bool) → b ≡ (length_of == 0) → length_of ≡ length items → b ≡ false → items ≢ []
+held_some n items b is same some none = let zero_long = eq-eqb n 0 (same ∙ ap length none) in true≢false (sym zero_long ∙ sym is ∙ some)
 
 -- ---- what was read
 
@@ -131,6 +140,11 @@ pub piece_all : (piece rest : List ℕ) (old now after : PiecewiseChecker) → I
     → (bytes : List ℕ) → HasRead bytes old → HasRead (bytes ++ piece) after
 piece_all piece rest old now after p one same grown bytes r =
     subst (λ (l : List ℕ). HasRead l after) (append_assoc bytes p.front rest ∙ ap (λ (l : List ℕ). bytes ++ l) (sym p.piece_is)) (read_part (bytes ++ p.front) rest now after (p.goes_on bytes r) one same grown)
+
+-- why a line isn't taken, where it ends
+pub end_refused : (part text : List ℕ) (c : PiecewiseChecker) (e : Refusal) → IsOneLine part → text ≡ c.held.items ++ part → (e ≢ OutOfMemory → (e ≡ BadTrace) × ((lines : List Line) → HasTaken lines c.checker → IsBad (reverse lines) text))
+    → e ≢ OutOfMemory → (e ≡ BadTrace) × ((bytes following : List ℕ) → HasRead bytes c → IsFirstBad (bytes ++ part ++ 10 ∷ following) (c.checker.taken + 1))
+end_refused part text c e one is why other = let k = why other in (k.0, λ bytes following r. read_bad_line bytes part text following c r one is k.1)
 
 -- the first bad line of a piece is that of all bytes
 pub piece_bad : (piece rest part following : List ℕ) (old now : PiecewiseChecker) (number : ℕ) (e : Refusal) → IsReadOf piece rest old now → rest ≡ part ++ 10 ∷ following
