@@ -92,6 +92,15 @@ fn broken_in(alloc: Global, bytes: &[u8]) -> Result<Option<Broken>, Unjudged>
     if let Err(fault) = checker.read(alloc, bytes) {
         return Err(unjudged(fault));
     }
+    broken_by(&checker)
+}
+
+// The same of the bytes that were read, where no more follow.
+fn broken_by(checker: &PiecewiseChecker) -> Result<Option<Broken>, Unjudged>
+    requires { (bytes : List ℕ) × HasRead bytes checker.now }
+    ensures judged { IfOk result (λ broken. (bytes : List ℕ) → HasRead bytes checker.now → IsJudged bytes broken) }
+    ensures unjudged { IfErr result (λ e. (bytes : List ℕ) → HasRead bytes checker.now → IsUnjudged bytes e) }
+{
     match checker.verdict() {
         Ok(broken) => Ok(broken),
         Err(fault) => Err(unjudged(fault)),
@@ -128,10 +137,8 @@ fn verdict_of(alloc: Global, checker: &PiecewiseChecker) -> Result<Verdict, Unju
     ensures judged { IfOk result (λ v. (bytes : List ℕ) → HasRead bytes checker.now → TellsVerdict bytes v.status (string_bytes v.text)) }
     ensures unjudged { IfErr result (λ e. (bytes : List ℕ) → HasRead bytes checker.now → IsUnjudged bytes e) }
 {
-    match checker.verdict() {
-        Ok(broken) => verdict_on(alloc, broken),
-        Err(fault) => Err(unjudged(fault)),
-    }
+    let broken = broken_by(checker)?;
+    verdict_on(alloc, broken)
 }
 
 // Why a read failed: the reader did, or there was no memory for it.
