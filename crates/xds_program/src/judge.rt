@@ -10,7 +10,8 @@ ghost use Rattle.xds_program.specs.Judged.{IsJudged, IsUnjudged, IsUnread, Reads
 use std::alloc::Global;
 use std::io::{ErrorKind, Read};
 use xds_check::{Broken, PiecewiseChecker, TraceFault};
-use xds_frames::{Counted, MOST_CALLS};
+use xds_frames::Counted;
+use xds_frames::counted::MOST_CALLS;
 use xds_resource::Refusal;
 
 // How many bytes are read at once, at most.
@@ -90,7 +91,7 @@ fn broken_in(alloc: Global, bytes: &[u8]) -> Result<Option<Broken>, Unjudged>
 {
     let mut checker = PiecewiseChecker::new(alloc);
     if let Err(fault) = checker.read(alloc, bytes) {
-        return Err(unjudged(fault));
+        return Err(why_not(fault));
     }
     broken_by(&checker)
 }
@@ -103,12 +104,12 @@ fn broken_by(checker: &PiecewiseChecker) -> Result<Option<Broken>, Unjudged>
 {
     match checker.verdict() {
         Ok(broken) => Ok(broken),
-        Err(fault) => Err(unjudged(fault)),
+        Err(fault) => Err(why_not(fault)),
     }
 }
 
 // Why there is no verdict, where a line is refused.
-fn unjudged(fault: TraceFault) -> Unjudged
+fn why_not(fault: TraceFault) -> Unjudged
     ensures { (bytes : List ℕ) → IsRefusedAt bytes fault.line fault.refusal → IsUnjudged bytes result }
 {
     match fault.refusal {
@@ -198,7 +199,7 @@ fn read_piece<I: Read>(
     match read_some(input, &mut buffer, before) {
         Ok(Some(count)) => match checker.read(alloc, &buffer[..count]) {
             Ok(()) => Ok(true),
-            Err(fault) => Err(NoVerdict::Unjudged(unjudged(fault))),
+            Err(fault) => Err(NoVerdict::Unjudged(why_not(fault))),
         },
         Ok(None) => Ok(false),
         Err(why) => Err(why),

@@ -471,3 +471,64 @@ response 1 4 {"nonce":"3","removedResources":["a"],"typeUrl":"CDS"}
  => broken 10 P5"#,
     )
 }
+
+#[test]
+fn a_bad_line_comes_before_a_broken_rule(rt: HostRuntime) -> Result<(), Fail> {
+    hold_stories::<Verdict, HostRuntime>(
+        &rt,
+        r#"open 1
+request 1 3 {"resourceNamesSubscribe":["m"],"typeUrl":"CDS"}
+idle 1 cluster
+ => broken 3 P8
+
+open 1
+request 1 3 {"resourceNamesSubscribe":["m"],"typeUrl":"CDS"}
+idle 1 cluster
+close 2
+ => line 4: 22 BadTrace
+
+open 1
+request 1 3 {"resourceNamesSubscribe":["m"],"typeUrl":"CDS"}
+idle 1 cluster
+close 1
+idle 1 cluster
+ => line 5: 22 BadTrace
+
+open 1
+request 1 3 {"resourceNamesSubscribe":["m"],"typeUrl":"CDS"}
+idle 1 cluster
+close 1 => line 4: 22 BadTrace
+
+open 1
+request 1 3 {"resourceNamesSubscribe":["m"],"typeUrl":"CDS"}
+idle 1 cluster
+request 1 3 {"resourceNamesSubscribe":["m"],"typeUrl":"EDS"}
+idle 1 cluster
+idle 1 endpoint
+ => broken 3 P8"#,
+    )
+}
+
+#[test]
+fn a_stream_that_was_closed_leaves_others_as_they_are(rt: HostRuntime) -> Result<(), Fail> {
+    hold_stories::<Verdict, HostRuntime>(
+        &rt,
+        r#"open 1
+open 2
+request 1 3 {"resourceNamesSubscribe":["m"],"typeUrl":"CDS"}
+request 2 3 {"resourceNamesSubscribe":["m"],"typeUrl":"CDS"}
+close 1
+idle 2 cluster
+ => broken 6 P8
+
+open 1
+request 1 3 {"resourceNamesSubscribe":["m"],"typeUrl":"CDS"}
+response 1 4 {"nonce":"1","removedResources":["m"],"systemVersionInfo":"1.0","typeUrl":"CDS"}
+close 1
+open 2
+request 2 3 {"resourceNamesSubscribe":["m"],"typeUrl":"CDS"}
+response 2 4 {"nonce":"1","removedResources":["m"],"systemVersionInfo":"1.0","typeUrl":"CDS"}
+idle 2 cluster
+ => ok"#,
+    )
+}
