@@ -69,16 +69,12 @@ unread_so_far initial now checker before after (NotJudged why) r is = behind (λ
 unread_so_far initial now checker before after Device r is = is r.bytes r.read
 
 -- of a piece
-unread_in : (now after : Option (List ℕ)) (bytes came : List ℕ) (why : Unjudged) → Consumes now after came → ((following : List ℕ) → IsUnjudged (bytes ++ came ++ following) why)
+pub unread_in : (now after : Option (List ℕ)) (bytes came : List ℕ) (why : Unjudged) → Consumes now after came → ((following : List ℕ) → IsUnjudged (bytes ++ came ++ following) why)
     → IfSome (prepend_known bytes now) (λ input. IsUnjudged input why)
 unread_in None after bytes came why taken is = tt
 unread_in (Some all) None bytes came why taken is = absurd taken
 unread_in (Some all) (Some left) bytes came why taken is =
     subst (λ (input : List ℕ). IsUnjudged input why) (append_assoc bytes came left ∙ ap (λ (l : List ℕ). bytes ++ l) (sym taken)) (is left)
-
-pub piece_unread : (now after : Option (List ℕ)) (checker : PiecewiseChecker) (came : List ℕ) (before failed : ℕ) (why : Unjudged) → Consumes now after came
-    → ((bytes following : List ℕ) → HasRead bytes checker → IsUnjudged (bytes ++ came ++ following) why) → (bytes : List ℕ) → HasRead bytes checker → IsUnread (prepend_known bytes now) before failed (NotJudged why)
-piece_unread now after checker came before failed why taken is bytes read = unread_in now after bytes came why taken (λ following. is bytes following read)
 
 -- ---- the whole
 
