@@ -119,13 +119,7 @@ impl Checker {
         if self.taken >= MOST_LINES {
             return Err(Refusal::OutOfMemory);
         }
-        judge(
-            alloc,
-            &mut self.judges,
-            &mut self.broken,
-            self.taken,
-            line,
-        )?;
+        judge(alloc, &mut self.judges, &mut self.broken, self.taken, line)?;
         self.order.take(line)?;
         self.taken += 1;
         Ok(())
