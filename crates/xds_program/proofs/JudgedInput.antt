@@ -1,5 +1,6 @@
 -- How an input that is read in pieces is judged: by all of its bytes, where these are known.
-use Rattle.std.proofs.Common.{◌≡◌, ◌⊎◌, inl, inr, ℕ, List, [], ◌∷◌, ◌++◌, length, take, Option, Some, None, IfSome, refl, sym, ap, subst, ◌∙◌, append-nil, append_assoc, ⊤}
+use Rattle.std.proofs.Common.{◌≡◌, ◌⊎◌, inl, inr, ℕ, List, [], ◌∷◌, ◌++◌, length, take, Option, Some, None, IfSome, refl, sym, ap, subst, ◌∙◌, append-nil, append_assoc, Result, Ok, Err, IfErr}
+use Rattle.std.specs.Prelude.{IsErrAnd}
 use Rattle.std.specs.Io.KnownBytes.{Consumes, IsAtEnd, prepend_known}
 use Rattle.std.proofs.KnownBytes.{Consumes-trans, Consumes-whole}
 use Rattle.xds_frames.specs.Devices.{MoreFailed}
@@ -29,7 +30,15 @@ stopped known before after why (inr failed) = subst (IsUnread known before after
 pub still_bad : (known : Option (List ℕ)) (before one two : ℕ) (line : ℕ) → IsUnread known before one (NotJudged (BadTrace line)) → IsUnread known before two (NotJudged (BadTrace line))
 still_bad known before one two line is = is
 
+-- what holds of what a `?` passes on
+pub passed_on : {X : Type 0} (P : NoVerdict → Type 0) (r : Result X NoVerdict) (e : NoVerdict) → IsErrAnd r (λ f. f ≡ e) → P e → IfErr r P
+passed_on P (Ok x) e failed holds = tt
+passed_on P (Err f) e failed holds = subst P (sym failed) holds
+
 -- ---- pieces
+
+pub some_is : {X : Type 0} (P : X → Type 0) (o : Option X) (x : X) → o ≡ Some x → IfSome o P → P x
+some_is {X = X} P o x is holds = subst (λ (q : Option X). IfSome q P) is holds
 
 -- a checker has read what came of an input so far
 pub record IsReadSo (initial now : Option (List ℕ)) (checker : PiecewiseChecker) : Type 0 where
