@@ -8,4 +8,10 @@ pub returns-in-Ok : goal.returns-in-Ok
 returns-in-Ok g c = verdict_told _ _ _ _ _ _ _ c.in-Ok.ensures.judged (search rules) c.print.ensures
 
 pub returns-in-Err-Device : goal.returns-in-Err-Device
-returns-in-Err-Device g c = unread _ _ _ _ (subst (IsUnread _ _ _) c.in-Err-Device.field-0-is c.in-Err-Device.ensures.unjudged) (Keeps-refl _) c.tell-in-Err-Device.ensures.told c.tell-in-Err-Device.ensures.status
+returns-in-Err-Device g c = unread _ _ _ _ (subst (IsUnread _ _ _) c.in-Err-Device.field-0-is c.in-Err-Device.ensures.unjudged) (Keeps-refl _) c.tell.ensures.told c.tell.ensures.status
+
+pub returns-in-Err-Unjudged-OutOfMemory : goal.returns-in-Err-Unjudged-OutOfMemory
+returns-in-Err-Unjudged-OutOfMemory g c = unjudged _ _ _ _ (Keeps-refl _) ? ?
+
+pub returns-in-Err-Unjudged-BadTrace : goal.returns-in-Err-Unjudged-BadTrace
+returns-in-Err-Unjudged-BadTrace g c = bad_line_told _ _ _ _ _ ? ? (Keeps-refl _) ?
