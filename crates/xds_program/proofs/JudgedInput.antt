@@ -6,6 +6,7 @@ use Rattle.std.proofs.KnownBytes.{Consumes-trans, Consumes-whole}
 use Rattle.xds_frames.specs.Devices.{MoreFailed}
 use Rattle.xds_check.specs.declared.piecewise.PiecewiseChecker.{PiecewiseChecker}
 use Rattle.xds_check.specs.Checkers.{HasRead}
+use Rattle.xds_check.specs.Texts.{IsFirstBad}
 use Rattle.xds_program.specs.declared.judge.NoVerdict.{NoVerdict}
 use Rattle.xds_program.specs.declared.judge.NoVerdict.TheVariants.{Unjudged as NotJudged, Device}
 use Rattle.xds_program.specs.declared.judge.Unjudged.{Unjudged}
@@ -34,6 +35,11 @@ still_bad known before one two line is = is
 pub passed_on : {X : Type 0} (P : NoVerdict → Type 0) (r : Result X NoVerdict) (e : NoVerdict) → IsErrAnd r (λ f. f ≡ e) → P e → IfErr r P
 passed_on P (Ok x) e failed holds = tt
 passed_on P (Err f) e failed holds = subst P (sym failed) holds
+
+-- what is said of a bad line
+pub told_bad : (known : Option (List ℕ)) (before after : ℕ) (why : NoVerdict) (unjudged : Unjudged) (line : ℕ) → why ≡ NotJudged unjudged → unjudged ≡ BadTrace line → IsUnread known before after why
+    → IfSome known (λ bytes. IsFirstBad bytes line)
+told_bad known before after why unjudged line is bad holds = subst (λ (u : Unjudged). IsUnread known before after (NotJudged u)) bad (subst (IsUnread known before after) is holds)
 
 -- ---- pieces
 
