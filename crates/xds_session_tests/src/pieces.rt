@@ -39,7 +39,7 @@ fn is_told_in(alloc: Global, bytes: &[u8], size: usize, wanted: &str) -> Result<
     requires { 0 < size }
 {
     let found = told(alloc, verdict(alloc, bytes, size))?;
-    if found == wanted {
+    if found.as_str() == wanted {
         Ok(())
     } else {
         Err(Fail::new(format_args!("in pieces of {size} bytes {found} and not {wanted}")))
