@@ -1,4 +1,4 @@
--- What is kept of one stream is taken out, changed and put back; and the turns of the pass over a trace.
+-- What is kept of one stream is taken out, changed and put back.
 use Rattle.std.proofs.Common.{◌≡◌, ◌≢◌, ◌<◌, ◌≤◌, ◌+◌, inl, inr, ℕ, zero, suc, List, [], ◌∷◌, ◌++◌, length, reverse, take, drop, get_or, Bool, true, Option, Some, None, refl, sym, ap, subst, ◌∙◌, arith, add-one, eq-eqb, ne_eqb}
 use Rattle.std.specs.Prelude.{◌==◌, not, if◌then◌else◌}
 use Rattle.std.specs.List.{list_all}
@@ -15,11 +15,8 @@ use Rattle.xds_catalogue.proofs.Lookups.{get-inserted, get-removed}
 use Rattle.xds_check.specs.declared.asking.Asking.{Asking}
 use Rattle.xds_check.specs.declared.line.Line.{Line}
 use Rattle.xds_check.specs.declared.line.Line.TheVariants as lines
-use Rattle.xds_check.specs.declared.rule.Rule.{Rule}
 use Rattle.xds_check.specs.Answers.{Answer}
-use Rattle.xds_check.specs.Kept.{Talk, Talks, unheard, talk_at, asked, told, IsHeard, broken_in, held_after, is_missed, none_missed}
-use Rattle.xds_check.specs.Verdicts.{FirstOf, AllKeepOf}
-use Rattle.xds_check.proofs.Passing.{this_type, IsPassed, passed_none, passed_more, first_found, reverse-push}
+use Rattle.xds_check.specs.Kept.{Talk, Talks, unheard, talk_at, asked, told, IsHeard, is_missed, none_missed}
 
 -- ---- one stream
 
@@ -31,7 +28,7 @@ changed_here : (talks : Talks) (r s : ℕ) (f : Talk → Talk) → r ≡ s → f
 changed_here talks r s f same has =
     ap (λ (o : Option Talk). unwrap_or o unheard) has ∙ ap (λ n. f (talk_at talks n)) same ∙ sym (ap (λ (b : Bool). if b then f (talk_at talks s) else talk_at talks s) (eq-eqb r s same))
 
-elsewhere : (talks : Talks) (r s : ℕ) → r ≢ s → finmap.get (finmap.remove talks r) s ≡ finmap.get talks s
+pub elsewhere : (talks : Talks) (r s : ℕ) → r ≢ s → finmap.get (finmap.remove talks r) s ≡ finmap.get talks s
 elsewhere talks r s apart = elim (get-removed nat_cmp_total nat_cmp-IsAntisymmetric talks r s) [ inl here ↦ absurd (apart here.0) | inr there ↦ there.1 ]
 
 changed : (talks : Talks) (r : ℕ) (f : Talk → Talk) (s : ℕ) → talk_at (put_talk talks r (f (talk_at talks r))) s ≡ (if r == s then f (talk_at talks s) else talk_at talks s)
@@ -58,40 +55,3 @@ pub unheard_waits : (m : Entries) → none_missed m unheard ≡ true
 unheard_waits m =
     ap (λ (es : List (List ℕ × Bool)). list_all (λ e. not (is_missed m unheard e.0)) es)
     (nothing_in (finmap.entries unheard.waiting) (sym (finmap.len-entries unheard.waiting) ∙ finmap.len-empty text_cmp Bool))
-
--- ---- a turn of the pass
-
-pub turn_first : (t : TypeName) (h : Holdings) (talks : Talks) → h ≡ nothing_held → talks ≡ finmap.empty → IsPassed t [] h talks
-turn_first t h talks held heard = subst (λ (x : Holdings). IsPassed t [] x talks) (sym held) (subst (λ (x : Talks). IsPassed t [] nothing_held x) (sym heard) (passed_none t))
-
-there : (xs : List Line) (i : ℕ) (d : Line) → i < length xs → xs ≡ take i xs ++ get_or xs i d ∷ drop (suc i) xs
-there [] i d below = absurd (omega (arith, below))
-there (x ∷ xs) zero d below = refl
-there (x ∷ xs) (suc i) d below = ap (λ l. x ∷ l) (there xs i d (omega (arith, below)))
-
-length_taken : (xs : List Line) (i : ℕ) → i < length xs → length (take i xs) ≡ i
-length_taken [] i below = absurd (omega (arith, below))
-length_taken (x ∷ xs) zero below = refl
-length_taken (x ∷ xs) (suc i) below = ap suc (length_taken xs i (omega (arith, below)))
-
-so_far : (trace : List Line) (i : ℕ) (l : Line) → i < length trace → l ≡ get_or trace i l → reverse (take (i + 1) trace) ≡ l ∷ reverse (take i trace)
-so_far trace i l below is =
-    ap (λ n. reverse (take n trace)) (add-one i) ∙ ap reverse (take-suc trace i l below) ∙ ap (λ x. reverse (take i trace ++ x ∷ [])) (sym is) ∙ reverse-push (take i trace) l
-
-pub turn_passed : (t : TypeName) (trace : List Line) (i : ℕ) (l : Line) (h after : Holdings) (talks now : Talks) → i < length trace → l ≡ get_or trace i l → IsPassed t (reverse (take i trace)) h talks
-    → broken_in t h.entries talks l ≡ None → IsHeard t h.entries l talks now → after ≡ held_after t l h → IsPassed t (reverse (take (i + 1) trace)) after now
-turn_passed t trace i l h after talks now below is passed none hears holds =
-    subst (λ (e : List Line). IsPassed t e after now) (sym (so_far trace i l below is)) (passed_more t (reverse (take i trace)) h after talks now l passed none hears holds)
-
-pub turn_found : (t : TypeName) (trace : List Line) (i : ℕ) (l : Line) (h : Holdings) (talks : Talks) (r : Rule) → i < length trace → l ≡ get_or trace i l → IsPassed t (reverse (take i trace)) h talks
-    → broken_in t h.entries talks l ≡ Some r → FirstOf (this_type t) trace (i + 1) r
-turn_found t trace i l h talks r below is passed found =
-    first_found t trace (take i trace) (drop (suc i) trace) l (i + 1) h talks r (there trace i l below ∙ ap (λ x. take i trace ++ x ∷ drop (suc i) trace) (sym is)) (ap (λ n. n + 1) (sym (length_taken trace i below))) passed found
-
--- there are no more changes than lines
-pub few_changes : (t : TypeName) (trace : List Line) (i : ℕ) (h : Holdings) (talks : Talks) → i < length trace → IsPassed t (reverse (take i trace)) h talks → h.changes ≤ i
-few_changes t trace i h talks below passed = omega (arith, passed.held.count, length-reverse (take i trace), length_taken trace i below)
-
--- the pass comes to its end
-pub turns_end : (t : TypeName) (trace : List Line) (i : ℕ) (h : Holdings) (talks : Talks) → length trace ≤ i → IsPassed t (reverse (take i trace)) h talks → AllKeepOf (this_type t) (reverse trace)
-turns_end t trace i h talks past passed = subst (λ (xs : List Line). AllKeepOf (this_type t) (reverse xs)) (take_all i trace past) passed.kept

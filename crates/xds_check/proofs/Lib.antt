@@ -15,6 +15,7 @@ mod Talking
 mod Lining
 mod Deciding
 mod Passing
-mod Joining
 mod Hearing
 mod Living
+mod LineByLine
+mod PieceByPiece

@@ -1,10 +1,12 @@
 -- A trace at which no rule is broken has no first broken line, and any other has one at most.
-use Rattle.std.proofs.Common.{◌≡◌, ◌<◌, ◌⊎◌, inl, inr, ℕ, zero, suc, ◌+◌, List, [], ◌∷◌, ◌++◌, length, reverse, Bool, true, false, nat_lt, refl, sym, ap, subst, ◌∙◌, arith, append_assoc, ltb-false, ltb-true}
+use Rattle.std.proofs.Common.{◌≡◌, ◌<◌, ◌⊎◌, inl, inr, ℕ, zero, suc, ◌+◌, List, [], ◌∷◌, ◌++◌, length, reverse, Bool, true, false, Option, Some, None, nat_lt, refl, sym, ap, subst, ◌∙◌, arith, append_assoc, ltb-false, ltb-true}
 use Rattle.std.proofs.lemmas.List.{reverse-append}
 use Rattle.xds_check.specs.declared.line.Line.{Line}
 use Rattle.xds_check.specs.declared.rule.Rule.{Rule}
 use Rattle.xds_check.specs.declared.rule.Rule.TheVariants.{FreshNonce, BestResources, CoveredResources, WholeResponse, RightRemovals, OneAtATime, NothingRefusedAgain, NothingPending}
 use Rattle.xds_check.specs.Laws.{NoneBrokenHasNoFirst, OneIsFirst}
+use Rattle.xds_check.specs.declared.checking.Broken.{Broken}
+use Rattle.xds_check.specs.Verdicts.{IsVerdict, TellsWell, TellsTheFirst}
 use Rattle.xds_check.specs.Rules.{place, Breaks, KeepsRules, AllKeep, NoneBroken, FirstBroken}
 
 -- ---- lines of a trace that keeps the rules
@@ -96,3 +98,13 @@ first_by trace m n r s f g (inr (inr earlier)) = before_keeps g.before f.before 
 
 pub one_is_first : OneIsFirst
 one_is_first trace m n r s f g = first_by trace m n r s f g (compared f.before g.before f.after g.after f.line g.line (sym f.trace_is ∙ g.trace_is))
+
+-- ---- the verdict is the only one
+
+pub well_told : (trace : List Line) (told : Option Broken) → IsVerdict trace told → TellsWell trace told
+well_told trace None h = λ kept. refl
+well_told trace (Some b) h = λ kept. absurd (none_has_no_first trace b.line b.rule kept h)
+
+pub first_told : (trace : List Line) (told : Option Broken) → IsVerdict trace told → TellsTheFirst trace told
+first_told trace None h = λ number rule first. absurd (none_has_no_first trace number rule h first)
+first_told trace (Some b) h = λ number rule first. let both = one_is_first trace b.line number b.rule rule h first in (λ i. Some (both.0 i, both.1 i))

@@ -24,12 +24,12 @@ reverse-push xs x = reverse-append xs (x ∷ [])
 pub reverse-front : {X : Type 0} (x : X) (xs ys : List X) → reverse (x ∷ xs) ++ ys ≡ reverse xs ++ x ∷ ys
 reverse-front x xs ys = ap (λ l. l ++ ys) (reverse_onto xs x []) ∙ append_assoc (reverse xs) (x ∷ []) ys
 
-ended-more : (texts : List (List ℕ)) (text next : List ℕ) → ended texts ++ (text ++ 10 ∷ next) ≡ ended (texts ++ text ∷ []) ++ next
+pub ended-more : (texts : List (List ℕ)) (text next : List ℕ) → ended texts ++ (text ++ 10 ∷ next) ≡ ended (texts ++ text ∷ []) ++ next
 ended-more [] text next = sym (append_assoc text (10 ∷ []) next)
 ended-more (t ∷ texts) text next =
     append_assoc t (10 ∷ ended texts) (text ++ 10 ∷ next) ∙ ap (λ l. t ++ 10 ∷ l) (ended-more texts text next) ∙ sym (append_assoc t (10 ∷ ended (texts ++ text ∷ [])) next)
 
-say-more : (earlier : List Line) (texts : List (List ℕ)) (ls : List Line) (text : List ℕ) (l : Line) → SayAll earlier texts ls → Says text l → may_follow (reverse ls ++ earlier) l ≡ true
+pub say-more : (earlier : List Line) (texts : List (List ℕ)) (ls : List Line) (text : List ℕ) (l : Line) → SayAll earlier texts ls → Says text l → may_follow (reverse ls ++ earlier) l ≡ true
     → SayAll earlier (texts ++ text ∷ []) (ls ++ l ∷ [])
 say-more earlier [] [] text l say says follows = (says, follows, tt)
 say-more earlier [] (x ∷ ls) text l say says follows = absurd say

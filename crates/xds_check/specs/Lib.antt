@@ -10,3 +10,5 @@ pub mod Writes
 pub mod Kept
 pub mod LiveNames
 pub mod Verdicts
+pub mod Judges
+pub mod Checkers

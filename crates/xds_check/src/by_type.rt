@@ -1,9 +1,19 @@
-// The writes of one type among the lines of a trace.
+// The lines of one type among those of a trace.
 ghost use Rattle.std.specs.Prelude.{◌≡◌};
 ghost use Rattle.std.specs.Option.{option_map};
+ghost use Rattle.xds_resource.specs.Types.{is_same_type};
 ghost use Rattle.xds_check.specs.Writes.{write_of};
 
-use xds_resource::{AnyWrite, Cluster, Endpoint, Listener, ResourceType, Route, Secret, Write};
+use xds_resource::{
+    AnyWrite, Cluster, Endpoint, Listener, ResourceType, Route, Secret, TypeName, Write,
+};
+
+/// Whether two types are the same.
+pub(crate) fn is_same(kind: TypeName, other: TypeName) -> bool
+    ensures { result ≡ is_same_type kind other }
+{
+    kind == other
+}
 
 /// A type of the table as a type parameter, whose writes are told from those of other types.
 pub(crate) trait ByType: ResourceType {

@@ -1,28 +1,15 @@
-// Whether the lines of a trace keep the rules, gone over once for each type.
-ghost use Rattle.std.specs.Prelude.{◌≡◌, ◌<◌, ◌∷◌, [], None, IfOk, IfErr, OnOk};
-ghost use Rattle.std.specs.FinMap as finmap;
+// Whether the lines of a trace keep the rules.
+ghost use Rattle.std.specs.Prelude.{◌≡◌, IfOk, IfErr};
 ghost use Rattle.xds_resource.specs.declared.refusal.Refusal.TheVariants.{OutOfMemory};
-ghost use Rattle.xds_resource.specs.Stamps.{max_counter};
-ghost use Rattle.xds_resource.specs.Types.{is_same_type};
-ghost use Rattle.xds_catalogue.specs.Holdings.{nothing_held};
-ghost use Rattle.xds_catalogue.specs.Joins.{joined};
-ghost use Rattle.xds_check.specs.Kept.{unheard, talk_at, least, none_missed, broken_in, held_after, IsHeard, asked, told};
-ghost use Rattle.xds_check.specs.LiveNames.{AreLive, no_names};
-ghost use Rattle.xds_check.specs.Verdicts.{TellsFirst, found_of, earlier_of, IsVerdict, TellsWell, TellsTheFirst};
+ghost use Rattle.xds_resource.specs.PerType.{each};
+ghost use Rattle.xds_check.specs.Judges.{nothing_judged};
+ghost use Rattle.xds_check.specs.Verdicts.{IsVerdict, TellsWell, TellsTheFirst};
 
-use crate::answer::Answer;
-use crate::asking::Asking;
-use crate::by_type::ByType;
-use crate::judging;
+use crate::judges::Judges;
 use crate::line::Line;
-use crate::live_names::LiveNames;
 use crate::rule::Rule;
-use crate::talk::Talk;
 use std::alloc::Global;
-use xds_catalogue::{ByNumber, Catalogue};
-use xds_resource::{
-    Cluster, Endpoint, Listener, Refusal, ResourceType, Route, Secret, TypeName, Write,
-};
+use xds_resource::Refusal;
 
 /// The first line of a trace at which a rule is broken.
 #[derive(Clone, Copy, Debug, PartialEq, Eq)]
@@ -33,345 +20,6 @@ pub struct Broken {
     pub rule: Rule,
 }
 
-// The least rule that a response of the type breaks on a stream of which no line spoke.
-fn broken_at_first<T: ResourceType>(
-    alloc: Global,
-    catalogue: &Catalogue<T>,
-    live_names: &LiveNames,
-    answer: &Answer,
-) -> Result<Option<Rule>, Refusal>
-    requires { AreLive catalogue.now.entries live_names.now }
-    ensures ok { IfOk result (λ r. r ≡ least T.TYPE catalogue.now.entries unheard answer.now) }
-    ensures refused { IfErr result (λ e. e ≡ OutOfMemory) }
-{
-    let talk = Talk::new(alloc);
-    let told = judging::broken_by(alloc, catalogue, live_names, &talk, answer);
-    drop(talk);
-    told
-}
-
-// The least rule that a response of the type breaks on a stream.
-fn broken_by<T: ResourceType>(
-    alloc: Global,
-    catalogue: &Catalogue<T>,
-    live_names: &LiveNames,
-    talks: &ByNumber<Talk<T>>,
-    stream: u64,
-    answer: &Answer,
-) -> Result<Option<Rule>, Refusal>
-    requires { AreLive catalogue.now.entries live_names.now }
-    ensures ok { IfOk result (λ r. r ≡ least T.TYPE catalogue.now.entries (talk_at talks.now stream) answer.now) }
-    ensures refused { IfErr result (λ e. e ≡ OutOfMemory) }
-{
-    match talks.get(stream) {
-        Some(talk) => judging::broken_by(alloc, catalogue, live_names, talk, answer),
-        None => broken_at_first(alloc, catalogue, live_names, answer),
-    }
-}
-
-// Whether no name of the type waits on a stream whose answer is missed.
-fn none_missed<T: ResourceType>(
-    catalogue: &Catalogue<T>,
-    talks: &ByNumber<Talk<T>>,
-    stream: u64,
-) -> bool
-    ensures { result ≡ none_missed catalogue.now.entries (talk_at talks.now stream) }
-{
-    match talks.get(stream) {
-        Some(talk) => judging::none_missed(catalogue, talk),
-        None => true,
-    }
-}
-
-fn is_same(kind: TypeName, other: TypeName) -> bool
-    ensures { result ≡ is_same_type kind other }
-{
-    kind.url() == other.url()
-}
-
-// The least rule that a line breaks, if it is one of the type.
-fn broken_at<T: ResourceType>(
-    alloc: Global,
-    catalogue: &Catalogue<T>,
-    live_names: &LiveNames,
-    talks: &ByNumber<Talk<T>>,
-    line: &Line,
-) -> Result<Option<Rule>, Refusal>
-    requires { AreLive catalogue.now.entries live_names.now }
-    ensures ok { IfOk result (λ r. r ≡ broken_in T.TYPE catalogue.now.entries talks.now line.now) }
-    ensures refused { IfErr result (λ e. e ≡ OutOfMemory) }
-{
-    match line {
-        Line::Response(stream, answer) => {
-            if !is_same(answer.kind(), T::TYPE) {
-                return Ok(None);
-            }
-            broken_by(alloc, catalogue, live_names, talks, *stream, answer)
-        }
-        Line::Idle(stream, kind) => {
-            if !is_same(*kind, T::TYPE) || none_missed(catalogue, talks, *stream) {
-                return Ok(None);
-            }
-            Ok(Some(Rule::NothingPending))
-        }
-        Line::Write(_) => Ok(None),
-        Line::Open(_) => Ok(None),
-        Line::Close(_) => Ok(None),
-        Line::Request(_, _) => Ok(None),
-    }
-}
-
-// Joins a copy of a write.
-fn join<T: ResourceType>(
-    alloc: Global,
-    catalogue: &mut Catalogue<T>,
-    write: &Write<T>,
-) -> Result<(), Refusal>
-    requires { catalogue.old.changes < max_counter }
-    ensures ok { OnOk result (catalogue.new ≡ joined catalogue.old (write.now ∷ [])) }
-    ensures refused { IfErr result (λ e. e ≡ OutOfMemory) }
-{
-    let copy = write.try_copy(alloc)?;
-    catalogue.join_write(copy)?;
-    Ok(())
-}
-
-// What is kept of a stream, taken out.
-fn take_out<T: ResourceType>(alloc: Global, talks: &mut ByNumber<Talk<T>>, stream: u64) -> Talk<T>
-    ensures talk { result ≡ talk_at talks.old stream }
-    ensures taken { talks.new ≡ finmap.remove talks.old stream }
-{
-    match talks.take_out(stream) {
-        Some(talk) => talk,
-        None => Talk::new(alloc),
-    }
-}
-
-fn take_request<T: ResourceType>(
-    alloc: Global,
-    talks: &mut ByNumber<Talk<T>>,
-    stream: u64,
-    asking: &Asking,
-) -> Result<(), Refusal>
-    ensures ok { OnOk result (talks.new ≡ finmap.insert (finmap.remove talks.old stream) stream (asked T.TYPE asking.now (talk_at talks.old stream))) }
-    ensures refused { IfErr result (λ e. e ≡ OutOfMemory) }
-{
-    let mut talk = take_out(alloc, talks, stream);
-    match talk.hear_request(alloc, asking) {
-        Ok(()) => talks.insert(stream, talk),
-        Err(refusal) => {
-            drop(talk);
-            Err(refusal)
-        }
-    }
-}
-
-fn take_answer<T: ResourceType>(
-    alloc: Global,
-    catalogue: &Catalogue<T>,
-    talks: &mut ByNumber<Talk<T>>,
-    stream: u64,
-    answer: &Answer,
-) -> Result<(), Refusal>
-    ensures ok { OnOk result (talks.new ≡ finmap.insert (finmap.remove talks.old stream) stream (told T.TYPE catalogue.now.entries answer.now (talk_at talks.old stream))) }
-    ensures refused { IfErr result (λ e. e ≡ OutOfMemory) }
-{
-    let mut talk = take_out(alloc, talks, stream);
-    match talk.hear_answer(alloc, catalogue, answer) {
-        Ok(()) => talks.insert(stream, talk),
-        Err(refusal) => {
-            drop(talk);
-            Err(refusal)
-        }
-    }
-}
-
-// Takes the name of what stands under it out of the live names.
-fn take_name<T: ResourceType>(
-    alloc: Global,
-    catalogue: &Catalogue<T>,
-    live_names: &mut LiveNames,
-    name: &str,
-) -> Result<(), Refusal>
-    requires { AreLive catalogue.now.entries live_names.old }
-    ensures ok { OnOk result (AreLive (finmap.remove catalogue.now.entries name.now) live_names.new) }
-    ensures refused { IfErr result (λ e. e ≡ OutOfMemory) }
-{
-    match catalogue.get(name) {
-        Some(write) => live_names.set(alloc, name, write.groups(), false),
-        None => Ok(()),
-    }
-}
-
-// Puts the name of what stands under it into the live names, if that lives.
-fn put_name<T: ResourceType>(
-    alloc: Global,
-    catalogue: &Catalogue<T>,
-    live_names: &mut LiveNames,
-    name: &str,
-) -> Result<(), Refusal>
-    requires { AreLive (finmap.remove catalogue.now.entries name.now) live_names.old }
-    ensures ok { OnOk result (AreLive catalogue.now.entries live_names.new) }
-    ensures refused { IfErr result (λ e. e ≡ OutOfMemory) }
-{
-    match catalogue.get(name) {
-        Some(write) => {
-            if write.body().is_none() {
-                return Ok(());
-            }
-            live_names.set(alloc, name, write.groups(), true)
-        }
-        None => Ok(()),
-    }
-}
-
-// Joins a copy of a write, and keeps the names of the live ones.
-fn take_one<T: ResourceType>(
-    alloc: Global,
-    catalogue: &mut Catalogue<T>,
-    live_names: &mut LiveNames,
-    write: &Write<T>,
-) -> Result<(), Refusal>
-    requires room { catalogue.old.changes < max_counter }
-    requires live { AreLive catalogue.old.entries live_names.old }
-    ensures ok { OnOk result (catalogue.new ≡ joined catalogue.old (write.now ∷ [])) }
-    ensures live { OnOk result (AreLive catalogue.new.entries live_names.new) }
-    ensures refused { IfErr result (λ e. e ≡ OutOfMemory) }
-{
-    let name = write.name();
-    take_name(alloc, catalogue, live_names, name)?;
-    join(alloc, catalogue, write)?;
-    put_name(alloc, catalogue, live_names, name)
-}
-
-// Joins the write that a line is, if it is one of the type.
-fn take_write<T: ByType>(
-    alloc: Global,
-    catalogue: &mut Catalogue<T>,
-    live_names: &mut LiveNames,
-    line: &Line,
-) -> Result<(), Refusal>
-    requires room { catalogue.old.changes < max_counter }
-    requires live { AreLive catalogue.old.entries live_names.old }
-    ensures ok { OnOk result (catalogue.new ≡ held_after T.TYPE line.now catalogue.old) }
-    ensures live { OnOk result (AreLive catalogue.new.entries live_names.new) }
-    ensures refused { IfErr result (λ e. e ≡ OutOfMemory) }
-{
-    let Line::Write(write) = line else {
-        return Ok(());
-    };
-    match T::write_of(write) {
-        Some(write) => take_one(alloc, catalogue, live_names, write),
-        None => Ok(()),
-    }
-}
-
-// Keeps what a line says of streams.
-fn take_talk<T: ResourceType>(
-    alloc: Global,
-    catalogue: &Catalogue<T>,
-    talks: &mut ByNumber<Talk<T>>,
-    line: &Line,
-) -> Result<(), Refusal>
-    ensures ok { OnOk result (IsHeard T.TYPE catalogue.now.entries line.now talks.old talks.new) }
-    ensures refused { IfErr result (λ e. e ≡ OutOfMemory) }
-{
-    match line {
-        Line::Request(stream, asking) => take_request(alloc, talks, *stream, asking),
-        Line::Response(stream, answer) => take_answer(alloc, catalogue, talks, *stream, answer),
-        Line::Write(_) => Ok(()),
-        Line::Open(_) => Ok(()),
-        Line::Close(_) => Ok(()),
-        Line::Idle(_, _) => Ok(()),
-    }
-}
-
-// The least rule that a line breaks. Where it breaks none, what it says is kept.
-fn take_line<T: ByType>(
-    alloc: Global,
-    catalogue: &mut Catalogue<T>,
-    live_names: &mut LiveNames,
-    talks: &mut ByNumber<Talk<T>>,
-    line: &Line,
-) -> Result<Option<Rule>, Refusal>
-    requires room { catalogue.old.changes < max_counter }
-    requires live { AreLive catalogue.old.entries live_names.old }
-    ensures broken { IfOk result (λ r. r ≡ broken_in T.TYPE catalogue.old.entries talks.old line.now) }
-    ensures heard { IfOk result (λ r. r ≡ None → IsHeard T.TYPE catalogue.old.entries line.now talks.old talks.new) }
-    ensures held { IfOk result (λ r. r ≡ None → catalogue.new ≡ held_after T.TYPE line.now catalogue.old) }
-    ensures live { IfOk result (λ r. r ≡ None → AreLive catalogue.new.entries live_names.new) }
-    ensures refused { IfErr result (λ e. e ≡ OutOfMemory) }
-{
-    if let Some(rule) = broken_at(alloc, catalogue, live_names, talks, line)? {
-        return Ok(Some(rule));
-    }
-    take_talk(alloc, catalogue, talks, line)?;
-    take_write(alloc, catalogue, live_names, line)?;
-    Ok(None)
-}
-
-// The first line of the type at which a rule is broken, where nothing was kept before.
-fn pass<T: ByType>(
-    alloc: Global,
-    catalogue: &mut Catalogue<T>,
-    live_names: &mut LiveNames,
-    talks: &mut ByNumber<Talk<T>>,
-    lines: &[Line],
-) -> Result<Option<Broken>, Refusal>
-    requires nothing_held { catalogue.old ≡ nothing_held }
-    requires none_live { live_names.old ≡ no_names }
-    requires nothing_heard { talks.old ≡ finmap.empty }
-    ensures ok { IfOk result (λ r. TellsFirst (λ u. is_same_type u T.TYPE) lines.now (found_of r)) }
-    ensures refused { IfErr result (λ e. e ≡ OutOfMemory) }
-{
-    for (i, line) in lines.iter().enumerate() {
-        if let Some(rule) = take_line(alloc, catalogue, live_names, talks, line)? {
-            return Ok(Some(Broken { line: i + 1, rule }));
-        }
-    }
-    Ok(None)
-}
-
-// The first line of the type at which a rule is broken.
-fn first_broken<T: ByType>(alloc: Global, lines: &[Line]) -> Result<Option<Broken>, Refusal>
-    ensures ok { IfOk result (λ r. TellsFirst (λ u. is_same_type u T.TYPE) lines.now (found_of r)) }
-    ensures refused { IfErr result (λ e. e ≡ OutOfMemory) }
-{
-    let mut catalogue = Catalogue::<T>::new(alloc);
-    let mut live_names = LiveNames::new(alloc);
-    let mut talks = ByNumber::new(alloc);
-    let told = pass(alloc, &mut catalogue, &mut live_names, &mut talks, lines);
-    drop(catalogue);
-    drop(live_names);
-    drop(talks);
-    told
-}
-
-// The earlier of two broken lines.
-fn earlier(one: Option<Broken>, other: Option<Broken>) -> Option<Broken>
-    ensures { found_of result ≡ earlier_of (found_of one) (found_of other) }
-{
-    match (one, other) {
-        (Some(one), Some(other)) => Some(if other.line < one.line { other } else { one }),
-        (Some(one), None) => Some(one),
-        (None, other) => other,
-    }
-}
-
-// The earliest of five broken lines.
-fn earliest(
-    clusters: Option<Broken>,
-    endpoints: Option<Broken>,
-    listeners: Option<Broken>,
-    routes: Option<Broken>,
-    secrets: Option<Broken>,
-) -> Option<Broken>
-    ensures { found_of result ≡ earlier_of (earlier_of (earlier_of (found_of clusters) (found_of endpoints)) (found_of listeners)) (earlier_of (found_of routes) (found_of secrets)) }
-{
-    let upper = earlier(earlier(clusters, endpoints), listeners);
-    earlier(upper, earlier(routes, secrets))
-}
-
 /// The first line at which a rule is broken, and the least rule that is broken there; none where every line keeps the rules.
 /// Refused only by `OutOfMemory`.
 pub fn check(alloc: Global, lines: &[Line]) -> Result<Option<Broken>, Refusal>
@@ -380,10 +28,26 @@ pub fn check(alloc: Global, lines: &[Line]) -> Result<Option<Broken>, Refusal>
     ensures first { IfOk result (TellsTheFirst lines.now) }
     ensures refused { IfErr result (λ e. e ≡ OutOfMemory) }
 {
-    let clusters = first_broken::<Cluster>(alloc, lines)?;
-    let endpoints = first_broken::<Endpoint>(alloc, lines)?;
-    let listeners = first_broken::<Listener>(alloc, lines)?;
-    let routes = first_broken::<Route>(alloc, lines)?;
-    let secrets = first_broken::<Secret>(alloc, lines)?;
-    Ok(earliest(clusters, endpoints, listeners, routes, secrets))
+    let mut judges = Judges::new(alloc);
+    let verdict = first_broken(alloc, &mut judges, lines);
+    drop(judges);
+    verdict
+}
+
+// The first line at which a rule is broken, where nothing was kept before.
+fn first_broken(
+    alloc: Global,
+    judges: &mut Judges,
+    lines: &[Line],
+) -> Result<Option<Broken>, Refusal>
+    requires { judges.old ≡ each nothing_judged }
+    ensures ok { IfOk result (IsVerdict lines.now) }
+    ensures refused { IfErr result (λ e. e ≡ OutOfMemory) }
+{
+    for (i, line) in lines.iter().enumerate() {
+        if let Some(rule) = judges.take(alloc, line)? {
+            return Ok(Some(Broken { line: i + 1, rule }));
+        }
+    }
+    Ok(None)
 }

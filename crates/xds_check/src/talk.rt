@@ -10,6 +10,7 @@ ghost use Rattle.xds_check.specs.Kept.{unheard, wanted, listed_marks, mentioned_
 
 use crate::answer::Answer;
 use crate::asking::Asking;
+use crate::by_type::is_same;
 use crate::marks::{listed, mention, unmark, unmark_stated};
 use crate::offering::offer_of;
 use std::alloc::Global;
@@ -93,7 +94,7 @@ fn is_of(kind: TypeName, asking: &Asking) -> bool
     ensures { result ≡ is_of_type kind asking.now }
 {
     match TypeName::from_url(asking.type_url()) {
-        Some(named) => named.url() == kind.url(),
+        Some(named) => is_same(named, kind),
         None => false,
     }
 }
@@ -335,7 +336,7 @@ impl<T: ResourceType> Talk<T> {
         ensures refused { IfErr result (λ e. e ≡ OutOfMemory) }
     {
         self.use_nonce(alloc, answer.nonce())?;
-        if answer.kind().url() == T::TYPE.url() {
+        if is_same(answer.kind(), T::TYPE) {
             self.hear_own_answer(alloc, catalogue, answer)?;
         }
         Ok(())

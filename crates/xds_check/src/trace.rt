@@ -46,7 +46,7 @@ impl Model for Trace {
 }
 
 // The bytes before the first line feed, and those behind it, where there is one.
-fn split_line(bytes: &[u8]) -> Option<(&[u8], &[u8])>
+pub(crate) fn split_line(bytes: &[u8]) -> Option<(&[u8], &[u8])>
     ensures split { IfSome result (λ p. (bytes.now ≡ p.0.now ++ 10 ∷ p.1.now) × IsOneLine p.0.now) }
     ensures last { IfNone result (IsOneLine bytes.now) }
 {

@@ -6,6 +6,7 @@ pub mod Reading
 pub mod Writing
 pub mod Telling
 pub mod Judging
+pub mod JudgedInput
 pub mod CommandLine
 pub mod Values
 pub mod Asking

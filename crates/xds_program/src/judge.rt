@@ -1,11 +1,21 @@
 // `xds check`: the bytes of a trace in, a verdict on it out.
-ghost use Rattle.std.specs.Prelude.{◌≡◌, IfOk, IfErr, string_bytes};
+ghost use Rattle.std.specs.Prelude.{◌≡◌, ◌⊎◌, ◌<◌, ◌≤◌, ℕ, List, Option, [], length, take, true, false, IfOk, IfErr, IfSome, IfNone, OnOk, string_bytes};
+ghost use Rattle.std.specs.Io.KnownBytes.{Consumes, IsAtEnd, prepend_known};
 ghost use Rattle.xds_resource.specs.declared.refusal.Refusal.TheVariants.{OutOfMemory};
-ghost use Rattle.xds_program.specs.Judged.{IsJudged, IsUnjudged, TellsVerdict, broken_text, verdict_text};
+ghost use Rattle.xds_frames.specs.Devices.{most_calls, MoreFailed};
+ghost use Rattle.xds_check.specs.Checkers.{HasRead};
+ghost use Rattle.xds_check.specs.Texts.{IsRefusedAt};
+ghost use Rattle.xds_program.specs.Judged.{IsJudged, IsUnjudged, IsUnread, ReadsOn, IsReadWhole, TellsVerdict, broken_text, verdict_text, verdict_status};
 
 use std::alloc::Global;
-use xds_check::{Broken, Trace, check};
+use std::io::{ErrorKind, Read};
+use xds_check::{Broken, PiecewiseChecker, TraceFault};
+use xds_frames::Counted;
+use xds_frames::counted::MOST_CALLS;
 use xds_resource::Refusal;
+
+// How many bytes are read at once, at most.
+const PIECE: usize = 16_384;
 
 /// Why there is no verdict.
 #[derive(Clone, Copy, Debug, PartialEq, Eq)]
@@ -13,6 +23,14 @@ pub enum Unjudged {
     /// The line of this number, from 1, is the first bad one.
     BadTrace(usize),
     OutOfMemory,
+}
+
+/// Why there is no verdict on an input.
+#[derive(Clone, Copy, Debug, PartialEq, Eq)]
+pub enum NoVerdict {
+    Unjudged(Unjudged),
+    /// A call of the reader failed.
+    Device,
 }
 
 /// What is told of a trace.
@@ -38,6 +56,73 @@ pub fn judge(alloc: Global, bytes: &[u8]) -> Result<Verdict, Unjudged>
     ensures unjudged { IfErr result (λ e. IsUnjudged bytes.now e) }
 {
     let broken = broken_in(alloc, bytes)?;
+    verdict_on(alloc, broken)
+}
+
+/// Reads the trace that an input is to its end, and checks it as it comes: a line is held until it was read, and then what the
+/// rules need of it. Told is what [`judge`] tells of all bytes. An input with a bad line is read to its end, too.
+pub fn judge_input<I: Read>(alloc: Global, input: &mut Counted<I>) -> Result<Verdict, NoVerdict>
+    ensures judged { IfOk result (λ v. IfSome (I.remaining input.old.inner) (λ bytes. TellsVerdict bytes v.status (string_bytes v.text))) }
+    ensures unjudged { IfErr result (λ e. IsUnread (I.remaining input.old.inner) input.old.failed input.new.failed e) }
+{
+    let mut checker = PiecewiseChecker::new(alloc);
+    let before = input.failed;
+    let read = read_all(alloc, input, &mut checker, before);
+    match read {
+        Ok(()) => {
+            let told = verdict_of(alloc, &checker);
+            drop(checker);
+            match told {
+                Ok(verdict) => Ok(verdict),
+                Err(why) => Err(NoVerdict::Unjudged(why)),
+            }
+        }
+        Err(why) => {
+            drop(checker);
+            Err(read_behind(input, before, why))
+        }
+    }
+}
+
+// The first line at which a rule is broken, if there is one.
+fn broken_in(alloc: Global, bytes: &[u8]) -> Result<Option<Broken>, Unjudged>
+    ensures judged { IfOk result (λ broken. IsJudged bytes.now broken) }
+    ensures unjudged { IfErr result (λ e. IsUnjudged bytes.now e) }
+{
+    let mut checker = PiecewiseChecker::new(alloc);
+    if let Err(fault) = checker.read(alloc, bytes) {
+        return Err(why_not(fault));
+    }
+    broken_by(&checker)
+}
+
+// The same of the bytes that were read, where no more follow.
+fn broken_by(checker: &PiecewiseChecker) -> Result<Option<Broken>, Unjudged>
+    requires { (bytes : List ℕ) × HasRead bytes checker.now }
+    ensures judged { IfOk result (λ broken. (bytes : List ℕ) → HasRead bytes checker.now → IsJudged bytes broken) }
+    ensures unjudged { IfErr result (λ e. (bytes : List ℕ) → HasRead bytes checker.now → IsUnjudged bytes e) }
+{
+    match checker.verdict() {
+        Ok(broken) => Ok(broken),
+        Err(fault) => Err(why_not(fault)),
+    }
+}
+
+// Why there is no verdict, where a line is refused.
+fn why_not(fault: TraceFault) -> Unjudged
+    ensures { (bytes : List ℕ) → IsRefusedAt bytes fault.line fault.refusal → IsUnjudged bytes result }
+{
+    match fault.refusal {
+        Refusal::BadTrace => Unjudged::BadTrace(fault.line),
+        _ => Unjudged::OutOfMemory,
+    }
+}
+
+// What is told of a verdict.
+fn verdict_on(alloc: Global, broken: Option<Broken>) -> Result<Verdict, Unjudged>
+    ensures told { IfOk result (λ v. (string_bytes v.text ≡ verdict_text broken) × (v.status ≡ verdict_status broken)) }
+    ensures refused { IfErr result (λ e. e ≡ Unjudged.OutOfMemory) }
+{
     match text_of(alloc, broken) {
         Ok(text) => Ok(Verdict {
             text,
@@ -47,21 +132,115 @@ pub fn judge(alloc: Global, bytes: &[u8]) -> Result<Verdict, Unjudged>
     }
 }
 
-// The first line at which a rule is broken, if there is one.
-fn broken_in(alloc: Global, bytes: &[u8]) -> Result<Option<Broken>, Unjudged>
-    ensures judged { IfOk result (λ broken. IsJudged bytes.now broken) }
-    ensures unjudged { IfErr result (λ e. IsUnjudged bytes.now e) }
+// What is told of all bytes, where no more follow.
+fn verdict_of(alloc: Global, checker: &PiecewiseChecker) -> Result<Verdict, Unjudged>
+    requires { (bytes : List ℕ) × HasRead bytes checker.now }
+    ensures judged { IfOk result (λ v. (bytes : List ℕ) → HasRead bytes checker.now → TellsVerdict bytes v.status (string_bytes v.text)) }
+    ensures unjudged { IfErr result (λ e. (bytes : List ℕ) → HasRead bytes checker.now → IsUnjudged bytes e) }
 {
-    match Trace::read(alloc, bytes) {
-        Ok(trace) => match check(alloc, trace.lines()) {
-            Ok(broken) => Ok(broken),
-            Err(_) => Err(Unjudged::OutOfMemory),
-        },
-        Err(fault) => match fault.refusal {
-            Refusal::BadTrace => Err(Unjudged::BadTrace(fault.line)),
-            _ => Err(Unjudged::OutOfMemory),
-        },
+    let broken = broken_by(checker)?;
+    verdict_on(alloc, broken)
+}
+
+// Why a read failed: the reader did, or there was no memory for it.
+fn unread(failed: u64, before: u64, kind: ErrorKind) -> NoVerdict
+    ensures { (result ≡ NoVerdict.Unjudged Unjudged.OutOfMemory) ⊎ ((result ≡ NoVerdict.Device) × MoreFailed before failed) }
+{
+    let has_failed = failed > before || failed == u64::MAX;
+    if has_failed && kind != ErrorKind::OutOfMemory {
+        NoVerdict::Device
+    } else {
+        NoVerdict::Unjudged(Unjudged::OutOfMemory)
     }
+}
+
+// Reads some bytes more: none at the end of the input, and no bytes where the read was interrupted.
+fn read_some<I: Read>(
+    input: &mut Counted<I>,
+    buffer: &mut [u8],
+    before: u64,
+) -> Result<Option<usize>, NoVerdict>
+    requires { 0 < length buffer.old }
+    ensures some { IfOk result (λ o. IfSome o (λ n. (n ≤ length buffer.new) × Consumes (I.remaining input.old.inner) (I.remaining input.new.inner) (take n buffer.new))) }
+    ensures none { IfOk result (λ o. IfNone o (Consumes (I.remaining input.old.inner) (I.remaining input.new.inner) [] × IsAtEnd (I.remaining input.new.inner))) }
+    ensures called { IfOk result (λ o. IfSome o (λ n. input.old.calls < input.new.calls)) }
+    ensures bounded { IfOk result (λ o. IfSome o (λ n. input.new.calls ≤ most_calls)) }
+    ensures refused { IfErr result (λ e. (e ≡ NoVerdict.Unjudged Unjudged.OutOfMemory) ⊎ ((e ≡ NoVerdict.Device) × MoreFailed before input.new.failed)) }
+{
+    let is_last = input.calls >= MOST_CALLS;
+    match input.read(buffer) {
+        Ok(0) => Ok(None),
+        Ok(count) => Ok(Some(count)),
+        Err(error) => {
+            let kind = error.kind();
+            if kind == ErrorKind::Interrupted && !is_last {
+                return Ok(Some(0));
+            }
+            Err(unread(input.failed, before, kind))
+        }
+    }
+}
+
+// Reads a piece more, and answers whether there was one.
+fn read_piece<I: Read>(
+    alloc: Global,
+    input: &mut Counted<I>,
+    checker: &mut PiecewiseChecker,
+    before: u64,
+) -> Result<bool, NoVerdict>
+    requires { (bytes : List ℕ) × HasRead bytes checker.old }
+    ensures more { IfOk result (λ more. more ≡ true → ReadsOn (I.remaining input.old.inner) (I.remaining input.new.inner) checker.old checker.new) }
+    ensures end { IfOk result (λ more. more ≡ false → (checker.new ≡ checker.old)
+        × Consumes (I.remaining input.old.inner) (I.remaining input.new.inner) [] × IsAtEnd (I.remaining input.new.inner)) }
+    ensures called { IfOk result (λ more. more ≡ true → (input.old.calls < input.new.calls) × (input.new.calls ≤ most_calls)) }
+    ensures refused { IfErr result (λ e. (bytes : List ℕ) → HasRead bytes checker.old → IsUnread (prepend_known bytes (I.remaining input.old.inner)) before input.new.failed e) }
+{
+    let mut buffer = [0u8; PIECE];
+    match read_some(input, &mut buffer, before) {
+        Ok(Some(count)) => match checker.read(alloc, &buffer[..count]) {
+            Ok(()) => Ok(true),
+            Err(fault) => Err(NoVerdict::Unjudged(why_not(fault))),
+        },
+        Ok(None) => Ok(false),
+        Err(why) => Err(why),
+    }
+}
+
+// Reads an input to its end, or to its first bad line.
+fn read_all<I: Read>(
+    alloc: Global,
+    input: &mut Counted<I>,
+    checker: &mut PiecewiseChecker,
+    before: u64,
+) -> Result<(), NoVerdict>
+    requires { HasRead [] checker.old }
+    ensures read { OnOk result (IsReadWhole (I.remaining input.old.inner) checker.new) }
+    ensures refused { IfErr result (λ e. IsUnread (I.remaining input.old.inner) before input.new.failed e) }
+{
+    while read_piece(alloc, input, checker, before)? {}
+    Ok(())
+}
+
+// Lets go of what is left of an input behind its first bad line, and answers why there is no verdict.
+fn read_behind<I: Read>(input: &mut Counted<I>, before: u64, why: NoVerdict) -> NoVerdict
+    ensures { (known : Option (List ℕ)) → IsUnread known before input.old.failed why → IsUnread known before input.new.failed result }
+{
+    if !matches!(why, NoVerdict::Unjudged(Unjudged::BadTrace(_))) {
+        return why;
+    }
+    match pass_over(input, before) {
+        Ok(()) => why,
+        Err(failed) => failed,
+    }
+}
+
+// Reads an input to its end, and keeps nothing of it.
+fn pass_over<I: Read>(input: &mut Counted<I>, before: u64) -> Result<(), NoVerdict>
+    ensures { IfErr result (λ e. (e ≡ NoVerdict.Unjudged Unjudged.OutOfMemory) ⊎ ((e ≡ NoVerdict.Device) × MoreFailed before input.new.failed)) }
+{
+    let mut buffer = [0u8; PIECE];
+    while let Some(_) = read_some(input, &mut buffer, before)? {}
+    Ok(())
 }
 
 // What is printed of a verdict. Refused only by `OutOfMemory`.

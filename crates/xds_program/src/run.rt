@@ -7,7 +7,7 @@ ghost use Rattle.xds_program.specs.Outcomes.{HasRun, IsPlayedFor, IsShown, IsUna
 
 use crate::answer::draft_answer;
 use crate::gathering::LineFault;
-use crate::judge::{Unjudged, judge};
+use crate::judge::{NoVerdict, Unjudged, judge_input};
 use crate::output::write_answer;
 use crate::tasks::{ClientTask, PollTask, ServeWords, Task};
 use crate::words::task_of;
@@ -170,14 +170,11 @@ pub fn check<I: Read, O: Write, E: Write>(
       errors = seen E.contents errors.old errors.new;
     }) }
 {
-    let bytes = match read_whole(alloc, input) {
-        Ok(bytes) => bytes,
-        Err(refusal) => return tell(refusal, errors),
-    };
-    match judge(alloc, bytes.as_slice()) {
+    match judge_input(alloc, input) {
         Ok(verdict) => print(verdict.text.as_bytes(), verdict.status, output, errors),
-        Err(Unjudged::OutOfMemory) => tell(Refusal::OutOfMemory, errors),
-        Err(Unjudged::BadTrace(line)) => {
+        Err(NoVerdict::Device) => tell(Refusal::Device, errors),
+        Err(NoVerdict::Unjudged(Unjudged::OutOfMemory)) => tell(Refusal::OutOfMemory, errors),
+        Err(NoVerdict::Unjudged(Unjudged::BadTrace(line))) => {
             let refusal = Refusal::BadTrace;
             tell_fault(alloc, LineFault { line, refusal }, errors)
         }

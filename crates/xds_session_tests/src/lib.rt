@@ -12,6 +12,8 @@ mod ledger;
 #[cfg(test)]
 mod many_writes;
 #[cfg(test)]
+mod pieces;
+#[cfg(test)]
 mod sotw;
 #[cfg(test)]
 mod stories;

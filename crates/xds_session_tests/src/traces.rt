@@ -2,6 +2,7 @@
 // stand for one of what is read.
 ghost use Rattle.std.specs.Prelude.{◌<◌};
 
+use crate::pieces::is_told;
 use std::alloc::Global;
 use std::test::Fail;
 use xds_cases::cases::{Outcome, hold, hold_stories, replaced};
@@ -31,9 +32,20 @@ fn write_text(alloc: Global, given: &str) -> Result<String, Refusal> {
     }
 }
 
+// A trace that isn't read in pieces either is told with the same line.
+fn is_bad_in_pieces(alloc: Global, given: &str, told: &str) -> Result<(), Fail> {
+    if !told.starts_with("line ") {
+        return Ok(());
+    }
+    let text = replaced(alloc, given, "|", "\n")?;
+    is_told(alloc, text.as_str(), told)
+}
+
 impl Outcome for Written {
     fn of(alloc: Global, given: &str) -> Result<String, Fail> {
-        Ok(write_text(alloc, given)?)
+        let told = write_text(alloc, given)?;
+        is_bad_in_pieces(alloc, given, told.as_str())?;
+        Ok(told)
     }
 }
 

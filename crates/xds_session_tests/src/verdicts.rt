@@ -1,36 +1,30 @@
 // Traces and the verdict on each.
-use crate::traces::told_fault;
+use crate::pieces::{is_told, told};
 use std::alloc::Global;
 use std::test::Fail;
 use xds_cases::cases::{Outcome, hold_stories};
-use xds_check::{Trace, check};
+use xds_check::{Broken, Trace, TraceFault, check};
 
 // What is told of a trace: that it is well, the first broken line and its rule, or its first bad
-// line. A trace whose last line is ended has the outcome on a line of its own.
+// line. The same is told where its bytes come in pieces. A trace whose last line is ended has the outcome on a line of its own.
 struct Verdict;
 
 impl Outcome for Verdict {
     fn of(alloc: Global, given: &str) -> Result<String, Fail> {
-        match Trace::read(alloc, given.as_bytes()) {
-            Ok(trace) => {
-                let told = told(alloc, &trace);
-                drop(trace);
-                told
-            }
-            Err(fault) => Ok(told_fault(alloc, fault)?),
-        }
+        let told = told(alloc, verdict(alloc, given))?;
+        is_told(alloc, given, told.as_str())?;
+        Ok(told)
     }
 }
 
-fn told(alloc: Global, trace: &Trace) -> Result<String, Fail> {
-    match check(alloc, trace.lines()) {
-        Ok(Some(broken)) => {
-            let line = broken.line;
-            let rule = broken.rule.word();
-            Ok(format!(in alloc; "broken {line} {rule}")?)
-        }
-        Ok(None) => Ok(String::from_str(alloc, "ok")?),
-        Err(_) => Err(Fail::new(format_args!("no memory"))),
+// The verdict on a trace that is held whole.
+fn verdict(alloc: Global, given: &str) -> Result<Option<Broken>, TraceFault> {
+    let trace = Trace::read(alloc, given.as_bytes())?;
+    let checked = check(alloc, trace.lines());
+    drop(trace);
+    match checked {
+        Ok(broken) => Ok(broken),
+        Err(refusal) => Err(TraceFault { line: 0, refusal }),
     }
 }
 
@@ -475,5 +469,66 @@ request 1 3 {"responseNonce":"2","typeUrl":"CDS"}
 write {"body":{"@type":"CDS","name":"a"},"counter":3,"name":"a","typeUrl":"CDS","writer":1}
 response 1 4 {"nonce":"3","removedResources":["a"],"typeUrl":"CDS"}
  => broken 10 P5"#,
+    )
+}
+
+#[test]
+fn a_bad_line_comes_before_a_broken_rule(rt: HostRuntime) -> Result<(), Fail> {
+    hold_stories::<Verdict, HostRuntime>(
+        &rt,
+        r#"open 1
+request 1 3 {"resourceNamesSubscribe":["m"],"typeUrl":"CDS"}
+idle 1 cluster
+ => broken 3 P8
+
+open 1
+request 1 3 {"resourceNamesSubscribe":["m"],"typeUrl":"CDS"}
+idle 1 cluster
+close 2
+ => line 4: 22 BadTrace
+
+open 1
+request 1 3 {"resourceNamesSubscribe":["m"],"typeUrl":"CDS"}
+idle 1 cluster
+close 1
+idle 1 cluster
+ => line 5: 22 BadTrace
+
+open 1
+request 1 3 {"resourceNamesSubscribe":["m"],"typeUrl":"CDS"}
+idle 1 cluster
+close 1 => line 4: 22 BadTrace
+
+open 1
+request 1 3 {"resourceNamesSubscribe":["m"],"typeUrl":"CDS"}
+idle 1 cluster
+request 1 3 {"resourceNamesSubscribe":["m"],"typeUrl":"EDS"}
+idle 1 cluster
+idle 1 endpoint
+ => broken 3 P8"#,
+    )
+}
+
+#[test]
+fn a_stream_that_was_closed_leaves_others_as_they_are(rt: HostRuntime) -> Result<(), Fail> {
+    hold_stories::<Verdict, HostRuntime>(
+        &rt,
+        r#"open 1
+open 2
+request 1 3 {"resourceNamesSubscribe":["m"],"typeUrl":"CDS"}
+request 2 3 {"resourceNamesSubscribe":["m"],"typeUrl":"CDS"}
+close 1
+idle 2 cluster
+ => broken 6 P8
+
+open 1
+request 1 3 {"resourceNamesSubscribe":["m"],"typeUrl":"CDS"}
+response 1 4 {"nonce":"1","removedResources":["m"],"systemVersionInfo":"1.0","typeUrl":"CDS"}
+close 1
+open 2
+request 2 3 {"resourceNamesSubscribe":["m"],"typeUrl":"CDS"}
+response 2 4 {"nonce":"1","removedResources":["m"],"systemVersionInfo":"1.0","typeUrl":"CDS"}
+idle 2 cluster
+ => ok"#,
     )
 }
