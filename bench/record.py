@@ -298,7 +298,7 @@ def whole_run(program, folder, pick, given):
     took, memory = time.time() - begun - QUIET, server.memory()
     status, seconds = server.stop()
     told = server.told()
-    tell(f"the server ends with status 0, in {seconds:.1f} s", status == 0 and seconds < 10, (status, told))
+    tell(f"the server ends with status 0, in {seconds:.1f} s", status == 0 and seconds < 5, (status, told))
     tell("nothing is told of its recording", "recording" not in told, told)
     print(f"     {given.streams} streams, {given.puts} puts: {took:.1f} s, most memory {memory:.0f} MB")
     for client in clients:
@@ -329,7 +329,7 @@ def full(program, folder, pick):
     tell("a server that may write no more goes on", answer.startswith("line 1: "), answer)
     status, seconds = server.stop()
     told = server.told()
-    tell("it ends with status 0", status == 0 and seconds < 10, status)
+    tell("it ends with status 0", status == 0 and seconds < 5, status)
     for replica in (1, 2):
         line = f"recording of replica {replica} ended: 19 Device\n"
         tell("it tells that a recording ended, once", told.count(line) == 1, told)

@@ -30,7 +30,7 @@ use xds_node::{Host, Line, Node, NodeName, Opened};
 use xds_resource::Refusal;
 
 /// As many seconds as frames that were begun have to be written at the end.
-pub(crate) const DRAIN_SECONDS: u64 = 4;
+pub(crate) const DRAIN_SECONDS: u64 = 3;
 
 /// Starts the thread of a replica, whose number its lookout knows, and that of its tape, if it has one. Its node has a name of its own.
 pub(crate) fn start_replica<R>(
@@ -95,7 +95,7 @@ fn shared<R: Runtime, N: NodeName>(
     let node = Node::<N>::new(alloc, opened, number)?;
     let recorded = recorded_node(node, lookout, tape)?;
     let watched = watched_node(alloc, recorded, *rt, lookout)?;
-    Ok(Arc::new(alloc, Weighed::new(alloc, watched))?)
+    Ok(Arc::new(alloc, Weighed::new(alloc, watched, tape.is_some()))?)
 }
 
 // A node whose journal goes to this tape, if there is one.

@@ -1,6 +1,6 @@
 // A node whose journal is cut by its weight, too.
 use crate::served::Served;
-use crate::weights::{answer_weight, event_weight};
+use crate::weights::{answer_weight, event_weight, written_weight};
 use std::alloc::Global;
 use std::sync::{Mutex, Wait};
 use xds_core::{Event, Marks, Reply};
@@ -14,10 +14,12 @@ use xds_rest::Posts;
 pub const MOST_BYTES: u64 = 4_194_304;
 
 /// A replica whose journal is cut once its records take about [`MOST_BYTES`]. So requests as long as a frame may be, or responses
-/// that state very much, take no more memory than that, beside what the replica holds.
+/// that state very much, take no more memory than that, beside what the replica holds. Where its trace is recorded, a response counts by
+/// its text, so that what is still to be written of a trace is never much more, either.
 pub struct Weighed<A> {
     node: A,
     alloc: Global,
+    is_recorded: bool,
     // What the journal takes since it was cut for that, about.
     weight: Mutex<u64>,
     // Whose turn it is to cut it for that.
@@ -30,6 +32,7 @@ impl<A: Drop> Drop for Weighed<A> {
         let Weighed {
             node: _,
             alloc: _,
+            is_recorded: _,
             weight: _,
             turn: _,
         } = self;
@@ -37,13 +40,22 @@ impl<A: Drop> Drop for Weighed<A> {
 }
 
 impl<A: Served> Weighed<A> {
-    /// A replica whose journal has no record.
-    pub fn new(alloc: Global, node: A) -> Weighed<A> {
+    /// A replica whose journal has no record, and whether its trace is recorded.
+    pub fn new(alloc: Global, node: A, is_recorded: bool) -> Weighed<A> {
         Weighed {
             node,
             alloc,
+            is_recorded,
             weight: Mutex::new(0),
             turn: Mutex::new(()),
+        }
+    }
+
+    fn answer_weight(&self, answer: &Result<Reply, Refusal>) -> u64 {
+        if self.is_recorded {
+            written_weight(self.alloc, answer)
+        } else {
+            answer_weight(answer)
         }
     }
 
@@ -93,7 +105,7 @@ impl<A: Served> Host for Weighed<A> {
         let asked = event_weight(self.alloc, &event);
         let answer = self.node.call(rt, seat, event);
         if let Ok(answer) = &answer {
-            self.count(rt, asked.saturating_add(answer_weight(answer)));
+            self.count(rt, asked.saturating_add(self.answer_weight(answer)));
         }
         answer
     }
@@ -118,7 +130,7 @@ impl<A: Served> Host for Weighed<A> {
 // What a name of one letter takes in memory, at most, for each byte of the text that it came in.
 const NAMES: u64 = 16;
 
-// The record of a poll isn't seen here, so it counts by its texts.
+// The record of a poll isn't seen here, so it counts by its texts. Of a trace it is no line.
 fn poll_weight(body: &[u8], reply: &HttpReply) -> u64 {
     let asked = (body.len() as u64).saturating_mul(NAMES);
     let stated = match &reply.body {

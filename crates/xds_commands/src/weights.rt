@@ -42,6 +42,25 @@ pub(crate) fn answer_weight(answer: &Result<Reply, Refusal>) -> u64 {
     }
 }
 
+/// About how many bytes an answer takes in a trace: a response is written out there, whatever it shares with others.
+pub(crate) fn written_weight(alloc: Global, answer: &Result<Reply, Refusal>) -> u64 {
+    match answer {
+        Ok(Reply::Polled(Some(draft))) => text_of_draft(alloc, draft),
+        _ => answer_weight(answer),
+    }
+}
+
+// The length of a response's text. Without memory to find it the response counts as in a journal.
+fn text_of_draft(alloc: Global, draft: &Draft) -> u64 {
+    match draft.pieces(alloc) {
+        Ok(pieces) => match pieces.length_up_to(usize::MAX) {
+            Some(length) => length as u64,
+            None => u64::MAX,
+        },
+        Err(_) => draft_weight(draft),
+    }
+}
+
 fn reply_weight(reply: &Reply) -> u64 {
     match reply {
         Reply::Polled(draft) => polled_weight(draft),

@@ -6,7 +6,8 @@ use std::marker::Brand;
 use std::sync::Wait;
 use std::test::Fail;
 use xds_commands::{Served, Weighed};
-use xds_core::Event;
+use xds_core::{Event, Request};
+use xds_message::DiscoveryRequest;
 use xds_node::{Host, Line, Node, NodeName, Opened};
 use xds_resource::{AnyResource, Groups, Refusal};
 
@@ -29,6 +30,20 @@ fn long_cluster(alloc: Global) -> Result<AnyResource, Refusal> {
     AnyResource::parse(alloc, text.as_str())
 }
 
+// Makes an event that has to leave a record, and not be refused.
+fn made<A: Served, R: Wait>(
+    rt: &R,
+    node: &A,
+    seat: &mut A::Seat,
+    event: Event,
+) -> Result<(), Refusal> {
+    match node.call(rt, seat, event) {
+        Ok(Ok(_)) => Ok(()),
+        Ok(Err(refusal)) => Err(refusal),
+        Err(unrecorded) => Err(unrecorded.refusal),
+    }
+}
+
 // Puts the cluster so many times, by a seat of the node.
 fn put_often<A: Served, R: Wait>(
     rt: &R,
@@ -40,42 +55,100 @@ fn put_often<A: Served, R: Wait>(
     let cluster = long_cluster(alloc)?;
     for _ in 0..puts {
         let event = Event::Put(cluster.try_copy(alloc)?, Groups::none());
-        match node.call(rt, seat, event) {
-            Ok(Ok(_)) => {}
-            Ok(Err(refusal)) => return Err(refusal),
-            Err(unrecorded) => return Err(unrecorded.refusal),
-        }
+        made(rt, node, seat, event)?;
     }
     Ok(())
 }
 
-// How many records a journal has after so many puts.
+// A client that wants all clusters.
+const WANTS_ALL: &[u8] = b"{\"node\":{\"id\":\"c\"},\
+     \"typeUrl\":\"type.googleapis.com/envoy.config.cluster.v3.Cluster\"}";
+
+// Tells the cluster on so many streams, by three records each.
+fn tell_often<A: Served, R: Wait>(
+    rt: &R,
+    alloc: Global,
+    node: &A,
+    seat: &mut A::Seat,
+    streams: u64,
+) -> Result<(), Refusal> {
+    for index in 0..streams {
+        let stream = index.wrapping_add(1);
+        let request = Request::Sotw(DiscoveryRequest::read(alloc, WANTS_ALL)?);
+        made(rt, node, seat, Event::Open)?;
+        made(rt, node, seat, Event::Request(stream, request))?;
+        made(rt, node, seat, Event::Poll(stream, None))?;
+    }
+    Ok(())
+}
+
+// What happens at a node: so many puts, then so many streams, of which each is told the cluster.
+#[derive(Clone, Copy)]
+struct Story {
+    is_recorded: bool,
+    puts: usize,
+    streams: u64,
+}
+
+// How many records its journal has then.
 fn records_after<N: NodeName, R: Wait>(
     rt: &R,
     alloc: Global,
     opened: Opened<Line>,
-    puts: usize,
+    story: Story,
 ) -> Result<usize, Refusal>
     requires name { opened ≡ N.id }
     requires own { 1 ≡ N.replica }
 {
-    let node = Weighed::new(alloc, Node::<N>::new(alloc, opened, 1)?);
+    let node = Weighed::new(alloc, Node::<N>::new(alloc, opened, 1)?, story.is_recorded);
     let mut seat = node.seat(rt)?;
-    put_often(rt, alloc, &node, &mut seat, puts)?;
+    put_often(rt, alloc, &node, &mut seat, story.puts)?;
+    tell_often(rt, alloc, &node, &mut seat, story.streams)?;
     let segment = node.cut(rt)?;
     Ok(segment.records().len())
 }
 
-fn left_after<R: Wait + AllocGlobal>(rt: &R, puts: usize) -> Result<usize, Refusal> {
+fn left_after<R: Wait + AllocGlobal>(rt: &R, story: Story) -> Result<usize, Refusal> {
     let alloc = rt.alloc();
     let opened = Opened::<Line>::new(alloc)?;
-    records_after::<Brand, R>(rt, alloc, opened, puts)
+    records_after::<Brand, R>(rt, alloc, opened, story)
+}
+
+fn left_after_puts<R: Wait + AllocGlobal>(rt: &R, puts: usize) -> Result<usize, Refusal> {
+    let story = Story {
+        is_recorded: false,
+        puts,
+        streams: 0,
+    };
+    left_after(rt, story)
+}
+
+fn left_after_streams<R: Wait + AllocGlobal>(
+    rt: &R,
+    is_recorded: bool,
+    streams: u64,
+) -> Result<usize, Refusal> {
+    let story = Story {
+        is_recorded,
+        puts: 1,
+        streams,
+    };
+    left_after(rt, story)
 }
 
 #[test]
 fn a_heavy_journal_is_cut(rt: HostRuntime) -> Result<(), Fail> {
-    assert_eq!(rt; left_after(&rt, 4)?, 4);
-    assert_eq!(rt; left_after(&rt, 5)?, 0);
-    assert_eq!(rt; left_after(&rt, 14)?, 4);
+    assert_eq!(rt; left_after_puts(&rt, 4)?, 4);
+    assert_eq!(rt; left_after_puts(&rt, 5)?, 0);
+    assert_eq!(rt; left_after_puts(&rt, 14)?, 4);
+    Ok(())
+}
+
+// A body that responses share takes no room in a journal, and its place in each line of a trace.
+#[test]
+fn responses_weigh_their_text_where_a_trace_is_recorded(rt: HostRuntime) -> Result<(), Fail> {
+    assert_eq!(rt; left_after_streams(&rt, false, 8)?, 25);
+    assert_eq!(rt; left_after_streams(&rt, true, 3)?, 10);
+    assert_eq!(rt; left_after_streams(&rt, true, 4)?, 0);
     Ok(())
 }
