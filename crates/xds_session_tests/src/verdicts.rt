@@ -11,14 +11,14 @@ struct Verdict;
 
 impl Outcome for Verdict {
     fn of(alloc: Global, given: &str) -> Result<String, Fail> {
-        let told = told(alloc, verdict(alloc, given))?;
+        let told = told(alloc, whole_verdict(alloc, given))?;
         is_told(alloc, given, told.as_str())?;
         Ok(told)
     }
 }
 
 // The verdict on a trace that is held whole.
-fn verdict(alloc: Global, given: &str) -> Result<Option<Broken>, TraceFault> {
+fn whole_verdict(alloc: Global, given: &str) -> Result<Option<Broken>, TraceFault> {
     let trace = Trace::read(alloc, given.as_bytes())?;
     let checked = check(alloc, trace.lines());
     drop(trace);
