@@ -5,13 +5,17 @@
 
 Starts servers of the program, each on ports of its own, and tries: refused lines of the input and of POST /changes, the log, the
 numbers and the streams that are shown, the limits of streams, a stop beside a client that reads nothing in the midst of a frame,
-and words that are wrong. Prints a line for each, and the status is 1 where one isn't as it is to be.
+what replicas tell each other, addresses, and words that are wrong. Prints a line for each, and the status is 1 where one isn't as it
+is to be, and 2 where it can't be tried, since the program isn't there.
 """
+import http.server
 import json
+import os
 import re
 import socket
 import subprocess
 import sys
+import threading
 import time
 import urllib.error
 import urllib.request
@@ -41,12 +45,13 @@ def free(count):
 
 
 class Server:
-    """A server of one replica; its operator's port is the third."""
+    """A server of one replica, or of more; behind the ports of streams and of REST comes the operator's."""
 
-    def __init__(self, *words, text=""):
-        self.port = free(3)
-        ports = ("--port", str(self.port), "--rest-port", str(self.port + 1), "--admin-port", str(self.port + 2))
-        line = [PROGRAM, "serve", "--replicas", "1", *ports, *words]
+    def __init__(self, *words, text="", replicas=1):
+        self.port = free(2 * replicas + 1)
+        self.rest_port, self.admin_port = self.port + replicas, self.port + 2 * replicas
+        ports = ("--port", str(self.port), "--rest-port", str(self.rest_port), "--admin-port", str(self.admin_port))
+        line = [PROGRAM, "serve", "--replicas", str(replicas), *ports, *words]
         self.run = subprocess.Popen(line, stdin=subprocess.PIPE, stdout=subprocess.PIPE, stderr=subprocess.PIPE, text=True)
         self.run.stdin.write(text)
         self.run.stdin.close()
@@ -60,7 +65,7 @@ class Server:
         sys.exit("the server isn't ready")
 
     def ask(self, path, data=None):
-        url = f"http://127.0.0.1:{self.port + 2}{path}"
+        url = f"http://127.0.0.1:{self.admin_port}{path}"
         with urllib.request.urlopen(url, data=data, timeout=20) as reply:
             return reply.read().decode()
 
@@ -78,17 +83,21 @@ class Server:
         return status, self.run.stderr.read(), time.time() - begun
 
 
-def put(name, **fields):
-    return "put 1 " + json.dumps({"@type": URL, "name": name, **fields}) + "\n"
+def put(name, replica=1, **fields):
+    return f"put {replica} " + json.dumps({"@type": URL, "name": name, **fields}) + "\n"
+
+
+def ran(*words):
+    return subprocess.run([PROGRAM, *map(str, words)], capture_output=True, text=True, timeout=60, check=False)
 
 
 class Stream:
     def __init__(self, port):
         self.socket = socket.create_connection(("127.0.0.1", port), timeout=20)
 
-    def send(self, message):
+    def send(self, message, kind=1):
         text = json.dumps(message).encode()
-        self.socket.sendall((len(text) + 1).to_bytes(4, "big") + b"\x01" + text)
+        self.socket.sendall((len(text) + 1).to_bytes(4, "big") + bytes([kind]) + text)
 
     def exactly(self, count):
         got = b""
@@ -210,9 +219,105 @@ def refused():
     server.stop()
 
 
-if __name__ == "__main__":
+def replicas():
+    """What is put at each of two replicas is seen at the other, with the replica that wrote it."""
+    server = Server(replicas=2, text=put("a", 2) + put("nobody", 9) + "delete 1 route none\n" + put("b", 1))
+    for place, names in ((0, {"a": "1-2", "b": "1-1"}), (1, {"a": "1-2", "b": "1-1"})):
+        stream = Stream(server.port + place)
+        stream.send({"typeUrl": URL, "resourceNamesSubscribe": ["a", "b", "nobody"]}, kind=3)
+        found, until = {}, time.time() + 20
+        while found != names and time.time() < until:
+            response = stream.take()
+            found.update({it["name"]: it["version"] for it in response.get("resources", [])})
+            stream.send({"typeUrl": URL, "responseNonce": response["nonce"]}, kind=3)
+        tell(f"replica {place + 1} has what was put at both, and nothing else", found == names, found)
+        stream.socket.close()
+    server.stop()
+
+
+def counted_streams():
+    """A stream that ended counts once, however it ended."""
+    server = Server("--streams", "3")
+    for at in range(3):
+        if server.run.poll() is not None:
+            break
+        stream = Stream(server.port)
+        stream.send({"typeUrl": URL, "resourceNames": ["a"]}) if at else stream.socket.sendall(b"\0\0\0\x01\x09")
+        stream.socket.shutdown(socket.SHUT_WR)
+        while stream.socket.recv(4096):
+            pass
+        time.sleep(0.3)
+        tell(f"{at + 1} of 3 streams have ended", (server.run.poll() is None) == (at < 2), at)
+    tell("then the server ends", server.run.wait(timeout=20) == 0)
+
+
+REFUSED = '{"code":7,"name":"BadMessage"}'
+
+
+class Answers(http.server.BaseHTTPRequestHandler):
+    """Another server: a poll of secrets is refused, with a body."""
+
+    def do_POST(self):
+        self.rfile.read(int(self.headers["content-length"]))
+        is_refused = self.path.endswith("secrets")
+        text = (REFUSED if is_refused else "{}").encode()
+        self.send_response(400 if is_refused else 200)
+        self.send_header("content-length", str(len(text)))
+        self.end_headers()
+        self.wfile.write(text)
+
+    def log_message(self, *_):
+        pass
+
+
+def addresses():
+    server = Server(text=put("a") + put("b"))
+    for port in (server.port, server.rest_port, server.admin_port):
+        try:
+            socket.create_connection(("127.0.0.2", port), 5).close()
+            found = "connected"
+        except ConnectionRefusedError:
+            found = "refused"
+        tell("another address of this machine is not served", found == "refused", found)
+    run = ran("client", "--addr", f"127.0.0.1:{server.port}", "--variant", "delta", "--type", "route", "--responses", 2, "--cluster", "edge", "--seconds", 20, "a", "later")
+    # The second response comes once what it waits for is put.
+    tell("a client that is told once waits for more", run.returncode == 1 and run.stdout.startswith("taken 1\n1-1 "), run)
+    client = subprocess.Popen(
+        [PROGRAM, "client", "--addr", f"127.0.0.1:{server.port}", "--variant", "delta", "--type", "route", "--responses", "2", "--cluster", "edge", "a", "later"],
+        stdout=subprocess.PIPE,
+        text=True,
+    )
+    first = client.stdout.readline()
+    server.post("/changes", 'putin 1 edge {"@type":"%s","name":"later"}\n' % URL)
+    rest = client.communicate(timeout=60)[0]
+    tell("a client of a cluster takes two responses", first == "taken 1\n" and "taken 2\n" in rest and '"name":"later"' in rest and client.returncode == 0, first + rest)
+    with socket.create_connection(("127.0.0.1", server.rest_port), 20) as it:
+        it.sendall(b"POST /nothing HTTP/1.1\r\nhost: a\r\ncontent-encoding: gzip\r\ncontent-length: 0\r\nconnection: close\r\n\r\n")
+        head = it.recv(4096)
+    tell("a path that isn't there is 404 before a coding is 501", head.startswith(b"HTTP/1.1 404 "), head)
+    other = http.server.HTTPServer(("127.0.0.2", 0), Answers)
+    threading.Thread(target=other.serve_forever, daemon=True).start()
+    run = ran("poll", "--addr", f"127.0.0.2:{other.server_port}", "--type", "route", "a")
+    tell("a poll of another address goes there", run.returncode == 0 and run.stdout == "200\n{}\n", run)
+    run = ran("poll", "--addr", f"127.0.0.2:{other.server_port}", "--type", "secret", "a")
+    tell("a poll that is refused is shown with its body", run.returncode == 0 and run.stdout == f"400\n{REFUSED}\n", run)
+    other.shutdown()
+    server.stop()
+
+
+def main():
+    if not os.path.isfile(PROGRAM):
+        sys.exit(2)
     lines_and_changes()
+    replicas()
+    counted_streams()
+    addresses()
     stop_in_a_frame()
     limits()
     refused()
+    print(f"{len(FAILED)} not as it is to be" if FAILED else "all is as it is to be")
     sys.exit(1 if FAILED else 0)
+
+
+if __name__ == "__main__":
+    main()

@@ -170,7 +170,7 @@ fn start_tape<R, A>(
 ) -> Result<(), Refusal>
 where
     R: Machine,
-    A: Host + Drop + Send + Sync + 'static,
+    A: Host<Seat: Send, Segment: Send> + Drop + Send + Sync + 'static,
 {
     let owned = match (shares(node, lookout), share(tape)) {
         (Ok((node, lookout)), Ok(tape)) => Ok((node, lookout, tape)),
