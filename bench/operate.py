@@ -113,6 +113,16 @@ class Stream:
         return head and json.loads(self.exactly(int.from_bytes(head[:4], "big") - 1))
 
 
+def comes(holds):
+    """Whether something comes to hold within twenty seconds."""
+    until = time.time() + 20
+    while not holds():
+        if time.time() > until:
+            return False
+        time.sleep(0.02)
+    return True
+
+
 def number(text, name, labels):
     found = re.search(rf"^{name}\{{{re.escape(labels)}\}} (\d+)$", text, re.M)
     return int(found[1]) if found else None
@@ -131,12 +141,9 @@ def lines_and_changes():
     second = stream.take()
     rejects = {"typeUrl": URL, "resourceNames": ["a", "b", "c"], "responseNonce": second["nonce"], "errorDetail": {"message": 'no "c"'}}
     stream.send(rejects)
-    for _ in range(100):
-        status = json.loads(server.get("/status"))
-        found = status["replicas"][0]["streams"][0]
-        if found["types"][0]["rejection"]:
-            break
-        time.sleep(0.02)
+    seen = lambda: json.loads(server.get("/status"))["replicas"][0]["streams"][0]
+    comes(lambda: seen()["types"][0]["rejection"])
+    found = seen()
     shown = found["types"][0]
     tell("a stream is shown", found["node"] == "n?1" and found["cluster"] == "edge" and found["variant"] == "sotw", found)
     tell(
@@ -149,7 +156,7 @@ def lines_and_changes():
     counted = [number(text, f"xds_{it}", each) for it in ("resources", "responses_total", "acks_total", "nacks_total")]
     tell("numbers are shown", counted == [3, 2, 1, 1] and number(text, "xds_changes_refused_total", 'replica="1"') == 2, text)
     stream.socket.close()
-    time.sleep(0.3)
+    comes(lambda: json.loads(server.get("/status"))["replicas"][0]["streams"] == [])
     code, errors, _ = server.stop()
     wanted = ("line 1: 21 BadScript: unknown command\n", "line 2: 9 NotFound\n", 'first request, node "n?1"', 'is rejected: "no ?c?"', "ended\n")
     tell("lines and events are told", code == 0 and all(it in errors for it in wanted), errors)
@@ -162,7 +169,8 @@ def stop_in_a_frame():
     stream = Stream(server.port)
     stream.socket.setsockopt(socket.SOL_SOCKET, socket.SO_RCVBUF, 4096)
     stream.send({"typeUrl": URL, "resourceNames": [f"big{at}" for at in range(12)]})
-    time.sleep(1)
+    comes(lambda: number(server.get("/metrics"), "xds_responses_total", 'replica="1",type="route"') == 1)
+    time.sleep(0.5)
     code, _, seconds = server.stop()
     tell("it stops beside a client that reads nothing", code == 0 and seconds < 5, (code, seconds))
     server = Server(text=put("a"))
@@ -177,21 +185,24 @@ def limits():
     server = Server("--max-streams", "1", "--idle-seconds", "1")
     first = Stream(server.port)
     first.send({"typeUrl": URL, "resourceNames": ["a"]})
-    for _ in range(100):
-        if number(server.get("/metrics"), "xds_streams", 'replica="1",variant="sotw"') == 1:
-            break
-        time.sleep(0.02)
+    comes(lambda: number(server.get("/metrics"), "xds_streams", 'replica="1",variant="sotw"') == 1)
     second = Stream(server.port)
     tell("a stream past the most is closed", second.socket.recv(1) == b"")
     turned = number(server.get("/metrics"), "xds_streams_turned_away_total", 'replica="1"')
     tell("and counted", turned == 1, turned)
     first.socket.close()
-    time.sleep(0.3)
-    idle = Stream(server.port)
-    idle.socket.sendall(b"\x00\x00\x00")
-    begun = time.time()
-    ended = idle.socket.recv(1)
-    tell("a stream without a first frame is ended", ended == b"" and 0.5 < time.time() - begun < 10, time.time() - begun)
+    # Until its place is free, the next is closed at once.
+    until, took = time.time() + 20, 0
+    while took < 0.5 and time.time() < until:
+        idle = Stream(server.port)
+        begun = time.time()
+        try:
+            idle.socket.sendall(b"\x00\x00\x00")
+            ended = idle.socket.recv(1)
+        except ConnectionError:
+            ended = b""
+        took = time.time() - begun
+    tell("a stream without a first frame is ended", ended == b"" and 0.5 < took < 10, took)
     server.stop()
 
 
@@ -246,9 +257,10 @@ def counted_streams():
         stream.socket.shutdown(socket.SHUT_WR)
         while stream.socket.recv(4096):
             pass
-        time.sleep(0.3)
-        tell(f"{at + 1} of 3 streams have ended", (server.run.poll() is None) == (at < 2), at)
-    tell("then the server ends", server.run.wait(timeout=20) == 0)
+        if at < 2:
+            time.sleep(0.3)
+            tell(f"after {at + 1} of 3 streams the server goes on", server.run.poll() is None)
+    tell("after the third it ends", server.run.wait(timeout=20) == 0)
 
 
 REFUSED = '{"code":7,"name":"BadMessage"}'
