@@ -52,7 +52,7 @@ fn go_on<R, I, O, E>(
     is_terminal: bool,
 ) -> u8
 where
-    R: Machine,
+    R: Machine + Files<File = File>,
     I: Read + Drop + Send + 'static,
     O: Write,
     E: Write,

@@ -1,9 +1,7 @@
 // What the commands take of a runtime.
 use std::alloc::AllocGlobal;
-use std::fs::File;
 use std::net::{Net, TcpListener, TcpStream};
 use std::random::RandomSource;
-use std::rt::Files;
 use std::sync::Wait;
 use std::thread::Threads;
 use std::time::Clock;
@@ -25,11 +23,8 @@ where
     R: Wait + Threads + Clock + RandomSource + AllocGlobal + Copy + Drop + Send + Sync + 'static,
 {}
 
-/// A runtime, its network and its files. What is called with a runtime's own type, as `run` is, names the bounds: a proof doesn't
+/// A runtime and its network. What is called with a runtime's own type, as `run` is, names both bounds: a proof doesn't
 /// cover such a call by this name.
-pub trait Machine: Runtime + Net<Listener = TcpListener, Stream = TcpStream> + Files<File = File> {}
+pub trait Machine: Runtime + Net<Listener = TcpListener, Stream = TcpStream> {}
 
-impl<R> Machine for R
-where
-    R: Runtime + Net<Listener = TcpListener, Stream = TcpStream> + Files<File = File>,
-{}
+impl<R: Runtime + Net<Listener = TcpListener, Stream = TcpStream>> Machine for R {}

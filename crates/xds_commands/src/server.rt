@@ -117,7 +117,7 @@ fn serve_recorded<R, I, E>(
     folder: Option<&str>,
 ) -> u8
 where
-    R: Machine,
+    R: Machine + Files<File = File>,
     I: Read + Drop + Send + 'static,
     E: Write,
     ensures { result ≤ 1 }

@@ -2,7 +2,7 @@
 ghost use Rattle.std.specs.Prelude.{◌≡◌, Err};
 ghost use Rattle.xds_frames.specs.Devices.{seen};
 ghost use Rattle.xds_client.specs.Running.{RunsAt};
-ghost use Rattle.xds_commands.specs.Ends.{EndsClient, HasEnded, variant_of};
+ghost use Rattle.xds_commands.specs.Ends.{EndsClient, HasEnded, IsOf, variant_of};
 
 use crate::telling::{tell_http, tell_late, tell_refusal};
 use crate::timed::{Deadline, TimedReader, connected, gave_up};
@@ -31,16 +31,23 @@ where
     ensures { EndsClient task.now result (seen O.contents output.old output.new) (seen E.contents errors.old errors.new) }
 {
     let alloc = rt.alloc();
-    let wish = Subscription {
+    let wish = wish_of(task);
+    let deadline = Deadline::after(rt, task.seconds);
+    let watched = run_by(rt, alloc, task, deadline, &wish, output);
+    tell_end(rt, alloc, task, deadline, watched, errors)
+}
+
+// The subscription that a task asks for.
+fn wish_of(task: &ClientTask) -> Subscription<'_>
+    ensures { IsOf task.now result }
+{
+    Subscription {
         variant: variant_of(task.variant),
         kind: task.kind,
         cluster: task.cluster.as_str(),
         names: task.names.as_slice(),
         responses: task.responses,
-    };
-    let deadline = Deadline::after(rt, task.seconds);
-    let watched = run_by(rt, alloc, task, deadline, &wish, output);
-    tell_end(rt, alloc, task, deadline, watched, errors)
+    }
 }
 
 // How a client ended, and whether the other end speaks HTTP.
