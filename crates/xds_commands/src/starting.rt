@@ -70,8 +70,8 @@ where
     requires first { 1 ≤ number }
     requires own { number ≡ N.replica }
 {
-    match shared::<R, N>(rt, alloc, opened, number, lookout, tape) {
-        Ok(node) => start_node(rt, alloc, node, replica, lookout, tape),
+    match Node::<N>::new(alloc, opened, number) {
+        Ok(node) => start_recorded(rt, alloc, node, replica, lookout, tape),
         Err(refusal) => {
             drop(replica);
             Err(refusal)
@@ -79,23 +79,30 @@ where
     }
 }
 
-// A new node, as threads share it.
-fn shared<R: Runtime, N: NodeName>(
+// What stands round a node is put round it by one function each: with all of it in one, a proof of the call finds no end.
+
+// Starts the threads of a replica by this node, whose journal goes to a tape, if there is one.
+fn start_recorded<R, A>(
     rt: &R,
     alloc: Global,
-    opened: Opened<Line>,
-    number: u16,
+    node: A,
+    replica: Replica,
     lookout: &Arc<Lookout>,
     tape: Option<&Arc<Tape>>,
-) -> Result<Arc<Weighed<Watched<Recorded<Node<N>>, R>>>, Refusal>
-    requires name { opened ≡ N.id }
-    requires first { 1 ≤ number }
-    requires own { number ≡ N.replica }
+) -> Result<(), Refusal>
+where
+    R: Machine,
+    A: Served + Host<Segment: Piece + Send> + Drop + Send + Sync + 'static,
+    <A as Host>::Seat: Send + 'static,
+    A::PostSeat: Send,
 {
-    let node = Node::<N>::new(alloc, opened, number)?;
-    let recorded = recorded_node(node, lookout, tape)?;
-    let watched = watched_node(alloc, recorded, *rt, lookout)?;
-    Ok(Arc::new(alloc, Weighed::new(alloc, watched, tape.is_some()))?)
+    match recorded_node(node, lookout, tape) {
+        Ok(node) => start_watched(rt, alloc, node, replica, lookout, tape),
+        Err(refusal) => {
+            drop(replica);
+            Err(refusal)
+        }
+    }
 }
 
 // A node whose journal goes to this tape, if there is one.
@@ -121,6 +128,31 @@ fn shared_tape(tape: Option<&Arc<Tape>>) -> Result<Option<Arc<Tape>>, Refusal> {
     }
 }
 
+// The same, by a node whose events are noted.
+fn start_watched<R, A>(
+    rt: &R,
+    alloc: Global,
+    node: A,
+    replica: Replica,
+    lookout: &Arc<Lookout>,
+    tape: Option<&Arc<Tape>>,
+) -> Result<(), Refusal>
+where
+    R: Machine,
+    A: Served + Drop + Send + Sync + 'static,
+    <A as Host>::Seat: Send + 'static,
+    A::Segment: Send,
+    A::PostSeat: Send,
+{
+    match watched_node(alloc, node, *rt, lookout) {
+        Ok(node) => start_weighed(rt, alloc, node, replica, lookout, tape),
+        Err(refusal) => {
+            drop(replica);
+            Err(refusal)
+        }
+    }
+}
+
 // A node whose events are noted.
 fn watched_node<A: Served + Drop, C: Clock + Drop>(
     alloc: Global,
@@ -133,6 +165,31 @@ fn watched_node<A: Served + Drop, C: Clock + Drop>(
         Err(refusal) => {
             drop(node);
             Err(refusal)
+        }
+    }
+}
+
+// The same, by a node whose journal is cut by its weight.
+fn start_weighed<R, A>(
+    rt: &R,
+    alloc: Global,
+    node: A,
+    replica: Replica,
+    lookout: &Arc<Lookout>,
+    tape: Option<&Arc<Tape>>,
+) -> Result<(), Refusal>
+where
+    R: Machine,
+    A: Served + Drop + Send + Sync + 'static,
+    <A as Host>::Seat: Send + 'static,
+    A::Segment: Send,
+    A::PostSeat: Send,
+{
+    match Arc::new(alloc, Weighed::new(alloc, node, tape.is_some())) {
+        Ok(node) => start_node(rt, alloc, node, replica, lookout, tape),
+        Err(_) => {
+            drop(replica);
+            Err(Refusal::OutOfMemory)
         }
     }
 }
