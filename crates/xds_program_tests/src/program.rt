@@ -460,11 +460,15 @@ poll --addr here --type cluster => fault 2 2",
 // but for the usage that `clap` makes.
 struct Helped;
 
-// Adds the status of a line, or the line where it is wide.
+// Adds the status of a line, or the line where it is wide. A line that goes on one before it begins
+// with five spaces, and has none.
 fn add_status(said: &mut String, line: &str) -> Result<(), Fail> {
     if line.chars().count() > 80 {
         said.push_str(" ")?;
         said.push_str(line)?;
+        return Ok(());
+    }
+    if line.starts_with("     ") {
         return Ok(());
     }
     if let Some(status) = line.split_whitespace().next() {
