@@ -21,12 +21,9 @@ fn what_needs_no_network_is_done(rt: HostRuntime) -> Result<(), Fail> {
 }
 
 // That a run over these words and this input ends with this status.
-fn ends_with<R: Runtime + Net<Listener = TcpListener, Stream = TcpStream> + Files<File = File>>(
-    rt: &R,
-    line: &str,
-    input: &'static [u8],
-    status: &str,
-) -> Result<(), Fail> {
+fn ends_with<
+    R: Runtime + Net<Listener = TcpListener, Stream = TcpStream> + Files<File = File, Dir: Send>,
+>(rt: &R, line: &str, input: &'static [u8], status: &str) -> Result<(), Fail> {
     let found = ran(rt, line, input)?;
     begins(found.as_str(), status)
 }

@@ -13,14 +13,14 @@ use xds_resource::Refusal;
 /// The status of a run over these words and this input, its output and its error output, with `~`
 /// for a line feed.
 pub(crate) fn ran<
-    R: Runtime + Net<Listener = TcpListener, Stream = TcpStream> + Files<File = File>,
+    R: Runtime + Net<Listener = TcpListener, Stream = TcpStream> + Files<File = File, Dir: Send>,
 >(rt: &R, line: &str, input: &'static [u8]) -> Result<String, Refusal> {
     ran_on(rt, line, input)
 }
 
 /// The same over any input.
 pub(crate) fn ran_on<
-    R: Runtime + Net<Listener = TcpListener, Stream = TcpStream> + Files<File = File>,
+    R: Runtime + Net<Listener = TcpListener, Stream = TcpStream> + Files<File = File, Dir: Send>,
     I: Read + Drop + Send + 'static,
 >(rt: &R, line: &str, input: I) -> Result<String, Refusal> {
     let alloc = rt.alloc();
@@ -65,7 +65,7 @@ pub(crate) fn is_told(alloc: Global, found: &str, wanted: &str) -> Result<(), Fa
 
 /// That a run over these words and this input tells what is wanted.
 pub(crate) fn tells<
-    R: Runtime + Net<Listener = TcpListener, Stream = TcpStream> + Files<File = File>,
+    R: Runtime + Net<Listener = TcpListener, Stream = TcpStream> + Files<File = File, Dir: Send>,
 >(rt: &R, line: &str, input: &'static [u8], wanted: &str) -> Result<(), Fail> {
     let found = ran(rt, line, input)?;
     is_told(rt.alloc(), found.as_str(), wanted)

@@ -28,30 +28,25 @@ const A_CLUSTER: &[u8] =
 type Run = JoinHandle<Result<String, Refusal>>;
 
 // Starts a server in a thread of its own.
-fn started<R: Runtime + Net<Listener = TcpListener, Stream = TcpStream> + Files<File = File>>(
-    rt: &R,
-    line: &'static str,
-    input: &'static [u8],
-) -> Result<Run, Fail> {
+fn started<
+    R: Runtime + Net<Listener = TcpListener, Stream = TcpStream> + Files<File = File, Dir: Send>,
+>(rt: &R, line: &'static str, input: &'static [u8]) -> Result<Run, Fail> {
     let host = *rt;
     Ok(thread::spawn(rt, move || ran(&host, line, input))?)
 }
 
 // That a server ends with this status.
-fn ends<R: Runtime + Net<Listener = TcpListener, Stream = TcpStream> + Files<File = File>>(
-    rt: &R,
-    server: Run,
-    status: &str,
-) -> Result<(), Fail> {
+fn ends<
+    R: Runtime + Net<Listener = TcpListener, Stream = TcpStream> + Files<File = File, Dir: Send>,
+>(rt: &R, server: Run, status: &str) -> Result<(), Fail> {
     let told = server.join(rt)?;
     begins(told.as_str(), status)
 }
 
 // What a run tells, tried again while it is refused for want of a server.
-fn once_served<R: Runtime + Net<Listener = TcpListener, Stream = TcpStream> + Files<File = File>>(
-    rt: &R,
-    line: &str,
-) -> Result<String, Refusal> {
+fn once_served<
+    R: Runtime + Net<Listener = TcpListener, Stream = TcpStream> + Files<File = File, Dir: Send>,
+>(rt: &R, line: &str) -> Result<String, Refusal> {
     for _ in 0..MOST_TURNS {
         let told = ran(rt, line, NO_INPUT)?;
         if told.as_str() != "1 19 Device~" {
@@ -64,17 +59,16 @@ fn once_served<R: Runtime + Net<Listener = TcpListener, Stream = TcpStream> + Fi
 
 // That a run tells what is wanted, once there is a server.
 fn tells_once_served<
-    R: Runtime + Net<Listener = TcpListener, Stream = TcpStream> + Files<File = File>,
+    R: Runtime + Net<Listener = TcpListener, Stream = TcpStream> + Files<File = File, Dir: Send>,
 >(rt: &R, line: &str, wanted: &str) -> Result<(), Fail> {
     let told = once_served(rt, line)?;
     is_told(rt.alloc(), told.as_str(), wanted)
 }
 
 // A connection to a port of this machine, tried again while there is none.
-fn connected<R: Runtime + Net<Listener = TcpListener, Stream = TcpStream> + Files<File = File>>(
-    rt: &R,
-    port: u16,
-) -> Result<TcpStream, Refusal> {
+fn connected<
+    R: Runtime + Net<Listener = TcpListener, Stream = TcpStream> + Files<File = File, Dir: Send>,
+>(rt: &R, port: u16) -> Result<TcpStream, Refusal> {
     for _ in 0..MOST_TURNS {
         if let Ok(stream) = TcpStream::connect(rt, SocketAddrV4::new(Ipv4Addr::LOCALHOST, port)) {
             return Ok(stream);
@@ -107,7 +101,7 @@ fn a_client_hears_of_what_the_other_replica_took(rt: HostRuntime) -> Result<(), 
 
 // While a connection holds half a frame, a client hears of what there is.
 fn beside_half_a_frame<
-    R: Runtime + Net<Listener = TcpListener, Stream = TcpStream> + Files<File = File>,
+    R: Runtime + Net<Listener = TcpListener, Stream = TcpStream> + Files<File = File, Dir: Send>,
 >(rt: &R) -> Result<(), Fail> {
     let mut held = connected(rt, 18630)?;
     held.write_all(b"\x00\x00\x00\x40\x01")?;
@@ -131,11 +125,9 @@ fn a_half_frame_holds_up_no_other_stream(rt: HostRuntime) -> Result<(), Fail> {
 }
 
 // What a poll tells once this part is told, and in the end whatever it tells.
-fn once_told<R: Runtime + Net<Listener = TcpListener, Stream = TcpStream> + Files<File = File>>(
-    rt: &R,
-    line: &str,
-    part: &str,
-) -> Result<String, Refusal> {
+fn once_told<
+    R: Runtime + Net<Listener = TcpListener, Stream = TcpStream> + Files<File = File, Dir: Send>,
+>(rt: &R, line: &str, part: &str) -> Result<String, Refusal> {
     for _ in 0..MOST_TURNS {
         let told = once_served(rt, line)?;
         if told.as_str().contains(part) {
@@ -146,9 +138,9 @@ fn once_told<R: Runtime + Net<Listener = TcpListener, Stream = TcpStream> + File
 }
 
 // Polls until the cluster `a` is told.
-fn is_polled<R: Runtime + Net<Listener = TcpListener, Stream = TcpStream> + Files<File = File>>(
-    rt: &R,
-) -> Result<(), Fail> {
+fn is_polled<
+    R: Runtime + Net<Listener = TcpListener, Stream = TcpStream> + Files<File = File, Dir: Send>,
+>(rt: &R) -> Result<(), Fail> {
     let line = "xds poll --addr 127.0.0.1:18660 --type cluster a";
     let told = once_told(rt, line, "\"1.1.named\"")?;
     is_told(
@@ -187,12 +179,9 @@ fn hangs_up(alloc: Global, listener: &TcpListener) -> Result<(), Fail> {
 }
 
 // What a run tells of such a peer.
-fn hung_up<R: Runtime + Net<Listener = TcpListener, Stream = TcpStream> + Files<File = File>>(
-    rt: &R,
-    port: u16,
-    line: &'static str,
-    wanted: &str,
-) -> Result<(), Fail> {
+fn hung_up<
+    R: Runtime + Net<Listener = TcpListener, Stream = TcpStream> + Files<File = File, Dir: Send>,
+>(rt: &R, port: u16, line: &'static str, wanted: &str) -> Result<(), Fail> {
     let listener = TcpListener::bind(rt, SocketAddrV4::new(Ipv4Addr::LOCALHOST, port))?;
     let run = started(rt, line, NO_INPUT)?;
     hangs_up(rt.alloc(), &listener)?;
@@ -232,12 +221,9 @@ fn a_bad_line_ends_a_server(rt: HostRuntime) -> Result<(), Fail> {
 }
 
 // Takes a connection, and says nothing for as long as it is kept.
-fn stays_silent<R: Runtime + Net<Listener = TcpListener, Stream = TcpStream> + Files<File = File>>(
-    rt: &R,
-    port: u16,
-    line: &'static str,
-    wanted: &str,
-) -> Result<(), Fail> {
+fn stays_silent<
+    R: Runtime + Net<Listener = TcpListener, Stream = TcpStream> + Files<File = File, Dir: Send>,
+>(rt: &R, port: u16, line: &'static str, wanted: &str) -> Result<(), Fail> {
     let listener = TcpListener::bind(rt, SocketAddrV4::new(Ipv4Addr::LOCALHOST, port))?;
     let run = started(rt, line, NO_INPUT)?;
     let held = listener.accept()?;

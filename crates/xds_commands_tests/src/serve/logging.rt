@@ -37,11 +37,9 @@ fn holds(text: &str, part: &str) -> Result<(), Fail> {
 }
 
 // That a server ended well, and told each of these parts.
-fn told<R: Runtime + Net<Listener = TcpListener, Stream = TcpStream> + Files<File = File>>(
-    rt: &R,
-    server: JoinHandle<Came>,
-    parts: &[&str],
-) -> Result<(), Fail> {
+fn told<
+    R: Runtime + Net<Listener = TcpListener, Stream = TcpStream> + Files<File = File, Dir: Send>,
+>(rt: &R, server: JoinHandle<Came>, parts: &[&str]) -> Result<(), Fail> {
     let came = server.join(rt);
     let text = str::from_utf8(came.errors.as_slice()).unwrap_or("no text");
     for part in parts {

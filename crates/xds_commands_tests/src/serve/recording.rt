@@ -45,11 +45,9 @@ fn cleared(rt: &HostRuntime, folder: &str, came: Result<(), Fail>) -> Result<(),
 }
 
 // Starts a server of one replica that records in a folder, and ends with its first stream.
-fn recording<R: Runtime + Net<Listener = TcpListener, Stream = TcpStream> + Files<File = File>>(
-    rt: &R,
-    port: u16,
-    folder: &str,
-) -> Result<JoinHandle<Came>, Fail> {
+fn recording<
+    R: Runtime + Net<Listener = TcpListener, Stream = TcpStream> + Files<File = File, Dir: Send>,
+>(rt: &R, port: u16, folder: &str) -> Result<JoinHandle<Came>, Fail> {
     let host = *rt;
     let folder = String::from_str(rt.alloc(), folder)?;
     match thread::spawn(rt, move || {
@@ -62,18 +60,16 @@ fn recording<R: Runtime + Net<Listener = TcpListener, Stream = TcpStream> + File
 }
 
 // That this is said of the trace in a file.
-fn is_judged<R: Runtime + Net<Listener = TcpListener, Stream = TcpStream> + Files<File = File>>(
-    rt: &R,
-    path: &str,
-    wanted: &str,
-) -> Result<(), Fail> {
+fn is_judged<
+    R: Runtime + Net<Listener = TcpListener, Stream = TcpStream> + Files<File = File, Dir: Send>,
+>(rt: &R, path: &str, wanted: &str) -> Result<(), Fail> {
     let told = ran_on(rt, "xds check", File::open(rt, path)?)?;
     is_told(rt.alloc(), told.as_str(), wanted)
 }
 
 // That this is said of it once a word is another.
 fn is_judged_with<
-    R: Runtime + Net<Listener = TcpListener, Stream = TcpStream> + Files<File = File>,
+    R: Runtime + Net<Listener = TcpListener, Stream = TcpStream> + Files<File = File, Dir: Send>,
 >(rt: &R, path: &str, word: &str, by: &str, wanted: &str) -> Result<(), Fail> {
     let text = fs::read_to_string(rt, path)?;
     let text = replaced(rt.alloc(), text.as_str(), word, by)?;
@@ -83,11 +79,9 @@ fn is_judged_with<
 }
 
 // What is said of a server that ended, of its trace, and of copies that are spoilt.
-fn is_recorded<R: Runtime + Net<Listener = TcpListener, Stream = TcpStream> + Files<File = File>>(
-    rt: &R,
-    server: JoinHandle<Came>,
-    folder: &str,
-) -> Result<(), Fail> {
+fn is_recorded<
+    R: Runtime + Net<Listener = TcpListener, Stream = TcpStream> + Files<File = File, Dir: Send>,
+>(rt: &R, server: JoinHandle<Came>, folder: &str) -> Result<(), Fail> {
     ends_well(
         rt,
         server,
@@ -122,12 +116,9 @@ fn a_recorded_run_is_checked(rt: HostRuntime) -> Result<(), Fail> {
 }
 
 // What a server tells of a folder in which no file can be made.
-fn is_refused<R: Runtime + Net<Listener = TcpListener, Stream = TcpStream> + Files<File = File>>(
-    rt: &R,
-    folder: &str,
-    file: &str,
-    why: &str,
-) -> Result<(), Fail> {
+fn is_refused<
+    R: Runtime + Net<Listener = TcpListener, Stream = TcpStream> + Files<File = File, Dir: Send>,
+>(rt: &R, folder: &str, file: &str, why: &str) -> Result<(), Fail> {
     let wanted = format!(in rt.alloc(); "{folder}/{file}: 19 Device: {why}\n")?;
     let came = recorded(
         rt,
@@ -139,10 +130,9 @@ fn is_refused<R: Runtime + Net<Listener = TcpListener, Stream = TcpStream> + Fil
 }
 
 // What it tells of a folder with a file in it, in which it leaves no other, and of one that isn't there.
-fn are_refused<R: Runtime + Net<Listener = TcpListener, Stream = TcpStream> + Files<File = File>>(
-    rt: &R,
-    folder: &str,
-) -> Result<(), Fail> {
+fn are_refused<
+    R: Runtime + Net<Listener = TcpListener, Stream = TcpStream> + Files<File = File, Dir: Send>,
+>(rt: &R, folder: &str) -> Result<(), Fail> {
     let path = format!(in rt.alloc(); "{folder}/replica-2.trace")?;
     drop(File::create(rt, path.as_str())?);
     is_refused(rt, folder, "replica-2.trace", "it is there already")?;
@@ -168,19 +158,22 @@ fn has(rt: &HostRuntime, path: &str, wanted: &str) -> Result<(), Fail> {
     Err(Fail::new(format_args!("{text} and not {wanted}")))
 }
 
-// A file on its way to a trace of these texts.
-fn is_sealed(rt: &HostRuntime, path: &str, one: &str, other: &str) -> Result<(), Fail> {
+// A file on its way to a trace of these texts, and what it has until it is sealed.
+fn is_sealed(
+    rt: &HostRuntime,
+    path: &str,
+    one: &str,
+    other: &str,
+    unsealed: &str,
+) -> Result<(), Fail> {
     let mut reel = Reel::begun(File::create(rt, path)?)?;
     has(rt, path, "?")?;
     reel.write_all(one.as_bytes())?;
     reel.write_all(other.as_bytes())?;
-    let whole = format!(in rt.alloc(); "{one}{other}")?;
-    let whole = whole.as_str();
-    let behind = if whole.is_empty() { "" } else { &whole[1..] };
-    let unsealed = format!(in rt.alloc(); "?{behind}")?;
-    has(rt, path, unsealed.as_str())?;
+    has(rt, path, unsealed)?;
     reel.seal()?;
-    has(rt, path, whole)
+    let whole = format!(in rt.alloc(); "{one}{other}")?;
+    has(rt, path, whole.as_str())
 }
 
 #[test]
@@ -188,8 +181,8 @@ fn a_file_passes_for_no_trace_until_it_is_sealed(rt: HostRuntime) -> Result<(), 
     let folder = new_folder(&rt)?;
     let path = format!(in rt.alloc(); "{folder}/a")?;
     let path = path.as_str();
-    let sealed = match is_sealed(&rt, path, "open 1\n", "close 1\n") {
-        Ok(()) => is_sealed(&rt, path, "", ""),
+    let sealed = match is_sealed(&rt, path, "open 1\n", "close 1\n", "?pen 1\nclose 1\n") {
+        Ok(()) => is_sealed(&rt, path, "", "", "?"),
         Err(fail) => Err(fail),
     };
     cleared(&rt, folder.as_str(), sealed)

@@ -57,7 +57,7 @@ pub(crate) fn logging(replicas: u16, port: u16, streams: Option<u16>) -> Serving
 /// Serves to the end.
 pub(crate) fn served<
     I: Read + Drop + Send + 'static,
-    R: Runtime + Net<Listener = TcpListener, Stream = TcpStream> + Files<File = File>,
+    R: Runtime + Net<Listener = TcpListener, Stream = TcpStream> + Files<File = File, Dir: Send>,
 >(rt: &R, input: I, serving: Serving) -> Came {
     recorded(rt, input, serving, None)
 }
@@ -65,7 +65,7 @@ pub(crate) fn served<
 /// The same, and records into this folder, if one is given.
 pub(crate) fn recorded<
     I: Read + Drop + Send + 'static,
-    R: Runtime + Net<Listener = TcpListener, Stream = TcpStream> + Files<File = File>,
+    R: Runtime + Net<Listener = TcpListener, Stream = TcpStream> + Files<File = File, Dir: Send>,
 >(rt: &R, input: I, serving: Serving, folder: Option<&str>) -> Came {
     let mut errors = Counted::new(Vec::new(rt.alloc()));
     let status = serve(rt, input, &mut errors, serving, folder);
@@ -77,7 +77,7 @@ pub(crate) fn recorded<
 
 /// The same in a thread of its own.
 pub(crate) fn started<
-    R: Runtime + Net<Listener = TcpListener, Stream = TcpStream> + Files<File = File>,
+    R: Runtime + Net<Listener = TcpListener, Stream = TcpStream> + Files<File = File, Dir: Send>,
 >(rt: &R, input: &'static str, serving: Serving) -> Result<JoinHandle<Came>, Fail> {
     let host = *rt;
     match thread::spawn(rt, move || served(&host, input.as_bytes(), serving)) {
@@ -89,21 +89,21 @@ pub(crate) fn started<
 /// That a server comes to this status, and tells this.
 pub(crate) fn comes_to<
     I: Read + Drop + Send + 'static,
-    R: Runtime + Net<Listener = TcpListener, Stream = TcpStream> + Files<File = File>,
+    R: Runtime + Net<Listener = TcpListener, Stream = TcpStream> + Files<File = File, Dir: Send>,
 >(rt: &R, input: I, serving: Serving, status: u8, errors: &str) -> Result<(), Fail> {
     came_to(&served(rt, input, serving), status, errors)
 }
 
 /// That a server which was started ends well, and tells this.
 pub(crate) fn ends_well<
-    R: Runtime + Net<Listener = TcpListener, Stream = TcpStream> + Files<File = File>,
+    R: Runtime + Net<Listener = TcpListener, Stream = TcpStream> + Files<File = File, Dir: Send>,
 >(rt: &R, server: JoinHandle<Came>, errors: &str) -> Result<(), Fail> {
     came_to(&server.join(rt), 0, errors)
 }
 
 /// That a server which was started ends well, whatever it tells.
 pub(crate) fn came_well<
-    R: Runtime + Net<Listener = TcpListener, Stream = TcpStream> + Files<File = File>,
+    R: Runtime + Net<Listener = TcpListener, Stream = TcpStream> + Files<File = File, Dir: Send>,
 >(rt: &R, server: JoinHandle<Came>) -> Result<(), Fail> {
     let came = server.join(rt);
     if came.status == 0 {
