@@ -270,7 +270,10 @@ fn ends_of<N: NodeName, R: Wait>(
         segments.push(node.cut(rt)?)?;
     }
     let segments = segments.as_slice();
-    let line = segments[0].count();
+    let line = match segments.first() {
+        Some(first) => first.count(),
+        None => 0,
+    };
     let whole = end_of(alloc, segments, None, 10_000)?;
     let gap = end_of(alloc, segments, Some(1), 10_000)?;
     let late = end_of(alloc, segments, Some(0), 10_000)?;
