@@ -24,13 +24,12 @@ pub(crate) fn join<T: ResourceType>(tables: &mut Tables<T>, write: Write<T>) -> 
     ensures memory { IfErr result (λ e. e ≡ Refusal.OutOfMemory → IsOk (joining (held_by tables.old) (write ∷ []))) }
     ensures err { OnErr result (tables.new ≡ tables.old) }
 {
-    if !tables.is_news(&write) {
+    let Some(former) = tables.former(&write) else {
         return Ok(0);
-    }
+    };
     if tables.changes() == MAX_COUNTER {
         return Err(Refusal::CounterSpent);
     }
-    let former = tables.number_of(write.name());
     tables.put(write)?;
     if let Some(number) = former {
         tables.remove_number(number);

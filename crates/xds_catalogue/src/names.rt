@@ -114,10 +114,6 @@ impl<T: ResourceType> Names<T> {
         ensures err { OnErr result (self.new ≡ self.old) }
         ensures refused { IfErr result (λ e. e ≡ Refusal.OutOfMemory) }
     {
-        if let Some(held) = self.by_name.get_mut(entry.write().name()) {
-            drop(mem::replace(held, entry));
-            return Ok(());
-        }
         let name = String::from_str(self.alloc, entry.write().name())?;
         drop(self.by_name.insert(name, entry)?);
         Ok(())

@@ -1,5 +1,5 @@
 // Both maps of a catalogue, and the two counts beside them.
-ghost use Rattle.std.specs.Prelude.{◌≡◌, ◌+◌, ◌<◌, ◌≤◌, None, OnOk, OnErr, IfOk, IfErr};
+ghost use Rattle.std.specs.Prelude.{◌≡◌, ◌+◌, ◌<◌, ◌≤◌, None, is_some, IfSome, OnOk, OnErr, IfOk, IfErr};
 ghost use Rattle.std.specs.Option.{option_map};
 ghost use Rattle.std.specs.FinMap as finmap;
 ghost use Rattle.xds_resource.specs.Stamps.{max_counter};
@@ -121,13 +121,15 @@ impl<T: ResourceType> Tables<T> {
         }
     }
 
-    // The number of the latest change of an entry.
-    pub(crate) fn number_of(&self, name: &str) -> Option<u64>
-        ensures { result ≡ finmap.get self.now.named.latest name.now }
+    // The number of what a write would replace, if it would replace anything; none where it is no news.
+    pub(crate) fn former(&self, write: &Write<T>) -> Option<Option<u64>>
+        ensures news { is_some result ≡ surpasses write.now (finmap.get self.now.named.entries write.now.name) }
+        ensures number { IfSome result (λ n. n ≡ finmap.get self.now.named.latest write.now.name) }
     {
-        match self.names.get(name) {
-            Some(held) => Some(held.change()),
-            None => None,
+        match self.names.get(write.name()) {
+            Some(held) if write.cmp(held.write()) == Ordering::Greater => Some(Some(held.change())),
+            Some(_) => None,
+            None => Some(None),
         }
     }
 
