@@ -21,7 +21,7 @@ use Rattle.xds_check.specs.declared.line.Line.{Line}
 use Rattle.xds_check.specs.declared.rule.Rule.{Rule}
 use Rattle.xds_check.specs.declared.rule.Rule.TheVariants.{FreshNonce, BestResources, CoveredResources, WholeResponse, RightRemovals, OneAtATime, NothingRefusedAgain, NothingPending}
 use Rattle.xds_check.specs.Answers.{Answer, stated_names}
-use Rattle.xds_check.specs.Lines.{standing, live, interest, is_used, cluster_on, has_asked, taken, sent, is_pending, is_waiting, refused_offer, offer_at, speaks_delta, mentions, is_mentioned}
+use Rattle.xds_check.specs.Lines.{standing, live, interest, is_used, cluster_on, has_asked, taken, sent, is_pending, refused_offer, offer_at, speaks_delta, mentions, is_mentioned}
 use Rattle.xds_check.specs.Lines as said
 use Rattle.xds_check.specs.Rules.{place, is_put_by, HasReusedNonce, BreaksBestResources, StatesUncovered, LacksAName, RemovesShown, IsSecondAtATime, OffersRefused, LeavesPending, BreaksAtResponse}
 use Rattle.xds_check.specs.Kept.{Talk, Marks, is_marked, wanted, is_reused, breaks_best_resources, states_uncovered, lacks_one, lacks_a_name, is_shown_in, removes_shown, offers_refused, is_missed, none_missed, least}

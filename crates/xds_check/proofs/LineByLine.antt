@@ -1,9 +1,8 @@
 -- Lines that are taken one after another: what is kept is what they say, and the first broken one is told.
-use Rattle.std.proofs.Common.{◌≡◌, ◌≢◌, ◌<◌, ◌≤◌, ◌+◌, inl, inr, ℕ, zero, suc, List, [], ◌∷◌, ◌++◌, length, reverse, take, drop, get_or, Bool, true, false, cond, ◌&&◌, Option, Some, None, refl, sym, ap, subst, ◌∙◌, arith, add-one, append-nil, append_assoc, length-append}
+use Rattle.std.proofs.Common.{◌≡◌, ◌≢◌, ◌<◌, ◌≤◌, ◌+◌, ℕ, zero, suc, List, [], ◌∷◌, ◌++◌, length, reverse, take, drop, get_or, Bool, true, false, cond, ◌&&◌, Option, Some, None, refl, sym, ap, subst, ◌∙◌, arith, add-one, append_assoc, length-append}
 use Rattle.std.proofs.lemmas.Bool.{eqb-true, eq-eqb}
 use Rattle.std.specs.Prelude.{◌==◌, not, is_none, is_some}
 use Rattle.std.specs.Option.{option_map_or, option_or, unwrap_or}
-use Rattle.std.specs.FinMap as finmap
 use Rattle.std.proofs.Math.Seq.{take-suc}
 use Rattle.std.proofs.lemmas.List.{length-reverse, take_all}
 use Rattle.xds_resource.specs.declared.types.TypeName.{TypeName}
@@ -16,8 +15,8 @@ use Rattle.xds_check.specs.declared.line.Line.{Line}
 use Rattle.xds_check.specs.declared.line.Line.TheVariants as lines
 use Rattle.xds_check.specs.declared.rule.Rule.{Rule}
 use Rattle.xds_check.specs.Checkers.{most_lines, IsJudged, HasTaken}
-use Rattle.xds_check.specs.Judges.{JudgeKept, nothing_judged, without_stream, let_go_after, IsTakenIn, TellsOfAll, IsJudgeOf, AreJudgesOf, any_stream, has_ended, is_left}
-use Rattle.xds_check.specs.Kept.{Talk, unheard, talk_at, broken_in}
+use Rattle.xds_check.specs.Judges.{JudgeKept, nothing_judged, without_stream, let_go_after, TellsOfAll, IsJudgeOf, AreJudgesOf, any_stream, is_left}
+use Rattle.xds_check.specs.Kept.{Talk, unheard}
 use Rattle.xds_check.specs.LiveNames.{AreLive}
 use Rattle.xds_check.specs.Orders.{OrderKept, IsOrderOf, nothing_kept, kept_after, may_follow_in}
 use Rattle.xds_check.specs.Rules.{Breaks, AllKeep, NoneBroken, FirstBroken}

@@ -1,5 +1,5 @@
 -- The bytes of a trace that come in pieces: whole lines, and the beginning of one.
-use Rattle.std.proofs.Common.{◌≡◌, ◌≢◌, ◌<◌, ◌+◌, ℕ, List, [], ◌∷◌, ◌++◌, length, reverse, All, Bool, true, false, ◌||◌, Some, None, Option, inl, inr, refl, ap, sym, ◌∙◌, subst, arith, append_assoc, append-nil, true≢false}
+use Rattle.std.proofs.Common.{◌≡◌, ◌≢◌, ◌+◌, ℕ, List, [], ◌∷◌, ◌++◌, length, reverse, Bool, true, false, ◌||◌, Option, inl, inr, refl, ap, sym, ◌∙◌, subst, arith, append_assoc, append-nil, true≢false}
 use Rattle.std.specs.Prelude.{◌==◌}
 use Rattle.std.proofs.lemmas.Bool.{eqb-true, eq-eqb}
 use Rattle.std.specs.List.{list_any}
@@ -7,13 +7,12 @@ use Rattle.std.proofs.lemmas.List.Elements.{All-push, All-nil}
 use Rattle.xds_resource.specs.declared.refusal.Refusal.{Refusal}
 use Rattle.xds_resource.specs.declared.refusal.Refusal.TheVariants.{OutOfMemory, BadTrace}
 use Rattle.xds_resource.proofs.Refusing.{memory_or_not}
-use Rattle.xds_check.specs.declared.checker.Checker.{Checker}
 use Rattle.xds_check.specs.declared.checking.Broken.{Broken}
 use Rattle.xds_check.specs.declared.line.Line.{Line}
 use Rattle.xds_check.specs.declared.piecewise.PiecewiseChecker.{PiecewiseChecker}
-use Rattle.xds_check.specs.Checkers.{HasTaken, IsNext, TakesText, HasRead, IsVerdictOf}
+use Rattle.xds_check.specs.Checkers.{HasTaken, TakesText, HasRead, IsVerdictOf}
 use Rattle.xds_check.specs.Streams.{may_follow}
-use Rattle.xds_check.specs.Texts.{Says, SayAll, ended, IsOneLine, IsTrace, IsBad, IsFirstBad, IsRefusedAt}
+use Rattle.xds_check.specs.Texts.{SayAll, ended, IsOneLine, IsBad, IsFirstBad, IsRefusedAt}
 use Rattle.xds_check.specs.Verdicts.{IsVerdict}
 use Rattle.xds_check.proofs.Hearing.{nothing_in}
 use Rattle.xds_check.proofs.Traces.{ended-more, say-more}

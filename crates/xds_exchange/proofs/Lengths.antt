@@ -6,7 +6,7 @@ use Rattle.std.specs.Ordering.{match_ordering, nat_cmp}
 use Rattle.std.specs.Cmp.Lexicographic.{slice_cmp}
 use Rattle.std.proofs.lemmas.List.Sums.{sum_by-cons}
 use Rattle.json.specs.Print.{quoted}
-use Rattle.serde_json.specs.Data.{Data, object, Members, no_members, member, put}
+use Rattle.serde_json.specs.Data.{Data, Members, no_members, member, put}
 use Rattle.serde_json.specs.View.{items_of}
 use Rattle.serde_json.specs.Written.{compact_text, comma_if, items_text, members_text}
 use Rattle.xds_json.specs.WrittenFields.{Fields, list_data, put_set, members_set, object_set}

@@ -4,7 +4,7 @@ use Rattle.std.specs.List.{sum_by, flat_map}
 use Rattle.std.specs.FinMap as finmap
 use Rattle.xds_resource.specs.declared.types.TypeName.{TypeName}
 use Rattle.xds_resource.specs.declared.types.TypeName.TheVariants.{Cluster, Endpoint, Listener, Route, Secret}
-use Rattle.xds_resource.specs.PerType.{at, each}
+use Rattle.xds_resource.specs.PerType.{at}
 use Rattle.xds_resource.specs.TypedWrites.{TypedWrite, writes_of}
 use Rattle.xds_resource.specs.Types.{types}
 use Rattle.xds_resource.proofs.TypesApart.{same_at_each_type}

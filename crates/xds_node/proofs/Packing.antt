@@ -1,5 +1,5 @@
 -- Why a part isn't packed: there was no memory, or its text is too long for a frame.
-use Rattle.std.proofs.Common.{◌≡◌, ◌<◌, ◌⊎◌, ◌+◌, ℕ, List, Bool, true, false, cond, nat_lt, Result, Ok, Err, inl, inr, length, refl, arith}
+use Rattle.std.proofs.Common.{◌≡◌, ◌<◌, ◌⊎◌, ◌+◌, ℕ, List, Bool, true, false, cond, nat_lt, Ok, Err, inl, inr, length, refl, arith}
 use Rattle.std.proofs.lemmas.Bool.{ltb-true}
 use Rattle.xds_resource.specs.declared.refusal.Refusal.{Refusal}
 use Rattle.xds_resource.specs.declared.refusal.Refusal.TheVariants.{OutOfMemory, FrameTooLong}

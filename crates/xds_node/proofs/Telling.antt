@@ -1,8 +1,7 @@
 -- What a seat was told by a call, without the books that only the lock's holder sees.
-use Rattle.std.proofs.Common.{◌≡◌, ℕ, List, [], ◌∷◌, ◌++◌, Result, Ok, Err, IfOk, sym, ap, ◌∙◌}
+use Rattle.std.proofs.Common.{◌≡◌, [], ◌∷◌, ◌++◌, Result, Ok, Err, IfOk, sym, ap, ◌∙◌}
 use Rattle.xds_resource.specs.declared.refusal.Refusal.{Refusal}
 use Rattle.xds_core.specs.Events.{Event}
-use Rattle.xds_core.specs.Legal.{Record}
 use Rattle.xds_core.specs.Seen.{answer_of}
 use Rattle.xds_core.specs.declared.event.Reply.{Reply}
 use Rattle.xds_node.specs.Entries.{AllBelow}

@@ -1,7 +1,6 @@
 -- How a run that judges a trace ends.
 use Rattle.std.proofs.Common.{◌≡◌, sym, refl, subst, IfSome, ◌⊎◌, inl, inr, ℕ, List}
 use Rattle.std.proofs.lemmas.Option.{IfSome_then}
-use Rattle.xds_resource.specs.declared.refusal.Refusal.{Refusal}
 use Rattle.xds_resource.specs.declared.refusal.Refusal.TheVariants.{Device as DeviceRefusal, OutOfMemory, BadTrace}
 use Rattle.xds_frames.specs.Devices.{Device, HasFailed, Stays, Tells, Wrote, WrotePart}
 use Rattle.xds_check.specs.Texts.{IsFirstBad}

@@ -1,7 +1,7 @@
 -- What a node answers to the poll that a request asks, and the reply by it.
 use Rattle.std.proofs.Common.{◌≡◌, ◌≢◌, inl, inr, ℕ, Option, Result, Ok, Err, IfOk, IfErr, refl, ap, subst, ◌∙◌}
 use Rattle.xds_resource.specs.declared.refusal.Refusal.{Refusal}
-use Rattle.xds_resource.specs.declared.refusal.Refusal.TheVariants.{OutOfMemory, JournalFull}
+use Rattle.xds_resource.specs.declared.refusal.Refusal.TheVariants.{JournalFull}
 use Rattle.xds_message.specs.Drafts.{Drafted}
 use Rattle.xds_core.specs.Events.{Event, Open, Request, Poll, Owes, Close, Put, Delete, Merge, Snapshot, Rest, Since, Reply, Rested}
 use Rattle.xds_core.specs.Steps.{Core, fresh, step, rested}

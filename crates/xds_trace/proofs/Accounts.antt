@@ -14,7 +14,7 @@ use Rattle.xds_interest.specs.Touches.{Touch}
 use Rattle.xds_ledger.specs.declared.variant.VariantName.{VariantName}
 use Rattle.xds_ledger.specs.Offers.{Offer}
 use Rattle.xds_ledger.specs.Ledgers as ledgers
-use Rattle.xds_ledger.specs.Ledgers.{Account, untold, nonce_text, settled, answered, answers, is_stale, touch, resume, noted, touched_since, send}
+use Rattle.xds_ledger.specs.Ledgers.{Account, untold, nonce_text, settled, answered, is_stale, touch, resume, touched_since, send}
 use Rattle.xds_check.specs.declared.asking.Asking.{Asking}
 use Rattle.xds_check.specs.Answers.{nonce_of, rejects}
 use Rattle.xds_check.specs.Lines as told_of

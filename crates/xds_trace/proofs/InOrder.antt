@@ -20,7 +20,7 @@ use Rattle.xds_check.specs.declared.line.Line.{Line}
 use Rattle.xds_check.specs.declared.line.Line.TheVariants as lines
 use Rattle.xds_check.specs.Streams.{AllFollow}
 use Rattle.xds_trace.specs.Making as making
-use Rattle.xds_trace.specs.Making.{Naming, any_write, asking_of, write_line, batch_lines, answered_lines, lines_by, lines_of, trace_by}
+use Rattle.xds_trace.specs.Making.{Naming, asking_of, batch_lines, answered_lines, lines_by, lines_of, trace_by}
 use Rattle.xds_trace.specs.Claims.{EveryLegalTraceIsInOrder}
 use Rattle.xds_trace.proofs.StreamPolls.{polled_some, polled_none}
 use Rattle.xds_trace.proofs.Tracing.{behind}

@@ -24,7 +24,7 @@ use Rattle.xds_check.specs.declared.line.Line.TheVariants as lines
 use Rattle.xds_check.specs.declared.rule.Rule.TheVariants.{FreshNonce, BestResources, CoveredResources, WholeResponse, RightRemovals, OneAtATime, NothingRefusedAgain, NothingPending}
 use Rattle.xds_check.specs.Answers.{Statement, Answer, stated_names}
 use Rattle.xds_check.specs.Lines as said
-use Rattle.xds_check.specs.Lines.{standing, live, is_used, interest, is_covered, is_shown, sent, is_waiting, refused_offer, offer_at, tells}
+use Rattle.xds_check.specs.Lines.{standing, is_used, interest, is_covered, is_shown, sent, is_waiting, refused_offer, offer_at, tells}
 use Rattle.xds_check.specs.Rules.{is_best, is_put_by, is_label_of, KeepsRules}
 use Rattle.xds_trace.proofs.Answering.{IsRight, AllRight}
 use Rattle.xds_trace.proofs.Offering.{removed_is_absent, live_and_covered}

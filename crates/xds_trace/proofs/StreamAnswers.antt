@@ -27,7 +27,7 @@ use Rattle.xds_ledger.specs.Offers.{Offer, offer, same_offer}
 use Rattle.xds_ledger.proofs.ByName.{nothing_owed}
 use Rattle.xds_ledger.proofs.SameOffers.{offers_are_told_apart}
 use Rattle.xds_ledger.specs.Ledgers as ledgers
-use Rattle.xds_ledger.specs.Ledgers.{Account, nonce_text, is_due, is_refused}
+use Rattle.xds_ledger.specs.Ledgers.{is_due, is_refused}
 use Rattle.xds_ledger.specs.Sessions as sessions
 use Rattle.xds_ledger.specs.Sessions.{Session}
 use Rattle.xds_core.specs.Stores.{Store}

@@ -17,7 +17,7 @@ use Rattle.xds_message.specs.declared.draft.Draft.{Draft}
 use Rattle.xds_ledger.specs.declared.variant.VariantName.{VariantName}
 use Rattle.xds_ledger.specs.Offers.{Offer, offer}
 use Rattle.xds_ledger.specs.Ledgers as ledgers
-use Rattle.xds_ledger.specs.Ledgers.{Account, nonce_text, is_due, is_refused, send}
+use Rattle.xds_ledger.specs.Ledgers.{nonce_text, is_due, is_refused}
 use Rattle.xds_ledger.specs.Sessions as sessions
 use Rattle.xds_ledger.specs.Sessions.{Session}
 use Rattle.xds_core.specs.Stores.{Store}

@@ -23,10 +23,7 @@ pub use Rattle.xds_resource.specs.Any.{any_write}
 use Rattle.std.specs.Prelude.{◌≡◌, ℕ, List, [], ◌∷◌, map, false, Option, Some, None, Result, Ok, Err, IfSome, All, ⊤}
 use Rattle.std.specs.List.{flat_map}
 use Rattle.xds_resource.specs.declared.types.TypeName.{TypeName}
-use Rattle.xds_resource.specs.declared.types.TypeName.TheVariants.{Cluster, Endpoint, Listener, Route, Secret}
 use Rattle.xds_resource.specs.declared.refusal.Refusal.{Refusal}
-use Rattle.xds_resource.specs.declared.any.AnyWrite.{AnyWrite}
-use Rattle.xds_resource.specs.declared.any.AnyWrite.TheVariants as writes
 use Rattle.xds_resource.specs.PerType.{at}
 use Rattle.xds_resource.specs.Resources.{NamedBody, IsCanonical, IsWritable, written, deleted, from_value, value_of}
 use Rattle.xds_resource.specs.Types.{types}

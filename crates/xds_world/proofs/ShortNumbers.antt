@@ -1,5 +1,5 @@
 -- When a word is the shortest decimal of a number in a range.
-use Rattle.std.proofs.Common.{◌≡◌, ◌≤◌, ◌<◌, ◌^◌, ℕ, List, Bool, true, false, cond, Some, None, ◌+◌, refl, ap, sym, ◌∙◌, subst, arith}
+use Rattle.std.proofs.Common.{◌≡◌, ◌≤◌, ◌<◌, ◌^◌, ℕ, List, Bool, true, false, cond, Some, None, refl, ap, ◌∙◌, subst}
 use Rattle.std.specs.Prelude.{bytes_eq, nat_le, decimal, ◌&&◌}
 use Rattle.std.specs.Str.Parse.{digits_value}
 use Rattle.std.proofs.lemmas.Bool.{leb-true, le-leb}

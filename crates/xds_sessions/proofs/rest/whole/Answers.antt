@@ -1,6 +1,5 @@
-use Rattle.std.proofs.Common.{◌≡◌, map, string_bytes, Bor, ap, ◌∙◌}
+use Rattle.std.proofs.Common.{map, string_bytes, Bor, ap, ◌∙◌}
 use Rattle.xds_resource.specs.Writes.{StampedWrite}
-use Rattle.xds_message.specs.Drafts.{Drafted}
 use Rattle.xds_sessions.proofs.Bodies.{content_added}
 use Rattle.xds_sessions.proofs.rest.whole.Goals as goal
 

@@ -1,4 +1,3 @@
-use Rattle.std.proofs.Common.{List}
 use Rattle.std.specs.Prelude.{IfSome}
 use Rattle.std.specs.FinMap as finmap
 use Rattle.xds_ledger.proofs.LookedAt.{none_looked_at}

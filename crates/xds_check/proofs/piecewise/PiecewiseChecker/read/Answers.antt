@@ -1,7 +1,7 @@
 use Rattle.std.proofs.Common.{◌+◌, ◌++◌, ap, sym, ◌∙◌, refl, subst, ℕ}
 use Rattle.xds_resource.specs.declared.refusal.Refusal.{Refusal}
 use Rattle.xds_check.specs.Texts.{IsRefusedAt}
-use Rattle.xds_check.proofs.PieceByPiece.{piece_none, piece_some, piece_more, piece_all, piece_bad}
+use Rattle.xds_check.proofs.PieceByPiece.{piece_some, piece_more, piece_all, piece_bad}
 use Rattle.xds_check.proofs.piecewise.PiecewiseChecker.read.Goals as goal
 
 pub end_line-requires-clause-some : goal.end_line-requires-clause-some

@@ -1,7 +1,6 @@
-use Rattle.std.proofs.Common.{sym, ap, subst, ◌∙◌}
+use Rattle.std.proofs.Common.{sym, subst}
 use Rattle.std.specs.FinMap as finmap
 use Rattle.xds_ledger.specs.Listed.{Fits}
-use Rattle.xds_ledger.specs.Offers.{offer}
 use Rattle.xds_ledger.proofs.Fitting.{new_list_fits}
 use Rattle.xds_sessions.proofs.published.Published.first_offer.Goals as goal
 

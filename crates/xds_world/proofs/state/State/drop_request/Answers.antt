@@ -1,4 +1,4 @@
-use Rattle.std.proofs.Common.{◌≡◌, Some, sym, ap, subst, ◌∙◌}
+use Rattle.std.proofs.Common.{sym, ap, subst}
 use Rattle.std.specs.Prelude.{IsSome}
 use Rattle.std.specs.FinMap as finmap
 use Rattle.xds_core.proofs.StreamSteps.{there}
