@@ -1,3 +1,4 @@
 pub mod Carried
+pub mod Heads
 pub mod Questions
 pub mod Sent

@@ -1,8 +1,10 @@
 // The service of one connection.
-ghost use Rattle.std.specs.Prelude.{◌≡◌, [], Ok, Err, MatchOption};
+ghost use Rattle.std.specs.Prelude.{◌≡◌, [], not, Ok, Err, MatchOption};
+ghost use Rattle.http.specs.Request.{head_of};
 ghost use Rattle.xds_resource.specs.declared.types.TypeName.{TypeName as Kind};
 ghost use Rattle.xds_polls.specs.Polls.{addressed};
 ghost use Rattle.xds_http.specs.Carried.{IsAnswer};
+ghost use Rattle.xds_http.specs.Heads.{comes_plain, early_status};
 
 use crate::accept::Asked;
 use crate::replies::Replies;
@@ -175,7 +177,9 @@ fn finished(method: &str, path: &str) -> Option<u16>
 }
 
 // Whether a body comes in another coding than `chunked`.
-fn is_coded(headers: &HeaderMap) -> bool {
+fn is_coded(headers: &HeaderMap) -> bool
+    ensures { result ≡ not (comes_plain headers.now) }
+{
     for coding in headers.get_all(TRANSFER_ENCODING) {
         if !coding.as_bytes().eq_ignore_ascii_case(b"chunked") {
             return true;
@@ -185,7 +189,9 @@ fn is_coded(headers: &HeaderMap) -> bool {
 }
 
 // The status that the head of a request is answered by, if its body isn't needed.
-fn known<I>(request: &Request<Incoming<I>>) -> Option<u16> {
+fn known<I>(request: &Request<Incoming<I>>) -> Option<u16>
+    ensures { result ≡ early_status (head_of request.now) }
+{
     let status = finished(request.method().as_str(), request.uri().path());
     if status.is_none() && is_coded(request.headers()) {
         return Some(501);
