@@ -2,7 +2,7 @@
 use Rattle.std.proofs.Common.{◌≡◌, ◌⊎◌, ℕ, inl, inr, Option, Some, None, IfSome, Result, Err, ap, ◌∙◌, subst, sym}
 use Rattle.xds_frames.specs.Devices.{Device, Stays, Tells}
 use Rattle.xds_resource.specs.declared.refusal.Refusal.{Refusal}
-use Rattle.xds_resource.specs.declared.refusal.Refusal.TheVariants.{OutOfMemory, Device as DeviceRefusal}
+use Rattle.xds_resource.specs.declared.refusal.Refusal.TheVariants.{OutOfMemory, FrameTooLong, Device as DeviceRefusal}
 use Rattle.xds_http.specs.declared.told.Told.{Told}
 use Rattle.xds_program.specs.Outcomes.{refusal_line}
 use Rattle.xds_program.specs.Tasks.{Watch}
@@ -31,9 +31,9 @@ module _ (task : Watch) (refusal : Refusal) (status : ℕ) (errors : Device) whe
   ends_late s given is (inr refused) one = (one, inl (subst (λ e. Tells errors (refusal_line e)) (sym is) refused))
 
   -- a client whose other end speaks HTTP
-  pub ends_http : Tells errors (http_line refusal) ⊎ Tells errors (refusal_line OutOfMemory) → status ≡ 1 → Ended
-  ends_http (inl http) one = (one, inr (inr (inl http)))
-  ends_http (inr memory) one = (one, inr (inl memory))
+  pub ends_http : refusal ≡ FrameTooLong → Tells errors (http_line refusal) ⊎ Tells errors (refusal_line OutOfMemory) → status ≡ 1 → Ended
+  ends_http long (inl http) one = (one, inr (inr (inl (long, http))))
+  ends_http long (inr memory) one = (one, inr (inl memory))
 
   -- and any other
   pub ends_refused : Tells errors (refusal_line refusal) ⊎ Tells errors (refusal_line OutOfMemory) → status ≡ 1 → Ended

@@ -6,3 +6,5 @@ mod KeptLines
 mod Responding
 mod GivingUp
 mod Tellings
+mod Joining
+mod Wired

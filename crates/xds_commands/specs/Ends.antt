@@ -3,6 +3,7 @@
 --     TellsRefusal   a refusal is told, and nothing is shown
 --     late_line      the line of a command that gave up after so many seconds
 --     http_line      the line of a client whose other end speaks HTTP
+--     begins_http    whether bytes begin as an answer of HTTP does
 --     TellsLate      it is told that so many seconds have passed, where they were given, and nothing is shown
 --     ShowsReply     a reply is shown: its status in a line, and its body in the next, where it has one
 --     ShowsInTime    the same, or it is told that so many seconds have passed, where they were given
@@ -15,12 +16,13 @@
 --     HasEnded       the status of a client that ended so, and what is told of that
 --     EndsClient     `xds client`: the client of its task ran over a connection, and its end is told
 --     GoesOn         what is left to do of a run: nothing, or the task that it was handed
-use Rattle.std.specs.Prelude.{◌≡◌, ◌⊎◌, ◌≤◌, ◌++◌, ℕ, List, Option, Some, Result, Ok, Err, codes, decimal, ⊤}
+use Rattle.std.specs.Prelude.{◌≡◌, ◌⊎◌, ◌≤◌, ◌++◌, ℕ, List, Bool, Option, Some, Result, Ok, Err, codes, decimal, nat_eq, ⊤}
+use Rattle.std.specs.List.{starts_with}
 use Rattle.http.specs.declared.request.Request.{Request}
 use Rattle.http_body_util.specs.declared.full.Full.{Full}
 use Rattle.xds_frames.specs.Devices.{Device, Stays, Tells}
 use Rattle.xds_resource.specs.declared.refusal.Refusal.{Refusal}
-use Rattle.xds_resource.specs.declared.refusal.Refusal.TheVariants.{OutOfMemory, Device as DeviceRefusal}
+use Rattle.xds_resource.specs.declared.refusal.Refusal.TheVariants.{OutOfMemory, FrameTooLong, Device as DeviceRefusal}
 use Rattle.xds_resource.specs.Refusals.{number_of, name_of}
 use Rattle.xds_http.specs.declared.told.Told.{Told}
 use Rattle.xds_http.specs.Questions.{Question, shown}
@@ -57,6 +59,10 @@ abbrev pub http_line : Refusal → List ℕ
 http_line refusal =
     decimal (number_of refusal) ++ (codes " " ++ (name_of refusal ++ codes ": HTTP is spoken there; --addr of a client is a port of streams\n"))
 
+-- whether bytes begin as an answer of HTTP does
+abbrev pub begins_http : List ℕ → Bool
+begins_http bytes = starts_with nat_eq bytes (codes "HTTP/")
+
 -- It is told that so many seconds have passed, where they were given, and nothing is shown.
 abbrev pub TellsLate : Option ℕ → ℕ → Device → Device → Type 0
 TellsLate seconds status output errors = (s : ℕ) × (seconds ≡ Some s) × Stays output × Tells errors (late_line s) × (status ≡ 1)
@@ -92,11 +98,12 @@ pub record IsOf (task : Watch) (s : Subscription) : Type 0 where
   pub names : names_of s ≡ task.names
   pub responses : s.responses ≡ task.responses
 
--- what is told of a refusal that a client ends by: it, with the word that the other end speaks HTTP where that is so; that it gave up
--- after the seconds that it was given; or that there was no memory to say it
+-- What is told of a refusal that a client ends by: it; where a frame's length is too long, as the first four bytes of an answer of HTTP
+-- are, it with the word that the other end speaks HTTP; that it gave up after the seconds that it was given; or that there was no memory
+-- to say it.
 abbrev pub TellsEnd : Option ℕ → Refusal → Device → Type 0
 TellsEnd seconds e errors =
-    Tells errors (refusal_line e) ⊎ (Tells errors (refusal_line OutOfMemory) ⊎ (Tells errors (http_line e)
+    Tells errors (refusal_line e) ⊎ (Tells errors (refusal_line OutOfMemory) ⊎ (((e ≡ FrameTooLong) × Tells errors (http_line e))
     ⊎ ((s : ℕ) × (e ≡ DeviceRefusal) × (seconds ≡ Some s) × Tells errors (late_line s))))
 
 -- the status of a client that ended so, and what is told of that

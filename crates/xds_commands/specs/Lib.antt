@@ -15,3 +15,5 @@ pub mod Routes
 pub mod Ends
 pub mod Servings
 pub mod Recordings
+pub mod Wiring
+pub mod Channels

@@ -18,7 +18,7 @@ use crate::serve_telling::{
 };
 use crate::starting::{DRAIN_SECONDS, start_admin, start_input, start_replica};
 use crate::tapes::{Unrecordable, tapes_in};
-use crate::wires::{Wires, both, crossed, kept};
+use crate::wires::{Links, Wires, both, crossed, wired};
 use crate::workers::share;
 use crossbeam_channel::{Receiver, Sender, bounded};
 use std::alloc::{AllocError, Global};
@@ -244,7 +244,7 @@ where
     I: Read + Drop + Send + 'static,
     E: Write,
 {
-    let wires = wired(alloc, sockets)?;
+    let wires = wired(alloc, sockets, &Channels { alloc })?;
     let ending = Arc::new(alloc, ending_of(alloc, serving))?;
     let lookouts = lookouts_of(alloc, serving, &ending)?;
     log_replicas(rt, &ending, serving);
@@ -389,28 +389,22 @@ fn desk_of(
 // How many orders may wait for a replica. The input isn't read on where they do.
 const MOST_WAITING: usize = 1_024;
 
-// What each replica's thread is started with, and what hands it the changes of the input.
-fn wired(alloc: Global, sockets: Vec<Sockets>) -> Result<Wiring, Refusal> {
-    let mut wires = Wires::new(alloc);
-    let mut done = Ok(());
-    let count = sockets.len();
-    for sockets in sockets {
-        done = both(
-            done,
-            wires.add(alloc, sockets, bounded(alloc, MOST_WAITING)),
-        );
-    }
-    for from in 0..count {
-        for to in 0..count {
-            if from != to {
-                done = both(done, wires.join(from, to, ends(alloc)));
-            }
-        }
-    }
-    kept(wires, done)
+// The channels of a server.
+#[derive(Drop)]
+struct Channels {
+    alloc: Global,
 }
 
-// The ends of two channels from a replica to another: for what it tells, and for what becomes of that.
-fn ends(alloc: Global) -> Result<(Sends, Takes), AllocError> {
-    crossed(link(alloc), link(alloc))
+impl Links<Sender<Order>, Receiver<Order>, Sends, Takes> for Channels {
+    ghost use Rattle.xds_commands.specs.Channels.{AreJoinedBy};
+
+    ghost linked = { AreJoinedBy };
+
+    fn orders(&self) -> Result<(Sender<Order>, Receiver<Order>), AllocError> {
+        bounded(self.alloc, MOST_WAITING)
+    }
+
+    fn ends(&self) -> Result<(Sends, Takes), AllocError> {
+        crossed(link(self.alloc), link(self.alloc))
+    }
 }

@@ -1,5 +1,6 @@
 // A connection of a client, which is read until a time has passed.
-ghost use Rattle.std.specs.Prelude.{◌≡◌, IfSome, Some};
+ghost use Rattle.std.specs.Prelude.{◌≡◌, true, false, if◌then◌else◌, IfSome, Some};
+ghost use Rattle.xds_commands.specs.Ends.{begins_http};
 
 use std::io;
 use std::io::{ErrorKind, Read};
@@ -104,11 +105,10 @@ pub(crate) struct TimedReader<'a, C> {
 }
 
 impl<'a, C: Clock> TimedReader<'a, C> {
-    pub(crate) fn new(
-        clock: &'a C,
-        socket: &'a TcpStream,
-        deadline: Deadline,
-    ) -> TimedReader<'a, C> {
+    pub(crate) fn new(clock: &'a C, socket: &'a TcpStream, deadline: Deadline) -> TimedReader<'a, C>
+        ensures come { result.has_come ≡ false }
+        ensures http { result.speaks_http ≡ false }
+    {
         TimedReader {
             clock,
             socket,
@@ -119,7 +119,9 @@ impl<'a, C: Clock> TimedReader<'a, C> {
     }
 
     /// Whether the other end answers HTTP.
-    pub(crate) fn speaks_http(&self) -> bool {
+    pub(crate) fn speaks_http(&self) -> bool
+        ensures { result ≡ self.now.speaks_http }
+    {
         self.speaks_http
     }
 
@@ -137,7 +139,10 @@ impl<'a, C: Clock> TimedReader<'a, C> {
     }
 
     // Looks at what comes first.
-    fn look(&mut self, piece: &[u8]) {
+    fn look(&mut self, piece: &[u8])
+        ensures come { self.new.has_come ≡ true }
+        ensures http { self.new.speaks_http ≡ if self.old.has_come then self.old.speaks_http else begins_http piece.now }
+    {
         if !self.has_come {
             self.has_come = true;
             self.speaks_http = piece.starts_with(b"HTTP/");

@@ -115,7 +115,7 @@ fn tell_why<R: Clock, E: Write>(
 ) -> u8
     ensures { HasEnded {T = Unit {0}} task.now (Err refusal) result (seen E.contents errors.old errors.new) }
 {
-    if speaks_http {
+    if speaks_http && refusal == Refusal::FrameTooLong {
         return tell_http(alloc, refusal, errors);
     }
     match gave_up(rt, refusal, task.seconds, deadline) {

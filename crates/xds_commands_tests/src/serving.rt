@@ -169,9 +169,10 @@ fn a_server_is_polled(rt: HostRuntime) -> Result<(), Fail> {
     ends(&rt, server, "0 ")
 }
 
-// Takes a connection, says nothing, ends it, and waits for the end of the peer.
-fn hangs_up(alloc: Global, listener: &TcpListener) -> Result<(), Fail> {
+// Takes a connection, says no more than this, ends it, and waits for the end of the peer.
+fn hangs_up(alloc: Global, listener: &TcpListener, last: &[u8]) -> Result<(), Fail> {
     let (mut stream, _) = listener.accept()?;
+    stream.write_all(last)?;
     stream.shutdown(Shutdown::Write)?;
     let mut said = Vec::new(alloc);
     stream.read_to_end(&mut said)?;
@@ -181,10 +182,10 @@ fn hangs_up(alloc: Global, listener: &TcpListener) -> Result<(), Fail> {
 // What a run tells of such a peer.
 fn hung_up<
     R: Runtime + Net<Listener = TcpListener, Stream = TcpStream> + Files<File = File, Dir: Send>,
->(rt: &R, port: u16, line: &'static str, wanted: &str) -> Result<(), Fail> {
+>(rt: &R, port: u16, line: &'static str, last: &[u8], wanted: &str) -> Result<(), Fail> {
     let listener = TcpListener::bind(rt, SocketAddrV4::new(Ipv4Addr::LOCALHOST, port))?;
     let run = started(rt, line, NO_INPUT)?;
-    hangs_up(rt.alloc(), &listener)?;
+    hangs_up(rt.alloc(), &listener, last)?;
     let told = run.join(rt)?;
     is_told(rt.alloc(), told.as_str(), wanted)
 }
@@ -195,13 +196,42 @@ fn a_peer_that_ends_is_told(rt: HostRuntime) -> Result<(), Fail> {
         &rt,
         18690,
         "xds client --addr 127.0.0.1:18690 --variant sotw --type cluster --responses 1 *",
+        NO_INPUT,
         "1 18 Truncated~",
     )?;
     hung_up(
         &rt,
         18691,
         "xds poll --addr 127.0.0.1:18691 --type cluster",
+        NO_INPUT,
         "1 19 Device~",
+    )
+}
+
+#[test]
+fn a_peer_that_counts_too_much_speaks_http_where_it_says_so(
+    rt: HostRuntime,
+) -> Result<(), Fail> {
+    hung_up(
+        &rt,
+        18698,
+        "xds client --addr 127.0.0.1:18698 --variant sotw --type cluster --responses 1 *",
+        b"HTTP/1.1 400 Bad Request\r\n\r\n",
+        "1 16 FrameTooLong: HTTP is spoken there; --addr of a client is a port of streams~",
+    )?;
+    hung_up(
+        &rt,
+        18699,
+        "xds client --addr 127.0.0.1:18699 --variant sotw --type cluster --responses 1 *",
+        b"HTTQ/1.1 400 Bad Request\r\n\r\n",
+        "1 16 FrameTooLong~",
+    )?;
+    hung_up(
+        &rt,
+        18701,
+        "xds client --addr 127.0.0.1:18701 --variant delta --type cluster --responses 1 *",
+        b"\x00\x00\x00\x02\x09{}HTTP/1.1",
+        "1 17 UnknownKind~",
     )
 }
 

@@ -208,9 +208,14 @@ where
     A: Replies + Drop,
     I: Drop,
 {
+    ghost use Rattle.http.specs.Request.{head_of};
+    ghost use Rattle.xds_http.specs.Heads.{Begins};
+
     type Response = Response<Full<Bytes>>;
 
     type Error = hyper::Error;
+
+    ghost calls = { λ _ request answering. Begins (head_of request) answering };
 
     type Future = Answering<R, A, Body<I>>;
 

@@ -1,0 +1,9 @@
+use Rattle.std.proofs.Common.{◌≡◌, ◌++◌, All, OnOk, length}
+use Rattle.std.specs.Prelude.{map}
+use Rattle.xds_commands.specs.Wiring.{IsAlone}
+use Rattle.xds_commands.proofs.wires.wired.Given as goal
+
+abbrev pub invariant-loop-sockets : goal.invariant-loop-sockets
+invariant-loop-sockets g l =
+    All IsAlone l.wires.replicas.items
+    × OnOk l.done ((map (λ b. b.sockets) l.wires.replicas.items ++ l.sockets-iterator.rest.items ≡ l.fn.sockets.items) × (length l.wires.senders.items ≡ length l.wires.replicas.items))
