@@ -6,7 +6,7 @@ use Rattle.std.specs.List.{list_all, list_any}
 use Rattle.std.specs.Str.{bytes_eq}
 use Rattle.std.proofs.lemmas.Slice.Eq.{bytes_eq-Decides}
 use Rattle.clap.specs.Words.{Row, Rule, Shape, Text, built}
-use Rattle.clap.specs.Lexer.{short_of}
+use Rattle.clap.specs.Lexer.{long_of, short_of}
 use Rattle.clap.specs.Kinds.{or_else}
 use Rattle.clap.specs.Simple.{filled, help_rule, names_of, new_shape, version_rule}
 use Rattle.clap.specs.Walk.{Held, Names, Step, Walk, after_step, answers_to, idle, is_empty}
