@@ -3,22 +3,34 @@
 
     bench/rest.py [--addr 127.0.0.1:18100] [--connections 16] [--seconds 5] [--version V] [--name NAME] [--path PATH]
     bench/rest.py --start PROGRAM [--clusters 1000] [--bytes 600] [--connections 16] [--seconds 5]
+    bench/rest.py --start PROGRAM --plain [--rounds 3] [..]
 
 Each connection sends a poll, reads its reply whole, and sends the next. Printed are the polls that were answered, by status, how
 many that is a second, the size of a reply, and how long the middle one and the slowest of a hundred took. In the first form the
 server runs already, as by `xds serve`. In the second it is started here (`PROGRAM serve --replicas 1`, at ports that are free),
-clusters of so many bytes are put, and three polls are measured: for all of them, for one, and with the version that stands, which
-is answered 304; then how much memory the server holds. It is stopped at the end. Exit status 1 where a connection is closed or
-refused.
+clusters of so many bytes are put, and five polls are measured: for all of them, for a hundred, for ten, for one, and with the version
+that stands, which is answered 304; then how much memory the server holds. It is stopped at the end.
+
+With --plain a plain Rust server (`bench/plain_rest`, hyper on one thread, which proves nothing) is measured beside it in turns, so
+many rounds; cargo builds it from Debian's packages (`cargo`, `librust-hyper-dev`, `librust-tokio-dev`, `librust-serde-json-dev`). Both
+must show the same resources. Printed are the medians of polls a second, and the ratio of the first to the second.
+
+Exit status 1 where a connection is closed or refused, and 2 where the plain server can't be built here.
 """
 import argparse
 import collections
+import glob
 import json
+import os
 import selectors
+import shutil
 import socket
+import statistics
 import subprocess
 import sys
 import time
+
+PLAIN = os.path.join(os.path.dirname(os.path.abspath(__file__)), "plain_rest")
 
 
 def words():
@@ -32,12 +44,15 @@ def words():
     parser.add_argument("--start", metavar="PROGRAM")
     parser.add_argument("--clusters", type=int, default=1000)
     parser.add_argument("--bytes", type=int, default=600)
+    parser.add_argument("--plain", action="store_true")
+    parser.add_argument("--rounds", type=int, default=3)
+    parser.add_argument("--crates", default="/usr/share/cargo/registry", help="where Debian's crates are (%(default)s)")
     return parser.parse_args()
 
 
-def request(addr, path, name="", version=""):
-    """The bytes of one poll, for a name or for all of a type."""
-    asked = ({"resourceNames": [name]} if name else {}) | ({"versionInfo": version} if version else {})
+def request(addr, path, names=(), version=""):
+    """The bytes of one poll, for names or for all of a type."""
+    asked = ({"resourceNames": list(names)} if names else {}) | ({"versionInfo": version} if version else {})
     body = json.dumps(asked).encode()
     head = f"POST {path} HTTP/1.1\r\nhost: {addr}\r\ncontent-type: application/json\r\ncontent-length: {len(body)}\r\n\r\n"
     return head.encode() + body
@@ -83,7 +98,7 @@ def poll_once(server, sent):
 
 
 def measure(server, sent, connections, seconds):
-    """Polls for so many seconds, and prints what came of it."""
+    """Polls for so many seconds, prints what came of it, and answers how many polls that is a second."""
     chosen, size = selectors.DefaultSelector(), 0
     for _ in range(connections):
         connection = Connection(server, sent)
@@ -107,6 +122,7 @@ def measure(server, sent, connections, seconds):
     print(" ".join(f"{status}: {count}" for status, count in sorted(statuses.items())))
     print(f"{len(took) / spent:.0f} polls a second over {connections} connections, a reply of {size} bytes")
     print(f"middle {took[len(took) // 2] * 1000:.2f} ms, slowest of a hundred {took[len(took) * 99 // 100] * 1000:.2f} ms")
+    return len(took) / spent
 
 
 def free_port():
@@ -121,22 +137,38 @@ def cluster(number, size):
     return json.dumps(made, separators=(",", ":"))
 
 
-def put_all(server, given, sent):
-    """Puts the clusters, and waits until a poll has all of them. Its version."""
+def put_all(server, given, port, sent):
+    """Puts the clusters, and waits until a poll has all of them. Its version and its resources."""
     for number in range(given.clusters):
         server.stdin.write(f"put 1 {cluster(number, given.bytes)}\n".encode())
     server.stdin.flush()
-    address, ends = ("127.0.0.1", given.rest_port), time.monotonic() + 120
+    address, ends = ("127.0.0.1", port), time.monotonic() + 120
     while time.monotonic() < ends and server.poll() is None:
         try:
             status, body = poll_once(address, sent)
             reply = json.loads(body) if status == 200 else {}
             if len(reply.get("resources", [])) == given.clusters:
-                return reply["versionInfo"]
+                return reply["versionInfo"], reply["resources"]
         except ConnectionRefusedError:
             pass
         time.sleep(0.2)
     sys.exit("the clusters were not there within two minutes")
+
+
+def plain_server(given):
+    """The plain server, built where its sources are newer."""
+    cargo = shutil.which("cargo")
+    if not cargo:
+        print("there is no `cargo` to build the plain server", file=sys.stderr)
+        sys.exit(2)
+    build = [cargo, "build", "--release", "--offline", "--quiet"]
+    if glob.glob(f"{given.crates}/hyper-*"):
+        build += ["--config", 'source.crates-io.replace-with="debian"']
+        build += ["--config", f'source.debian.directory="{given.crates}"']
+    if subprocess.run(build, cwd=PLAIN, stdin=subprocess.DEVNULL, check=False).returncode:
+        print("cargo doesn't build the plain server; its crates are Debian's packages", file=sys.stderr)
+        sys.exit(2)
+    return os.path.join(PLAIN, "target", "release", "plain_rest")
 
 
 def held(pid):
@@ -145,26 +177,54 @@ def held(pid):
     return tuple(int(lines[word].split()[0]) / 1000 for word in ("VmRSS", "VmHWM"))
 
 
-def of_started(given):
-    """Measures the three polls of a server that is started here."""
-    given.rest_port = free_port()
-    command = [given.start, "serve", "--replicas", "1", "--port", str(free_port()), "--rest-port", str(given.rest_port)]
-    server = subprocess.Popen(command, stdin=subprocess.PIPE, stdout=subprocess.DEVNULL)
-    try:
-        address, addr = ("127.0.0.1", given.rest_port), f"127.0.0.1:{given.rest_port}"
-        version = put_all(server, given, request(addr, given.path))
-        polls = {
+class Started:
+    """A server that is started here, with the clusters put, and the polls that it is asked."""
+
+    def __init__(self, program, given):
+        self.port = free_port()
+        command = [program, "serve", "--replicas", "1", "--port", str(free_port()), "--rest-port", str(self.port)]
+        self.process = subprocess.Popen(command, stdin=subprocess.PIPE, stdout=subprocess.DEVNULL)
+        addr = f"127.0.0.1:{self.port}"
+        version, self.resources = put_all(self.process, given, self.port, request(addr, given.path))
+        names = [f"cluster-{number}" for number in range(100)]
+        self.polls = {
             "all clusters": request(addr, given.path),
-            "one cluster": request(addr, given.path, name="cluster-0"),
+            "a hundred clusters": request(addr, given.path, names),
+            "ten clusters": request(addr, given.path, names[:10]),
+            "one cluster": request(addr, given.path, names[:1]),
             "nothing new": request(addr, given.path, version=version),
         }
-        for name, sent in polls.items():
-            print(f"{name}:")
-            measure(address, sent, given.connections, given.seconds)
-        print("memory: %.1f MB, at most %.1f MB" % held(server.pid))
+
+    def measure(self, poll, given):
+        return measure(("127.0.0.1", self.port), self.polls[poll], given.connections, given.seconds)
+
+    def stop(self):
+        self.process.terminate()
+        self.process.wait()
+
+
+def of_started(given):
+    """Measures the polls of a server that is started here, beside those of the plain one where that is asked for."""
+    programs = [given.start] + ([plain_server(given)] if given.plain else [])
+    servers = []
+    try:
+        servers += [Started(program, given) for program in programs]
+        if any(server.resources != servers[0].resources for server in servers):
+            sys.exit("the servers show different resources")
+        for poll in servers[0].polls:
+            rates = [[] for _ in servers]
+            for _ in range(given.rounds if given.plain else 1):
+                for server, program, rate in zip(servers, programs, rates):
+                    print(f"{poll}, {os.path.basename(program)}:")
+                    rate.append(server.measure(poll, given))
+            if given.plain:
+                ours, plain = map(statistics.median, rates)
+                print(f"** {poll}: {ours:.0f} and {plain:.0f} polls a second, ratio {ours / plain:.2f}", flush=True)
+        for server, program in zip(servers, programs):
+            print(f"memory of {os.path.basename(program)}: %.1f MB, at most %.1f MB" % held(server.process.pid))
     finally:
-        server.terminate()
-        server.wait()
+        for server in servers:
+            server.stop()
 
 
 def main():
@@ -172,7 +232,7 @@ def main():
     if given.start:
         return of_started(given)
     host, _, port = given.addr.rpartition(":")
-    measure((host, int(port)), request(given.addr, given.path, given.name, given.version), given.connections, given.seconds)
+    measure((host, int(port)), request(given.addr, given.path, [given.name] if given.name else [], given.version), given.connections, given.seconds)
 
 
 if __name__ == "__main__":

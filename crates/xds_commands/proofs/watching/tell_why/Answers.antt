@@ -1,10 +1,10 @@
-use Rattle.std.proofs.Common.{◌∙◌, ap, sym}
+use Rattle.std.proofs.Common.{rules, ◌∙◌, ap, sym}
 use Rattle.xds_program.specs.Tasks.{Watch}
 use Rattle.xds_commands.proofs.GivingUp.{ends_http, ends_late, ends_refused}
 use Rattle.xds_commands.proofs.watching.tell_why.Goals as goal
 
-pub returns-then-speaks_http : goal.returns-then-speaks_http
-returns-then-speaks_http g c = ends_http c.args.task.now c.args.refusal c.tell_http.result _ c.tell_http.ensures.told c.tell_http.ensures.status
+pub returns-then-eq : goal.returns-then-eq
+returns-then-eq g c = ends_http c.args.task.now c.args.refusal c.tell_http.result _ (search rules) c.tell_http.ensures.told c.tell_http.ensures.status
 
 pub returns-in-Some : goal.returns-in-Some
 returns-in-Some g c =
