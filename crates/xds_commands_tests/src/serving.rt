@@ -209,9 +209,7 @@ fn a_peer_that_ends_is_told(rt: HostRuntime) -> Result<(), Fail> {
 }
 
 #[test]
-fn a_peer_that_counts_too_much_speaks_http_where_it_says_so(
-    rt: HostRuntime,
-) -> Result<(), Fail> {
+fn a_peer_that_counts_too_much_speaks_http_where_it_says_so(rt: HostRuntime) -> Result<(), Fail> {
     hung_up(
         &rt,
         18698,
