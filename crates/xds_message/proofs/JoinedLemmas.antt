@@ -61,7 +61,7 @@ drop_here xs i x h is =
     let next : suc i ≡ i + 1 = omega arith in
     drop-at xs i x h ∙ (λ j. sym is j ∷ drop (next j) xs)
 
-drop-past : {A : Type 0} (xs : List A) (i : ℕ) → length xs ≤ i → drop i xs ≡ []
+pub drop-past : {A : Type 0} (xs : List A) (i : ℕ) → length xs ≤ i → drop i xs ≡ []
 drop-past [] zero h = refl
 drop-past [] (suc i) h = refl
 drop-past (x ∷ xs) zero h = absurd (omega arith)

@@ -46,7 +46,8 @@ pub(crate) fn join_quoted(alloc: Global, out: &mut String, text: &str) -> Result
     Ok(out.push_str(quoted.as_str())?)
 }
 
-fn join_comma(out: &mut String, later: bool) -> Result<(), Refusal>
+/// Appends a comma, where something stands before.
+pub(crate) fn join_comma(out: &mut String, later: bool) -> Result<(), Refusal>
     ensures ok { OnOk result (string_bytes out.new ≡ string_bytes out.old ++ comma_if later) }
     ensures refused { IfErr result (λ e. e ≡ OutOfMemory) }
 {

@@ -5,6 +5,7 @@
 #![tactic(auto)]
 
 pub mod batch;
+mod bodies;
 mod body;
 pub mod delta_draft;
 pub mod delta_request;
@@ -21,6 +22,7 @@ pub mod write_laws;
 pub mod writes;
 
 pub use batch::Batch;
+pub use bodies::Bodies;
 pub use body::Body;
 pub use delta_draft::{DeltaDraft, DraftResource, push_resource};
 pub use delta_request::DeltaDiscoveryRequest;

@@ -7,6 +7,7 @@ ghost use Rattle.xds_message.specs.Drafts.{body_text};
 ghost use Rattle.xds_message.specs.Joined.{with_commas};
 ghost use Rattle.xds_message.specs.Pieces.{comma_before, resource_text};
 
+use crate::bodies::Bodies;
 use crate::body::Body;
 use crate::delta_draft::DraftResource;
 use std::alloc::Global;
@@ -40,7 +41,8 @@ pub(crate) trait Stored {
 #[derive(Drop)]
 pub struct Pieces<'a> {
     head: String,
-    // One of these two has none.
+    // One of these three at most has something.
+    joined: &'a str,
     resources: &'a [DraftResource],
     bodies: &'a [Body],
     tail: String,
@@ -54,15 +56,21 @@ impl<'a> Model for Pieces<'a> {
 
     ghost Value = { List ℕ };
 
-    ghost view = { λ p. string_bytes p.head ++ ((with_commas (map resource_text p.resources.now) ++ with_commas (map body_text p.bodies.now)) ++ string_bytes p.tail) };
+    ghost view = { λ p. string_bytes p.head ++ ((p.joined.now ++ (with_commas (map resource_text p.resources.now) ++ with_commas (map body_text p.bodies.now))) ++ string_bytes p.tail) };
 }
 
 impl<'a> Pieces<'a> {
-    pub(crate) fn around(head: String, bodies: &'a [Body], tail: String) -> Pieces<'a>
+    /// Round stored bodies, or round how they read together where that was made.
+    pub(crate) fn around(head: String, bodies: &'a Bodies, tail: String) -> Pieces<'a>
         ensures { result ≡ string_bytes head ++ (with_commas (map body_text bodies.now) ++ string_bytes tail) }
     {
+        let (joined, bodies): (&'a str, &'a [Body]) = match bodies.joined() {
+            Some(text) => (text, &[]),
+            None => ("", bodies.as_slice()),
+        };
         Pieces {
             head,
+            joined,
             resources: &[],
             bodies,
             tail,
@@ -79,6 +87,7 @@ impl<'a> Pieces<'a> {
     {
         Pieces {
             head,
+            joined: "",
             resources,
             bodies: &[],
             tail,
@@ -100,9 +109,15 @@ impl<'a> Pieces<'a> {
         ensures beyond { IfNone result (limit < length self.now) }
     {
         let head = counted(0, self.head.as_bytes(), limit)?;
-        let resources = items_counted(head, self.resources, limit)?;
+        let joined = counted(head, self.joined.as_bytes(), limit)?;
+        let resources = items_counted(joined, self.resources, limit)?;
         let bodies = items_counted(resources, self.bodies, limit)?;
         counted(bodies, self.tail.as_bytes(), limit)
+    }
+
+    /// Whether the texts of resources are written as one, for which a block needs no room.
+    pub fn is_joined(&self) -> bool {
+        !self.joined.is_empty()
     }
 
     /// Writes what a block holds, and the whole behind it, in pieces that fill the block. It takes no memory. Where a call of the
@@ -117,7 +132,13 @@ impl<'a> Pieces<'a> {
         if let Err(refusal) = gather(writer, &mut block, self.head.as_bytes()) {
             return Err(refusal);
         }
-        if let Err(refusal) = put_middle(writer, &mut block, self.resources, self.bodies) {
+        if let Err(refusal) = put_middle(
+            writer,
+            &mut block,
+            self.joined,
+            self.resources,
+            self.bodies,
+        ) {
             return Err(refusal);
         }
         if let Err(refusal) = gather(writer, &mut block, self.tail.as_bytes()) {
@@ -130,8 +151,30 @@ impl<'a> Pieces<'a> {
     }
 }
 
-// Puts resources and bodies, each with commas between them.
+// Puts a text, and resources and bodies behind it, each with commas between them.
 fn put_middle<W: Write>(
+    writer: &mut Counted<W>,
+    block: &mut Vec<u8>,
+    joined: &str,
+    resources: &[DraftResource],
+    bodies: &[Body],
+) -> Result<(), Refusal>
+    ensures put { OnOk result (Passes (seen W.contents writer.old writer.new) block.old.items
+        (joined.now ++ (with_commas (map resource_text resources.now) ++ with_commas (map body_text bodies.now))) block.new.items) }
+    ensures failed { IfErr result (λ e. (e ≡ refusals.Device) × WrotePart (seen W.contents writer.old writer.new)
+        (block.old.items ++ (joined.now ++ (with_commas (map resource_text resources.now) ++ with_commas (map body_text bodies.now))))) }
+{
+    if let Err(refusal) = gather(writer, block, joined.as_bytes()) {
+        return Err(refusal);
+    }
+    if let Err(refusal) = put_lists(writer, block, resources, bodies) {
+        return Err(refusal);
+    }
+    Ok(())
+}
+
+// Puts resources and bodies, each with commas between them.
+fn put_lists<W: Write>(
     writer: &mut Counted<W>,
     block: &mut Vec<u8>,
     resources: &[DraftResource],
@@ -255,8 +298,8 @@ fn item_counted<S: Stored>(count: usize, later: bool, item: &S, limit: usize) ->
     two_counted(before, parts.body.as_bytes(), parts.tail.as_bytes(), limit)
 }
 
-// A count of bytes with those of stored texts with commas between them.
-fn items_counted<S: Stored>(count: usize, items: &[S], limit: usize) -> Option<usize>
+/// A count of bytes with those of stored texts with commas between them, unless these are more than a limit.
+pub(crate) fn items_counted<S: Stored>(count: usize, items: &[S], limit: usize) -> Option<usize>
     requires { count ≤ limit }
     ensures within { IfSome result (λ n. n ≡ count + length (with_commas (map S.text items.now))) }
     ensures bounded { IfSome result (λ n. n ≤ limit) }

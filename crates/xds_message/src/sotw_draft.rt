@@ -1,6 +1,5 @@
 // State-of-the-world responses before they are written.
 ghost use Rattle.std.specs.Prelude.{◌≡◌, ◌++◌, map, string_bytes, IfOk, IfErr, OnOk, OnErr, All};
-ghost use Rattle.std.specs.Arc.{arc_slice_items};
 ghost use Rattle.serde_json.specs.View.{view};
 ghost use Rattle.serde_json.specs.Written.{compact_text};
 ghost use Rattle.xds_resource.specs.Resources.{value_of};
@@ -10,6 +9,7 @@ ghost use Rattle.xds_message.specs.Joined.{with_commas};
 ghost use Rattle.xds_message.specs.Responses.{response_of};
 ghost use Rattle.xds_message.specs.Written.{response_object};
 
+use crate::bodies::Bodies;
 use crate::body::Body;
 use crate::joining::{join_list, join_list_ends, join_text};
 use crate::pieces::Pieces;
@@ -17,7 +17,6 @@ use crate::response::DiscoveryResponse;
 use serde_json::Value;
 use std::alloc::Global;
 use std::marker::Model;
-use std::sync::ArcSlice;
 use xds_resource::{Refusal, ResourceType, TypeName, Write};
 
 /// A [`DiscoveryResponse`] before it is written. Its resources are the stored texts of writes, in a list that it may share with
@@ -26,7 +25,7 @@ pub struct SotwDraft {
     kind: TypeName,
     version: String,
     nonce: String,
-    bodies: ArcSlice<Body, Global>,
+    bodies: Bodies,
 }
 
 // Written out: docs/PROVING.md, "Drops".
@@ -43,24 +42,17 @@ impl Drop for SotwDraft {
 
 impl Model for SotwDraft {
     ghost use Rattle.std.specs.Prelude.{string_bytes};
-    ghost use Rattle.std.specs.Arc.{arc_slice_items};
     ghost use Rattle.xds_message.specs.Drafts.{Drafted};
 
     ghost Value = { Drafted };
 
-    ghost view = { λ d. record { kind = d.kind; version_info = string_bytes d.version; nonce = string_bytes d.nonce; bodies = arc_slice_items d.bodies } };
+    ghost view = { λ d. record { kind = d.kind; version_info = string_bytes d.version; nonce = string_bytes d.nonce; bodies = d.bodies } };
 }
 
 impl SotwDraft {
     /// A response of the resources that these texts are of. Other responses may share the list.
-    pub fn new(
-        kind: TypeName,
-        version: String,
-        nonce: String,
-        bodies: ArcSlice<Body, Global>,
-    ) -> SotwDraft
-        ensures { result
-            ≡ record { kind = kind; version_info = string_bytes version; nonce = string_bytes nonce; bodies = arc_slice_items bodies } }
+    pub fn new(kind: TypeName, version: String, nonce: String, bodies: Bodies) -> SotwDraft
+        ensures { result ≡ record { kind = kind; version_info = string_bytes version; nonce = string_bytes nonce; bodies = bodies } }
     {
         SotwDraft {
             kind,
@@ -140,7 +132,7 @@ impl SotwDraft {
             self.version.as_str(),
         )?;
         tail.push_str("}")?;
-        Ok(Pieces::around(head, bodies, tail))
+        Ok(Pieces::around(head, &self.bodies, tail))
     }
 
     /// The stored texts of the resources.
@@ -159,7 +151,7 @@ impl SotwDraft {
             kind: self.kind,
             version: String::from_str(alloc, self.version.as_str())?,
             nonce: String::from_str(alloc, self.nonce.as_str())?,
-            bodies: self.bodies.clone()?,
+            bodies: self.bodies.try_copy()?,
         })
     }
 }

@@ -4,7 +4,8 @@ use std::sync::{ArcSlice, ArcStr};
 use std::test::Fail;
 use xds_frames::Counted;
 use xds_message::{
-    Body, DeltaDraft, Draft, DraftResource, Pieces, Response, SotwDraft, push_body, push_resource,
+    Bodies, Body, DeltaDraft, Draft, DraftResource, Pieces, Response, SotwDraft, push_body,
+    push_resource,
 };
 use xds_resource::{Cluster, Groups, Refusal, Resource, Stamp, TypeName, Write};
 
@@ -54,16 +55,47 @@ fn push(alloc: Global, bodies: &mut Vec<Body>, stamp: Stamp) -> Result<(), Refus
     pushed
 }
 
-// A draft of so many resources.
-fn draft_of(alloc: Global, count: u64) -> Result<SotwDraft, Refusal> {
+// The texts of so many resources.
+fn bodies_of(alloc: Global, count: u64) -> Result<Bodies, Refusal> {
     let mut bodies = Vec::new(alloc);
     for _ in 0..count {
         push(alloc, &mut bodies, Stamp::new(1, 1))?;
     }
+    Bodies::new(bodies)
+}
+
+// A draft of these texts.
+fn stating(alloc: Global, bodies: Bodies) -> Result<SotwDraft, Refusal> {
     let version = text(alloc, "1.2")?;
     let nonce = text(alloc, "1")?;
-    let shared = ArcSlice::from_vec(bodies)?;
-    Ok(SotwDraft::new(TypeName::Cluster, version, nonce, shared))
+    Ok(SotwDraft::new(TypeName::Cluster, version, nonce, bodies))
+}
+
+// What a draft of so many resources shows: the same, whether its list is made for many responses or not.
+fn stated(alloc: Global, count: u64) -> Result<String, Refusal> {
+    let alone = sotw_shown(alloc, &stating(alloc, bodies_of(alloc, count)?)?)?;
+    let shared = bodies_of(alloc, count)?.shared(alloc)?;
+    let together = sotw_shown(alloc, &stating(alloc, shared)?)?;
+    Ok(if alone.as_str() == together.as_str() {
+        alone
+    } else {
+        format!(in alloc; "{alone}\n{together}")?
+    })
+}
+
+// A list that is made for many responses is written as one piece, if there is something in it.
+#[test]
+fn a_shared_list_is_one_piece(rt: HostRuntime) -> Result<(), Fail> {
+    let alloc = rt.alloc();
+    let shared = stating(alloc, bodies_of(alloc, 2)?.shared(alloc)?)?;
+    let copy = shared.try_copy(alloc)?;
+    let alone = stating(alloc, bodies_of(alloc, 2)?)?;
+    let empty = stating(alloc, bodies_of(alloc, 0)?.shared(alloc)?)?;
+    assert!(rt; shared.pieces(alloc)?.is_joined());
+    assert!(rt; copy.pieces(alloc)?.is_joined());
+    assert!(rt; !alone.pieces(alloc)?.is_joined());
+    assert!(rt; !empty.pieces(alloc)?.is_joined());
+    Ok(())
 }
 
 // A text that is written piece by piece through a block of so many bytes behind a first word, with its length, and whether one
@@ -97,8 +129,8 @@ fn sotw_shown(alloc: Global, draft: &SotwDraft) -> Result<String, Refusal> {
 #[test]
 fn state_of_the_world_drafts_are_joined(rt: HostRuntime) -> Result<(), Fail> {
     let alloc = rt.alloc();
-    let empty = sotw_shown(alloc, &draft_of(alloc, 0)?)?;
-    let filled = sotw_shown(alloc, &draft_of(alloc, 2)?)?;
+    let empty = stated(alloc, 0)?;
+    let filled = stated(alloc, 2)?;
     let nothing =
         "{\"nonce\":\"1\",\"typeUrl\":\"type.googleapis.com/envoy.config.cluster.v3.Cluster\",\
          \"versionInfo\":\"1.2\"}";

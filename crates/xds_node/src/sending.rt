@@ -17,6 +17,9 @@ use xds_resource::Refusal;
 // How many bytes are gathered before they are written.
 const BLOCK: usize = 32_768;
 
+// Room for what stands round the texts of resources that are written as one.
+const ENDS: usize = 512;
+
 fn kind_of(draft: &Draft) -> FrameKind
     ensures { result ≡ kind_of draft.now }
 {
@@ -35,14 +38,18 @@ fn head_of(alloc: Global, kind: FrameKind, text: &Pieces<'_>) -> Result<Vec<u8>,
         return Err(Refusal::FrameTooLong);
     };
     let head = frame_head(kind, length)?;
-    let mut block = Vec::with_capacity(alloc, room_for(length))?;
+    let mut block = Vec::with_capacity(alloc, room_for(length, text.is_joined()))?;
     block.extend_from_slice(&head)?;
     Ok(block)
 }
 
-// The size of a block for a frame of this length of text: short frames are written in one piece.
-fn room_for(length: usize) -> usize {
-    if length < BLOCK { length + 5 } else { BLOCK }
+// The size of a block for a frame of this length of text: short frames are written in one piece, and of long ones whose resources
+// are written as one only what stands round these is gathered.
+fn room_for(length: usize, is_joined: bool) -> usize {
+    if length < BLOCK {
+        return length + 5;
+    }
+    if is_joined { ENDS } else { BLOCK }
 }
 
 /// Writes a response as a frame: the texts of resources from where they are stored, so that the whole is never in memory.

@@ -6,7 +6,6 @@
 --     AreShared     and so for each cluster
 --     Fits          what is kept of both variants is what clients are told at these entries
 use Rattle.std.specs.Prelude.{◌≡◌, ◌⊎◌, ℕ, List, true, IfSome}
-use Rattle.std.specs.Arc.{arc_slice_items}
 use Rattle.std.specs.FinMap as finmap
 use Rattle.std.specs.FinSet as set
 use Rattle.xds_resource.specs.declared.types.TypeName.{TypeName}
@@ -47,5 +46,5 @@ AreShared v t IsSaid m kept = (cluster : List ℕ) → IfSome (finmap.get kept c
 
 -- what is kept of both variants is what clients are told at these entries
 pub record Fits (t : TypeName) (m : Entries) (w : Wildcards) : Type 0 where
-  pub sotw : AreShared StateOfTheWorld t (λ m s o x. arc_slice_items x ≡ stated_bodies m s o) m w.sotw
+  pub sotw : AreShared StateOfTheWorld t (λ m s o x. x ≡ stated_bodies m s o) m w.sotw
   pub delta : AreShared Delta t (λ m s o x. x ≡ said_by m o) m w.delta

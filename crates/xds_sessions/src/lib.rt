@@ -15,7 +15,7 @@ pub mod wildcards;
 
 pub use delta_response::Said;
 pub use published::Published;
-pub use rest::rested;
+pub use rest::{rested, texts_of};
 pub use session::Session;
 pub use speaks::Speaks;
 pub use wildcards::Wildcard;

@@ -1,6 +1,5 @@
 // The catalogue of one type, with what many clients are told of it.
 ghost use Rattle.std.specs.Prelude.{◌≡◌, ◌≤◌, ◌∷◌, [], IfSome, IsOk, IfOk, IfErr, OnErr};
-ghost use Rattle.std.specs.Arc.{arc_slice_items};
 ghost use Rattle.std.specs.FinMap as finmap;
 ghost use Rattle.xds_resource.specs.Refusals.{Gives};
 ghost use Rattle.xds_resource.specs.Stamps.{max_counter};
@@ -17,11 +16,10 @@ use crate::sotw_response::stated_bodies;
 use crate::wildcards::{Wildcard, Wildcards};
 use std::alloc::Global;
 use std::marker::Model;
-use std::sync::ArcSlice;
 use xds_catalogue::{Catalogue, PendingJoin};
 use xds_interest::Interest;
 use xds_ledger::{Beliefs, Due, Listed, SharedMap, VariantName, offer};
-use xds_message::Body;
+use xds_message::Bodies;
 use xds_resource::{Groups, Refusal, Resource, ResourceType, Stamp, Write};
 
 /// The catalogue of the type `T`. Contracts see what it holds. Beside it is kept what all clients of a cluster are told that
@@ -174,8 +172,8 @@ impl<T: ResourceType> Published<T> {
     }
 
     /// What clients of this cluster share that want everything, in the state of the world, if it was made.
-    pub fn sotw_wildcard(&self, cluster: &str) -> Option<&Wildcard<ArcSlice<Body, Global>>>
-        ensures { IfSome result (λ w. IsShared variants.StateOfTheWorld T.TYPE (λ m s o x. arc_slice_items x ≡ sotw.stated_bodies m s o) self.now.entries cluster.now w.now) }
+    pub fn sotw_wildcard(&self, cluster: &str) -> Option<&Wildcard<Bodies>>
+        ensures { IfSome result (λ w. IsShared variants.StateOfTheWorld T.TYPE (λ m s o x. x ≡ sotw.stated_bodies m s o) self.now.entries cluster.now w.now) }
     {
         self.wildcards.sotw.get(cluster)
     }
@@ -197,7 +195,8 @@ impl<T: ResourceType> Published<T> {
             return Ok(());
         }
         let offer = self.first_offer(alloc, VariantName::StateOfTheWorld, interest)?;
-        let said = stated_bodies(alloc, &self.catalogue, interest, offer.as_map())?;
+        let stated = stated_bodies(alloc, &self.catalogue, interest, offer.as_map())?;
+        let said = stated.shared(alloc)?;
         let made = Wildcard { offer, said };
         self.wildcards.sotw.put(alloc, cluster, Some(made))
     }

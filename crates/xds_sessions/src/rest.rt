@@ -7,11 +7,10 @@ ghost use Rattle.xds_sessions.specs.SotwParts.{all_texts};
 ghost use Rattle.xds_sessions.specs.Rest.{asked_once, unless_present};
 
 use std::alloc::Global;
-use std::sync::ArcSlice;
 use xds_catalogue::Catalogue;
 use xds_interest::{ClusterText, Interest};
 use xds_ledger::texts::interest_version;
-use xds_message::{Body, SotwDraft, push_body};
+use xds_message::{Bodies, Body, SotwDraft, push_body};
 use xds_resource::{Refusal, ResourceType, Write};
 
 /// What a client of this cluster is answered that sends one list of names and the version that it kept: all that it sees, for
@@ -48,12 +47,21 @@ fn whole<T: ResourceType>(
     ensures refused { IfErr result (λ e. e ≡ OutOfMemory) }
 {
     let shown = catalogue.content(alloc, interest)?;
-    let bodies = bodies_of(alloc, &shown)?;
-    let shared = ArcSlice::from_vec(bodies)?;
-    Ok(SotwDraft::new(T::TYPE, version, String::new(alloc), shared))
+    let bodies = texts_of(alloc, &shown)?;
+    Ok(SotwDraft::new(T::TYPE, version, String::new(alloc), bodies))
 }
 
-// The texts of writes.
+/// The stored texts of those of these writes that put a resource, in order. Refused only by `OutOfMemory`.
+pub fn texts_of<T: ResourceType>(alloc: Global, writes: &[&Write<T>]) -> Result<Bodies, Refusal>
+    ensures ok { IfOk result (λ b. b ≡ filter_map (λ w. w.body) (map (λ w. w.now) writes.now)) }
+    ensures refused { IfErr result (λ e. e ≡ OutOfMemory) }
+{
+    let bodies = bodies_of(alloc, writes)?;
+    let stated = Bodies::new(bodies)?;
+    Ok(stated)
+}
+
+// The same, which aren't shared yet.
 fn bodies_of<T: ResourceType>(alloc: Global, writes: &[&Write<T>]) -> Result<Vec<Body>, Refusal>
     ensures ok { IfOk result (λ v. v.items ≡ all_texts [] (map (λ w. w.now) writes.now)) }
     ensures refused { IfErr result (λ e. e ≡ OutOfMemory) }

@@ -1,18 +1,16 @@
 // The response that an offer makes.
 ghost use Rattle.std.specs.Prelude.{◌≡◌, [], map, decimal, IfOk, IfErr, OnOk};
-ghost use Rattle.std.specs.Arc.{arc_slice_items};
 ghost use Rattle.xds_resource.specs.declared.refusal.Refusal.TheVariants.{OutOfMemory};
 ghost use Rattle.xds_ledger.specs.Texts as texts;
 ghost use Rattle.xds_sessions.specs.SotwParts.{pushed, pushed_all};
 ghost use Rattle.xds_sessions.specs.SotwPolls.{stated_bodies};
 
 use std::alloc::Global;
-use std::sync::ArcSlice;
 use xds_catalogue::Catalogue;
 use xds_interest::Interest;
 use xds_ledger::Due;
 use xds_ledger::texts::{interest_version, nonce_text};
-use xds_message::{Body, SotwDraft, push_body};
+use xds_message::{Bodies, Body, SotwDraft, push_body};
 use xds_resource::{NameMap, Refusal, ResourceType, Write};
 
 // Puts the text of a write behind others, if the offer speaks of its name.
@@ -53,13 +51,14 @@ pub(crate) fn stated_bodies<T: ResourceType>(
     catalogue: &Catalogue<T>,
     interest: &Interest<T>,
     offer: &NameMap<Due>,
-) -> Result<ArcSlice<Body, Global>, Refusal>
-    ensures ok { IfOk result (λ b. arc_slice_items b ≡ stated_bodies catalogue.now.entries interest.now offer.now) }
+) -> Result<Bodies, Refusal>
+    ensures ok { IfOk result (λ b. b ≡ stated_bodies catalogue.now.entries interest.now offer.now) }
     ensures refused { IfErr result (λ e. e ≡ OutOfMemory) }
 {
     let shown = catalogue.content(alloc, interest)?;
     let bodies = push_all(alloc, offer, &shown)?;
-    Ok(ArcSlice::from_vec(bodies)?)
+    let stated = Bodies::new(bodies)?;
+    Ok(stated)
 }
 
 /// The response of these texts, at this count of changes, as the response of this number on its stream.
@@ -68,19 +67,19 @@ pub(crate) fn response<T: ResourceType>(
     replica: u16,
     changes: u64,
     interest: &Interest<T>,
-    bodies: &ArcSlice<Body, Global>,
+    bodies: &Bodies,
     number: u64,
 ) -> Result<SotwDraft, Refusal>
     ensures ok { IfOk result (λ d. d ≡ record {
       kind = T.TYPE;
       version_info = texts.interest_version replica changes interest.now;
       nonce = decimal number;
-      bodies = arc_slice_items bodies.now;
+      bodies = bodies.now;
     }) }
     ensures refused { IfErr result (λ e. e ≡ OutOfMemory) }
 {
     let version = interest_version(alloc, replica, changes, interest)?;
     let nonce = nonce_text(alloc, number)?;
-    let shared = bodies.clone()?;
+    let shared = bodies.try_copy()?;
     Ok(SotwDraft::new(T::TYPE, version, nonce, shared))
 }

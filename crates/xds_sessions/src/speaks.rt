@@ -1,6 +1,5 @@
 // What the two variants of a session differ in.
 ghost use Rattle.std.specs.Prelude.{◌≡◌, IfSome, IfOk, IfErr};
-ghost use Rattle.std.specs.Arc.{arc_slice_items};
 ghost use Rattle.xds_resource.specs.declared.refusal.Refusal.TheVariants.{OutOfMemory};
 ghost use Rattle.xds_interest.specs.Asked as askeds;
 ghost use Rattle.xds_sessions.specs.DeltaPolls as delta_polls;
@@ -12,11 +11,10 @@ use crate::published::Published;
 use crate::sotw_response::{response as sotw_response, stated_bodies};
 use crate::wildcards::Wildcard;
 use std::alloc::Global;
-use std::sync::ArcSlice;
 use xds_catalogue::Catalogue;
 use xds_interest::{ClusterText, DeltaNames, Interest, SotwNames};
 use xds_ledger::{Delta, Due, StateOfTheWorld, Variant};
-use xds_message::{Body, DeltaDraft, SotwDraft};
+use xds_message::{Bodies, DeltaDraft, SotwDraft};
 use xds_resource::{NameMap, Refusal, ResourceType};
 
 /// What a variant decides of a session of one type: how it keeps what the requests asked for, and what a response says.
@@ -104,11 +102,11 @@ impl<T: ResourceType> Speaks<T> for StateOfTheWorld {
 
     type Draft = SotwDraft;
 
-    type Said = ArcSlice<Body, Global>;
+    type Said = Bodies;
 
     ghost asked = { λ n. n };
 
-    ghost IsSaid = { λ m s o x. arc_slice_items x ≡ sotw_polls.stated_bodies m s o };
+    ghost IsSaid = { λ m s o x. x ≡ sotw_polls.stated_bodies m s o };
 
     ghost response = { sotw_polls.response };
 
@@ -133,14 +131,11 @@ impl<T: ResourceType> Speaks<T> for StateOfTheWorld {
         catalogue: &Catalogue<T>,
         interest: &Interest<T>,
         offer: &NameMap<Due>,
-    ) -> Result<ArcSlice<Body, Global>, Refusal> {
+    ) -> Result<Bodies, Refusal> {
         stated_bodies(alloc, catalogue, interest, offer)
     }
 
-    fn wildcard<'a>(
-        published: &'a Published<T>,
-        cluster: &str,
-    ) -> Option<&'a Wildcard<ArcSlice<Body, Global>>> {
+    fn wildcard<'a>(published: &'a Published<T>, cluster: &str) -> Option<&'a Wildcard<Bodies>> {
         published.sotw_wildcard(cluster)
     }
 
@@ -157,7 +152,7 @@ impl<T: ResourceType> Speaks<T> for StateOfTheWorld {
         replica: u16,
         catalogue: &Catalogue<T>,
         interest: &Interest<T>,
-        said: &ArcSlice<Body, Global>,
+        said: &Bodies,
         number: u64,
     ) -> Result<SotwDraft, Refusal> {
         sotw_response::<T>(alloc, replica, catalogue.changes(), interest, said, number)

@@ -6,10 +6,9 @@ ghost use Rattle.xds_sessions.specs.Wildcards.{Fits, all_of};
 
 use crate::delta_response::Said;
 use std::alloc::Global;
-use std::sync::ArcSlice;
 use xds_interest::Interest;
 use xds_ledger::{Due, SharedMap};
-use xds_message::Body;
+use xds_message::Bodies;
 use xds_resource::{NameMap, ResourceType};
 
 /// Whether an interest is in everything, and names nothing.
@@ -34,7 +33,7 @@ impl<S: Drop> Drop for Wildcard<S> {
 
 /// Those of both variants, by the text of the clients' cluster.
 pub(crate) struct Wildcards {
-    pub(crate) sotw: NameMap<Wildcard<ArcSlice<Body, Global>>>,
+    pub(crate) sotw: NameMap<Wildcard<Bodies>>,
     pub(crate) delta: NameMap<Wildcard<Said>>,
 }
 

@@ -13,7 +13,7 @@ returns-in-Err-clause-failed g c =
     let head = subst (λ (t : List ℕ). WrotePart (seen g.W.Write.contents c.args.writer.now c.gather.new.writer) (c.args.block.items ++ t)) c.as_bytes.ensures.value c.in-Err.ensures.failed.1 in (
       c.in-Err.ensures.failed.0,
       subst (λ (t : List ℕ). WrotePart (seen g.W.Write.contents c.args.writer.now c.gather.new.writer) (c.args.block.items ++ t)) c.self.view_is
-          (head_part _ c.args.block.items (string_bytes c.self.inside.head) (with_commas (map resource_text c.self.inside.resources.now) ++ with_commas (map body_text c.self.inside.bodies.now)) (string_bytes c.self.inside.tail) head),
+          (head_part _ c.args.block.items (string_bytes c.self.inside.head) (c.self.inside.joined.now ++ (with_commas (map resource_text c.self.inside.resources.now) ++ with_commas (map body_text c.self.inside.bodies.now))) (string_bytes c.self.inside.tail) head),
     )
 
 pub returns-in-Err-put_middle-clause-failed : goal.returns-in-Err-put_middle-clause-failed

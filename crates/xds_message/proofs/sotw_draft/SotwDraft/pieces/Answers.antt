@@ -1,4 +1,4 @@
-use Rattle.std.proofs.Common.{[], ◌∷◌, map, codes, string_bytes, ap, ◌∙◌}
+use Rattle.std.proofs.Common.{[], ◌∷◌, ◌++◌, ℕ, List, map, codes, string_bytes, ap, sym, ◌∙◌}
 use Rattle.serde_json.specs.Written.{compact_text}
 use Rattle.xds_resource.specs.Resources.{value_of}
 use Rattle.xds_message.specs.Written.{Fields, text_data, list_data, object_set, response_object}
@@ -21,6 +21,7 @@ returns-clause-text c =
     let closed = closed_behind head between _ _ c.in_ok-push_str.ensures.bytes in
     let joined = object_joined [] _ _ _ c.in_ok-join_text.field-0 all c.in_ok-head.ensures.ok members closed tt in
     c.around.ensures
+    ∙ ap (λ (bodies : List (List ℕ)). head ++ (with_commas (map body_text bodies) ++ string_bytes c.push_str.new.self)) (sym c.as_slice-bodies.ensures.value)
     ∙ joined
     ∙ (λ i. compact_text (object_set (
     (codes "nonce", text_data (c.as_str.ensures.value i))

@@ -1,5 +1,4 @@
 use Rattle.std.proofs.Common.{◌≡◌, sym, ap, ◌∙◌}
-use Rattle.std.specs.Arc.{arc_slice_items}
 use Rattle.std.specs.FinMap as finmap
 use Rattle.xds_interest.specs.Interests.{Selection}
 use Rattle.xds_catalogue.specs.Holdings.{Holdings}
@@ -20,10 +19,10 @@ invariant_of-self g c =
     c.in_ok-offer.ensures.ok ∙ ap (λ (h : Holdings). offer StateOfTheWorld t c.args.interest.now h.entries finmap.empty) (sym c.self.view_is) in
     record {
       sotw =
-          kept_more StateOfTheWorld t (λ m s o x. arc_slice_items x ≡ stated_bodies m s o) m c.self.inside.wildcards.sotw c.put.new.self cluster _ c.put.result c.put.ensures.ok c.put.ensures.err
+          kept_more StateOfTheWorld t (λ m s o x. x ≡ stated_bodies m s o) m c.self.inside.wildcards.sotw c.put.new.self cluster _ c.put.result c.put.ensures.ok c.put.ensures.err
           (record {
             offer_is = made ∙ ap (λ (s : Selection). offer StateOfTheWorld t s m finmap.empty) all;
-            said_is = c.in_ok-said.ensures.ok ∙ (λ i. stated_bodies m (all i) (c.as_map.ensures i));
+            said_is = c.in_ok-said.ensures.ok ∙ c.in_ok-stated.ensures.ok ∙ (λ i. stated_bodies m (all i) (c.as_map.ensures i));
           })
           c.self.invariant.sotw;
       delta = c.self.invariant.delta;
