@@ -20,7 +20,7 @@ use crate::seat::{Seat, Unrecorded, gather};
 use crate::segment::Segment;
 use crate::token::{Token, Tokens};
 use crate::twice::answered_twice;
-use crate::wakes::{Waiting, Wake};
+use crate::wakes::{LaneSet, Waiting, Wake};
 use std::alloc::Global;
 use std::marker::Model;
 use std::mem;
@@ -52,7 +52,7 @@ pub struct Desk<N: NodeName> {
     seats: u64,
     token: Token<Line, N>,
     alloc: Global,
-    // Whose writers wait, and whether the node was stopped. Nothing that is recorded depends on it.
+    // Which writers wait, and whether the node was stopped. Nothing that is recorded depends on it.
     waiting: Waiting,
     stopped: bool,
     // How many hold writers back.
@@ -93,7 +93,7 @@ impl<N: NodeName> Model for Desk<N> {
 
 impl<N: NodeName> Desk<N> {
     /// That of a replica at which nothing happened, and which has the number that the node's name says.
-    pub fn new(alloc: Global, replica: u16, token: Token<Line, N>) -> Desk<N>
+    pub fn new(alloc: Global, replica: u16, token: Token<Line, N>, waiting: Waiting) -> Desk<N>
         requires number { 1 ≤ replica }
         requires own { replica ≡ N.replica }
         requires keeper { token ≡ keeper 0 [] [] }
@@ -107,7 +107,7 @@ impl<N: NodeName> Desk<N> {
             seats: 0,
             token,
             alloc,
-            waiting: Waiting::new(),
+            waiting,
             stopped: false,
             holders: 0,
         }
@@ -259,8 +259,16 @@ impl<N: NodeName> Desk<N> {
         self.waiting.add(stream);
     }
 
-    /// One holds them back no longer. Answers the writers that wait, where none does.
-    pub fn release(&mut self) -> Waiting
+    /// The writer of a stream was woken. Answers the lane that is to be woken after it, if there is one.
+    pub fn was_woken(&mut self, stream: u64) -> Option<usize>
+        ensures { self.new ≡ self.old }
+    {
+        self.waiting.remove(stream);
+        self.waiting.next()
+    }
+
+    /// One holds them back no longer. Answers the lanes in which writers wait that are to be woken first, where none does.
+    pub fn release(&mut self) -> LaneSet
         ensures { self.new ≡ self.old }
     {
         self.holders = self.holders.saturating_sub(1);
@@ -287,16 +295,19 @@ impl<N: NodeName> Desk<N> {
         }
     }
 
-    /// The writers that wait, where an event wakes all of them and nobody holds them back; they count no longer.
-    pub fn woken(&mut self, wake: Wake) -> Waiting
+    /// The lanes in which writers wait that are to be woken first, where an event wakes all of them and nobody holds them back.
+    pub fn woken(&mut self, wake: Wake) -> LaneSet
         ensures { self.new ≡ self.old }
     {
         if self.is_held() {
-            return Waiting::new();
+            return LaneSet::new();
         }
         match wake {
-            Wake::All => self.waiting.take(),
-            Wake::Writer(_) | Wake::Nobody => Waiting::new(),
+            Wake::All => {
+                self.waiting.call();
+                self.waiting.first()
+            }
+            Wake::Writer(_) | Wake::Nobody => LaneSet::new(),
         }
     }
 

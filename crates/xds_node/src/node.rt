@@ -15,7 +15,7 @@ use crate::rule::NodeName;
 use crate::seat::{Seat, Unrecorded};
 use crate::segment::Segment;
 use crate::token::{Opened, Tokens};
-use crate::wakes::{Lanes, Wake};
+use crate::wakes::{Lanes, Waiting, Wake};
 use std::alloc::Global;
 use std::sync::{Mutex, Wait};
 use xds_core::{Event, Marks, Reply};
@@ -49,9 +49,10 @@ impl<N: NodeName> Node<N> {
         ensures { IfErr result (λ e. e ≡ OutOfMemory) }
     {
         let lanes = Lanes::new(alloc)?;
+        let waiting = Waiting::new(alloc)?;
         let (tokens, token) = opened.named::<N>();
         Ok(Node {
-            desk: Mutex::new(Desk::new(alloc, replica, token)),
+            desk: Mutex::new(Desk::new(alloc, replica, token, waiting)),
             tokens,
             lanes,
         })
@@ -84,24 +85,29 @@ impl<N: NodeName> Node<N> {
         let answer = desk.call(&self.tokens, seat, event);
         if let Ok(Ok(reply)) = &answer {
             let wake = desk.narrowed(wake.answered(reply));
-            let waiting = desk.woken(wake);
+            let first = desk.woken(wake);
             drop(desk);
-            self.lanes.wake(wake, &waiting);
+            self.lanes.wake(wake, first);
         }
         answer
     }
 
-    /// Waits until a poll of a stream would give a response, or be refused by `NonceSpent`, or the stream isn't open. It
-    /// is no event.
+    /// Waits until a poll of a stream would give a response, or be refused by `NonceSpent`, or the stream isn't open. Where many are to
+    /// be woken, each wakes the next. It is no event.
     pub fn wait_due<R: Wait>(&self, rt: &R, stream: u64) -> Due {
         let mut desk = self.desk.lock(rt);
+        let mut next = None;
         for _ in rt.forever() {
             if desk.is_held() {
                 desk.note_waiting(stream);
             } else if let Some(due) = desk.await_due(stream) {
+                drop(desk);
+                self.lanes.wake_lane(next);
                 return due;
             }
+            self.lanes.wake_lane(next);
             desk = self.lanes.writer(stream).wait(rt, desk);
+            next = desk.was_woken(stream);
         }
         unreachable!()
     }
@@ -114,8 +120,8 @@ impl<N: NodeName> Node<N> {
 
     /// Ends what [`Node::hold`] began, and wakes the writers that wait. It is no event. It may wait for the lock.
     pub fn release<R: Wait>(&self, rt: &R) {
-        let waiting = self.desk.lock(rt).release();
-        self.lanes.wake(Wake::All, &waiting);
+        let first = self.desk.lock(rt).release();
+        self.lanes.wake(Wake::All, first);
     }
 
     /// Waits until the counts of changes differ from these, and answers them; none once the node was stopped. It is no

@@ -1,11 +1,10 @@
 // Whom an event wakes.
-ghost use Rattle.std.specs.Prelude.{◌≡◌, ◌<◌, vec_len, IfOk, IfErr};
+ghost use Rattle.std.specs.Prelude.{◌≡◌, ◌<◌, vec_len, IfSome, IfOk, IfErr};
 ghost use Rattle.xds_resource.specs.declared.refusal.Refusal.TheVariants.{OutOfMemory};
 ghost use Rattle.xds_core.specs.Seen.{event_of, reply_of};
 ghost use Rattle.xds_node.specs.Wakes.{wakes, wakes_by};
 
 use std::alloc::Global;
-use std::mem;
 use std::sync::Condvar;
 use xds_core::{Event, Reply};
 use xds_resource::Refusal;
@@ -55,33 +54,126 @@ impl Wake {
     }
 }
 
+/// How many lanes an event that wakes all wakes at once. Each writer that is woken wakes one lane more, so that no more than these
+/// wait for the node's lock.
+pub const WOKEN: usize = 8;
+
 fn lane_of(stream: u64) -> usize
     ensures { result < 1024 }
 {
     (stream % LANES as u64) as usize
 }
 
-/// In which lanes a writer waits: a bit each.
+/// A set of lanes: a bit each.
 #[derive(Drop)]
-pub struct Waiting {
+pub struct LaneSet {
     words: [u64; 16],
 }
 
+impl LaneSet {
+    /// No lane.
+    pub fn new() -> LaneSet {
+        LaneSet { words: [0; 16] }
+    }
+
+    fn add(&mut self, lane: usize)
+        requires { lane < 1024 }
+    {
+        self.words[lane / 64] |= 1 << (lane % 64);
+    }
+
+    // Takes a lane out, the lowest.
+    fn take(&mut self) -> Option<usize>
+        ensures { IfSome result (λ lane. lane < 1024) }
+    {
+        for row in 0..16 {
+            let word = self.words[row];
+            if word != 0 {
+                let bit = lowest(word);
+                self.words[row] = word & (word - 1);
+                return Some(row * 64 + bit);
+            }
+        }
+        None
+    }
+}
+
+// The place of the lowest bit that is set.
+fn lowest(word: u64) -> usize
+    ensures { result < 64 }
+{
+    for bit in 0..64 {
+        if word >> bit & 1 == 1 {
+            return bit;
+        }
+    }
+    0
+}
+
+/// In which lanes writers wait, and which of these are still to be woken.
+#[derive(Drop)]
+pub struct Waiting {
+    // How many wait in each lane.
+    counts: Vec<u32>,
+    called: LaneSet,
+    ghost full: { vec_len counts ≡ 1024 },
+}
+
 impl Waiting {
-    /// In none.
-    pub fn new() -> Waiting {
-        Waiting { words: [0; 16] }
+    /// Nobody waits.
+    pub fn new(alloc: Global) -> Result<Waiting, Refusal>
+        ensures { IfErr result (λ e. e ≡ OutOfMemory) }
+    {
+        Ok(Waiting {
+            counts: counts(alloc)?,
+            called: LaneSet::new(),
+        })
     }
 
     /// The writer of this stream waits, too.
     pub fn add(&mut self, stream: u64) {
-        let lane = lane_of(stream);
-        self.words[lane / 64] |= 1 << (lane % 64);
+        let count = &mut self.counts[lane_of(stream)];
+        *count = count.saturating_add(1);
     }
 
-    /// All that wait; from here on none does.
-    pub fn take(&mut self) -> Waiting {
-        mem::replace(self, Waiting::new())
+    /// The writer of this stream waits no longer.
+    pub fn remove(&mut self, stream: u64) {
+        let count = &mut self.counts[lane_of(stream)];
+        *count = count.saturating_sub(1);
+    }
+
+    /// All that wait are to be woken.
+    pub fn call(&mut self) {
+        for lane in 0..LANES {
+            if self.counts[lane] != 0 {
+                self.called.add(lane);
+            }
+        }
+    }
+
+    /// A lane that is to be woken, where one waits: it is woken now.
+    pub fn next(&mut self) -> Option<usize>
+        ensures { IfSome result (λ lane. lane < 1024) }
+    {
+        for _ in 0..LANES {
+            let lane = self.called.take()?;
+            if self.counts[lane] != 0 {
+                return Some(lane);
+            }
+        }
+        None
+    }
+
+    /// The first lanes that are to be woken. Whoever waits there wakes the others, one lane after another.
+    pub fn first(&mut self) -> LaneSet {
+        let mut first = LaneSet::new();
+        for _ in 0..WOKEN {
+            match self.next() {
+                Some(lane) => first.add(lane),
+                None => return first,
+            }
+        }
+        first
     }
 }
 
@@ -111,38 +203,47 @@ impl Lanes {
         &self.changed
     }
 
-    /// Wakes those that an event wakes, of the writers that wait.
-    pub fn wake(&self, wake: Wake, waiting: &Waiting) {
+    /// Wakes those that an event wakes, and of all writers that wait those in these lanes.
+    pub fn wake(&self, wake: Wake, first: LaneSet) {
         match wake {
             Wake::Nobody => {}
             Wake::Writer(stream) => self.writer(stream).notify_all(),
             Wake::All => {
-                self.wake_all(waiting);
+                self.wake_each(first);
                 self.changed.notify_all();
             }
         }
     }
 
-    fn wake_all(&self, waiting: &Waiting) {
-        for row in 0..16 {
-            let word = waiting.words[row];
-            if word != 0 {
-                self.wake_row(row, word);
+    fn wake_each(&self, lanes: LaneSet) {
+        let mut left = lanes;
+        for _ in 0..LANES {
+            match left.take() {
+                Some(lane) => self.wake_lane(Some(lane)),
+                None => return,
             }
         }
     }
 
-    fn wake_row(&self, row: usize, word: u64)
-        requires { row < 16 }
-    {
-        for bit in 0..64 {
-            if word >> bit & 1 == 1 {
-                if let Some(lane) = self.writers.get(row * 64 + bit) {
-                    lane.notify_all();
-                }
+    /// Wakes whoever waits in a lane.
+    pub fn wake_lane(&self, lane: Option<usize>) {
+        if let Some(lane) = lane {
+            if let Some(writers) = self.writers.get(lane) {
+                writers.notify_all();
             }
         }
     }
+}
+
+fn counts(alloc: Global) -> Result<Vec<u32>, Refusal>
+    ensures ok { IfOk result (λ v. vec_len v ≡ 1024) }
+    ensures refused { IfErr result (λ e. e ≡ OutOfMemory) }
+{
+    let mut counts = Vec::new(alloc);
+    for _ in 0..LANES {
+        counts.push(0)?;
+    }
+    Ok(counts)
 }
 
 fn lanes_of(writers: Vec<Condvar>) -> Lanes

@@ -10,12 +10,12 @@ use std::marker::Brand;
 use std::sync::{Mutex, Wait};
 use std::test::Fail;
 use std::thread;
-use std::thread::{Threads, join};
+use std::thread::{Threads, join, map_vec};
 use std::time::{Clock, Duration};
 use xds_core::{Event, Marks, Request};
 use xds_exchange::{Incoming, Outgoing, link};
 use xds_message::DeltaDiscoveryRequest;
-use xds_node::{Due, Host, Line, Node, NodeName, Opened};
+use xds_node::{Due, Host, Line, Node, NodeName, Opened, Seat};
 use xds_resource::Refusal;
 
 // How often a thread looks before it gives up, and how long it sleeps before each look: ten seconds
@@ -326,4 +326,149 @@ fn who_waits_for_changes_is_let_go_by_what_others_do(rt: HostRuntime) -> Result<
         ..while_it_runs(false, Deed::Put, Deed::Stop)
     };
     ends(&rt, rt.alloc(), before, End::Stopped)
+}
+
+// How many writers wait at once: more than an event wakes, so that they have to wake one another.
+const WRITERS: u64 = 40;
+
+// How many threads are done, of so many.
+#[derive(Drop)]
+struct Tally {
+    count: Mutex<u64>,
+    all: u64,
+}
+
+impl Tally {
+    fn of(all: u64) -> Tally {
+        Tally {
+            count: Mutex::new(0),
+            all,
+        }
+    }
+
+    fn add<R: Wait>(&self, rt: &R) {
+        let mut count = self.count.lock(rt);
+        *count = count.saturating_add(1);
+    }
+
+    // Whether all are done before it was looked for so often.
+    fn comes<R: Wait + Clock>(&self, rt: &R) -> bool {
+        for _ in 0..MOST_LOOKS {
+            if *self.count.lock(rt) == self.all {
+                return true;
+            }
+            thread::sleep(rt, Duration::from_millis(NAP));
+        }
+        false
+    }
+}
+
+// A client that accepts the first response of its stream, if there was one.
+const ACCEPTS: &[u8] = b"{\"responseNonce\":\"1\",\
+    \"typeUrl\":\"type.googleapis.com/envoy.config.cluster.v3.Cluster\"}";
+
+// What one of several threads does at a node.
+#[derive(Drop)]
+enum Part<S> {
+    Waits(u64),
+    Puts(S),
+}
+
+// Puts once the writers were given time to wait, and looks whether all were let go. If not, it closes
+// all streams.
+fn puts_for_all<N: NodeName, R: Wait + Clock>(
+    rt: &R,
+    alloc: Global,
+    node: &Node<N>,
+    seat: Seat<N>,
+    tally: &Tally,
+) -> Result<bool, Refusal> {
+    let mut seat = seat;
+    thread::sleep(rt, Duration::from_millis(EARLY * NAP));
+    let done = put(rt, alloc, node, &mut seat, "a");
+    let came = done.is_ok() && tally.comes(rt);
+    if !came {
+        for stream in 1..=WRITERS + 1 {
+            let _ = refused(node.call(rt, &mut seat, Event::Close(stream)));
+        }
+    }
+    done?;
+    Ok(came)
+}
+
+fn plays<N: NodeName, R: Wait + Clock>(
+    rt: &R,
+    alloc: Global,
+    node: &Node<N>,
+    part: Part<Seat<N>>,
+    tally: &Tally,
+) -> Result<bool, Refusal> {
+    match part {
+        Part::Waits(stream) => {
+            node.wait_due(rt, stream);
+            tally.add(rt);
+            Ok(true)
+        }
+        Part::Puts(seat) => puts_for_all(rt, alloc, node, seat, tally),
+    }
+}
+
+// One thread that puts, and one for each of so many writers.
+fn parts<N: NodeName, R: Wait>(
+    rt: &R,
+    alloc: Global,
+    node: &Node<N>,
+    writers: u64,
+) -> Result<Vec<Part<Seat<N>>>, Refusal> {
+    let mut seat = node.seat(rt)?;
+    let mut parts = Vec::new(alloc);
+    for _ in 0..writers {
+        let stream = settled(rt, alloc, node, &mut seat)?;
+        let accepts = Request::Delta(DeltaDiscoveryRequest::read(alloc, ACCEPTS)?);
+        refused(node.call(rt, &mut seat, Event::Request(stream, accepts)))?;
+        parts.push(Part::Waits(stream))?;
+    }
+    parts.push(Part::Puts(seat))?;
+    Ok(parts)
+}
+
+// Whether a put lets so many writers go that wait for streams of their own.
+fn all_go<N: NodeName + Send + Sync, R: Threads + Wait + Clock + Sync>(
+    rt: &R,
+    alloc: Global,
+    node: &Node<N>,
+    writers: u64,
+) -> Result<bool, Refusal> {
+    let parts = parts(rt, alloc, node, writers)?;
+    let tally = Tally::of(writers);
+    let went = map_vec(rt, parts, &|part| { plays(rt, alloc, node, part, &tally) })?;
+    let mut all = true;
+    for one in went {
+        all &= one?;
+    }
+    Ok(all)
+}
+
+// Whether a put lets many go, and another one more, while those that went wait no longer.
+fn many_go<N: NodeName + Send + Sync, R: Threads + Wait + Clock + Sync>(
+    rt: &R,
+    alloc: Global,
+    opened: Opened<Line>,
+) -> Result<(bool, bool), Refusal>
+    requires name { opened ≡ N.id }
+    requires number { 1 ≡ N.replica }
+{
+    let node = Node::<N>::new(alloc, opened, 1)?;
+    let many = all_go(rt, alloc, &node, WRITERS)?;
+    let one = all_go(rt, alloc, &node, 1)?;
+    Ok((many, one))
+}
+
+#[test]
+fn a_put_lets_more_writers_go_than_it_wakes(rt: HostRuntime) -> Result<(), Fail> {
+    let opened = Opened::<Line>::new(rt.alloc())?;
+    let (many, one) = many_go::<Brand, _>(&rt, rt.alloc(), opened)?;
+    assert!(rt; many, "each writer that is woken wakes the next");
+    assert!(rt; one, "who went isn't woken in the place of who waits");
+    Ok(())
 }
