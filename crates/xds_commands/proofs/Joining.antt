@@ -1,11 +1,13 @@
 -- Replicas that are joined one after another, each to each other.
-use Rattle.std.proofs.Common.{◌≡◌, ◌≢◌, ◌<◌, ◌+◌, ◌⊎◌, inl, inr, ℕ, zero, suc, List, [], ◌∷◌, ◌++◌, length, Bool, true, false, Some, refl, sym, ap, subst, ◌∙◌, eq-eqb, eqb-true, append_assoc, length-append, append-nil, arith}
+use Rattle.std.proofs.Common.{◌≡◌, ◌≢◌, ◌<◌, ◌≤◌, ◌+◌, ◌⊎◌, inl, inr, ℕ, zero, suc, List, [], ◌∷◌, ◌++◌, length, Bool, true, false, Some, refl, sym, ap, subst, ◌∙◌, eq-eqb, eqb-true, append_assoc, length-append, append-nil, arith}
 use Rattle.std.specs.Prelude.{◌==◌, slice_get, slice_index_or, Contains, All, map, Result, Ok, Err, IsOk, IfOk, OnOk, OnErr, IfErr}
 use Rattle.std.specs.Result.{result_and}
 use Rattle.std.proofs.lemmas.List.{map-append, length-map}
 use Rattle.std.proofs.lemmas.List.Elements.{All-append, Contains-append_left, Contains-append_right, Contains-append_cases}
 use Rattle.std.proofs.lemmas.Option.{slice_get_within, slice_get-get_or, get_or_from_slice_get}
 use Rattle.std.proofs.Math.Nat.{eq-or-lt_of_le}
+use Rattle.xds_resource.specs.declared.refusal.Refusal.{Refusal}
+use Rattle.xds_resource.specs.declared.refusal.Refusal.TheVariants.{OutOfMemory}
 use Rattle.xds_commands.specs.declared.wires.Bound.{Bound}
 use Rattle.xds_commands.specs.declared.wires.Wires.{Wires}
 use Rattle.xds_commands.proofs.Wired.{some_same}
@@ -28,14 +30,120 @@ only_given false x y (k, within, is) = absurd (omega (arith, within))
 none_there : {X : Type 0} (x : X) → Contains [] x → ⊥
 none_there x (k, within, is) = omega (arith, within)
 
+given_one : {X : Type 0} (k i : ℕ) (x : X) → k ≡ i → length (given (k == i) x) ≡ 1
+given_one k i x same = ap (λ b. length (given b x)) (eq-eqb k i same)
+
+given_none : {X : Type 0} (b : Bool) (x : X) → (b ≡ true → ⊥) → length (given b x) ≡ 0
+given_none true x not = absurd (not refl)
+given_none false x not = refl
+
+-- how many ends a replica has to tell by once the pairs before this one are joined
+pub record HasTold (i j n a count : ℕ) : Type 0 where
+  pub done : a < i → count + 1 ≡ n
+  pub below : a ≡ i → j ≤ i → count ≡ j
+  pub above : a ≡ i → i < j → count + 1 ≡ j
+  pub later : i < a → count ≡ 0
+
+-- and to be told by
+pub record HasHeard (i j a count : ℕ) : Type 0 where
+  pub low_done : a < i → a < j → count ≡ i
+  pub low : a < i → j ≤ a → count + 1 ≡ i
+  pub same : a ≡ i → count ≡ i
+  pub high_done : i < a → a < j → count ≡ i + 1
+  pub high : i < a → j ≤ a → count ≡ i
+
+told_more : (i j n a count more : ℕ) → i ≢ j → (a ≡ i → more ≡ count + 1) → (a ≢ i → more ≡ count) → HasTold i j n a count → HasTold i (j + 1) n a more
+told_more i j n a count more apart here there told = record {
+  done = λ less. omega (arith, there (λ is. omega (arith, is, less)), told.done less);
+  below = λ is within. omega (arith, here is, told.below is (omega (arith, within)));
+  above = λ is beyond. elim (eq-or-lt_of_le {n = i} {m = j} (omega (arith, beyond))) [
+    | inl equal ↦ absurd (apart equal)
+    | inr less ↦ omega (arith, here is, told.above is less)
+  ];
+  later = λ less. omega (arith, there (λ is. omega (arith, is, less)), told.later less);
+}
+
+heard_more : (i j a count more : ℕ) → i ≢ j → (a ≡ j → more ≡ count + 1) → (a ≢ j → more ≡ count) → HasHeard i j a count → HasHeard i (j + 1) a more
+heard_more i j a count more apart here there heard = record {
+  low_done = λ less within. elim (eq-or-lt_of_le {n = a} {m = j} (omega (arith, within))) [
+    | inl is ↦ omega (arith, here is, heard.low less (omega (arith, is)))
+    | inr before ↦ omega (arith, there (λ is. omega (arith, is, before)), heard.low_done less before)
+  ];
+  low = λ less beyond. omega (arith, there (λ is. omega (arith, is, beyond)), heard.low less (omega (arith, beyond)));
+  same = λ is. omega (arith, there (λ at. apart (sym is ∙ at)), heard.same is);
+  high_done = λ less within. elim (eq-or-lt_of_le {n = a} {m = j} (omega (arith, within))) [
+    | inl is ↦ omega (arith, here is, heard.high less (omega (arith, is)))
+    | inr before ↦ omega (arith, there (λ is. omega (arith, is, before)), heard.high_done less before)
+  ];
+  high = λ less beyond. omega (arith, there (λ is. omega (arith, is, beyond)), heard.high less (omega (arith, beyond)));
+}
+
+told_none : (i n a count : ℕ) → HasTold i i n a count → HasTold i (i + 1) n a count
+told_none i n a count told = record {
+  done = told.done;
+  below = λ is within. absurd (omega (arith, within));
+  above = λ is beyond. ap (λ c. c + 1) (told.below is (omega arith));
+  later = told.later;
+}
+
+heard_none : (i a count : ℕ) → HasHeard i i a count → HasHeard i (i + 1) a count
+heard_none i a count heard = record {
+  low_done = λ less within. heard.low_done less less;
+  low = λ less beyond. absurd (omega (arith, less, beyond));
+  same = heard.same;
+  high_done = λ less within. absurd (omega (arith, less, within));
+  high = λ less beyond. heard.high less (omega (arith, less));
+}
+
+told_row : (i n a count : ℕ) → a < n → HasTold i n n a count → HasTold (i + 1) 0 n a count
+told_row i n a count within told = record {
+  done = λ less. elim (eq-or-lt_of_le {n = a} {m = i} (omega (arith, less))) [
+    | inl is ↦ told.above is (omega (arith, is, within))
+    | inr before ↦ told.done before
+  ];
+  below = λ is low. told.later (omega (arith, is));
+  above = λ is beyond. absurd (omega (arith, beyond));
+  later = λ less. told.later (omega (arith, less));
+}
+
+heard_row : (i n a count : ℕ) → a < n → HasHeard i n a count → HasHeard (i + 1) 0 a count
+heard_row i n a count within heard = record {
+  low_done = λ less before. absurd (omega (arith, before));
+  low = λ less beyond. elim (eq-or-lt_of_le {n = a} {m = i} (omega (arith, less))) [
+    | inl is ↦ ap (λ c. c + 1) (heard.same is)
+    | inr before ↦ ap (λ c. c + 1) (heard.low_done before within)
+  ];
+  same = λ is. heard.high_done (omega (arith, is)) within;
+  high_done = λ less before. absurd (omega (arith, before));
+  high = λ less beyond. heard.high_done (omega (arith, less)) within;
+}
+
+told_first : (n a count : ℕ) → count ≡ 0 → HasTold 0 0 n a count
+told_first n a count none = record {
+  done = λ less. absurd (omega (arith, less));
+  below = λ is within. none;
+  above = λ is beyond. absurd (omega (arith, beyond));
+  later = λ less. none;
+}
+
+heard_first : (a count : ℕ) → count ≡ 0 → HasHeard 0 0 a count
+heard_first a count none = record {
+  low_done = λ less within. absurd (omega (arith, less));
+  low = λ less beyond. absurd (omega (arith, less));
+  same = λ is. none;
+  high_done = λ less within. absurd (omega (arith, within));
+  high = λ less beyond. none;
+}
+
 module _ {L C S T : Type 0} (linked : S → T → Type 0) where
-  -- each of the pairs before this one is joined, and each end leads to another replica
+  -- each of the pairs before this one is joined, once, and each end leads to another replica
   pub record AreJoinedTo (i j : ℕ) (replicas : List (Bound L C S T)) : Type 0 where
     pub each : (a b : ℕ) (x y : Bound L C S T) → a ≢ b → IsBefore i j a b → slice_get replicas a ≡ Some x → slice_get replicas b ≡ Some y → Tells linked x y
     pub told : (a : ℕ) (x : Bound L C S T) (s : S) → slice_get replicas a ≡ Some x → Contains x.sends.items s
         → (b : ℕ) × (y : Bound L C S T) × (t : T) × (a ≢ b) × (slice_get replicas b ≡ Some y) × Contains y.takes.items t × linked s t
     pub heard : (b : ℕ) (y : Bound L C S T) (t : T) → slice_get replicas b ≡ Some y → Contains y.takes.items t
         → (a : ℕ) × (x : Bound L C S T) × (s : S) × (a ≢ b) × (slice_get replicas a ≡ Some x) × Contains x.sends.items s × linked s t
+    pub once : (a : ℕ) (x : Bound L C S T) → slice_get replicas a ≡ Some x → HasTold i j (length replicas) a (length x.sends.items) × HasHeard i j a (length x.takes.items)
 
 module _ {L C S T : Type 0} where
   -- what was there of another, if one is there now
@@ -120,12 +228,25 @@ module _ {L C S T : Type 0} {linked : S → T → Type 0} where
             (i, after.0, s, (λ same. apart (same ∙ place)), after.1, now_sends i i refl after.2, subst (λ v. linked s v) is.1 are)
       ]
 
+  once_after : (i j : ℕ) (s : S) (t : T) (old new : List (Bound L C S T)) → i ≢ j → AreJoinedTo linked i j old → Joins i j s t old new
+      → (a : ℕ) (x : Bound L C S T) → slice_get new a ≡ Some x → HasTold i (j + 1) (length new) a (length x.sends.items) × HasHeard i (j + 1) a (length x.takes.items)
+  once_after i j s t old new apart joined joins a x here =
+      let one = was i j s t old new joins a x here in
+      let before = joined.once a one.0 one.1 in
+      let sends : length x.sends.items ≡ length one.0.sends.items + length (given (a == i) s) = ap length one.2.sends ∙ length-append one.0.sends.items (given (a == i) s) in
+      let takes : length x.takes.items ≡ length one.0.takes.items + length (given (a == j) t) = ap length one.2.takes ∙ length-append one.0.takes.items (given (a == j) t) in (
+        subst (λ n. HasTold i (j + 1) n a (length x.sends.items)) (sym joins.count)
+            (told_more i j (length old) a (length one.0.sends.items) (length x.sends.items) apart (λ is. omega (arith, sends, given_one a i s is)) (λ not. omega (arith, sends, given_none (a == i) s (λ at. not (eqb-true a i at)))) before.0),
+        heard_more i j a (length one.0.takes.items) (length x.takes.items) apart (λ is. omega (arith, takes, given_one a j t is)) (λ not. omega (arith, takes, given_none (a == j) t (λ at. not (eqb-true a j at)))) before.1,
+      )
+
   -- one pair more is joined
   pub pair_joined : (i j : ℕ) (s : S) (t : T) (old new : List (Bound L C S T)) → i ≢ j → i < length old → j < length old → AreJoinedTo linked i j old → Joins i j s t old new → linked s t → AreJoinedTo linked i (j + 1) new
   pair_joined i j s t old new apart first second joined joins are = record {
     each = each_after i j s t old new joined joins are;
     told = told_after i j s t old new apart second joined joins are;
     heard = heard_after i j s t old new apart first joined joins are;
+    once = once_after i j s t old new apart joined joins;
   }
 
   -- no replica is joined to itself
@@ -133,6 +254,7 @@ module _ {L C S T : Type 0} {linked : S → T → Type 0} where
   none_joined i replicas joined = record {
     told = joined.told;
     heard = joined.heard;
+    once = λ a x here. (told_none i (length replicas) a (length x.sends.items) (joined.once a x here).0, heard_none i a (length x.takes.items) (joined.once a x here).1);
     each = λ a b x y apart before here there. elim before [
       | inl earlier ↦ joined.each a b x y apart (inl earlier) here there
       | inr row ↦ elim (eq-or-lt_of_le {n = b} {m = i} (omega (arith, row.1))) [
@@ -147,6 +269,13 @@ module _ {L C S T : Type 0} {linked : S → T → Type 0} where
   row_joined i n replicas count joined = record {
     told = joined.told;
     heard = joined.heard;
+    once = λ a x here.
+        let within : a < n = omega (arith, count, slice_get_within replicas a x here) in
+        let so_far = joined.once a x here in
+        let told = subst (λ m. HasTold i n m a (length x.sends.items)) (sym count) so_far.0 in (
+          subst (λ m. HasTold (i + 1) 0 m a (length x.sends.items)) count (told_row i n a (length x.sends.items) within told),
+          heard_row i n a (length x.takes.items) within so_far.1,
+        );
     each = λ a b x y apart before here there. elim before [
       | inl earlier ↦ elim (eq-or-lt_of_le {n = a} {m = i} (omega (arith, earlier))) [
         | inl last ↦ joined.each a b x y apart (inr (last, omega (arith, count, slice_get_within replicas b y there))) here there
@@ -162,6 +291,7 @@ module _ {L C S T : Type 0} {linked : S → T → Type 0} where
     each = λ a b x y apart before here there. elim before [ inl earlier ↦ absurd (omega (arith, earlier)) | inr row ↦ absurd (omega (arith, row.1)) ];
     told = λ a x e here has. absurd (none_there e (subst (λ xs. Contains xs e) (alone_at replicas alone a x here).0 has));
     heard = λ b y f here has. absurd (none_there f (subst (λ xs. Contains xs f) (alone_at replicas alone b y here).1 has));
+    once = λ a x here. (told_first (length replicas) a (length x.sends.items) (ap length (alone_at replicas alone a x here).0), heard_first a (length x.takes.items) (ap length (alone_at replicas alone a x here).1));
   }
 
   -- at last all pairs are joined
@@ -170,6 +300,10 @@ module _ {L C S T : Type 0} {linked : S → T → Type 0} where
     each = λ i j b c apart here there. joined.each i j b c apart (inl (omega (arith, count, slice_get_within replicas i b here))) here there;
     told = joined.told;
     heard = joined.heard;
+    once = λ a x here.
+        let within : a < n = omega (arith, count, slice_get_within replicas a x here) in
+        let so_far = joined.once a x here in
+        (so_far.0.done within, omega (arith, count, so_far.1.low within (omega arith)));
   }
 
 module _ {L C S T : Type 0} where
@@ -254,3 +388,14 @@ module _ {L I C S T : Type 0} where
       subst (λ k. IfOk k (IsWired linked all)) (sym (subst (λ b. IfErr b (λ e. kept ≡ Err e)) is err)) tt
   wired_after linked all rest (Err e) joined both kept old new none begun senders stay are is ok err =
       subst (λ k. IfOk k (IsWired linked all)) (sym (subst (λ b. IfErr b (λ e. kept ≡ Err e)) is err)) tt
+
+-- the first refusal of two is one of theirs
+pub still_refused : (done r both : Result (Unit {0}) Refusal) → IfErr done (λ e. e ≡ OutOfMemory) → IfErr r (λ e. e ≡ OutOfMemory) → both ≡ result_and done r → IfErr both (λ e. e ≡ OutOfMemory)
+still_refused (Ok u) r both first second is = subst (λ b. IfErr b (λ e. e ≡ OutOfMemory)) (sym is) second
+still_refused (Err e) r both first second is = subst (λ b. IfErr b (λ e. e ≡ OutOfMemory)) (sym is) first
+
+-- and what is kept of what was done is refused by it
+pub refused_after : {V : Type 0} (done : Result (Unit {0}) Refusal) (kept : Result V Refusal) (v : V) → IfErr done (λ e. e ≡ OutOfMemory) → OnOk done (kept ≡ Ok v) → IfErr done (λ e. kept ≡ Err e)
+    → IfErr kept (λ e. e ≡ OutOfMemory)
+refused_after (Ok u) kept v memory ok err = subst (λ k. IfErr k (λ e. e ≡ OutOfMemory)) (sym ok) tt
+refused_after (Err e) kept v memory ok err = subst (λ k. IfErr k (λ e. e ≡ OutOfMemory)) (sym err) memory

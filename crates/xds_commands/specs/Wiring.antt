@@ -9,9 +9,9 @@
 --     IsAlone       a replica is joined to no other
 --     Stays         a replica is started with what it was to be started with, but for its ends
 --     Tells         a replica has an end by which it tells another
---     AreJoined     each replica tells each other, and each end leads to another replica
+--     AreJoined     each replica tells each other, each end leads to another replica, and there is one for each
 --     IsWired       a replica for each of these sockets, in order, each with its sender, and joined to each other
-use Rattle.std.specs.Prelude.{◌≡◌, ◌≢◌, ◌==◌, ℕ, List, [], ◌∷◌, ◌++◌, length, map, slice_get, Bool, Some, if◌then◌else◌, Contains}
+use Rattle.std.specs.Prelude.{◌≡◌, ◌≢◌, ◌==◌, ◌+◌, ℕ, List, [], ◌∷◌, ◌++◌, length, map, slice_get, Bool, Some, if◌then◌else◌, Contains}
 use Rattle.xds_commands.specs.declared.wires.Bound.{Bound}
 use Rattle.xds_commands.specs.declared.wires.Wires.{Wires}
 
@@ -73,13 +73,14 @@ module _ {L C S T : Type 0} where
   abbrev pub Tells : (S → T → Type 0) → Bound L C S T → Bound L C S T → Type 0
   Tells linked b c = (s : S) × (t : T) × Contains b.sends.items s × Contains c.takes.items t × linked s t
 
-  -- each replica tells each other, and each end leads to another replica
+  -- each replica tells each other, each end leads to another replica, and there is one for each
   pub record AreJoined (linked : S → T → Type 0) (replicas : List (Bound L C S T)) : Type 0 where
     pub each : (i j : ℕ) (b c : Bound L C S T) → i ≢ j → slice_get replicas i ≡ Some b → slice_get replicas j ≡ Some c → Tells linked b c
     pub told : (i : ℕ) (b : Bound L C S T) (s : S) → slice_get replicas i ≡ Some b → Contains b.sends.items s
         → (j : ℕ) × (c : Bound L C S T) × (t : T) × (i ≢ j) × (slice_get replicas j ≡ Some c) × Contains c.takes.items t × linked s t
     pub heard : (j : ℕ) (c : Bound L C S T) (t : T) → slice_get replicas j ≡ Some c → Contains c.takes.items t
         → (i : ℕ) × (b : Bound L C S T) × (s : S) × (i ≢ j) × (slice_get replicas i ≡ Some b) × Contains b.sends.items s × linked s t
+    pub once : (i : ℕ) (b : Bound L C S T) → slice_get replicas i ≡ Some b → (length b.sends.items + 1 ≡ length replicas) × (length b.takes.items + 1 ≡ length replicas)
 
 -- a replica for each of these sockets, in order, each with its sender, and joined to each other
 pub record IsWired {L I C S T : Type 0} (linked : S → T → Type 0) (all : List L) (w : Wires L I C S T) : Type 0 where

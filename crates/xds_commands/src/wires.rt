@@ -1,6 +1,7 @@
 // What replicas are joined by, whatever it is: lists that are made and taken apart replica by replica.
 ghost use Rattle.std.specs.Prelude.{◌≡◌, ◌==◌, ◌↔◌, [], All, OnOk, OnErr, IfOk, IfErr, IsOk, Ok, Err};
 ghost use Rattle.std.specs.Result.{result_and};
+ghost use Rattle.xds_resource.specs.declared.refusal.Refusal.TheVariants.{OutOfMemory};
 ghost use Rattle.xds_commands.specs.Wiring.{Adds, AllChange, GainsSend, GainsTake, Joins, IsAlone, Stays, AreJoined, IsWired};
 
 use std::alloc::{AllocError, Global};
@@ -62,6 +63,7 @@ impl<L: Drop, I: Drop, C: Drop, S: Drop, T: Drop> Wires<L, I, C, S, T> {
     ) -> Result<(), Refusal>
         ensures channel { OnOk result (IsOk channel) }
         ensures adds { OnOk result (IfOk channel (λ ends. Adds sockets ends.0 ends.1 self.old self.new)) }
+        ensures refused { IfErr result (λ e. e ≡ OutOfMemory) }
         ensures err { OnErr result (self.new.replicas.items ≡ self.old.replicas.items) }
     {
         let (sender, changes) = channel?;
@@ -85,6 +87,7 @@ impl<L: Drop, I: Drop, C: Drop, S: Drop, T: Drop> Wires<L, I, C, S, T> {
         ensures ends { OnOk result (IsOk ends) }
         ensures senders { OnOk result (self.new.senders ≡ self.old.senders) }
         ensures joins { OnOk result (IfOk ends (λ e. Joins from to e.0 e.1 self.old.replicas.items self.new.replicas.items)) }
+        ensures refused { IfErr result (λ e. e ≡ OutOfMemory) }
     {
         let (sends, takes) = ends?;
         give(&mut self.replicas, from, sends)?;
@@ -97,6 +100,7 @@ impl<L: Drop, I: Drop, C: Drop, S: Drop, T: Drop> Wires<L, I, C, S, T> {
         ensures senders { OnOk result (self.new.senders ≡ self.old.senders) }
         ensures stay { OnOk result (AllChange (λ _. Stays) self.old.replicas.items self.new.replicas.items) }
         ensures joined { OnOk result (AreJoined M.linked self.new.replicas.items) }
+        ensures refused { IfErr result (λ e. e ≡ OutOfMemory) }
     {
         let count = self.replicas.len();
         for from in 0..count {
@@ -124,7 +128,8 @@ fn give<L: Drop, C: Drop, S: Drop, T: Drop>(
     place: usize,
     sends: S,
 ) -> Result<(), Refusal>
-    ensures { OnOk result (AllChange (λ k. GainsSend (k == place) sends) replicas.old.items replicas.new.items) }
+    ensures gains { OnOk result (AllChange (λ k. GainsSend (k == place) sends) replicas.old.items replicas.new.items) }
+    ensures refused { IfErr result (λ e. e ≡ OutOfMemory) }
 {
     if let Some(replica) = replicas.get_mut(place) {
         replica.sends.push(sends)?;
@@ -138,7 +143,8 @@ fn hand<L: Drop, C: Drop, S: Drop, T: Drop>(
     place: usize,
     takes: T,
 ) -> Result<(), Refusal>
-    ensures { OnOk result (AllChange (λ k. GainsTake (k == place) takes) replicas.old.items replicas.new.items) }
+    ensures gains { OnOk result (AllChange (λ k. GainsTake (k == place) takes) replicas.old.items replicas.new.items) }
+    ensures refused { IfErr result (λ e. e ≡ OutOfMemory) }
 {
     if let Some(replica) = replicas.get_mut(place) {
         replica.takes.push(takes)?;
@@ -152,7 +158,8 @@ pub fn wired<L: Drop, I: Drop, C: Drop, S: Drop, T: Drop, M: Links<I, C, S, T>>(
     sockets: Vec<L>,
     links: &M,
 ) -> Result<Wires<L, I, C, S, T>, Refusal>
-    ensures { IfOk result (IsWired M.linked sockets.items) }
+    ensures ok { IfOk result (IsWired M.linked sockets.items) }
+    ensures refused { IfErr result (λ e. e ≡ OutOfMemory) }
 {
     let mut wires = Wires::new(alloc);
     let mut done = Ok(());
@@ -199,7 +206,7 @@ pub fn both(first: Result<(), Refusal>, second: Result<(), Refusal>) -> Result<(
 /// Whether a thread was started.
 pub fn started<H: Drop, F: Drop>(spawned: Result<H, F>) -> Result<(), Refusal>
     ensures ok { IsOk result ↔ IsOk spawned }
-    ensures refused { IfErr result (λ e. e ≡ Refusal.OutOfMemory) }
+    ensures refused { IfErr result (λ e. e ≡ OutOfMemory) }
 {
     match spawned {
         Ok(_) => Ok(()),
