@@ -2,10 +2,11 @@
 """Times `xds answer` over N stamped writes of B bytes each, and prints its processor time, in all and a write, and its
 peak memory.
 
-    python3 bench/answer.py [--bytes B] [--peer CMD] PROGRAM [N ..]
+    python3 bench/answer.py [--bytes B | --short] [--peer CMD] PROGRAM [N ..]
 
 PROGRAM is the built program (crates/xds/out/xds after `rt run` in crates/xds); N is 1000, 10000 and 100000 if left out.
-B is 1000 and 600 if left out, one after the other, and 350 at least. Every write is of a name of its own, and the
+B is 1000 and 600 if left out, one after the other, and 350 at least; with --short each cluster has a name and a timeout
+alone, in a line of some 230 bytes. Every write is of a name of its own, and the
 request asks for all of them, so that everything is read, kept and written. The input is made anew each time and kept in
 memory. Peak memory is the kernel's `VmHWM` of the process, so it needs Linux.
 
@@ -31,7 +32,8 @@ BARE = 296
 
 
 def writes(count, size):
-    """The input: `count` writes of about `size` bytes, and a request for all of them."""
+    """The input: `count` writes of about `size` bytes, or of clusters of a name and a timeout where it is 0, and a request for all
+    of them."""
     padding = "t" * (size - BARE)
     lines = []
     for number in range(count):
@@ -40,8 +42,9 @@ def writes(count, size):
             "@type": URL,
             "name": name,
             "connectTimeout": "0.250s",
-            "metadata": {"filterMetadata": {"owner": {"team": padding, "number": number}}},
         }
+        if size:
+            body["metadata"] = {"filterMetadata": {"owner": {"team": padding, "number": number}}}
         write = {"typeUrl": URL, "name": name, "counter": number + 1, "writer": 1 + number % 2, "body": body}
         lines.append(json.dumps(write, separators=(",", ":")))
     lines.append(json.dumps({"typeUrl": URL}, separators=(",", ":")))
@@ -102,14 +105,16 @@ def both(program, peer, count, size):
 
 def main():
     words = argparse.ArgumentParser(description=__doc__, formatter_class=argparse.RawDescriptionHelpFormatter)
-    words.add_argument("--bytes", type=int)
+    sizes = words.add_mutually_exclusive_group()
+    sizes.add_argument("--bytes", type=int)
+    sizes.add_argument("--short", action="store_const", const=0, dest="bytes")
     words.add_argument("--peer", type=shlex.split)
     words.add_argument("program")
     words.add_argument("counts", metavar="N", type=int, nargs="*")
     given = words.parse_args()
-    if given.bytes is not None and given.bytes < 350:
+    if given.bytes and given.bytes < 350:
         words.error("a write has at least 350 bytes")
-    for size in [given.bytes] if given.bytes else [1000, 600]:
+    for size in [1000, 600] if given.bytes is None else [given.bytes]:
         for count in given.counts or [1000, 10000, 100000]:
             if given.peer:
                 both(given.program, given.peer, count, size)

@@ -1,14 +1,13 @@
 -- That the first poll of a fresh stream, after one request, gives the response with the content.
 use Rattle.std.proofs.Common.{arith, ◌≡◌, ℕ, List, [], ◌∷◌, map, Bool, true, false, cond, ◌||◌, ◌&&◌, not, Option, Some, None, refl, sym, ap, subst, ◌∙◌}
 use Rattle.std.specs.Prelude.{IfSome, MatchOption, is_some, option_map, if◌then◌else◌, length, ◌==◌}
-use Rattle.std.specs.List.{list_any, filter, filter_map, cons_option}
+use Rattle.std.specs.List.{list_any, filter, filter_map}
 use Rattle.std.specs.Option.{option_and_then, option_map_or, option_or}
 use Rattle.std.specs.FinMap as finmap
 use Rattle.std.specs.FinSet as set
 use Rattle.std.proofs.Math.Dec.{eqb-suc-zero}
 use Rattle.std.proofs.lemmas.Fmt.{decimal_digit}
 use Rattle.std.proofs.lemmas.List.Folds.{list_any-append}
-use Rattle.serde_json.specs.Data.{Data}
 use Rattle.xds_resource.specs.declared.types.TypeName.{TypeName}
 use Rattle.xds_resource.specs.Types.{row}
 use Rattle.xds_resource.specs.Resources.{value_of}
@@ -38,7 +37,8 @@ use Rattle.xds_ledger.proofs.Choosing.{none_passes, listed_fails}
 use Rattle.xds_ledger.proofs.Made.{resumed_by_name}
 use Rattle.xds_core.specs.Streams.{cluster_in}
 use Rattle.xds_sessions.specs.SotwPolls.{take, sending, response, stated_writes, HasPolled}
-use Rattle.xds_program.specs.Answers.{objects_of, response_with, response_to}
+use Rattle.xds_program.specs.Answers.{response_with, response_to}
+use Rattle.xds_program.proofs.Responding.{values_of}
 use Rattle.xds_ledger.proofs.Stored.{or_true}
 
 -- ---- what is believed after the first request
@@ -194,14 +194,6 @@ first_sending t m cluster r named =
 
 -- ---- the response
 
-values_step : (body : Option (List ℕ)) (bodies : List (List ℕ)) (objects : List Data) → map value_of bodies ≡ objects → map value_of (cons_option body bodies) ≡ cons_option (option_map value_of body) objects
-values_step None bodies objects is = is
-values_step (Some b) bodies objects is = ap (λ r. value_of b ∷ r) is
-
-values_of : (ws : List StampedWrite) → map value_of (filter_map (λ w. w.body) ws) ≡ objects_of ws
-values_of [] = refl
-values_of (w ∷ ws) = values_step w.body (filter_map (λ (v : StampedWrite). v.body) ws) (objects_of ws) (values_of ws)
-
 message_made : (replica : ℕ) (t : TypeName) (h : Holdings) (s : Selection) (o : Offer) → stated_writes h.entries s o ≡ content h.entries s
     → message_of (response replica t h s o 1) ≡ response_with replica t h.changes s (content h.entries s)
 message_made replica t h s o whole =
@@ -234,11 +226,3 @@ first_poll replica t h r answer after count named polled =
     answered_if replica t h before o answer after count (is_answered t s h.entries) (subst (Polled replica t h before answer after count) (first_sending t h.entries (cluster_in r.node) r named) polled)
     ∙ ap (λ x. cond (is_answered t s h.entries) (Some x) None) (message_made replica t h s o whole)
     ∙ ap (λ i. cond (is_answered t i h.entries) (Some (response_with replica t h.changes i (content h.entries i))) None) (first_asked t (cluster_in r.node) r.resource_names)
-
--- the same from what the calls ensure
-pub first_poll_by : (replica : ℕ) (t : TypeName) (h : Holdings) (r : Request) (start before : Session) (drawn : ℕ) (answer : Option Drafted) (after : Session) (count : ℕ) → IsCatalogue h.entries
-    → start ≡ unopened (cluster_in r.node) → before ≡ take t start r → drawn ≡ 0 → HasPolled replica t h before drawn answer after count → option_map message_of answer ≡ response_to replica t h r
-first_poll_by replica t h r start before drawn answer after count named fresh taken none polled =
-    first_poll replica t h r answer after count named
-    (subst (λ n. HasPolled replica t h (take t (unopened (cluster_in r.node)) r) n answer after count) none
-    (subst (λ s. HasPolled replica t h s drawn answer after count) (taken ∙ ap (λ s. take t s r) fresh) polled))

@@ -1,6 +1,6 @@
 pub mod Flushing
-pub mod FirstPoll
 pub mod Responding
+pub mod FirstPoll
 pub mod Taking
 pub mod Reading
 pub mod Writing

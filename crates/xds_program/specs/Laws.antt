@@ -1,4 +1,4 @@
--- What the words of a command line are, in other words. This project's own.
+-- What the words of a command line are, and what an answer is, in other words. This project's own.
 --     AskOneTask          words ask for one task at most
 --     Names               the words name this command
 --     NamesPlainly        the words name a command that uses no device but the program's own
@@ -6,10 +6,19 @@
 --     AnswerWordsAsk      which words ask for an answer, in plain words
 --     PlayWordsAsk        which words ask for a script to be played
 --     CheckWordsAsk       which words ask for a trace to be checked
+--     AnswersAreFirstPolls  the answer to a request is what a session's first poll gives, once it took the request
 use Rattle.std.specs.Prelude.{◌≡◌, ◌⊎◌, ◌↔◌, ℕ, List, [], codes, Option, Some, option_map}
 use Rattle.clap.specs.Words.{Text}
+use Rattle.xds_resource.specs.declared.types.TypeName.{TypeName}
+use Rattle.xds_catalogue.specs.Holdings.{Holdings, IsCatalogue}
+use Rattle.xds_message.specs.Messages.{Request}
+use Rattle.xds_message.specs.Drafts.{Drafted, message_of}
+use Rattle.xds_ledger.specs.Sessions.{Session, unopened}
+use Rattle.xds_core.specs.Streams.{cluster_in}
+use Rattle.xds_sessions.specs.SotwPolls.{HasPolled, take}
 use Rattle.xds_program.specs.declared.tasks.Task.{Task}
 use Rattle.xds_program.specs.declared.tasks.Task.TheVariants.{Answer, Play, Check}
+use Rattle.xds_program.specs.Answers.{response_to}
 use Rattle.xds_program.specs.CommandLine.{faults, named_in}
 use Rattle.xds_program.specs.Words.{Asks}
 use Rattle.xds_program.specs.PlainWords.{AsksAnswer, AsksCheck, AsksPlay}
@@ -41,3 +50,9 @@ PlayWordsAsk = (words : List Text) (trace : Option ℕ) → Asks words (Play tra
 -- which words ask for a trace to be checked
 abbrev pub CheckWordsAsk : Type 0
 CheckWordsAsk = (words : List Text) → Asks words Check ↔ AsksCheck words
+
+-- The answer to a request, by what is held of its type, is what a session's first poll gives, once it took the request: it draws
+-- the first nonce.
+abbrev pub AnswersAreFirstPolls : Type 0
+AnswersAreFirstPolls = (replica : ℕ) (t : TypeName) (h : Holdings) (m : Request) (answer : Option Drafted) (after : Session) (count : ℕ) → IsCatalogue h.entries
+    → HasPolled replica t h (take t (unopened (cluster_in m.node)) m) 0 answer after count → option_map message_of answer ≡ response_to replica t h m

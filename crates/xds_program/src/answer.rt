@@ -1,22 +1,21 @@
 // `xds answer`: stamped writes and one request in, the response of a fresh stream's first poll out.
-ghost use Rattle.std.specs.Prelude.{◌≡◌, IfOk, IfErr, Some};
+ghost use Rattle.std.specs.Prelude.{◌≡◌, ◌||◌, ◌==◌, not, length, map, IfOk, IfErr, Some};
 ghost use Rattle.std.specs.Option.{option_map};
 ghost use Rattle.xds_resource.specs.PerType.{at};
-ghost use Rattle.xds_catalogue.specs.Holdings.{IsCatalogue};
+ghost use Rattle.xds_resource.specs.Types.{row};
 ghost use Rattle.xds_message.specs.Drafts.{message_of};
 ghost use Rattle.xds_core.specs.Streams.{cluster_in};
-ghost use Rattle.xds_program.specs.Answers.{response_to, response_by, answer_text};
+ghost use Rattle.xds_program.specs.Answers.{response_to, response_by, response_with, answer_text};
 ghost use Rattle.xds_program.specs.Faults.{IsAnswer, IsFault};
 
 use crate::gathering::{Gathered, LineFault, gather, gather_freeing};
 use std::alloc::Global;
 use xds_core::Catalogues;
-use xds_interest::ClusterText;
-use xds_ledger::Nonces;
+use xds_interest::{ClusterText, Interest};
+use xds_ledger::texts::{interest_version, nonce_text};
 use xds_message::{DiscoveryRequest, SotwDraft};
-use xds_resource::{Refusal, ResourceType, TypeName};
-use xds_sessions::Published;
-use xds_sessions::sotw_session::Session;
+use xds_resource::{Refusal, ResourceType, TypeName, Write};
+use xds_sessions::{Published, texts_of};
 
 /// Answers an input of stamped writes, a line each, and a `DiscoveryRequest` on the last line. The writes are joined
 /// in order. The output is the response that a fresh stream's first poll gives, and a line feed; or nothing, where the
@@ -52,7 +51,6 @@ pub fn draft_answer(
 
 // What is written for what was gathered.
 fn answer_gathered(alloc: Global, replica: u16, gathered: &Gathered) -> Result<Vec<u8>, LineFault>
-    requires { (t : TypeName) → IsCatalogue (at gathered.now.catalogues t).entries }
     ensures answered { IfOk result (λ output. output.items
         ≡ answer_text (response_by replica (at gathered.now.catalogues) gathered.now.request)) }
     ensures refused { IfErr result (λ fault. (fault.line ≡ gathered.now.line) × (fault.refusal ≡ Refusal.OutOfMemory)) }
@@ -72,7 +70,6 @@ fn draft_gathered(
     replica: u16,
     gathered: &Gathered,
 ) -> Result<Option<SotwDraft>, LineFault>
-    requires { (t : TypeName) → IsCatalogue (at gathered.now.catalogues t).entries }
     ensures given { IfOk result (λ o. option_map message_of o
         ≡ response_by replica (at gathered.now.catalogues) gathered.now.request) }
     ensures refused { IfErr result (λ fault. (fault.line ≡ gathered.now.line) × (fault.refusal ≡ Refusal.OutOfMemory)) }
@@ -93,7 +90,6 @@ fn answer_to(
     catalogues: &Catalogues,
     request: &DiscoveryRequest,
 ) -> Result<Vec<u8>, Refusal>
-    requires { (t : TypeName) → IsCatalogue (at catalogues.now t).entries }
     ensures answered { IfOk result
         (λ output. output.items ≡ answer_text (response_by replica (at catalogues.now) request.now)) }
     ensures refused { IfErr result (λ e. e ≡ Refusal.OutOfMemory) }
@@ -121,7 +117,6 @@ fn respond_among(
     catalogues: &Catalogues,
     request: &DiscoveryRequest,
 ) -> Result<Option<SotwDraft>, Refusal>
-    requires { (t : TypeName) → IsCatalogue (at catalogues.now t).entries }
     ensures given { IfOk result (λ o. option_map message_of o
         ≡ response_by replica (at catalogues.now) request.now) }
     ensures refused { IfErr result (λ e. e ≡ Refusal.OutOfMemory) }
@@ -140,7 +135,6 @@ fn respond_of(
     kind: TypeName,
     request: &DiscoveryRequest,
 ) -> Result<Option<SotwDraft>, Refusal>
-    requires { IsCatalogue (at catalogues.now kind).entries }
     ensures given { IfOk result (λ o. option_map message_of o
         ≡ response_to replica kind (at catalogues.now kind) request.now) }
     ensures refused { IfErr result (λ e. e ≡ Refusal.OutOfMemory) }
@@ -165,19 +159,50 @@ fn cluster_of(alloc: Global, request: &DiscoveryRequest) -> Result<ClusterText, 
     }
 }
 
-// The response to a request of the type `T`, the first of a fresh stream.
+// The response to a request of the type `T`, the first of a fresh stream. Nothing was told before, so it is all that the client
+// sees, and what was told needn't be kept.
 fn respond<T: ResourceType>(
     alloc: Global,
     replica: u16,
     catalogue: &Published<T>,
     request: &DiscoveryRequest,
 ) -> Result<Option<SotwDraft>, Refusal>
-    requires { IsCatalogue catalogue.now.entries }
     ensures given { IfOk result
         (λ o. option_map message_of o ≡ response_to replica T.TYPE catalogue.now request.now) }
     ensures refused { IfErr result (λ e. e ≡ Refusal.OutOfMemory) }
 {
-    let mut session = Session::new(alloc, cluster_of(alloc, request)?);
-    session.take(alloc, request)?;
-    session.poll(alloc, replica, catalogue, &mut Nonces::new())
+    let cluster = cluster_of(alloc, request)?;
+    let interest = Interest::of_list(alloc, &request.resource_names, cluster)?;
+    let held = catalogue.catalogue();
+    let shown = held.content(alloc, &interest)?;
+    if is_answered(&shown) {
+        let draft = first_response(alloc, replica, held.changes(), &interest, &shown)?;
+        return Ok(Some(draft));
+    }
+    Ok(None)
+}
+
+// Whether a client that sees these is answered: of a complete type in any case, of an incomplete one where it sees something.
+fn is_answered<T: ResourceType>(shown: &[&Write<T>]) -> bool
+    ensures { result ≡ ((row T.TYPE).is_complete || not (length shown.now == 0)) }
+{
+    T::TYPE.is_complete() || !shown.is_empty()
+}
+
+// The first response of a stream, to a client that sees these.
+fn first_response<T: ResourceType>(
+    alloc: Global,
+    replica: u16,
+    changes: u64,
+    interest: &Interest<T>,
+    shown: &[&Write<T>],
+) -> Result<SotwDraft, Refusal>
+    ensures made { IfOk result
+        (λ d. message_of d ≡ response_with replica T.TYPE changes interest.now (map (λ w. w.now) shown.now)) }
+    ensures refused { IfErr result (λ e. e ≡ Refusal.OutOfMemory) }
+{
+    let version = interest_version(alloc, replica, changes, interest)?;
+    let nonce = nonce_text(alloc, 1)?;
+    let bodies = texts_of(alloc, shown)?;
+    Ok(SotwDraft::new(T::TYPE, version, nonce, bodies))
 }

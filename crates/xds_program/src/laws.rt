@@ -1,5 +1,5 @@
-//! What the words are, as statements that the prover checks. The functions do nothing.
-ghost use Rattle.xds_program.specs.Laws.{AnswerWordsAsk, AskOneTask, CheckWordsAsk, FaultlessWordsAsk, PlayWordsAsk};
+//! What the words and the answers are, as statements that the prover checks. The functions do nothing.
+ghost use Rattle.xds_program.specs.Laws.{AnswersAreFirstPolls, AnswerWordsAsk, AskOneTask, CheckWordsAsk, FaultlessWordsAsk, PlayWordsAsk};
 
 /// Words ask for one task at most; and of the words that name `answer`, `play` or `check`, `clap` finds nothing wrong
 /// exactly with those that ask for one.
@@ -13,4 +13,9 @@ pub fn plain_words_ask()
     ensures answer { AnswerWordsAsk }
     ensures play { PlayWordsAsk }
     ensures check { CheckWordsAsk }
+{}
+
+/// An answer is what a session's first poll gives, once it took the request.
+pub fn answers_are_first_polls()
+    ensures { AnswersAreFirstPolls }
 {}

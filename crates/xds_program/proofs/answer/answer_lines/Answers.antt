@@ -2,9 +2,6 @@ use Rattle.std.proofs.lemmas.Result.{IfOk-weaker, IfErr-weaker}
 use Rattle.xds_program.proofs.Reading.{no_memory_at}
 use Rattle.xds_program.proofs.answer.answer_lines.Goals as goal
 
-pub answer_gathered-requires : goal.answer_gathered-requires
-answer_gathered-requires c = c.in-Ok.ensures.gathered.named
-
 pub returns-in-Ok-clause-answered : goal.returns-in-Ok-clause-answered
 returns-in-Ok-clause-answered c = IfOk-weaker c.answer_gathered.result _ _ (λ output told. c.in-Ok.ensures.gathered.answers c.args.replica output.items told) c.answer_gathered.ensures.answered
 

@@ -4,9 +4,6 @@ use Rattle.xds_program.specs.Answers.{answer_text}
 use Rattle.xds_program.proofs.Reading.{no_memory_at}
 use Rattle.xds_program.proofs.answer.draft_answer.Goals as goal
 
-pub draft_gathered-requires : goal.draft_gathered-requires
-draft_gathered-requires c = c.in-Ok.ensures.gathered.named
-
 pub returns-in-Ok-clause-answered : goal.returns-in-Ok-clause-answered
 returns-in-Ok-clause-answered c = IfOk-weaker c.draft_gathered.result _ _ (λ draft given. c.in-Ok.ensures.gathered.answers c.args.replica _ (ap answer_text given)) c.draft_gathered.ensures.given
 
