@@ -54,8 +54,8 @@ impl Wake {
     }
 }
 
-/// How many lanes an event that wakes all wakes at once. Each writer that is woken wakes one lane more, so that no more than these
-/// wait for the node's lock.
+/// How many lanes an event that wakes all wakes at once. Each writer that is woken wakes one lane more, so that not all of them
+/// ask for the node's lock at once.
 pub const WOKEN: usize = 8;
 
 fn lane_of(stream: u64) -> usize
