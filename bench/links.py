@@ -87,7 +87,7 @@ def check_link(target, page):
 @functools.cache
 def numbers():
     """The names of the numbers that a server shows."""
-    return set(re.findall(r'"(xds_\w+)"', open(f"{TOP}/crates/xds_commands/src/pages.rt").read()))
+    return set(re.findall(r'"(xds_\w+)"', open(f"{TOP}/crates/xds_monitor/src/pages.rt").read()))
 
 
 def check_text(text):

@@ -12,25 +12,16 @@ use Rattle.xds_resource.specs.declared.refusal.Refusal.{Refusal}
 use Rattle.xds_resource.specs.declared.refusal.Refusal.TheVariants.{OutOfMemory, Device}
 use Rattle.xds_world.specs.Lines.{feed, pieces}
 use Rattle.xds_commands.specs.declared.change.Change.{Change}
-use Rattle.xds_commands.specs.declared.ending.End.{End}
-use Rattle.xds_commands.specs.declared.ending.End.TheVariants.{Line, Refused}
+use Rattle.xds_monitor.specs.declared.ending.End.{End}
+use Rattle.xds_monitor.specs.declared.ending.End.TheVariants.{Line, Refused}
 use Rattle.xds_commands.specs.Changes.{Written, change_of, change_in}
 use Rattle.xds_commands.specs.Handing.{AllHanded, line_after, behind, HandsLast, TakesAll, TakesUpTo, StopsInput, TakesInput}
 use Rattle.xds_commands.specs.Inputs.{brings, is_wrong, AreTaken, AreRefused, AreEnded, Takes}
+use Rattle.xds_monitor.proofs.Pieces.{first_piece}
 use Rattle.xds_commands.proofs.Changing.{good_line}
 use Rattle.xds_commands.proofs.Takings.{line_more, why_of}
 
 -- ---- bytes behind bytes
-
-first_of : (t : Bool) (b : ℕ) (ps : List (List ℕ)) → ((o : List ℕ) × (os : List (List ℕ)) × (ps ≡ o ∷ os))
-    → (o : List ℕ) × (os : List (List ℕ)) × (cond t ([] ∷ ps) (onto_first b ps) ≡ o ∷ os)
-first_of true b ps there = ([], ps, refl)
-first_of false b ps (o, os, is) = (b ∷ o, os, ap (onto_first b) is)
-
--- there is a piece at least
-pub first_piece : (m : ℕ) (bytes : List ℕ) → (o : List ℕ) × (os : List (List ℕ)) × (pieces m bytes ≡ o ∷ os)
-first_piece m [] = ([], [], refl)
-first_piece m (b ∷ bytes) = first_of (b == m) b (pieces m bytes) (first_piece m bytes)
 
 alone : (ps : List (List ℕ)) (h : List ℕ) (further : List ℕ → List (List ℕ)) (first : List (List ℕ)) → first ≡ further [] → [] ∷ [] ≡ ps ++ h ∷ [] → first ≡ ps ++ further h
 alone [] h further first is e = let none : [] ≡ h = cc in is ∙ ap further none

@@ -14,8 +14,8 @@ use Rattle.xds_resource.specs.declared.refusal.Refusal.{Refusal}
 use Rattle.xds_resource.specs.declared.refusal.Refusal.TheVariants.{Device}
 use Rattle.xds_world.specs.Lines.{feed, pieces}
 use Rattle.xds_commands.specs.declared.change.Change.{Change}
-use Rattle.xds_commands.specs.declared.ending.End.{End}
-use Rattle.xds_commands.specs.declared.ending.End.TheVariants.{Streams, Stopped, Line, Refused}
+use Rattle.xds_monitor.specs.declared.ending.End.{End}
+use Rattle.xds_monitor.specs.declared.ending.End.TheVariants.{Streams, Stopped, Line, Refused}
 use Rattle.xds_commands.specs.Changes.{Written, change_of}
 use Rattle.xds_commands.specs.Inputs.{AreTaken, AreRefused, AreEnded}
 

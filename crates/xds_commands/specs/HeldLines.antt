@@ -7,9 +7,9 @@
 use Rattle.std.specs.Prelude.{◌≡◌, ◌⊎◌, ◌+◌, ℕ, List, ◌++◌, take, Bool, true, false, Option, Some, None, Result, Ok, Err}
 use Rattle.xds_resource.specs.declared.refusal.Refusal.TheVariants.{OutOfMemory}
 use Rattle.xds_commands.specs.declared.change.Change.{Change}
-use Rattle.xds_commands.specs.declared.fault.Fault.{Fault}
+use Rattle.xds_monitor.specs.declared.fault.Fault.{Fault}
 use Rattle.xds_commands.specs.declared.kept.Said.{Said}
-use Rattle.xds_commands.specs.Causes.{IsFaultOf}
+use Rattle.xds_monitor.specs.Causes.{IsFaultOf}
 use Rattle.xds_commands.specs.Changes.{most_line, change_in, change_of}
 use Rattle.xds_commands.specs.Handing.{line_after}
 

@@ -17,9 +17,9 @@ use Rattle.xds_resource.specs.declared.refusal.Refusal.{Refusal}
 use Rattle.xds_resource.specs.declared.refusal.Refusal.TheVariants.{Device, OutOfMemory}
 use Rattle.xds_world.specs.Lines.{feed, pieces}
 use Rattle.xds_commands.specs.declared.change.Change.{Change}
-use Rattle.xds_commands.specs.declared.ending.End.{End}
-use Rattle.xds_commands.specs.declared.ending.End.TheVariants.{Refused}
-use Rattle.xds_commands.specs.declared.fault.Fault.{Fault}
+use Rattle.xds_monitor.specs.declared.ending.End.{End}
+use Rattle.xds_monitor.specs.declared.ending.End.TheVariants.{Refused}
+use Rattle.xds_monitor.specs.declared.fault.Fault.{Fault}
 use Rattle.xds_commands.specs.declared.kept.Kept.{Kept}
 use Rattle.xds_commands.specs.declared.kept.Said.{Said}
 use Rattle.xds_commands.specs.Changes.{Written, change_in, change_of}

@@ -3,7 +3,7 @@
 --     limits_of    what the streams of a replica may be then
 use Rattle.std.specs.Prelude.{Bool}
 use Rattle.xds_program.specs.declared.tasks.ServeTask.{ServeTask}
-use Rattle.xds_commands.specs.declared.lookout.Limits.{Limits}
+use Rattle.xds_monitor.specs.declared.lookout.Limits.{Limits}
 use Rattle.xds_commands.specs.declared.server.Serving.{Serving}
 
 -- what the words ask of a server, where its error output is a terminal or isn't

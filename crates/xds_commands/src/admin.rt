@@ -2,19 +2,16 @@
 ghost use Rattle.std.specs.Prelude.{◌≡◌, option_map};
 ghost use Rattle.xds_commands.specs.Routes.{found_at, routed};
 
-use crate::cause::Cause;
 use crate::change::Change;
-use crate::ending::{End, Ending};
-use crate::fault::Fault;
 use crate::kept::{Kept, Said};
-use crate::lookout::Lookout;
-use crate::note::{refused_line, stamp_line};
-use crate::order::{Look, Order};
-use crate::pages::{Shown, numbers_text};
+use crate::order::Order;
 use crossbeam_channel::{Sender, unbounded};
 use std::alloc::Global;
 use std::sync::{Arc, Wait};
 use xds_http::{Page, Pages};
+use xds_monitor::{
+    Cause, End, Ending, Fault, Look, Lookout, Shown, numbers_text, refused_line, stamp_line,
+};
 use xds_resource::{Refusal, Stamp};
 use xds_world::lines::split_line;
 

@@ -1,10 +1,9 @@
 // The server's gates: one holds nobody up, and one keeps new frames from being begun once the server ends. They keep no segment: what is
 // cut of a replica that is recorded is written as it is cut.
-use crate::ending::Ending;
-use crate::served::Served;
 use std::sync::Wait;
 use std::sync::atomic::{AtomicBool, Ordering};
 use xds_core::{Event, Marks, Reply};
+use xds_monitor::{Ending, Served};
 use xds_node::{Due, Gate, Host, Place, Unrecorded};
 use xds_resource::Refusal;
 

@@ -4,16 +4,14 @@ ghost use Rattle.xds_commands.specs.Changes.{change_of};
 ghost use Rattle.xds_commands.specs.Inputs.{brought};
 ghost use Rattle.xds_commands.specs.Handing.{AllHanded, line_after, behind, HandsLast, TakesInput};
 
-use crate::cause::Cause;
 use crate::change::Change;
-use crate::ending::{End, Ending};
-use crate::fault::Fault;
 use crate::held::{Held, Taken};
 use crate::order::Order;
 use crossbeam_channel::Sender;
 use std::alloc::Global;
 use std::io::{ErrorKind, Read};
 use std::sync::Wait;
+use xds_monitor::{Cause, End, Ending, Fault};
 use xds_resource::Refusal;
 
 /// How many bytes are read at once, at most.

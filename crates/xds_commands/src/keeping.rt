@@ -3,8 +3,6 @@ ghost use Rattle.std.specs.Prelude.{◌≡◌};
 ghost use Rattle.xds_commands.specs.Changes.{change_of};
 ghost use Rattle.xds_commands.specs.Keeping.{HandsSaid, KeepsInput, KeepsPiece};
 
-use crate::ending::{End, Ending};
-use crate::fault::Fault;
 use crate::input::{Hands, Replicas};
 use crate::kept::{Kept, Said};
 use crate::order::Order;
@@ -12,6 +10,7 @@ use crossbeam_channel::Sender;
 use std::alloc::Global;
 use std::io::{ErrorKind, Read};
 use std::sync::Wait;
+use xds_monitor::{End, Ending, Fault};
 use xds_resource::Refusal;
 use xds_world::lines::split_line;
 

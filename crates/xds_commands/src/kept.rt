@@ -1,14 +1,13 @@
 // The lines of an input whose refused lines are passed over, as they come in pieces.
 ghost use Rattle.std.specs.Prelude.{◌≡◌, ◌≤◌, ◌+◌, length, [], ◌++◌, false};
-ghost use Rattle.xds_commands.specs.Causes.{IsFaultOf};
+ghost use Rattle.xds_monitor.specs.Causes.{IsFaultOf};
 ghost use Rattle.xds_commands.specs.Changes.{most_line};
 ghost use Rattle.xds_commands.specs.HeldLines.{HasHeld, IsSaid, next_line};
 
-use crate::cause::cause_of;
 use crate::change::{Change, MAX_LINE, read_change};
-use crate::fault::Fault;
 use std::alloc::Global;
 use std::mem;
+use xds_monitor::{Fault, cause_of};
 use xds_resource::Refusal;
 
 /// What a line says, which has this number.

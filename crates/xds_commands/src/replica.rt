@@ -3,12 +3,9 @@ ghost use Rattle.std.specs.Prelude.{◌≡◌};
 ghost use Rattle.std.specs.Result.{result_err};
 ghost use Rattle.xds_commands.specs.Messages.{refusal_in};
 
-use crate::fault::Fault;
 use crate::gate::NoGate;
-use crate::lookout::Lookout;
 use crate::machine::{Machine, Runtime};
-use crate::order::{Look, Order, look_in, stamp_in};
-use crate::served::Served;
+use crate::order::{Order, stamp_in};
 use crate::streams::serve_streams;
 use crate::wires::{Bound, both};
 use crate::workers::{Shared, place, share, shares, start_worker};
@@ -19,6 +16,7 @@ use std::sync::{Arc, Wait};
 use xds_core::{Event, Marks, Reply};
 use xds_exchange::{Incoming, Outgoing};
 use xds_http::{Replies, serve_on};
+use xds_monitor::{Fault, Look, Lookout, Served, look_in};
 use xds_node::{Host, Parcel, Receipt, called, exchange_in, exchange_out};
 use xds_resource::{Refusal, Stamp};
 

@@ -1,16 +1,15 @@
 // What a server tells on its error output.
 ghost use Rattle.std.specs.Prelude.{◌≡◌, ◌+◌, string_bytes, IfOk};
-ghost use Rattle.xds_commands.specs.Messages.{admin_line, fault_line, refusal_line, port_fault_text, port_line, replica_line, TellsLine, TellsText};
+ghost use Rattle.xds_monitor.specs.Endings.{fault_line, refusal_line, TellsLine, TellsText};
+ghost use Rattle.xds_commands.specs.Messages.{admin_line, port_fault_text, port_line, replica_line};
 ghost use Rattle.xds_frames.specs.Devices.{seen};
-ghost use Rattle.xds_commands.specs.Recordings.{tape_line};
+ghost use Rattle.xds_monitor.specs.Recordings.{tape_line};
 
-use crate::ending::{End, Ending, Next};
-use crate::note::fault_line;
-use crate::tapes::{TapeFault, tape_line};
 use std::alloc::Global;
 use std::io::{ErrorKind, Write};
 use std::sync::Wait;
 use xds_frames::{Counted, write_whole};
+use xds_monitor::{End, Ending, Next, TapeFault, fault_line, tape_line};
 use xds_program::run;
 use xds_resource::Refusal;
 

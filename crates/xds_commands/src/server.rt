@@ -1,23 +1,17 @@
 // A server of some replicas, from its first line to its end.
 ghost use Rattle.std.specs.Prelude.{◌≡◌, ◌≤◌};
 ghost use Rattle.xds_frames.specs.Devices.{seen};
-ghost use Rattle.xds_commands.specs.Messages.{TellsEnd, status_of};
+ghost use Rattle.xds_monitor.specs.Endings.{TellsEnd, status_of};
 ghost use Rattle.xds_commands.specs.Servings.{limits_of};
 
 use crate::admin::{Admin, Reached};
-use crate::ending::{End, Ending, Telling};
-use crate::log_event::LogEvent;
-use crate::lookout::{Limits, Lookout};
 use crate::machine::{Machine, Runtime};
-use crate::note::Note;
 use crate::order::Order;
-use crate::recorder::Tape;
 use crate::replica::{Sends, Sockets, Takes};
 use crate::serve_telling::{
     PortFault, tell, tell_admin, tell_line, tell_port, tell_replicas, tell_tape, tell_until_end,
 };
 use crate::starting::{DRAIN_SECONDS, start_admin, start_input, start_replica};
-use crate::tapes::{Unrecordable, tapes_in};
 use crate::wires::{Links, Wires, both, crossed, wired};
 use crate::workers::share;
 use crossbeam_channel::{Receiver, Sender, bounded};
@@ -31,6 +25,9 @@ use std::thread;
 use std::time::{Clock, Duration};
 use xds_exchange::link;
 use xds_frames::Counted;
+use xds_monitor::{
+    End, Ending, Limits, LogEvent, Lookout, Note, Tape, Telling, Unrecordable, tapes_in,
+};
 use xds_resource::Refusal;
 
 /// What a server is asked for.

@@ -2,19 +2,11 @@
 ghost use Rattle.std.specs.Prelude.{◌≡◌, ◌≤◌};
 
 use crate::admin::Admin;
-use crate::ending::{End, Ending};
 use crate::input::take_input;
 use crate::keeping::keep_input;
-use crate::lookout::Lookout;
 use crate::machine::{Machine, Runtime};
 use crate::order::Order;
-use crate::recorded::Recorded;
-use crate::recorder::Tape;
-use crate::recording::Piece;
 use crate::replica::{Replica, run_replica};
-use crate::served::Served;
-use crate::watched::Watched;
-use crate::weighed::Weighed;
 use crate::wires::{both, started};
 use crate::workers::{share, shares, start_worker};
 use crossbeam_channel::Sender;
@@ -26,6 +18,7 @@ use std::sync::{Arc, Wait};
 use std::thread;
 use std::time::{Clock, Duration};
 use xds_http::{Replies, serve_pages};
+use xds_monitor::{End, Ending, Lookout, Piece, Recorded, Served, Tape, Watched, Weighed};
 use xds_node::{Host, Line, Node, NodeName, Opened};
 use xds_resource::Refusal;
 

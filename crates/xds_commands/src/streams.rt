@@ -1,9 +1,6 @@
 // The streams of a replica: each connection has a thread that reads its requests and one that writes its responses.
-use crate::ending::Ending;
 use crate::gate::{Gated, NoGate, WriterGate};
 use crate::idle::IdleReader;
-use crate::lookout::Lookout;
-use crate::served::Served;
 use crate::workers::{Shared, shares, start_worker};
 use std::alloc::Global;
 use std::net::{Shutdown, TcpListener, TcpStream};
@@ -13,6 +10,7 @@ use std::thread::Threads;
 use std::time::{Clock, Duration};
 use xds_core::{Event, Reply};
 use xds_frames::Counted;
+use xds_monitor::{Ending, Lookout, Served};
 use xds_node::{called, serve_reader, serve_writer};
 use xds_resource::Refusal;
 

@@ -1,9 +1,9 @@
 // The threads that a server starts: each owns what it works on.
-use crate::served::Served;
 use crate::wires::started;
 use std::sync::{Arc, Wait};
 use std::thread;
 use std::thread::Threads;
+use xds_monitor::Served;
 use xds_node::Host;
 use xds_resource::Refusal;
 use xds_rest::Posts;

@@ -3,7 +3,7 @@ use crate::serve::clients::connected;
 use crate::serve::servers::{comes_to, ends_well, serving, started};
 use std::net::{Ipv4Addr, SocketAddrV4, TcpListener};
 use std::test::Fail;
-use xds_commands::{End, Ending, Telling};
+use xds_monitor::{End, Ending, Telling};
 use xds_resource::Refusal;
 
 #[test]

@@ -6,7 +6,8 @@ use std::io;
 use std::io::Read;
 use std::test::Fail;
 use xds_cases::cases::{Outcome, hold};
-use xds_commands::{Kept, MAX_LINE, Said, cause_of};
+use xds_commands::{Kept, MAX_LINE, Said};
+use xds_monitor::cause_of;
 
 // What is wrong of a line.
 struct Wrong;

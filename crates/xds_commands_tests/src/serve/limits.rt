@@ -8,7 +8,8 @@ use std::test::Fail;
 use std::thread;
 use std::time::Duration;
 use xds_cases::cases::{Outcome, hold};
-use xds_commands::{Doors, FirstFrame, Serving};
+use xds_commands::{FirstFrame, Serving};
+use xds_monitor::Doors;
 
 const ASKS_FOR_CLUSTERS: &str =
     "{\"typeUrl\":\"type.googleapis.com/envoy.config.cluster.v3.Cluster\"}";

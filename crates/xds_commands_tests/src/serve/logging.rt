@@ -10,7 +10,8 @@ use std::str;
 use std::test::Fail;
 use std::thread::JoinHandle;
 use xds_cases::cases::{Outcome, hold};
-use xds_commands::{Runtime, excerpt};
+use xds_commands::Runtime;
+use xds_monitor::excerpt;
 
 const ASKS_AS_C: &str = "{\"node\":{\"cluster\":\"g\",\"id\":\"c\"},\
      \"typeUrl\":\"type.googleapis.com/envoy.config.cluster.v3.Cluster\"}";

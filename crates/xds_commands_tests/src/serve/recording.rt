@@ -16,8 +16,9 @@ use std::thread::JoinHandle;
 use std::time::{SystemTime, UNIX_EPOCH};
 use std::{fs, io, thread};
 use xds_cases::cases::replaced;
-use xds_commands::{Piece, Recording, Reel, Runtime, Seals};
+use xds_commands::Runtime;
 use xds_core::Event;
+use xds_monitor::{Piece, Recording, Reel, Seals};
 use xds_node::{Host, Line, Node, NodeName, Opened, Segment};
 use xds_resource::{AnyResource, Groups, Refusal};
 

@@ -5,9 +5,9 @@ use std::alloc::{AllocGlobal, Global};
 use std::marker::Brand;
 use std::sync::Wait;
 use std::test::Fail;
-use xds_commands::{Served, Weighed};
 use xds_core::{Event, Request};
 use xds_message::DiscoveryRequest;
+use xds_monitor::{Served, Weighed};
 use xds_node::{Host, Line, Node, NodeName, Opened};
 use xds_resource::{AnyResource, Groups, Refusal};
 

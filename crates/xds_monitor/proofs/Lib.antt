@@ -1,0 +1,3 @@
+pub mod Pieces
+mod Causing
+mod Responding

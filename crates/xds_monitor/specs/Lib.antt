@@ -1,0 +1,9 @@
+pub mod Boards
+pub mod Causes
+pub mod Doorways
+pub mod Endings
+pub mod Logging
+pub mod Metrics
+pub mod Notes
+pub mod Recordings
+pub mod Responses

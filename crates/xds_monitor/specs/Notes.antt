@@ -1,0 +1,42 @@
+-- What a server tells on its error output while it serves. This project's own.
+--     caused_line    the line of a line of the input that is refused, with what is wrong of it
+--     refused_by     the same, or without that, where there is none
+--     refused_line   the same, or without that, where it isn't known
+--     note_line      the line of a note
+--     stamp_line     the line of a line that was made a write, which has this stamp
+use Rattle.std.specs.Prelude.{ℕ, List, ◌++◌, Option, Some, None, codes, decimal}
+use Rattle.xds_resource.specs.declared.refusal.Refusal.{Refusal}
+use Rattle.xds_resource.specs.Refusals.{number_of, name_of}
+use Rattle.xds_monitor.specs.declared.cause.Cause.{Cause}
+use Rattle.xds_monitor.specs.declared.fault.Fault.{Fault}
+use Rattle.xds_monitor.specs.declared.note.Note.{Note}
+use Rattle.xds_monitor.specs.declared.note.Note.TheVariants.{Refused, Event, Missed, RecordingEnded}
+use Rattle.xds_monitor.specs.Causes.{cause_text}
+use Rattle.xds_monitor.specs.Logging.{event_line}
+use Rattle.xds_monitor.specs.Endings.{fault_line}
+use Rattle.xds_monitor.specs.Recordings.{recording_line}
+
+-- the line of a line of the input that is refused, with what is wrong of it
+abbrev pub caused_line : ℕ → Refusal → Cause → List ℕ
+caused_line line refusal cause =
+    codes "line " ++ (decimal line ++ (codes ": " ++ (decimal (number_of refusal) ++ (codes " " ++ (name_of refusal ++ (codes ": " ++ (cause_text cause ++ codes "\n")))))))
+
+abbrev pub refused_by : ℕ → Refusal → Option Cause → List ℕ
+refused_by line refusal None = fault_line line refusal
+refused_by line refusal (Some cause) = caused_line line refusal cause
+
+-- the same, or without that, where it isn't known
+abbrev pub refused_line : ℕ → Fault → List ℕ
+refused_line line fault = refused_by line fault.refusal fault.cause
+
+-- the line of a note
+abbrev pub note_line : Note → List ℕ
+note_line (Refused line fault) = refused_line line fault
+note_line (Event event) = event_line event
+note_line (Missed count) = decimal count ++ codes " lines are left out\n"
+note_line (RecordingEnded replica refusal) = recording_line replica refusal
+
+-- the line of a line that was made a write, which has this stamp
+abbrev pub stamp_line : ℕ → ℕ → ℕ → List ℕ
+stamp_line line counter writer =
+    codes "line " ++ (decimal line ++ (codes ": " ++ (decimal counter ++ (codes "-" ++ (decimal writer ++ codes "\n")))))

@@ -1,0 +1,41 @@
+-- How a replica's trace is recorded. This project's own.
+--     next_after       the number of the record that comes behind so many
+--     ended_by         how something ended: what it ended by first stays
+--     tape_fault_text  what is told of why a file can't be made
+--     tape_path        the file of a replica's trace
+--     tape_line        the line of a file that can't be made
+--     recording_line   the line of a recording that ended by a refusal
+use Rattle.std.specs.Prelude.{ℕ, ◌+◌, ◌-◌, ◌^◌, List, ◌++◌, Option, Some, None, codes, decimal, min}
+use Rattle.xds_resource.specs.declared.refusal.Refusal.{Refusal}
+use Rattle.xds_resource.specs.Refusals.{number_of, name_of}
+use Rattle.xds_monitor.specs.declared.tapes.TapeFault.{TapeFault}
+use Rattle.xds_monitor.specs.declared.tapes.TapeFault.TheVariants.{NoFolder, NotAllowed, IsThere, Other}
+
+-- the number of the record that comes behind so many from this one on, as far as such numbers go
+abbrev pub next_after : ℕ → ℕ → ℕ
+next_after number count = min (number + count) (2 ^ 64 - 1)
+
+-- how something ended: what it ended by first stays
+abbrev pub ended_by : {X : Type 0} → Option X → X → Option X
+ended_by None end = Some end
+ended_by (Some first) end = Some first
+
+-- what is told of why a file can't be made
+abbrev pub tape_fault_text : TapeFault → List ℕ
+tape_fault_text NoFolder = codes ": no such folder"
+tape_fault_text NotAllowed = codes ": not allowed"
+tape_fault_text IsThere = codes ": it is there already"
+tape_fault_text Other = codes ""
+
+-- the file of a replica's trace
+abbrev pub tape_path : List ℕ → ℕ → List ℕ
+tape_path folder replica = folder ++ (codes "/replica-" ++ (decimal replica ++ codes ".trace"))
+
+-- the line of a file that can't be made
+abbrev pub tape_line : List ℕ → ℕ → TapeFault → List ℕ
+tape_line folder replica fault = tape_path folder replica ++ (codes ": 19 Device" ++ (tape_fault_text fault ++ codes "\n"))
+
+-- the line of a recording that ended by a refusal
+abbrev pub recording_line : ℕ → Refusal → List ℕ
+recording_line replica refusal =
+    codes "recording of replica " ++ (decimal replica ++ (codes " ended: " ++ (decimal (number_of refusal) ++ (codes " " ++ (name_of refusal ++ codes "\n")))))

@@ -1,0 +1,331 @@
+// How a server ends, and what is told until then: by whichever thread comes to it, and waited for by the first thread.
+ghost use Rattle.std.specs.Prelude.{◌≡◌};
+
+use crate::fault::Fault;
+use crate::log_event::LogEvent;
+use crate::note::Note;
+use std::alloc::Global;
+use std::collections::VecDeque;
+use std::sync::{Condvar, Mutex, MutexGuard, Wait};
+use std::time::{Clock, Duration, Instant};
+use xds_resource::Refusal;
+
+/// Why a server ends.
+#[derive(Clone, Copy, Debug, PartialEq, Eq)]
+pub enum End {
+    /// As many streams have ended as were asked for.
+    Streams,
+    /// An operator stopped it.
+    Stopped,
+    /// A line of the input, counted from 1, is refused.
+    Line(u64, Refusal),
+    /// The server can't go on.
+    Refused(Refusal),
+}
+
+/// What a server tells while it serves.
+#[derive(Clone, Copy, Debug, PartialEq, Eq)]
+pub struct Telling {
+    /// Whether changes that are refused are told.
+    pub changes: bool,
+    /// Whether what an operator cares for is told.
+    pub events: bool,
+}
+
+/// As many notes as wait to be told, at most.
+pub const MOST_NOTES: usize = 1_024;
+
+/// What comes next of a server.
+#[derive(Drop)]
+pub enum Next {
+    /// Something is to be told.
+    Note(Note),
+    /// It ends.
+    End(End),
+}
+
+// What is known of the end, and what is still to be told.
+struct State {
+    // How many streams are still to end, where that was said.
+    left: Option<u16>,
+    end: Option<End>,
+    notes: VecDeque<Note>,
+    // How many notes had no room.
+    missed: u64,
+    // How many frames of responses are being written.
+    writing: u64,
+}
+
+// Written out: docs/PROVING.md, "Drops".
+impl Drop for State {
+    fn drop(self) {
+        let State {
+            left: _,
+            end: _,
+            notes: _,
+            missed: _,
+            writing: _,
+        } = self;
+    }
+}
+
+impl State {
+    ghost use Rattle.std.specs.Prelude.{◌≡◌, ◌-◌};
+    ghost use Rattle.std.specs.Option.{option_map};
+    ghost use Rattle.xds_monitor.specs.Endings.{first_end, counted_end};
+
+    // A stream more has ended.
+    fn count(&mut self)
+        ensures left { self.new.left ≡ option_map (λ n. n - 1) self.old.left }
+        ensures end { self.new.end ≡ counted_end self.old.left self.old.end }
+    {
+        if let Some(left) = self.left {
+            let left = left.saturating_sub(1);
+            self.left = Some(left);
+            if left == 0 {
+                self.tell(End::Streams);
+            }
+        }
+    }
+
+    // It ends so, unless it ended before.
+    fn tell(&mut self, end: End)
+        ensures left { self.new.left ≡ self.old.left }
+        ensures end { self.new.end ≡ first_end self.old.end end }
+    {
+        if self.end.is_none() {
+            self.end = Some(end);
+        }
+    }
+
+    // A note more is to be told. Where there is no memory for it, it counts as missed.
+    fn push(&mut self, note: Note)
+        ensures { (self.new.left ≡ self.old.left) × (self.new.end ≡ self.old.end) }
+    {
+        if self.notes.push_back(note).is_err() {
+            self.miss();
+        }
+    }
+
+    // A note isn't told.
+    fn miss(&mut self)
+        ensures { (self.new.left ≡ self.old.left) × (self.new.end ≡ self.old.end) }
+    {
+        self.missed = self.missed.saturating_add(1);
+    }
+
+    // What comes next, if something does: what is to be told comes before the end.
+    fn next(&mut self) -> Option<Next>
+        ensures { (self.new.left ≡ self.old.left) × (self.new.end ≡ self.old.end) }
+    {
+        if let Some(note) = self.notes.pop_front() {
+            return Some(Next::Note(note));
+        }
+        if self.missed > 0 {
+            let count = self.missed;
+            self.missed = 0;
+            return Some(Next::Note(Note::Missed(count)));
+        }
+        match self.end {
+            Some(end) => Some(Next::End(end)),
+            None => None,
+        }
+    }
+}
+
+/// What threads tell of a server, up to its end.
+pub struct Ending {
+    state: Mutex<State>,
+    // Something was told, or the server ends.
+    told: Condvar,
+    // There is room for notes.
+    room: Condvar,
+    // No frame is being written.
+    quiet: Condvar,
+    telling: Telling,
+}
+
+// Written out: docs/PROVING.md, "Drops".
+impl Drop for Ending {
+    fn drop(self) {
+        let Ending {
+            state: _,
+            told: _,
+            room: _,
+            quiet: _,
+            telling: _,
+        } = self;
+    }
+}
+
+impl Ending {
+    /// The server ends after so many streams, where that is said, and tells this until then.
+    pub fn after(alloc: Global, streams: Option<u16>, telling: Telling) -> Ending
+        ensures { result.telling ≡ telling }
+    {
+        Ending {
+            state: Mutex::new(State {
+                left: streams,
+                end: None,
+                notes: VecDeque::new(alloc),
+                missed: 0,
+                writing: 0,
+            }),
+            told: Condvar::new(),
+            room: Condvar::new(),
+            quiet: Condvar::new(),
+            telling,
+        }
+    }
+
+    /// A stream has ended. It may wait for the lock.
+    pub fn stream_ended<R: Wait>(&self, rt: &R) {
+        let mut state = self.state.lock(rt);
+        state.count();
+        drop(state);
+        self.told.notify_all();
+        self.room.notify_all();
+    }
+
+    /// The server ends so, unless it ended before. It may wait for the lock.
+    pub fn end<R: Wait>(&self, rt: &R, end: End) {
+        let mut state = self.state.lock(rt);
+        state.tell(end);
+        drop(state);
+        self.told.notify_all();
+        self.room.notify_all();
+    }
+
+    /// Tells that a line of the input, or the change that it says, is refused, where such are told. It waits until there is room
+    /// for a note more, unless the server ends.
+    pub fn refuse<R: Wait>(&self, rt: &R, line: u64, fault: Fault) {
+        if self.telling.changes {
+            self.note(rt, Note::Refused(line, fault));
+        }
+    }
+
+    /// Whether what an operator cares for is told.
+    pub fn logs(&self) -> bool
+        ensures { result ≡ self.now.telling.events }
+    {
+        self.telling.events
+    }
+
+    /// Tells something that an operator cares for, where such is told. Where there is no room it counts as left out.
+    pub fn log<R: Wait>(&self, rt: &R, event: LogEvent) {
+        if !self.telling.events {
+            drop(event);
+            return;
+        }
+        let mut state = self.state.lock(rt);
+        if state.notes.len() < MOST_NOTES {
+            state.push(Note::Event(event));
+        } else {
+            drop(event);
+            state.miss();
+        }
+        drop(state);
+        self.told.notify_all();
+    }
+
+    /// Tells something. It waits until there is room for a note more, unless the server ends.
+    pub fn note<R: Wait>(&self, rt: &R, note: Note) {
+        let mut state = self.room_in(rt);
+        state.push(note);
+        drop(state);
+        self.told.notify_all();
+    }
+
+    /// Tells something that there is only once in a while. It waits for no room.
+    pub fn announce<R: Wait>(&self, rt: &R, note: Note) {
+        let mut state = self.state.lock(rt);
+        state.push(note);
+        drop(state);
+        self.told.notify_all();
+    }
+
+    // The state once there is room for a note more, or the server ends.
+    fn room_in<'a, R: Wait>(&'a self, rt: &R) -> MutexGuard<'a, State> {
+        let mut state = self.state.lock(rt);
+        for _ in rt.forever() {
+            if state.notes.len() < MOST_NOTES || state.end.is_some() {
+                return state;
+            }
+            state = self.room.wait(rt, state);
+        }
+        unreachable!()
+    }
+
+    /// Waits for what comes next: what is to be told, in order, and behind all of it the end, which stays.
+    pub fn next<R: Wait>(&self, rt: &R) -> Next {
+        let mut state = self.state.lock(rt);
+        for _ in rt.forever() {
+            if let Some(next) = state.next() {
+                drop(state);
+                self.room.notify_all();
+                return next;
+            }
+            state = self.told.wait(rt, state);
+        }
+        unreachable!()
+    }
+
+    /// Whether the server ends.
+    pub fn has_come<R: Wait>(&self, rt: &R) -> bool {
+        self.state.lock(rt).end.is_some()
+    }
+
+    /// A frame of a response is begun. Once the server ends it waits for ever.
+    pub fn begin_frame<R: Wait>(&self, rt: &R) {
+        let mut state = self.state.lock(rt);
+        for _ in rt.forever() {
+            if state.end.is_none() {
+                state.writing = state.writing.saturating_add(1);
+                return;
+            }
+            state = self.quiet.wait(rt, state);
+        }
+    }
+
+    /// A frame that was begun is written, or given up.
+    pub fn end_frame<R: Wait>(&self, rt: &R) {
+        let mut state = self.state.lock(rt);
+        state.writing = state.writing.saturating_sub(1);
+        drop(state);
+        self.quiet.notify_all();
+    }
+
+    /// Waits until no frame is being written, but no longer than this time.
+    pub fn drain<R: Wait + Clock>(&self, rt: &R, time: Duration) {
+        let Ok(begun) = Instant::now(rt) else {
+            return;
+        };
+        let mut state = self.state.lock(rt);
+        for _ in 0..u64::MAX {
+            if state.writing == 0 {
+                return;
+            }
+            let Ok(passed) = begun.elapsed(rt) else {
+                return;
+            };
+            let left = time.saturating_sub(passed);
+            if left.is_zero() {
+                return;
+            }
+            let (next, _) = self.quiet.wait_timeout(rt, state, left);
+            state = next;
+        }
+    }
+
+    /// Waits for the end.
+    pub fn wait<R: Wait>(&self, rt: &R) -> End {
+        let mut state = self.state.lock(rt);
+        for _ in rt.forever() {
+            if let Some(end) = state.end {
+                return end;
+            }
+            state = self.told.wait(rt, state);
+        }
+        unreachable!()
+    }
+}
