@@ -3,6 +3,7 @@ mod Grammars
 mod Places
 mod Members
 pub mod Lists
+mod Firsts
 pub mod OneField
 pub mod FieldsReadBack
 pub mod VersionLemmas

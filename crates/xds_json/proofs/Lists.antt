@@ -16,6 +16,24 @@ no_texts (v ∷ vs) i d below other [] e = cc
 no_texts (v ∷ vs) zero d below other (t ∷ ts) e = cc
 no_texts (v ∷ vs) (suc i) d below other (t ∷ ts) e = no_texts vs i d (omega arith) other ts cc
 
+some_text : (t : List ℕ) → as_str (string t) ≡ None → ⊥
+some_text t e = cc
+
+-- an item in the middle of texts is a text
+pub text_in_middle : (done : List (List ℕ)) (d : Data) (rest : List Data) (texts : List (List ℕ)) → map string done ++ d ∷ rest ≡ map string texts → as_str d ≡ None → ⊥
+text_in_middle [] d rest [] e none = cc
+text_in_middle [] d rest (t ∷ ts) e none = some_text t (let is : string t ≡ d = cc in ap as_str is ∙ none)
+text_in_middle (x ∷ done) d rest [] e none = cc
+text_in_middle (x ∷ done) d rest (t ∷ ts) e none = text_in_middle done d rest ts (let same : map string done ++ d ∷ rest ≡ map string ts = cc in same) none
+
+pub as_str_is : (d : Data) (t : List ℕ) → Some t ≡ as_str d → string t ≡ d
+as_str_is null t e = cc
+as_str_is (boolean b) t e = cc
+as_str_is (number n) t e = cc
+as_str_is (string s) t e = cc
+as_str_is (array es) t e = cc
+as_str_is (object ms) t e = cc
+
 pub items_of-injective : (ds es : List Data) → items_of ds ≡ items_of es → ds ≡ es
 items_of-injective [] [] e = refl
 items_of-injective [] (y ∷ es) e = cc

@@ -2,7 +2,7 @@
 ghost use Rattle.std.specs.Prelude.{map as map_items, ◌≡◌, ◌≢◌, ℤ, map, option_map, string_bytes, IfOk, IfErr, OnOk, IfSome, IfNone, FitsSigned};
 ghost use Rattle.std.specs.Int.{w32};
 ghost use Rattle.serde_json.specs.Data.{Data, string};
-ghost use Rattle.serde_json.specs.Find.{get};
+ghost use Rattle.serde_json.specs.Find.{as_str, get};
 ghost use Rattle.serde_json.specs.View.{view, members_view};
 ghost use Rattle.xds_resource.specs.Fields.{field};
 ghost use Rattle.xds_resource.specs.declared.refusal.Refusal.TheVariants.{NotJson, OutOfMemory};
@@ -64,6 +64,32 @@ pub fn taken_field(value: Value, key: &str) -> Option<Value>
     }
 }
 
+// What a field holds, which moves out of the object.
+fn held_in(value: Value, camel: &str, proto: &str) -> Option<Value>
+    ensures { option_map view result ≡ field camel.now proto.now (view value) }
+{
+    match value {
+        Value::Object(mut members) => {
+            if members.contains_key(camel) {
+                members.remove(camel)
+            } else {
+                members.remove(proto)
+            }
+        }
+        _ => None,
+    }
+}
+
+// What a field is set to, which moves out of the object; none where it is absent or `null`.
+fn set_in(value: Value, camel: &str, proto: &str) -> Option<Value>
+    ensures { option_map view result ≡ set_value (field camel.now proto.now (view value)) }
+{
+    match held_in(value, camel, proto) {
+        Some(found) if !found.is_null() => Some(found),
+        _ => None,
+    }
+}
+
 /// A text field, empty where nothing is set. Refused by `BadMessage` where it is set to anything but a text, and by
 /// `OutOfMemory`.
 pub fn text_field(alloc: Global, value: &Value, camel: &str, proto: &str) -> Result<String, Refusal>
@@ -95,6 +121,49 @@ pub fn texts_field(
             None => Err(Refusal::BadMessage),
         },
         None => Ok(Vec::new(alloc)),
+    }
+}
+
+/// A field that is a list of texts, which move out of the object, empty where nothing is set. Refused by `BadMessage` where it
+/// is set to anything but a list of texts alone, and by `OutOfMemory`.
+pub fn taken_texts(
+    alloc: Global,
+    value: Value,
+    camel: &str,
+    proto: &str,
+) -> Result<Vec<String>, Refusal>
+    ensures { Reads (IsTexts (field camel.now proto.now (view value)))
+        (λ v. map string_bytes v.items) result }
+{
+    match set_in(value, camel, proto) {
+        Some(Value::Array(items)) => texts_in(alloc, items),
+        Some(_) => Err(Refusal::BadMessage),
+        None => Ok(Vec::new(alloc)),
+    }
+}
+
+// The texts of a list, which move out of it.
+fn texts_in(alloc: Global, items: Vec<Value>) -> Result<Vec<String>, Refusal>
+    ensures { Reads (λ texts. map view items.items ≡ map string texts)
+        (λ v. map string_bytes v.items) result }
+{
+    let mut texts = Vec::new(alloc);
+    for item in items {
+        let Some(text) = text_in(item) else {
+            return Err(Refusal::BadMessage);
+        };
+        texts.push(text)?;
+    }
+    Ok(texts)
+}
+
+// The text that a value is, which moves out of it.
+fn text_in(value: Value) -> Option<String>
+    ensures { option_map string_bytes result ≡ as_str (view value) }
+{
+    match value {
+        Value::String(text) => Some(text),
+        _ => None,
     }
 }
 

@@ -12,7 +12,7 @@ ghost use Rattle.xds_message.specs.Written.{request_object};
 use serde_json::{Map, Value};
 use std::alloc::Global;
 use std::marker::Model;
-use xds_json::fields::{copy_texts, put_text, put_texts, read_json, text_field, texts_field};
+use xds_json::fields::{copy_texts, put_text, put_texts, read_json, taken_texts, text_field};
 use xds_json::node::{Node, copy_node, node_field, put_node};
 use xds_json::status::{Status, copy_status, error_detail_field, put_error_detail};
 use xds_resource::Refusal;
@@ -92,7 +92,7 @@ impl DiscoveryRequest {
         ensures refused { IfErr result (λ e. Contains (NotJson ∷ BadMessage ∷ OutOfMemory ∷ []) e) }
     {
         let value = read_json(alloc, bytes)?;
-        request_of(alloc, &value)
+        request_of(alloc, value)
     }
 
     /// The compact text of the request's object.
@@ -138,18 +138,19 @@ impl DiscoveryRequest {
     }
 }
 
-fn request_of(alloc: Global, value: &Value) -> Result<DiscoveryRequest, Refusal>
-    ensures { Reads (SpellsRequest (view value.now)) (λ m. m) result }
+// The request of an object, which its names move out of.
+fn request_of(alloc: Global, value: Value) -> Result<DiscoveryRequest, Refusal>
+    ensures { Reads (SpellsRequest (view value)) (λ m. m) result }
 {
     if !value.is_object() {
         return Err(Refusal::BadMessage);
     }
     Ok(DiscoveryRequest {
-        version_info: text_field(alloc, value, "versionInfo", "version_info")?,
-        node: node_field(alloc, value)?,
-        resource_names: texts_field(alloc, value, "resourceNames", "resource_names")?,
-        type_url: text_field(alloc, value, "typeUrl", "type_url")?,
-        response_nonce: text_field(alloc, value, "responseNonce", "response_nonce")?,
-        error_detail: error_detail_field(alloc, value)?,
+        version_info: text_field(alloc, &value, "versionInfo", "version_info")?,
+        node: node_field(alloc, &value)?,
+        type_url: text_field(alloc, &value, "typeUrl", "type_url")?,
+        response_nonce: text_field(alloc, &value, "responseNonce", "response_nonce")?,
+        error_detail: error_detail_field(alloc, &value)?,
+        resource_names: taken_texts(alloc, value, "resourceNames", "resource_names")?,
     })
 }
