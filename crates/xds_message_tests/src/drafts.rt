@@ -71,7 +71,8 @@ fn stating(alloc: Global, bodies: Bodies) -> Result<SotwDraft, Refusal> {
     Ok(SotwDraft::new(TypeName::Cluster, version, nonce, bodies))
 }
 
-// What a draft of so many resources shows: the same, whether its list is made for many responses or not.
+// What a draft of so many resources shows: the same, whether its list is made for many responses or
+// not.
 fn stated(alloc: Global, count: u64) -> Result<String, Refusal> {
     let alone = sotw_shown(alloc, &stating(alloc, bodies_of(alloc, count)?)?)?;
     let shared = bodies_of(alloc, count)?.shared(alloc)?;
@@ -98,8 +99,8 @@ fn a_shared_list_is_one_piece(rt: HostRuntime) -> Result<(), Fail> {
     Ok(())
 }
 
-// A text that is written piece by piece through a block of so many bytes behind a first word, with its length, and whether one
-// byte less than that is known to be too few.
+// A text that is written piece by piece through a block of so many bytes behind a first word, with
+// its length, and whether one byte less than that is known to be too few.
 fn put_together(alloc: Global, text: &Pieces<'_>, room: usize) -> Result<String, Refusal> {
     let mut block = Vec::with_capacity(alloc, room)?;
     block.extend_from_slice(b"> ")?;
@@ -114,8 +115,8 @@ fn put_together(alloc: Global, text: &Pieces<'_>, room: usize) -> Result<String,
     Ok(format!(in alloc; "{length:?} {short} {written}")?)
 }
 
-// What a draft is put together as, through a small block and through a large one; its type and version; and what a copy of it
-// shows.
+// What a draft is put together as, through a small block and through a large one; its type and
+// version; and what a copy of it shows.
 fn sotw_shown(alloc: Global, draft: &SotwDraft) -> Result<String, Refusal> {
     let pieces = draft.pieces(alloc)?;
     let small = put_together(alloc, &pieces, 8)?;
@@ -177,7 +178,8 @@ fn delta_draft(alloc: Global) -> Result<DeltaDraft, Refusal> {
     Ok(DeltaDraft::new(TypeName::Cluster, version, nonce, stated, removed))
 }
 
-// The version and the nonce of a draft, how many it states and removes, what it is put together as, and what a copy of it shows.
+// The version and the nonce of a draft, how many it states and removes, what it is put together as,
+// and what a copy of it shows.
 fn delta_shown(alloc: Global) -> Result<String, Refusal> {
     let draft = delta_draft(alloc)?;
     let shown = copy_shown(alloc, Draft::Delta(draft.try_copy(alloc)?))?;

@@ -35,8 +35,8 @@ pub(crate) fn waits_and_calls<N: NodeName + Send + Sync, R: Threads + Wait + Syn
     )
 }
 
-/// How many clusters a thread counts as soon as something is due on a stream, while another holds the writers back until these
-/// events have happened.
+/// How many clusters a thread counts as soon as something is due on a stream, while another holds
+/// the writers back until these events have happened.
 pub(crate) fn counts_and_holds<N: NodeName + Send + Sync, R: Threads + Wait + Sync>(
     rt: &R,
     node: &Node<N>,

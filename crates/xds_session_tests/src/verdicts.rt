@@ -6,7 +6,8 @@ use xds_cases::cases::{Outcome, hold_stories};
 use xds_check::{Broken, Trace, TraceFault, check};
 
 // What is told of a trace: that it is well, the first broken line and its rule, or its first bad
-// line. The same is told where its bytes come in pieces. A trace whose last line is ended has the outcome on a line of its own.
+// line. The same is told where its bytes come in pieces. A trace whose last line is ended has the
+// outcome on a line of its own.
 struct Verdict;
 
 impl Outcome for Verdict {

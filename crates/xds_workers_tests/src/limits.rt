@@ -374,8 +374,8 @@ enum Part<S> {
     Puts(S),
 }
 
-// Puts once the writers were given time to wait, and looks whether all were let go. If not, it closes
-// all streams.
+// Puts once the writers were given time to wait, and looks whether all were let go. If not, it
+// closes all streams.
 fn puts_for_all<N: NodeName, R: Wait + Clock>(
     rt: &R,
     alloc: Global,

@@ -90,7 +90,8 @@ fn replies(alloc: Global, socket: &TcpStream, text: &str) -> Result<(), Fail> {
     }
 }
 
-// Changes are answered line by line; a client accepts a response and rejects the next; then it is stopped.
+// Changes are answered line by line; a client accepts a response and rejects the next; then it is
+// stopped.
 fn operates(rt: &HostRuntime) -> Result<(), Fail> {
     let alloc = rt.alloc();
     shows(rt, 18_940, "/healthz", &["HTTP/1.1 200 ", "\r\n\r\nok\n"])?;

@@ -130,7 +130,8 @@ fn is_refused<
     came_to(&came, 1, wanted.as_str())
 }
 
-// What it tells of a folder with a file in it, in which it leaves no other, and of one that isn't there.
+// What it tells of a folder with a file in it, in which it leaves no other, and of one that isn't
+// there.
 fn are_refused<
     R: Runtime + Net<Listener = TcpListener, Stream = TcpStream> + Files<File = File, Dir: Send>,
 >(rt: &R, folder: &str) -> Result<(), Fail> {
@@ -224,7 +225,8 @@ impl Seals for Short {
     }
 }
 
-// How a recording ends of these segments but for some, on a tape on which so many bytes find room; and how many it has.
+// How a recording ends of these segments but for some, on a tape on which so many bytes find room;
+// and how many it has.
 fn end_of<N: NodeName>(
     alloc: Global,
     segments: &[Segment<N>],
