@@ -13,7 +13,8 @@ that stands, which is answered 304; then how much memory the server holds. It is
 
 With --plain a plain Rust server (`bench/plain_rest`, hyper on one thread, which proves nothing) is measured beside it in turns, so
 many rounds; cargo builds it from Debian's packages (`cargo`, `librust-hyper-dev`, `librust-tokio-dev`, `librust-serde-json-dev`). Both
-must show the same resources. Printed are the medians of polls a second, and the ratio of the first to the second.
+must show the same resources. Printed are the medians of polls a second and of each server's processor time a poll, of all its
+threads, and the ratios of the first to the second.
 
 Exit status 1 where a connection is closed or refused, and 2 where the plain server can't be built here.
 """
@@ -177,6 +178,13 @@ def held(pid):
     return tuple(int(lines[word].split()[0]) / 1000 for word in ("VmRSS", "VmHWM"))
 
 
+def processor(pid):
+    """The processor time of a process so far, of all its threads, in seconds."""
+    with open(f"/proc/{pid}/stat", encoding="utf-8") as file:
+        counts = file.read().rsplit(")", 1)[1].split()
+    return (int(counts[11]) + int(counts[12])) / os.sysconf("SC_CLK_TCK")
+
+
 class Started:
     """A server that is started here, with the clusters put, and the polls that it is asked."""
 
@@ -196,7 +204,13 @@ class Started:
         }
 
     def measure(self, poll, given):
-        return measure(("127.0.0.1", self.port), self.polls[poll], given.connections, given.seconds)
+        """How many polls a second are answered, and the server's processor time a poll, in microseconds."""
+        before, begin = processor(self.process.pid), time.monotonic()
+        rate = measure(("127.0.0.1", self.port), self.polls[poll], given.connections, given.seconds)
+        polls = rate * (time.monotonic() - begin)
+        spent = (processor(self.process.pid) - before) / polls * 1e6
+        print(f"{spent:.1f} us of the server's processor time a poll")
+        return rate, spent
 
     def stop(self):
         self.process.terminate()
@@ -218,8 +232,9 @@ def of_started(given):
                     print(f"{poll}, {os.path.basename(program)}:")
                     rate.append(server.measure(poll, given))
             if given.plain:
-                ours, plain = map(statistics.median, rates)
-                print(f"** {poll}: {ours:.0f} and {plain:.0f} polls a second, ratio {ours / plain:.2f}", flush=True)
+                (ours, ours_spent), (plain, plain_spent) = ([statistics.median(it) for it in zip(*rate)] for rate in rates)
+                print(f"** {poll}: {ours:.0f} and {plain:.0f} polls a second, ratio {ours / plain:.2f};"
+                      f" {ours_spent:.1f} and {plain_spent:.1f} us of processor time a poll, ratio {ours_spent / plain_spent:.2f}", flush=True)
         for server, program in zip(servers, programs):
             print(f"memory of {os.path.basename(program)}: %.1f MB, at most %.1f MB" % held(server.process.pid))
     finally:
