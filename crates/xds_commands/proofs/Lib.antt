@@ -6,3 +6,4 @@ mod GivingUp
 mod Tellings
 mod Joining
 mod Wired
+mod LoadSteps

@@ -10,3 +10,4 @@ pub mod Ends
 pub mod Servings
 pub mod Wiring
 pub mod Channels
+pub mod Loads

@@ -2,10 +2,18 @@
 --     port_fault_text  what is told of why a port can't be bound
 --     port_line        the line of a port that can't be bound
 --     admin_line       the line of an operator's port
---     replica_line     the line of a replica: its number, and its ports
+--     replica_line     the line of a replica: its place among those of the server, its number, and its ports
+--     same_numbers_line  what is told where replicas have the numbers of every run in which none was said
+--     file_fault_text  what is told of why a file can't be opened
+--     file_line        the line of a file that can't be opened
+--     unloaded_line    the line of a file that isn't loaded, by one of its lines or by what else was refused
 --     refusal_in       the refusal that an answer is, of which there may be a record or none
 use Rattle.std.specs.Prelude.{ℕ, List, ◌++◌, Option, Some, None, Result, Ok, Err, codes, decimal}
 use Rattle.xds_resource.specs.declared.refusal.Refusal.{Refusal}
+use Rattle.xds_resource.specs.Refusals.{number_of, name_of}
+use Rattle.xds_monitor.specs.Logging.{number_text}
+use Rattle.xds_commands.specs.declared.serve_telling.FileFault.{FileFault}
+use Rattle.xds_commands.specs.declared.serve_telling.FileFault.TheVariants.{NoFile, Forbidden, Unknown}
 use Rattle.xds_commands.specs.declared.serve_telling.PortFault.{PortFault}
 use Rattle.xds_commands.specs.declared.serve_telling.PortFault.TheVariants.{InUse, NotAllowed, Other}
 
@@ -23,10 +31,30 @@ port_line port fault = codes "127.0.0.1:" ++ (decimal port ++ (codes ": 19 Devic
 abbrev pub admin_line : ℕ → List ℕ
 admin_line port = codes "an operator's port on 127.0.0.1:" ++ (decimal port ++ codes "\n")
 
--- the line of a replica: its number, and its ports
-abbrev pub replica_line : ℕ → ℕ → ℕ → List ℕ
-replica_line number port rest_port =
-    codes "replica " ++ (decimal number ++ (codes ": streams on 127.0.0.1:" ++ (decimal port ++ (codes ", REST on 127.0.0.1:" ++ (decimal rest_port ++ codes "\n")))))
+-- the line of a replica: its place among those of the server, its number, and its ports
+abbrev pub replica_line : ℕ → ℕ → ℕ → ℕ → List ℕ
+replica_line place number port rest_port =
+    codes "replica " ++ (decimal place ++ (number_text place number ++ (codes ": streams on 127.0.0.1:" ++ (decimal port ++ (codes ", REST on 127.0.0.1:" ++ (decimal rest_port ++ codes "\n"))))))
+
+-- what is told of a server whose replicas have the numbers of every run in which none was said
+abbrev pub same_numbers_line : List ℕ
+same_numbers_line =
+    codes "numbers begin at 1 again: a client of an earlier run may keep what is no longer so; --first-number keeps runs apart\n"
+
+-- what is told of why a file can't be opened
+abbrev pub file_fault_text : FileFault → List ℕ
+file_fault_text NoFile = codes ": no such file"
+file_fault_text Forbidden = codes ": not allowed"
+file_fault_text Unknown = codes ""
+
+-- the line of a file that can't be opened
+abbrev pub file_line : List ℕ → FileFault → List ℕ
+file_line file fault = file ++ (codes ": 19 Device" ++ (file_fault_text fault ++ codes "\n"))
+
+-- the line of a file that isn't loaded, by one of its lines or by what else was refused
+abbrev pub unloaded_line : List ℕ → Option ℕ → Refusal → List ℕ
+unloaded_line file (Some line) refusal = file ++ (codes ": line " ++ (decimal line ++ (codes ": " ++ (decimal (number_of refusal) ++ (codes " " ++ (name_of refusal ++ codes "\n"))))))
+unloaded_line file None refusal = file ++ (codes ": " ++ (decimal (number_of refusal) ++ (codes " " ++ (name_of refusal ++ codes "\n"))))
 
 -- the refusal that an answer is, of which there may be a record or none
 abbrev pub refusal_in : {T : Type 0} → Result (Result T Refusal) Refusal → Option Refusal

@@ -1,14 +1,15 @@
 -- What a server is asked for. This project's own.
 --     serving_of   what the words ask of a server, where its error output is a terminal or isn't
 --     limits_of    what the streams of a replica may be then
-use Rattle.std.specs.Prelude.{Bool}
+use Rattle.std.specs.Prelude.{ℕ, Bool, Option}
 use Rattle.xds_program.specs.declared.tasks.ServeTask.{ServeTask}
 use Rattle.xds_monitor.specs.declared.lookout.Limits.{Limits}
 use Rattle.xds_commands.specs.declared.server.Serving.{Serving}
 
 -- what the words ask of a server, where its error output is a terminal or isn't
-abbrev pub serving_of : ServeTask → Bool → Serving
-serving_of task is_terminal = record {
+abbrev pub serving_of : ServeTask → Option ℕ → Bool → Serving
+serving_of task first_number is_terminal = record {
+  first_number = first_number;
   replicas = task.replicas;
   port = task.port;
   rest_port = task.rest_port;

@@ -181,10 +181,13 @@ impl Admin {
                 text.push_str(",")?;
             }
             is_first = false;
-            let number = replica.lookout.replica();
+            let place = replica.lookout.replica();
+            let number = replica.lookout.number();
             let streams = replica.lookout.streams(rt, alloc)?;
             let streams = streams.as_str();
-            let one = format!(in alloc; "{{\"replica\":{number},\"streams\":{streams}}}")?;
+            let one = format!(in alloc;
+                "{{\"replica\":{place},\"number\":{number},\"streams\":{streams}}}"
+            )?;
             text.push_str(one.as_str())?;
         }
         text.push_str("]}\n")?;

@@ -63,8 +63,15 @@ where
         Ran::Poll(task) => poll_once(rt, task, output, errors),
         Ran::Client(task) => watch(rt, &task, output, errors),
         Ran::Serve(words) => {
-            let serving = serving_of(words.task, is_terminal);
-            serve(rt, input, errors, serving, folder_in(&words))
+            let serving = serving_of(words.task, words.first_number, is_terminal);
+            serve(
+                rt,
+                input,
+                errors,
+                serving,
+                folder_in(&words),
+                load_in(&words),
+            )
         }
     }
 }
@@ -79,11 +86,22 @@ fn folder_in(words: &ServeWords) -> Option<&str>
     }
 }
 
+// The file of what is there from the start, if there is one.
+fn load_in(words: &ServeWords) -> Option<&str>
+    ensures { option_map (λ f. f.now) result ≡ words.now.load }
+{
+    match &words.load {
+        Some(file) => Some(file.as_str()),
+        None => None,
+    }
+}
+
 // What the server is asked for. At a terminal it tells refused changes.
-fn serving_of(task: ServeTask, is_terminal: bool) -> Serving
-    ensures { result ≡ serving_of task is_terminal }
+fn serving_of(task: ServeTask, first_number: Option<u16>, is_terminal: bool) -> Serving
+    ensures { result ≡ serving_of task first_number is_terminal }
 {
     Serving {
+        first_number,
         replicas: task.replicas,
         port: task.port,
         rest_port: task.rest_port,

@@ -16,6 +16,7 @@ use std::sync::{Arc, Wait};
 use xds_core::{Event, Marks, Reply};
 use xds_exchange::{Incoming, Outgoing};
 use xds_http::{Replies, serve_on};
+use xds_message::Batch;
 use xds_monitor::{Fault, Look, Lookout, Served, look_in};
 use xds_node::{Host, Parcel, Receipt, called, exchange_in, exchange_out};
 use xds_resource::{Refusal, Stamp};
@@ -26,17 +27,18 @@ pub type Sends = (Outgoing<Parcel>, Incoming<Receipt>);
 /// Ends of the channels by which a replica learns from another what changed.
 pub type Takes = (Incoming<Parcel>, Outgoing<Receipt>);
 
-/// The sockets of a replica.
+/// The sockets of a replica, and what it merges before it answers anybody at them, if there is such.
 #[derive(Drop)]
 pub struct Sockets {
     pub streams: TcpListener,
     pub polls: TcpListener,
+    pub world: Option<Batch>,
 }
 
 /// What a replica's thread is started with.
 pub type Replica = Bound<Sockets, Receiver<Order>, Sends, Takes>;
 
-/// Runs a replica for as long as the process runs: streams, polls, what is told to and by other replicas, and the changes
+/// Runs a replica for as long as the process runs: what is there from the start, and then streams, polls, what is told to and by other replicas, and the changes
 /// that the input makes. It ends only where no change can come any more, or with the refusal by which it couldn't begin.
 pub fn run_replica<R, A>(
     rt: &R,
@@ -59,14 +61,42 @@ where
         sends,
         takes,
     } = replica;
+    let Sockets {
+        streams,
+        polls,
+        world,
+    } = sockets;
+    let begun = begin(rt, &**node, world);
     let exchanging = start_exchange(rt, alloc, node, sends, takes);
-    let serving = start_serving(rt, alloc, node, sockets, lookout);
+    let serving = match begun {
+        Ok(()) => start_serving(rt, alloc, node, streams, polls, lookout),
+        Err(refusal) => {
+            drop(streams);
+            drop(polls);
+            Err(refusal)
+        }
+    };
     let ended = match both(exchanging, serving) {
         Ok(()) => take_orders(rt, &**node, &changes, lookout),
         Err(refusal) => Err(refusal),
     };
     drop(changes);
     ended
+}
+
+// Merges what is there from the start, if there is such.
+fn begin<R: Wait, A: Served>(rt: &R, node: &A, world: Option<Batch>) -> Result<(), Refusal> {
+    let Some(batch) = world else {
+        return Ok(());
+    };
+    let mut seat = node.seat(rt)?;
+    let answer = called(rt, node, &NoGate, &mut seat, Event::Merge(batch));
+    let begun = match reply_in(&answer) {
+        Ok(_) => Ok(()),
+        Err(refusal) => Err(refusal),
+    };
+    drop(answer);
+    begun
 }
 
 // The threads by which a replica and the others tell each other what changed.
@@ -97,14 +127,14 @@ fn start_serving<R, A>(
     rt: &R,
     alloc: Global,
     node: &Arc<A>,
-    sockets: Sockets,
+    streams: TcpListener,
+    polls: TcpListener,
     lookout: &Arc<Lookout>,
 ) -> Result<(), Refusal>
 where
     R: Machine,
     A: Shared + Replies<Seat: Send>,
 {
-    let Sockets { streams, polls } = sockets;
     let polled = start_polls(rt, node, polls);
     both(polled, start_streams(rt, alloc, node, streams, lookout))
 }

@@ -1,15 +1,16 @@
 // What a server tells on its error output.
 ghost use Rattle.std.specs.Prelude.{◌≡◌, ◌+◌, string_bytes, IfOk};
 ghost use Rattle.xds_monitor.specs.Endings.{fault_line, refusal_line, TellsLine, TellsText};
-ghost use Rattle.xds_commands.specs.Messages.{admin_line, port_fault_text, port_line, replica_line};
+ghost use Rattle.xds_commands.specs.Messages.{admin_line, file_fault_text, file_line, port_fault_text, port_line, replica_line, same_numbers_line, unloaded_line};
 ghost use Rattle.xds_frames.specs.Devices.{seen};
 ghost use Rattle.xds_monitor.specs.Recordings.{tape_line};
 
+use crate::loading::number_at;
 use std::alloc::Global;
 use std::io::{ErrorKind, Write};
 use std::sync::Wait;
 use xds_frames::{Counted, write_whole};
-use xds_monitor::{End, Ending, Next, TapeFault, fault_line, tape_line};
+use xds_monitor::{End, Ending, Next, TapeFault, fault_line, number_text, tape_line};
 use xds_program::run;
 use xds_resource::Refusal;
 
@@ -67,11 +68,122 @@ fn port_line(alloc: Global, port: u16, fault: PortFault) -> Result<String, Refus
 }
 
 // The line of a replica.
-fn replica_line(alloc: Global, number: u16, port: u16, rest_port: u16) -> Result<String, Refusal>
-    ensures { IfOk result (λ t. string_bytes t ≡ replica_line number port rest_port) }
+fn replica_line(
+    alloc: Global,
+    place: u16,
+    number: u16,
+    port: u16,
+    rest_port: u16,
+) -> Result<String, Refusal>
+    ensures { IfOk result (λ t. string_bytes t ≡ replica_line place number port rest_port) }
 {
+    let named = number_text(alloc, place, number)?;
+    let named = named.as_str();
     Ok(format!(in alloc;
-        "replica {number}: streams on 127.0.0.1:{port}, REST on 127.0.0.1:{rest_port}\n"
+        "replica {place}{named}: streams on 127.0.0.1:{port}, REST on 127.0.0.1:{rest_port}\n"
+    )?)
+}
+
+/// Why a file can't be opened.
+#[derive(Clone, Copy, Debug, PartialEq, Eq)]
+pub enum FileFault {
+    /// It isn't there.
+    NoFile,
+    /// Who runs the server may not read it.
+    Forbidden,
+    /// The system says something else.
+    Unknown,
+}
+
+impl FileFault {
+    /// The fault of a call that failed with an error of this kind.
+    pub(crate) fn of(kind: ErrorKind) -> FileFault {
+        match kind {
+            ErrorKind::NotFound | ErrorKind::NotADirectory => FileFault::NoFile,
+            ErrorKind::PermissionDenied => FileFault::Forbidden,
+            _ => FileFault::Unknown,
+        }
+    }
+
+    // What is told of it behind the refusal.
+    fn text(self) -> &'static str
+        ensures { result.now ≡ file_fault_text self }
+    {
+        match self {
+            FileFault::NoFile => ": no such file",
+            FileFault::Forbidden => ": not allowed",
+            FileFault::Unknown => "",
+        }
+    }
+}
+
+// The line of a file that can't be opened.
+fn file_line(alloc: Global, file: &str, fault: FileFault) -> Result<String, Refusal>
+    ensures { IfOk result (λ t. string_bytes t ≡ file_line file.now fault) }
+{
+    let why = fault.text();
+    Ok(format!(in alloc; "{file}: 19 Device{why}\n")?)
+}
+
+// The line of a file that isn't loaded, by one of its lines or by what else was refused.
+fn unloaded_line(
+    alloc: Global,
+    file: &str,
+    line: Option<u64>,
+    refusal: Refusal,
+) -> Result<String, Refusal>
+    ensures { IfOk result (λ t. string_bytes t ≡ unloaded_line file.now line refusal) }
+{
+    let number = refusal.number();
+    let name = refusal.name();
+    match line {
+        Some(line) => Ok(format!(in alloc; "{file}: line {line}: {number} {name}\n")?),
+        None => Ok(format!(in alloc; "{file}: {number} {name}\n")?),
+    }
+}
+
+/// Tells a file that can't be opened, and why, and answers the status.
+pub(crate) fn tell_file<E: Write>(
+    alloc: Global,
+    errors: &mut Counted<E>,
+    file: &str,
+    fault: FileFault,
+) -> u8
+    ensures told { TellsLine (file_line file.now fault) (seen E.contents errors.old errors.new) }
+    ensures status { result ≡ 1 }
+{
+    put(errors, file_line(alloc, file, fault));
+    REFUSED
+}
+
+/// Tells why a file isn't loaded, by one of its lines or by what else was refused, and answers the status.
+pub(crate) fn tell_unloaded<E: Write>(
+    alloc: Global,
+    errors: &mut Counted<E>,
+    file: &str,
+    line: Option<u64>,
+    refusal: Refusal,
+) -> u8
+    ensures told { TellsLine (unloaded_line file.now line refusal) (seen E.contents errors.old errors.new) }
+    ensures status { result ≡ 1 }
+{
+    put(errors, unloaded_line(alloc, file, line, refusal));
+    REFUSED
+}
+
+/// Tells that the replicas have the numbers of every run in which none was said, and what that means for clients of one before.
+pub(crate) fn tell_same_numbers<E: Write>(alloc: Global, errors: &mut Counted<E>)
+    ensures { TellsLine same_numbers_line (seen E.contents errors.old errors.new) }
+{
+    put(errors, same_numbers_line(alloc));
+}
+
+fn same_numbers_line(alloc: Global) -> Result<String, Refusal>
+    ensures { IfOk result (λ t. string_bytes t ≡ same_numbers_line) }
+{
+    Ok(String::from_str(
+        alloc,
+        "numbers begin at 1 again: a client of an earlier run may keep what is no longer so; --first-number keeps runs apart\n",
     )?)
 }
 
@@ -141,19 +253,21 @@ pub(crate) fn tell_tape<E: Write>(
     REFUSED
 }
 
-/// Tells what is served where, a line a replica: so many of them, from these ports on.
+/// Tells what is served where, a line a replica: so many of them, from this number and these ports on.
 pub(crate) fn tell_replicas<E: Write>(
     alloc: Global,
     errors: &mut Counted<E>,
     replicas: u16,
+    first: u16,
     port: u16,
     rest_port: u16,
 ) {
     for index in 0..replicas {
-        let number = index.wrapping_add(1);
+        let place = index.wrapping_add(1);
+        let number = number_at(first, place);
         let port = port.wrapping_add(index);
         let rest_port = rest_port.wrapping_add(index);
-        put(errors, replica_line(alloc, number, port, rest_port));
+        put(errors, replica_line(alloc, place, number, port, rest_port));
     }
 }
 

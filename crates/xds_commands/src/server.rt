@@ -1,15 +1,17 @@
 // A server of some replicas, from its first line to its end.
-ghost use Rattle.std.specs.Prelude.{◌≡◌, ◌≤◌};
+ghost use Rattle.std.specs.Prelude.{◌≡◌, ◌≤◌, unwrap_or};
 ghost use Rattle.xds_frames.specs.Devices.{seen};
 ghost use Rattle.xds_monitor.specs.Endings.{TellsEnd, status_of};
 ghost use Rattle.xds_commands.specs.Servings.{limits_of};
 
 use crate::admin::{Admin, Reached};
+use crate::loading::{load, number_at};
 use crate::machine::{Machine, Runtime};
 use crate::order::Order;
 use crate::replica::{Sends, Sockets, Takes};
 use crate::serve_telling::{
-    PortFault, tell, tell_admin, tell_line, tell_port, tell_replicas, tell_tape, tell_until_end,
+    FileFault, PortFault, tell, tell_admin, tell_file, tell_line, tell_port, tell_replicas,
+    tell_same_numbers, tell_tape, tell_unloaded, tell_until_end,
 };
 use crate::starting::{DRAIN_SECONDS, start_admin, start_input, start_replica};
 use crate::wires::{Links, Wires, both, crossed, wired};
@@ -23,8 +25,10 @@ use std::rt::Files;
 use std::sync::{Arc, Wait};
 use std::thread;
 use std::time::{Clock, Duration};
+use xds_core::Catalogues;
 use xds_exchange::link;
 use xds_frames::Counted;
+use xds_message::Batch;
 use xds_monitor::{
     End, Ending, Limits, LogEvent, Lookout, Note, Tape, Telling, Unrecordable, tapes_in,
 };
@@ -33,6 +37,9 @@ use xds_resource::Refusal;
 /// What a server is asked for.
 #[derive(Clone, Copy, Debug, PartialEq, Eq)]
 pub struct Serving {
+    /// The number of the first replica, from 1, by which its writes are stamped; the others have the next ones. Where none is said
+    /// they are those of every run in which none was, from 1 on, and that is told.
+    pub first_number: Option<u16>,
     /// How many replicas there are, from 1 to 16.
     pub replicas: u16,
     /// The port of the first replica's streams. The others have the next ones.
@@ -71,6 +78,9 @@ type Wiring = Wires<Sockets, Sender<Order>, Receiver<Order>, Sends, Takes>;
 /// Where a folder is given, the trace of replica K is recorded in its file `replica-K.trace`, which is new: where it can't be made, that
 /// is told with its name as 19 Device, and why, and nothing is read. A recording that ends by a refusal is told; the server goes on.
 ///
+/// Where a file is given, all its lines are made before the ports are bound, each by its replica over all that was made before; one
+/// that is refused is told with the file's name, and nothing is served.
+///
 /// The input is read in a thread of its own, so it is handed over by value. Its end ends nothing. Threads that still wait
 /// at the end are left: they end with the process.
 pub fn serve<R, I, E>(
@@ -79,6 +89,7 @@ pub fn serve<R, I, E>(
     errors: &mut Counted<E>,
     serving: Serving,
     folder: Option<&str>,
+    load: Option<&str>,
 ) -> u8
 where
     R: Runtime + Net<Listener = TcpListener, Stream = TcpStream> + Files<File = File>,
@@ -87,7 +98,92 @@ where
     ensures { result ≤ 1 }
 {
     let alloc = rt.alloc();
-    match all_bound(rt, alloc, serving) {
+    let Some(file) = load else {
+        return serve_world(rt, alloc, input, errors, serving, folder, None);
+    };
+    match world_in(rt, alloc, file, serving) {
+        Ok(world) => serve_world(rt, alloc, input, errors, serving, folder, Some(world)),
+        Err(fault) => {
+            drop(input);
+            tell_unloadable(alloc, errors, file, fault)
+        }
+    }
+}
+
+// Why a file isn't loaded.
+#[derive(Clone, Copy)]
+enum Unloadable {
+    File(FileFault),
+    End(End),
+}
+
+// All that the lines of a file come to.
+fn world_in<R>(rt: &R, alloc: Global, file: &str, serving: Serving) -> Result<Batch, Unloadable>
+where
+    R: Wait + Files<File = File>,
+{
+    let mut opened = match File::open(rt, file) {
+        Ok(opened) => opened,
+        Err(error) => return Err(Unloadable::File(FileFault::of(error.kind()))),
+    };
+    let held = Catalogues::new(alloc);
+    let first = first_number(serving);
+    match load(rt, alloc, &mut opened, held, first, serving.replicas) {
+        Ok(world) => Ok(world),
+        Err(end) => Err(Unloadable::End(end)),
+    }
+}
+
+// Tells why a file isn't loaded, and answers the status.
+fn tell_unloadable<E: Write>(
+    alloc: Global,
+    errors: &mut Counted<E>,
+    file: &str,
+    fault: Unloadable,
+) -> u8
+    ensures { result ≡ 1 }
+{
+    match fault {
+        Unloadable::File(fault) => tell_file(alloc, errors, file, fault),
+        Unloadable::End(End::Line(line, refusal)) => {
+            tell_unloaded(alloc, errors, file, Some(line), refusal)
+        }
+        Unloadable::End(End::Refused(refusal)) => tell_unloaded(alloc, errors, file, None, refusal),
+        Unloadable::End(End::Streams | End::Stopped) => {
+            tell_unloaded(alloc, errors, file, None, Refusal::Device)
+        }
+    }
+}
+
+// The number of the first replica.
+fn first_number(serving: Serving) -> u16
+    ensures { result ≡ unwrap_or serving.first_number 1 }
+{
+    match serving.first_number {
+        Some(first) => first,
+        None => 1,
+    }
+}
+
+// Serves a world that is there from the start, if there is one.
+fn serve_world<R, I, E>(
+    rt: &R,
+    alloc: Global,
+    input: I,
+    errors: &mut Counted<E>,
+    serving: Serving,
+    folder: Option<&str>,
+    world: Option<Batch>,
+) -> u8
+where
+    R: Machine + Files<File = File>,
+    I: Read + Drop + Send + 'static,
+    E: Write,
+    ensures { result ≤ 1 }
+{
+    let bound = all_bound(rt, alloc, serving, &world);
+    drop(world);
+    match bound {
         Ok((sockets, admin)) => {
             serve_recorded(rt, alloc, input, errors, sockets, admin, serving, folder)
         }
@@ -133,11 +229,15 @@ where
         alloc,
         errors,
         serving.replicas,
+        first_number(serving),
         serving.port,
         serving.rest_port,
     );
     if let Some(port) = serving.admin_port {
         tell_admin(alloc, errors, port);
+    }
+    if serving.first_number.is_none() {
+        tell_same_numbers(alloc, errors);
     }
     let ended = run(rt, alloc, input, errors, sockets, admin, &tapes, serving);
     tell_end(alloc, errors, ended)
@@ -178,8 +278,13 @@ enum Unbound {
     Refused(Refusal),
 }
 
-// All sockets, replica by replica.
-fn bound<R>(rt: &R, alloc: Global, serving: Serving) -> Result<Vec<Sockets>, Unbound>
+// All sockets, replica by replica, each with what is there from the start.
+fn bound<R>(
+    rt: &R,
+    alloc: Global,
+    serving: Serving,
+    world: &Option<Batch>,
+) -> Result<Vec<Sockets>, Unbound>
 where
     R: Net<Listener = TcpListener, Stream = TcpStream>,
 {
@@ -187,7 +292,13 @@ where
     for index in 0..serving.replicas {
         let streams = bind(rt, serving.port, index)?;
         let polls = bind(rt, serving.rest_port, index)?;
-        match sockets.push(Sockets { streams, polls }) {
+        let world = copied(alloc, world)?;
+        let one = Sockets {
+            streams,
+            polls,
+            world,
+        };
+        match sockets.push(one) {
             Ok(()) => {}
             Err(_) => return Err(Unbound::Refused(Refusal::OutOfMemory)),
         }
@@ -195,16 +306,28 @@ where
     Ok(sockets)
 }
 
+// A copy of what is there from the start, if there is something. No text is copied.
+fn copied(alloc: Global, world: &Option<Batch>) -> Result<Option<Batch>, Unbound> {
+    match world {
+        Some(batch) => match batch.try_copy(alloc) {
+            Ok(copy) => Ok(Some(copy)),
+            Err(refusal) => Err(Unbound::Refused(refusal)),
+        },
+        None => Ok(None),
+    }
+}
+
 // The same, and the socket of an operator's port, where there is one.
 fn all_bound<R>(
     rt: &R,
     alloc: Global,
     serving: Serving,
+    world: &Option<Batch>,
 ) -> Result<(Vec<Sockets>, Option<TcpListener>), Unbound>
 where
     R: Net<Listener = TcpListener, Stream = TcpStream>,
 {
-    let sockets = bound(rt, alloc, serving)?;
+    let sockets = bound(rt, alloc, serving, world)?;
     match serving.admin_port {
         Some(port) => {
             let admin = bind(rt, port, 0)?;
@@ -288,8 +411,9 @@ fn lookouts_of(
     let limits = limits_of(serving);
     let mut lookouts = Vec::new(alloc);
     for index in 0..serving.replicas {
-        let number = index.saturating_add(1);
-        let lookout = Lookout::new(alloc, number, limits, share(ending)?);
+        let place = index.saturating_add(1);
+        let number = number_at(first_number(serving), place);
+        let lookout = Lookout::new(alloc, place, number, limits, share(ending)?);
         lookouts.push(Arc::new(alloc, lookout)?)?;
     }
     Ok(lookouts)
@@ -317,10 +441,11 @@ fn limits_of(serving: Serving) -> Limits
 // Tells which replica listens where, where such is told.
 fn log_replicas<R: Wait>(rt: &R, ending: &Ending, serving: Serving) {
     for index in 0..serving.replicas {
-        let number = index.wrapping_add(1);
+        let place = index.wrapping_add(1);
+        let number = number_at(first_number(serving), place);
         let port = serving.port.wrapping_add(index);
         let rest_port = serving.rest_port.wrapping_add(index);
-        ending.log(rt, LogEvent::Listening(number, port, rest_port));
+        ending.log(rt, LogEvent::Listening(place, number, port, rest_port));
     }
 }
 

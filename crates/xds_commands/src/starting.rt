@@ -36,7 +36,7 @@ pub(crate) fn start_replica<R>(
 where
     R: Machine,
 {
-    let number = lookout.replica().max(1);
+    let number = lookout.number().max(1);
     match Opened::<Line>::new(alloc) {
         Ok(opened) => start_named::<R, Brand>(rt, alloc, opened, number, replica, lookout, tape),
         Err(_) => {

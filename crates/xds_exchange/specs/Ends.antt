@@ -1,5 +1,6 @@
 -- What contracts see of the ends of a channel: what was put, what was taken, and which belong to one channel. This project's own.
 --     put_by         what was put by an end, in order
+--     failed_by      how many puts of an end failed
 --     taken_by       what was taken by one
 --     taken_of       and by one that left
 --     AreEnds        they are the two ends of one channel
@@ -7,7 +8,7 @@
 --     IsSameEnd      the same end, before and after something was put
 --     IsSameSource   the same end, before and after something was taken
 --     Begins         one list is a beginning of another
-use Rattle.std.specs.Prelude.{◌≡◌, List, ◌++◌}
+use Rattle.std.specs.Prelude.{◌≡◌, ℕ, List, ◌++◌}
 use Rattle.crossbeam_channel.specs.Claims.{view, IsSeatAt}
 use Rattle.crossbeam_channel.specs.Ends.{sends_on, receives_on}
 use Rattle.xds_exchange.specs.declared.ends.Outgoing.{Outgoing}
@@ -17,6 +18,10 @@ use Rattle.xds_exchange.specs.declared.ends.Taken.{Taken}
 -- what was put by an end, in order
 abbrev pub put_by : {T : Type 0} → Outgoing T → List T
 put_by o = (view o.pass).put
+
+-- how many puts of an end failed
+abbrev pub failed_by : {T : Type 0} → Outgoing T → ℕ
+failed_by o = o.failed
 
 -- what was taken by one
 abbrev pub taken_by : {T : Type 0} → Incoming T → List T

@@ -7,11 +7,13 @@ use crate::rule::{Log, Relay};
 use crossbeam_channel::{Pass, RuledReceiver, RuledSender};
 use thiserror::Error;
 
-/// The end that items are put into. Contracts see what was put by it (`put_by`).
+/// The end that items are put into. Contracts see what was put by it (`put_by`), and how many puts failed (`failed_by`).
 #[derive(Drop)]
 pub struct Outgoing<T: Drop> {
     pub(crate) sender: RuledSender<Option<T>, Log<T>, Relay>,
     pub(crate) pass: Pass<Option<T>, Log<T>>,
+    // How many puts failed, which stops at `u64::MAX`.
+    pub(crate) failed: u64,
     ghost tied: { IsSeatAt (sends_on sender) pass },
     ghost may: { (view pass).puts ≡ true },
 }

@@ -1,6 +1,7 @@
 // What the ends of a channel do.
 ghost use Rattle.std.specs.Prelude.{◌≡◌, [], ◌∷◌, ◌++◌, IfOk, IfSome, IfNone, OnOk, OnErr};
-ghost use Rattle.xds_exchange.specs.Ends.{put_by, taken_by, taken_of, AreEnds, IsOf, IsSameEnd, IsSameSource, Begins};
+ghost use Rattle.xds_frames.specs.Devices.{MoreFailed};
+ghost use Rattle.xds_exchange.specs.Ends.{failed_by, put_by, taken_by, taken_of, AreEnds, IsOf, IsSameEnd, IsSameSource, Begins};
 
 use crate::ends::{Incoming, Outgoing, Taken, Unlinked};
 use crate::rule::{Puts, Relay, Roles, Takes, Whole};
@@ -16,12 +17,17 @@ pub fn link<T: Drop>(alloc: Global) -> Result<(Outgoing<T>, Incoming<T>), AllocE
     ensures ends { IfOk result (λ r. AreEnds r.0 r.1) }
     ensures put { IfOk result (λ r. put_by r.0 ≡ []) }
     ensures taken { IfOk result (λ r. taken_by r.1 ≡ []) }
+    ensures failed { IfOk result (λ r. failed_by r.0 ≡ 0) }
 {
     let (sender, receiver, mut pass) = bounded_with::<Option<T>, _, Relay, Global>(
         alloc, CAPACITY,
     )?;
     let other = sender.another::<Roles>(&mut pass);
-    let outgoing = Outgoing { sender, pass };
+    let outgoing = Outgoing {
+        sender,
+        pass,
+        failed: 0,
+    };
     let incoming = Incoming {
         receiver,
         pass: other,
@@ -30,26 +36,40 @@ pub fn link<T: Drop>(alloc: Global) -> Result<(Outgoing<T>, Incoming<T>), AllocE
 }
 
 impl<T: Drop> Outgoing<T> {
-    /// Puts an item behind all that were put. It waits while the channel is full. Where it answers `Unlinked` nothing was put.
-    /// It does so once the other end is gone; no clause says that it does so only then, or that it does.
+    /// Puts an item behind all that were put. It waits while the channel is full. Where it answers `Unlinked` nothing was put,
+    /// and one put more has failed. It does so once the other end is gone; no clause says that it does so only then, or that it
+    /// does.
     pub fn put<R: Wait>(&mut self, rt: &R, item: T) -> Result<(), Unlinked>
         ensures end { IsSameEnd self.old self.new }
         ensures put { OnOk result (put_by self.new ≡ put_by self.old ++ item ∷ []) }
         ensures err { OnErr result (put_by self.new ≡ put_by self.old) }
+        ensures failed { OnErr result (MoreFailed (failed_by self.old) (failed_by self.new)) }
+        ensures succeeded { OnOk result (failed_by self.new ≡ failed_by self.old) }
     {
         match self
             .sender
             .send_as::<Puts, R>(rt, &mut self.pass, Some(item))
         {
             Ok(()) => Ok(()),
-            Err(_) => Err(Unlinked),
+            Err(_) => {
+                self.failed = self.failed.saturating_add(1);
+                Err(Unlinked)
+            }
         }
+    }
+
+    /// How many puts have failed, up to `u64::MAX`.
+    pub fn failed(&self) -> u64
+        ensures { result ≡ failed_by self.now }
+    {
+        self.failed
     }
 
     /// Tells the other end that no item comes any more. This end stays, so that what was put can be compared.
     pub fn end<R: Wait>(&mut self, rt: &R)
         ensures end { IsSameEnd self.old self.new }
         ensures put { put_by self.new ≡ put_by self.old }
+        ensures failed { failed_by self.new ≡ failed_by self.old }
     {
         let _ = self.sender.send_as::<Puts, R>(rt, &mut self.pass, None);
     }
@@ -59,7 +79,11 @@ impl<T: Drop> Outgoing<T> {
         requires { IsOf self other }
         ensures { Begins (taken_of other) (put_by self) }
     {
-        let Outgoing { sender, mut pass } = self;
+        let Outgoing {
+            sender,
+            mut pass,
+            failed: _,
+        } = self;
         let Taken { pass: taken } = other;
         sender.absorb::<Roles>(&mut pass, taken);
         sender.learn_as::<Whole>(&mut pass);

@@ -102,6 +102,18 @@ impl Bodies {
             joined,
         })
     }
+
+    /// The same list, without how its texts read together, for who keeps it and doesn't write it. No text is copied. Refused only
+    /// by `OutOfMemory`.
+    pub fn unjoined(&self) -> Result<Bodies, Refusal>
+        ensures ok { IfOk result (λ b. b ≡ self.now) }
+        ensures refused { IfErr result (λ e. e ≡ OutOfMemory) }
+    {
+        Ok(Bodies {
+            list: self.list.clone()?,
+            joined: None,
+        })
+    }
 }
 
 // These texts with commas between them, for which room is made at once.

@@ -142,7 +142,8 @@ impl SotwDraft {
         self.bodies.as_slice()
     }
 
-    /// An equal draft. No body is copied.
+    /// An equal draft, to be kept and not to be written: it holds no joined text, which would outlive the change that it was made
+    /// for. No body is copied.
     pub fn try_copy(&self, alloc: Global) -> Result<SotwDraft, Refusal>
         ensures ok { IfOk result (λ d. d ≡ self.now) }
         ensures refused { IfErr result (λ e. e ≡ OutOfMemory) }
@@ -151,7 +152,7 @@ impl SotwDraft {
             kind: self.kind,
             version: String::from_str(alloc, self.version.as_str())?,
             nonce: String::from_str(alloc, self.nonce.as_str())?,
-            bodies: self.bodies.try_copy()?,
+            bodies: self.bodies.unjoined()?,
         })
     }
 }

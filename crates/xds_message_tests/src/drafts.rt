@@ -84,7 +84,8 @@ fn stated(alloc: Global, count: u64) -> Result<String, Refusal> {
     })
 }
 
-// A list that is made for many responses is written as one piece, if there is something in it.
+// A list that is made for many responses is written as one piece, if there is something in it. A
+// copy, which a journal keeps, holds no joined text, so it is written body by body.
 #[test]
 fn a_shared_list_is_one_piece(rt: HostRuntime) -> Result<(), Fail> {
     let alloc = rt.alloc();
@@ -93,7 +94,7 @@ fn a_shared_list_is_one_piece(rt: HostRuntime) -> Result<(), Fail> {
     let alone = stating(alloc, bodies_of(alloc, 2)?)?;
     let empty = stating(alloc, bodies_of(alloc, 0)?.shared(alloc)?)?;
     assert!(rt; shared.pieces(alloc)?.is_joined());
-    assert!(rt; copy.pieces(alloc)?.is_joined());
+    assert!(rt; !copy.pieces(alloc)?.is_joined());
     assert!(rt; !alone.pieces(alloc)?.is_joined());
     assert!(rt; !empty.pieces(alloc)?.is_joined());
     Ok(())

@@ -6,6 +6,7 @@
 --     first_text      the first request of a stream
 --     rejected_text   a response that a client rejected
 --     ended_text      the end of a stream, by a refusal or without one
+--     number_text     what is told of a replica's number, where it isn't its place
 --     message_of      what is told of an event
 --     end_level       how much the end of a stream matters
 --     level_of        how much it matters
@@ -57,10 +58,14 @@ ended_text place None = place_text place ++ codes "ended"
 ended_text place (Some refusal) =
     (place_text place ++ codes "ended") ++ (codes " by " ++ (decimal (number_of refusal) ++ (codes " " ++ name_of refusal)))
 
+-- what is told of a replica's number, where it isn't its place among those of the server
+abbrev pub number_text : ℕ → ℕ → List ℕ
+number_text place number = if place == number then [] else codes " (number " ++ (decimal number ++ codes ")")
+
 -- what is told of an event
 abbrev pub message_of : LogEvent → List ℕ
-message_of (Listening replica port rest_port) =
-    codes "replica " ++ (decimal replica ++ (codes " listens: streams on 127.0.0.1:" ++ (decimal port ++ (codes ", REST on 127.0.0.1:" ++ decimal rest_port))))
+message_of (Listening replica number port rest_port) =
+    codes "replica " ++ (decimal replica ++ (number_text replica number ++ (codes " listens: streams on 127.0.0.1:" ++ (decimal port ++ (codes ", REST on 127.0.0.1:" ++ decimal rest_port)))))
 message_of (Connected place peer) = place_text place ++ codes "connected from " ++ string_bytes peer
 message_of (FirstRequest place first) = first_text place first
 message_of (Rejected place rejection) = rejected_text place rejection
@@ -76,7 +81,7 @@ end_level (Some refusal) = Warn
 
 -- how much it matters
 abbrev pub level_of : LogEvent → Level
-level_of (Listening replica port rest_port) = Info
+level_of (Listening replica number port rest_port) = Info
 level_of (Connected place peer) = Info
 level_of (FirstRequest place first) = Info
 level_of (Rejected place rejection) = Warn

@@ -1,5 +1,6 @@
 // What is known of the streams of a replica, and what was counted of it: for those who look, and of no account to what is answered.
 use crate::doors::Doors;
+use crate::log_event::excerpt;
 use crate::numbers::{Numbers, RestCounts, StreamCounts};
 use crate::sight::Heard;
 use std::alloc::Global;
@@ -318,9 +319,9 @@ impl TypeStatus {
         }
     }
 
-    // Notes a response.
+    // Notes a response. In the version of a star's the cluster of its client may stand, so it is an excerpt, too.
     fn respond(&mut self, alloc: Global, draft: &Draft) -> Result<(), Refusal> {
-        self.sent = String::from_str(alloc, version_of(draft))?;
+        self.sent = excerpt(alloc, version_of(draft))?;
         self.nonce = String::from_str(alloc, draft.nonce())?;
         self.is_answered = false;
         Ok(())

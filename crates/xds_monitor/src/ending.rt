@@ -52,6 +52,9 @@ struct State {
     notes: VecDeque<Note>,
     // How many notes had no room.
     missed: u64,
+    // How many notes were taken once the end was known, and whether those that were missed then were told.
+    late: usize,
+    is_quiet: bool,
     // How many frames of responses are being written.
     writing: u64,
 }
@@ -64,6 +67,8 @@ impl Drop for State {
             end: _,
             notes: _,
             missed: _,
+            late: _,
+            is_quiet: _,
             writing: _,
         } = self;
     }
@@ -107,6 +112,21 @@ impl State {
         }
     }
 
+    // A note more is to be told. Once the end is known a bounded number is, and others count as missed, so that the end comes.
+    fn take(&mut self, note: Note)
+        ensures { (self.new.left ≡ self.old.left) × (self.new.end ≡ self.old.end) }
+    {
+        if self.end.is_none() {
+            self.push(note);
+        } else if self.late < MOST_NOTES {
+            self.late += 1;
+            self.push(note);
+        } else {
+            drop(note);
+            self.miss();
+        }
+    }
+
     // A note isn't told.
     fn miss(&mut self)
         ensures { (self.new.left ≡ self.old.left) × (self.new.end ≡ self.old.end) }
@@ -114,16 +134,17 @@ impl State {
         self.missed = self.missed.saturating_add(1);
     }
 
-    // What comes next, if something does: what is to be told comes before the end.
+    // What comes next, if something does: what is to be told comes before the end, and how many aren't told then once.
     fn next(&mut self) -> Option<Next>
         ensures { (self.new.left ≡ self.old.left) × (self.new.end ≡ self.old.end) }
     {
         if let Some(note) = self.notes.pop_front() {
             return Some(Next::Note(note));
         }
-        if self.missed > 0 {
+        if self.missed > 0 && !self.is_quiet {
             let count = self.missed;
             self.missed = 0;
+            self.is_quiet = self.end.is_some();
             return Some(Next::Note(Note::Missed(count)));
         }
         match self.end {
@@ -169,6 +190,8 @@ impl Ending {
                 end: None,
                 notes: VecDeque::new(alloc),
                 missed: 0,
+                late: 0,
+                is_quiet: false,
                 writing: 0,
             }),
             told: Condvar::new(),
@@ -219,7 +242,7 @@ impl Ending {
         }
         let mut state = self.state.lock(rt);
         if state.notes.len() < MOST_NOTES {
-            state.push(Note::Event(event));
+            state.take(Note::Event(event));
         } else {
             drop(event);
             state.miss();
@@ -228,10 +251,11 @@ impl Ending {
         self.told.notify_all();
     }
 
-    /// Tells something. It waits until there is room for a note more, unless the server ends.
+    /// Tells something. It waits until there is room for a note more, unless the server ends: then it is told as far as a bounded number
+    /// of others wasn't before it, and counted where it isn't.
     pub fn note<R: Wait>(&self, rt: &R, note: Note) {
         let mut state = self.room_in(rt);
-        state.push(note);
+        state.take(note);
         drop(state);
         self.told.notify_all();
     }

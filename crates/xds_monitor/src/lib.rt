@@ -31,7 +31,7 @@ pub use cause::{Cause, cause_of};
 pub use doors::Doors;
 pub use ending::{End, Ending, Next, Telling};
 pub use fault::Fault;
-pub use log_event::{FirstRequest, LogEvent, MOST_SHOWN, Place, Rejection, excerpt};
+pub use log_event::{FirstRequest, LogEvent, MOST_SHOWN, Place, Rejection, excerpt, number_text};
 pub use look::{Look, look_in};
 pub use lookout::{Limits, Lookout};
 pub use metrics::{Kind, Metrics};

@@ -1,6 +1,6 @@
 // What an operator cares for of a server, a line each.
 ghost use Rattle.std.specs.Prelude.{◌≡◌, ◌++◌, codes, string_bytes, IfOk};
-ghost use Rattle.xds_monitor.specs.Logging.{log_line, excerpt, shown_char, message_of, level_of, ended_text, first_text, place_text, rejected_text, event_line, variant_word};
+ghost use Rattle.xds_monitor.specs.Logging.{log_line, excerpt, shown_char, message_of, level_of, number_text, ended_text, first_text, place_text, rejected_text, event_line, variant_word};
 
 use log::{Level, Line, Metadata, Record};
 use std::alloc::Global;
@@ -41,8 +41,8 @@ pub struct Rejection {
 /// Something that an operator cares for.
 #[derive(Drop)]
 pub enum LogEvent {
-    /// A replica listens: its number, its port of streams, and that of REST.
-    Listening(u16, u16, u16),
+    /// A replica listens: its place among those of the server, its number, its port of streams, and that of REST.
+    Listening(u16, u16, u16, u16),
     /// A connection was taken, from this address.
     Connected(Place, String),
     /// The first request of a stream.
@@ -86,7 +86,7 @@ impl LogEvent {
         ensures { result ≡ level_of self.now }
     {
         match self {
-            LogEvent::Listening(_, _, _)
+            LogEvent::Listening(_, _, _, _)
             | LogEvent::Connected(_, _)
             | LogEvent::FirstRequest(_, _)
             | LogEvent::Ended(_, None) => Level::Info,
@@ -102,8 +102,8 @@ impl LogEvent {
         ensures { IfOk result (λ t. string_bytes t ≡ message_of self.now) }
     {
         match self {
-            LogEvent::Listening(replica, port, rest_port) => {
-                listening_text(alloc, *replica, *port, *rest_port)
+            LogEvent::Listening(replica, number, port, rest_port) => {
+                listening_text(alloc, *replica, *number, *port, *rest_port)
             }
             LogEvent::Connected(place, peer) => connected_text(alloc, *place, peer.as_str()),
             LogEvent::FirstRequest(place, first) => first_text(alloc, *place, first),
@@ -132,11 +132,29 @@ fn log_line(alloc: Global, level: Level, message: &str) -> Result<String, Refusa
     Ok(format!(in alloc; "{line}\n")?)
 }
 
-fn listening_text(alloc: Global, replica: u16, port: u16, rest_port: u16) -> Result<String, Refusal>
-    ensures { IfOk result (λ t. string_bytes t ≡ message_of (LogEvent.Listening replica port rest_port)) }
+/// What is told of a replica's number, where it isn't its place among those of the server.
+pub fn number_text(alloc: Global, place: u16, number: u16) -> Result<String, Refusal>
+    ensures { IfOk result (λ t. string_bytes t ≡ number_text place number) }
 {
+    if place == number {
+        return Ok(String::new(alloc));
+    }
+    Ok(format!(in alloc; " (number {number})")?)
+}
+
+fn listening_text(
+    alloc: Global,
+    replica: u16,
+    number: u16,
+    port: u16,
+    rest_port: u16,
+) -> Result<String, Refusal>
+    ensures { IfOk result (λ t. string_bytes t ≡ message_of (LogEvent.Listening replica number port rest_port)) }
+{
+    let named = number_text(alloc, replica, number)?;
+    let named = named.as_str();
     Ok(format!(in alloc;
-        "replica {replica} listens: streams on 127.0.0.1:{port}, REST on 127.0.0.1:{rest_port}"
+        "replica {replica}{named} listens: streams on 127.0.0.1:{port}, REST on 127.0.0.1:{rest_port}"
     )?)
 }
 

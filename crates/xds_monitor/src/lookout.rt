@@ -29,8 +29,10 @@ pub struct Limits {
 /// node's is taken.
 pub struct Lookout {
     alloc: Global,
-    /// The number of the replica.
+    /// The place of the replica among those of the server, from 1.
     replica: u16,
+    /// Its number, by which its writes are stamped.
+    number: u16,
     limits: Limits,
     board: Mutex<Board>,
     ending: Arc<Ending>,
@@ -42,6 +44,7 @@ impl Drop for Lookout {
         let Lookout {
             alloc: _,
             replica: _,
+            number: _,
             limits: _,
             board: _,
             ending: _,
@@ -50,11 +53,18 @@ impl Drop for Lookout {
 }
 
 impl Lookout {
-    /// That of a replica at which nothing happened.
-    pub fn new(alloc: Global, replica: u16, limits: Limits, ending: Arc<Ending>) -> Lookout {
+    /// That of a replica at which nothing happened, by its place among those of the server, from 1, and its number.
+    pub fn new(
+        alloc: Global,
+        replica: u16,
+        number: u16,
+        limits: Limits,
+        ending: Arc<Ending>,
+    ) -> Lookout {
         Lookout {
             alloc,
             replica,
+            number,
             limits,
             board: Mutex::new(Board::new(alloc)),
             ending,
@@ -124,11 +134,18 @@ impl Lookout {
         }
     }
 
-    /// The number of the replica.
+    /// The place of the replica among those of the server, from 1.
     pub fn replica(&self) -> u16
         ensures { result ≡ self.now.replica }
     {
         self.replica
+    }
+
+    /// Its number, by which its writes are stamped.
+    pub fn number(&self) -> u16
+        ensures { result ≡ self.now.number }
+    {
+        self.number
     }
 
     /// What was counted by now.
@@ -168,9 +185,13 @@ impl Lookout {
         board.refused = board.refused.saturating_add(1);
     }
 
-    /// A poll over HTTP was answered with this status.
+    /// A poll over HTTP was answered with this status: one that is answered by what is held has left a record.
     pub fn polled<R: Wait>(&self, rt: &R, status: u16) {
-        self.board.lock(rt).rest.count(status);
+        let mut board = self.board.lock(rt);
+        board.rest.count(status);
+        if status == 200 || status == 304 {
+            board.count(false, true);
+        }
     }
 
     /// An event that showed this left no record.
@@ -188,7 +209,7 @@ impl Lookout {
     ) {
         self.board.lock(rt).count(is_part(sight), true);
         match (sight, answer) {
-            (Sight::Request(stream, heard), _) => self.heard(rt, *stream, heard),
+            (Sight::Request(stream, heard), Ok(_)) => self.heard(rt, *stream, heard),
             (Sight::Poll(stream), Ok(Reply::Polled(Some(draft)))) => {
                 self.responded(rt, *stream, draft, now);
             }

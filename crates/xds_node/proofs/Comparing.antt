@@ -1,5 +1,5 @@
 -- Two workers of an exchange, and what passed between them.
-use Rattle.std.proofs.Common.{◌≡◌, ℕ, List, [], ◌++◌, Bool, Result, sym, ap, ◌∙◌}
+use Rattle.std.proofs.Common.{◌≡◌, ℕ, List, [], ◌++◌, Bool, Result, sym, ap, subst, ◌∙◌}
 use Rattle.crossbeam_channel.specs.Ends.{sends_on, receives_on}
 use Rattle.xds_resource.specs.declared.refusal.Refusal.{Refusal}
 use Rattle.xds_core.specs.Legal.{Record}
@@ -9,6 +9,7 @@ use Rattle.xds_exchange.specs.declared.ends.Outgoing.{Outgoing}
 use Rattle.xds_exchange.specs.declared.ends.Taken.{Taken}
 use Rattle.xds_node.specs.declared.exchange.Ended.{Ended}
 use Rattle.xds_node.specs.declared.parcels.Receipt.{Receipt}
+use Rattle.xds_node.specs.Exchanging.{HasMerged}
 use Rattle.xds_node.specs.Whole.{Exchange, IsExchange, MergesAll, TellsAll}
 
 -- an end that left after more was taken from it is of the same channel
@@ -31,15 +32,16 @@ pub tells_left : (s0 s1 : List (ℕ × Record)) (q0 q1 : List Record) (p0 p1 p2 
     → TellsAll s0 s1 q0 q1 p0 p1 g0 g1 ended → TellsAll s0 s1 q0 q1 p0 p2 g0 g2 ended
 tells_left s0 s1 q0 q1 p0 p1 p2 g0 g1 g2 ended p_same g_same (told, tried, put, got, s, q, p, g, has) = (told, tried, put, got, s, q, p_same ∙ p, g_same ∙ g, has)
 
-pub merges_left : (s0 s1 : List (ℕ × Record)) (q0 q1 : List Record) (t0 t1 t2 : List (List ℕ × Bool)) (v0 v1 v2 : List Receipt) (dropped : ℕ) → t2 ≡ t1 → v2 ≡ v1
-    → MergesAll s0 s1 q0 q1 t0 t1 v0 v1 dropped → MergesAll s0 s1 q0 q1 t0 t2 v0 v2 dropped
-merges_left s0 s1 q0 q1 t0 t1 t2 v0 v1 v2 dropped t_same v_same (told, tried, taken, given, s, q, t, v, has) = (told, tried, taken, given, s, q, t_same ∙ t, v_same ∙ v, has)
+pub merges_left : (s0 s1 : List (ℕ × Record)) (q0 q1 : List Record) (t0 t1 t2 : List (List ℕ × Bool)) (v0 v1 v2 : List Receipt) (f0 f1 f2 dropped : ℕ) → t2 ≡ t1 → v2 ≡ v1 → f2 ≡ f1
+    → MergesAll s0 s1 q0 q1 t0 t1 v0 v1 f0 f1 dropped → MergesAll s0 s1 q0 q1 t0 t2 v0 v2 f0 f2 dropped
+merges_left s0 s1 q0 q1 t0 t1 t2 v0 v1 v2 f0 f1 f2 dropped t_same v_same f_same (told, tried, taken, given, s, q, t, v, has) =
+    (told, tried, taken, given, s, q, t_same ∙ t, v_same ∙ v, subst (λ (f : ℕ). HasMerged told tried taken given dropped f0 f) (sym f_same) has)
 
 -- both together
-pub exchanged : (s0 s1 m0 m1 : List (ℕ × Record)) (q0 q1 n0 n1 : List Record) (p0 p1 t0 t1 : List (List ℕ × Bool)) (g0 g1 v0 v1 : List Receipt) (ended : Result Ended Refusal) (dropped : ℕ)
-    → TellsAll s0 s1 q0 q1 p0 p1 g0 g1 ended → MergesAll m0 m1 n0 n1 t0 t1 v0 v1 dropped → (p0 ≡ []) × (t0 ≡ []) → (v0 ≡ []) × (g0 ≡ []) → Begins t1 p1 → Begins g1 v1
-    → (x : Exchange) × (s1 ≡ s0 ++ x.told) × (q1 ≡ q0 ++ x.tried) × (m1 ≡ m0 ++ x.merged) × (n1 ≡ n0 ++ x.retried) × IsExchange x ended dropped
-exchanged s0 s1 m0 m1 q0 q1 n0 n1 p0 p1 t0 t1 g0 g1 v0 v1 ended dropped (told, tried, put, got, s, q, p, g, tells) (merged, retried, taken, given, m, n, t, v, merges) (no_put, no_taken) (no_given, no_got) parcels receipts = (
+pub exchanged : (s0 s1 m0 m1 : List (ℕ × Record)) (q0 q1 n0 n1 : List Record) (p0 p1 t0 t1 : List (List ℕ × Bool)) (g0 g1 v0 v1 : List Receipt) (ended : Result Ended Refusal) (f0 f1 f2 dropped : ℕ)
+    → TellsAll s0 s1 q0 q1 p0 p1 g0 g1 ended → MergesAll m0 m1 n0 n1 t0 t1 v0 v1 f0 f1 dropped → (p0 ≡ []) × (t0 ≡ []) → (v0 ≡ []) × (g0 ≡ []) → Begins t1 p1 → Begins g1 v1 → f2 ≡ f1
+    → (x : Exchange) × (s1 ≡ s0 ++ x.told) × (q1 ≡ q0 ++ x.tried) × (m1 ≡ m0 ++ x.merged) × (n1 ≡ n0 ++ x.retried) × IsExchange x ended dropped f0 f2
+exchanged s0 s1 m0 m1 q0 q1 n0 n1 p0 p1 t0 t1 g0 g1 v0 v1 ended f0 f1 f2 dropped (told, tried, put, got, s, q, p, g, tells) (merged, retried, taken, given, m, n, t, v, merges) (no_put, no_taken) (no_given, no_got) parcels receipts counts = (
   record { told = told; tried = tried; put = put; got = got; merged = merged; retried = retried; taken = taken; given = given },
   s,
   q,
@@ -47,7 +49,7 @@ exchanged s0 s1 m0 m1 q0 q1 n0 n1 p0 p1 t0 t1 g0 g1 v0 v1 ended dropped (told, t
   n,
   record {
     tells = tells;
-    merges = merges;
+    merges = subst (λ (f : ℕ). HasMerged merged retried taken given dropped f0 f) (sym counts) merges;
     parcels = begins_of t0 t1 taken p0 p1 put parcels no_taken no_put t p;
     receipts = begins_of g0 g1 got v0 v1 given receipts no_got no_given g v;
   },

@@ -10,6 +10,7 @@ use Rattle.std.proofs.lemmas.List.Sums.{fold-append}
 use Rattle.xds_resource.specs.PerType.{PerType}
 use Rattle.xds_resource.specs.Writes.{StampedWrite}
 use Rattle.xds_resource.specs.declared.refusal.Refusal.{Refusal}
+use Rattle.xds_frames.specs.Devices.{MoreFailed}
 use Rattle.xds_core.specs.Events.{Merge, Reply}
 use Rattle.xds_core.specs.Legal.{Record}
 use Rattle.xds_core.specs.declared.event.Reply as replied
@@ -52,23 +53,23 @@ pub record ByTakings (s0 s1 : List (ℕ × Record)) (r0 r1 : List Record) (t0 t1
   pub taken : t1 ≡ t0 ++ map (λ t. t.parcel) takings
   pub drops : dropped ≡ sum_by (λ t. t.dropped) takings
 
-abbrev pub Merges : List (ℕ × Record) → List (ℕ × Record) → List Record → List Record → List (List ℕ × Bool) → List (List ℕ × Bool) → List Receipt → List Receipt → ℕ → Bool → Type 0
-Merges s0 s1 r0 r1 t0 t1 p0 p1 dropped lost =
-    (takings : List Taking) × ByTakings s0 s1 r0 r1 t0 t1 takings dropped × (p1 ≡ p0 ++ receipts_due false takings) × (lost ≡ lost_after false takings)
+abbrev pub Merges : List (ℕ × Record) → List (ℕ × Record) → List Record → List Record → List (List ℕ × Bool) → List (List ℕ × Bool) → List Receipt → List Receipt → ℕ → ℕ → ℕ → Bool → Type 0
+Merges s0 s1 r0 r1 t0 t1 p0 p1 f0 f1 dropped lost =
+    (takings : List Taking) × ByTakings s0 s1 r0 r1 t0 t1 takings dropped × (p1 ≡ p0 ++ receipts_due false takings) × (lost ≡ lost_after false takings) × (f1 ≡ f0)
 
-pub merging-start : (s : List (ℕ × Record)) (r : List Record) (t : List (List ℕ × Bool)) (p : List Receipt) → Merges s s r r t t p p 0 false
-merging-start s r t p =
-    ([], record { are = All-nil IsTaking; told = sym (append-nil s); tried = sym (append-nil r); taken = sym (append-nil t); drops = refl }, sym (append-nil p), refl)
+pub merging-start : (s : List (ℕ × Record)) (r : List Record) (t : List (List ℕ × Bool)) (p : List Receipt) (f : ℕ) → Merges s s r r t t p p f f 0 false
+merging-start s r t p f =
+    ([], record { are = All-nil IsTaking; told = sym (append-nil s); tried = sym (append-nil r); taken = sym (append-nil t); drops = refl }, sym (append-nil p), refl, refl)
 
 -- all of it, where it ends so
-abbrev pub Merged : List (ℕ × Record) → List (ℕ × Record) → List Record → List Record → List (List ℕ × Bool) → List (List ℕ × Bool) → List Receipt → List Receipt → ℕ → Type 0
-Merged s0 s1 r0 r1 t0 t1 p0 p1 dropped =
+abbrev pub Merged : List (ℕ × Record) → List (ℕ × Record) → List Record → List Record → List (List ℕ × Bool) → List (List ℕ × Bool) → List Receipt → List Receipt → ℕ → ℕ → ℕ → Type 0
+Merged s0 s1 r0 r1 t0 t1 p0 p1 f0 f1 dropped =
     (told : List (ℕ × Record)) × (tried : List Record) × (taken : List (List ℕ × Bool)) × (given : List Receipt)
-    × (s1 ≡ s0 ++ told) × (r1 ≡ r0 ++ tried) × (t1 ≡ t0 ++ taken) × (p1 ≡ p0 ++ given) × HasMerged told tried taken given dropped
+    × (s1 ≡ s0 ++ told) × (r1 ≡ r0 ++ tried) × (t1 ≡ t0 ++ taken) × (p1 ≡ p0 ++ given) × HasMerged told tried taken given dropped f0 f1
 
-all_of : (s0 s1 : List (ℕ × Record)) (r0 r1 : List Record) (t0 t1 : List (List ℕ × Bool)) (p0 p1 given : List Receipt) (takings : List Taking) (dropped : ℕ) → ByTakings s0 s1 r0 r1 t0 t1 takings dropped
-    → p1 ≡ p0 ++ given → AreReceipts given takings → Merged s0 s1 r0 r1 t0 t1 p0 p1 dropped
-all_of s0 s1 r0 r1 t0 t1 p0 p1 given takings dropped so put are = (
+all_of : (s0 s1 : List (ℕ × Record)) (r0 r1 : List Record) (t0 t1 : List (List ℕ × Bool)) (p0 p1 given : List Receipt) (takings : List Taking) (f0 f1 dropped : ℕ) → ByTakings s0 s1 r0 r1 t0 t1 takings dropped
+    → p1 ≡ p0 ++ given → AreReceipts given takings f0 f1 → Merged s0 s1 r0 r1 t0 t1 p0 p1 f0 f1 dropped
+all_of s0 s1 r0 r1 t0 t1 p0 p1 given takings f0 f1 dropped so put are = (
   flat_map (λ t. t.told) takings,
   flat_map (λ t. t.tried) takings,
   map (λ t. t.parcel) takings,
@@ -80,10 +81,10 @@ all_of s0 s1 r0 r1 t0 t1 p0 p1 given takings dropped so put are = (
   record { takings = takings; are_takings = so.are; taken_are = refl; told_are = refl; tried_are = refl; dropped_are = so.drops; receipts_are = are },
 )
 
-pub merging-ended : (s0 s1 : List (ℕ × Record)) (r0 r1 : List Record) (t0 t1 t2 : List (List ℕ × Bool)) (p0 p1 : List Receipt) (dropped : ℕ) (lost : Bool) → Merges s0 s1 r0 r1 t0 t1 p0 p1 dropped lost
-    → t2 ≡ t1 → Merged s0 s1 r0 r1 t0 t2 p0 p1 dropped
-merging-ended s0 s1 r0 r1 t0 t1 t2 p0 p1 dropped lost (takings, so, put, is) same =
-    subst (λ (t : List (List ℕ × Bool)). Merged s0 s1 r0 r1 t0 t p0 p1 dropped) (sym same) (all_of s0 s1 r0 r1 t0 t1 p0 p1 (receipts_due false takings) takings dropped so put (inl refl))
+pub merging-ended : (s0 s1 : List (ℕ × Record)) (r0 r1 : List Record) (t0 t1 t2 : List (List ℕ × Bool)) (p0 p1 : List Receipt) (f0 f1 dropped : ℕ) (lost : Bool) → Merges s0 s1 r0 r1 t0 t1 p0 p1 f0 f1 dropped lost
+    → t2 ≡ t1 → Merged s0 s1 r0 r1 t0 t2 p0 p1 f0 f1 dropped
+merging-ended s0 s1 r0 r1 t0 t1 t2 p0 p1 f0 f1 dropped lost (takings, so, put, is, none) same =
+    subst (λ (t : List (List ℕ × Bool)). Merged s0 s1 r0 r1 t0 t p0 p1 f0 f1 dropped) (sym same) (all_of s0 s1 r0 r1 t0 t1 p0 p1 (receipts_due false takings) takings f0 f1 dropped so put (inl (refl, none)))
 
 -- what a parcel more added
 grown : {X : Type 0} (f : Taking → List X) (takings : List Taking) (t : Taking) (old mid new : List X) → mid ≡ old ++ flat_map f takings → new ≡ mid ++ f t → new ≡ old ++ flat_map f (takings ++ t ∷ [])
@@ -91,12 +92,12 @@ grown f takings t old mid new is more =
     more ∙ ap (λ l. l ++ f t) is ∙ append_assoc old (flat_map f takings) (f t) ∙ ap (λ l. old ++ (flat_map f takings ++ l)) (sym (append-nil (f t)))
     ∙ ap (λ l. old ++ l) (sym (flat_map-append f takings (t ∷ [])))
 
-module _ (s0 s1 s2 : List (ℕ × Record)) (r0 r1 r2 : List Record) (t0 t1 t2 : List (List ℕ × Bool)) (p0 p1 p2 : List Receipt) (dropped after : ℕ) (lost now later : Bool) (parcel : List ℕ × Bool) (r : ℕ × Bool) where
+module _ (s0 s1 s2 : List (ℕ × Record)) (r0 r1 r2 : List Record) (t0 t1 t2 : List (List ℕ × Bool)) (p0 p1 p2 : List Receipt) (f0 f1 f2 dropped after : ℕ) (lost now later : Bool) (parcel : List ℕ × Bool) (r : ℕ × Bool) where
   abbrev Step : Type 0
   Step = (told : List (ℕ × Record)) × (tried : List Record) × (s2 ≡ s1 ++ told) × (r2 ≡ r1 ++ tried) × IsMerging parcel told tried r
 
   abbrev Before : Type 0
-  Before = Merges s0 s1 r0 r1 t0 t1 p0 p1 dropped lost
+  Before = Merges s0 s1 r0 r1 t0 t1 p0 p1 f0 f1 dropped lost
 
   module _ (step : Step) (took : t2 ≡ t1 ++ parcel ∷ []) (counts : after ≡ dropped + r.0) (loses : now ≡ (lost || not r.1)) where
     abbrev one : Taking
@@ -115,37 +116,39 @@ module _ (s0 s1 s2 : List (ℕ × Record)) (r0 r1 r2 : List Record) (t0 t1 t2 : 
     lost_now takings is = loses ∙ ap (λ b. lost || not b) step.4.1 ∙ ap (λ b. b || not (is_merged step.0)) is
 
     -- it goes on
-    on_by : (ok : Bool) → Before → ok ≡ true → Acknowledges parcel.1 now later p1 p2 ok → Merges s0 s2 r0 r2 t0 t2 p0 p2 after later
-    on_by ok (takings, so, put, is) goes acknowledged =
-        let (receipts, state) = by parcel.1 ok goes acknowledged in (
+    on_by : (ok : Bool) → Before → ok ≡ true → Acknowledges parcel.1 now later p1 p2 f1 f2 ok → Merges s0 s2 r0 r2 t0 t2 p0 p2 f0 f2 after later
+    on_by ok (takings, so, put, is, none) goes acknowledged =
+        let (receipts, state, fine) = by parcel.1 ok goes acknowledged in (
           takings ++ one ∷ [],
           more_by takings so,
           receipts ∙ ap (λ l. l ++ receipts_of parcel.1 now) put ∙ append_assoc p0 (receipts_due false takings) (receipts_of parcel.1 now)
               ∙ ap (λ b. p0 ++ (receipts_due false takings ++ receipts_of parcel.1 b)) (lost_now takings is) ∙ ap (λ l. p0 ++ l) (sym (due-snoc false takings one)),
           state ∙ ap (λ b. if parcel.1 then false else b) (lost_now takings is) ∙ sym (lost-snoc false takings one),
+          fine ∙ none,
         )
       where
-        by : (last ok : Bool) → ok ≡ true → Acknowledges last now later p1 p2 ok → (p2 ≡ p1 ++ receipts_of last now) × (later ≡ (if last then false else now))
+        by : (last ok : Bool) → ok ≡ true → Acknowledges last now later p1 p2 f1 f2 ok → (p2 ≡ p1 ++ receipts_of last now) × (later ≡ (if last then false else now)) × (f2 ≡ f1)
         by true true goes acknowledged = acknowledged
         by true false goes acknowledged = absurd (false≢true goes)
-        by false ok goes acknowledged = (acknowledged.1 ∙ sym (append-nil p1), acknowledged.2)
+        by false ok goes acknowledged = (acknowledged.1 ∙ sym (append-nil p1), acknowledged.2, acknowledged.3)
 
     -- or it ends there
-    stopped_by : (ok : Bool) → Before → Acknowledges parcel.1 now later p1 p2 ok → Merged s0 s2 r0 r2 t0 t2 p0 p2 after
-    stopped_by true so acknowledged = merging-ended s0 s2 r0 r2 t0 t2 t2 p0 p2 after later (on_by true so refl acknowledged) refl
-    stopped_by false (takings, so, put, is) acknowledged =
-        let (last, same) = by parcel.1 acknowledged in
-        all_of s0 s2 r0 r2 t0 t2 p0 p2 (receipts_due false takings) (takings ++ one ∷ []) after (more_by takings so) (same ∙ put) (inr (takings, one, refl, last, refl))
+    stopped_by : (ok : Bool) → Before → Acknowledges parcel.1 now later p1 p2 f1 f2 ok → Merged s0 s2 r0 r2 t0 t2 p0 p2 f0 f2 after
+    stopped_by true so acknowledged = merging-ended s0 s2 r0 r2 t0 t2 t2 p0 p2 f0 f2 after later (on_by true so refl acknowledged) refl
+    stopped_by false (takings, so, put, is, none) acknowledged =
+        let (last, same, failed) = by parcel.1 acknowledged in
+        all_of s0 s2 r0 r2 t0 t2 p0 p2 (receipts_due false takings) (takings ++ one ∷ []) f0 f2 after (more_by takings so) (same ∙ put)
+        (inr ((takings, one, refl, last, refl), subst (λ (f : ℕ). MoreFailed f f2) none failed))
       where
-        by : (last : Bool) → Acknowledges last now later p1 p2 false → (last ≡ true) × (p2 ≡ p1)
-        by true acknowledged = (refl, acknowledged)
+        by : (last : Bool) → Acknowledges last now later p1 p2 f1 f2 false → (last ≡ true) × (p2 ≡ p1) × MoreFailed f1 f2
+        by true acknowledged = (refl, acknowledged.0, acknowledged.1)
         by false acknowledged = absurd (false≢true acknowledged.0)
 
-    pub merging-more : (ok last : Bool) → Before → last ≡ parcel.1 → ok ≡ true → Acknowledges last now later p1 p2 ok → Merges s0 s2 r0 r2 t0 t2 p0 p2 after later
-    merging-more ok last so is goes acknowledged = on_by ok so goes (subst (λ (b : Bool). Acknowledges b now later p1 p2 ok) is acknowledged)
+    pub merging-more : (ok last : Bool) → Before → last ≡ parcel.1 → ok ≡ true → Acknowledges last now later p1 p2 f1 f2 ok → Merges s0 s2 r0 r2 t0 t2 p0 p2 f0 f2 after later
+    merging-more ok last so is goes acknowledged = on_by ok so goes (subst (λ (b : Bool). Acknowledges b now later p1 p2 f1 f2 ok) is acknowledged)
 
-    pub merging-stopped : (ok last : Bool) → Before → last ≡ parcel.1 → Acknowledges last now later p1 p2 ok → Merged s0 s2 r0 r2 t0 t2 p0 p2 after
-    merging-stopped ok last so is acknowledged = stopped_by ok so (subst (λ (b : Bool). Acknowledges b now later p1 p2 ok) is acknowledged)
+    pub merging-stopped : (ok last : Bool) → Before → last ≡ parcel.1 → Acknowledges last now later p1 p2 f1 f2 ok → Merged s0 s2 r0 r2 t0 t2 p0 p2 f0 f2 after
+    merging-stopped ok last so is acknowledged = stopped_by ok so (subst (λ (b : Bool). Acknowledges b now later p1 p2 f1 f2 ok) is acknowledged)
 
 -- ---- one parcel
 

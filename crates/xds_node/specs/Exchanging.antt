@@ -22,14 +22,14 @@
 --     lost_after             whether a part of the present batch was lost, after these parcels
 --     receipt_for            the receipt of a batch
 --     receipts_due           a receipt is due after the last parcel of each batch: merged where no part of it was lost
---     AreReceipts            all that were due were put
+--     AreReceipts            all that were due were put, or the last one wasn't, since its put failed
 --     HasMerged              all of who merges: the parcels in order, each merged or dropped
 --     IsReason               why a batch isn't sent: the other end is gone, or there was no memory
 --     given_up               what a turn answers whose batch isn't sent
 --     Puts                   some parcels are put behind others, or a beginning of them
 --     Settles                and one receipt is taken for them, if there are any
 --     IsMerging              a parcel is merged or dropped, and whether a merge of it was answered
---     Acknowledges           after the last parcel of a batch its receipt is put, if somebody takes it
+--     Acknowledges           after the last parcel of a batch its receipt is put, or its put failed
 use Rattle.std.specs.Prelude.{◌≡◌, ◌≢◌, ◌⊎◌, ℕ, List, [], ◌∷◌, ◌++◌, map, All, Bool, true, false, ◌||◌, if◌then◌else◌, is_ok, not, Result, Ok, Err, ⊤}
 use Rattle.std.specs.List.{flat_map, sum_by}
 use Rattle.xds_resource.specs.declared.refusal.Refusal.{Refusal}
@@ -38,6 +38,7 @@ use Rattle.xds_resource.specs.PerType.{PerType, each}
 use Rattle.xds_resource.specs.Writes.{StampedWrite}
 use Rattle.xds_core.specs.Events.{Since, Merge}
 use Rattle.xds_core.specs.Legal.{Record}
+use Rattle.xds_frames.specs.Devices.{MoreFailed}
 use Rattle.xds_exchange.specs.Ends.{Begins}
 use Rattle.xds_node.specs.Told.{LeavesNoRecord}
 use Rattle.xds_node.specs.declared.exchange.Ended.{Ended}
@@ -178,21 +179,24 @@ receipts_due lost [] = []
 receipts_due lost (t ∷ ts) =
     if t.parcel.1 then receipt_for (lost || not (is_merged t.told)) ∷ receipts_due false ts else receipts_due (lost || not (is_merged t.told)) ts
 
--- All that were due were put; or nobody took the last one, which was due behind the last parcel that was taken.
-abbrev pub AreReceipts : List Receipt → List Taking → Type 0
-AreReceipts receipts takings =
-    (receipts ≡ receipts_due false takings)
-    ⊎ ((before : List Taking) × (last : Taking) × (takings ≡ before ++ last ∷ []) × (last.parcel.1 ≡ true) × (receipts ≡ receipts_due false before))
+-- All that were due were put, and no put failed; or the put of the last one failed, which was due behind the last parcel that was
+-- taken. `failed` and `after` count the puts that failed, before and after.
+abbrev pub AreReceipts : List Receipt → List Taking → ℕ → ℕ → Type 0
+AreReceipts receipts takings failed after =
+    ((receipts ≡ receipts_due false takings) × (after ≡ failed))
+    ⊎ (((before : List Taking) × (last : Taking) × (takings ≡ before ++ last ∷ []) × (last.parcel.1 ≡ true) × (receipts ≡ receipts_due false before))
+    × MoreFailed failed after)
 
--- All of who merges: the parcels in order, each merged or dropped, and the receipts that were put.
-pub record HasMerged (told : List (ℕ × Record)) (tried : List Record) (taken : List (List ℕ × Bool)) (receipts : List Receipt) (dropped : ℕ) : Type 0 where
+-- All of who merges: the parcels in order, each merged or dropped, and the receipts that were put, where so many puts of receipts had
+-- failed before and after.
+pub record HasMerged (told : List (ℕ × Record)) (tried : List Record) (taken : List (List ℕ × Bool)) (receipts : List Receipt) (dropped failed after : ℕ) : Type 0 where
   pub takings : List Taking
   pub are_takings : All IsTaking takings
   pub taken_are : taken ≡ map (λ t. t.parcel) takings
   pub told_are : told ≡ flat_map (λ t. t.told) takings
   pub tried_are : tried ≡ flat_map (λ t. t.tried) takings
   pub dropped_are : dropped ≡ sum_by (λ t. t.dropped) takings
-  pub receipts_are : AreReceipts receipts takings
+  pub receipts_are : AreReceipts receipts takings failed after
 
 -- ---- their steps
 
@@ -221,8 +225,8 @@ Settles parcels old new had has (Err e) = IsReason e × ((put : List (List ℕ �
 abbrev pub IsMerging : List ℕ × Bool → List (ℕ × Record) → List Record → ℕ × Bool → Type 0
 IsMerging parcel told tried r = IsTaking (record { parcel = parcel; told = told; tried = tried; dropped = r.0 }) × (r.1 ≡ is_merged told)
 
--- after the last parcel of a batch its receipt is put, if somebody takes it
-abbrev pub Acknowledges : Bool → Bool → Bool → List Receipt → List Receipt → Bool → Type 0
-Acknowledges false lost after had has ok = (ok ≡ true) × (has ≡ had) × (after ≡ lost)
-Acknowledges true lost after had has true = (has ≡ had ++ receipt_for lost ∷ []) × (after ≡ false)
-Acknowledges true lost after had has false = has ≡ had
+-- After the last parcel of a batch its receipt is put, or its put failed. So many puts had failed before, and have failed now.
+abbrev pub Acknowledges : Bool → Bool → Bool → List Receipt → List Receipt → ℕ → ℕ → Bool → Type 0
+Acknowledges false lost after had has failed now ok = (ok ≡ true) × (has ≡ had) × (after ≡ lost) × (now ≡ failed)
+Acknowledges true lost after had has failed now true = (has ≡ had ++ receipt_for lost ∷ []) × (after ≡ false) × (now ≡ failed)
+Acknowledges true lost after had has failed now false = (has ≡ had) × MoreFailed failed now

@@ -23,10 +23,11 @@ pub record Exchange : Type 0 where
   pub taken : List (List ℕ × Bool)
   pub given : List Receipt
 
--- Each worker does its part, and so ended. Of each channel what was taken is a beginning of what was put, in order.
-pub record IsExchange (x : Exchange) (ended : Result Ended Refusal) (dropped : ℕ) : Type 0 where
+-- Each worker does its part, and so ended. Of each channel what was taken is a beginning of what was put, in order. So many puts of
+-- receipts had failed before and after.
+pub record IsExchange (x : Exchange) (ended : Result Ended Refusal) (dropped failed after : ℕ) : Type 0 where
   pub tells : HasTold x.told x.tried x.put x.got ended
-  pub merges : HasMerged x.merged x.retried x.taken x.given dropped
+  pub merges : HasMerged x.merged x.retried x.taken x.given dropped failed after
   pub parcels : Begins x.taken x.put
   pub receipts : Begins x.got x.given
 
@@ -41,7 +42,7 @@ TellsAll s0 s1 q0 q1 p0 p1 g0 g1 ended =
 
 -- and of who merges
 abbrev pub MergesAll : List (ℕ × Record) → List (ℕ × Record) → List Record → List Record → List (List ℕ × Bool) → List (List ℕ × Bool)
-    → List Receipt → List Receipt → ℕ → Type 0
-MergesAll s0 s1 q0 q1 t0 t1 v0 v1 dropped =
+    → List Receipt → List Receipt → ℕ → ℕ → ℕ → Type 0
+MergesAll s0 s1 q0 q1 t0 t1 v0 v1 f0 f1 dropped =
     (told : List (ℕ × Record)) × (tried : List Record) × (taken : List (List ℕ × Bool)) × (given : List Receipt)
-    × (s1 ≡ s0 ++ told) × (q1 ≡ q0 ++ tried) × (t1 ≡ t0 ++ taken) × (v1 ≡ v0 ++ given) × HasMerged told tried taken given dropped
+    × (s1 ≡ s0 ++ told) × (q1 ≡ q0 ++ tried) × (t1 ≡ t0 ++ taken) × (v1 ≡ v0 ++ given) × HasMerged told tried taken given dropped f0 f1

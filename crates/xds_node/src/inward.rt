@@ -1,7 +1,7 @@
 // The thread that merges what another replica tells.
 ghost use Rattle.std.specs.Prelude.{◌≡◌, ℕ, List, [], ◌∷◌, ◌++◌, Bool};
 ghost use Rattle.xds_core.specs.Legal.{Record};
-ghost use Rattle.xds_exchange.specs.Ends.{put_by, taken_by, IsSameEnd, IsSameSource};
+ghost use Rattle.xds_exchange.specs.Ends.{failed_by, put_by, taken_by, IsSameEnd, IsSameSource};
 ghost use Rattle.xds_node.specs.Exchanging.{Acknowledges, HasMerged, IsMerging, receipt_for};
 ghost use Rattle.xds_node.specs.declared.parcels.Receipt.{Receipt};
 
@@ -18,10 +18,10 @@ pub const MOST_DROPPED: u64 = 9_223_372_036_854_775_807;
 
 /// The thread that merges what another replica tells. Each parcel is merged, as one event, or dropped, where it spells no
 /// batch or the merge leaves no record (`OutOfMemory`, `JournalFull` in spite of a cut). After the last parcel of a batch
-/// it puts a receipt: `Merged`, or `Lost` where a part wasn't merged. Every receipt that is due is put, but for the last one,
-/// where nobody takes it.
+/// it puts a receipt: `Merged`, or `Lost` where a part wasn't merged. Every receipt that is due is put, but for the last one
+/// where the put of it failed.
 ///
-/// It ends with the channel of the parcels, or where nobody takes a receipt, or once [`MOST_DROPPED`] parcels were dropped.
+/// It ends with the channel of the parcels, or where the put of a receipt failed, or once [`MOST_DROPPED`] parcels were dropped.
 /// It answers how many were dropped.
 pub fn exchange_in<H: Host, G: Gate<H::Segment>, R: Wait>(
     rt: &R,
@@ -37,7 +37,7 @@ pub fn exchange_in<H: Host, G: Gate<H::Segment>, R: Wait>(
     ensures merged { (told : List (ℕ × Record)) × (tried : List Record) × (taken : List (List ℕ × Bool)) × (given : List Receipt)
         × (H.told seat.new ≡ H.told seat.old ++ told) × (H.refused seat.new ≡ H.refused seat.old ++ tried)
         × (taken_by from.new ≡ taken_by from.old ++ taken)
-        × (put_by receipts.new ≡ put_by receipts.old ++ given) × HasMerged told tried taken given result }
+        × (put_by receipts.new ≡ put_by receipts.old ++ given) × HasMerged told tried taken given result (failed_by receipts.old) (failed_by receipts.new) }
 {
     let mut dropped = 0;
     let mut lost = false;
@@ -86,7 +86,7 @@ fn acknowledge<R: Wait>(
     lost: &mut bool,
 ) -> bool
     ensures end { IsSameEnd receipts.old receipts.new }
-    ensures receipt { Acknowledges last lost.old lost.new (put_by receipts.old) (put_by receipts.new) result }
+    ensures receipt { Acknowledges last lost.old lost.new (put_by receipts.old) (put_by receipts.new) (failed_by receipts.old) (failed_by receipts.new) result }
 {
     if !last {
         return true;

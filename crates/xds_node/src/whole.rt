@@ -1,6 +1,6 @@
 // An exchange as a whole: the worker at each of two nodes, and the channels between them.
 ghost use Rattle.std.specs.Prelude.{◌≡◌, [], ◌++◌};
-ghost use Rattle.xds_exchange.specs.Ends.{put_by, taken_by, taken_of, AreEnds, IsOf, IsSameEnd};
+ghost use Rattle.xds_exchange.specs.Ends.{failed_by, put_by, taken_by, taken_of, AreEnds, IsOf, IsSameEnd};
 ghost use Rattle.xds_node.specs.Whole.{Exchange, IsExchange, MergesAll, TellsAll};
 
 use crate::exchange::Ended;
@@ -18,10 +18,12 @@ use std::thread::{Threads, join};
 use xds_exchange::{Incoming, Outgoing, Taken};
 use xds_resource::Refusal;
 
-/// What came of an exchange: how the one ended that told, how many parcels the other dropped, and the seat of each.
+/// What came of an exchange: how the one ended that told, how many parcels the other dropped, how many puts by its end for
+/// receipts have failed, and the seat of each.
 pub struct Exchanged<M: NodeName, N: NodeName> {
     pub ended: Result<Ended, Refusal>,
     pub dropped: u64,
+    pub failed: u64,
     pub teller: Seat<M>,
     pub merger: Seat<N>,
 }
@@ -32,6 +34,7 @@ impl<M: NodeName, N: NodeName> Drop for Exchanged<M, N> {
         let Exchanged {
             ended: _,
             dropped: _,
+            failed: _,
             teller: _,
             merger: _,
         } = self;
@@ -59,7 +62,7 @@ where
     requires receipts { AreEnds receipts.0 receipts.1 × (put_by receipts.0 ≡ []) × (taken_by receipts.1 ≡ []) }
     ensures { (x : Exchange) × (result.teller.told ≡ from.entry.1.told ++ x.told) × (result.teller.refused ≡ from.entry.1.refused ++ x.tried)
         × (result.merger.told ≡ to.entry.1.told ++ x.merged) × (result.merger.refused ≡ to.entry.1.refused ++ x.retried)
-        × IsExchange x result.ended result.dropped }
+        × IsExchange x result.ended result.dropped (failed_by receipts.0) result.failed }
 {
     let (from, tells, tells_by) = from;
     let (to, merges, merges_by) = to;
@@ -82,14 +85,16 @@ where
             ensures end { IsSameEnd back result.2 }
             ensures left { (o : _) → AreEnds o into → IsOf o result.3 }
             ensures merged { MergesAll merges.told result.1.told merges.refused result.1.refused
-                (taken_by into) (taken_of result.3) (put_by back) (put_by result.2) result.0 }
+                (taken_by into) (taken_of result.3) (put_by back) (put_by result.2) (failed_by back) (failed_by result.2) result.0 }
         { merge_all(rt, alloc, to, merges, merges_by, into, back) },
     );
+    let failed = back.failed();
     out.compare(taken);
     back.compare(got);
     Exchanged {
         ended,
         dropped,
+        failed,
         teller,
         merger,
     }
@@ -136,7 +141,7 @@ fn merge_all<H: Host, G: Gate<H::Segment>, R: Wait>(
     ensures end { IsSameEnd receipts result.2 }
     ensures left { (o : _) → AreEnds o from → IsOf o result.3 }
     ensures merged { MergesAll (H.told seat) (H.told result.1) (H.refused seat) (H.refused result.1)
-        (taken_by from) (taken_of result.3) (put_by receipts) (put_by result.2) result.0 }
+        (taken_by from) (taken_of result.3) (put_by receipts) (put_by result.2) (failed_by receipts) (failed_by result.2) result.0 }
 {
     let mut seat = seat;
     let mut from = from;

@@ -43,8 +43,10 @@ one_serve rows s t h k =
 one_served : (rows : List Row) (s t : Serves) → AsksServed rows s → AsksServed rows t → s ≡ t
 one_served rows s t h k =
     let task = one_serve rows s.task t.task h.task k.task in
+    let first_number = one_found (IsNumber rows (codes "first-number")) (one_number rows (codes "first-number")) s.first_number t.first_number h.first_number k.first_number in
     let folder = sym h.folder ∙ k.folder in
-    λ i. record { task = task i; folder = folder i }
+    let load = sym h.load ∙ k.load in
+    λ i. record { task = task i; first_number = first_number i; folder = folder i; load = load i }
 
 one_client : (rows : List Row) (c d : Watch) → AsksClient rows c → AsksClient rows d → c ≡ d
 one_client rows c d h k =

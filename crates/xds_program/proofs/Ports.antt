@@ -4,7 +4,7 @@ use Rattle.std.proofs.lemmas.Bool.{cases_lt}
 use Rattle.clap.specs.Words.{Row, Text}
 use Rattle.xds_program.specs.declared.tasks.ServeTask.{ServeTask}
 use Rattle.xds_program.specs.declared.wrong_values.WrongValue.{WrongValue}
-use Rattle.xds_program.specs.Words.{AsksServe, Finds, IsNumber, are_apart, is_alone}
+use Rattle.xds_program.specs.Words.{AsksServe, Finds, IsNumber, are_apart, has_numbers, is_alone}
 use Rattle.xds_program.specs.WrongValues.{Blames, BlamesIn}
 use Rattle.xds_program.proofs.Values.{one_number}
 use Rattle.xds_program.proofs.OneTask.{one_found}
@@ -39,6 +39,14 @@ module _ (rows : List Row) (replicas port rest_port : ℕ) (admin : Option ℕ) 
 
   pub not_alone : is_alone admin port rest_port replicas ≡ false → (x : ServeTask) → AsksServe rows x → ⊥
   not_alone meet x h = true≢false (sym h.alone ∙ (λ i. is_alone (admin_is x h i) (port_is x h i) (rest_port_is x h i) (replicas_are x h i)) ∙ meet)
+
+-- no task is asked for whose replicas have no numbers
+pub no_numbers : (rows : List Row) (s : ServeTask) (first : Option ℕ) → AsksServe rows s → Finds (IsNumber rows (codes "first-number")) first → has_numbers first s.replicas ≡ false
+    → (x : ServeTask × Option ℕ) → AsksServe rows x.0 × Finds (IsNumber rows (codes "first-number")) x.1 × (has_numbers x.1 x.0.replicas ≡ true) → ⊥
+no_numbers rows s first asks found lack x h =
+    let replicas = one_number rows (codes "replicas") x.0.replicas s.replicas h.0.replicas asks.replicas in
+    let number = one_found (IsNumber rows (codes "first-number")) (one_number rows (codes "first-number")) x.1 first h.1 found in
+    true≢false (sym h.2 ∙ (λ i. has_numbers (number i) (replicas i)) ∙ lack)
 
 -- a value of the command that was named
 pub blames_in : (named : Option (Text × List Row)) (rows : List Row) (wrong : WrongValue) → option_map (λ p. p.1) named ≡ Some rows → Blames rows wrong → BlamesIn named wrong

@@ -11,7 +11,8 @@
 --     rest_port_option                 `xds check`, which has no options
 --     serve_start                      `xds serve`, with the options that say what is served where, and for how long
 --     serve_command                    `xds serve [--replicas N] [--port P] [--rest-port Q] [--streams S] [--keep-going] [--log]
---                                      [--max-streams N] [--idle-seconds T] [--admin-port A] [--record DIR]`
+--                                      [--max-streams N] [--idle-seconds T] [--admin-port A] [--record DIR]
+--                                      [--first-number F] [--load FILE]`
 --     client_start                     `xds client`, with the options that say where it asks, how, and for what
 --     client_command                   `xds client`, with its options and names
 --     poll_start                       `xds poll`, with the options that say where it asks, and for what
@@ -93,15 +94,17 @@ serve_start =
     rest_port_option)
     (number_option (codes "streams"))
 
--- `xds serve [--replicas N] [--port P] [--rest-port Q] [--streams S] [--keep-going] [--log] [--max-streams N] [--idle-seconds T] [--admin-port A] [--record DIR]`
+-- `xds serve [--replicas N] [--port P] [--rest-port Q] [--streams S] [--keep-going] [--log] [--max-streams N] [--idle-seconds T] [--admin-port A] [--record DIR] [--first-number F] [--load FILE]`
 abbrev pub serve_command : App
 serve_command =
-    with_rule (with_rule (with_rule (with_rule (with_rule (with_rule serve_start (flag_option (codes "keep-going")))
+    with_rule (with_rule (with_rule (with_rule (with_rule (with_rule (with_rule (with_rule serve_start (flag_option (codes "keep-going")))
     (flag_option (codes "log")))
     (number_option (codes "max-streams")))
     (number_option (codes "idle-seconds")))
     (number_option (codes "admin-port")))
-    (text_option (codes "record"))
+    (text_option (codes "record")))
+    (number_option (codes "first-number")))
+    (text_option (codes "load"))
 
 -- `xds client`, with the options that say where it asks, how, and for what
 abbrev pub client_start : App

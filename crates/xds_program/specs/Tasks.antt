@@ -1,6 +1,6 @@
 -- What the program may be asked for, as contracts see it: texts as their bytes. This project's own.
 --     variant_of_word   the variant that the programs call by this word
---     Serves            `xds serve`: what is served, and the folder of the traces, if there is one
+--     Serves            `xds serve`: what is served, the number of the first replica, the folder of the traces and the file that is loaded
 --     Watch             `xds client`: a client that subscribes on a stream
 --     Look              `xds poll`: one look at a replica, over REST
 use Rattle.std.specs.Prelude.{ℕ, List, codes, Option, Some, None, if◌then◌else◌}
@@ -16,10 +16,12 @@ abbrev pub variant_of_word : List ℕ → Option StreamVariant
 variant_of_word word =
     if bytes_eq word (codes "sotw") then Some Sotw else if bytes_eq word (codes "delta") then Some Delta else None
 
--- `xds serve`: what is served, and the folder of the traces, if there is one
+-- `xds serve`: what is served, the number of the first replica, the folder of the traces and the file that is loaded, if there are such
 pub record Serves : Type 0 where
   pub task : ServeTask
+  pub first_number : Option ℕ
   pub folder : Option (List ℕ)
+  pub load : Option (List ℕ)
 
 -- `xds client`: a client that subscribes on a stream
 pub record Watch : Type 0 where

@@ -10,6 +10,7 @@
 --     is_outside     a port is none of so many that begin at another
 --     is_alone       an operator's port, if there is one, is none of those of streams and of REST
 --     AsksServe      `xds serve`: no replica's port is above 65,535, and none for streams is one for REST
+--     has_numbers    each of so many replicas has a number, where the first has this one
 --     AsksServed     the same, and the folder of the traces, if one is given
 --     AsksClient     `xds client`
 --     AsksPoll       `xds poll`
@@ -98,10 +99,18 @@ pub record AsksServe (rows : List Row) (task : ServeTask) : Type 0 where
   pub alone : is_alone task.admin_port task.port task.rest_port task.replicas ≡ true
   pub apart : are_apart task.port task.rest_port task.replicas ≡ true
 
--- the same, and the folder of the traces, if one is given
+-- each of so many replicas has a number, where the first has this one
+abbrev pub has_numbers : Option ℕ → ℕ → Bool
+has_numbers None replicas = true
+has_numbers (Some first) replicas = nat_le (first + replicas) 65536
+
+-- the same, with the number of the first replica, the folder of the traces and the file that is loaded: no replica's number is above 65,535
 pub record AsksServed (rows : List Row) (serves : Serves) : Type 0 where
   pub task : AsksServe rows serves.task
+  pub first_number : Finds (IsNumber rows (codes "first-number")) serves.first_number
+  pub numbers : has_numbers serves.first_number serves.task.replicas ≡ true
   pub folder : first_of (codes "record") rows ≡ serves.folder
+  pub load : first_of (codes "load") rows ≡ serves.load
 
 -- `xds client`
 pub record AsksClient (rows : List Row) (task : Watch) : Type 0 where

@@ -10,9 +10,9 @@ use Rattle.clap.specs.Words.{Row, Text, first_of}
 use Rattle.xds_resource.specs.Types.{type_of_word}
 use Rattle.xds_program.specs.declared.tasks.Task.{Task}
 use Rattle.xds_program.specs.declared.wrong_values.WrongValue.{WrongValue}
-use Rattle.xds_program.specs.declared.wrong_values.WrongValue.TheVariants.{Addr, Variant, Kind, Port, Meeting, Admin, Other}
+use Rattle.xds_program.specs.declared.wrong_values.WrongValue.TheVariants.{Addr, Variant, Kind, Port, Meeting, Admin, Number, Other}
 use Rattle.xds_program.specs.Tasks.{variant_of_word}
-use Rattle.xds_program.specs.Words.{AsksIn, Finds, IsAddress, IsNumber, are_apart, is_alone}
+use Rattle.xds_program.specs.Words.{AsksIn, Finds, IsAddress, IsNumber, are_apart, has_numbers, is_alone}
 
 -- this value is wrong, among the values of a command's options
 abbrev pub Blames : List Row → WrongValue → Type 0
@@ -28,6 +28,8 @@ Blames rows Meeting =
 Blames rows Admin =
     (replicas port rest_port : ℕ) × (admin : Option ℕ) × IsNumber rows (codes "replicas") replicas × IsNumber rows (codes "port") port
     × IsNumber rows (codes "rest-port") rest_port × Finds (IsNumber rows (codes "admin-port")) admin × (is_alone admin port rest_port replicas ≡ false)
+Blames rows Number =
+    (replicas : ℕ) × (first : Option ℕ) × IsNumber rows (codes "replicas") replicas × Finds (IsNumber rows (codes "first-number")) first × (has_numbers first replicas ≡ false)
 Blames rows Other = ⊤
 
 -- so it is among those of the command that was named, if one was
@@ -48,4 +50,5 @@ told_of Kind = codes "--type: cluster, endpoint, listener, route or secret"
 told_of Port = codes "--port, --rest-port: the port of the last replica is above 65535"
 told_of Meeting = codes "--port, --rest-port: the ports of streams and those of REST meet"
 told_of Admin = codes "--admin-port: it is a port of streams or of REST"
+told_of Number = codes "--first-number: the number of the last replica is above 65535"
 told_of Other = codes "a value is none of those that the help names"

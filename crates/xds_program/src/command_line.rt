@@ -92,7 +92,11 @@ fn serve_command<'a>(alloc: Global) -> Result<Command<'a>, AllocError>
     let help = "A port for who operates the server";
     let serve = with_option(serve, number_option(alloc, "admin-port", "A", help))?;
     let help = "Writes each replica's trace into this folder";
-    with_option(serve, text_option(alloc, "record", "DIR", help))
+    let serve = with_option(serve, text_option(alloc, "record", "DIR", help))?;
+    let help = "The first replica's number, new in each run";
+    let serve = with_option(serve, number_option(alloc, "first-number", "F", help))?;
+    let help = "Makes all lines of this file before it answers";
+    with_option(serve, text_option(alloc, "load", "FILE", help))
 }
 
 // `xds serve`, with the options that say what is served where, and for how long.

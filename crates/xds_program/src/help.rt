@@ -73,6 +73,9 @@ With --keep-going a line that is refused is told, and the next is read; with
 answers /healthz, /ready, /metrics, /status, /changes and /stop over HTTP;
 the last ends it with status 0. With --record DIR what replica K does is
 written to DIR/replica-K.trace, which `xds check` reads once it has ended.
+With --load FILE all lines of the file are made before anybody is answered.
+Writes are stamped by the numbers of their replicas, F and the next ones with
+--first-number F: give each run new ones, so that no version means two bodies.
 Prints nothing; the error output has a line a replica, which says what is
 served where. docs/SERVING.md has more, docs/CLI.md the refusals.
 

@@ -5,7 +5,7 @@ ghost use Rattle.clap.specs.Words.{first_of, found_of, rows_of, subcommand_rows_
 ghost use Rattle.xds_resource.specs.Types.{type_of_word};
 ghost use Rattle.xds_program.specs.Tasks.{variant_of_word};
 ghost use Rattle.xds_program.specs.Words.{AsksBy, AsksClient, AsksIn, AsksPoll, AsksServe, AsksServed, Finds, IsAddress, IsNumber};
-ghost use Rattle.xds_program.specs.Words.{are_apart, is_alone, is_given, is_outside, names_in, text_in};
+ghost use Rattle.xds_program.specs.Words.{are_apart, has_numbers, is_alone, is_given, is_outside, names_in, text_in};
 
 use crate::tasks::{ClientTask, PollTask, ServeTask, ServeWords, StreamVariant, Task};
 use clap::ArgMatches;
@@ -83,12 +83,33 @@ fn poll_in(alloc: Global, given: &ArgMatches) -> Result<Option<Task>, AllocError
 fn served(alloc: Global, given: &ArgMatches) -> Result<Option<ServeWords>, AllocError>
     ensures { IfOk result (Finds (AsksServed (rows_of (found_of given.now)))) }
 {
-    match serving(given) {
-        Some(task) => {
+    match numbered(given) {
+        Some((task, first_number)) => {
             let folder = text_given(alloc, given, "record")?;
-            Ok(Some(ServeWords { task, folder }))
+            let load = text_given(alloc, given, "load")?;
+            Ok(Some(ServeWords {
+                task,
+                first_number,
+                folder,
+                load,
+            }))
         }
         None => Ok(None),
+    }
+}
+
+// What is served, and the number of the first replica, if one is given.
+fn numbered(given: &ArgMatches) -> Option<(ServeTask, Option<u16>)>
+    ensures { Finds (λ p. AsksServe (rows_of (found_of given.now)) p.0
+        × Finds (IsNumber (rows_of (found_of given.now)) (codes "first-number")) p.1
+        × (has_numbers p.1 p.0.replicas ≡ true)) result }
+{
+    let task = serving(given)?;
+    let first_number = number(given, "first-number");
+    if has_numbers(first_number, task.replicas) {
+        Some((task, first_number))
+    } else {
+        None
     }
 }
 
@@ -122,6 +143,16 @@ fn serving(given: &ArgMatches) -> Option<ServeTask>
         })
     } else {
         None
+    }
+}
+
+// Whether each replica has a number, where the first has this one.
+pub(crate) fn has_numbers(first: Option<u16>, replicas: u16) -> bool
+    ensures { result ≡ has_numbers first replicas }
+{
+    match first {
+        Some(first) => u32::from(first) + u32::from(replicas) <= 65536,
+        None => true,
     }
 }
 

@@ -48,8 +48,12 @@ pub struct ServeTask {
 pub struct ServeWords {
     /// What is served.
     pub task: ServeTask,
+    /// The number of the first replica, from 1, by which its writes are stamped; the others have the next ones. 1, where there is none.
+    pub first_number: Option<u16>,
     /// The folder that the replicas' traces are recorded into; none, where there is none.
     pub folder: Option<String>,
+    /// The file of which all lines are made before anybody is answered; none, where there is none.
+    pub load: Option<String>,
 }
 
 impl Model for ServeWords {
@@ -58,7 +62,12 @@ impl Model for ServeWords {
 
     ghost Value = { Serves };
 
-    ghost view = { λ s. record { task = s.task; folder = option_map string_bytes s.folder } };
+    ghost view = { λ s. record {
+      task = s.task;
+      first_number = s.first_number;
+      folder = option_map string_bytes s.folder;
+      load = option_map string_bytes s.load;
+    } };
 }
 
 /// How a client asks on a stream: in which of the protocol's two variants.

@@ -1,9 +1,12 @@
 // Which value of a command's options is none of those that it may be, where `clap` takes it.
-ghost use Rattle.std.specs.Prelude.{◌≡◌};
+ghost use Rattle.std.specs.Prelude.{◌≡◌, codes};
 ghost use Rattle.clap.specs.Words.{found_of, rows_of, subcommand_rows_of};
+ghost use Rattle.xds_program.specs.Words.{IsNumber};
 ghost use Rattle.xds_program.specs.WrongValues.{told_of, Blames, BlamesIn};
 
-use crate::option_values::{address, are_apart, has_ports, is_alone, kind, number, variant};
+use crate::option_values::{
+    address, are_apart, has_numbers, has_ports, is_alone, kind, number, variant,
+};
 use clap::ArgMatches;
 
 /// A value that is none of those that it may be.
@@ -21,6 +24,8 @@ pub enum WrongValue {
     Meeting,
     /// An operator's port is one of theirs.
     Admin,
+    /// The number of the last replica is above 65,535.
+    Number,
     /// Another value.
     Other,
 }
@@ -40,6 +45,7 @@ impl WrongValue {
             WrongValue::Meeting =>
                 "--port, --rest-port: the ports of streams and those of REST meet",
             WrongValue::Admin => "--admin-port: it is a port of streams or of REST",
+            WrongValue::Number => "--first-number: the number of the last replica is above 65535",
             WrongValue::Other => "a value is none of those that the help names",
         }
     }
@@ -81,9 +87,20 @@ fn wrong_port(given: &ArgMatches) -> WrongValue
         return WrongValue::Meeting;
     }
     if is_alone(number(given, "admin-port"), port, rest_port, replicas) {
-        WrongValue::Other
+        wrong_number(given, replicas)
     } else {
         WrongValue::Admin
+    }
+}
+
+fn wrong_number(given: &ArgMatches, replicas: u16) -> WrongValue
+    requires { IsNumber (rows_of (found_of given.now)) (codes "replicas") replicas }
+    ensures { Blames (rows_of (found_of given.now)) result }
+{
+    if has_numbers(number(given, "first-number"), replicas) {
+        WrongValue::Other
+    } else {
+        WrongValue::Number
     }
 }
 

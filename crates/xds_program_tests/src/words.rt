@@ -51,6 +51,14 @@ fn told_recorded(alloc: Global, serve: &ServeWords) -> Result<String, Fail> {
         text.push_str(" record ")?;
         text.push_str(folder.as_str())?;
     }
+    if let Some(first) = serve.first_number {
+        let number = format!(in alloc; " first {first}")?;
+        text.push_str(number.as_str())?;
+    }
+    if let Some(file) = &serve.load {
+        text.push_str(" load ")?;
+        text.push_str(file.as_str())?;
+    }
     Ok(text)
 }
 
@@ -217,6 +225,14 @@ serve --record run/1 => serve 2 18000 18100 None record run/1
 serve --replicas 1 --record= --log => serve 1 18000 18100 None log record 
 serve --record => wrong
 serve --record a --record b => wrong
+serve --first-number 7 => serve 2 18000 18100 None first 7
+serve --first-number 65534 => serve 2 18000 18100 None first 65534
+serve --first-number 65535 => wrong
+serve --replicas 1 --first-number 65535 => serve 1 18000 18100 None first 65535
+serve --replicas 16 --first-number 65521 => wrong
+serve --first-number 0 => wrong
+serve --load a.changes --first-number 3 => serve 2 18000 18100 None first 3 load a.changes
+serve --load a --load b => wrong
 serve --help => help",
     )
 }
@@ -303,6 +319,11 @@ fn the_option_that_is_wrong_is_named(rt: HostRuntime) -> Result<(), Fail> {
     tells(&rt, client, "error: --variant: sotw or delta~")?;
     let kind = "error: --type: cluster, endpoint, listener, route or secret~";
     tells(&rt, "poll --addr 127.0.0.1:1 --type y", kind)?;
+    tells(
+        &rt,
+        "serve --first-number 65535",
+        "error: --first-number: the number of the last replica is above 65535~",
+    )?;
     tells(
         &rt,
         "serve --port 65535",

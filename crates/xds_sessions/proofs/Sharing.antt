@@ -1,7 +1,8 @@
 -- That what is kept for the clients of a cluster that want everything is what each of them is told.
-use Rattle.std.proofs.Common.{◌≡◌, ◌⊎◌, ℕ, List, Bool, true, false, cond, Option, Some, None, Result, Ok, Err, refl, sym, ap, ◌∙◌, subst, inl, inr}
+use Rattle.std.proofs.Common.{arith, ◌≡◌, ◌<◌, ◌≤◌, ◌+◌, ◌⊎◌, ℕ, List, Bool, true, false, cond, Option, Some, None, Result, Ok, Err, refl, sym, ap, ◌∙◌, subst, inl, inr}
 use Rattle.std.specs.Prelude.{IfSome, OnOk, OnErr, bytes_eq, if◌then◌else◌, option_map}
 use Rattle.std.specs.FinMap as finmap
+use Rattle.std.proofs.lemmas.Cmp.{nat_list_cmp_total}
 use Rattle.xds_resource.specs.declared.refusal.Refusal.{Refusal}
 use Rattle.xds_resource.specs.declared.types.TypeName.{TypeName}
 use Rattle.xds_resource.specs.Writes.{text_cmp}
@@ -16,7 +17,7 @@ use Rattle.xds_ledger.specs.Sessions.{Session}
 use Rattle.xds_ledger.specs.Variants.{is_whole}
 use Rattle.xds_ledger.proofs.ByName.{offer_says_it}
 use Rattle.xds_sessions.specs.declared.wildcards.Wildcard.{Wildcard}
-use Rattle.xds_sessions.specs.Wildcards.{all_of, first_offer, IsFirst, IsShared, AreShared}
+use Rattle.xds_sessions.specs.Wildcards.{all_of, first_offer, IsFirst, IsShared, AreShared, most_shared}
 
 -- nothing is kept
 pub none_shared : {S : Type 0} (v : VariantName) (t : TypeName) (IsSaid : Entries → Selection → Offer → S → Type 0) (m : Entries) (kept : finmap.FinMap text_cmp (Wildcard S))
@@ -42,6 +43,31 @@ pub kept_more : {S A : Type 0} (v : VariantName) (t : TypeName) (IsSaid : Entrie
     (r : Result A Refusal) → OnOk r (new ≡ finmap.insert kept cluster w) → OnErr r (new ≡ kept) → IsShared v t IsSaid m cluster w → AreShared v t IsSaid m kept → AreShared v t IsSaid m new
 kept_more v t IsSaid m kept new cluster w (Ok x) done left shared held = one_more v t IsSaid m kept new cluster w done shared held
 kept_more v t IsSaid m kept new cluster w (Err e) done left shared held = subst (AreShared v t IsSaid m) (sym left) held
+
+-- where there was room for one more, there are not too many
+one_counted : (n : ℕ) (b : Bool) → n < most_shared → cond b n (n + 1) ≤ most_shared
+one_counted n true room = omega arith
+one_counted n false room = omega arith
+
+few_one_more : {S : Type 0} (kept new : finmap.FinMap text_cmp (Wildcard S)) (cluster : List ℕ) (w : Wildcard S)
+    → new ≡ finmap.insert kept cluster w → finmap.len kept < most_shared → finmap.len new ≤ most_shared
+few_one_more kept new cluster w is room =
+    subst (λ (n : ℕ). n ≤ most_shared) (sym (ap finmap.len is ∙ finmap.len-insert nat_list_cmp_total kept cluster w)) (one_counted (finmap.len kept) (finmap.contains_key kept cluster) room)
+
+below : (n : ℕ) → n < most_shared → n ≤ most_shared
+below n room = omega arith
+
+pub few_kept : {S : Type 0} (kept : finmap.FinMap text_cmp (Wildcard S)) → finmap.len kept < most_shared → finmap.len kept ≤ most_shared
+few_kept kept room = below (finmap.len kept) room
+
+pub few_more : {S A : Type 0} (kept new : finmap.FinMap text_cmp (Wildcard S)) (cluster : List ℕ) (w : Wildcard S) (r : Result A Refusal)
+    → OnOk r (new ≡ finmap.insert kept cluster w) → OnErr r (new ≡ kept) → finmap.len kept < most_shared → finmap.len new ≤ most_shared
+few_more kept new cluster w (Ok x) done left room = few_one_more kept new cluster w done room
+few_more kept new cluster w (Err e) done left room = subst (λ (n : ℕ). n ≤ most_shared) (sym (ap finmap.len left)) (few_kept kept room)
+
+-- none is kept
+pub few_none : {S : Type 0} (kept : finmap.FinMap text_cmp (Wildcard S)) → kept ≡ finmap.empty → finmap.len kept < most_shared
+few_none {S} kept is = subst (λ (n : ℕ). n < most_shared) (sym (ap finmap.len is ∙ finmap.len-empty text_cmp (Wildcard S))) (omega arith)
 
 -- a whole response is the same, whatever is believed
 stated_at : (v : VariantName) (t : TypeName) (s : Selection) (m : Entries) (b : Beliefs) (q : List ℕ) → is_whole v t ≡ true → offered v t s m b q ≡ option_map Stated (present s m q)

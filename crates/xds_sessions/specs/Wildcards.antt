@@ -4,8 +4,9 @@
 --     IsFirst       what a session is offered next is that
 --     IsShared      what is kept for the clients of a cluster is what each of them is told
 --     AreShared     and so for each cluster
---     Fits          what is kept of both variants is what clients are told at these entries
-use Rattle.std.specs.Prelude.{◌≡◌, ◌⊎◌, ℕ, List, true, IfSome}
+--     most_shared   the most clusters for which it is kept, of one type and variant
+--     Fits          what is kept of both variants is what clients are told at these entries, and no more than that
+use Rattle.std.specs.Prelude.{◌≡◌, ◌≤◌, ◌⊎◌, ℕ, List, true, IfSome}
 use Rattle.std.specs.FinMap as finmap
 use Rattle.std.specs.FinSet as set
 use Rattle.xds_resource.specs.declared.types.TypeName.{TypeName}
@@ -44,7 +45,13 @@ pub record IsShared {S : Type 0} (v : VariantName) (t : TypeName) (IsSaid : Entr
 abbrev pub AreShared : {S : Type 0} → VariantName → TypeName → (Entries → Selection → Offer → S → Type 0) → Entries → finmap.FinMap text_cmp (Wildcard S) → Type 0
 AreShared v t IsSaid m kept = (cluster : List ℕ) → IfSome (finmap.get kept cluster) (IsShared v t IsSaid m cluster)
 
--- what is kept of both variants is what clients are told at these entries
+-- the most clusters for which it is kept, of one type and variant: clients choose the texts of their clusters
+abbrev pub most_shared : ℕ
+most_shared = 16
+
+-- what is kept of both variants is what clients are told at these entries, and no more than that
 pub record Fits (t : TypeName) (m : Entries) (w : Wildcards) : Type 0 where
   pub sotw : AreShared StateOfTheWorld t (λ m s o x. x ≡ stated_bodies m s o) m w.sotw
   pub delta : AreShared Delta t (λ m s o x. x ≡ said_by m o) m w.delta
+  pub few_sotw : finmap.len w.sotw ≤ most_shared
+  pub few_delta : finmap.len w.delta ≤ most_shared

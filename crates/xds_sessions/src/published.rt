@@ -23,7 +23,8 @@ use xds_message::Bodies;
 use xds_resource::{Groups, Refusal, Resource, ResourceType, Stamp, Write};
 
 /// The catalogue of the type `T`. Contracts see what it holds. Beside it is kept what all clients of a cluster are told that
-/// want everything and hold nothing: made once, shared by their responses, and let go when something changes.
+/// want everything and hold nothing: made once, shared by their responses, and let go when something changes, or where it would be
+/// kept for more than 16 clusters.
 pub struct Published<T: ResourceType> {
     catalogue: Catalogue<T>,
     wildcards: Wildcards,
@@ -198,6 +199,7 @@ impl<T: ResourceType> Published<T> {
         let stated = stated_bodies(alloc, &self.catalogue, interest, offer.as_map())?;
         let said = stated.shared(alloc)?;
         let made = Wildcard { offer, said };
+        self.wildcards.make_room(alloc);
         self.wildcards.sotw.put(alloc, cluster, Some(made))
     }
 
@@ -213,6 +215,7 @@ impl<T: ResourceType> Published<T> {
         let offer = self.first_offer(alloc, VariantName::Delta, interest)?;
         let said = said_by(alloc, &self.catalogue, offer.as_map())?;
         let made = Wildcard { offer, said };
+        self.wildcards.make_room(alloc);
         self.wildcards.delta.put(alloc, cluster, Some(made))
     }
 }

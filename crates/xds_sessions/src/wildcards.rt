@@ -1,8 +1,9 @@
 // What all clients are told that want everything of a type and are believed to hold nothing of it, by the text of their cluster.
-ghost use Rattle.std.specs.Prelude.{◌≡◌, true};
+ghost use Rattle.std.specs.Prelude.{◌≡◌, ◌<◌, true};
+ghost use Rattle.std.specs.FinMap as finmap;
 ghost use Rattle.xds_resource.specs.declared.types.TypeName.{TypeName};
 ghost use Rattle.xds_catalogue.specs.Holdings.{Entries};
-ghost use Rattle.xds_sessions.specs.Wildcards.{Fits, all_of};
+ghost use Rattle.xds_sessions.specs.Wildcards.{Fits, all_of, most_shared};
 
 use crate::delta_response::Said;
 use std::alloc::Global;
@@ -31,6 +32,10 @@ impl<S: Drop> Drop for Wildcard<S> {
     }
 }
 
+// The most clusters for which what clients share is kept, of one type and variant. Clients choose the texts of their clusters, so
+// without a bound they would choose how much memory a replica takes.
+const MOST_SHARED: usize = 16;
+
 /// Those of both variants, by the text of the clients' cluster.
 pub(crate) struct Wildcards {
     pub(crate) sotw: NameMap<Wildcard<Bodies>>,
@@ -47,11 +52,37 @@ impl Drop for Wildcards {
 impl Wildcards {
     /// None: they fit whatever is held.
     pub(crate) fn none(alloc: Global) -> Wildcards
-        ensures { (t : TypeName) (m : Entries) → Fits t m result }
+        ensures fits { (t : TypeName) (m : Entries) → Fits t m result }
+        ensures sotw { finmap.len result.sotw < most_shared }
+        ensures delta { finmap.len result.delta < most_shared }
     {
         Wildcards {
             sotw: NameMap::new(alloc),
             delta: NameMap::new(alloc),
         }
     }
+
+    /// Lets all go where there is no room for one cluster more.
+    pub(crate) fn make_room(&mut self, alloc: Global)
+        ensures fits { (t : TypeName) (m : Entries) → Fits t m self.old → Fits t m self.new }
+        ensures sotw { finmap.len self.new.sotw < most_shared }
+        ensures delta { finmap.len self.new.delta < most_shared }
+    {
+        if !has_room(&self.sotw) || !has_room(&self.delta) {
+            *self = Wildcards::none(alloc);
+        }
+    }
+}
+
+// Whether what is shared of one cluster more may be kept.
+fn has_room<S: Drop>(kept: &NameMap<Wildcard<S>>) -> bool
+    ensures { result ≡ true → finmap.len kept.now < most_shared }
+{
+    how_many(kept) < MOST_SHARED
+}
+
+fn how_many<S: Drop>(kept: &NameMap<Wildcard<S>>) -> usize
+    ensures { result ≡ finmap.len kept.now }
+{
+    kept.iter().len()
 }

@@ -129,9 +129,9 @@ fn is_shown(rt: &HostRuntime) -> Result<(), Fail> {
         "/status",
         &[
             "content-type: application/json",
-            "{\"replicas\":[{\"replica\":1,\"streams\":[{\"stream\":1,\"peer\":\"127.0.0.1:",
+            "{\"replicas\":[{\"replica\":1,\"number\":1,\"streams\":[{\"stream\":1,\"peer\":\"127.0.0.1:",
             "\"node\":\"c\",\"cluster\":\"g\",\"variant\":\"sotw\",\"types\":[{\"type\":\"route\",\"names\":2,",
-            "\"rejection\":\"no\"}]}]},{\"replica\":2,\"streams\":[]}]}",
+            "\"rejection\":\"no\"}]}]},{\"replica\":2,\"number\":2,\"streams\":[]}]}",
         ],
     )?;
     shows(

@@ -27,6 +27,7 @@ pub(crate) fn serving(replicas: u16, port: u16, streams: Option<u16>) -> Serving
         keep_going: false,
         tells: false,
         logs: false,
+        first_number: Some(1),
         max_streams: None,
         idle_seconds: None,
         admin_port: None,
@@ -68,7 +69,7 @@ pub(crate) fn recorded<
     R: Runtime + Net<Listener = TcpListener, Stream = TcpStream> + Files<File = File, Dir: Send>,
 >(rt: &R, input: I, serving: Serving, folder: Option<&str>) -> Came {
     let mut errors = Counted::new(Vec::new(rt.alloc()));
-    let status = serve(rt, input, &mut errors, serving, folder);
+    let status = serve(rt, input, &mut errors, serving, folder, None);
     Came {
         status,
         errors: errors.inner,

@@ -5,7 +5,7 @@ use Rattle.xds_node.proofs.inward.exchange_in.Goals as goal
 use Rattle.xds_node.proofs.inward.exchange_in.Goals.{then-lost, else-lost}
 
 pub loop-init : goal.loop-init
-loop-init g c = (merging-start _ _ _ _, refl, refl, omega arith)
+loop-init g c = (merging-start _ _ _ _ _, refl, refl, omega arith)
 
 pub returns-then-not-acknowledge-clause-merged : goal.returns-then-not-acknowledge-clause-merged
 returns-then-not-acknowledge-clause-merged g c =
@@ -14,7 +14,7 @@ returns-then-not-acknowledge-clause-merged g c =
       | then-lost w ↦ w.lost-is ∙ w.if-lost.true ∙ ap (λ b. b || not c.merge-drops.result.1) (sym w.if-lost.true)
       | else-lost w ↦ w.lost-is ∙ ap (λ b. b || not c.merge-drops.result.1) (sym w.if-lost.false)
     ] in
-    merging-stopped _ _ _ _ _ _ _ _ _ _ _ _ _ _ _ _ _ c.in-Some-take.parcel _ c.merge-drops.ensures c.in-Some-take.ensures.taken refl loses c.acknowledge.result _ c.loop.invariant.0
+    merging-stopped _ _ _ _ _ _ _ _ _ _ _ _ _ _ _ _ _ _ _ _ c.in-Some-take.parcel _ c.merge-drops.ensures c.in-Some-take.ensures.taken refl loses c.acknowledge.result _ c.loop.invariant.0
     (ap (λ (p : List ℕ × Bool). p.1) c.parcel.view_is) c.acknowledge.ensures.receipt
 
 pub loop-preserved : goal.loop-preserved
@@ -25,7 +25,7 @@ loop-preserved g c =
       | else-lost w ↦ w.lost-is ∙ ap (λ b. b || not c.merge-drops.result.1) (sym w.if-lost.false)
     ] in
     let few = one_at_most c.in-Some-take.parcel c.merge-drops.ensures.0 c.merge-drops.ensures.1 c.merge-drops.result c.merge-drops.ensures.4 in (
-      merging-more _ _ _ _ _ _ _ _ _ _ _ _ _ _ _ _ _ c.in-Some-take.parcel _ c.merge-drops.ensures c.in-Some-take.ensures.taken refl loses c.acknowledge.result _ c.loop.invariant.0
+      merging-more _ _ _ _ _ _ _ _ _ _ _ _ _ _ _ _ _ _ _ _ c.in-Some-take.parcel _ c.merge-drops.ensures c.in-Some-take.ensures.taken refl loses c.acknowledge.result _ c.loop.invariant.0
           (ap (λ (p : List ℕ × Bool). p.1) c.parcel.view_is) c.if-not-acknowledge.false c.acknowledge.ensures.receipt,
       c.in-Some-take.ensures.end ∙ c.loop.invariant.1,
       c.acknowledge.ensures.end ∙ c.loop.invariant.2,

@@ -12,5 +12,5 @@ compare-requires-2 g c =
 
 pub returns : goal.returns
 returns g c =
-    exchanged _ _ _ _ _ _ _ _ _ _ _ _ _ _ _ _ _ _ c.join-teller.ensures.first.1.1 c.join-teller.ensures.second.1.1 (c.requires.parcels.1, c.requires.parcels.2)
-    (c.requires.receipts.1, c.requires.receipts.2) c.compare.ensures c.compare-2.ensures
+    exchanged _ _ _ _ _ _ _ _ _ _ _ _ _ _ _ _ _ _ _ _ _ c.join-teller.ensures.first.1.1 c.join-teller.ensures.second.1.1 (c.requires.parcels.1, c.requires.parcels.2)
+    (c.requires.receipts.1, c.requires.receipts.2) c.compare.ensures c.compare-2.ensures c.failed-failed.ensures

@@ -10,4 +10,6 @@ returns c =
     let o2 = one_option _ (number_option (codes "max-streams")) _ _ c.number_option.result o1 c.number_option.ensures c.in_ok-serve-4.ensures in
     let o3 = one_option _ (number_option (codes "idle-seconds")) _ _ c.number_option-2.result o2 c.number_option-2.ensures c.in_ok-serve-5.ensures in
     let o4 = one_option _ (number_option (codes "admin-port")) _ _ c.number_option-3.result o3 c.number_option-3.ensures c.in_ok-serve-6.ensures in
-    one_option_or _ (text_option (codes "record")) _ c.text_option.result _ o4 c.text_option.ensures c.with_option-6.ensures
+    let o5 = one_option _ (text_option (codes "record")) _ _ c.text_option.result o4 c.text_option.ensures c.in_ok-serve-7.ensures in
+    let o6 = one_option _ (number_option (codes "first-number")) _ _ c.number_option-4.result o5 c.number_option-4.ensures c.in_ok-serve-8.ensures in
+    one_option_or _ (text_option (codes "load")) _ c.text_option-2.result _ o6 c.text_option-2.ensures c.with_option-8.ensures

@@ -6,7 +6,7 @@ use Rattle.xds_ledger.specs.declared.variant.VariantName.TheVariants.{Delta}
 use Rattle.xds_ledger.specs.Offers.{offer}
 use Rattle.xds_sessions.specs.DeltaPolls.{said_by}
 use Rattle.xds_sessions.specs.Wildcards.{all_of}
-use Rattle.xds_sessions.proofs.Sharing.{kept_more}
+use Rattle.xds_sessions.proofs.Sharing.{kept_more, few_more, few_kept}
 use Rattle.xds_sessions.proofs.published.Published.share_delta.Goals as goal
 
 pub invariant_of-self : goal.invariant_of-self
@@ -17,13 +17,16 @@ invariant_of-self g c =
     let all : c.args.interest.now ≡ all_of cluster = c.requires ∙ ap all_of (sym c.cluster-cluster.ensures) in
     let made : c.in_ok-offer.offer ≡ offer Delta t c.args.interest.now m finmap.empty =
     c.in_ok-offer.ensures.ok ∙ ap (λ (h : Holdings). offer Delta t c.args.interest.now h.entries finmap.empty) (sym c.self.view_is) in
+    let room = c.make_room.ensures.fits t m c.self.invariant in
     record {
       delta =
-          kept_more Delta t (λ m s o x. x ≡ said_by m o) m c.self.inside.wildcards.delta c.put.new.self cluster _ c.put.result c.put.ensures.ok c.put.ensures.err
+          kept_more Delta t (λ m s o x. x ≡ said_by m o) m c.make_room.new.self.delta c.put.new.self cluster _ c.put.result c.put.ensures.ok c.put.ensures.err
           (record {
             offer_is = made ∙ ap (λ (s : Selection). offer Delta t s m finmap.empty) all;
             said_is = c.in_ok-said.ensures.ok ∙ ap (said_by m) c.as_map.ensures;
           })
-          c.self.invariant.delta;
-      sotw = c.self.invariant.sotw;
+          room.delta;
+      sotw = room.sotw;
+      few_delta = few_more c.make_room.new.self.delta c.put.new.self cluster _ c.put.result c.put.ensures.ok c.put.ensures.err c.make_room.ensures.delta;
+      few_sotw = few_kept c.make_room.new.self.sotw c.make_room.ensures.sotw;
     }

@@ -1,0 +1,75 @@
+-- What the changes of a file come to that are made before anybody is answered: one after another, each over all that was made before. This project's own.
+--     number_at    the number of the replica at this place, where the first has this one
+--     made_by      what is held once the replica of this number made a change, or why it is refused
+--     loading      so it is at its replica, if that is one of so many
+--     then_loaded  what follows a change that was made, unless it is refused
+--     all_loaded   what is held once all changes were made, or why the first that is refused is
+--     Loaded       what is held, and why a change was refused, if one was
+--     Loads        a change was made, unless one before was refused
+--     so_far       what was loaded so far
+--     Takes        a change was handed to what is loaded so far
+--     IsLoaded     all that was read is changes, and this is what they come to
+use Rattle.std.specs.Prelude.{◌≡◌, ◌⊎◌, ℕ, ◌+◌, ◌-◌, min, max, List, [], ◌∷◌, ◌||◌, ◌==◌, nat_lt, if◌then◌else◌, Option, None, IfSome, IsSome, option_map, Result, Ok, Err}
+use Rattle.std.specs.Io.KnownBytes.{Consumes, IsAtEnd}
+use Rattle.xds_resource.specs.declared.refusal.Refusal.{Refusal}
+use Rattle.xds_resource.specs.declared.refusal.Refusal.TheVariants.{BadScript, OutOfMemory}
+use Rattle.xds_core.specs.Events.{Event, Put, Delete, Open, Request, Poll, Owes, Close, Merge, Snapshot, Rest, Since}
+use Rattle.xds_core.specs.Stores.{Batch, Store, all_entries, putting_at, deleting_at, if_done}
+use Rattle.xds_world.specs.Lines.{feed, pieces}
+use Rattle.xds_commands.specs.declared.loading.Loader.{Loader}
+use Rattle.xds_commands.specs.Changes.{Written}
+use Rattle.xds_commands.specs.Inputs.{AreTaken}
+
+-- the number of the replica at this place, from 1, where the first has this number: none is greater than 65,535
+abbrev pub number_at : ℕ → ℕ → ℕ
+number_at first place = max 1 (min 65535 (first + (place - 1)))
+
+-- what is held once the replica of this number made a change, or why it is refused
+abbrev pub made_by : ℕ → Store → Event → Result Store Refusal
+made_by writer s (Put t r groups) = if_done (λ p. p.1) (putting_at s t r groups writer)
+made_by writer s (Delete t name) = if_done (λ p. p.1) (deleting_at s t name writer)
+made_by writer s e = Err BadScript
+
+-- so it is at its replica, if that is one of so many, of which the first has this number
+abbrev pub loading : ℕ → ℕ → Store → Written → Result Store Refusal
+loading first replicas s w = if w.0 == 0 || nat_lt replicas w.0 then Err BadScript else made_by (number_at first w.0) s w.1
+
+-- what follows a change that was made, unless it is refused
+abbrev pub then_loaded : (Store → Result Store Refusal) → Result Store Refusal → Result Store Refusal
+then_loaded others (Ok s) = others s
+then_loaded others (Err e) = Err e
+
+-- what is held once all changes were made, or why the first that is refused is
+abbrev pub all_loaded : ℕ → ℕ → Store → List Written → Result Store Refusal
+all_loaded first replicas s [] = Ok s
+all_loaded first replicas s (w ∷ ws) = then_loaded (λ t. all_loaded first replicas t ws) (loading first replicas s w)
+
+-- what is held, and why a change was refused, if one was
+pub record Loaded : Type 0 where
+  pub held : Store
+  pub refused : Option Refusal
+
+-- a change was made, over all that was held, unless one before was refused; or it is refused, or there was no memory for it
+pub record Loads (first replicas : ℕ) (s t : Loaded) (w : Written) : Type 0 where
+  pub stays : IsSome s.refused → t ≡ s
+  pub done : t.refused ≡ None → loading first replicas s.held w ≡ Ok t.held
+  pub refused : s.refused ≡ None → IfSome t.refused (λ e. (e ≡ OutOfMemory) ⊎ (loading first replicas s.held w ≡ Err e))
+
+-- what was loaded so far
+abbrev pub so_far : Loader → Loaded
+so_far l = record { held = l.held; refused = option_map (λ p. p.1) l.refused }
+
+-- a change was handed to what is loaded so far
+abbrev pub Takes : Loader → Loader → Written → Type 0
+Takes s t w = (t.first ≡ s.first) × (t.replicas ≡ s.replicas) × Loads s.first s.replicas (so_far s) (so_far t) w
+
+-- all that was read is changes, none of which is refused, and this is all that is held once they were made, over what was held before
+pub record IsLoaded (first replicas : ℕ) (start : Store) (before after : Option (List ℕ)) (batch : Batch) : Type 0 where
+  pub came : List ℕ
+  pub read : Consumes before after came
+  pub at_end : IsAtEnd after
+  pub changes : List Written
+  pub taken : AreTaken (pieces feed came) changes
+  pub held : Store
+  pub loaded : all_loaded first replicas start changes ≡ Ok held
+  pub batch_is : batch ≡ all_entries held

@@ -1,0 +1,9 @@
+pub mod Within
+pub mod Events
+pub mod Moments
+pub mod OneWorld
+pub mod Counted
+pub mod Stored
+pub mod Versions
+pub mod Stays
+pub mod Gains
