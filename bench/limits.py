@@ -1,12 +1,14 @@
 #!/usr/bin/env python3
 """Slow peers of `xds serve`, and many: what the limits of docs/SERVING.md come to, over sockets.
 
-    python3 bench/limits.py PROGRAM
+    python3 bench/limits.py PROGRAM [slow | many | few | late | in_use ..]
 
-The program serves one replica. Over HTTP a head, a body and a connection are begun and left, more connections are opened than may be,
-and a reply isn't read; over streams a frame is begun and left, and responses aren't read. Meanwhile a poll and a stream are answered
-each half second, and it is told how long the slowest took. Then a server with few descriptors is given more connections than it has
-descriptors for. It takes some 40 seconds, and prints a line a limit. The status is 1 where one isn't as the document says.
+The program serves one replica. Over HTTP a head, a body and a connection are begun and left, more connections are opened than may be
+(many), and a reply isn't read; over streams a frame is begun and left, and responses aren't read. Meanwhile a poll and a stream are
+answered each half second, and it is told how long the slowest took (slow). Then a server with few descriptors is given more
+connections than it has descriptors for (few). At a server of one cluster bodies are begun and left, at the port of polls and at an
+operator's (late), and connections are in use beside more than there may be (in_use). Without such a word it tries all, takes some 80
+seconds, and prints a line a limit. The status is 1 where one isn't as the document says.
 """
 import json
 import resource
@@ -30,16 +32,20 @@ def post(body, length=None):
 
 
 class Server:
-    def __init__(self, program, descriptors=None):
+    def __init__(self, program, descriptors=None, clusters=CLUSTERS):
+        self.last = b'"name":"c%d"' % (clusters - 1)
         self.port, self.rest_port = free_ports()
-        words = [program, "serve", "--replicas", "1", "--port", str(self.port), "--rest-port", str(self.rest_port)]
+        # The one behind them was free a moment ago, too.
+        self.admin_port = free_port({self.port, self.rest_port})
+        ports = ("--port", self.port, "--rest-port", self.rest_port, "--admin-port", self.admin_port)
+        words = [program, "serve", "--replicas", "1", *map(str, ports)]
         bound = (lambda: resource.setrlimit(resource.RLIMIT_NOFILE, (descriptors, descriptors))) if descriptors else None
         self.run = subprocess.Popen(words, stdin=subprocess.PIPE, stderr=subprocess.DEVNULL, preexec_fn=bound)
         body = {"@type": URL, "x": "y" * BYTES}
-        for number in range(CLUSTERS):
+        for number in range(clusters):
             self.run.stdin.write(f'put 1 {json.dumps({**body, "name": f"c{number}"})}\n'.encode())
         self.run.stdin.flush()
-        while not self.answers(b'"name":"c%d"' % (CLUSTERS - 1)):
+        while not self.answers(self.last):
             time.sleep(0.05)
 
     def link(self, port=None):
@@ -51,10 +57,19 @@ class Server:
         """Whether a poll of the last cluster is answered with this."""
         try:
             with self.link() as link:
-                link.sendall(post(b'{"resourceNames":["c%d"]}' % (CLUSTERS - 1)))
+                link.sendall(post(b'{"resourceNames":[%s]}' % self.last.partition(b":")[2]))
                 return part in link.recv(1 << 20)
         except ConnectionError:
             return False
+
+
+def free_port(but):
+    """A free port beside these."""
+    while True:
+        with socket.socket() as it:
+            it.bind(("127.0.0.1", 0))
+            if it.getsockname()[1] not in but:
+                return it.getsockname()[1]
 
 
 def ended(link):
@@ -63,7 +78,7 @@ def ended(link):
     try:
         while piece := link.recv(1 << 16):
             found += piece
-    except ConnectionError:
+    except OSError:
         pass
     return found, time.monotonic() - begin
 
@@ -100,9 +115,9 @@ def slow(server):
     for number, link in enumerate(silent):
         link.sendall(framed(1, b'{"typeUrl":"%s"}' % URL.encode())[: None if number < 10 else 20])
     alone, slowest, turns = Alone(server.port), 0, 0
-    while half_head.is_alive() or half_body.is_alive() or idle.is_alive() or kept.is_alive():
+    while any(it.is_alive() for it in (half_head, half_body, idle, kept)):
         begin = time.monotonic()
-        good = server.answers(b'"name":"c%d"' % (CLUSTERS - 1))
+        good = server.answers(server.last)
         alone.ask("c%d" % (turns % CLUSTERS))
         slowest, turns = max(slowest, time.monotonic() - begin), turns + 1
         if not good or turns > 10 * LIMIT:
@@ -126,7 +141,8 @@ def many(server):
     time.sleep(1)
     for _ in range(MOST + 20):
         links.append(server.link())
-    time.sleep(1)
+    # The oldest give way.
+    ended(links[19])
     for link in links:
         link.settimeout(0.001)
         try:
@@ -140,6 +156,40 @@ def many(server):
     time.sleep(1)
     good = server.answers(b'"name"')
     yield told(f"{MOST + 20} connections", closed == 20 and good, f"{closed} were closed at once; then a poll is {'answered' if good else 'refused'}")
+
+
+def late(server):
+    half_poll = Ended(server.link(), post(b"{", 2))
+    half_changes = Ended(server.link(server.admin_port), b"POST /changes HTTP/1.1\r\nhost: a\r\ncontent-length: 2\r\n\r\n#")
+    for what, half in (("a poll", half_poll), ("changes", half_changes)):
+        half.join()
+        yield told(f"half a body of {what}", in_time(half) and half.found.startswith(b"HTTP/1.1 408"), f"{half.found[:12]} after {half.seconds:.1f} s")
+
+
+def in_use(server):
+    for port, asked, wanted in ((server.rest_port, post(b'{"resourceNames":["c0"]}'), b"HTTP/1.1 200"), (server.admin_port, b"GET /healthz HTTP/1.1\r\nhost: a\r\n\r\n", b"HTTP/1.1 200")):
+        used, begun = server.link(port), server.link(port)
+        used.sendall(asked)
+        first = used.recv(1 << 16)
+        # Its head has come, and the last byte of its body not.
+        begun.sendall(asked[:-1] if asked.startswith(b"POST") else b"POST /changes HTTP/1.1\r\nhost: a\r\ncontent-length: 1\r\n\r\n")
+        time.sleep(0.5)
+        links = [server.link(port) for _ in range(MOST + 20)]
+        # Of all of them 22 are too many. Those that gave way are the first of these, also where the two gave way before.
+        ended(links[19])
+        found = []
+        for link, more in ((used, asked), (begun, asked[-1:] if asked.startswith(b"POST") else b"#")):
+            try:
+                link.sendall(more)
+                found.append(link.recv(1 << 16).startswith(wanted))
+            except ConnectionError:
+                found.append(False)
+        for link in (used, begun, *links):
+            link.close()
+        time.sleep(1)
+        which = "polls" if port == server.rest_port else "an operator"
+        yield told(f"a connection in use, at the port of {which}, beside {MOST + 20} that say nothing", first.startswith(wanted) and found[0], f"is {'still' if found[0] else 'no longer'} answered")
+        yield told(f"a connection over which half a request came, at the port of {which}", found[1], f"is {'still' if found[1] else 'no longer'} answered")
 
 
 def few(program):
@@ -158,13 +208,20 @@ def few(program):
 
 
 def main(words):
-    if len(words) != 1:
+    # Of each case what is told, and how many clusters its server has.
+    cases = {"slow": (slow, CLUSTERS), "many": (many, CLUSTERS), "late": (late, 1), "in_use": (in_use, 1)}
+    if not words or set(words[1:]) - {*cases, "few"}:
         sys.exit(__doc__)
-    server = Server(words[0])
-    try:
-        good = [*slow(server), *many(server), *few(words[0])]
-    finally:
-        server.run.kill()
+    asked, good = words[1:] or [*cases, "few"], []
+    for name, (case, clusters) in cases.items():
+        if name in asked:
+            server = Server(words[0], clusters=clusters)
+            try:
+                good += case(server)
+            finally:
+                server.run.kill()
+    if "few" in asked:
+        good += few(words[0])
     return 0 if all(good) else 1
 
 

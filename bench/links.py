@@ -233,7 +233,9 @@ def check_link(target, page):
 @functools.cache
 def numbers():
     """The names of the numbers that a server shows."""
-    return set(re.findall(r'"(xds_\w+)"', open(f"{TOP}/crates/xds_monitor/src/pages.rt").read()))
+    files = ("xds_monitor/src/pages", "xds_monitor/src/tapes", "xds_commands/src/admin")
+    texts = [open(f"{TOP}/crates/{file}.rt").read() for file in files]
+    return set(re.findall(r'"(xds_\w+)"', "".join(texts)))
 
 
 def check_text(text):

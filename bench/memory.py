@@ -6,9 +6,9 @@
 PROGRAM is the built program, as crates/xds/out/xds. Each case starts a server of one replica that holds five large clusters, and
 has a bound in MB for what its memory (VmRSS) grows by:
 
-    puts        one client in the state of the world, which wants all clusters and accepts each response, beside 300 puts of one
+    puts        one client in the state of the world, which wants all clusters and accepts each response, beside 1,500 puts of one
                 small cluster: what is recorded of a response shares the stored texts, and holds no text of its own
-    clusters    100 clients that want all clusters, each of a cluster text of its own, come, take a response and go: what clients
+    clusters    200 clients that want all clusters, each of a cluster text of its own, come, take a response and go: what clients
                 of a cluster share is kept for at most 16 of them
 
 The program that isn't proved (./xds --unproved) checks each access to memory, and holds back what was let go; it is told to hold back
@@ -21,7 +21,7 @@ import sys
 from fanout_server import PATIENCE, URL, NoServer, Server, Wrong, framed
 
 BODY = 160_000
-PUTS, CLIENTS = 300, 100
+PUTS, CLIENTS = 1_500, 200
 # In MB. Without its reason each case grows by ten times its bound or more.
 BOUNDS = {"puts": 40, "clusters": 45}
 

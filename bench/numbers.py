@@ -68,7 +68,7 @@ class Server:
         ends = time.monotonic() + PATIENCE
         while time.monotonic() < ends:
             body = self.poll()[1]
-            if any(it["name"] == name for it in body["resources"]):
+            if any(it["name"] == name for it in body.get("resources", [])):
                 return body
             time.sleep(0.05)
         return {"resources": [], "versionInfo": ""}

@@ -8,6 +8,7 @@ numbers and the streams that are shown, the limits of streams, a stop beside a c
 what replicas tell each other, addresses, and words that are wrong. Prints a line for each, and the status is 1 where one isn't as it
 is to be, and 2 where it can't be tried, since the program isn't there.
 """
+import atexit
 import http.server
 import json
 import os
@@ -33,7 +34,7 @@ def tell(what, is_good, found=""):
 
 def free(count):
     """So many free ports in a row."""
-    for first in range(21000, 30000, 100):
+    for first in range(int(os.environ.get("FIRST_PORT", "21000")), 30000, 100):
         try:
             for port in range(first, first + count):
                 with socket.socket() as it:
@@ -47,14 +48,18 @@ def free(count):
 class Server:
     """A server of one replica, or of more; behind the ports of streams and of REST comes the operator's."""
 
-    def __init__(self, *words, text="", replicas=1):
+    def __init__(self, *words, text="", replicas=1, open_input=False, prepare=None):
         self.port = free(2 * replicas + 1)
         self.rest_port, self.admin_port = self.port + replicas, self.port + 2 * replicas
         ports = ("--port", str(self.port), "--rest-port", str(self.rest_port), "--admin-port", str(self.admin_port))
         line = [PROGRAM, "serve", "--replicas", str(replicas), *ports, *words]
-        self.run = subprocess.Popen(line, stdin=subprocess.PIPE, stdout=subprocess.PIPE, stderr=subprocess.PIPE, text=True)
+        pipe = subprocess.PIPE
+        self.run = subprocess.Popen(line, stdin=pipe, stdout=pipe, stderr=pipe, text=True, preexec_fn=prepare)
+        atexit.register(self.run.kill)
         self.run.stdin.write(text)
-        self.run.stdin.close()
+        self.run.stdin.flush()
+        if not open_input:
+            self.run.stdin.close()
         for _ in range(200):
             try:
                 if self.get("/ready") == "ready\n":
@@ -156,7 +161,8 @@ def lines_and_changes():
     counted = [number(text, f"xds_{it}", each) for it in ("resources", "responses_total", "acks_total", "nacks_total")]
     tell("numbers are shown", counted == [3, 2, 1, 1] and number(text, "xds_changes_refused_total", 'replica="1"') == 2, text)
     stream.socket.close()
-    comes(lambda: json.loads(server.get("/status"))["replicas"][0]["streams"] == [])
+    streams = lambda: json.loads(server.get("/status"))["replicas"][0]["streams"]
+    tell("a stream that ended is shown no longer", comes(lambda: streams() == []), streams())
     code, errors, _ = server.stop()
     wanted = ("line 1: 21 BadScript: unknown command\n", "line 2: 9 NotFound\n", 'first request, node "n?1"', 'is rejected: "no ?c?"', "ended\n")
     tell("lines and events are told", code == 0 and all(it in errors for it in wanted), errors)
@@ -172,13 +178,13 @@ def stop_in_a_frame():
     comes(lambda: number(server.get("/metrics"), "xds_responses_total", 'replica="1",type="route"') == 1)
     time.sleep(0.5)
     code, _, seconds = server.stop()
-    tell("it stops beside a client that reads nothing", code == 0 and seconds < 5, (code, seconds))
+    tell("it stops beside a client that reads nothing", code == 0 and seconds < 10, (code, seconds))
     server = Server(text=put("a"))
     stream = Stream(server.port)
     stream.send({"typeUrl": URL, "resourceNames": ["a"]})
     whole = stream.take()
     code, _, seconds = server.stop()
-    tell("it stops at once where no frame is under way", whole and code == 0 and seconds < 1.5, (code, seconds))
+    tell("it stops at once where no frame is under way", whole and code == 0 and seconds < 2.5, (code, seconds))
 
 
 def limits():

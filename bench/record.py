@@ -1,19 +1,21 @@
 #!/usr/bin/env python3
 """Records a run of `xds serve`, and has `xds check` judge what was recorded.
 
-    python3 bench/record.py [--streams N] [--puts M] [--whole] [--seed S] [--keep DIR] PROGRAM
+    python3 bench/record.py [--streams N] [--puts M] [--whole] [--seed S] [--keep DIR] PROGRAM [CASE ..]
 
 PROGRAM is the built program, as crates/xds/out/xds. Two replicas serve N streams (40) of both variants, by turns, which accept
 responses and now and then reject one, ask for more names, and end and come anew; meanwhile M changes (300) are put, for either
 replica, some of them deletions. --whole is the run of 1,000 streams and 10,000 puts. Then the server is stopped, and
 
     each trace is checked `ok`, and has a line for each change that its replica was given;
+    so is that of a run whose journals are cut again and again, beside an operator who looks at it (segments);
     copies that are spoilt are told: some as no trace, some by the rule that is broken;
     a server that is killed, and one that may write no more, leave files that are told as no trace;
     the latter goes on serving, and tells it;
     folders that aren't there, and files that are, are told at the start.
 
-Prints how long the run took, the bytes of each trace, the most memory that the server had, and how long a check takes.
+Prints how long the run took, the bytes of each trace, the most memory that the server had, and how long a check takes. With CASEs
+(whole, segments, killed, full, refused) it tries these alone.
 Status 1 where something isn't as it is to be.
 """
 import argparse
@@ -298,12 +300,55 @@ def whole_run(program, folder, pick, given):
     took, memory = time.time() - begun - QUIET, server.memory()
     status, seconds = server.stop()
     told = server.told()
-    tell(f"the server ends with status 0, in {seconds:.1f} s", status == 0 and seconds < 5, (status, told))
+    tell(f"the server ends with status 0, in {seconds:.1f} s", status == 0 and seconds < 10, (status, told))
     tell("nothing is told of its recording", "recording" not in told, told)
     print(f"     {given.streams} streams, {given.puts} puts: {took:.1f} s, most memory {memory:.0f} MB")
     for client in clients:
         client.end()
     look_at(program, folder, pick, given.puts)
+
+
+def segments(program, folder, pick):
+    """Puts of 30 kB, of which a journal of 4 MiB has 140; a stream that is told of some; and an operator who looks at all of it."""
+    server = Server(program, folder)
+    link = socket.create_connection(("127.0.0.1", server.port), timeout=60)
+    file = link.makefile("rwb")
+    send = lambda message: (file.write((len(message) + 1).to_bytes(4, "big") + b"\x03" + message), file.flush())
+    send(json.dumps({"typeUrl": URLS["route"], "resourceNamesSubscribe": ["n0"]}).encode())
+    for turn in range(4):
+        lines = [{"@type": URLS["route"], "altStatName": f"{turn} {at} " + "x" * 30_000, "name": f"n{at}"} for at in range(40)]
+        answer = server.ask("/changes", "".join(f"put 1 {json.dumps(it)}\n" for it in lines).encode())
+        tell(f"40 puts of 30 kB are made ({turn})", answer.count("-1\n") == 40, answer[:200])
+        # Up to the last put of the name: a stream is told no more often than it answers.
+        while True:
+            text = file.read(int.from_bytes(file.read(4), "big"))[1:]
+            send(json.dumps({"typeUrl": URLS["route"], "responseNonce": NONCE.search(text)[1].decode()}).encode())
+            if f'"{turn} 0 '.encode() in text:
+                break
+        for path in ("/metrics", "/status", "/ready"):
+            server.ask(path)
+    until, cuts, changes = time.time() + 60, [0, 0], []
+    while time.time() < until and (min(cuts) < 1 or changes != [160, 160]):
+        text = server.ask("/metrics")
+        of = lambda name: [int(it) for it in re.findall(rf"^xds_{name}\{{replica=\"[12]\"(?:,type=\"route\")?\}} (\d+)$", text, re.M)]
+        cuts, changes = of("cuts_total"), of("changes_total")
+        time.sleep(0.1)
+    tell("each journal is cut, and each put comes to both replicas", min(cuts) >= 1 and changes == [160, 160], (cuts, changes))
+    link.close()
+    status, _ = server.stop()
+    tell("the server ends with status 0", status == 0, status)
+    tell("nothing is told of its recording", "recording" not in server.told(), server.told())
+    for replica in (1, 2):
+        path = f"{folder}/replica-{replica}.trace"
+        said = checked(program, path)
+        tell(f"the trace of replica {replica}, of several segments, is ok", said[:2] == ("ok", ""), said)
+        with open(path, "rb") as trace:
+            lines = trace.read().split(b"\n")
+        # What replica 2 was told it tells replica 1 in turn, so that a write may have a line more than once.
+        count = len({line for line in lines if line.startswith(b"write ")})
+        tell(f"each put is a line of its trace ({replica})", count == 160, count)
+    count = sum(line.startswith(b"response ") for line in lines)
+    tell("no response is a line of the trace of another replica", count == 0, count)
 
 
 def killed(program, folder, pick):
@@ -329,7 +374,7 @@ def full(program, folder, pick):
     tell("a server that may write no more goes on", answer.startswith("line 1: "), answer)
     status, seconds = server.stop()
     told = server.told()
-    tell("it ends with status 0", status == 0 and seconds < 5, status)
+    tell("it ends with status 0", status == 0 and seconds < 10, status)
     for replica in (1, 2):
         line = f"recording of replica {replica} ended: 19 Device\n"
         tell("it tells that a recording ended, once", told.count(line) == 1, told)
@@ -363,6 +408,7 @@ def main():
     words.add_argument("--seed", type=int, default=1)
     words.add_argument("--keep", help="a folder that isn't there, in which the files are left")
     words.add_argument("program")
+    words.add_argument("cases", nargs="*", metavar="CASE")
     given = words.parse_args()
     if given.whole:
         given.streams, given.puts = 1000, 10_000
@@ -371,13 +417,19 @@ def main():
     program = os.path.abspath(given.program)
     folder = given.keep or tempfile.mkdtemp(prefix="recorded-")
     pick = random.Random(given.seed)
-    for name in ("whole", "killed", "full", "refused"):
-        os.makedirs(f"{folder}/{name}")
+    cases = {
+        "whole": lambda at: whole_run(program, at, pick, given),
+        "segments": lambda at: segments(program, at, pick),
+        "killed": lambda at: killed(program, at, pick),
+        "full": lambda at: full(program, at, pick),
+        "refused": lambda at: refused(program, at),
+    }
+    if set(given.cases) - set(cases):
+        sys.exit(f"the cases are {' '.join(cases)}")
     try:
-        whole_run(program, f"{folder}/whole", pick, given)
-        killed(program, f"{folder}/killed", pick)
-        full(program, f"{folder}/full", pick)
-        refused(program, f"{folder}/refused")
+        for name in given.cases or cases:
+            os.makedirs(f"{folder}/{name}")
+            cases[name](f"{folder}/{name}")
     finally:
         if not given.keep:
             shutil.rmtree(folder)

@@ -25,6 +25,7 @@ fn main(rt: HostRuntime) -> ExitCode {
             &mut Counted::new(rt.stdout()),
             &mut errors,
             terminal,
+            Some(rt.stderr()),
         ),
         Err(error) if error.kind() == ErrorKind::InvalidData => {
             let _ = write_whole(&mut errors, b"error: a word is not UTF-8\n");

@@ -8,15 +8,22 @@
 --     Runs         a client says its first requests, each as a frame, and then answers as many responses as it is to
 --     IsUnlinked   there is no connection, and nothing happened
 --     RunsAt       a client over a connection, of which nothing is known but how its calls ended; or without one
-use Rattle.std.specs.Prelude.{◌≡◌, ◌<◌, ◌≤◌, ◌+◌, ◌⊎◌, ℕ, List, [], ◌++◌, length, Result, Ok, Err}
+--     IsNoConnection   why there is no connection
+--     IsUndialled  there is no connection, for this refusal, which is the answer, and nothing was printed
+--     unused       a device of which no call was made
+--     RunsBetween, RunsOver  a client over this reader and this writer, which come back
+--     RunsBy       a client over what one call connected it to; or without a connection, for the refusal of this call
+use Rattle.std.specs.Prelude.{◌≡◌, ◌<◌, ◌≤◌, ◌+◌, ◌⊎◌, ℕ, List, [], ◌++◌, length, Option, Some, None, Result, Ok, Err}
 use Rattle.std.specs.Io.KnownBytes.{Consumes}
 use Rattle.xds_resource.specs.declared.refusal.Refusal.{Refusal}
 use Rattle.xds_resource.specs.declared.refusal.Refusal.TheVariants.{OutOfMemory, FrameTooLong, Device as DeviceRefusal}
 use Rattle.xds_resource.specs.declared.types.TypeName.{TypeName}
-use Rattle.xds_frames.specs.Devices.{Device, Stays, Wrote, HasFailed}
+use Rattle.xds_frames.specs.Devices.{Device, Stays, Wrote, HasFailed, seen}
+use Rattle.xds_frames.specs.declared.counted.Counted.{Counted}
 use Rattle.xds_cache.specs.Clients.{Client}
 use Rattle.xds_client.specs.declared.subscription.StreamVariant.{StreamVariant}
 use Rattle.xds_client.specs.declared.subscription.Subscription.{Subscription}
+use Rattle.xds_client.specs.declared.connecting.Ended.{Ended}
 use Rattle.xds_client.specs.Subscribing.{OpeningFits, first_client, opening}
 use Rattle.xds_client.specs.Exchanges.{Exchange, AreAnswered, client_after, responses, answers, printed}
 use Rattle.xds_client.specs.Ending.{Devices, EndsEarly, IsPart, NoneFailed}
@@ -76,3 +83,32 @@ RunsAt s r output =
     ((input server : Device) × (before after : ℕ)
     × Runs s r (record { input = input; server = server; output = output; calls_before = before; calls_after = after }))
     ⊎ IsUnlinked r output
+
+-- why there is no connection
+abbrev pub IsNoConnection : Refusal → Type 0
+IsNoConnection e = (e ≡ OutOfMemory) ⊎ (e ≡ DeviceRefusal)
+
+-- There is no connection, for this refusal, which is the answer, and nothing was printed.
+abbrev pub IsUndialled : {T : Type 0} → Refusal → Result T Refusal → Device → Type 0
+IsUndialled e (Ok x) output = ⊥
+IsUndialled e (Err f) output = (f ≡ e) × IsNoConnection e × Stays output × NoneFailed output
+
+-- a device of which no call was made
+abbrev pub unused : {D : Type 0} → D → Counted D
+unused d = record { inner = d; calls = 0; failed = 0 }
+
+-- A client over this reader and this writer: both come back, as its calls left them, and each call that failed is counted there.
+abbrev pub RunsBetween : {R W T : Type 0} → R → W → (R → Option (List ℕ)) → (W → Option (List ℕ)) → Subscription → Result T Refusal → Option (Counted R × Counted W) → Device → Type 0
+RunsBetween reader writer remaining contents s answer None output = ⊥
+RunsBetween reader writer remaining contents s answer (Some (r, w)) output =
+    Runs s answer (record { input = seen remaining (unused reader) r; server = seen contents (unused writer) w; output = output; calls_before = 0; calls_after = r.calls })
+
+-- the same of how it ended
+abbrev pub RunsOver : {R W : Type 0} → R → W → (R → Option (List ℕ)) → (W → Option (List ℕ)) → Subscription → Ended R W → Device → Type 0
+RunsOver reader writer remaining contents s ended output = RunsBetween reader writer remaining contents s ended.answer ended.ends output
+
+-- A client over what one call connected it to, and over nothing else; or there was no connection, for the refusal of this call.
+abbrev pub RunsBy : {R W : Type 0} → (Result (R × W) Refusal → Type 0) → (R → Option (List ℕ)) → (W → Option (List ℕ)) → Subscription → Ended R W → Device → Type 0
+RunsBy {R} {W} dialled remaining contents s ended output =
+    ((reader : R) × (writer : W) × dialled (Ok (reader, writer)) × RunsOver reader writer remaining contents s ended output)
+    ⊎ ((e : Refusal) × dialled (Err e) × (ended.ends ≡ None) × IsUndialled e ended.answer output)

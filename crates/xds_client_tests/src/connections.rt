@@ -5,7 +5,7 @@ use std::io::Read;
 use std::net::{Ipv4Addr, Net, SocketAddr, SocketAddrV4, TcpListener, TcpStream};
 use std::test::Fail;
 use xds_cases::cases::words_of;
-use xds_client::{StreamVariant, Subscription, run_at};
+use xds_client::{StreamVariant, Subscription, Tcp, run_at};
 use xds_frames::Counted;
 use xds_resource::{Refusal, TypeName};
 
@@ -27,7 +27,10 @@ where
         responses: 0,
     };
     let mut output = Counted::new(Vec::new(alloc));
-    let answer = run_at(rt, alloc, addr, &wish, &mut output);
+    let mut tcp = Tcp { net: rt };
+    let ended = run_at(&mut tcp, alloc, addr, &wish, &mut output);
+    let Tcp { net: _ } = tcp;
+    let answer = ended.answer;
     let printed = output.inner.len();
     if answer == wanted && printed == 0 {
         return Ok(());

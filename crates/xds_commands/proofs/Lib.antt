@@ -7,3 +7,4 @@ mod Tellings
 mod Joining
 mod Wired
 mod LoadSteps
+mod Watchings

@@ -8,16 +8,20 @@
 --     ShowsReply     a reply is shown: its status in a line, and its body in the next, where it has one
 --     ShowsInTime    the same, or it is told that so many seconds have passed, where they were given
 --     question_of    what a poll's task asks a server
---     EndsPollBy     `xds poll`, by what posts its request
---     EndsPoll       `xds poll` over a connection, of which nothing is known but what it told
+--     EndsPoll       `xds poll`, by what posts its request to its server
 --     variant_of     the variant of a client's stream
 --     IsOf           the subscription is the one that a client's task asks for
 --     TellsEnd       what is told of a refusal that a client ends by
 --     HasEnded       the status of a client that ended so, and what is told of that
---     EndsClient     `xds client`: the client of its task ran over a connection, and its end is told
+--     EndsClientBy   `xds client`: the client of its task ran over what one call connected it to, and its end is told
+--     RanSomewhere   a client over a connection, of which nothing is known but how its calls ended; or without one
+--     EndsClient     `xds client` over such a connection
 --     GoesOn         what is left to do of a run: nothing, or the task that it was handed
 use Rattle.std.specs.Prelude.{◌≡◌, ◌⊎◌, ◌≤◌, ◌++◌, ℕ, List, Bool, Option, Some, Result, Ok, Err, codes, decimal, nat_eq, ⊤}
 use Rattle.std.specs.List.{starts_with}
+use Rattle.std.specs.declared.net.socket_addr.SocketAddrV4.{SocketAddrV4}
+use Rattle.std.specs.declared.net.socket_addr.SocketAddr.{SocketAddr}
+use Rattle.std.specs.declared.net.socket_addr.SocketAddr.TheVariants.{V4}
 use Rattle.http.specs.declared.request.Request.{Request}
 use Rattle.http_body_util.specs.declared.full.Full.{Full}
 use Rattle.xds_frames.specs.Devices.{Device, Stays, Tells}
@@ -30,7 +34,8 @@ use Rattle.xds_http.specs.Sent.{IsPolled}
 use Rattle.xds_client.specs.declared.subscription.StreamVariant as streams
 use Rattle.xds_client.specs.declared.subscription.StreamVariant.TheVariants as variants
 use Rattle.xds_client.specs.declared.subscription.Subscription.{Subscription}
-use Rattle.xds_client.specs.Running.{RunsAt}
+use Rattle.xds_client.specs.Running.{IsUndialled, Runs, RunsBy}
+use Rattle.xds_client.specs.declared.connecting.Ended.{Ended}
 use Rattle.xds_client.specs.Subscribing.{names_of}
 use Rattle.xds_program.specs.declared.run.Ran.{Ran}
 use Rattle.xds_program.specs.declared.run.Ran.TheVariants.{Done, Serve, Client, Poll}
@@ -76,14 +81,10 @@ ShowsInTime seconds r status output errors =
 abbrev pub question_of : Look → Question
 question_of look = record { kind = look.kind; names = look.names; version = look.version; cluster = look.cluster }
 
--- `xds poll`, by what posts its request: the post of its question goes out, and what that tells is shown
-abbrev pub EndsPollBy : (Request (Full (List ℕ)) → Result Told Refusal → Type 0) → Look → ℕ → Device → Device → Type 0
-EndsPollBy tells look status output errors =
-    (r : Result Told Refusal) × IsPolled tells (question_of look) r × ShowsInTime look.seconds r status output errors
-
--- `xds poll` over a connection, of which nothing is known but what it told
-abbrev pub EndsPoll : Look → ℕ → Device → Device → Type 0
-EndsPoll look status output errors = EndsPollBy (λ _ _. ⊤) look status output errors
+-- `xds poll`, by what posts its request: the post of its question goes out to its server, within its seconds, and what that tells is shown
+abbrev pub EndsPoll : (SocketAddr → Option ℕ → Request (Full (List ℕ)) → Result Told Refusal → Type 0) → Look → ℕ → Device → Device → Type 0
+EndsPoll tells look status output errors =
+    (r : Result Told Refusal) × IsPolled (tells (V4 look.addr) look.seconds) (question_of look) r × ShowsInTime look.seconds r status output errors
 
 -- the variant of a client's stream
 abbrev pub variant_of : StreamVariant → streams.StreamVariant
@@ -111,14 +112,26 @@ abbrev pub HasEnded : {T : Type 0} → Watch → Result T Refusal → ℕ → De
 HasEnded task (Ok x) status errors = (status ≡ 0) × Stays errors
 HasEnded task (Err e) status errors = (status ≡ 1) × TellsEnd task.seconds e errors
 
--- `xds client`: the client of its task ran over a connection, and its end is told
+-- `xds client`: the client of its task ran over what one call connected it to at the task's address, and its end is told
+abbrev pub EndsClientBy : {R W : Type 0} → (SocketAddrV4 → Result (R × W) Refusal → Type 0) → (R → Option (List ℕ)) → (W → Option (List ℕ)) → Watch → ℕ → Device → Device → Type 0
+EndsClientBy {R} {W} dialled remaining contents task status output errors =
+    (s : Subscription) × (ended : Ended R W) × IsOf task s × RunsBy (dialled task.addr) remaining contents s ended output × HasEnded task ended.answer status errors
+
+-- a client over a connection, of which nothing is known but how its calls ended; or without one
+abbrev pub RanSomewhere : {T : Type 0} → Subscription → Result T Refusal → Device → Type 0
+RanSomewhere s r output =
+    ((input server : Device) × (before after : ℕ)
+    × Runs s r (record { input = input; server = server; output = output; calls_before = before; calls_after = after }))
+    ⊎ ((e : Refusal) × IsUndialled e r output)
+
+-- `xds client` over such a connection
 abbrev pub EndsClient : Watch → ℕ → Device → Device → Type 0
 EndsClient task status output errors =
-    (s : Subscription) × (r : Result (Unit {0}) Refusal) × IsOf task s × RunsAt s r output × HasEnded task r status errors
+    (s : Subscription) × (r : Result (Unit {0}) Refusal) × IsOf task s × RanSomewhere s r output × HasEnded task r status errors
 
 -- What is left to do of a run: nothing, where it is done; or the task that it was handed. A server prints nothing on the output.
 abbrev pub GoesOn : Ran → ℕ → Device → Device → Type 0
 GoesOn (Done done) status output errors = (status ≡ done) × Stays output × Stays errors
 GoesOn (Serve task) status output errors = (status ≤ 1) × Stays output
 GoesOn (Client task) status output errors = EndsClient task status output errors
-GoesOn (Poll task) status output errors = EndsPoll task status output errors
+GoesOn (Poll task) status output errors = EndsPoll (λ _ _ _ _. ⊤) task status output errors

@@ -9,16 +9,26 @@
 --     so_far       what was loaded so far
 --     Takes        a change was handed to what is loaded so far
 --     IsLoaded     all that was read is changes, and this is what they come to
-use Rattle.std.specs.Prelude.{◌≡◌, ◌⊎◌, ℕ, ◌+◌, ◌-◌, min, max, List, [], ◌∷◌, ◌||◌, ◌==◌, nat_lt, if◌then◌else◌, Option, None, IfSome, IsSome, option_map, Result, Ok, Err}
+--     IsWrongLine  the lines before this one are changes, and this one is none
+--     IsUnmade     there was no memory for one of the changes, behind those that were made
+--     IsRefused    all that was read is changes, and one of them is refused, behind those that were made
+--     IsCut        a read failed: the lines that had ended before are changes
+--     IsUnloaded   a read failed; or all changes were made, and there was no memory for what they come to
+--     HasLoaded    what the changes come to, or why they aren't loaded
+--     end_by       why a file isn't loaded that was read to its end: by its refused line, or for want of memory
+use Rattle.std.specs.Prelude.{◌≡◌, ◌⊎◌, ℕ, ◌+◌, ◌-◌, min, max, List, [], ◌∷◌, ◌++◌, ◌||◌, ◌==◌, nat_lt, if◌then◌else◌, Option, None, Some, IfSome, IsSome, option_map, Result, Ok, Err}
 use Rattle.std.specs.Io.KnownBytes.{Consumes, IsAtEnd}
 use Rattle.xds_resource.specs.declared.refusal.Refusal.{Refusal}
-use Rattle.xds_resource.specs.declared.refusal.Refusal.TheVariants.{BadScript, OutOfMemory}
+use Rattle.xds_resource.specs.declared.refusal.Refusal.TheVariants.{BadScript, Device, OutOfMemory}
 use Rattle.xds_core.specs.Events.{Event, Put, Delete, Open, Request, Poll, Owes, Close, Merge, Snapshot, Rest, Since}
 use Rattle.xds_core.specs.Stores.{Batch, Store, all_entries, putting_at, deleting_at, if_done}
 use Rattle.xds_world.specs.Lines.{feed, pieces}
+use Rattle.xds_monitor.specs.declared.ending.End.{End}
+use Rattle.xds_monitor.specs.declared.ending.End.TheVariants.{Streams, Stopped, Line, Refused}
 use Rattle.xds_commands.specs.declared.loading.Loader.{Loader}
 use Rattle.xds_commands.specs.Changes.{Written}
-use Rattle.xds_commands.specs.Inputs.{AreTaken}
+use Rattle.xds_commands.specs.Handing.{line_after}
+use Rattle.xds_commands.specs.Inputs.{AreTaken, AreRefused, AreEnded}
 
 -- the number of the replica at this place, from 1, where the first has this number: none is greater than 65,535
 abbrev pub number_at : ℕ → ℕ → ℕ
@@ -73,3 +83,58 @@ pub record IsLoaded (first replicas : ℕ) (start : Store) (before after : Optio
   pub held : Store
   pub loaded : all_loaded first replicas start changes ≡ Ok held
   pub batch_is : batch ≡ all_entries held
+
+-- the lines before this one are changes, and this one is none, or there was no memory for it: it is told by its number, from 1
+pub record IsWrongLine (before after : Option (List ℕ)) (line : ℕ) (refusal : Refusal) : Type 0 where
+  pub came : List ℕ
+  pub read : Consumes before after came
+  pub changes : List Written
+  pub count : ℕ
+  pub refused : AreRefused (pieces feed came) changes count refusal
+  pub line_is : line ≡ line_after 1 count
+
+-- there was no memory for a change, behind those that were made over what was held before
+pub record IsUnmade (first replicas : ℕ) (start : Store) (changes : List Written) : Type 0 where
+  pub made : List Written
+  pub unmade : Written
+  pub behind : List Written
+  pub changes_are : changes ≡ made ++ unmade ∷ behind
+  pub held : Store
+  pub loaded : all_loaded first replicas start made ≡ Ok held
+
+-- all that was read is changes, and one of them is refused, behind those that were made over what was held before; or there was no memory for one
+pub record IsRefused (first replicas : ℕ) (start : Store) (before after : Option (List ℕ)) (refusal : Refusal) : Type 0 where
+  pub came : List ℕ
+  pub read : Consumes before after came
+  pub at_end : IsAtEnd after
+  pub changes : List Written
+  pub taken : AreTaken (pieces feed came) changes
+  pub why : (all_loaded first replicas start changes ≡ Err refusal) ⊎ ((refusal ≡ OutOfMemory) × IsUnmade first replicas start changes)
+
+-- a read failed: so many lines had ended before, and they are changes
+pub record IsCut (before after : Option (List ℕ)) : Type 0 where
+  pub came : List ℕ
+  pub read : Consumes before after came
+  pub changes : List Written
+  pub count : ℕ
+  pub left : List ℕ
+  pub ended : AreEnded came changes count left
+
+-- a read failed; or all changes were made, and there was no memory for a batch of what they come to
+abbrev pub IsUnloaded : ℕ → ℕ → Store → Option (List ℕ) → Option (List ℕ) → Refusal → Type 0
+IsUnloaded first replicas start before after refusal =
+    ((refusal ≡ Device) × IsCut before after)
+    ⊎ ((refusal ≡ OutOfMemory) × (batch : Batch) × IsLoaded first replicas start before after batch)
+
+-- what the changes come to, over what was held before, or why they aren't loaded
+abbrev pub HasLoaded : ℕ → ℕ → Store → Option (List ℕ) → Option (List ℕ) → Result Batch End → Type 0
+HasLoaded first replicas start before after (Ok batch) = IsLoaded first replicas start before after batch
+HasLoaded first replicas start before after (Err (Line line refusal)) = IsWrongLine before after line refusal ⊎ IsRefused first replicas start before after refusal
+HasLoaded first replicas start before after (Err (Refused refusal)) = IsUnloaded first replicas start before after refusal
+HasLoaded first replicas start before after (Err Streams) = ⊥
+HasLoaded first replicas start before after (Err Stopped) = ⊥
+
+-- why a file isn't loaded that was read to its end: by the line of the change that is refused, if one is; or for want of memory
+abbrev pub end_by : Option (ℕ × Refusal) → End
+end_by (Some refused) = Line refused.0 refused.1
+end_by None = Refused OutOfMemory

@@ -1,5 +1,5 @@
 // What a line of the server's input changes.
-ghost use Rattle.std.specs.Prelude.{◌≡◌, ◌<◌, ◌≤◌, IfOk, IfSome, Some, MatchResult, length, nat_lt, true, false};
+ghost use Rattle.std.specs.Prelude.{◌≡◌, ◌<◌, IfOk, IfSome, Some, MatchResult, length, nat_lt, true, false};
 ghost use Rattle.std.specs.Option.{option_map, ok_or};
 ghost use Rattle.xds_resource.specs.declared.refusal.Refusal.TheVariants.{BadScript, TooLong};
 ghost use Rattle.xds_resource.specs.Refusals.{Gives};

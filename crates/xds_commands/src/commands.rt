@@ -1,9 +1,10 @@
 // A run of the program with a network beside it.
-ghost use Rattle.std.specs.Prelude.{◌≡◌, option_map};
+ghost use Rattle.std.specs.Prelude.{◌≡◌, option_map, string_bytes};
 ghost use Rattle.xds_frames.specs.Devices.{seen};
 ghost use Rattle.xds_commands.specs.Ends.{GoesOn};
 ghost use Rattle.xds_commands.specs.Servings.{serving_of};
 
+use crate::beginning::ServeFiles;
 use crate::machine::{Machine, Runtime};
 use crate::polling::poll_once;
 use crate::progress::ProgressReader;
@@ -14,20 +15,23 @@ use std::io::{Read, Write};
 use std::net::{Net, TcpListener, TcpStream};
 use std::rt::Files;
 use xds_frames::Counted;
+use xds_http::Connects;
 use xds_program::run::Ran;
 use xds_program::{ServeTask, ServeWords};
 
 /// Runs the program with these words, the first of which is its name, and answers the status. The words are looked
 /// at before any input, and before any connection. A server takes the input in a thread of its own, and its threads go
 /// on until the process ends. Where there is a terminal, a thread tells there how far a run is that works on its input
-/// itself: beside what the run writes on the error output, and until the run is done.
-pub fn run<R, I, O, E, P>(
+/// itself: beside what the run writes on the error output, and until the run is done. Where the error output is given once more, as a
+/// teller, a thread of a server tells on it, and no end of the server waits for who reads it.
+pub fn run<R, I, O, E, P, T>(
     rt: &R,
     words: &[String],
     input: I,
     output: &mut Counted<O>,
     errors: &mut Counted<E>,
     terminal: Option<P>,
+    teller: Option<T>,
 ) -> u8
 where
     R: Runtime + Net<Listener = TcpListener, Stream = TcpStream> + Files<File = File>,
@@ -35,20 +39,23 @@ where
     O: Write,
     E: Write,
     P: Write + Drop + Send + 'static,
+    T: Write + Drop + Send + 'static,
 {
     let is_terminal = terminal.is_some();
     let mut input = Counted::new(ProgressReader::start(rt, input, terminal));
     let ran = xds_program::run::run(rt.alloc(), words, &mut input, output, errors);
-    go_on(rt, ran, input.inner.finish(), output, errors, is_terminal)
+    let input = input.inner.finish();
+    go_on(rt, ran, input, output, errors, teller, is_terminal)
 }
 
 // Does what is left to do of a run.
-fn go_on<R, I, O, E>(
+fn go_on<R, I, O, E, T>(
     rt: &R,
     ran: Ran,
     input: I,
     output: &mut Counted<O>,
     errors: &mut Counted<E>,
+    teller: Option<T>,
     is_terminal: bool,
 ) -> u8
 where
@@ -56,42 +63,37 @@ where
     I: Read + Drop + Send + 'static,
     O: Write,
     E: Write,
+    T: Write + Drop + Send + 'static,
     ensures { GoesOn ran result (seen O.contents output.old output.new) (seen E.contents errors.old errors.new) }
 {
     match ran {
         Ran::Done(status) => status,
-        Ran::Poll(task) => poll_once(rt, task, output, errors),
+        Ran::Poll(task) => poll_once(rt, &Connects, task, output, errors),
         Ran::Client(task) => watch(rt, &task, output, errors),
         Ran::Serve(words) => {
             let serving = serving_of(words.task, words.first_number, is_terminal);
-            serve(
-                rt,
-                input,
-                errors,
-                serving,
-                folder_in(&words),
-                load_in(&words),
-            )
+            serve(rt, input, errors, teller, serving, files_in(&words))
         }
     }
 }
 
-// The folder that traces are recorded into, if there is one.
-fn folder_in(words: &ServeWords) -> Option<&str>
-    ensures { option_map (λ f. f.now) result ≡ words.now.folder }
+// The names of a server's files.
+fn files_in(words: &ServeWords) -> ServeFiles<'_>
+    ensures record { option_map (λ f. f.now) result.record ≡ words.now.folder }
+    ensures load { option_map (λ f. f.now) result.load ≡ words.now.load }
 {
-    match &words.folder {
-        Some(folder) => Some(folder.as_str()),
-        None => None,
+    ServeFiles {
+        record: text_in(&words.folder),
+        load: text_in(&words.load),
     }
 }
 
-// The file of what is there from the start, if there is one.
-fn load_in(words: &ServeWords) -> Option<&str>
-    ensures { option_map (λ f. f.now) result ≡ words.now.load }
+// A text, if there is one.
+fn text_in(text: &Option<String>) -> Option<&str>
+    ensures { option_map (λ t. t.now) result ≡ option_map string_bytes text.now }
 {
-    match &words.load {
-        Some(file) => Some(file.as_str()),
+    match text {
+        Some(text) => Some(text.as_str()),
         None => None,
     }
 }

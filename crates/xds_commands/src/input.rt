@@ -1,8 +1,7 @@
 // The input of a server: lines that say what is put and deleted, taken while it serves.
-ghost use Rattle.std.specs.Prelude.{◌≡◌, ◌<◌, ◌+◌, ◌⊎◌, map, List, [], ◌++◌, IfSome, IfNone};
+ghost use Rattle.std.specs.Prelude.{◌≡◌, ◌<◌, ◌+◌, ◌⊎◌, map, IfSome, IfNone};
 ghost use Rattle.xds_commands.specs.Changes.{change_of};
-ghost use Rattle.xds_commands.specs.Inputs.{brought};
-ghost use Rattle.xds_commands.specs.Handing.{AllHanded, line_after, behind, HandsLast, TakesInput};
+ghost use Rattle.xds_commands.specs.Handing.{AllHanded, behind, HandsLast, TakesInput};
 
 use crate::change::Change;
 use crate::held::{Held, Taken};

@@ -1,6 +1,4 @@
 // The input of a server that keeps going: a line that is refused is told, and the next is read.
-ghost use Rattle.std.specs.Prelude.{◌≡◌};
-ghost use Rattle.xds_commands.specs.Changes.{change_of};
 ghost use Rattle.xds_commands.specs.Keeping.{HandsSaid, KeepsInput, KeepsPiece};
 
 use crate::input::{Hands, Replicas};

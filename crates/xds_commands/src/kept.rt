@@ -1,5 +1,5 @@
 // The lines of an input whose refused lines are passed over, as they come in pieces.
-ghost use Rattle.std.specs.Prelude.{◌≡◌, ◌≤◌, ◌+◌, length, [], ◌++◌, false};
+ghost use Rattle.std.specs.Prelude.{◌≡◌, ◌≤◌, ◌+◌, length, [], false};
 ghost use Rattle.xds_monitor.specs.Causes.{IsFaultOf};
 ghost use Rattle.xds_commands.specs.Changes.{most_line};
 ghost use Rattle.xds_commands.specs.HeldLines.{HasHeld, IsSaid, next_line};

@@ -3,6 +3,7 @@
 #![tactic(auto)]
 
 pub mod admin;
+mod beginning;
 pub mod change;
 pub mod commands;
 pub mod first_frame;
@@ -29,6 +30,7 @@ pub mod wires;
 pub mod workers;
 
 pub use admin::{Route, routed};
+pub use beginning::ServeFiles;
 pub use change::{Change, MAX_LINE, read_change};
 pub use commands::run;
 pub use first_frame::FirstFrame;

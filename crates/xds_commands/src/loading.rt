@@ -1,10 +1,10 @@
 // The changes of a file that are made before anybody is answered.
-ghost use Rattle.std.specs.Prelude.{◌≡◌, ◌≤◌, None, IfOk, OnErr};
+ghost use Rattle.std.specs.Prelude.{◌≡◌, ◌≤◌, None, IfErr, IfOk, OnErr};
 ghost use Rattle.xds_resource.specs.Any.{resource_type, named_body};
 ghost use Rattle.xds_resource.specs.Refusals.{Gives};
 ghost use Rattle.xds_core.specs.Seen.{event_of};
 ghost use Rattle.xds_core.specs.Stores.{all_entries, deleting_at, if_done, putting_at};
-ghost use Rattle.xds_commands.specs.Loads.{IsLoaded, loading, made_by, number_at};
+ghost use Rattle.xds_commands.specs.Loads.{HasLoaded, end_by, loading, made_by, number_at};
 
 use crate::change::Change;
 use crate::input::{Hands, take_lines};
@@ -138,10 +138,14 @@ fn deleted_by(held: &mut Catalogues, writer: u16, kind: TypeName, name: &str) ->
     }
 }
 
-/// All that is held once the lines of an input are made, the last of which needs no line feed, over what is held before: each is a change, made by its replica, of which the
-/// first of so many has this number, over all that the lines before it made. Refused are a line that is no change (`BadScript`,
-/// `TooLong`), a replica that isn't there (`BadScript`), a change that is refused there, as the deletion of what isn't there
-/// (`NotFound`), each with the number of its line, and what can't be read (`Device`).
+/// All that is held once the lines of an input are made, the last of which needs no line feed, over what is held before: each is a
+/// change, made by its replica, of which the first of so many has this number, over all that the lines before it made.
+///
+/// Refused are, each with the number of its line: a line that is no change (`BadScript`), or is too long (`TooLong`); a replica that
+/// isn't there (`BadScript`); and a change that is refused there, as the deletion of what isn't there (`NotFound`). Refused are without a
+/// line what can't be read (`Device`), and what all changes come to where there is no memory for it (`OutOfMemory`). A line and a change
+/// for which there is no memory are refused with the number of the line. A line that is no change is told before a change of a line
+/// before it that is refused: a refused change is told once all lines were taken, and the changes behind it aren't made.
 pub fn load<I: Read, R: Wait>(
     rt: &R,
     alloc: Global,
@@ -150,7 +154,7 @@ pub fn load<I: Read, R: Wait>(
     first: u16,
     replicas: u16,
 ) -> Result<Batch, End>
-    ensures { IfOk result (IsLoaded first replicas held (I.remaining input.old) (I.remaining input.new)) }
+    ensures { HasLoaded first replicas held (I.remaining input.old) (I.remaining input.new) result }
 {
     let mut loader = Loader::new(held, first, replicas);
     match take_lines(rt, alloc, input, &mut loader) {
@@ -164,7 +168,8 @@ pub fn load<I: Read, R: Wait>(
 
 // All that was loaded, unless a change was refused.
 fn loaded(alloc: Global, loader: Loader) -> Result<Batch, End>
-    ensures { IfOk result (λ b. (loader.refused ≡ None) × (b ≡ all_entries loader.held)) }
+    ensures ok { IfOk result (λ b. (loader.refused ≡ None) × (b ≡ all_entries loader.held)) }
+    ensures refused { IfErr result (λ e. e ≡ end_by loader.refused) }
 {
     if let Some((line, refusal)) = loader.refused {
         drop(loader);

@@ -2,7 +2,7 @@
 ghost use Rattle.std.specs.Prelude.{◌≡◌, Err, IfErr, IfSome, Ok, Some};
 ghost use Rattle.xds_frames.specs.Devices.{seen};
 ghost use Rattle.xds_http.specs.Sent.{TellsNothing};
-ghost use Rattle.xds_commands.specs.Ends.{EndsPoll, EndsPollBy, ShowsReply, question_of};
+ghost use Rattle.xds_commands.specs.Ends.{EndsPoll, ShowsReply, question_of};
 
 use crate::telling::tell_late;
 use crate::timed::{Deadline, gave_up};
@@ -13,36 +13,14 @@ use std::random::RandomSource;
 use std::sync::Wait;
 use std::time::Clock;
 use xds_frames::Counted;
-use xds_http::{Connects, ConnectsWithin, Posts, Question, Told, poll_by};
+use xds_http::{Posts, Question, Told, poll_by};
 use xds_program::PollTask;
 use xds_program::run::{DONE, print, tell};
 use xds_resource::Refusal;
 
-/// Polls once over a connection of its own, and shows the reply, or tells why none came. Answers the status.
-pub fn poll_once<R, O, E>(
-    rt: &R,
-    task: PollTask,
-    output: &mut Counted<O>,
-    errors: &mut Counted<E>,
-) -> u8
-where
-    R: Wait + Clock + Net + RandomSource + AllocGlobal,
-    O: Write,
-    E: Write,
-    ensures { EndsPoll task result (seen O.contents output.old output.new) (seen E.contents errors.old errors.new) }
-{
-    let server = SocketAddr::V4(task.addr);
-    match task.seconds {
-        None => poll_once_by(rt, &Connects { server }, task, output, errors),
-        Some(seconds) => {
-            let posts = ConnectsWithin { server, seconds };
-            poll_once_by(rt, &posts, task, output, errors)
-        }
-    }
-}
-
-/// The same by what posts the request: the post that goes out is that of the task's question, and what is shown is its reply.
-pub fn poll_once_by<R, P, O, E>(
+/// Polls the server of a task once, by what posts the request, and within the task's seconds: the post that goes out is that of its
+/// question, and its reply is shown, or it is told why none came. Answers the status.
+pub fn poll_once<R, P, O, E>(
     rt: &R,
     posts: &P,
     task: PollTask,
@@ -54,12 +32,12 @@ where
     P: Posts,
     O: Write,
     E: Write,
-    ensures { EndsPollBy P.tells task result (seen O.contents output.old output.new) (seen E.contents errors.old errors.new) }
+    ensures { EndsPoll P.tells task result (seen O.contents output.old output.new) (seen E.contents errors.old errors.new) }
 {
-    let host = SocketAddr::V4(task.addr);
+    let server = SocketAddr::V4(task.addr);
     let seconds = task.seconds;
     let deadline = Deadline::after(rt, seconds);
-    let polled = poll_by(rt, posts, host, question_of(task));
+    let polled = poll_by(rt, posts, server, seconds, question_of(task));
     match late(rt, &polled, seconds, deadline) {
         Some(seconds) => tell_late(rt.alloc(), seconds, errors),
         None => show(rt.alloc(), &polled, output, errors),

@@ -15,7 +15,7 @@ use std::net::TcpListener;
 use std::sync::{Arc, Wait};
 use xds_core::{Event, Marks, Reply};
 use xds_exchange::{Incoming, Outgoing};
-use xds_http::{Replies, serve_on};
+use xds_http::{Replies, Seats, serve_on};
 use xds_message::Batch;
 use xds_monitor::{Fault, Look, Lookout, Served, look_in};
 use xds_node::{Host, Parcel, Receipt, called, exchange_in, exchange_out};
@@ -49,7 +49,7 @@ pub fn run_replica<R, A>(
 ) -> Result<(), Refusal>
 where
     R: Machine,
-    A: Served + Replies + Drop + Send + Sync + 'static,
+    A: Served + Seats + Drop + Send + Sync + 'static,
     <A as Host>::Seat: Send + 'static,
     A::Segment: Send,
     A::PostSeat: Send,
@@ -133,7 +133,7 @@ fn start_serving<R, A>(
 ) -> Result<(), Refusal>
 where
     R: Machine,
-    A: Shared + Replies<Seat: Send>,
+    A: Shared + Seats + Replies<Seat: Send>,
 {
     let polled = start_polls(rt, node, polls);
     both(polled, start_streams(rt, alloc, node, streams, lookout))
@@ -195,7 +195,7 @@ fn take_all<R: Wait, A: Served>(rt: &R, alloc: Global, node: &A, seat: A::Seat, 
 fn start_polls<R, A>(rt: &R, node: &Arc<A>, listener: TcpListener) -> Result<(), Refusal>
 where
     R: Machine,
-    A: Replies<Seat: Send> + Drop + Send + Sync + 'static,
+    A: Seats + Replies<Seat: Send> + Drop + Send + Sync + 'static,
 {
     start_worker(rt, share(node), move |rt, node| {
         let _ = serve_on(rt, listener, node);

@@ -1,6 +1,6 @@
 // What a server tells on its error output.
-ghost use Rattle.std.specs.Prelude.{◌≡◌, ◌+◌, string_bytes, IfOk};
-ghost use Rattle.xds_monitor.specs.Endings.{fault_line, refusal_line, TellsLine, TellsText};
+ghost use Rattle.std.specs.Prelude.{◌≡◌, string_bytes, IfOk, Ok};
+ghost use Rattle.xds_monitor.specs.Endings.{fault_line, refusal_line, status_of, TellsEnd, TellsLine, TellsText};
 ghost use Rattle.xds_commands.specs.Messages.{admin_line, file_fault_text, file_line, port_fault_text, port_line, replica_line, same_numbers_line, unloaded_line};
 ghost use Rattle.xds_frames.specs.Devices.{seen};
 ghost use Rattle.xds_monitor.specs.Recordings.{tape_line};
@@ -299,4 +299,45 @@ pub(crate) fn tell_until_end<R: Wait, E: Write>(
         }
     }
     unreachable!()
+}
+
+/// The same, and what comes up to where nothing more is to be told, and then why the server ended, where that is a refusal.
+pub(crate) fn tell_all<R: Wait, E: Write>(
+    rt: &R,
+    alloc: Global,
+    errors: &mut Counted<E>,
+    ending: &Ending,
+) {
+    tell_until_end(rt, alloc, errors, ending);
+    ending.wait_closed(rt);
+    let end = tell_until_end(rt, alloc, errors, ending);
+    tell_end(alloc, errors, Ok(end));
+    ending.all_told(rt);
+}
+
+/// Tells why a server ended, where that is a refusal, and answers the status.
+pub(crate) fn tell_end<E: Write>(
+    alloc: Global,
+    errors: &mut Counted<E>,
+    ended: Result<End, Refusal>,
+) -> u8
+    ensures told { TellsEnd ended (seen E.contents errors.old errors.new) }
+    ensures status { result ≡ status_of ended }
+{
+    match ended {
+        Ok(End::Streams | End::Stopped) => 0,
+        Ok(End::Line(line, refusal)) => tell_line(alloc, errors, line, refusal),
+        Ok(End::Refused(refusal)) => tell(alloc, errors, refusal),
+        Err(refusal) => tell(alloc, errors, refusal),
+    }
+}
+
+/// The status of a server that ended so.
+pub(crate) fn status_of(end: End) -> u8
+    ensures { result ≡ status_of (Ok end) }
+{
+    match end {
+        End::Streams | End::Stopped => 0,
+        End::Line(_, _) | End::Refused(_) => REFUSED,
+    }
 }

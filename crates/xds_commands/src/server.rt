@@ -1,19 +1,21 @@
 // A server of some replicas, from its first line to its end.
-ghost use Rattle.std.specs.Prelude.{◌≡◌, ◌≤◌, unwrap_or};
-ghost use Rattle.xds_frames.specs.Devices.{seen};
-ghost use Rattle.xds_monitor.specs.Endings.{TellsEnd, status_of};
+ghost use Rattle.std.specs.Prelude.{◌≡◌, ◌≤◌, IfOk};
 ghost use Rattle.xds_commands.specs.Servings.{limits_of};
 
 use crate::admin::{Admin, Reached};
-use crate::loading::{load, number_at};
+use crate::beginning::{Begun, ServeFiles, begin_with, first_number, tell_unbegun};
+use crate::loading::number_at;
 use crate::machine::{Machine, Runtime};
 use crate::order::Order;
 use crate::replica::{Sends, Sockets, Takes};
 use crate::serve_telling::{
-    FileFault, PortFault, tell, tell_admin, tell_file, tell_line, tell_port, tell_replicas,
-    tell_same_numbers, tell_tape, tell_unloaded, tell_until_end,
+    PortFault, status_of, tell, tell_admin, tell_end, tell_port, tell_replicas, tell_same_numbers,
+    tell_tape, tell_until_end,
 };
-use crate::starting::{DRAIN_SECONDS, start_admin, start_input, start_replica};
+use crate::starting::{
+    DRAIN_SECONDS, shared_tape, start_admin, start_input, start_replica, start_teller,
+};
+use crate::timed::Deadline;
 use crate::wires::{Links, Wires, both, crossed, wired};
 use crate::workers::share;
 use crossbeam_channel::{Receiver, Sender, bounded};
@@ -22,10 +24,9 @@ use std::fs::File;
 use std::io::{Read, Write};
 use std::net::{Ipv4Addr, Net, SocketAddrV4, TcpListener, TcpStream};
 use std::rt::Files;
-use std::sync::{Arc, Wait};
+use std::sync::{Arc, Mutex, Wait};
 use std::thread;
 use std::time::{Clock, Duration};
-use xds_core::Catalogues;
 use xds_exchange::link;
 use xds_frames::Counted;
 use xds_message::Batch;
@@ -65,6 +66,9 @@ pub struct Serving {
 // As many milliseconds as who stopped the server has to take the answer.
 const PARTING_MILLISECONDS: u64 = 200;
 
+// As many milliseconds as what waits to be told has at least to be told at the end.
+const TELL_MILLISECONDS: u64 = 200;
+
 // As many seconds as the rest of the traces has at most to be written at the end. It is no more than a journal has.
 const RECORD_SECONDS: u64 = 60;
 
@@ -78,134 +82,83 @@ type Wiring = Wires<Sockets, Sender<Order>, Receiver<Order>, Sends, Takes>;
 /// Where a folder is given, the trace of replica K is recorded in its file `replica-K.trace`, which is new: where it can't be made, that
 /// is told with its name as 19 Device, and why, and nothing is read. A recording that ends by a refusal is told; the server goes on.
 ///
-/// Where a file is given, all its lines are made before the ports are bound, each by its replica over all that was made before; one
-/// that is refused is told with the file's name, and nothing is served.
+/// Where a file is to be loaded, all its lines are made before the ports are bound, each by its replica over all that was made before;
+/// one that is refused is told with the file's name, and nothing is served.
+///
+/// Where the error output is given once more, as a teller, a thread of its own tells on it, and the server ends some three seconds after its
+/// end is known, whoever reads that output; what isn't told by then is left out. Without one the server waits for who reads it.
 ///
 /// The input is read in a thread of its own, so it is handed over by value. Its end ends nothing. Threads that still wait
 /// at the end are left: they end with the process.
-pub fn serve<R, I, E>(
+pub fn serve<R, I, E, T>(
     rt: &R,
     input: I,
     errors: &mut Counted<E>,
+    teller: Option<T>,
     serving: Serving,
-    folder: Option<&str>,
-    load: Option<&str>,
+    files: ServeFiles<'_>,
 ) -> u8
 where
     R: Runtime + Net<Listener = TcpListener, Stream = TcpStream> + Files<File = File>,
     I: Read + Drop + Send + 'static,
     E: Write,
+    T: Write + Drop + Send + 'static,
     ensures { result ≤ 1 }
 {
     let alloc = rt.alloc();
-    let Some(file) = load else {
-        return serve_world(rt, alloc, input, errors, serving, folder, None);
-    };
-    match world_in(rt, alloc, file, serving) {
-        Ok(world) => serve_world(rt, alloc, input, errors, serving, folder, Some(world)),
+    match begin_with(rt, alloc, serving, files) {
+        Ok(begun) => serve_world(rt, alloc, input, errors, teller, begun, files.record),
         Err(fault) => {
             drop(input);
-            tell_unloadable(alloc, errors, file, fault)
+            drop(teller);
+            tell_unbegun(alloc, errors, files, fault)
         }
     }
 }
 
-// Why a file isn't loaded.
-#[derive(Clone, Copy)]
-enum Unloadable {
-    File(FileFault),
-    End(End),
-}
-
-// All that the lines of a file come to.
-fn world_in<R>(rt: &R, alloc: Global, file: &str, serving: Serving) -> Result<Batch, Unloadable>
-where
-    R: Wait + Files<File = File>,
-{
-    let mut opened = match File::open(rt, file) {
-        Ok(opened) => opened,
-        Err(error) => return Err(Unloadable::File(FileFault::of(error.kind()))),
-    };
-    let held = Catalogues::new(alloc);
-    let first = first_number(serving);
-    match load(rt, alloc, &mut opened, held, first, serving.replicas) {
-        Ok(world) => Ok(world),
-        Err(end) => Err(Unloadable::End(end)),
-    }
-}
-
-// Tells why a file isn't loaded, and answers the status.
-fn tell_unloadable<E: Write>(
-    alloc: Global,
-    errors: &mut Counted<E>,
-    file: &str,
-    fault: Unloadable,
-) -> u8
-    ensures { result ≡ 1 }
-{
-    match fault {
-        Unloadable::File(fault) => tell_file(alloc, errors, file, fault),
-        Unloadable::End(End::Line(line, refusal)) => {
-            tell_unloaded(alloc, errors, file, Some(line), refusal)
-        }
-        Unloadable::End(End::Refused(refusal)) => tell_unloaded(alloc, errors, file, None, refusal),
-        Unloadable::End(End::Streams | End::Stopped) => {
-            tell_unloaded(alloc, errors, file, None, Refusal::Device)
-        }
-    }
-}
-
-// The number of the first replica.
-fn first_number(serving: Serving) -> u16
-    ensures { result ≡ unwrap_or serving.first_number 1 }
-{
-    match serving.first_number {
-        Some(first) => first,
-        None => 1,
-    }
-}
-
-// Serves a world that is there from the start, if there is one.
-fn serve_world<R, I, E>(
+// Serves what is there from the start.
+fn serve_world<R, I, E, T>(
     rt: &R,
     alloc: Global,
     input: I,
     errors: &mut Counted<E>,
-    serving: Serving,
+    teller: Option<T>,
+    begun: Begun,
     folder: Option<&str>,
-    world: Option<Batch>,
 ) -> u8
 where
     R: Machine + Files<File = File>,
     I: Read + Drop + Send + 'static,
     E: Write,
+    T: Write + Drop + Send + 'static,
     ensures { result ≤ 1 }
 {
-    let bound = all_bound(rt, alloc, serving, &world);
-    drop(world);
+    let serving = begun.serving;
+    let bound = all_bound(rt, alloc, &begun);
+    drop(begun);
     match bound {
-        Ok((sockets, admin)) => {
-            serve_recorded(rt, alloc, input, errors, sockets, admin, serving, folder)
-        }
+        Ok(doors) => serve_recorded(rt, alloc, input, errors, teller, doors, serving, folder),
         Err(Unbound::Port(port, fault)) => {
             drop(input);
+            drop(teller);
             tell_port(alloc, errors, port, fault)
         }
         Err(Unbound::Refused(refusal)) => {
             drop(input);
+            drop(teller);
             tell_end(alloc, errors, Err(refusal))
         }
     }
 }
 
 // Serves at these sockets, and records in this folder, if there is one.
-fn serve_recorded<R, I, E>(
+fn serve_recorded<R, I, E, T>(
     rt: &R,
     alloc: Global,
     input: I,
     errors: &mut Counted<E>,
-    sockets: Vec<Sockets>,
-    admin: Option<TcpListener>,
+    teller: Option<T>,
+    doors: Bindings,
     serving: Serving,
     folder: Option<&str>,
 ) -> u8
@@ -213,6 +166,7 @@ where
     R: Machine + Files<File = File>,
     I: Read + Drop + Send + 'static,
     E: Write,
+    T: Write + Drop + Send + 'static,
     ensures { result ≤ 1 }
 {
     let tapes = match folder {
@@ -220,6 +174,7 @@ where
             Ok(tapes) => tapes,
             Err(fault) => {
                 drop(input);
+                drop(teller);
                 return tell_unrecordable(alloc, errors, folder, fault);
             }
         },
@@ -239,8 +194,10 @@ where
     if serving.first_number.is_none() {
         tell_same_numbers(alloc, errors);
     }
-    let ended = run(rt, alloc, input, errors, sockets, admin, &tapes, serving);
-    tell_end(alloc, errors, ended)
+    match run(rt, alloc, input, errors, teller, doors, &tapes, serving) {
+        Ok(status) => status,
+        Err(refusal) => tell_end(alloc, errors, Err(refusal)),
+    }
 }
 
 // Tells why traces can't be recorded in a folder, and answers the status.
@@ -258,16 +215,28 @@ fn tell_unrecordable<E: Write>(
     }
 }
 
-// Tells why a server ended, where that is a refusal, and answers the status.
-fn tell_end<E: Write>(alloc: Global, errors: &mut Counted<E>, ended: Result<End, Refusal>) -> u8
-    ensures told { TellsEnd ended (seen E.contents errors.old errors.new) }
-    ensures status { result ≡ status_of ended }
-{
-    match ended {
-        Ok(End::Streams | End::Stopped) => 0,
-        Ok(End::Line(line, refusal)) => tell_line(alloc, errors, line, refusal),
-        Ok(End::Refused(refusal)) => tell(alloc, errors, refusal),
-        Err(refusal) => tell(alloc, errors, refusal),
+// The sockets of a server.
+struct Bindings {
+    // Of each replica, with what it begins with.
+    sockets: Vec<Sockets>,
+    // Of an operator's port, if there is one.
+    admin: Option<TcpListener>,
+}
+
+// Written out: docs/PROVING.md, "Drops".
+impl Drop for Bindings {
+    fn drop(self) {
+        let Bindings {
+            sockets: _,
+            admin: _,
+        } = self;
+    }
+}
+
+impl Bindings {
+    fn into_parts(self) -> (Vec<Sockets>, Option<TcpListener>) {
+        let Bindings { sockets, admin } = self;
+        (sockets, admin)
     }
 }
 
@@ -279,20 +248,16 @@ enum Unbound {
 }
 
 // All sockets, replica by replica, each with what is there from the start.
-fn bound<R>(
-    rt: &R,
-    alloc: Global,
-    serving: Serving,
-    world: &Option<Batch>,
-) -> Result<Vec<Sockets>, Unbound>
+fn bound<R>(rt: &R, alloc: Global, begun: &Begun) -> Result<Vec<Sockets>, Unbound>
 where
     R: Net<Listener = TcpListener, Stream = TcpStream>,
 {
+    let serving = begun.serving;
     let mut sockets = Vec::new(alloc);
     for index in 0..serving.replicas {
         let streams = bind(rt, serving.port, index)?;
         let polls = bind(rt, serving.rest_port, index)?;
-        let world = copied(alloc, world)?;
+        let world = copied(alloc, &begun.world)?;
         let one = Sockets {
             streams,
             polls,
@@ -307,7 +272,9 @@ where
 }
 
 // A copy of what is there from the start, if there is something. No text is copied.
-fn copied(alloc: Global, world: &Option<Batch>) -> Result<Option<Batch>, Unbound> {
+fn copied(alloc: Global, world: &Option<Batch>) -> Result<Option<Batch>, Unbound>
+    ensures { IfOk result (λ o. o ≡ world.now) }
+{
     match world {
         Some(batch) => match batch.try_copy(alloc) {
             Ok(copy) => Ok(Some(copy)),
@@ -318,23 +285,16 @@ fn copied(alloc: Global, world: &Option<Batch>) -> Result<Option<Batch>, Unbound
 }
 
 // The same, and the socket of an operator's port, where there is one.
-fn all_bound<R>(
-    rt: &R,
-    alloc: Global,
-    serving: Serving,
-    world: &Option<Batch>,
-) -> Result<(Vec<Sockets>, Option<TcpListener>), Unbound>
+fn all_bound<R>(rt: &R, alloc: Global, begun: &Begun) -> Result<Bindings, Unbound>
 where
     R: Net<Listener = TcpListener, Stream = TcpStream>,
 {
-    let sockets = bound(rt, alloc, serving, world)?;
-    match serving.admin_port {
-        Some(port) => {
-            let admin = bind(rt, port, 0)?;
-            Ok((sockets, Some(admin)))
-        }
-        None => Ok((sockets, None)),
-    }
+    let sockets = bound(rt, alloc, begun)?;
+    let admin = match begun.serving.admin_port {
+        Some(port) => Some(bind(rt, port, 0)?),
+        None => None,
+    };
+    Ok(Bindings { sockets, admin })
 }
 
 fn bind<R>(rt: &R, first: u16, index: u16) -> Result<TcpListener, Unbound>
@@ -348,26 +308,30 @@ where
     }
 }
 
-// Serves to the end, and tells what there is to tell meanwhile. At the end frames that were begun are written.
-fn run<R, I, E>(
+// Serves to the end, and tells what there is to tell meanwhile, and why it ended. Answers the status.
+fn run<R, I, E, T>(
     rt: &R,
     alloc: Global,
     input: I,
     errors: &mut Counted<E>,
-    sockets: Vec<Sockets>,
-    admin: Option<TcpListener>,
+    teller: Option<T>,
+    doors: Bindings,
     tapes: &Vec<Arc<Tape>>,
     serving: Serving,
-) -> Result<End, Refusal>
+) -> Result<u8, Refusal>
 where
     R: Machine,
     I: Read + Drop + Send + 'static,
     E: Write,
+    T: Write + Drop + Send + 'static,
+    ensures { IfOk result (λ status. status ≤ 1) }
 {
+    let (sockets, admin) = doors.into_parts();
     let wires = wired(alloc, sockets, &Channels { alloc })?;
     let ending = Arc::new(alloc, ending_of(alloc, serving))?;
     let lookouts = lookouts_of(alloc, serving, &ending)?;
     log_replicas(rt, &ending, serving);
+    let is_told_beside = start_teller(rt, alloc, teller, &ending)?;
     start(
         rt,
         alloc,
@@ -379,16 +343,39 @@ where
         tapes,
         &ending,
     )?;
+    if is_told_beside {
+        return Ok(end_beside(rt, tapes, &ending));
+    }
     let end = tell_until_end(rt, alloc, errors, &ending);
+    finish(rt, tapes, &ending, end);
+    let end = tell_until_end(rt, alloc, errors, &ending);
+    Ok(tell_end(alloc, errors, Ok(end)))
+}
+
+// Waits for the end, and for what is to be done then, while another thread tells. That one is waited for as long as frames that were begun
+// may be written, and a moment at least. Answers the status.
+fn end_beside<R: Wait + Clock>(rt: &R, tapes: &Vec<Arc<Tape>>, ending: &Ending) -> u8
+    ensures { result ≤ 1 }
+{
+    let end = ending.wait(rt);
+    let deadline = Deadline::within(rt, Duration::from_secs(DRAIN_SECONDS));
+    finish(rt, tapes, ending, end);
+    let least = Duration::from_millis(TELL_MILLISECONDS);
+    ending.wait_told(rt, deadline.rest(rt).max(least));
+    status_of(end)
+}
+
+// What is done once the end is known: who stopped the server takes the answer, frames that were begun are written, and traces to their
+// ends. Then nothing more is to be told.
+fn finish<R: Wait + Clock>(rt: &R, tapes: &Vec<Arc<Tape>>, ending: &Ending, end: End) {
     if end == End::Stopped {
         thread::sleep(rt, Duration::from_millis(PARTING_MILLISECONDS));
     }
     ending.drain(rt, Duration::from_secs(DRAIN_SECONDS));
     if !tapes.is_empty() {
-        wait_tapes(rt, tapes, &ending);
-        tell_until_end(rt, alloc, errors, &ending);
+        wait_tapes(rt, tapes, ending);
     }
-    Ok(end)
+    ending.close(rt);
 }
 
 // Waits until the traces are written to their ends. One that isn't in time has ended.
@@ -468,7 +455,7 @@ where
     let (senders, replicas) = wires.apart();
     let mut done = match admin {
         Some(listener) => {
-            let desk = desk_of(alloc, senders.as_slice(), lookouts, ending);
+            let desk = desk_of(alloc, senders.as_slice(), lookouts, tapes, ending);
             start_admin(rt, alloc, listener, desk)
         }
         None => Ok(()),
@@ -494,13 +481,21 @@ fn desk_of(
     alloc: Global,
     senders: &[Sender<Order>],
     lookouts: &Vec<Arc<Lookout>>,
+    tapes: &Vec<Arc<Tape>>,
     ending: &Arc<Ending>,
 ) -> Result<Admin, Refusal> {
     let mut replicas = Vec::new(alloc);
+    let mut tapes = tapes.iter();
     for (sender, lookout) in senders.iter().zip(lookouts.iter()) {
         let lookout = share(lookout)?;
+        let tape = shared_tape(tapes.next())?;
         let orders = sender.clone()?;
-        replicas.push(Reached { lookout, orders })?;
+        replicas.push(Reached {
+            lookout,
+            orders,
+            tape,
+            late: Mutex::new(None),
+        })?;
     }
     Ok(Admin {
         replicas,

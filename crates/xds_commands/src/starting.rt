@@ -7,23 +7,28 @@ use crate::keeping::keep_input;
 use crate::machine::{Machine, Runtime};
 use crate::order::Order;
 use crate::replica::{Replica, run_replica};
+use crate::serve_telling::tell_all;
 use crate::wires::{both, started};
 use crate::workers::{share, shares, start_worker};
 use crossbeam_channel::Sender;
 use std::alloc::Global;
-use std::io::Read;
+use std::io::{Read, Write};
 use std::marker::Brand;
 use std::net::TcpListener;
 use std::sync::{Arc, Wait};
 use std::thread;
 use std::time::{Clock, Duration};
-use xds_http::{Replies, serve_pages};
-use xds_monitor::{End, Ending, Lookout, Piece, Recorded, Served, Tape, Watched, Weighed};
+use xds_frames::Counted;
+use xds_http::{Replies, Seats, serve_pages};
+use xds_monitor::{End, Ending, Lookout, Piece, Recorded, Served, Tape, Turns, Watched, Weighed};
 use xds_node::{Host, Line, Node, NodeName, Opened};
 use xds_resource::Refusal;
 
 /// As many seconds as frames that were begun have to be written at the end.
 pub(crate) const DRAIN_SECONDS: u64 = 3;
+
+// After how many seconds it is looked again whether what is recorded is still to be found.
+const LOOK_SECONDS: u64 = 1;
 
 /// Starts the thread of a replica, whose number its lookout knows, and that of its tape, if it has one. Its node has a name of its own.
 pub(crate) fn start_replica<R>(
@@ -113,8 +118,8 @@ fn recorded_node<A: Served + Host<Segment: Piece> + Drop>(
     }
 }
 
-// A share of a tape, if there is one.
-fn shared_tape(tape: Option<&Arc<Tape>>) -> Result<Option<Arc<Tape>>, Refusal> {
+/// A share of a tape, if there is one.
+pub(crate) fn shared_tape(tape: Option<&Arc<Tape>>) -> Result<Option<Arc<Tape>>, Refusal> {
     match tape {
         Some(tape) => Ok(Some(share(tape)?)),
         None => Ok(None),
@@ -153,11 +158,11 @@ fn watched_node<A: Served + Drop, C: Clock + Drop>(
     clock: C,
     lookout: &Arc<Lookout>,
 ) -> Result<Watched<A, C>, Refusal> {
-    match share(lookout) {
-        Ok(lookout) => Ok(Watched::new(alloc, node, clock, lookout)),
-        Err(refusal) => {
+    match (share(lookout), Turns::new(alloc)) {
+        (Ok(lookout), Ok(turns)) => Ok(Watched::new(alloc, node, clock, lookout, turns)),
+        _ => {
             drop(node);
-            Err(refusal)
+            Err(Refusal::OutOfMemory)
         }
     }
 }
@@ -198,7 +203,7 @@ fn start_node<R, A>(
 ) -> Result<(), Refusal>
 where
     R: Machine,
-    A: Served + Replies + Drop + Send + Sync + 'static,
+    A: Served + Seats + Drop + Send + Sync + 'static,
     <A as Host>::Seat: Send + 'static,
     A::Segment: Send,
     A::PostSeat: Send,
@@ -233,9 +238,10 @@ where
 
 // Waits for the end, and for frames that are being written, and writes the rest of what happened.
 fn finish_tape<R: Wait + Clock, A: Host>(rt: &R, node: &A, tape: &Tape, lookout: &Lookout) {
-    let ending = lookout.ending();
-    ending.wait(rt);
-    ending.drain(rt, Duration::from_secs(DRAIN_SECONDS));
+    look_until_end(rt, tape, lookout);
+    lookout
+        .ending()
+        .drain(rt, Duration::from_secs(DRAIN_SECONDS));
     let rest = match node.cut(rt) {
         Ok(segment) => {
             drop(segment);
@@ -245,6 +251,20 @@ fn finish_tape<R: Wait + Clock, A: Host>(rt: &R, node: &A, tape: &Tape, lookout:
     };
     lookout.recording_ended(rt, tape.seal(rt, rest));
     tape.finish(rt);
+}
+
+// Waits for the end, and looks meanwhile whether what is recorded is still to be found.
+fn look_until_end<R: Wait + Clock>(rt: &R, tape: &Tape, lookout: &Lookout) {
+    let ending = lookout.ending();
+    for _ in rt.forever() {
+        if ending
+            .wait_within(rt, Duration::from_secs(LOOK_SECONDS))
+            .is_some()
+        {
+            return;
+        }
+        lookout.recording_ended(rt, tape.look(rt));
+    }
 }
 
 // Starts the thread of a replica.
@@ -257,7 +277,7 @@ fn start_calls<R, A>(
 ) -> Result<(), Refusal>
 where
     R: Machine,
-    A: Served + Replies + Drop + Send + Sync + 'static,
+    A: Served + Seats + Drop + Send + Sync + 'static,
     <A as Host>::Seat: Send + 'static,
     A::Segment: Send,
     A::PostSeat: Send,
@@ -296,6 +316,27 @@ where
             take_input(rt, alloc, &mut input, senders.as_slice(), &ending);
         }
     })
+}
+
+/// Starts the thread that tells what there is to tell, where there is something that it may tell on. Answers whether there is.
+pub(crate) fn start_teller<R, T>(
+    rt: &R,
+    alloc: Global,
+    teller: Option<T>,
+    ending: &Arc<Ending>,
+) -> Result<bool, Refusal>
+where
+    R: Runtime,
+    T: Write + Drop + Send + 'static,
+{
+    let Some(teller) = teller else {
+        return Ok(false);
+    };
+    start_worker(rt, share(ending), move |rt, ending| {
+        let mut errors = Counted::new(teller);
+        tell_all(rt, alloc, &mut errors, &ending);
+    })?;
+    Ok(true)
 }
 
 /// Starts the thread of an operator's port.

@@ -2,14 +2,17 @@
 ghost use Rattle.std.specs.Prelude.{◌≡◌, true, false, if◌then◌else◌, IfSome, Some};
 ghost use Rattle.xds_commands.specs.Ends.{begins_http};
 
+use crate::watching::Hears;
+use std::alloc::Global;
 use std::io;
 use std::io::{ErrorKind, Read};
 use std::net::{Net, SocketAddr, SocketAddrV4, TcpStream};
 use std::time::{Clock, Duration, Instant};
+use xds_client::{Dials, Side};
 use xds_resource::Refusal;
 
-/// A connection, made within so many seconds where such are given.
-pub(crate) fn connected<N: Net<Stream = TcpStream>>(
+// A connection, made within so many seconds where such are given.
+fn connected<N: Net<Stream = TcpStream>>(
     net: &N,
     addr: SocketAddrV4,
     seconds: Option<u16>,
@@ -33,7 +36,7 @@ fn connected_within<N: Net<Stream = TcpStream>>(
 
 /// When it is time to give up, if ever.
 #[derive(Clone, Copy)]
-pub(crate) struct Deadline {
+pub struct Deadline {
     at: Option<Instant>,
 }
 
@@ -45,6 +48,23 @@ impl Deadline {
             _ => None,
         };
         Deadline { at }
+    }
+
+    /// In this time from now; never, where the time isn't known.
+    pub(crate) fn within<C: Clock>(clock: &C, time: Duration) -> Deadline {
+        let at = match Instant::now(clock) {
+            Ok(now) => now.checked_add(time),
+            Err(_) => None,
+        };
+        Deadline { at }
+    }
+
+    /// How long it is until then: no time, once it has come, and where it isn't known.
+    pub(crate) fn rest<C: Clock>(self, clock: &C) -> Duration {
+        match self.left(clock) {
+            Ok(Some(left)) => left,
+            _ => Duration::from_secs(0),
+        }
     }
 
     /// Never.
@@ -97,7 +117,7 @@ pub(crate) fn gave_up<C: Clock>(
 #[derive(Drop)]
 pub(crate) struct TimedReader<'a, C> {
     clock: &'a C,
-    socket: &'a TcpStream,
+    socket: Side,
     deadline: Deadline,
     // Whether something has come.
     has_come: bool,
@@ -105,7 +125,7 @@ pub(crate) struct TimedReader<'a, C> {
 }
 
 impl<'a, C: Clock> TimedReader<'a, C> {
-    pub(crate) fn new(clock: &'a C, socket: &'a TcpStream, deadline: Deadline) -> TimedReader<'a, C>
+    pub(crate) fn new(clock: &'a C, socket: Side, deadline: Deadline) -> TimedReader<'a, C>
         ensures come { result.has_come ≡ false }
         ensures http { result.speaks_http ≡ false }
     {
@@ -118,13 +138,6 @@ impl<'a, C: Clock> TimedReader<'a, C> {
         }
     }
 
-    /// Whether the other end answers HTTP.
-    pub(crate) fn speaks_http(&self) -> bool
-        ensures { result ≡ self.now.speaks_http }
-    {
-        self.speaks_http
-    }
-
     // Lets the next read wait as long as is left.
     fn limit(&mut self) -> io::Result<()> {
         match self.deadline.left(self.clock)? {
@@ -133,7 +146,7 @@ impl<'a, C: Clock> TimedReader<'a, C> {
                 if left.is_zero() {
                     return Err(ErrorKind::TimedOut.into());
                 }
-                self.socket.set_read_timeout(Some(left))
+                self.socket.stream().set_read_timeout(Some(left))
             }
         }
     }
@@ -153,9 +166,57 @@ impl<'a, C: Clock> TimedReader<'a, C> {
 impl<'a, C: Clock> Read for TimedReader<'a, C> {
     fn read(&mut self, buf: &mut [u8]) -> io::Result<usize> {
         self.limit()?;
-        let mut from = self.socket;
-        let count = from.read(buf)?;
+        let count = self.socket.read(buf)?;
         self.look(&buf[..count]);
         Ok(count)
+    }
+}
+
+impl<'a, C: Clock> Hears for TimedReader<'a, C> {
+    fn speaks_http(&self) -> bool
+        ensures { result ≡ self.now.speaks_http }
+    {
+        self.speaks_http
+    }
+}
+
+/// Connects over TCP, within so many seconds where some are given, and reads until a deadline.
+#[derive(Drop)]
+pub(crate) struct TimedDial<'a, R> {
+    rt: &'a R,
+    seconds: Option<u16>,
+    deadline: Deadline,
+}
+
+impl<'a, R> TimedDial<'a, R> {
+    pub(crate) fn new(rt: &'a R, seconds: Option<u16>, deadline: Deadline) -> TimedDial<'a, R> {
+        TimedDial {
+            rt,
+            seconds,
+            deadline,
+        }
+    }
+}
+
+impl<'a, R: Net<Stream = TcpStream> + Clock> Dials for TimedDial<'a, R> {
+    ghost use Rattle.std.specs.Prelude.{⊤};
+
+    type Reader = TimedReader<'a, R>;
+
+    type Writer = Side;
+
+    // Nothing is claimed of what goes over a socket.
+    ghost dials = { λ _ _ _ _. ⊤ };
+
+    fn dial(
+        &mut self,
+        alloc: Global,
+        addr: SocketAddrV4,
+    ) -> Result<(TimedReader<'a, R>, Side), Refusal> {
+        let Ok(socket) = connected(self.rt, addr, self.seconds) else {
+            return Err(Refusal::Device);
+        };
+        let (reader, writer) = Side::two(alloc, socket)?;
+        Ok((TimedReader::new(self.rt, reader, self.deadline), writer))
     }
 }

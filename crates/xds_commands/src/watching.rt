@@ -1,23 +1,27 @@
 // `xds client`: a client on one stream, and how it ends.
 ghost use Rattle.std.specs.Prelude.{◌≡◌, Err};
 ghost use Rattle.xds_frames.specs.Devices.{seen};
-ghost use Rattle.xds_client.specs.Running.{RunsAt};
-ghost use Rattle.xds_commands.specs.Ends.{EndsClient, HasEnded, IsOf, variant_of};
+ghost use Rattle.xds_commands.specs.Ends.{EndsClient, EndsClientBy, HasEnded, IsOf, variant_of};
 
 use crate::telling::{tell_http, tell_late, tell_refusal};
-use crate::timed::{Deadline, TimedReader, connected, gave_up};
+use crate::timed::{Deadline, TimedDial, gave_up};
 use std::alloc::{AllocGlobal, Global};
 use std::io::Write;
 use std::net::{Net, TcpStream};
 use std::time::Clock;
-use xds_client::{Subscription, run_client};
+use xds_client::{Dials, Ended, Subscription, run_at};
 use xds_frames::Counted;
 use xds_program::run::DONE;
 use xds_program::{ClientTask, StreamVariant};
 use xds_resource::Refusal;
 
-/// Runs the client that a task asks for over a connection of its own, and tells the refusal that it ends by; or that it gave up,
-/// where the seconds have passed that it was given, or that the other end speaks HTTP. Answers the status.
+/// What a reader knows of the other end.
+pub trait Hears {
+    /// Whether the other end answers HTTP.
+    fn speaks_http(&self) -> bool;
+}
+
+/// Runs the client that a task asks for over a connection of its own, and tells how it ended. Answers the status.
 pub fn watch<R, O, E>(
     rt: &R,
     task: &ClientTask,
@@ -30,11 +34,49 @@ where
     E: Write,
     ensures { EndsClient task.now result (seen O.contents output.old output.new) (seen E.contents errors.old errors.new) }
 {
+    let deadline = Deadline::after(rt, task.seconds);
+    let mut dials = TimedDial::new(rt, task.seconds, deadline);
+    watch_by(rt, &mut dials, deadline, task, output, errors)
+}
+
+/// Runs the client that a task asks for over what its one call connects it to, and tells the refusal that it ends by; or that it gave
+/// up, where the deadline has come that it was given, or that the other end speaks HTTP. Answers the status.
+pub fn watch_by<C, D, O, E>(
+    rt: &C,
+    dials: &mut D,
+    deadline: Deadline,
+    task: &ClientTask,
+    output: &mut Counted<O>,
+    errors: &mut Counted<E>,
+) -> u8
+where
+    C: Clock + AllocGlobal,
+    D: Dials<Reader: Hears>,
+    O: Write,
+    E: Write,
+    ensures { EndsClientBy (D.dials dials.old dials.new) D.Reader.remaining D.Writer.contents task.now result (seen O.contents output.old output.new) (seen E.contents errors.old errors.new) }
+{
     let alloc = rt.alloc();
     let wish = wish_of(task);
-    let deadline = Deadline::after(rt, task.seconds);
-    let watched = run_by(rt, alloc, task, deadline, &wish, output);
-    tell_end(rt, alloc, task, deadline, watched, errors)
+    let ended = run_at(dials, alloc, task.addr, &wish, output);
+    let speaks_http = speaks_http(&ended);
+    tell_end(
+        rt,
+        alloc,
+        task,
+        deadline,
+        &ended.answer,
+        speaks_http,
+        errors,
+    )
+}
+
+// Whether the other end of a client's connection answers HTTP, where there is one.
+fn speaks_http<R: Hears, W>(ended: &Ended<R, W>) -> bool {
+    match &ended.ends {
+        Some((reader, _)) => reader.inner.speaks_http(),
+        None => false,
+    }
 }
 
 // The subscription that a task asks for.
@@ -50,56 +92,21 @@ fn wish_of(task: &ClientTask) -> Subscription<'_>
     }
 }
 
-// How a client ended, and whether the other end speaks HTTP.
-struct Watched {
-    ended: Result<(), Refusal>,
-    speaks_http: bool,
-}
-
-// Connects, and runs a client until a deadline. `Device` where it can't connect.
-fn run_by<R, O>(
-    rt: &R,
-    alloc: Global,
-    task: &ClientTask,
-    deadline: Deadline,
-    wish: &Subscription<'_>,
-    output: &mut Counted<O>,
-) -> Watched
-where
-    R: Net<Stream = TcpStream> + Clock,
-    O: Write,
-    ensures { RunsAt wish.now result.ended (seen O.contents output.old output.new) }
-{
-    let Ok(socket) = connected(rt, task.addr, task.seconds) else {
-        return Watched {
-            ended: Err(Refusal::Device),
-            speaks_http: false,
-        };
-    };
-    let mut reader = Counted::new(TimedReader::new(rt, &socket, deadline));
-    let mut writer = Counted::new(&socket);
-    let ended = run_client(alloc, wish, &mut reader, &mut writer, output);
-    Watched {
-        ended,
-        speaks_http: reader.inner.speaks_http(),
-    }
-}
-
 // Tells how a client ended, and answers the status.
 fn tell_end<R: Clock, E: Write>(
     rt: &R,
     alloc: Global,
     task: &ClientTask,
     deadline: Deadline,
-    watched: Watched,
+    ended: &Result<(), Refusal>,
+    speaks_http: bool,
     errors: &mut Counted<E>,
 ) -> u8
-    ensures { HasEnded task.now watched.ended result (seen E.contents errors.old errors.new) }
+    ensures { HasEnded task.now ended.now result (seen E.contents errors.old errors.new) }
 {
-    let Watched { ended, speaks_http } = watched;
     match ended {
         Ok(()) => DONE,
-        Err(refusal) => tell_why(rt, alloc, task, deadline, refusal, speaks_http, errors),
+        Err(refusal) => tell_why(rt, alloc, task, deadline, *refusal, speaks_http, errors),
     }
 }
 

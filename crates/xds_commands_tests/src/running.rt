@@ -28,6 +28,7 @@ pub(crate) fn ran_on<
     let mut output = Counted::new(Vec::new(alloc));
     let mut errors = Counted::new(Vec::new(alloc));
     let terminal: Option<Vec<u8>> = None;
+    let teller: Option<Vec<u8>> = None;
     let status = run(
         rt,
         words.as_slice(),
@@ -35,6 +36,7 @@ pub(crate) fn ran_on<
         &mut output,
         &mut errors,
         terminal,
+        teller,
     );
     told(alloc, status, output.inner, errors.inner)
 }

@@ -4,7 +4,8 @@
 --     Carries           the status and the body of a reply
 --     CarriesOrNone     those of a reply, or that there was none
 --     Replying          a reply to a post at a path with a body, between the seat that asks before and after
---     IsAnswer          the response to a post at a path whose body has come
+--     IsAnswerBy        the response to a post at a path whose body has come, by one call with this seat
+--     IsAnswer          the same by a seat that was made for it
 use Rattle.std.specs.Prelude.{◌≡◌, ◌⊎◌, ◌==◌, ◌||◌, ℕ, List, Option, Some, None, length, nat_lt, if◌then◌else◌}
 use Rattle.http.specs.declared.response.Response.{Response}
 use Rattle.http.specs.Response.{head_of, body_of}
@@ -32,8 +33,12 @@ CarriesOrNone response reply = Carries response reply ⊎ Carries response unava
 abbrev pub Replying : Type 0 → Type 1
 Replying Seat = Seat → Seat → List ℕ → List ℕ → HttpReply → Type 0
 
--- The response to a post at a path whose body has come: it carries the reply to it by a seat that was made for it, or that there was
--- none. Where no seat could be made it says that there was none.
+-- The response to a post at a path whose body has come: it carries the reply of the one call that led this seat from `old` to `new`, or
+-- that there was none.
+abbrev pub IsAnswerBy : {Seat : Type 0} → Replying Seat → Seat → Seat → List ℕ → List ℕ → Response (Full (List ℕ)) → Type 0
+IsAnswerBy replies old new path body response = (r : HttpReply) × replies old new path body r × CarriesOrNone response r
+
+-- The same by a seat that was made for it. Where no seat could be made it says that there was none.
 abbrev pub IsAnswer : {Seat : Type 0} → (Seat → Type 0) → Replying Seat → List ℕ → List ℕ → Response (Full (List ℕ)) → Type 0
 IsAnswer {Seat} fresh replies path body response =
     ((old : Seat) × (new : Seat) × (r : HttpReply) × fresh old × replies old new path body r × CarriesOrNone response r)

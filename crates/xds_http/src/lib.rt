@@ -13,9 +13,9 @@ pub mod site;
 pub mod told;
 
 pub use pages::{Page, Pages};
-pub use polling::{Connects, ConnectsWithin, Posts, poll, poll_by};
+pub use polling::{Connects, Posts, poll, poll_by};
 pub use question::Question;
-pub use replies::Replies;
+pub use replies::{Replies, Seats};
 pub use serve::{MAX_CONNECTIONS, serve_http, serve_on, serve_some};
 pub use site::serve_pages;
 pub use told::Told;

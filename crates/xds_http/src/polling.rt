@@ -156,65 +156,59 @@ where
 
 /// What posts a request to a server and tells the reply. [`Connects`] is one.
 pub trait Posts {
-    ghost use Rattle.std.specs.Prelude.{ℕ, List, Result, IfErr};
+    ghost use Rattle.std.specs.Prelude.{ℕ, List, Option, Result, IfErr};
+    ghost use Rattle.std.specs.declared.net.socket_addr.SocketAddr.{SocketAddr as Server};
     ghost use Rattle.http.specs.declared.request.Request.{Request as Post};
     ghost use Rattle.http_body_util.specs.declared.full.Full.{Full as Whole};
     ghost use Rattle.xds_resource.specs.declared.refusal.Refusal.{Refusal as Cause};
     ghost use Rattle.xds_http.specs.declared.told.Told.{Told as Shown};
     ghost use Rattle.xds_http.specs.Sent.{TellsNothing};
 
-    // How what is told stands to the request that is posted.
-    ghost tells: { Post (Whole (List ℕ)) → Result Shown Cause → Type 0 };
+    // How what is told stands to the server, the seconds that are given, if any, and the request that is posted.
+    ghost tells: { Server → Option ℕ → Post (Whole (List ℕ)) → Result Shown Cause → Type 0 };
 
-    /// Sends the request of a post, and tells the reply to it. Refused is `Device` where the server can't be reached, or its reply breaks off
-    /// or is no HTTP, and `OutOfMemory`.
-    fn send<R>(&self, rt: &R, request: Request<Full<Bytes>>) -> Result<Told, Refusal>
+    /// Sends the request of a post to this server, and tells the reply to it. Where seconds are given it gives up once so many have passed,
+    /// and else it waits for a server that is silent. Refused is `Device` where it gave up, where the server can't be reached, or its reply
+    /// breaks off or is no HTTP; and `OutOfMemory`.
+    fn send<R>(
+        &self,
+        rt: &R,
+        server: SocketAddr,
+        seconds: Option<u16>,
+        request: Request<Full<Bytes>>,
+    ) -> Result<Told, Refusal>
     where
         R: Wait + Clock + Net + RandomSource + AllocGlobal,
-        ensures tells { tells request result }
+        ensures tells { tells server seconds request result }
         ensures refused { IfErr result TellsNothing };
 }
 
-/// Posts over a connection of its own to this server, and waits for one that is silent.
+/// Posts over a connection of its own.
 #[derive(Clone, Copy, Debug)]
-pub struct Connects {
-    pub server: SocketAddr,
-}
+pub struct Connects;
 
 impl Posts for Connects {
     ghost use Rattle.std.specs.Prelude.{⊤};
 
     // Nothing is claimed of what goes over a socket.
-    ghost tells = { λ _ _. ⊤ };
+    ghost tells = { λ _ _ _ _. ⊤ };
 
-    fn send<R>(&self, rt: &R, request: Request<Full<Bytes>>) -> Result<Told, Refusal>
+    fn send<R>(
+        &self,
+        rt: &R,
+        server: SocketAddr,
+        seconds: Option<u16>,
+        request: Request<Full<Bytes>>,
+    ) -> Result<Told, Refusal>
     where
         R: Wait + Clock + Net + RandomSource + AllocGlobal,
     {
-        send_until(rt, self.server, request, None)
-    }
-}
-
-/// Posts as [`Connects`] does, and gives up once so many seconds have passed, as `Device`.
-#[derive(Clone, Copy, Debug)]
-pub struct ConnectsWithin {
-    pub server: SocketAddr,
-    pub seconds: u16,
-}
-
-impl Posts for ConnectsWithin {
-    ghost use Rattle.std.specs.Prelude.{⊤};
-
-    // Nothing is claimed of what goes over a socket.
-    ghost tells = { λ _ _. ⊤ };
-
-    fn send<R>(&self, rt: &R, request: Request<Full<Bytes>>) -> Result<Told, Refusal>
-    where
-        R: Wait + Clock + Net + RandomSource + AllocGlobal,
-    {
-        let time = Duration::from_secs(u64::from(self.seconds));
+        let Some(seconds) = seconds else {
+            return send_until(rt, server, request, None);
+        };
+        let time = Duration::from_secs(u64::from(seconds));
         let now = Instant::now(rt).map_err(of_system)?;
-        send_until(rt, self.server, request, now.checked_add(time))
+        send_until(rt, server, request, now.checked_add(time))
     }
 }
 
@@ -234,21 +228,23 @@ where
     exchange(rt, &mut runtime, socket, request, until)
 }
 
-/// One poll by what posts it, to this host: the request that is posted is the question's, and what is told is what that post is
-/// answered. Where there is no memory for the request nothing is posted, and refused is `OutOfMemory`.
+/// One poll of this server by what posts it, within so many seconds where some are given: the request that is posted is the
+/// question's, and what is told is what that post is answered. Where there is no memory for the request nothing is posted, and
+/// refused is `OutOfMemory`.
 pub fn poll_by<R, P: Posts>(
     rt: &R,
     posts: &P,
-    host: SocketAddr,
+    server: SocketAddr,
+    seconds: Option<u16>,
     question: Question,
 ) -> Result<Told, Refusal>
 where
     R: Wait + Clock + Net + RandomSource + AllocGlobal,
-    ensures polled { IsPolled P.tells question result }
+    ensures polled { IsPolled (P.tells server seconds) question result }
     ensures refused { IfErr result TellsNothing }
 {
-    match post(rt.alloc(), host, question) {
-        Ok(request) => posts.send(rt, request),
+    match post(rt.alloc(), server, question) {
+        Ok(request) => posts.send(rt, server, seconds, request),
         Err(refusal) => Err(refusal),
     }
 }
@@ -260,5 +256,5 @@ where
     R: Wait + Clock + Net + RandomSource + AllocGlobal,
     ensures { IfErr result TellsNothing }
 {
-    poll_by(rt, &Connects { server }, server, question)
+    poll_by(rt, &Connects, server, None, question)
 }

@@ -2,7 +2,7 @@
 ghost use Rattle.std.specs.Prelude.{IfSome};
 
 use crate::accept::{Asked, Serves, Tasks};
-use crate::replies::Replies;
+use crate::replies::Seats;
 use crate::service::Rest;
 use bytes::Bytes;
 use http_body_util::Full;
@@ -49,7 +49,7 @@ impl<R: Drop, A: Drop> Drop for Http<R, A> {
 impl<R, A> Serves for Http<R, A>
 where
     R: Wait + Clock + AllocGlobal + Copy + Drop,
-    A: Replies + Drop,
+    A: Seats + Drop,
 {
     type Conn = Connection<TcpStream, Rest<R, A>, Full<Bytes>, TokioTimer<R>>;
 
@@ -105,7 +105,7 @@ fn tasks_of<R, A>(
 ) -> io::Result<Tasks<Http<R, A>>>
 where
     R: Wait + Clock + RandomSource + AllocGlobal + Copy + Drop,
-    A: Replies + Drop,
+    A: Seats + Drop,
 {
     let http = http_of(rt, runtime.handle().time(), node)?;
     let permits = permits(rt.alloc(), connections)?;
@@ -133,7 +133,7 @@ pub fn serve_http<R, A>(
 ) -> io::Result<()>
 where
     R: Wait + Clock + RandomSource + AllocGlobal + Copy + Drop,
-    A: Replies + Drop,
+    A: Seats + Drop,
 {
     let tasks = tasks_of(rt, runtime, listener, node, MAX_CONNECTIONS)?;
     run_tasks(rt, runtime, tasks)
@@ -143,7 +143,7 @@ where
 pub fn serve_on<R, A>(rt: &R, listener: std::net::TcpListener, node: Arc<A>) -> io::Result<()>
 where
     R: Wait + Clock + Net + RandomSource + AllocGlobal + Copy + Drop,
-    A: Replies + Drop,
+    A: Seats + Drop,
 {
     let mut runtime = LocalRuntime::new(rt)?;
     serve_http(rt, &mut runtime, listener, node)
@@ -158,7 +158,7 @@ pub fn serve_some<R, A>(
 ) -> io::Result<()>
 where
     R: Wait + Clock + Net + RandomSource + AllocGlobal + Copy + Drop,
-    A: Replies + Drop,
+    A: Seats + Drop,
 {
     let mut runtime = LocalRuntime::new(rt)?;
     let tasks = tasks_of(rt, &runtime, listener, node, connections)?;

@@ -3,11 +3,11 @@ ghost use Rattle.std.specs.Prelude.{◌≡◌, [], not, Ok, Err, MatchOption};
 ghost use Rattle.http.specs.Request.{head_of};
 ghost use Rattle.xds_resource.specs.declared.types.TypeName.{TypeName as Kind};
 ghost use Rattle.xds_polls.specs.Polls.{addressed};
-ghost use Rattle.xds_http.specs.Carried.{IsAnswer};
+ghost use Rattle.xds_http.specs.Carried.{IsAnswer, IsAnswerBy};
 ghost use Rattle.xds_http.specs.Heads.{comes_plain, early_status};
 
 use crate::accept::Asked;
-use crate::replies::Replies;
+use crate::replies::{Replies, Seats};
 use crate::response::{bare, response_of};
 use bytes::Bytes;
 use futures::task::{Context, Poll};
@@ -79,9 +79,23 @@ pub enum Answering<R, A, F> {
 /// What a body that was to come has come to.
 pub(crate) type Come = Result<Result<Collected, LimitedError<hyper::Error>>, Elapsed>;
 
-/// The response to a post at a path, by the bytes of its body and a seat of its own. 503 where no seat can be made, or there is
-/// no memory for the response.
-pub fn answer<R: Wait + AllocGlobal, A: Replies>(
+/// The response to a post at a path, by the bytes of its body: that of one reply by this seat. 503 where there is no memory for
+/// the response.
+pub fn answer_by<R: Wait + AllocGlobal, A: Replies>(
+    rt: &R,
+    replies: &A,
+    seat: &mut A::Seat,
+    path: &str,
+    body: &[u8],
+) -> Response<Full<Bytes>>
+    ensures { IsAnswerBy A.replies seat.old seat.new path.now body.now result }
+{
+    let alloc = rt.alloc();
+    response_of(alloc, replies.reply(rt, alloc, seat, path, body))
+}
+
+/// The same by a seat that is made for it. 503 where none can be made, too.
+pub fn answer<R: Wait + AllocGlobal, A: Seats>(
     rt: &R,
     replies: &A,
     path: &str,
@@ -89,16 +103,15 @@ pub fn answer<R: Wait + AllocGlobal, A: Replies>(
 ) -> Response<Full<Bytes>>
     ensures { IsAnswer A.fresh A.replies path.now body.now result }
 {
-    let alloc = rt.alloc();
     let Ok(seat) = replies.seat(rt) else {
-        return bare(alloc, StatusCode::SERVICE_UNAVAILABLE);
+        return bare(rt.alloc(), StatusCode::SERVICE_UNAVAILABLE);
     };
     let mut seat = seat;
-    response_of(alloc, replies.reply(rt, alloc, &mut seat, path, body))
+    answer_by(rt, replies, &mut seat, path, body)
 }
 
 // The response to a request whose body has come, by its bytes. 503 where there is no memory to put them together.
-fn answered<R: Wait + AllocGlobal, A: Replies>(
+fn answered<R: Wait + AllocGlobal, A: Seats>(
     rt: &R,
     replies: &A,
     path: &str,
@@ -111,7 +124,7 @@ fn answered<R: Wait + AllocGlobal, A: Replies>(
 }
 
 // The response to a request whose body has come to this. One that breaks off has none, which ends the connection.
-fn response_to<R: Wait + AllocGlobal, A: Replies>(
+fn response_to<R: Wait + AllocGlobal, A: Seats>(
     rt: &R,
     replies: &A,
     path: &str,
@@ -132,7 +145,7 @@ fn response_to<R: Wait + AllocGlobal, A: Replies>(
 impl<R, A, F> Future for Answering<R, A, F>
 where
     R: Wait + AllocGlobal + Drop,
-    A: Replies + Drop,
+    A: Seats + Drop,
     F: Future<Output = Come>,
 {
     ghost use Rattle.std.specs.Prelude.{⊤};
@@ -205,7 +218,7 @@ pub(crate) type Body<I> = Timeout<Collect<Limited<Incoming<I>>>>;
 impl<R, A, I> Service<Request<Incoming<I>>> for Rest<R, A>
 where
     R: Wait + Clock + AllocGlobal + Copy + Drop,
-    A: Replies + Drop,
+    A: Seats + Drop,
     I: Drop,
 {
     ghost use Rattle.http.specs.Request.{head_of};

@@ -18,11 +18,11 @@ use hyper::service::Service;
 use hyper::{Request, Response, StatusCode};
 use std::alloc::{AllocGlobal, Global};
 use std::hash::RandomState;
-use std::io;
 use std::net::Net;
 use std::random::RandomSource;
 use std::sync::{Arc, Wait};
 use std::time::{Clock, Duration};
+use std::{io, mem};
 use tokio::net::{TcpListener, TcpStream};
 use tokio::runtime::LocalRuntime;
 use tokio::time::{Handle, Sleep};
@@ -51,7 +51,7 @@ impl<R: Drop, A: Drop> Drop for Site<R, A> {
 
 /// A response that will be there.
 #[derive(Drop)]
-pub enum Paging<R, A, F> {
+pub enum Paging<R, A: Pages, F> {
     /// There was no memory for the request.
     Unavailable(Global),
     /// The body is still to come.
@@ -61,6 +61,12 @@ pub enum Paging<R, A, F> {
         method: String,
         path: String,
         body: F,
+    },
+    /// There is work to do for it.
+    Working {
+        rt: R,
+        shared: Arc<A>,
+        work: A::Work,
     },
 }
 
@@ -86,48 +92,86 @@ fn response_of(alloc: Global, page: Page) -> Response<Full<Bytes>> {
     }
 }
 
-// The response to a request whose body has come to this. One that breaks off has none, which ends the connection.
-fn response_to<R: Wait + AllocGlobal, A: Pages>(
+// The response to a request, or the end of its connection.
+type Answer = Result<Response<Full<Bytes>>, hyper::Error>;
+
+// The response to a request whose body has come to this, or the work that makes it. One that breaks off has none, which ends the
+// connection.
+fn response_to<R: Wait + Clock + AllocGlobal, A: Pages>(
     rt: &R,
     pages: &A,
     method: &str,
     path: &str,
     body: Come,
-) -> Result<Response<Full<Bytes>>, hyper::Error> {
+) -> Result<Answer, A::Work> {
     let alloc = rt.alloc();
     match body {
         Ok(Ok(body)) => match body.to_bytes() {
-            Ok(body) => {
-                let page = pages.page(rt, alloc, method, path, body.as_slice());
-                Ok(response_of(alloc, page))
-            }
-            Err(_) => Ok(bare(alloc, StatusCode::SERVICE_UNAVAILABLE)),
+            Ok(body) => match pages.page(rt, alloc, method, path, body.as_slice()) {
+                Ok(page) => Ok(Ok(response_of(alloc, page))),
+                Err(work) => Err(work),
+            },
+            Err(_) => Ok(Ok(bare(alloc, StatusCode::SERVICE_UNAVAILABLE))),
         },
-        Ok(Err(LimitedError::LengthLimit)) => Ok(bare(alloc, StatusCode::PAYLOAD_TOO_LARGE)),
-        Ok(Err(LimitedError::Body(e))) => Err(e),
-        Err(_elapsed) => Ok(bare(alloc, StatusCode::REQUEST_TIMEOUT)),
+        Ok(Err(LimitedError::LengthLimit)) => Ok(Ok(bare(alloc, StatusCode::PAYLOAD_TOO_LARGE))),
+        Ok(Err(LimitedError::Body(e))) => Ok(Err(e)),
+        Err(_elapsed) => Ok(Ok(bare(alloc, StatusCode::REQUEST_TIMEOUT))),
+    }
+}
+
+// The same, with a share of what does the work.
+fn response_or_work<R: Wait + Clock + AllocGlobal, A: Pages + Drop>(
+    rt: &R,
+    pages: &Arc<A>,
+    method: &str,
+    path: &str,
+    body: Come,
+) -> Result<Answer, (Arc<A>, A::Work)> {
+    let work = match response_to(rt, &**pages, method, path, body) {
+        Ok(answer) => return Ok(answer),
+        Err(work) => work,
+    };
+    match Arc::try_clone(pages) {
+        Ok(shared) => Err((shared, work)),
+        Err(_) => {
+            drop(work);
+            Ok(Ok(bare(rt.alloc(), StatusCode::SERVICE_UNAVAILABLE)))
+        }
+    }
+}
+
+// The response that a part more of the work makes, if it is done.
+fn response_by<R: Wait + Clock + AllocGlobal, A: Pages>(
+    rt: &R,
+    pages: &A,
+    work: &mut A::Work,
+) -> Option<Answer> {
+    let alloc = rt.alloc();
+    match pages.go_on(rt, alloc, work) {
+        Some(page) => Some(Ok(response_of(alloc, page))),
+        None => None,
     }
 }
 
 impl<R, A, F> Future for Paging<R, A, F>
 where
-    R: Wait + AllocGlobal + Drop,
+    R: Wait + Clock + AllocGlobal + Copy + Drop,
     A: Pages + Drop,
     F: Future<Output = Come>,
 {
     ghost use Rattle.std.specs.Prelude.{⊤};
-    ghost use Rattle.xds_http.specs.declared.site.Paging.TheVariants.{Unavailable, Collecting};
+    ghost use Rattle.xds_http.specs.declared.site.Paging.TheVariants.{Unavailable, Collecting, Working};
 
-    type Output = Result<Response<Full<Bytes>>, hyper::Error>;
+    type Output = Answer;
 
-    ghost can_poll = { elim [ Unavailable _ ↦ ⊤ | Collecting _ _ _ _ body ↦ F.can_poll body ] };
+    ghost can_poll = { elim [ Unavailable _ ↦ ⊤ | Collecting _ _ _ _ body ↦ F.can_poll body | Working _ _ _ ↦ ⊤ ] };
 
-    ghost needs = { λ a s. elim a [ Unavailable _ ↦ ⊥ | Collecting _ _ _ _ body ↦ F.needs body s ] };
+    ghost needs = { λ a s. elim a [ Unavailable _ ↦ ⊥ | Collecting _ _ _ _ body ↦ F.needs body s | Working _ _ _ ↦ ⊥ ] };
 
     fn poll(&mut self, cx: &mut Context<'_>) -> Poll<Self::Output> {
-        match self {
+        let working = match self {
             Paging::Unavailable(alloc) => {
-                Poll::Ready(Ok(bare(*alloc, StatusCode::SERVICE_UNAVAILABLE)))
+                return Poll::Ready(Ok(bare(*alloc, StatusCode::SERVICE_UNAVAILABLE)));
             }
             Paging::Collecting {
                 rt,
@@ -138,9 +182,24 @@ where
             } => {
                 let come = ready!(body.poll(cx));
                 let method = method.as_str();
-                Poll::Ready(response_to(rt, &**shared, method, path.as_str(), come))
+                match response_or_work(rt, shared, method, path.as_str(), come) {
+                    Ok(answer) => return Poll::Ready(answer),
+                    Err((shared, work)) => Paging::Working {
+                        rt: *rt,
+                        shared,
+                        work,
+                    },
+                }
             }
-        }
+            Paging::Working { rt, shared, work } => {
+                return match response_by(rt, &**shared, work) {
+                    Some(answer) => Poll::Ready(answer),
+                    None => cx.yield_now(),
+                };
+            }
+        };
+        drop(mem::replace(self, working));
+        cx.yield_now()
     }
 }
 

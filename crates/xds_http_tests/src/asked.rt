@@ -1,7 +1,7 @@
 // A node as what replies over HTTP.
 use std::alloc::Global;
 use std::sync::Wait;
-use xds_http::Replies;
+use xds_http::{Replies, Seats};
 use xds_node::{Node, NodeName, Seat};
 use xds_polls::HttpReply;
 use xds_resource::Refusal;
@@ -19,19 +19,12 @@ impl<N: NodeName> Drop for Asked<N> {
 }
 
 impl<N: NodeName> Replies for Asked<N> {
-    ghost use Rattle.std.specs.Prelude.{◌≡◌, codes};
-    ghost use Rattle.xds_node.specs.Told.{no_calls};
+    ghost use Rattle.std.specs.Prelude.{codes};
     ghost use Rattle.xds_rest.specs.Posted.{IsReplyOrUnavailable};
 
     type Seat = Seat<N>;
 
-    ghost fresh = { λ s. s ≡ no_calls };
-
     ghost replies = { λ old new path body r. IsReplyOrUnavailable N.replica (codes "POST") path body old new r };
-
-    fn seat<R: Wait>(&self, rt: &R) -> Result<Seat<N>, Refusal> {
-        self.node.seat(rt)
-    }
 
     fn reply<R: Wait>(
         &self,
@@ -42,5 +35,16 @@ impl<N: NodeName> Replies for Asked<N> {
         body: &[u8],
     ) -> HttpReply {
         reply_at(rt, alloc, &self.node, seat, "POST", path, body)
+    }
+}
+
+impl<N: NodeName> Seats for Asked<N> {
+    ghost use Rattle.std.specs.Prelude.{◌≡◌};
+    ghost use Rattle.xds_node.specs.Told.{no_calls};
+
+    ghost fresh = { λ s. s ≡ no_calls };
+
+    fn seat<R: Wait>(&self, rt: &R) -> Result<Seat<N>, Refusal> {
+        self.node.seat(rt)
     }
 }

@@ -11,6 +11,8 @@ mod full;
 #[cfg(test)]
 mod memory;
 #[cfg(test)]
+mod once;
+#[cfg(test)]
 mod places;
 #[cfg(test)]
 mod polls;

@@ -13,7 +13,7 @@ use std::thread;
 use std::thread::Threads;
 use std::time::Clock;
 use xds_core::{Event, Reply};
-use xds_http::{MAX_CONNECTIONS, Replies, serve_some};
+use xds_http::{MAX_CONNECTIONS, Seats, serve_some};
 use xds_node::{Line, Node, NodeName, Opened, Seat, Unrecorded};
 use xds_resource::{AnyResource, Groups, Refusal, TypeName};
 
@@ -100,7 +100,7 @@ where
         + Sync
         + Net<Listener = TcpListener, Stream = TcpStream>
         + 'static,
-    A: Replies + Drop + Send + Sync + 'static,
+    A: Seats + Drop + Send + Sync + 'static,
     A::Seat: Send,
 {
     let shared = Arc::new(rt.alloc(), replies)?;

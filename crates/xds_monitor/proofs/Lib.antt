@@ -1,3 +1,5 @@
 pub mod Pieces
 mod Causing
+mod Counting
+mod Paging
 mod Responding

@@ -1,15 +1,47 @@
--- What is counted of a replica for those who look. This project's own.
---     names_after     how many names a stream asks for after a request, where it asked for so many before
---     more            the count once one more has come
---     rest_after      the replies to polls over HTTP once one of this status was given
---     streams_after   the open streams once one more of this variant is counted, or on which no request has come
-use Rattle.std.specs.Prelude.{ℕ, ◌+◌, ◌-◌, ◌^◌, ◌==◌, if◌then◌else◌, min, Option, Some, None}
+-- What is counted of a replica for those who look, and what is shown of a stream. This project's own.
+--     names_after       how many names a stream asks for after a request, where it asked for so many before
+--     more              the count once one more has come
+--     rest_after        the replies to polls over HTTP once one of this status was given
+--     streams_after     the open streams once one more of this variant is counted, or on which no request has come
+--     recorded_after    what is counted of a journal once an event left a record, or none; a part of another replica or not
+--     cut_after         the same once the journal was cut, or couldn't be
+--     taken_kind        the type of a request that was taken
+--     stream_of         the stream whose request or poll an event is, if it is one
+--     verdict           whether a request accepts the last response of its type (true) or rejects it (false), if it does either
+--     answered_after    whether the last response was answered, once a request said that of it
+--     rejection_text    what a request says of the response that it rejects; nothing, if it rejects none
+--     accepted_after    the version that a stream accepted last, once a request was taken
+--     rejection_after   what it said of the response that it rejected last
+--     counts_at         what was counted of a type
+--     with_counts       the same with other counts of a type
+--     no_answers        nothing was counted
+--     judged, judged_at        once a response was accepted or rejected, if one was; and of which type
+--     responded_at      once a stream was told a response of a type
+--     status_of         what is shown of a type on a stream
+--     verdict_on        what a request says on a stream, if it is open: nothing, where it is out of date
+--     is_nack           whether that is a rejection
+--     heard_at          what was counted once a request came on a stream
+use Rattle.std.specs.Prelude.{ℕ, List, [], ◌+◌, ◌-◌, ◌^◌, ◌==◌, ◌||◌, not, Bool, true, false, if◌then◌else◌, bytes_eq, is_none, length, min, Option, Some, None, String, string_bytes}
+use Rattle.std.specs.declared.alloc.Global.{Global}
+use Rattle.xds_resource.specs.declared.types.TypeName.{TypeName}
+use Rattle.xds_resource.specs.declared.types.TypeName.TheVariants.{Cluster, Endpoint, Listener, Route, Secret}
+use Rattle.xds_ledger.specs.declared.outcome.Outcome.{Outcome}
+use Rattle.xds_ledger.specs.declared.outcome.Outcome.TheVariants.{Taken, Ignored}
 use Rattle.xds_ledger.specs.declared.variant.VariantName.{VariantName}
 use Rattle.xds_ledger.specs.declared.variant.VariantName.TheVariants.{StateOfTheWorld, Delta}
+use Rattle.xds_monitor.specs.declared.counts.Counts.{Counts}
+use Rattle.xds_monitor.specs.declared.counts.TypeCounts.{TypeCounts}
+use Rattle.xds_monitor.specs.declared.numbers.JournalCounts.{JournalCounts}
 use Rattle.xds_monitor.specs.declared.numbers.RestCounts.{RestCounts}
 use Rattle.xds_monitor.specs.declared.numbers.StreamCounts.{StreamCounts}
+use Rattle.xds_monitor.specs.declared.sight.Heard.{Heard}
+use Rattle.xds_monitor.specs.declared.sight.Sight.{Sight}
+use Rattle.xds_monitor.specs.declared.sight.Sight.TheVariants.{Request, Poll, Change, Part, Other}
 use Rattle.xds_monitor.specs.declared.sight.Names.{Names}
 use Rattle.xds_monitor.specs.declared.sight.Names.TheVariants.{Listed, Edited}
+use Rattle.xds_monitor.specs.declared.stream_status.StreamStatus.{StreamStatus}
+use Rattle.xds_monitor.specs.declared.stream_status.TypeStatus.{TypeStatus}
+use Rattle.xds_monitor.specs.declared.stream_status.TypeStatuses.{TypeStatuses}
 
 -- how many names a stream asks for after a request, where it asked for so many before
 abbrev pub names_after : Names → ℕ → ℕ
@@ -34,3 +66,135 @@ abbrev pub streams_after : StreamCounts → Option VariantName → StreamCounts
 streams_after c None = record c { silent = more c.silent }
 streams_after c (Some StateOfTheWorld) = record c { sotw = more c.sotw }
 streams_after c (Some Delta) = record c { delta = more c.delta }
+
+-- What is counted of a journal once an event left a record, or none. Where the event is a part that another replica told, it is
+-- counted as such, or as lost.
+abbrev pub recorded_after : JournalCounts → Bool → Bool → JournalCounts
+recorded_after c is_part left_record =
+    if left_record then (if is_part then record c { records = more c.records; parts = more c.parts } else record c { records = more c.records })
+    else (if is_part then record c { lost_parts = more c.lost_parts } else c)
+
+-- the same once the journal was cut, or couldn't be
+abbrev pub cut_after : JournalCounts → Bool → JournalCounts
+cut_after c went_well = if went_well then record c { cuts = more c.cuts } else record c { failed_cuts = more c.failed_cuts }
+
+-- ---- what a request says of responses
+
+-- the stream whose request or poll an event is, if it is one
+abbrev pub stream_of : Sight → Option ℕ
+stream_of (Request stream heard) = Some stream
+stream_of (Poll stream) = Some stream
+stream_of Change = None
+stream_of Part = None
+stream_of Other = None
+
+-- the type of a request that was taken
+abbrev pub taken_kind : Heard → Outcome → Option TypeName
+taken_kind heard Taken = heard.kind
+taken_kind heard Ignored = None
+
+-- Whether a request accepts the last response of its type (true) or rejects it (false), if it does either: it names the nonce of that
+-- response, to which no request answered before.
+abbrev pub verdict : TypeStatus → Heard → Option Bool
+verdict status heard =
+    if status.is_answered || length (string_bytes status.nonce) == 0 || not (bytes_eq (string_bytes heard.nonce) (string_bytes status.nonce)) then None
+    else Some (is_none heard.rejection)
+
+-- whether the last response was answered, once a request said that of it
+abbrev pub answered_after : Bool → Option Bool → Bool
+answered_after before None = before
+answered_after before (Some accepts) = true
+
+-- what a request says of the response that it rejects; nothing, if it rejects none
+abbrev rejection_in : Option (String Global) → List ℕ
+rejection_in None = []
+rejection_in (Some message) = string_bytes message
+
+abbrev pub rejection_text : Heard → List ℕ
+rejection_text heard = rejection_in heard.rejection
+
+abbrev accepted_by : TypeStatus → Option Bool → List ℕ
+accepted_by status (Some true) = string_bytes status.sent
+accepted_by status (Some false) = string_bytes status.accepted
+accepted_by status None = string_bytes status.accepted
+
+-- the version that a stream accepted last, once a request was taken
+abbrev pub accepted_after : TypeStatus → Heard → List ℕ
+accepted_after status heard = accepted_by status (verdict status heard)
+
+abbrev rejection_by : TypeStatus → Heard → Option Bool → List ℕ
+rejection_by status heard (Some true) = string_bytes status.rejection
+rejection_by status heard (Some false) = rejection_text heard
+rejection_by status heard None = string_bytes status.rejection
+
+-- what it said of the response that it rejected last
+abbrev pub rejection_after : TypeStatus → Heard → List ℕ
+rejection_after status heard = rejection_by status heard (verdict status heard)
+
+-- ---- what is counted of responses
+
+-- what was counted of a type
+abbrev pub counts_at : Counts → TypeName → TypeCounts
+counts_at c Cluster = c.cluster
+counts_at c Endpoint = c.endpoint
+counts_at c Listener = c.listener
+counts_at c Route = c.route
+counts_at c Secret = c.secret
+
+-- the same with other counts of a type
+abbrev pub with_counts : Counts → TypeName → TypeCounts → Counts
+with_counts c Cluster counts = record c { cluster = counts }
+with_counts c Endpoint counts = record c { endpoint = counts }
+with_counts c Listener counts = record c { listener = counts }
+with_counts c Route counts = record c { route = counts }
+with_counts c Secret counts = record c { secret = counts }
+
+abbrev pub no_answers : TypeCounts
+no_answers = record { responses = 0; acks = 0; nacks = 0 }
+
+-- once a response was accepted or rejected, if one was
+abbrev pub judged : TypeCounts → Option Bool → TypeCounts
+judged c (Some true) = record c { acks = more c.acks }
+judged c (Some false) = record c { nacks = more c.nacks }
+judged c None = c
+
+abbrev pub judged_at : Counts → TypeName → Option Bool → Counts
+judged_at c kind verdict = with_counts c kind (judged (counts_at c kind) verdict)
+
+abbrev responded : TypeCounts → TypeCounts
+responded c = record c { responses = more c.responses }
+
+-- once a stream was told a response of a type
+abbrev pub responded_at : Counts → TypeName → Counts
+responded_at c kind = with_counts c kind (responded (counts_at c kind))
+
+-- what is shown of a type on a stream
+abbrev pub status_of : TypeStatuses → TypeName → TypeStatus
+status_of s Cluster = s.cluster
+status_of s Endpoint = s.endpoint
+status_of s Listener = s.listener
+status_of s Route = s.route
+status_of s Secret = s.secret
+
+abbrev verdict_of : Option StreamStatus → Heard → Option TypeName → Option Bool
+verdict_of (Some status) heard (Some kind) = verdict (status_of status.types kind) heard
+verdict_of (Some status) heard None = None
+verdict_of None heard (Some kind) = None
+verdict_of None heard None = None
+
+-- what a request says on a stream, if it is open: nothing, where it is out of date
+abbrev pub verdict_on : Option StreamStatus → Heard → Outcome → Option Bool
+verdict_on status heard outcome = verdict_of status heard (taken_kind heard outcome)
+
+-- whether that is a rejection
+abbrev pub is_nack : Option Bool → Bool
+is_nack (Some accepts) = not accepts
+is_nack None = false
+
+abbrev judged_in : Counts → Option TypeName → Option Bool → Counts
+judged_in c None verdict = c
+judged_in c (Some kind) verdict = judged_at c kind verdict
+
+-- what was counted once a request came on a stream
+abbrev pub heard_at : Counts → Option StreamStatus → Heard → Outcome → Counts
+heard_at c status heard outcome = judged_in c heard.kind (verdict_on status heard outcome)

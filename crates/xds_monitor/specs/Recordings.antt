@@ -5,9 +5,15 @@
 --     tape_path        the file of a replica's trace
 --     tape_line        the line of a file that can't be made
 --     recording_line   the line of a recording that ended by a refusal
-use Rattle.std.specs.Prelude.{ℕ, ◌+◌, ◌-◌, ◌^◌, List, ◌++◌, Option, Some, None, codes, decimal, min}
+--     recorded_text    what is shown of a recording: that it goes on, or the refusal by which it ended
+--     ended_sample     the line of whether a replica's recording ended by a refusal
+--     recordings_text  the same of each of some replicas, and what that number does
+use Rattle.std.specs.Prelude.{ℕ, Bool, if◌then◌else◌, ◌+◌, ◌-◌, ◌^◌, List, ◌++◌, Option, Some, None, codes, decimal, min}
+use Rattle.std.specs.List.{flat_map}
 use Rattle.xds_resource.specs.declared.refusal.Refusal.{Refusal}
 use Rattle.xds_resource.specs.Refusals.{number_of, name_of}
+use Rattle.xds_monitor.specs.declared.metrics.Kind.TheVariants.{Counter}
+use Rattle.xds_monitor.specs.Metrics.{help_line, sample_line}
 use Rattle.xds_monitor.specs.declared.tapes.TapeFault.{TapeFault}
 use Rattle.xds_monitor.specs.declared.tapes.TapeFault.TheVariants.{NoFolder, NotAllowed, IsThere, Other}
 
@@ -39,3 +45,18 @@ tape_line folder replica fault = tape_path folder replica ++ (codes ": 19 Device
 abbrev pub recording_line : ℕ → Refusal → List ℕ
 recording_line replica refusal =
     codes "recording of replica " ++ (decimal replica ++ (codes " ended: " ++ (decimal (number_of refusal) ++ (codes " " ++ (name_of refusal ++ codes "\n")))))
+
+-- what is shown of a recording, as a field of JSON: that it goes on, or the refusal by which it ended
+abbrev pub recorded_text : Option Refusal → List ℕ
+recorded_text None = codes "\"recording\":\"goes on\","
+recorded_text (Some refusal) =
+    codes "\"recording\":\"" ++ (decimal (number_of refusal) ++ (codes " " ++ (name_of refusal ++ codes "\",")))
+
+-- the line of whether the recording of a replica of this number ended by a refusal
+abbrev pub ended_sample : ℕ × Bool → List ℕ
+ended_sample shown =
+    sample_line (codes "xds_recordings_ended_total") (codes "replica=\"" ++ (decimal shown.0 ++ codes "\"")) (if shown.1 then 1 else 0)
+
+-- the same of each of some replicas, behind what that number does
+abbrev pub recordings_text : List (ℕ × Bool) → List ℕ
+recordings_text shown = help_line (codes "xds_recordings_ended_total") Counter ++ flat_map ended_sample shown

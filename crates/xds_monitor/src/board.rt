@@ -1,113 +1,18 @@
 // What is known of the streams of a replica, and what was counted of it: for those who look, and of no account to what is answered.
+ghost use Rattle.std.specs.Prelude.{◌≡◌};
+ghost use Rattle.xds_monitor.specs.Boards.{is_nack, taken_kind};
+
+use crate::counts::Counts;
 use crate::doors::Doors;
-use crate::log_event::excerpt;
-use crate::numbers::{Numbers, RestCounts, StreamCounts};
+use crate::numbers::{JournalCounts, Numbers, RestCounts, StreamCounts, more};
 use crate::sight::Heard;
+use crate::stream_status::StreamStatus;
 use std::alloc::Global;
 use std::collections::BTreeMap;
 use std::time::Instant;
-use xds_ledger::VariantName;
+use xds_ledger::Outcome;
 use xds_message::Draft;
 use xds_resource::{Refusal, TypeName};
-
-/// What a stream is told and says of one type.
-#[derive(Drop)]
-pub struct TypeStatus {
-    pub kind: TypeName,
-    /// How many names it asks for: those of its last list, or, in the incremental variant, those that it asked for less those that
-    /// it no longer wants.
-    pub names: u64,
-    /// The version and the nonce of the last response; empty before the first.
-    pub sent: String,
-    pub nonce: String,
-    // Whether that response was accepted or rejected.
-    is_answered: bool,
-    /// The version of the last response that it accepted; empty before the first.
-    pub accepted: String,
-    /// What it said of the last response that it rejected, as an excerpt; empty where it rejected none.
-    pub rejection: String,
-}
-
-/// What is known of an open stream. The texts of its client are excerpts.
-#[derive(Drop)]
-pub struct StreamStatus {
-    pub peer: String,
-    pub node: String,
-    pub cluster: String,
-    /// The variant of its first request; none before that came.
-    pub variant: Option<VariantName>,
-    pub types: Vec<TypeStatus>,
-}
-
-/// What was counted of one type.
-#[derive(Clone, Copy, Debug, PartialEq, Eq)]
-pub struct TypeCounts {
-    pub responses: u64,
-    pub acks: u64,
-    pub nacks: u64,
-}
-
-impl TypeCounts {
-    fn new() -> TypeCounts {
-        TypeCounts {
-            responses: 0,
-            acks: 0,
-            nacks: 0,
-        }
-    }
-
-    // A response was accepted, or rejected.
-    fn judge(&mut self, verdict: Option<bool>) {
-        match verdict {
-            Some(true) => self.acks = self.acks.saturating_add(1),
-            Some(false) => self.nacks = self.nacks.saturating_add(1),
-            None => {}
-        }
-    }
-}
-
-/// The same of each type.
-#[derive(Clone, Copy, Debug, PartialEq, Eq)]
-pub struct Counts {
-    pub cluster: TypeCounts,
-    pub endpoint: TypeCounts,
-    pub listener: TypeCounts,
-    pub route: TypeCounts,
-    pub secret: TypeCounts,
-}
-
-impl Counts {
-    fn new() -> Counts {
-        Counts {
-            cluster: TypeCounts::new(),
-            endpoint: TypeCounts::new(),
-            listener: TypeCounts::new(),
-            route: TypeCounts::new(),
-            secret: TypeCounts::new(),
-        }
-    }
-
-    /// Those of a type.
-    pub fn of(&self, kind: TypeName) -> TypeCounts {
-        match kind {
-            TypeName::Cluster => self.cluster,
-            TypeName::Endpoint => self.endpoint,
-            TypeName::Listener => self.listener,
-            TypeName::Route => self.route,
-            TypeName::Secret => self.secret,
-        }
-    }
-
-    fn at(&mut self, kind: TypeName) -> &mut TypeCounts {
-        match kind {
-            TypeName::Cluster => &mut self.cluster,
-            TypeName::Endpoint => &mut self.endpoint,
-            TypeName::Listener => &mut self.listener,
-            TypeName::Route => &mut self.route,
-            TypeName::Secret => &mut self.secret,
-        }
-    }
-}
 
 /// What is known of a replica.
 #[derive(Drop)]
@@ -119,18 +24,30 @@ pub struct Board {
     /// The connections that are served as streams, and those that weren't.
     pub doors: Doors,
     pub rest: RestCounts,
-    pub records: u64,
-    pub cuts: u64,
-    pub failed_cuts: u64,
-    pub parts: u64,
-    pub lost_parts: u64,
+    pub journal: JournalCounts,
     pub refused: u64,
     // When the last change was made, and how many milliseconds later the last response was polled.
     changed: Option<Instant>,
     pub lag: Option<u64>,
 }
 
+/// What a request shows that is told.
+#[derive(Clone, Copy, Debug, PartialEq, Eq)]
+pub struct News {
+    /// It is the first on its stream.
+    pub is_first: bool,
+    /// It rejects the last response.
+    pub is_rejected: bool,
+}
+
 impl Board {
+    ghost use Rattle.std.specs.Prelude.{◌≡◌, ◌&&◌, not, if◌then◌else◌};
+    ghost use Rattle.std.specs.Ordering.{nat_cmp};
+    ghost use Rattle.std.specs.BTreeMap as tree;
+    ghost use Rattle.xds_message.specs.DraftTexts.{kind_of};
+    ghost use Rattle.xds_monitor.specs.Boards.{heard_at, is_nack, more, responded_at, verdict_on};
+    ghost use Rattle.xds_monitor.specs.Doorways.{doors_after, has_room};
+
     /// That of a replica without a stream.
     pub fn new(alloc: Global) -> Board {
         Board {
@@ -139,11 +56,7 @@ impl Board {
             counts: Counts::new(),
             doors: Doors::new(),
             rest: RestCounts::new(),
-            records: 0,
-            cuts: 0,
-            failed_cuts: 0,
-            parts: 0,
-            lost_parts: 0,
+            journal: JournalCounts::new(),
             refused: 0,
             changed: None,
             lag: None,
@@ -151,46 +64,49 @@ impl Board {
     }
 
     /// What was counted by now.
-    pub fn numbers(&self) -> Numbers {
-        let mut streams = StreamCounts::new();
-        for status in self.streams.values() {
-            streams.count(status.variant);
-        }
+    pub fn numbers(&self) -> Numbers
+        ensures types { result.types ≡ self.now.counts }
+        ensures doors { result.doors ≡ self.now.doors }
+        ensures rest { result.rest ≡ self.now.rest }
+        ensures journal { result.journal ≡ self.now.journal }
+        ensures refused { result.refused ≡ self.now.refused }
+        ensures lag { result.lag ≡ self.now.lag }
+    {
         Numbers {
             types: self.counts,
-            streams,
+            streams: self.streams_by_variant(),
             doors: self.doors,
             rest: self.rest,
-            records: self.records,
-            cuts: self.cuts,
-            failed_cuts: self.failed_cuts,
-            parts: self.parts,
-            lost_parts: self.lost_parts,
+            journal: self.journal,
             refused: self.refused,
             lag: self.lag,
         }
     }
 
-    /// An event left a record, or none. A part that another replica told may be lost so.
-    pub fn count(&mut self, is_part: bool, left_record: bool) {
-        if left_record {
-            self.records = self.records.saturating_add(1);
+    fn streams_by_variant(&self) -> StreamCounts {
+        let mut streams = StreamCounts::new();
+        for status in self.streams.values() {
+            streams.count(status.variant);
         }
-        if is_part && left_record {
-            self.parts = self.parts.saturating_add(1);
-        }
-        if is_part && !left_record {
-            self.lost_parts = self.lost_parts.saturating_add(1);
-        }
+        streams
     }
 
-    /// The journal was cut, or couldn't be.
-    pub fn cut(&mut self, went_well: bool) {
-        if went_well {
-            self.cuts = self.cuts.saturating_add(1);
-        } else {
-            self.failed_cuts = self.failed_cuts.saturating_add(1);
+    /// A connection came: whether it is served, where no more than so many may be at a time. None is once the server ends.
+    pub fn admit(&mut self, has_ended: bool, most: Option<u16>) -> bool
+        ensures served { result ≡ (not has_ended && has_room self.old.doors.inside most) }
+        ensures after { self.new.doors ≡ (if has_ended then self.old.doors else doors_after self.old.doors most) }
+    {
+        if has_ended {
+            return false;
         }
+        self.doors.admit(most)
+    }
+
+    /// A change was refused.
+    pub fn refuse(&mut self)
+        ensures { self.new.refused ≡ more self.old.refused }
+    {
+        self.refused = more(self.refused);
     }
 
     /// A change was made now.
@@ -208,14 +124,7 @@ impl Board {
 
     /// A stream was opened, for a client at this address.
     pub fn open(&mut self, stream: u64, peer: String) -> Result<(), Refusal> {
-        let alloc = self.alloc;
-        let status = StreamStatus {
-            peer,
-            node: String::new(alloc),
-            cluster: String::new(alloc),
-            variant: None,
-            types: Vec::new(alloc),
-        };
+        let status = StreamStatus::new(self.alloc, peer);
         match self.streams.insert(stream, status) {
             Ok(_) => Ok(()),
             Err(_) => Err(Refusal::OutOfMemory),
@@ -227,104 +136,84 @@ impl Board {
         drop(self.streams.remove(&stream));
     }
 
-    /// A request came on a stream. Answers whether it is the first there.
-    pub fn hear(&mut self, stream: u64, heard: &Heard) -> Result<bool, Refusal> {
-        let alloc = self.alloc;
-        let kind = heard.kind;
-        let Some(status) = self.streams.get_mut(&stream) else {
-            return Ok(false);
+    // What a request says of the last response of its type on a stream: nothing, where it is out of date.
+    fn verdict(&self, stream: u64, heard: &Heard, outcome: Outcome) -> Option<bool>
+        ensures { result ≡ verdict_on (tree.get nat_cmp self.now.streams stream) heard.now outcome }
+    {
+        let Some(kind) = taken_kind(heard, outcome) else {
+            return None;
         };
-        let is_first = status.greet(alloc, heard)?;
-        if let Some(kind) = kind {
-            let verdict = status.at(alloc, kind)?.hear(alloc, heard)?;
-            self.counts.at(kind).judge(verdict);
-        }
-        Ok(is_first)
+        let Some(status) = self.streams.get(&stream) else {
+            return None;
+        };
+        status.types.of(kind).verdict(heard)
     }
 
-    /// A response was polled for a stream.
-    pub fn respond(&mut self, stream: u64, draft: &Draft) -> Result<(), Refusal> {
+    /// A request came on a stream, and this became of it: it was taken, or it is out of date. What it accepts or rejects is counted, and
+    /// what it says is noted, as far as there is memory for its texts.
+    pub fn hear(&mut self, stream: u64, heard: &Heard, outcome: Outcome) -> News
+        ensures counts { self.new.counts ≡ heard_at self.old.counts (tree.get nat_cmp self.old.streams stream) heard.now outcome }
+        ensures rejected { result.is_rejected ≡ is_nack (verdict_on (tree.get nat_cmp self.old.streams stream) heard.now outcome) }
+    {
+        let verdict = self.verdict(stream, heard, outcome);
+        if let Some(kind) = heard.kind {
+            self.counts.judge(kind, verdict);
+        }
+        News {
+            is_first: self.note(stream, heard, outcome),
+            is_rejected: is_nack(verdict),
+        }
+    }
+
+    // Notes what a request says on a stream. Answers whether it is the first there.
+    fn note(&mut self, stream: u64, heard: &Heard, outcome: Outcome) -> bool
+        ensures { self.new.counts ≡ self.old.counts }
+    {
+        let alloc = self.alloc;
+        let Some(status) = self.streams.get_mut(&stream) else {
+            return false;
+        };
+        let is_first = status.variant.is_none();
+        if let Some(kind) = taken_kind(heard, outcome) {
+            let _ = status.types.at(kind).hear(alloc, heard);
+        }
+        let _ = status.greet(alloc, heard);
+        is_first
+    }
+
+    /// A stream was told a response. It is counted, and noted as far as there is memory for its texts.
+    pub fn respond(&mut self, stream: u64, draft: &Draft)
+        ensures { self.new.counts ≡ responded_at self.old.counts (kind_of draft.now) }
+    {
         let alloc = self.alloc;
         let kind = draft.kind();
-        let counts = self.counts.at(kind);
-        counts.responses = counts.responses.saturating_add(1);
-        match self.streams.get_mut(&stream) {
-            Some(status) => status.at(alloc, kind)?.respond(alloc, draft),
-            None => Ok(()),
+        self.counts.respond(kind);
+        if let Some(status) = self.streams.get_mut(&stream) {
+            let _ = status
+                .types
+                .at(kind)
+                .respond(alloc, version_of(draft), draft.nonce());
         }
     }
 }
 
-impl StreamStatus {
-    // Notes who asks. Answers whether this is the first request.
-    fn greet(&mut self, alloc: Global, heard: &Heard) -> Result<bool, Refusal> {
-        let is_first = self.variant.is_none();
-        if is_first {
-            self.variant = Some(heard.variant);
-        }
-        if let Some((node, cluster)) = &heard.node {
-            self.node = String::from_str(alloc, node.as_str())?;
-            self.cluster = String::from_str(alloc, cluster.as_str())?;
-        }
-        Ok(is_first)
-    }
-
-    // What is known of a type, from here on at least.
-    fn at(&mut self, alloc: Global, kind: TypeName) -> Result<&mut TypeStatus, Refusal> {
-        let place = match self.types.iter().position(|status| status.kind == kind) {
-            Some(place) => place,
-            None => {
-                self.types.push(TypeStatus::new(alloc, kind))?;
-                self.types.len() - 1
-            }
-        };
-        match self.types.get_mut(place) {
-            Some(status) => Ok(status),
-            None => Err(Refusal::OutOfMemory),
-        }
+// Whether what a request says is a rejection.
+fn is_nack(verdict: Option<bool>) -> bool
+    ensures { result ≡ is_nack verdict }
+{
+    match verdict {
+        Some(accepts) => !accepts,
+        None => false,
     }
 }
 
-impl TypeStatus {
-    fn new(alloc: Global, kind: TypeName) -> TypeStatus {
-        TypeStatus {
-            kind,
-            names: 0,
-            sent: String::new(alloc),
-            nonce: String::new(alloc),
-            is_answered: false,
-            accepted: String::new(alloc),
-            rejection: String::new(alloc),
-        }
-    }
-
-    // Notes a request. Answers whether it accepts the last response (true) or rejects it (false), where it does either for the first time.
-    fn hear(&mut self, alloc: Global, heard: &Heard) -> Result<Option<bool>, Refusal> {
-        self.names = heard.names.after(self.names);
-        let is_of_last = !self.nonce.as_str().is_empty()
-            && heard.nonce.as_str() == self.nonce.as_str();
-        if !is_of_last || self.is_answered {
-            return Ok(None);
-        }
-        self.is_answered = true;
-        match &heard.rejection {
-            Some(message) => {
-                self.rejection = String::from_str(alloc, message.as_str())?;
-                Ok(Some(false))
-            }
-            None => {
-                self.accepted = String::from_str(alloc, self.sent.as_str())?;
-                Ok(Some(true))
-            }
-        }
-    }
-
-    // Notes a response. In the version of a star's the cluster of its client may stand, so it is an excerpt, too.
-    fn respond(&mut self, alloc: Global, draft: &Draft) -> Result<(), Refusal> {
-        self.sent = excerpt(alloc, version_of(draft))?;
-        self.nonce = String::from_str(alloc, draft.nonce())?;
-        self.is_answered = false;
-        Ok(())
+// The type of a request that was taken.
+fn taken_kind(heard: &Heard, outcome: Outcome) -> Option<TypeName>
+    ensures { result ≡ taken_kind heard.now outcome }
+{
+    match outcome {
+        Outcome::Taken => heard.kind,
+        Outcome::Ignored => None,
     }
 }
 

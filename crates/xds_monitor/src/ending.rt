@@ -50,11 +50,12 @@ struct State {
     left: Option<u16>,
     end: Option<End>,
     notes: VecDeque<Note>,
-    // How many notes had no room.
+    // How many notes aren't told.
     missed: u64,
-    // How many notes were taken once the end was known, and whether those that were missed then were told.
-    late: usize,
-    is_quiet: bool,
+    // Whether nothing more is to be told.
+    is_closed: bool,
+    // Whether all was told.
+    is_told: bool,
     // How many frames of responses are being written.
     writing: u64,
 }
@@ -67,8 +68,8 @@ impl Drop for State {
             end: _,
             notes: _,
             missed: _,
-            late: _,
-            is_quiet: _,
+            is_closed: _,
+            is_told: _,
             writing: _,
         } = self;
     }
@@ -77,7 +78,7 @@ impl Drop for State {
 impl State {
     ghost use Rattle.std.specs.Prelude.{◌≡◌, ◌-◌};
     ghost use Rattle.std.specs.Option.{option_map};
-    ghost use Rattle.xds_monitor.specs.Endings.{first_end, counted_end};
+    ghost use Rattle.xds_monitor.specs.Endings.{first_end, counted_end, has_place, counts_missed, Adds, TakesNote, Announces, IsNext};
 
     // A stream more has ended.
     fn count(&mut self)
@@ -103,23 +104,22 @@ impl State {
         }
     }
 
-    // A note more is to be told. Where there is no memory for it, it counts as missed.
-    fn push(&mut self, note: Note)
-        ensures { (self.new.left ≡ self.old.left) × (self.new.end ≡ self.old.end) }
+    // Whether there is a place for a note more: none where as many wait as may wait, and none once the server ends.
+    fn has_place(&self) -> bool
+        ensures { result ≡ has_place self.now.end self.now.notes.items }
     {
-        if self.notes.push_back(note).is_err() {
-            self.miss();
+        match self.end {
+            Some(_) => false,
+            None => self.notes.len() < MOST_NOTES,
         }
     }
 
-    // A note more is to be told. Once the end is known a bounded number is, and others count as missed, so that the end comes.
+    // A note more is to be told, where there is a place for it. Else it counts as missed.
     fn take(&mut self, note: Note)
-        ensures { (self.new.left ≡ self.old.left) × (self.new.end ≡ self.old.end) }
+        ensures end { (self.new.left ≡ self.old.left) × (self.new.end ≡ self.old.end) }
+        ensures told { TakesNote (has_place self.old.end self.old.notes.items) self.old.is_closed note self.old.notes.items self.new.notes.items self.old.missed self.new.missed }
     {
-        if self.end.is_none() {
-            self.push(note);
-        } else if self.late < MOST_NOTES {
-            self.late += 1;
+        if self.has_place() {
             self.push(note);
         } else {
             drop(note);
@@ -127,24 +127,52 @@ impl State {
         }
     }
 
-    // A note isn't told.
-    fn miss(&mut self)
-        ensures { (self.new.left ≡ self.old.left) × (self.new.end ≡ self.old.end) }
+    // A note more is to be told, also once the server ends, as long as something may be told.
+    fn announce(&mut self, note: Note)
+        ensures end { (self.new.left ≡ self.old.left) × (self.new.end ≡ self.old.end) }
+        ensures told { Announces self.old.is_closed note self.old.notes.items self.new.notes.items self.old.missed self.new.missed }
     {
-        self.missed = self.missed.saturating_add(1);
+        if self.is_closed {
+            drop(note);
+        } else {
+            self.push(note);
+        }
     }
 
-    // What comes next, if something does: what is to be told comes before the end, and how many aren't told then once.
+    // A note more is to be told. Where there is no memory for it, it counts as missed.
+    fn push(&mut self, note: Note)
+        ensures end { (self.new.left ≡ self.old.left) × (self.new.end ≡ self.old.end) }
+        ensures told { Adds self.old.is_closed note self.old.notes.items self.new.notes.items self.old.missed self.new.missed }
+    {
+        match self.notes.push_back(note) {
+            Ok(()) => {}
+            Err(_) => self.miss(),
+        }
+    }
+
+    // A note isn't told. It is counted as long as something may be told.
+    fn miss(&mut self)
+        ensures end { (self.new.left ≡ self.old.left) × (self.new.end ≡ self.old.end) }
+        ensures missed { self.new.missed ≡ counts_missed self.old.is_closed self.old.missed }
+        ensures notes { self.new.notes ≡ self.old.notes }
+    {
+        if !self.is_closed {
+            self.missed = self.missed.saturating_add(1);
+        }
+    }
+
+    // What comes next, if something does: what is to be told comes before the end. How much isn't told is told at once while the
+    // server serves, and then once more, behind all that is told.
     fn next(&mut self) -> Option<Next>
-        ensures { (self.new.left ≡ self.old.left) × (self.new.end ≡ self.old.end) }
+        ensures end { (self.new.left ≡ self.old.left) × (self.new.end ≡ self.old.end) }
+        ensures next { IsNext self.old.end self.old.is_closed self.old.notes.items self.new.notes.items self.old.missed self.new.missed result }
     {
         if let Some(note) = self.notes.pop_front() {
             return Some(Next::Note(note));
         }
-        if self.missed > 0 && !self.is_quiet {
+        if self.missed > 0 && (self.end.is_none() || self.is_closed) {
             let count = self.missed;
             self.missed = 0;
-            self.is_quiet = self.end.is_some();
             return Some(Next::Note(Note::Missed(count)));
         }
         match self.end {
@@ -163,6 +191,8 @@ pub struct Ending {
     room: Condvar,
     // No frame is being written.
     quiet: Condvar,
+    // The server ends, nothing more is to be told, or all was told.
+    over: Condvar,
     telling: Telling,
 }
 
@@ -174,6 +204,7 @@ impl Drop for Ending {
             told: _,
             room: _,
             quiet: _,
+            over: _,
             telling: _,
         } = self;
     }
@@ -190,13 +221,14 @@ impl Ending {
                 end: None,
                 notes: VecDeque::new(alloc),
                 missed: 0,
-                late: 0,
-                is_quiet: false,
+                is_closed: false,
+                is_told: false,
                 writing: 0,
             }),
             told: Condvar::new(),
             room: Condvar::new(),
             quiet: Condvar::new(),
+            over: Condvar::new(),
             telling,
         }
     }
@@ -206,8 +238,7 @@ impl Ending {
         let mut state = self.state.lock(rt);
         state.count();
         drop(state);
-        self.told.notify_all();
-        self.room.notify_all();
+        self.notify();
     }
 
     /// The server ends so, unless it ended before. It may wait for the lock.
@@ -215,12 +246,18 @@ impl Ending {
         let mut state = self.state.lock(rt);
         state.tell(end);
         drop(state);
+        self.notify();
+    }
+
+    // Something was told that may be the end.
+    fn notify(&self) {
         self.told.notify_all();
         self.room.notify_all();
+        self.over.notify_all();
     }
 
     /// Tells that a line of the input, or the change that it says, is refused, where such are told. It waits until there is room
-    /// for a note more, unless the server ends.
+    /// for a note more, unless the server ends: then it counts as left out.
     pub fn refuse<R: Wait>(&self, rt: &R, line: u64, fault: Fault) {
         if self.telling.changes {
             self.note(rt, Note::Refused(line, fault));
@@ -234,25 +271,20 @@ impl Ending {
         self.telling.events
     }
 
-    /// Tells something that an operator cares for, where such is told. Where there is no room it counts as left out.
+    /// Tells something that an operator cares for, where such is told. Where there is no room, and once the server ends, it counts as
+    /// left out.
     pub fn log<R: Wait>(&self, rt: &R, event: LogEvent) {
         if !self.telling.events {
             drop(event);
             return;
         }
         let mut state = self.state.lock(rt);
-        if state.notes.len() < MOST_NOTES {
-            state.take(Note::Event(event));
-        } else {
-            drop(event);
-            state.miss();
-        }
+        state.take(Note::Event(event));
         drop(state);
         self.told.notify_all();
     }
 
-    /// Tells something. It waits until there is room for a note more, unless the server ends: then it is told as far as a bounded number
-    /// of others wasn't before it, and counted where it isn't.
+    /// Tells something. It waits until there is room for a note more, unless the server ends: then it counts as left out.
     pub fn note<R: Wait>(&self, rt: &R, note: Note) {
         let mut state = self.room_in(rt);
         state.take(note);
@@ -260,10 +292,10 @@ impl Ending {
         self.told.notify_all();
     }
 
-    /// Tells something that there is only once in a while. It waits for no room.
+    /// Tells something that there is only once in a while, also once the server ends, up to [`Ending::close`]. It waits for no room.
     pub fn announce<R: Wait>(&self, rt: &R, note: Note) {
         let mut state = self.state.lock(rt);
-        state.push(note);
+        state.announce(note);
         drop(state);
         self.told.notify_all();
     }
@@ -280,7 +312,8 @@ impl Ending {
         unreachable!()
     }
 
-    /// Waits for what comes next: what is to be told, in order, and behind all of it the end, which stays.
+    /// Waits for what comes next: what is to be told, in order, and behind all of it the end, which stays. Once nothing more is to be
+    /// told, how much was left out since the end comes before it.
     pub fn next<R: Wait>(&self, rt: &R) -> Next {
         let mut state = self.state.lock(rt);
         for _ in rt.forever() {
@@ -329,16 +362,58 @@ impl Ending {
             if state.writing == 0 {
                 return;
             }
-            let Ok(passed) = begun.elapsed(rt) else {
+            let Some(left) = left_of(rt, begun, time) else {
                 return;
             };
-            let left = time.saturating_sub(passed);
-            if left.is_zero() {
-                return;
-            }
             let (next, _) = self.quiet.wait_timeout(rt, state, left);
             state = next;
         }
+    }
+
+    /// From here on nothing more is told but what waits already: what comes is dropped. It may wait for the lock.
+    pub fn close<R: Wait>(&self, rt: &R) {
+        let mut state = self.state.lock(rt);
+        state.is_closed = true;
+        drop(state);
+        self.notify();
+    }
+
+    /// Waits until nothing more is to be told but what waits already.
+    pub fn wait_closed<R: Wait>(&self, rt: &R) {
+        let mut state = self.state.lock(rt);
+        for _ in rt.forever() {
+            if state.is_closed {
+                return;
+            }
+            state = self.over.wait(rt, state);
+        }
+    }
+
+    /// All was told.
+    pub fn all_told<R: Wait>(&self, rt: &R) {
+        let mut state = self.state.lock(rt);
+        state.is_told = true;
+        drop(state);
+        self.over.notify_all();
+    }
+
+    /// Waits until all was told, but no longer than this time. Answers whether it was.
+    pub fn wait_told<R: Wait + Clock>(&self, rt: &R, time: Duration) -> bool {
+        let Ok(begun) = Instant::now(rt) else {
+            return false;
+        };
+        let mut state = self.state.lock(rt);
+        for _ in 0..u64::MAX {
+            if state.is_told {
+                return true;
+            }
+            let Some(left) = left_of(rt, begun, time) else {
+                return false;
+            };
+            let (next, _) = self.over.wait_timeout(rt, state, left);
+            state = next;
+        }
+        false
     }
 
     /// Waits for the end.
@@ -348,8 +423,36 @@ impl Ending {
             if let Some(end) = state.end {
                 return end;
             }
-            state = self.told.wait(rt, state);
+            state = self.over.wait(rt, state);
         }
         unreachable!()
     }
+
+    /// Waits for the end, but no longer than this time; for as long as it takes, where there is no clock.
+    pub fn wait_within<R: Wait + Clock>(&self, rt: &R, time: Duration) -> Option<End> {
+        let Ok(begun) = Instant::now(rt) else {
+            return Some(self.wait(rt));
+        };
+        let mut state = self.state.lock(rt);
+        for _ in 0..u64::MAX {
+            if let Some(end) = state.end {
+                return Some(end);
+            }
+            let Some(left) = left_of(rt, begun, time) else {
+                return None;
+            };
+            let (next, _) = self.over.wait_timeout(rt, state, left);
+            state = next;
+        }
+        None
+    }
+}
+
+// How much is left of a time that began then; none where it has passed, or there is no clock.
+pub(crate) fn left_of<R: Clock>(rt: &R, begun: Instant, time: Duration) -> Option<Duration> {
+    let Ok(passed) = begun.elapsed(rt) else {
+        return None;
+    };
+    let left = time.saturating_sub(passed);
+    if left.is_zero() { None } else { Some(left) }
 }

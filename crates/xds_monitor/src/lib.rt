@@ -4,6 +4,7 @@
 
 pub mod board;
 pub mod cause;
+pub mod counts;
 pub mod doors;
 pub mod ending;
 pub mod fault;
@@ -22,7 +23,9 @@ pub mod response;
 pub mod served;
 pub mod sight;
 mod status_text;
+pub mod stream_status;
 pub mod tapes;
+pub mod turns;
 pub mod watched;
 pub mod weighed;
 mod weights;
@@ -44,6 +47,7 @@ pub use recording::{Piece, Recording};
 pub use reel::{Reel, Seals, UNSEALED};
 pub use response::response_at;
 pub use served::Served;
-pub use tapes::{TapeFault, Unrecordable, tape_line, tapes_in};
+pub use tapes::{TapeFault, Unrecordable, recorded_text, recordings_text, tape_line, tapes_in};
+pub use turns::Turns;
 pub use watched::Watched;
 pub use weighed::{MOST_BYTES, Weighed};

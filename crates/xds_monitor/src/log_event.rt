@@ -1,6 +1,7 @@
 // What an operator cares for of a server, a line each.
-ghost use Rattle.std.specs.Prelude.{◌≡◌, ◌++◌, codes, string_bytes, IfOk};
-ghost use Rattle.xds_monitor.specs.Logging.{log_line, excerpt, shown_char, message_of, level_of, number_text, ended_text, first_text, place_text, rejected_text, event_line, variant_word};
+ghost use Rattle.std.specs.Prelude.{◌≡◌, ◌++◌, codes, string_bytes, IfOk, IfErr};
+ghost use Rattle.xds_resource.specs.declared.refusal.Refusal.TheVariants.{OutOfMemory};
+ghost use Rattle.xds_monitor.specs.Logging.{log_line, excerpt, shown_char, message_of, level_of, ended_text, first_text, number_text, place_text, rejected_text, event_line, variant_word};
 
 use log::{Level, Line, Metadata, Record};
 use std::alloc::Global;
@@ -71,7 +72,8 @@ fn shown_char(c: char) -> char
 /// The beginning of a text that a client sent, as it is shown: at most [`MOST_SHOWN`] characters, with a question mark for each of
 /// control, each quote and each backslash. So it is no more than a part of a line.
 pub fn excerpt(alloc: Global, text: &str) -> Result<String, Refusal>
-    ensures { IfOk result (λ t. string_bytes t ≡ excerpt text.now) }
+    ensures ok { IfOk result (λ t. string_bytes t ≡ excerpt text.now) }
+    ensures refused { IfErr result (λ e. e ≡ OutOfMemory) }
 {
     let mut shown = String::new(alloc);
     for c in text.chars().take(MOST_SHOWN) {

@@ -1,4 +1,8 @@
 // How much a replica holds.
+ghost use Rattle.std.specs.Prelude.{◌≡◌};
+ghost use Rattle.xds_monitor.specs.Looks.{counted_more, held_of};
+
+use crate::numbers::more;
 use xds_core::{Marks, Reply};
 use xds_message::Batch;
 use xds_resource::{Refusal, ResourceType, TypeName, Write};
@@ -25,8 +29,13 @@ pub struct Look {
 }
 
 impl Look {
+    ghost use Rattle.std.specs.Prelude.{◌≡◌};
+    ghost use Rattle.xds_monitor.specs.Looks.{held_at};
+
     /// What is held of a type.
-    pub fn of(&self, kind: TypeName) -> Held {
+    pub fn of(&self, kind: TypeName) -> Held
+        ensures { result ≡ held_at self.now kind }
+    {
         match kind {
             TypeName::Cluster => self.cluster,
             TypeName::Endpoint => self.endpoint,
@@ -37,32 +46,47 @@ impl Look {
     }
 }
 
+// Counts one entry more.
+fn count<T: ResourceType>(held: Held, write: &Write<T>) -> Held
+    ensures { result ≡ counted_more write.now held }
+{
+    let mut held = held;
+    match write.body() {
+        Some(_) => held.resources = more(held.resources),
+        None => held.tombstones = more(held.tombstones),
+    }
+    held
+}
+
 // What is held of a type, by all its entries.
-fn counted<T: ResourceType>(changes: u64, writes: &[Write<T>]) -> Held {
-    let mut resources = 0u64;
-    let mut tombstones = 0u64;
-    for write in writes {
-        if write.body().is_some() {
-            resources = resources.saturating_add(1);
-        } else {
-            tombstones = tombstones.saturating_add(1);
-        }
-    }
-    Held {
+fn held_of<T: ResourceType>(changes: u64, writes: &[Write<T>]) -> Held
+    ensures { result ≡ held_of changes writes.now }
+{
+    let mut held = Held {
         changes,
-        resources,
-        tombstones,
+        resources: 0,
+        tombstones: 0,
+    };
+    for write in writes {
+        held = count(held, write);
     }
+    held
 }
 
 /// How much is held where all entries are these, and there were so many changes.
-pub fn look_of(batch: &Batch, marks: Marks) -> Look {
+pub fn look_of(batch: &Batch, marks: Marks) -> Look
+    ensures cluster { result.cluster ≡ held_of marks.cluster batch.now.cluster }
+    ensures endpoint { result.endpoint ≡ held_of marks.endpoint batch.now.endpoint }
+    ensures listener { result.listener ≡ held_of marks.listener batch.now.listener }
+    ensures route { result.route ≡ held_of marks.route batch.now.route }
+    ensures secret { result.secret ≡ held_of marks.secret batch.now.secret }
+{
     Look {
-        cluster: counted(marks.cluster, batch.cluster.as_slice()),
-        endpoint: counted(marks.endpoint, batch.endpoint.as_slice()),
-        listener: counted(marks.listener, batch.listener.as_slice()),
-        route: counted(marks.route, batch.route.as_slice()),
-        secret: counted(marks.secret, batch.secret.as_slice()),
+        cluster: held_of(marks.cluster, batch.cluster.as_slice()),
+        endpoint: held_of(marks.endpoint, batch.endpoint.as_slice()),
+        listener: held_of(marks.listener, batch.listener.as_slice()),
+        route: held_of(marks.route, batch.route.as_slice()),
+        secret: held_of(marks.secret, batch.secret.as_slice()),
     }
 }
 

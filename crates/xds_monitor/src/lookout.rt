@@ -12,7 +12,7 @@ use std::alloc::Global;
 use std::sync::{Arc, Mutex, Wait};
 use std::time::Instant;
 use xds_core::Reply;
-use xds_ledger::VariantName;
+use xds_ledger::{Outcome, VariantName};
 use xds_message::Draft;
 use xds_resource::Refusal;
 
@@ -26,7 +26,7 @@ pub struct Limits {
 }
 
 /// Where threads note what happens at a replica. It has a lock of its own, which is held for a note at a time, and never while the
-/// node's is taken.
+/// node's is waited for.
 pub struct Lookout {
     alloc: Global,
     /// The place of the replica among those of the server, from 1.
@@ -85,13 +85,9 @@ impl Lookout {
 
     /// A connection came: whether it is served as a stream. If so, it leaves once it ends. None is once the server ends.
     pub fn admit<R: Wait>(&self, rt: &R) -> bool {
-        if self.ending.has_come(rt) {
-            return false;
-        }
-        let mut board = self.board.lock(rt);
-        let is_served = board.doors.admit(self.limits.streams);
-        drop(board);
-        if !is_served && self.ending.logs() {
+        let has_ended = self.ending.has_come(rt);
+        let is_served = self.board.lock(rt).admit(has_ended, self.limits.streams);
+        if !is_served && !has_ended && self.ending.logs() {
             self.log(rt, Ok(LogEvent::TurnedAway(self.replica)));
         }
         is_served
@@ -160,12 +156,12 @@ impl Lookout {
 
     /// The journal was cut.
     pub fn cut<R: Wait>(&self, rt: &R) {
-        self.board.lock(rt).cut(true);
+        self.board.lock(rt).journal.cut(true);
     }
 
     /// The journal couldn't be cut.
     pub fn cut_failed<R: Wait>(&self, rt: &R, refusal: Refusal) {
-        self.board.lock(rt).cut(false);
+        self.board.lock(rt).journal.cut(false);
         if self.ending.logs() {
             self.log(rt, Ok(LogEvent::CutFailed(self.replica, refusal)));
         }
@@ -181,25 +177,21 @@ impl Lookout {
 
     /// A change was refused.
     pub fn refused<R: Wait>(&self, rt: &R) {
-        let mut board = self.board.lock(rt);
-        board.refused = board.refused.saturating_add(1);
+        self.board.lock(rt).refuse();
     }
 
-    /// A poll over HTTP was answered with this status: one that is answered by what is held has left a record.
+    /// A poll over HTTP was answered with this status.
     pub fn polled<R: Wait>(&self, rt: &R, status: u16) {
-        let mut board = self.board.lock(rt);
-        board.rest.count(status);
-        if status == 200 || status == 304 {
-            board.count(false, true);
-        }
+        self.board.lock(rt).rest.count(status);
     }
 
     /// An event that showed this left no record.
     pub fn unrecorded<R: Wait>(&self, rt: &R, sight: &Sight) {
-        self.board.lock(rt).count(is_part(sight), false);
+        self.board.lock(rt).journal.count(is_part(sight), false);
     }
 
-    /// An event that showed this was answered so, about now.
+    /// An event that showed this was answered so, about now. The events of a stream are to be told one after another, as they were
+    /// answered.
     pub fn answered<R: Wait>(
         &self,
         rt: &R,
@@ -207,9 +199,11 @@ impl Lookout {
         answer: &Result<Reply, Refusal>,
         now: Option<Instant>,
     ) {
-        self.board.lock(rt).count(is_part(sight), true);
+        self.board.lock(rt).journal.count(is_part(sight), true);
         match (sight, answer) {
-            (Sight::Request(stream, heard), Ok(_)) => self.heard(rt, *stream, heard),
+            (Sight::Request(stream, heard), Ok(Reply::Answered(outcome))) => {
+                self.heard(rt, *stream, heard, *outcome);
+            }
             (Sight::Poll(stream), Ok(Reply::Polled(Some(draft)))) => {
                 self.responded(rt, *stream, draft, now);
             }
@@ -221,22 +215,20 @@ impl Lookout {
     fn responded<R: Wait>(&self, rt: &R, stream: u64, draft: &Draft, now: Option<Instant>) {
         let mut board = self.board.lock(rt);
         board.polled(now);
-        let _ = board.respond(stream, draft);
+        board.respond(stream, draft);
     }
 
-    fn heard<R: Wait>(&self, rt: &R, stream: u64, heard: &Heard) {
-        let mut board = self.board.lock(rt);
-        let is_first = board.hear(stream, heard).unwrap_or(false);
-        drop(board);
+    fn heard<R: Wait>(&self, rt: &R, stream: u64, heard: &Heard, outcome: Outcome) {
+        let news = self.board.lock(rt).hear(stream, heard, outcome);
         if !self.ending.logs() {
             return;
         }
-        if is_first {
-            self.log(rt, first_request(self.alloc, self.place(stream), heard));
+        let place = self.place(stream);
+        if news.is_first {
+            self.log(rt, first_request(self.alloc, place, heard));
         }
-        if let Some(message) = &heard.rejection {
-            let place = self.place(stream);
-            self.log(rt, rejected(self.alloc, place, heard, message.as_str()));
+        if news.is_rejected {
+            self.log(rt, rejected(self.alloc, place, heard));
         }
     }
 }
@@ -259,12 +251,11 @@ fn first_request(alloc: Global, place: Place, heard: &Heard) -> Result<LogEvent,
     Ok(LogEvent::FirstRequest(place, first))
 }
 
-fn rejected(
-    alloc: Global,
-    place: Place,
-    heard: &Heard,
-    message: &str,
-) -> Result<LogEvent, Refusal> {
+fn rejected(alloc: Global, place: Place, heard: &Heard) -> Result<LogEvent, Refusal> {
+    let message = match &heard.rejection {
+        Some(message) => message.as_str(),
+        None => "",
+    };
     let rejection = Rejection {
         type_url: String::from_str(alloc, heard.type_url.as_str())?,
         nonce: String::from_str(alloc, heard.nonce.as_str())?,

@@ -2,12 +2,12 @@
 ghost use Rattle.std.specs.Prelude.{◌≡◌};
 ghost use Rattle.xds_monitor.specs.Boards.{more};
 
-use crate::board::Counts;
+use crate::counts::Counts;
 use crate::doors::Doors;
 use xds_ledger::VariantName;
 
 // The count once one more has come.
-fn more(count: u64) -> u64
+pub(crate) fn more(count: u64) -> u64
     ensures { result ≡ more count }
 {
     count.saturating_add(1)
@@ -109,6 +109,71 @@ impl StreamCounts {
     }
 }
 
+/// What was counted of a journal.
+#[derive(Clone, Copy, Debug, PartialEq, Eq)]
+pub struct JournalCounts {
+    /// The events that left a record.
+    pub records: u64,
+    /// How often it was cut, and couldn't be.
+    pub cuts: u64,
+    pub failed_cuts: u64,
+    /// The parts that other replicas told, and those that left no record.
+    pub parts: u64,
+    pub lost_parts: u64,
+}
+
+impl JournalCounts {
+    ghost use Rattle.std.specs.Prelude.{◌≡◌, false};
+    ghost use Rattle.xds_monitor.specs.Boards.{cut_after, recorded_after};
+
+    /// Nothing happened.
+    pub fn new() -> JournalCounts
+        ensures { result ≡ record { records = 0; cuts = 0; failed_cuts = 0; parts = 0; lost_parts = 0 } }
+    {
+        JournalCounts {
+            records: 0,
+            cuts: 0,
+            failed_cuts: 0,
+            parts: 0,
+            lost_parts: 0,
+        }
+    }
+
+    /// An event left a record, or none. A part that another replica told may be lost so.
+    pub fn count(&mut self, is_part: bool, left_record: bool)
+        ensures { self.new ≡ recorded_after self.old is_part left_record }
+    {
+        if !left_record {
+            self.lose(is_part);
+            return;
+        }
+        self.records = more(self.records);
+        if is_part {
+            self.parts = more(self.parts);
+        }
+    }
+
+    // An event left no record.
+    fn lose(&mut self, is_part: bool)
+        ensures { self.new ≡ recorded_after self.old is_part false }
+    {
+        if is_part {
+            self.lost_parts = more(self.lost_parts);
+        }
+    }
+
+    /// The journal was cut, or couldn't be.
+    pub fn cut(&mut self, went_well: bool)
+        ensures { self.new ≡ cut_after self.old went_well }
+    {
+        if went_well {
+            self.cuts = more(self.cuts);
+            return;
+        }
+        self.failed_cuts = more(self.failed_cuts);
+    }
+}
+
 /// What was counted of a replica by now.
 #[derive(Clone, Copy, Debug, PartialEq, Eq)]
 pub struct Numbers {
@@ -116,13 +181,7 @@ pub struct Numbers {
     pub streams: StreamCounts,
     pub doors: Doors,
     pub rest: RestCounts,
-    /// The events that left a record.
-    pub records: u64,
-    pub cuts: u64,
-    pub failed_cuts: u64,
-    /// The parts that other replicas told, and those of them that left no record.
-    pub parts: u64,
-    pub lost_parts: u64,
+    pub journal: JournalCounts,
     /// The changes that were refused.
     pub refused: u64,
     /// How many milliseconds after the last change the last response was polled, where one was.

@@ -1,19 +1,13 @@
 // What an operator's port shows of a server, in numbers.
-use crate::board::TypeCounts;
+ghost use Rattle.std.specs.Prelude.{◌≡◌, ◌++◌, codes, string_bytes, IfOk, OnOk};
+ghost use Rattle.xds_monitor.specs.Pages.{counted_number, held_number, labelled, numbers_text, replica_line, type_line, with_all_polls, with_all_streams, with_held, with_journals, with_number, with_numbers_of, with_polls, with_streams, with_types};
+
+use crate::counts::TypeCounts;
 use crate::look::{Held, Look};
 use crate::metrics::{Kind, Metrics};
 use crate::numbers::Numbers;
 use std::alloc::Global;
 use xds_resource::{Refusal, TypeName};
-
-// The types, in the order in which they are shown.
-const TYPES: [TypeName; 5] = [
-    TypeName::Cluster,
-    TypeName::Endpoint,
-    TypeName::Listener,
-    TypeName::Route,
-    TypeName::Secret,
-];
 
 /// A replica in numbers: what it holds, where that is known, and what was counted of it.
 #[derive(Clone, Copy)]
@@ -23,9 +17,9 @@ pub struct Shown {
     pub numbers: Numbers,
 }
 
-// A number of each type.
+/// A number of each type.
 #[derive(Clone, Copy)]
-enum OfType {
+pub enum OfType {
     Changes,
     Resources,
     Tombstones,
@@ -34,62 +28,152 @@ enum OfType {
     Nacks,
 }
 
-fn held_number(of: OfType, held: Held) -> u64 {
-    match of {
-        OfType::Changes => held.changes,
-        OfType::Resources => held.resources,
-        _ => held.tombstones,
+impl OfType {
+    ghost use Rattle.std.specs.Prelude.{◌≡◌};
+    ghost use Rattle.xds_monitor.specs.Pages.{type_kind, type_name};
+
+    // The name that it stands under.
+    fn name(self) -> &'static str
+        ensures { result.now ≡ type_name self }
+    {
+        match self {
+            OfType::Changes => "xds_changes_total",
+            OfType::Resources => "xds_resources",
+            OfType::Tombstones => "xds_tombstones",
+            OfType::Responses => "xds_responses_total",
+            OfType::Acks => "xds_acks_total",
+            OfType::Nacks => "xds_nacks_total",
+        }
+    }
+
+    fn kind(self) -> Kind
+        ensures { result ≡ type_kind self }
+    {
+        match self {
+            OfType::Resources | OfType::Tombstones => Kind::Gauge,
+            OfType::Changes | OfType::Responses | OfType::Acks | OfType::Nacks => Kind::Counter,
+        }
     }
 }
 
-fn counted_number(of: OfType, counts: TypeCounts) -> u64 {
+// What is held of a type, if the number is of that.
+fn held_number(of: OfType, held: Held) -> Option<u64>
+    ensures { result ≡ held_number of held }
+{
     match of {
-        OfType::Responses => counts.responses,
-        OfType::Acks => counts.acks,
-        _ => counts.nacks,
+        OfType::Changes => Some(held.changes),
+        OfType::Resources => Some(held.resources),
+        OfType::Tombstones => Some(held.tombstones),
+        OfType::Responses | OfType::Acks | OfType::Nacks => None,
+    }
+}
+
+// What was counted of a type, if the number is of that.
+fn counted_number(of: OfType, counts: TypeCounts) -> Option<u64>
+    ensures { result ≡ counted_number of counts }
+{
+    match of {
+        OfType::Responses => Some(counts.responses),
+        OfType::Acks => Some(counts.acks),
+        OfType::Nacks => Some(counts.nacks),
+        OfType::Changes | OfType::Resources | OfType::Tombstones => None,
     }
 }
 
 impl Shown {
+    ghost use Rattle.std.specs.Prelude.{◌≡◌};
+    ghost use Rattle.xds_monitor.specs.Pages.{replica_number, type_number};
+
     // A number of a type; none where it isn't known.
-    fn of_type(&self, of: OfType, kind: TypeName) -> Option<u64> {
-        match of {
-            OfType::Changes | OfType::Resources | OfType::Tombstones => match &self.look {
-                Some(look) => Some(held_number(of, look.of(kind))),
-                None => None,
-            },
-            OfType::Responses | OfType::Acks | OfType::Nacks => {
-                Some(counted_number(of, self.numbers.types.of(kind)))
-            }
+    fn of_type(&self, of: OfType, kind: TypeName) -> Option<u64>
+        ensures { result ≡ type_number self.now of kind }
+    {
+        if let Some(value) = counted_number(of, self.numbers.types.of(kind)) {
+            return Some(value);
+        }
+        match &self.look {
+            Some(look) => held_number(of, look.of(kind)),
+            None => None,
         }
     }
+
+    // A number of the replica; none where there is none.
+    fn of_replica(&self, of: OfReplica) -> Option<u64>
+        ensures { result ≡ replica_number self.now of }
+    {
+        let numbers = self.numbers;
+        let journal = numbers.journal;
+        match of {
+            OfReplica::TurnedAway => Some(numbers.doors.turned_away),
+            OfReplica::Records => Some(journal.records),
+            OfReplica::Cuts => Some(journal.cuts),
+            OfReplica::FailedCuts => Some(journal.failed_cuts),
+            OfReplica::Parts => Some(journal.parts),
+            OfReplica::LostParts => Some(journal.lost_parts),
+            OfReplica::Refused => Some(numbers.refused),
+            OfReplica::Lag => numbers.lag,
+        }
+    }
+}
+
+// Adds a number of a type at a replica, if it is known.
+fn add_type(
+    alloc: Global,
+    metrics: &mut Metrics,
+    of: OfType,
+    shown: &Shown,
+    kind: TypeName,
+) -> Result<(), Refusal>
+    ensures { OnOk result (string_bytes metrics.new.text ≡ string_bytes metrics.old.text ++ type_line of shown.now kind) }
+{
+    let Some(value) = shown.of_type(of, kind) else {
+        return Ok(());
+    };
+    add_labelled(
+        alloc,
+        metrics,
+        of.name(),
+        shown.replica,
+        "type",
+        kind.word(),
+        value,
+    )
+}
+
+// Adds a number of each type at a replica.
+fn add_types_of(
+    alloc: Global,
+    metrics: &mut Metrics,
+    of: OfType,
+    shown: &Shown,
+) -> Result<(), Refusal>
+    ensures { OnOk result (string_bytes metrics.new.text ≡ with_types of (string_bytes metrics.old.text) shown.now) }
+{
+    add_type(alloc, metrics, of, shown, TypeName::Cluster)?;
+    add_type(alloc, metrics, of, shown, TypeName::Endpoint)?;
+    add_type(alloc, metrics, of, shown, TypeName::Listener)?;
+    add_type(alloc, metrics, of, shown, TypeName::Route)?;
+    add_type(alloc, metrics, of, shown, TypeName::Secret)
 }
 
 fn add_types(
     alloc: Global,
     metrics: &mut Metrics,
-    name: &str,
-    kind: Kind,
     of: OfType,
     replicas: &[Shown],
-) -> Result<(), Refusal> {
-    metrics.about(name, kind)?;
+) -> Result<(), Refusal>
+    ensures { OnOk result (string_bytes metrics.new.text ≡ with_numbers_of of (string_bytes metrics.old.text) replicas.now) }
+{
+    metrics.about(of.name(), of.kind())?;
     for shown in replicas {
-        let replica = shown.replica;
-        for kind in &TYPES {
-            if let Some(value) = shown.of_type(of, *kind) {
-                let word = kind.word();
-                let labels = format!(in alloc; "replica=\"{replica}\",type=\"{word}\"")?;
-                metrics.add(name, labels.as_str(), value)?;
-            }
-        }
+        add_types_of(alloc, metrics, of, shown)?;
     }
     Ok(())
 }
 
-// A number of each replica.
+/// A number of each replica.
 #[derive(Clone, Copy)]
-enum OfReplica {
+pub enum OfReplica {
     TurnedAway,
     Records,
     Cuts,
@@ -100,38 +184,75 @@ enum OfReplica {
     Lag,
 }
 
-fn replica_number(of: OfReplica, numbers: Numbers) -> Option<u64> {
-    match of {
-        OfReplica::TurnedAway => Some(numbers.doors.turned_away),
-        OfReplica::Records => Some(numbers.records),
-        OfReplica::Cuts => Some(numbers.cuts),
-        OfReplica::FailedCuts => Some(numbers.failed_cuts),
-        OfReplica::Parts => Some(numbers.parts),
-        OfReplica::LostParts => Some(numbers.lost_parts),
-        OfReplica::Refused => Some(numbers.refused),
-        OfReplica::Lag => numbers.lag,
+impl OfReplica {
+    ghost use Rattle.std.specs.Prelude.{◌≡◌};
+    ghost use Rattle.xds_monitor.specs.Pages.{replica_kind, replica_name};
+
+    // The name that it stands under.
+    fn name(self) -> &'static str
+        ensures { result.now ≡ replica_name self }
+    {
+        match self {
+            OfReplica::TurnedAway => "xds_streams_turned_away_total",
+            OfReplica::Records => "xds_records_total",
+            OfReplica::Cuts => "xds_cuts_total",
+            OfReplica::FailedCuts => "xds_cuts_failed_total",
+            OfReplica::Parts => "xds_exchange_parts_total",
+            OfReplica::LostParts => "xds_exchange_lost_total",
+            OfReplica::Refused => "xds_changes_refused_total",
+            OfReplica::Lag => "xds_put_to_last_poll_milliseconds",
+        }
     }
+
+    fn kind(self) -> Kind
+        ensures { result ≡ replica_kind self }
+    {
+        match self {
+            OfReplica::Lag => Kind::Gauge,
+            OfReplica::TurnedAway
+            | OfReplica::Records
+            | OfReplica::Cuts
+            | OfReplica::FailedCuts
+            | OfReplica::Parts
+            | OfReplica::LostParts
+            | OfReplica::Refused => Kind::Counter,
+        }
+    }
+}
+
+// Adds a number of a replica, if there is one.
+fn add_replica(
+    alloc: Global,
+    metrics: &mut Metrics,
+    of: OfReplica,
+    shown: &Shown,
+) -> Result<(), Refusal>
+    ensures { OnOk result (string_bytes metrics.new.text ≡ string_bytes metrics.old.text ++ replica_line of shown.now) }
+{
+    let Some(value) = shown.of_replica(of) else {
+        return Ok(());
+    };
+    let replica = shown.replica;
+    let labels = format!(in alloc; "replica=\"{replica}\"")?;
+    metrics.add(of.name(), labels.as_str(), value)
 }
 
 fn add_replicas(
     alloc: Global,
     metrics: &mut Metrics,
-    name: &str,
-    kind: Kind,
     of: OfReplica,
     replicas: &[Shown],
-) -> Result<(), Refusal> {
-    metrics.about(name, kind)?;
+) -> Result<(), Refusal>
+    ensures { OnOk result (string_bytes metrics.new.text ≡ with_number of (string_bytes metrics.old.text) replicas.now) }
+{
+    metrics.about(of.name(), of.kind())?;
     for shown in replicas {
-        let replica = shown.replica;
-        if let Some(value) = replica_number(of, shown.numbers) {
-            let labels = format!(in alloc; "replica=\"{replica}\"")?;
-            metrics.add(name, labels.as_str(), value)?;
-        }
+        add_replica(alloc, metrics, of, shown)?;
     }
     Ok(())
 }
 
+// Adds a number of a replica with a label more.
 fn add_labelled(
     alloc: Global,
     metrics: &mut Metrics,
@@ -140,186 +261,128 @@ fn add_labelled(
     label: &str,
     word: &str,
     value: u64,
-) -> Result<(), Refusal> {
+) -> Result<(), Refusal>
+    ensures { OnOk result (string_bytes metrics.new.text ≡ string_bytes metrics.old.text ++ labelled name.now replica label.now word.now value) }
+{
     let labels = format!(in alloc; "replica=\"{replica}\",{label}=\"{word}\"")?;
     metrics.add(name, labels.as_str(), value)
 }
 
-fn add_streams(alloc: Global, metrics: &mut Metrics, replicas: &[Shown]) -> Result<(), Refusal> {
-    let name = "xds_streams";
-    metrics.about(name, Kind::Gauge)?;
-    for shown in replicas {
-        let replica = shown.replica;
-        let streams = shown.numbers.streams;
-        add_labelled(
-            alloc,
-            metrics,
-            name,
-            replica,
-            "variant",
-            "sotw",
-            streams.sotw,
-        )?;
-        add_labelled(
-            alloc,
-            metrics,
-            name,
-            replica,
-            "variant",
-            "delta",
-            streams.delta,
-        )?;
-        add_labelled(
-            alloc,
-            metrics,
-            name,
-            replica,
-            "variant",
-            "none",
-            streams.silent,
-        )?;
-    }
-    Ok(())
-}
-
-fn add_polls(alloc: Global, metrics: &mut Metrics, replicas: &[Shown]) -> Result<(), Refusal> {
-    let name = "xds_rest_replies_total";
-    metrics.about(name, Kind::Counter)?;
-    for shown in replicas {
-        let replica = shown.replica;
-        let rest = shown.numbers.rest;
-        add_labelled(alloc, metrics, name, replica, "status", "200", rest.ok)?;
-        add_labelled(
-            alloc,
-            metrics,
-            name,
-            replica,
-            "status",
-            "304",
-            rest.unchanged,
-        )?;
-        add_labelled(alloc, metrics, name, replica, "status", "400", rest.bad)?;
-        add_labelled(
-            alloc,
-            metrics,
-            name,
-            replica,
-            "status",
-            "503",
-            rest.unavailable,
-        )?;
-        add_labelled(alloc, metrics, name, replica, "status", "other", rest.other)?;
-    }
-    Ok(())
-}
-
-fn add_held(alloc: Global, metrics: &mut Metrics, shown: &[Shown]) -> Result<(), Refusal> {
-    let (counter, gauge) = (Kind::Counter, Kind::Gauge);
-    add_types(
+// Adds the open streams of a variant at a replica.
+fn add_variant(
+    alloc: Global,
+    metrics: &mut Metrics,
+    replica: u16,
+    word: &str,
+    value: u64,
+) -> Result<(), Refusal>
+    ensures { OnOk result (string_bytes metrics.new.text ≡ string_bytes metrics.old.text ++ labelled (codes "xds_streams") replica (codes "variant") word.now value) }
+{
+    add_labelled(
         alloc,
         metrics,
-        "xds_changes_total",
-        counter,
-        OfType::Changes,
-        shown,
-    )?;
-    add_types(
-        alloc,
-        metrics,
-        "xds_resources",
-        gauge,
-        OfType::Resources,
-        shown,
-    )?;
-    add_types(
-        alloc,
-        metrics,
-        "xds_tombstones",
-        gauge,
-        OfType::Tombstones,
-        shown,
-    )?;
-    add_types(
-        alloc,
-        metrics,
-        "xds_responses_total",
-        counter,
-        OfType::Responses,
-        shown,
-    )?;
-    add_types(
-        alloc,
-        metrics,
-        "xds_acks_total",
-        counter,
-        OfType::Acks,
-        shown,
-    )?;
-    add_types(
-        alloc,
-        metrics,
-        "xds_nacks_total",
-        counter,
-        OfType::Nacks,
-        shown,
+        "xds_streams",
+        replica,
+        "variant",
+        word,
+        value,
     )
 }
 
-fn add_journal(alloc: Global, metrics: &mut Metrics, shown: &[Shown]) -> Result<(), Refusal> {
-    let c = Kind::Counter;
-    add_replicas(
+// Adds the open streams of a replica.
+fn add_streams_of(alloc: Global, metrics: &mut Metrics, shown: &Shown) -> Result<(), Refusal>
+    ensures { OnOk result (string_bytes metrics.new.text ≡ with_streams (string_bytes metrics.old.text) shown.now) }
+{
+    let streams = shown.numbers.streams;
+    add_variant(alloc, metrics, shown.replica, "sotw", streams.sotw)?;
+    add_variant(alloc, metrics, shown.replica, "delta", streams.delta)?;
+    add_variant(alloc, metrics, shown.replica, "none", streams.silent)
+}
+
+fn add_streams(alloc: Global, metrics: &mut Metrics, replicas: &[Shown]) -> Result<(), Refusal>
+    ensures { OnOk result (string_bytes metrics.new.text ≡ with_all_streams (string_bytes metrics.old.text) replicas.now) }
+{
+    metrics.about("xds_streams", Kind::Gauge)?;
+    for shown in replicas {
+        add_streams_of(alloc, metrics, shown)?;
+    }
+    Ok(())
+}
+
+// Adds the replies to polls over HTTP with a status.
+fn add_status(
+    alloc: Global,
+    metrics: &mut Metrics,
+    replica: u16,
+    word: &str,
+    value: u64,
+) -> Result<(), Refusal>
+    ensures { OnOk result (string_bytes metrics.new.text ≡ string_bytes metrics.old.text ++ labelled (codes "xds_rest_replies_total") replica (codes "status") word.now value) }
+{
+    add_labelled(
         alloc,
         metrics,
-        "xds_records_total",
-        c,
-        OfReplica::Records,
-        shown,
-    )?;
-    add_replicas(alloc, metrics, "xds_cuts_total", c, OfReplica::Cuts, shown)?;
-    add_replicas(
-        alloc,
-        metrics,
-        "xds_cuts_failed_total",
-        c,
-        OfReplica::FailedCuts,
-        shown,
-    )?;
-    add_replicas(
-        alloc,
-        metrics,
-        "xds_exchange_parts_total",
-        c,
-        OfReplica::Parts,
-        shown,
-    )?;
-    add_replicas(
-        alloc,
-        metrics,
-        "xds_exchange_lost_total",
-        c,
-        OfReplica::LostParts,
-        shown,
-    )?;
-    add_replicas(
-        alloc,
-        metrics,
-        "xds_changes_refused_total",
-        c,
-        OfReplica::Refused,
-        shown,
-    )?;
-    let name = "xds_put_to_last_poll_milliseconds";
-    add_replicas(alloc, metrics, name, Kind::Gauge, OfReplica::Lag, shown)
+        "xds_rest_replies_total",
+        replica,
+        "status",
+        word,
+        value,
+    )
+}
+
+// Adds the replies to polls over HTTP of a replica.
+fn add_polls_of(alloc: Global, metrics: &mut Metrics, shown: &Shown) -> Result<(), Refusal>
+    ensures { OnOk result (string_bytes metrics.new.text ≡ with_polls (string_bytes metrics.old.text) shown.now) }
+{
+    let rest = shown.numbers.rest;
+    add_status(alloc, metrics, shown.replica, "200", rest.ok)?;
+    add_status(alloc, metrics, shown.replica, "304", rest.unchanged)?;
+    add_status(alloc, metrics, shown.replica, "400", rest.bad)?;
+    add_status(alloc, metrics, shown.replica, "503", rest.unavailable)?;
+    add_status(alloc, metrics, shown.replica, "other", rest.other)
+}
+
+fn add_polls(alloc: Global, metrics: &mut Metrics, replicas: &[Shown]) -> Result<(), Refusal>
+    ensures { OnOk result (string_bytes metrics.new.text ≡ with_all_polls (string_bytes metrics.old.text) replicas.now) }
+{
+    metrics.about("xds_rest_replies_total", Kind::Counter)?;
+    for shown in replicas {
+        add_polls_of(alloc, metrics, shown)?;
+    }
+    Ok(())
+}
+
+fn add_held(alloc: Global, metrics: &mut Metrics, shown: &[Shown]) -> Result<(), Refusal>
+    ensures { OnOk result (string_bytes metrics.new.text ≡ with_held (string_bytes metrics.old.text) shown.now) }
+{
+    add_types(alloc, metrics, OfType::Changes, shown)?;
+    add_types(alloc, metrics, OfType::Resources, shown)?;
+    add_types(alloc, metrics, OfType::Tombstones, shown)?;
+    add_types(alloc, metrics, OfType::Responses, shown)?;
+    add_types(alloc, metrics, OfType::Acks, shown)?;
+    add_types(alloc, metrics, OfType::Nacks, shown)
+}
+
+fn add_journal(alloc: Global, metrics: &mut Metrics, shown: &[Shown]) -> Result<(), Refusal>
+    ensures { OnOk result (string_bytes metrics.new.text ≡ with_journals (string_bytes metrics.old.text) shown.now) }
+{
+    add_replicas(alloc, metrics, OfReplica::Records, shown)?;
+    add_replicas(alloc, metrics, OfReplica::Cuts, shown)?;
+    add_replicas(alloc, metrics, OfReplica::FailedCuts, shown)?;
+    add_replicas(alloc, metrics, OfReplica::Parts, shown)?;
+    add_replicas(alloc, metrics, OfReplica::LostParts, shown)?;
+    add_replicas(alloc, metrics, OfReplica::Refused, shown)?;
+    add_replicas(alloc, metrics, OfReplica::Lag, shown)
 }
 
 /// All numbers of these replicas, in the text format of Prometheus.
-pub fn numbers_text(alloc: Global, replicas: &[Shown]) -> Result<String, Refusal> {
+pub fn numbers_text(alloc: Global, replicas: &[Shown]) -> Result<String, Refusal>
+    ensures { IfOk result (λ t. string_bytes t ≡ numbers_text replicas.now) }
+{
     let mut metrics = Metrics::new(alloc);
     add_held(alloc, &mut metrics, replicas)?;
     add_streams(alloc, &mut metrics, replicas)?;
-    let away = OfReplica::TurnedAway;
-    let name = "xds_streams_turned_away_total";
-    add_replicas(alloc, &mut metrics, name, Kind::Counter, away, replicas)?;
+    add_replicas(alloc, &mut metrics, OfReplica::TurnedAway, replicas)?;
     add_journal(alloc, &mut metrics, replicas)?;
     add_polls(alloc, &mut metrics, replicas)?;
     Ok(metrics.finish())

@@ -3,11 +3,9 @@ use crate::lookout::Lookout;
 use crate::recorder::Tape;
 use crate::recording::Piece;
 use crate::served::Served;
-use std::alloc::Global;
 use std::sync::{Arc, Wait};
 use xds_core::{Event, Marks, Reply};
 use xds_node::{Due, Host, Unrecorded};
-use xds_polls::HttpReply;
 use xds_resource::Refusal;
 use xds_rest::Posts;
 
@@ -110,15 +108,21 @@ impl<A: Served + Host<Segment: Piece>> Posts for Recorded<A> {
         self.node.post_seat(rt)
     }
 
-    fn post_reply<R: Wait>(
+    fn post_call<R: Wait>(
         &self,
         rt: &R,
-        alloc: Global,
         seat: &mut A::PostSeat,
-        path: &str,
-        body: &[u8],
-    ) -> HttpReply {
-        self.node.post_reply(rt, alloc, seat, path, body)
+        event: Event,
+    ) -> Result<Result<Reply, Refusal>, Unrecorded> {
+        self.node.post_call(rt, seat, event)
+    }
+
+    fn post_cut<R: Wait>(&self, rt: &R) {
+        let _ = self.cut_full(rt);
+    }
+
+    fn post_replied<R: Wait>(&self, rt: &R, status: u16) {
+        self.node.post_replied(rt, status);
     }
 }
 

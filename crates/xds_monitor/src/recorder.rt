@@ -1,4 +1,7 @@
 // A replica's trace, as threads record it.
+ghost use Rattle.std.specs.Prelude.{◌≡◌};
+
+use crate::ending::left_of;
 use crate::recording::{Piece, Recording};
 use crate::reel::{Reel, Seals};
 use std::alloc::Global;
@@ -12,28 +15,21 @@ use xds_resource::Refusal;
 /// A recorder on a file.
 pub type Tape = Recorder<Reel<File>>;
 
-// A recording, and whether it is finished.
-struct State<W> {
-    recording: Recording<W>,
+// How a recording ended before the server did, if it did, and whether it is finished.
+#[derive(Clone, Copy)]
+struct Outcome {
+    ended: Option<Refusal>,
     is_finished: bool,
 }
 
-// Written out: docs/PROVING.md, "Drops".
-impl<W: Drop> Drop for State<W> {
-    fn drop(self) {
-        let State {
-            recording: _,
-            is_finished: _,
-        } = self;
-    }
-}
-
 /// Where the segments of a replica go. A thread that cuts the journal has its lock for as long as it writes, so that segments come
-/// in order, and only one of them is in memory: who fills the journal meanwhile waits.
+/// in order, and only one of them is in memory: who fills the journal meanwhile waits. How it ended lies under a lock of its own, so that
+/// who looks never waits for a write.
 pub struct Recorder<W> {
     alloc: Global,
     replica: u16,
-    state: Mutex<State<W>>,
+    recording: Mutex<Recording<W>>,
+    outcome: Mutex<Outcome>,
     // It is finished.
     finished: Condvar,
 }
@@ -44,7 +40,8 @@ impl<W: Drop> Drop for Recorder<W> {
         let Recorder {
             alloc: _,
             replica: _,
-            state: _,
+            recording: _,
+            outcome: _,
             finished: _,
         } = self;
     }
@@ -56,8 +53,9 @@ impl<W: Write> Recorder<W> {
         Recorder {
             alloc,
             replica,
-            state: Mutex::new(State {
-                recording: Recording::new(writer),
+            recording: Mutex::new(Recording::new(writer)),
+            outcome: Mutex::new(Outcome {
+                ended: None,
                 is_finished: false,
             }),
             finished: Condvar::new(),
@@ -65,7 +63,9 @@ impl<W: Write> Recorder<W> {
     }
 
     /// The number of the replica.
-    pub fn replica(&self) -> u16 {
+    pub fn replica(&self) -> u16
+        ensures { result ≡ self.now.replica }
+    {
         self.replica
     }
 
@@ -76,9 +76,9 @@ impl<W: Write> Recorder<W> {
         rt: &R,
         node: &H,
     ) -> Result<Result<(), Refusal>, Refusal> {
-        let mut state = self.state.lock(rt);
+        let mut recording = self.recording.lock(rt);
         match node.cut(rt) {
-            Ok(segment) => Ok(state.recording.take(self.alloc, &segment)),
+            Ok(segment) => Ok(self.noted(rt, recording.take(self.alloc, &segment))),
             Err(refusal) => Err(refusal),
         }
     }
@@ -89,39 +89,53 @@ impl<W: Write> Recorder<W> {
         rt: &R,
         node: &H,
     ) -> Result<Option<Result<(), Refusal>>, Refusal> {
-        let mut state = self.state.lock(rt);
+        let mut recording = self.recording.lock(rt);
         match node.cut_full(rt) {
-            Ok(Some(segment)) => Ok(Some(state.recording.take(self.alloc, &segment))),
+            Ok(Some(segment)) => {
+                let written = recording.take(self.alloc, &segment);
+                Ok(Some(self.noted(rt, written)))
+            }
             Ok(None) => Ok(None),
             Err(refusal) => Err(refusal),
         }
     }
 
+    // Notes the refusal by which it ended just now, if it did.
+    fn noted<R: Wait>(&self, rt: &R, ended: Result<(), Refusal>) -> Result<(), Refusal>
+        ensures { result ≡ ended }
+    {
+        if let Err(refusal) = ended {
+            self.outcome.lock(rt).ended = Some(refusal);
+        }
+        ended
+    }
+
+    /// The refusal by which it ended, if it did. It waits for no write.
+    pub fn ended<R: Wait>(&self, rt: &R) -> Option<Refusal> {
+        self.outcome.lock(rt).ended
+    }
+
     /// It is finished, and how it ended is told.
     pub fn finish<R: Wait>(&self, rt: &R) {
-        self.state.lock(rt).is_finished = true;
+        self.outcome.lock(rt).is_finished = true;
         self.finished.notify_all();
     }
 
-    /// Waits until it is finished, but no longer than this time. Answers whether it is.
+    /// Waits until it is finished, but no longer than this time, whatever is written meanwhile. Answers whether it is.
     pub fn wait<R: Wait + Clock>(&self, rt: &R, time: Duration) -> bool {
         let Ok(begun) = Instant::now(rt) else {
             return false;
         };
-        let mut state = self.state.lock(rt);
+        let mut outcome = self.outcome.lock(rt);
         for _ in 0..u64::MAX {
-            if state.is_finished {
+            if outcome.is_finished {
                 return true;
             }
-            let Ok(passed) = begun.elapsed(rt) else {
+            let Some(left) = left_of(rt, begun, time) else {
                 return false;
             };
-            let left = time.saturating_sub(passed);
-            if left.is_zero() {
-                return false;
-            }
-            let (next, _) = self.finished.wait_timeout(rt, state, left);
-            state = next;
+            let (next, _) = self.finished.wait_timeout(rt, outcome, left);
+            outcome = next;
         }
         false
     }
@@ -131,23 +145,14 @@ impl<W: Seals> Recorder<W> {
     /// Seals it, where the rest was cut so: whole, or by the refusal of that cut. Answers the refusal by which it ended just now, if it
     /// did.
     pub fn seal<R: Wait>(&self, rt: &R, rest: Result<(), Refusal>) -> Result<(), Refusal> {
-        sealed(&mut self.state.lock(rt).recording, rest)
+        let ended = self.recording.lock(rt).finish(rest);
+        self.noted(rt, ended)
     }
-}
 
-// Ends a recording that hasn't ended.
-fn sealed<W: Seals>(
-    recording: &mut Recording<W>,
-    rest: Result<(), Refusal>,
-) -> Result<(), Refusal> {
-    if recording.end.is_some() {
-        return Ok(());
-    }
-    match rest {
-        Ok(()) => recording.seal(),
-        Err(refusal) => {
-            recording.stop(refusal);
-            Err(refusal)
-        }
+    /// Ends it where what was written is gone. Answers the refusal by which it ended just now, if it did. It may wait for others that
+    /// write.
+    pub fn look<R: Wait>(&self, rt: &R) -> Result<(), Refusal> {
+        let ended = self.recording.lock(rt).look();
+        self.noted(rt, ended)
     }
 }

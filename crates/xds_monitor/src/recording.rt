@@ -1,6 +1,6 @@
 // A replica's trace, as it is recorded segment by segment.
-ghost use Rattle.std.specs.Prelude.{◌≡◌, ◌≢◌, length, None, Some, Err, IsSome, IsOk, IfErr, OnOk};
-ghost use Rattle.xds_resource.specs.declared.refusal.Refusal.TheVariants.{Gap};
+ghost use Rattle.std.specs.Prelude.{◌≡◌, ◌≢◌, ◌⊎◌, length, None, Some, Err, IsSome, IsOk, IfErr, OnOk};
+ghost use Rattle.xds_resource.specs.declared.refusal.Refusal.TheVariants.{Device, Gap};
 ghost use Rattle.xds_frames.specs.Devices.{seen};
 ghost use Rattle.xds_trace.specs.Texts.{records_text, WritesText};
 ghost use Rattle.xds_monitor.specs.Recordings.{next_after, ended_by};
@@ -60,11 +60,11 @@ impl<N: NodeName> Piece for Segment<N> {
 
 /// A trace that is recorded, and how far it is.
 pub struct Recording<W> {
-    pub writer: Counted<W>,
-    /// The number of the record that comes next.
-    pub next: u64,
-    /// How it ended, if it did: whole, or by a refusal.
-    pub end: Option<Result<(), Refusal>>,
+    writer: Counted<W>,
+    // The number of the record that comes next.
+    next: u64,
+    // How it ended, if it did: whole, or by a refusal.
+    end: Option<Result<(), Refusal>>,
 }
 
 // Written out: docs/PROVING.md, "Drops".
@@ -91,11 +91,25 @@ impl<W: Write> Recording<W> {
         }
     }
 
+    /// What is written to.
+    pub fn writer(&self) -> &W
+        ensures { result.now ≡ self.now.writer.inner }
+    {
+        &self.writer.inner
+    }
+
+    /// How it ended, if it did: whole, or by a refusal.
+    pub fn end(&self) -> Option<Result<(), Refusal>>
+        ensures { result ≡ self.now.end }
+    {
+        self.end
+    }
+
     /// Writes the records of a segment, unless it has ended. `Gap` where the segment isn't the next one, and nothing is written; else
     /// refused as `Piece::write`. By each refusal it ends.
     pub fn take<P: Piece>(&mut self, alloc: Global, piece: &P) -> Result<(), Refusal>
-        ensures over { IsSome self.old.end → IsOk result }
-        ensures gap { self.old.end ≡ None → P.number piece.now ≢ self.old.next → result ≡ Err Gap }
+        ensures over { IsSome self.old.end → IsOk result × (self.new ≡ self.old) }
+        ensures gap { self.old.end ≡ None → P.number piece.now ≢ self.old.next → (result ≡ Err Gap) × (self.new.writer ≡ self.old.writer) }
         ensures taken { self.old.end ≡ None → P.number piece.now ≡ self.old.next
             → WritesText (seen W.contents self.old.writer self.new.writer) (records_text (P.records piece.now)) result }
         ensures next { OnOk result (self.old.end ≡ None → self.new.next ≡ next_after self.old.next (length (P.records piece.now))) }
@@ -116,7 +130,7 @@ impl<W: Write> Recording<W> {
 
     // Writes the records of a segment that is the next one.
     fn put<P: Piece>(&mut self, alloc: Global, piece: &P) -> Result<(), Refusal>
-        ensures gap { P.number piece.now ≢ self.old.next → result ≡ Err Gap }
+        ensures gap { P.number piece.now ≢ self.old.next → (result ≡ Err Gap) × (self.new.writer ≡ self.old.writer) }
         ensures taken { P.number piece.now ≡ self.old.next
             → WritesText (seen W.contents self.old.writer self.new.writer) (records_text (P.records piece.now)) result }
         ensures next { OnOk result (self.new.next ≡ next_after self.old.next (length (P.records piece.now))) }
@@ -134,29 +148,66 @@ impl<W: Write> Recording<W> {
         }
     }
 
-    /// Ends it by this refusal, unless it has ended.
-    pub fn stop(&mut self, refusal: Refusal)
+    /// Ends it by this refusal, unless it has ended. Answers the refusal, where it ends by it. Nothing is written.
+    pub fn stop(&mut self, refusal: Refusal) -> Result<(), Refusal>
+        ensures over { IsSome self.old.end → IsOk result }
+        ensures ended { self.old.end ≡ None → result ≡ Err refusal }
         ensures end { self.new.end ≡ ended_by self.old.end (Err refusal) }
+        ensures writer { self.new.writer ≡ self.old.writer }
     {
-        if self.end.is_none() {
-            self.end = Some(Err(refusal));
+        if self.end.is_some() {
+            return Ok(());
         }
+        self.end = Some(Err(refusal));
+        Err(refusal)
     }
 }
 
 impl<W: Seals> Recording<W> {
-    /// Ends it whole, unless it has ended, and answers how it ended: by `Device` where it can't be sealed.
-    pub fn seal(&mut self) -> Result<(), Refusal>
+    /// Ends it, unless it has ended, where the rest was cut so: whole, or by the refusal of that cut; and by `Device` where it can't be
+    /// sealed, or what was written is gone. Answers the refusal by which it ends just now, if it does. Nothing is written by a cut that
+    /// was refused, nor to one that has ended.
+    pub fn finish(&mut self, rest: Result<(), Refusal>) -> Result<(), Refusal>
+        ensures over { IsSome self.old.end → IsOk result × (self.new ≡ self.old) }
+        ensures refused { self.old.end ≡ None → IfErr rest (λ e. (result ≡ Err e) × (self.new.writer ≡ self.old.writer)) }
+        ensures sealed { self.old.end ≡ None → IfErr result (λ e. (rest ≡ Err e) ⊎ (e ≡ Device)) }
         ensures end { self.new.end ≡ ended_by self.old.end result }
     {
-        if let Some(end) = self.end {
-            return end;
+        if self.end.is_some() {
+            return Ok(());
         }
-        let end = match self.writer.inner.seal() {
-            Ok(()) => Ok(()),
-            Err(_) => Err(Refusal::Device),
+        let end = match rest {
+            Ok(()) => self.sealed(),
+            Err(refusal) => Err(refusal),
         };
         self.end = Some(end);
         end
+    }
+
+    // Seals what was written. `Device` where that fails, or it is gone.
+    fn sealed(&mut self) -> Result<(), Refusal>
+        ensures refused { IfErr result (λ e. e ≡ Device) }
+        ensures end { self.new.end ≡ self.old.end }
+    {
+        if !self.writer.inner.is_there() {
+            return Err(Refusal::Device);
+        }
+        match self.writer.inner.seal() {
+            Ok(()) => Ok(()),
+            Err(_) => Err(Refusal::Device),
+        }
+    }
+
+    /// Ends it by `Device`, unless it has ended, where what was written is gone. Answers the refusal by which it ends just now, if it
+    /// does. Nothing is written.
+    pub fn look(&mut self) -> Result<(), Refusal>
+        ensures refused { IfErr result (λ e. (e ≡ Device) × (self.new.end ≡ Some (Err e))) }
+        ensures goes_on { OnOk result (self.new.end ≡ self.old.end) }
+        ensures writer { self.new.writer ≡ self.old.writer }
+    {
+        if self.writer.inner.is_there() {
+            return Ok(());
+        }
+        self.stop(Refusal::Device)
     }
 }

@@ -2,6 +2,7 @@
 use std::fs::OpenFile;
 use std::io;
 use std::io::{Seek, SeekFrom, Write};
+use std::os::unix::fs::MetadataExt;
 
 /// What stands in a file in place of its first byte, until it is sealed. No line of a trace begins so.
 pub const UNSEALED: u8 = b'?';
@@ -10,6 +11,11 @@ pub const UNSEALED: u8 = b'?';
 pub trait Seals: Write {
     /// From here on it passes for what was written.
     fn seal(&mut self) -> io::Result<()>;
+
+    /// Whether what was written is still to be found.
+    fn is_there(&self) -> bool {
+        true
+    }
 }
 
 /// A file, and the first byte that was written to it, which the file has in its place only once it is sealed. Until then it has a
@@ -74,6 +80,14 @@ impl<F: Write + Seek + OpenFile> Seals for Reel<F> {
                 self.file.flush()
             }
             None => self.file.set_len(0),
+        }
+    }
+
+    // A file that stands in no folder any more has no links left.
+    fn is_there(&self) -> bool {
+        match self.file.metadata() {
+            Ok(file) => file.nlink() > 0,
+            Err(_) => false,
         }
     }
 }

@@ -1,9 +1,13 @@
-// What is known of the streams of a replica, as JSON. No text in it has a quote, a backslash or a character of control: those of clients
-// are excerpts, and the server's own have none.
-use crate::board::{Board, StreamStatus, TypeStatus};
+// What is known of the streams of a replica, as JSON. Each text in it is written with its escapes.
+ghost use Rattle.std.specs.Prelude.{◌≡◌, string_bytes, IfOk, OnOk};
+ghost use Rattle.xds_monitor.specs.Statuses.{client_json, quoted, stream_json, type_json, types_json, variant_word, with_comma};
+
+use crate::board::Board;
+use crate::stream_status::{StreamStatus, TypeStatus, TypeStatuses};
+use serde_json::Value;
 use std::alloc::Global;
 use xds_ledger::VariantName;
-use xds_resource::Refusal;
+use xds_resource::{Refusal, TypeName};
 
 /// The open streams, as a list.
 pub(crate) fn streams_text(alloc: Global, board: &Board) -> Result<String, Refusal> {
@@ -14,15 +18,25 @@ pub(crate) fn streams_text(alloc: Global, board: &Board) -> Result<String, Refus
             text.push_str(",")?;
         }
         is_first = false;
-        let one = stream_text(alloc, *stream, status)?;
+        let types = types_text(alloc, &status.types)?;
+        let one = stream_text(alloc, *stream, status, types.as_str())?;
         text.push_str(one.as_str())?;
     }
     text.push_str("]")?;
     Ok(text)
 }
 
+// A text in quotes, with its escapes.
+fn quoted(alloc: Global, text: &str) -> Result<String, Refusal>
+    ensures { IfOk result (λ t. string_bytes t ≡ quoted text.now) }
+{
+    Ok(Value::try_from_str(alloc, text)?.to_string(alloc)?)
+}
+
 // The variant in a word; an empty one before the first request.
-fn variant_word(variant: Option<VariantName>) -> &'static str {
+fn variant_word(variant: Option<VariantName>) -> &'static str
+    ensures { result.now ≡ variant_word variant }
+{
     match variant {
         Some(VariantName::StateOfTheWorld) => "sotw",
         Some(VariantName::Delta) => "delta",
@@ -30,37 +44,92 @@ fn variant_word(variant: Option<VariantName>) -> &'static str {
     }
 }
 
-fn stream_text(alloc: Global, stream: u64, status: &StreamStatus) -> Result<String, Refusal> {
-    let peer = status.peer.as_str();
-    let node = status.node.as_str();
-    let cluster = status.cluster.as_str();
+fn stream_text(
+    alloc: Global,
+    stream: u64,
+    status: &StreamStatus,
+    types: &str,
+) -> Result<String, Refusal>
+    ensures { IfOk result (λ t. string_bytes t ≡ stream_json stream status.now types.now) }
+{
+    let client = client_text(alloc, status)?;
+    let client = client.as_str();
     let variant = variant_word(status.variant);
-    let types = types_text(alloc, status.types.as_slice())?;
-    let types = types.as_str();
     Ok(format!(in alloc;
-        "{{\"stream\":{stream},\"peer\":\"{peer}\",\"node\":\"{node}\",\"cluster\":\"{cluster}\",\"variant\":\"{variant}\",\"types\":[{types}]}}"
+        "{{\"stream\":{stream},{client},\"variant\":\"{variant}\",\"types\":[{types}]}}"
     )?)
 }
 
-fn types_text(alloc: Global, types: &[TypeStatus]) -> Result<String, Refusal> {
+// What is shown of a stream's client.
+fn client_text(alloc: Global, status: &StreamStatus) -> Result<String, Refusal>
+    ensures { IfOk result (λ t. string_bytes t ≡ client_json status.now) }
+{
+    let peer = quoted(alloc, status.peer.as_str())?;
+    let peer = peer.as_str();
+    let node = quoted(alloc, status.node.as_str())?;
+    let node = node.as_str();
+    let cluster = quoted(alloc, status.cluster.as_str())?;
+    let cluster = cluster.as_str();
+    Ok(format!(in alloc; "\"peer\":{peer},\"node\":{node},\"cluster\":{cluster}")?)
+}
+
+// The types that a stream asked for.
+fn types_text(alloc: Global, types: &TypeStatuses) -> Result<String, Refusal> {
     let mut text = String::new(alloc);
-    for status in types {
-        if !text.as_str().is_empty() {
-            text.push_str(",")?;
-        }
-        let one = type_text(alloc, status)?;
-        text.push_str(one.as_str())?;
+    let kinds = [
+        TypeName::Cluster,
+        TypeName::Endpoint,
+        TypeName::Listener,
+        TypeName::Route,
+        TypeName::Secret,
+    ];
+    for kind in &kinds {
+        push_type(alloc, &mut text, *kind, types.of(*kind))?;
     }
     Ok(text)
 }
 
-fn type_text(alloc: Global, status: &TypeStatus) -> Result<String, Refusal> {
-    let kind = status.kind.word();
+// Appends what is shown of a type, if the stream asked for it.
+fn push_type(
+    alloc: Global,
+    text: &mut String,
+    kind: TypeName,
+    status: &TypeStatus,
+) -> Result<(), Refusal>
+    ensures { OnOk result (string_bytes text.new ≡ types_json (string_bytes text.old) kind status.now) }
+{
+    if !status.is_asked {
+        return Ok(());
+    }
+    let one = type_text(alloc, kind, status)?;
+    push_comma(text)?;
+    text.push_str(one.as_str())?;
+    Ok(())
+}
+
+// Appends a comma, where something stands before.
+fn push_comma(text: &mut String) -> Result<(), Refusal>
+    ensures { OnOk result (string_bytes text.new ≡ with_comma (string_bytes text.old)) }
+{
+    if text.as_str().is_empty() {
+        return Ok(());
+    }
+    text.push_str(",")?;
+    Ok(())
+}
+
+fn type_text(alloc: Global, kind: TypeName, status: &TypeStatus) -> Result<String, Refusal>
+    ensures { IfOk result (λ t. string_bytes t ≡ type_json kind status.now) }
+{
+    let kind = kind.word();
     let names = status.names;
-    let sent = status.sent.as_str();
-    let accepted = status.accepted.as_str();
-    let rejection = status.rejection.as_str();
+    let sent = quoted(alloc, status.sent.as_str())?;
+    let sent = sent.as_str();
+    let accepted = quoted(alloc, status.accepted.as_str())?;
+    let accepted = accepted.as_str();
+    let rejection = quoted(alloc, status.rejection.as_str())?;
+    let rejection = rejection.as_str();
     Ok(format!(in alloc;
-        "{{\"type\":\"{kind}\",\"names\":{names},\"sent\":\"{sent}\",\"accepted\":\"{accepted}\",\"rejection\":\"{rejection}\"}}"
+        "{{\"type\":\"{kind}\",\"names\":{names},\"sent\":{sent},\"accepted\":{accepted},\"rejection\":{rejection}}}"
     )?)
 }

@@ -1,7 +1,8 @@
 // The files that the traces of a server's replicas are recorded in.
-ghost use Rattle.std.specs.Prelude.{◌≡◌, string_bytes, IfOk};
-ghost use Rattle.xds_monitor.specs.Recordings.{tape_fault_text, tape_line, tape_path};
+ghost use Rattle.std.specs.Prelude.{◌≡◌, ◌++◌, string_bytes, IfOk, OnOk};
+ghost use Rattle.xds_monitor.specs.Recordings.{ended_sample, recorded_text, recordings_text, tape_fault_text, tape_line, tape_path};
 
+use crate::metrics::{Kind, Metrics};
 use crate::recorder::{Recorder, Tape};
 use crate::reel::Reel;
 use std::alloc::Global;
@@ -78,6 +79,46 @@ pub fn tape_line(
     let path = path.as_str();
     let why = fault.text();
     Ok(format!(in alloc; "{path}: 19 Device{why}\n")?)
+}
+
+/// What is shown of a replica's recording, as a field of JSON with a comma behind it: that it goes on, or the refusal by which it ended.
+pub fn recorded_text(alloc: Global, ended: Option<Refusal>) -> Result<String, Refusal>
+    ensures { IfOk result (λ t. string_bytes t ≡ recorded_text ended) }
+{
+    let Some(refusal) = ended else {
+        return Ok(String::from_str(alloc, "\"recording\":\"goes on\",")?);
+    };
+    let number = refusal.number();
+    let name = refusal.name();
+    Ok(format!(in alloc; "\"recording\":\"{number} {name}\",")?)
+}
+
+// The name of the number of recordings that ended.
+const ENDED: &str = "xds_recordings_ended_total";
+
+/// How many recordings ended by a refusal, of each of these replicas, in the text format of Prometheus.
+pub fn recordings_text(alloc: Global, ended: &[(u16, bool)]) -> Result<String, Refusal>
+    ensures { IfOk result (λ t. string_bytes t ≡ recordings_text ended.now) }
+{
+    let mut metrics = Metrics::new(alloc);
+    metrics.about(ENDED, Kind::Counter)?;
+    for shown in ended {
+        add_recording(alloc, &mut metrics, shown.0, shown.1)?;
+    }
+    Ok(metrics.finish())
+}
+
+// Adds the number of a replica.
+fn add_recording(
+    alloc: Global,
+    metrics: &mut Metrics,
+    replica: u16,
+    has_ended: bool,
+) -> Result<(), Refusal>
+    ensures { OnOk result (string_bytes metrics.new.text ≡ string_bytes metrics.old.text ++ ended_sample (replica, has_ended)) }
+{
+    let labels = format!(in alloc; "replica=\"{replica}\"")?;
+    metrics.add(ENDED, labels.as_str(), u64::from(has_ended))
 }
 
 /// The tapes of so many replicas, in new files of a folder. Where one can't be made, those before it are taken away again.

@@ -1,22 +1,27 @@
 // A replica whose events are noted for those who look.
+ghost use Rattle.std.specs.Prelude.{◌≡◌};
+ghost use Rattle.xds_monitor.specs.Boards.{stream_of};
+
 use crate::lookout::Lookout;
 use crate::served::Served;
-use crate::sight::sight_of;
+use crate::sight::{Sight, sight_of};
+use crate::turns::Turns;
 use std::alloc::Global;
-use std::sync::{Arc, Wait};
+use std::sync::{Arc, MutexGuard, Wait};
 use std::time::{Clock, Instant};
 use xds_core::{Event, Marks, Reply};
 use xds_node::{Due, Host, Unrecorded};
-use xds_polls::HttpReply;
 use xds_resource::Refusal;
 use xds_rest::Posts;
 
-/// A replica of which each event is noted, once it was answered, outside of the node's lock.
+/// A replica of which each event is noted, once it was answered, outside of the node's lock. The requests and the polls of a stream are
+/// noted in the order in which the node answers them: each call of a stream waits until the one before is noted.
 pub struct Watched<A, C> {
     node: A,
     alloc: Global,
     clock: C,
     lookout: Arc<Lookout>,
+    turns: Turns,
 }
 
 // Written out: docs/PROVING.md, "Drops".
@@ -27,18 +32,59 @@ impl<A: Drop, C: Drop> Drop for Watched<A, C> {
             alloc: _,
             clock: _,
             lookout: _,
+            turns: _,
         } = self;
     }
 }
 
 impl<A: Served, C: Clock> Watched<A, C> {
-    pub fn new(alloc: Global, node: A, clock: C, lookout: Arc<Lookout>) -> Watched<A, C> {
+    /// A replica whose events are noted at this lookout, those of a stream by its turns, which nobody else takes.
+    pub fn new(
+        alloc: Global,
+        node: A,
+        clock: C,
+        lookout: Arc<Lookout>,
+        turns: Turns,
+    ) -> Watched<A, C> {
         Watched {
             node,
             alloc,
             clock,
             lookout,
+            turns,
         }
+    }
+
+    // The turn of an event's stream, if the event is one of which the order is noted.
+    fn turn<R: Wait>(&self, rt: &R, sight: &Sight) -> Option<MutexGuard<'_, ()>> {
+        let stream = stream_of(sight)?;
+        self.turns.take(rt, stream)
+    }
+
+    fn note<R: Wait>(
+        &self,
+        rt: &R,
+        sight: &Sight,
+        answer: &Result<Result<Reply, Refusal>, Unrecorded>,
+    ) {
+        match answer {
+            Ok(answer) => {
+                let now = Instant::now(&self.clock).ok();
+                self.lookout.answered(rt, sight, answer, now);
+            }
+            Err(_) => self.lookout.unrecorded(rt, sight),
+        }
+    }
+}
+
+// The stream whose request or poll an event is, if it is one.
+fn stream_of(sight: &Sight) -> Option<u64>
+    ensures { result ≡ stream_of sight.now }
+{
+    match sight {
+        Sight::Request(stream, _) => Some(*stream),
+        Sight::Poll(stream) => Some(*stream),
+        Sight::Change | Sight::Part | Sight::Other => None,
     }
 }
 
@@ -58,14 +104,10 @@ impl<A: Served, C: Clock> Host for Watched<A, C> {
         event: Event,
     ) -> Result<Result<Reply, Refusal>, Unrecorded> {
         let sight = sight_of(self.alloc, &event);
+        let turn = self.turn(rt, &sight);
         let answer = self.node.call(rt, seat, event);
-        match &answer {
-            Ok(answer) => {
-                let now = Instant::now(&self.clock).ok();
-                self.lookout.answered(rt, &sight, answer, now);
-            }
-            Err(_) => self.lookout.unrecorded(rt, &sight),
-        }
+        self.note(rt, &sight, &answer);
+        drop(turn);
         drop(sight);
         answer
     }
@@ -117,17 +159,23 @@ impl<A: Served, C: Clock> Posts for Watched<A, C> {
         self.node.post_seat(rt)
     }
 
-    fn post_reply<R: Wait>(
+    fn post_call<R: Wait>(
         &self,
         rt: &R,
-        alloc: Global,
         seat: &mut A::PostSeat,
-        path: &str,
-        body: &[u8],
-    ) -> HttpReply {
-        let reply = self.node.post_reply(rt, alloc, seat, path, body);
-        self.lookout.polled(rt, reply.status);
-        reply
+        event: Event,
+    ) -> Result<Result<Reply, Refusal>, Unrecorded> {
+        let answer = self.node.post_call(rt, seat, event);
+        self.note(rt, &Sight::Other, &answer);
+        answer
+    }
+
+    fn post_cut<R: Wait>(&self, rt: &R) {
+        let _ = self.cut_full(rt);
+    }
+
+    fn post_replied<R: Wait>(&self, rt: &R, status: u16) {
+        self.lookout.polled(rt, status);
     }
 }
 

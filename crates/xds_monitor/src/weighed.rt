@@ -4,11 +4,11 @@ use crate::weights::{answer_weight, event_weight, written_weight};
 use std::alloc::Global;
 use std::sync::{Mutex, Wait};
 use xds_core::{Event, Marks, Reply};
-use xds_http::Replies;
+use xds_http::{Replies, Seats};
 use xds_node::{Due, Host, Unrecorded};
 use xds_polls::HttpReply;
 use xds_resource::Refusal;
-use xds_rest::Posts;
+use xds_rest::{Posts, reply_at};
 
 /// About how many bytes the records of a journal may take: 4 MiB. A journal with more of them is cut, whatever its length.
 pub const MOST_BYTES: u64 = 4_194_304;
@@ -127,19 +127,6 @@ impl<A: Served> Host for Weighed<A> {
     }
 }
 
-// What a name of one letter takes in memory, at most, for each byte of the text that it came in.
-const NAMES: u64 = 16;
-
-// The record of a poll isn't seen here, so it counts by its texts. Of a trace it is no line.
-fn poll_weight(body: &[u8], reply: &HttpReply) -> u64 {
-    let asked = (body.len() as u64).saturating_mul(NAMES);
-    let stated = match &reply.body {
-        Some(text) => text.as_str().len() as u64,
-        None => 0,
-    };
-    asked.saturating_add(stated / 4).saturating_add(NAMES)
-}
-
 impl<A: Served> Posts for Weighed<A> {
     type PostSeat = A::PostSeat;
 
@@ -151,34 +138,36 @@ impl<A: Served> Posts for Weighed<A> {
         self.node.post_seat(rt)
     }
 
-    fn post_reply<R: Wait>(
+    fn post_call<R: Wait>(
         &self,
         rt: &R,
-        alloc: Global,
         seat: &mut A::PostSeat,
-        path: &str,
-        body: &[u8],
-    ) -> HttpReply {
-        let reply = self.node.post_reply(rt, alloc, seat, path, body);
-        self.count(rt, poll_weight(body, &reply));
-        reply
+        event: Event,
+    ) -> Result<Result<Reply, Refusal>, Unrecorded> {
+        let asked = event_weight(self.alloc, &event);
+        let answer = self.node.post_call(rt, seat, event);
+        if let Ok(answer) = &answer {
+            self.count(rt, asked.saturating_add(self.answer_weight(answer)));
+        }
+        answer
+    }
+
+    fn post_cut<R: Wait>(&self, rt: &R) {
+        let _ = self.cut_full(rt);
+    }
+
+    fn post_replied<R: Wait>(&self, rt: &R, status: u16) {
+        self.node.post_replied(rt, status);
     }
 }
 
 impl<A: Served> Replies for Weighed<A> {
-    ghost use Rattle.std.specs.Prelude.{◌≡◌, codes};
-    ghost use Rattle.xds_node.specs.Told.{no_calls};
+    ghost use Rattle.std.specs.Prelude.{codes};
     ghost use Rattle.xds_rest.specs.Posted.{IsReplyOrUnavailable};
 
     type Seat = A::PostSeat;
 
-    ghost fresh = { λ s. A.calls s ≡ no_calls };
-
     ghost replies = { λ old new path body r. IsReplyOrUnavailable A.replica (codes "POST") path body (A.calls old) (A.calls new) r };
-
-    fn seat<R: Wait>(&self, rt: &R) -> Result<A::PostSeat, Refusal> {
-        self.post_seat(rt)
-    }
 
     fn reply<R: Wait>(
         &self,
@@ -188,7 +177,20 @@ impl<A: Served> Replies for Weighed<A> {
         path: &str,
         body: &[u8],
     ) -> HttpReply {
-        self.post_reply(rt, alloc, seat, path, body)
+        let reply = reply_at(rt, alloc, self, seat, "POST", path, body);
+        self.post_replied(rt, reply.status);
+        reply
+    }
+}
+
+impl<A: Served> Seats for Weighed<A> {
+    ghost use Rattle.std.specs.Prelude.{◌≡◌};
+    ghost use Rattle.xds_node.specs.Told.{no_calls};
+
+    ghost fresh = { λ s. A.calls s ≡ no_calls };
+
+    fn seat<R: Wait>(&self, rt: &R) -> Result<A::PostSeat, Refusal> {
+        self.post_seat(rt)
     }
 }
 

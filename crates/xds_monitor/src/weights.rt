@@ -12,6 +12,9 @@ const PLACE: u64 = 64;
 // the same, and stands in the journal once for each of them.
 const SHARED: u64 = 1;
 
+// What it counts in a list of its own, as in the response to a poll over HTTP.
+const POINTER: u64 = 16;
+
 /// About how many bytes an event keeps in a journal. A body counts whole, since the replica may let go of it before the
 /// journal does.
 pub(crate) fn event_weight(alloc: Global, event: &Event) -> u64 {
@@ -92,7 +95,7 @@ fn draft_weight(draft: &Draft) -> u64 {
 
 fn rested_weight(draft: &Option<SotwDraft>) -> u64 {
     match draft {
-        Some(draft) => sotw_weight(draft),
+        Some(draft) => places(draft.bodies().len(), POINTER),
         None => PLACE,
     }
 }

@@ -9,11 +9,12 @@ ghost use Rattle.xds_rest.specs.Replies.{http_of};
 ghost use Rattle.xds_rest.specs.Posted.{IsRest, IsToldReply, IsToldNoReply, IsReplyAt, LeavesNoReply, IsTriedReply, IsTriedNoReply, IsReplyByCutting, LeavesNoReplyByCutting, IsReplyOrUnavailable};
 
 use crate::post::{Asked, ask};
+use crate::posts::Posts;
 use crate::reply::reply_of;
 use std::alloc::Global;
 use std::sync::Wait;
 use xds_core::{Event, Reply};
-use xds_node::{Node, NodeName, Seat, Unrecorded};
+use xds_node::Unrecorded;
 use xds_polls::HttpReply;
 use xds_resource::Refusal;
 
@@ -30,18 +31,18 @@ fn reply_by_answer(alloc: Global, answer: &Result<Reply, Refusal>) -> Result<Htt
 }
 
 // The reply of a node that is asked by a poll.
-fn reply_by_call<R: Wait, N: NodeName>(
+fn reply_by_call<R: Wait, P: Posts>(
     rt: &R,
     alloc: Global,
-    node: &Node<N>,
-    seat: &mut Seat<N>,
+    node: &P,
+    seat: &mut P::PostSeat,
     event: Event,
 ) -> Result<HttpReply, Refusal>
     requires { IsRest (event_of event) }
-    ensures ok { IfOk result (λ r. IsToldReply N.replica seat.old seat.new (event_of event) r) }
-    ensures refused { IfErr result (λ e. IsToldNoReply N.replica seat.old seat.new (event_of event) e) }
+    ensures ok { IfOk result (λ r. IsToldReply P.replica (P.calls seat.old) (P.calls seat.new) (event_of event) r) }
+    ensures refused { IfErr result (λ e. IsToldNoReply P.replica (P.calls seat.old) (P.calls seat.new) (event_of event) e) }
 {
-    match node.call(rt, seat, event) {
+    match node.post_call(rt, seat, event) {
         Ok(answer) => reply_by_answer(alloc, &answer),
         Err(unrecorded) => Err(unrecorded.refusal),
     }
@@ -51,17 +52,17 @@ fn reply_by_call<R: Wait, N: NodeName>(
 /// [`reply_of`](crate::reply::reply_of) around one call. JSON is read and written outside the node's lock. Refused is `JournalFull`,
 /// and then the seat was told nothing; or `OutOfMemory`, and then the seat was told nothing or that one call. It may wait for the
 /// lock.
-pub fn answer_at<R: Wait, N: NodeName>(
+pub fn answer_at<R: Wait, P: Posts>(
     rt: &R,
     alloc: Global,
-    node: &Node<N>,
-    seat: &mut Seat<N>,
+    node: &P,
+    seat: &mut P::PostSeat,
     method: &str,
     path: &str,
     body: &[u8],
 ) -> Result<HttpReply, Refusal>
-    ensures ok { IfOk result (λ r. IsReplyAt N.replica method.now path.now body.now seat.old seat.new r) }
-    ensures refused { IfErr result (λ e. LeavesNoReply N.replica method.now path.now body.now seat.old seat.new e) }
+    ensures ok { IfOk result (λ r. IsReplyAt P.replica method.now path.now body.now (P.calls seat.old) (P.calls seat.new) r) }
+    ensures refused { IfErr result (λ e. LeavesNoReply P.replica method.now path.now body.now (P.calls seat.old) (P.calls seat.new) e) }
 {
     match ask(alloc, method, path, body)? {
         Asked::Finished(reply) => Ok(reply),
@@ -77,42 +78,42 @@ fn is_full(refusal: Refusal) -> bool
 }
 
 // The reply of a node that is asked by a poll, where a full journal is cut, and the poll called once more by the same seat.
-fn reply_by_calls<R: Wait, N: NodeName>(
+fn reply_by_calls<R: Wait, P: Posts>(
     rt: &R,
     alloc: Global,
-    node: &Node<N>,
-    seat: &mut Seat<N>,
+    node: &P,
+    seat: &mut P::PostSeat,
     event: Event,
 ) -> Result<HttpReply, Refusal>
     requires { IsRest (event_of event) }
-    ensures ok { IfOk result (λ r. IsTriedReply N.replica seat.old seat.new (event_of event) r) }
-    ensures refused { IfErr result (λ e. IsTriedNoReply N.replica seat.old seat.new (event_of event)) }
+    ensures ok { IfOk result (λ r. IsTriedReply P.replica (P.calls seat.old) (P.calls seat.new) (event_of event) r) }
+    ensures refused { IfErr result (λ e. IsTriedNoReply P.replica (P.calls seat.old) (P.calls seat.new) (event_of event)) }
 {
-    match node.call(rt, seat, event) {
+    match node.post_call(rt, seat, event) {
         Ok(answer) => reply_by_answer(alloc, &answer),
         Err(Unrecorded { refusal, event }) => {
             if !is_full(refusal) {
                 drop(event);
                 return Err(refusal);
             }
-            let _ = node.cut_full(rt);
+            node.post_cut(rt);
             reply_by_call(rt, alloc, node, seat, event)
         }
     }
 }
 
 // The reply of a node to a request, where a full journal is cut.
-fn reply_by_cutting<R: Wait, N: NodeName>(
+fn reply_by_cutting<R: Wait, P: Posts>(
     rt: &R,
     alloc: Global,
-    node: &Node<N>,
-    seat: &mut Seat<N>,
+    node: &P,
+    seat: &mut P::PostSeat,
     method: &str,
     path: &str,
     body: &[u8],
 ) -> Result<HttpReply, Refusal>
-    ensures ok { IfOk result (λ r. IsReplyByCutting N.replica method.now path.now body.now seat.old seat.new r) }
-    ensures refused { IfErr result (λ e. LeavesNoReplyByCutting N.replica method.now path.now body.now seat.old seat.new) }
+    ensures ok { IfOk result (λ r. IsReplyByCutting P.replica method.now path.now body.now (P.calls seat.old) (P.calls seat.new) r) }
+    ensures refused { IfErr result (λ e. LeavesNoReplyByCutting P.replica method.now path.now body.now (P.calls seat.old) (P.calls seat.new)) }
 {
     match ask(alloc, method, path, body)? {
         Asked::Finished(reply) => Ok(reply),
@@ -120,19 +121,19 @@ fn reply_by_cutting<R: Wait, N: NodeName>(
     }
 }
 
-/// The reply of a node to a request of this method, path and body, by a seat of the node. Where the journal is full it is cut, what
-/// was cut is dropped, and the node is asked once more, by the same seat. 503 without a body where no memory is found, or the journal
+/// The reply of a node to a request of this method, path and body, by a seat of the node. Where the journal is full it is cut, as the
+/// node cuts it for posts, and the node is asked once more, by the same seat. 503 without a body where no memory is found, or the journal
 /// is full again. It may wait for the lock.
-pub fn reply_at<R: Wait, N: NodeName>(
+pub fn reply_at<R: Wait, P: Posts>(
     rt: &R,
     alloc: Global,
-    node: &Node<N>,
-    seat: &mut Seat<N>,
+    node: &P,
+    seat: &mut P::PostSeat,
     method: &str,
     path: &str,
     body: &[u8],
 ) -> HttpReply
-    ensures { IsReplyOrUnavailable N.replica method.now path.now body.now seat.old seat.new result }
+    ensures { IsReplyOrUnavailable P.replica method.now path.now body.now (P.calls seat.old) (P.calls seat.new) result }
 {
     match reply_by_cutting(rt, alloc, node, seat, method, path, body) {
         Ok(reply) => reply,

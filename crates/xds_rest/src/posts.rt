@@ -1,16 +1,14 @@
 // What posts ask.
-use crate::by_seat::reply_at;
-use std::alloc::Global;
 use std::sync::Wait;
-use xds_node::{Node, NodeName, Seat};
-use xds_polls::HttpReply;
+use xds_core::{Event, Reply};
+use xds_node::{Node, NodeName, Seat, Unrecorded};
 use xds_resource::Refusal;
 
-/// A replica that threads share, as posts ask it. [`Node`] is one.
+/// A replica that threads share, as posts ask it. [`Node`] is one. The reply to a post is [`reply_at`](crate::by_seat::reply_at)'s.
 pub trait Posts {
-    ghost use Rattle.std.specs.Prelude.{◌≡◌, ℕ, codes, IfOk};
-    ghost use Rattle.xds_node.specs.Told.{Calls, no_calls};
-    ghost use Rattle.xds_rest.specs.Posted.{IsReplyOrUnavailable};
+    ghost use Rattle.std.specs.Prelude.{◌≡◌, ℕ, IfOk, IfErr};
+    ghost use Rattle.xds_core.specs.Seen.{event_of, answer_of};
+    ghost use Rattle.xds_node.specs.Told.{Calls, no_calls, also_refused, IsStepAt, LeavesNoRecord};
 
     /// The right to ask it.
     type PostSeat: Drop;
@@ -25,16 +23,23 @@ pub trait Posts {
     fn post_seat<R: Wait>(&self, rt: &R) -> Result<Self::PostSeat, Refusal>
         ensures { IfOk result (λ s. calls s ≡ no_calls) };
 
-    /// The reply to a post of this body at this path, by a seat; 503 without a body where there is none. It may wait.
-    fn post_reply<R: Wait>(
+    /// One event of a seat, and one record of it, as [`Node::call`] makes it. It may wait.
+    fn post_call<R: Wait>(
         &self,
         rt: &R,
-        alloc: Global,
         seat: &mut Self::PostSeat,
-        path: &str,
-        body: &[u8],
-    ) -> HttpReply
-        ensures { IsReplyOrUnavailable replica (codes "POST") path.now body.now (calls seat.old) (calls seat.new) result };
+        event: Event,
+    ) -> Result<Result<Reply, Refusal>, Unrecorded>
+        ensures step { IfOk result (λ a. IsStepAt replica (calls seat.old).told (calls seat.new).told (event_of event) (answer_of a)) }
+        ensures kept { IfOk result (λ a. (calls seat.new).refused ≡ (calls seat.old).refused) }
+        ensures back { IfErr result (λ e. (e.event ≡ event) × LeavesNoRecord e.refusal) }
+        ensures noted { IfErr result (λ e. calls seat.new ≡ also_refused (event_of event) e.refusal (calls seat.old)) };
+
+    /// Cuts the journal where it is full. It may wait.
+    fn post_cut<R: Wait>(&self, rt: &R);
+
+    /// A post was replied to with this status. It may wait.
+    fn post_replied<R: Wait>(&self, rt: &R, status: u16);
 }
 
 impl<N: NodeName> Posts for Node<N> {
@@ -48,14 +53,18 @@ impl<N: NodeName> Posts for Node<N> {
         self.seat(rt)
     }
 
-    fn post_reply<R: Wait>(
+    fn post_call<R: Wait>(
         &self,
         rt: &R,
-        alloc: Global,
         seat: &mut Seat<N>,
-        path: &str,
-        body: &[u8],
-    ) -> HttpReply {
-        reply_at(rt, alloc, self, seat, "POST", path, body)
+        event: Event,
+    ) -> Result<Result<Reply, Refusal>, Unrecorded> {
+        self.call(rt, seat, event)
     }
+
+    fn post_cut<R: Wait>(&self, rt: &R) {
+        let _ = self.cut_full(rt);
+    }
+
+    fn post_replied<R: Wait>(&self, _rt: &R, _status: u16) {}
 }

@@ -242,11 +242,12 @@ fn end_of<N: NodeName>(
             let _ = recording.take(alloc, segment);
         }
     }
-    let end = match recording.seal() {
-        Ok(()) => "whole",
-        Err(refusal) => refusal.name(),
+    drop(recording.finish(Ok(())));
+    let end = match recording.end() {
+        Some(Err(refusal)) => refusal.name(),
+        _ => "whole",
     };
-    let taken = recording.writer.inner.taken.len();
+    let taken = recording.writer().taken.len();
     Ok(format!(in alloc; "{end} {taken}")?)
 }
 

@@ -6,7 +6,7 @@ use std::rt::Files;
 use std::test::Fail;
 use std::thread::JoinHandle;
 use std::{str, thread};
-use xds_commands::{Runtime, Serving, serve};
+use xds_commands::{Runtime, ServeFiles, Serving, serve};
 use xds_frames::Counted;
 
 /// What a server came to: its status, and what it told on the error output.
@@ -69,7 +69,12 @@ pub(crate) fn recorded<
     R: Runtime + Net<Listener = TcpListener, Stream = TcpStream> + Files<File = File, Dir: Send>,
 >(rt: &R, input: I, serving: Serving, folder: Option<&str>) -> Came {
     let mut errors = Counted::new(Vec::new(rt.alloc()));
-    let status = serve(rt, input, &mut errors, serving, folder, None);
+    let teller: Option<Vec<u8>> = None;
+    let files = ServeFiles {
+        record: folder,
+        load: None,
+    };
+    let status = serve(rt, input, &mut errors, teller, serving, files);
     Came {
         status,
         errors: errors.inner,

@@ -1,4 +1,7 @@
+use Rattle.std.specs.Prelude.{⊤}
+use Rattle.xds_commands.proofs.Watchings.{somewhere}
 use Rattle.xds_commands.proofs.watching.watch.Goals as goal
 
 pub returns : goal.returns
-returns g c = (c.wish_of-wish.result, c.run_by-watched.result.ended, c.wish_of-wish.ensures, c.run_by-watched.ensures, c.tell_end.ensures)
+returns g c =
+    let (s, ended, is, runs, ends) = c.watch_by.ensures in (s, ended.answer, is, somewhere (λ _. ⊤) _ _ s ended _ runs, ends)

@@ -7,8 +7,8 @@ use Rattle.std.proofs.lemmas.Iterator.Consumers.{YieldsList-end}
 use Rattle.xds_monitor.specs.Logging.{shown_char}
 use Rattle.xds_monitor.proofs.log_event.excerpt.Goals as goal
 
-pub returns : goal.returns
-returns c =
+pub returns-clause-ok : goal.returns-clause-ok
+returns-clause-ok c =
     let is = c.into_iter-c-iterator.ensures.into_iter_gives in
     let all = YieldsList-from_chars c.args.text.now c.utf8.text (ap (λ t. chars_rest (take_source t)) is ∙ ap chars_rest c.take-c-items.ensures.source ∙ c.chars.ensures.rest) in
     let taken = YieldsList-from_take 256 all (ap take_count is ∙ c.take-c-items.ensures.count) in

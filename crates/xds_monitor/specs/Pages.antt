@@ -1,0 +1,201 @@
+-- Which number of a server stands under which name, in the text format of Prometheus. This project's own.
+--     type_name, type_kind          the name of a number of a type, and what it does
+--     held_number, counted_number   the number, if it is of what is held; if it is of what was counted
+--     type_number                   the number of a type at a replica; none where it isn't known
+--     replica_name, replica_kind    the name of a number of a replica, and what it does
+--     replica_number                the number; none where there is none
+--     labelled                      the line of a number of a replica with a label more
+--     type_line, replica_line       the line of a number of a type, and of a replica, if it is known
+--     with_streams, with_polls      a text with lines of a replica behind it: of its open streams; of its replies to polls over HTTP
+--     with_types, with_replica      of a number of each type; of a number of the replica
+--     with_each                     a text once lines of each replica were put behind it
+--     with_numbers_of, with_number  a text with a number of each type behind it, or of the replica, for each replica, and what it does
+--     with_all_streams, with_all_polls   with the open streams of replicas; with their replies to polls over HTTP
+--     with_held, with_journals      with all numbers of types; with what was counted of journals and changes
+--     numbers_text                  all numbers of these replicas
+use Rattle.std.specs.Prelude.{ℕ, List, [], ◌∷◌, ◌++◌, Option, Some, None, codes, decimal}
+use Rattle.xds_resource.specs.declared.types.TypeName.{TypeName}
+use Rattle.xds_resource.specs.declared.types.TypeName.TheVariants.{Cluster, Endpoint, Listener, Route, Secret}
+use Rattle.xds_resource.specs.Types.{row}
+use Rattle.xds_monitor.specs.Boards.{counts_at}
+use Rattle.xds_monitor.specs.Looks.{held_at}
+use Rattle.xds_monitor.specs.Metrics.{help_line, sample_line}
+use Rattle.xds_monitor.specs.declared.counts.TypeCounts.{TypeCounts}
+use Rattle.xds_monitor.specs.declared.look.Held.{Held}
+use Rattle.xds_monitor.specs.declared.look.Look.{Look}
+use Rattle.xds_monitor.specs.declared.metrics.Kind.{Kind}
+use Rattle.xds_monitor.specs.declared.metrics.Kind.TheVariants.{Counter, Gauge}
+use Rattle.xds_monitor.specs.declared.pages.OfReplica.{OfReplica}
+use Rattle.xds_monitor.specs.declared.pages.OfReplica.TheVariants.{TurnedAway, Records, Cuts, FailedCuts, Parts, LostParts, Refused, Lag}
+use Rattle.xds_monitor.specs.declared.pages.OfType.{OfType}
+use Rattle.xds_monitor.specs.declared.pages.OfType.TheVariants.{Changes, Resources, Tombstones, Responses, Acks, Nacks}
+use Rattle.xds_monitor.specs.declared.pages.Shown.{Shown}
+
+-- ---- numbers of types
+
+abbrev pub type_name : OfType → List ℕ
+type_name Changes = codes "xds_changes_total"
+type_name Resources = codes "xds_resources"
+type_name Tombstones = codes "xds_tombstones"
+type_name Responses = codes "xds_responses_total"
+type_name Acks = codes "xds_acks_total"
+type_name Nacks = codes "xds_nacks_total"
+
+abbrev pub type_kind : OfType → Kind
+type_kind Changes = Counter
+type_kind Resources = Gauge
+type_kind Tombstones = Gauge
+type_kind Responses = Counter
+type_kind Acks = Counter
+type_kind Nacks = Counter
+
+-- the number, if it is of what is held
+abbrev pub held_number : OfType → Held → Option ℕ
+held_number Changes held = Some held.changes
+held_number Resources held = Some held.resources
+held_number Tombstones held = Some held.tombstones
+held_number Responses held = None
+held_number Acks held = None
+held_number Nacks held = None
+
+-- the number, if it is of what was counted
+abbrev pub counted_number : OfType → TypeCounts → Option ℕ
+counted_number Changes counts = None
+counted_number Resources counts = None
+counted_number Tombstones counts = None
+counted_number Responses counts = Some counts.responses
+counted_number Acks counts = Some counts.acks
+counted_number Nacks counts = Some counts.nacks
+
+abbrev number_or : Option ℕ → Option ℕ → Option ℕ
+number_or (Some value) other = Some value
+number_or None other = other
+
+abbrev held_by : OfType → TypeName → Option Look → Option ℕ
+held_by of kind None = None
+held_by of kind (Some look) = held_number of (held_at look kind)
+
+-- the number of a type at a replica; none where it isn't known
+abbrev pub type_number : Shown → OfType → TypeName → Option ℕ
+type_number shown of kind = number_or (counted_number of (counts_at shown.numbers.types kind)) (held_by of kind shown.look)
+
+-- ---- numbers of replicas
+
+abbrev pub replica_name : OfReplica → List ℕ
+replica_name TurnedAway = codes "xds_streams_turned_away_total"
+replica_name Records = codes "xds_records_total"
+replica_name Cuts = codes "xds_cuts_total"
+replica_name FailedCuts = codes "xds_cuts_failed_total"
+replica_name Parts = codes "xds_exchange_parts_total"
+replica_name LostParts = codes "xds_exchange_lost_total"
+replica_name Refused = codes "xds_changes_refused_total"
+replica_name Lag = codes "xds_put_to_last_poll_milliseconds"
+
+abbrev pub replica_kind : OfReplica → Kind
+replica_kind TurnedAway = Counter
+replica_kind Records = Counter
+replica_kind Cuts = Counter
+replica_kind FailedCuts = Counter
+replica_kind Parts = Counter
+replica_kind LostParts = Counter
+replica_kind Refused = Counter
+replica_kind Lag = Gauge
+
+-- the number; none where there is none
+abbrev pub replica_number : Shown → OfReplica → Option ℕ
+replica_number shown TurnedAway = Some shown.numbers.doors.turned_away
+replica_number shown Records = Some shown.numbers.journal.records
+replica_number shown Cuts = Some shown.numbers.journal.cuts
+replica_number shown FailedCuts = Some shown.numbers.journal.failed_cuts
+replica_number shown Parts = Some shown.numbers.journal.parts
+replica_number shown LostParts = Some shown.numbers.journal.lost_parts
+replica_number shown Refused = Some shown.numbers.refused
+replica_number shown Lag = shown.numbers.lag
+
+-- ---- lines
+
+-- the line of a number of a replica with a label more
+abbrev pub labelled : List ℕ → ℕ → List ℕ → List ℕ → ℕ → List ℕ
+labelled name replica label word value =
+    sample_line name (codes "replica=\"" ++ (decimal replica ++ (codes "\"," ++ (label ++ (codes "=\"" ++ (word ++ codes "\"")))))) value
+
+abbrev type_line_of : List ℕ → ℕ → List ℕ → Option ℕ → List ℕ
+type_line_of name replica word None = []
+type_line_of name replica word (Some value) = labelled name replica (codes "type") word value
+
+-- the line of a number of a type, if it is known
+abbrev pub type_line : OfType → Shown → TypeName → List ℕ
+type_line of shown kind = type_line_of (type_name of) shown.replica (row kind).word (type_number shown of kind)
+
+abbrev replica_line_of : List ℕ → ℕ → Option ℕ → List ℕ
+replica_line_of name replica None = []
+replica_line_of name replica (Some value) = sample_line name (codes "replica=\"" ++ (decimal replica ++ codes "\"")) value
+
+-- the line of a number of a replica, if there is one
+abbrev pub replica_line : OfReplica → Shown → List ℕ
+replica_line of shown = replica_line_of (replica_name of) shown.replica (replica_number shown of)
+
+abbrev variant_line : ℕ → List ℕ → ℕ → List ℕ
+variant_line replica word value = labelled (codes "xds_streams") replica (codes "variant") word value
+
+-- A text with lines of a replica behind it: those of its open streams.
+abbrev pub with_streams : List ℕ → Shown → List ℕ
+with_streams text shown =
+    ((text ++ variant_line shown.replica (codes "sotw") shown.numbers.streams.sotw) ++ variant_line shown.replica (codes "delta") shown.numbers.streams.delta)
+    ++ variant_line shown.replica (codes "none") shown.numbers.streams.silent
+
+abbrev status_line : ℕ → List ℕ → ℕ → List ℕ
+status_line replica word value = labelled (codes "xds_rest_replies_total") replica (codes "status") word value
+
+-- those of its replies to polls over HTTP
+abbrev pub with_polls : List ℕ → Shown → List ℕ
+with_polls text shown =
+    ((((text ++ status_line shown.replica (codes "200") shown.numbers.rest.ok) ++ status_line shown.replica (codes "304") shown.numbers.rest.unchanged)
+    ++ status_line shown.replica (codes "400") shown.numbers.rest.bad) ++ status_line shown.replica (codes "503") shown.numbers.rest.unavailable)
+    ++ status_line shown.replica (codes "other") shown.numbers.rest.other
+
+-- those of a number of each type
+abbrev pub with_types : OfType → List ℕ → Shown → List ℕ
+with_types of text shown =
+    ((((text ++ type_line of shown Cluster) ++ type_line of shown Endpoint) ++ type_line of shown Listener) ++ type_line of shown Route) ++ type_line of shown Secret
+
+-- that of a number of the replica
+abbrev pub with_replica : OfReplica → List ℕ → Shown → List ℕ
+with_replica of text shown = text ++ replica_line of shown
+
+-- ---- the whole text
+
+-- a text once lines of each replica were put behind it
+abbrev pub with_each : (List ℕ → Shown → List ℕ) → List ℕ → List Shown → List ℕ
+with_each put text [] = text
+with_each put text (s ∷ ss) = with_each put (put text s) ss
+
+-- a text with a number of each type of each replica behind it, and what the number does
+abbrev pub with_numbers_of : OfType → List ℕ → List Shown → List ℕ
+with_numbers_of of text replicas = with_each (with_types of) (text ++ help_line (type_name of) (type_kind of)) replicas
+
+-- the same with a number of each replica
+abbrev pub with_number : OfReplica → List ℕ → List Shown → List ℕ
+with_number of text replicas = with_each (with_replica of) (text ++ help_line (replica_name of) (replica_kind of)) replicas
+
+-- with their open streams
+abbrev pub with_all_streams : List ℕ → List Shown → List ℕ
+with_all_streams text replicas = with_each with_streams (text ++ help_line (codes "xds_streams") Gauge) replicas
+
+-- with their replies to polls over HTTP
+abbrev pub with_all_polls : List ℕ → List Shown → List ℕ
+with_all_polls text replicas = with_each with_polls (text ++ help_line (codes "xds_rest_replies_total") Counter) replicas
+
+-- with all numbers of types
+abbrev pub with_held : List ℕ → List Shown → List ℕ
+with_held text rs =
+    with_numbers_of Nacks (with_numbers_of Acks (with_numbers_of Responses (with_numbers_of Tombstones (with_numbers_of Resources (with_numbers_of Changes text rs) rs) rs) rs) rs) rs
+
+-- with what was counted of journals and changes
+abbrev pub with_journals : List ℕ → List Shown → List ℕ
+with_journals text rs =
+    with_number Lag (with_number Refused (with_number LostParts (with_number Parts (with_number FailedCuts (with_number Cuts (with_number Records text rs) rs) rs) rs) rs) rs) rs
+
+-- all numbers of these replicas
+abbrev pub numbers_text : List Shown → List ℕ
+numbers_text rs = with_all_polls (with_journals (with_number TurnedAway (with_all_streams (with_held [] rs) rs) rs) rs) rs
