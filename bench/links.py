@@ -232,10 +232,11 @@ def check_link(target, page):
 
 @functools.cache
 def numbers():
-    """The names of the numbers that a server shows."""
+    """The names of the numbers that a server or the bridge shows."""
     files = ("xds_monitor/src/pages", "xds_monitor/src/tapes", "xds_commands/src/admin")
     texts = [open(f"{TOP}/crates/{file}.rt").read() for file in files]
-    return set(re.findall(r'"(xds_\w+)"', "".join(texts)))
+    texts += [open(file).read() for file in glob.glob(f"{TOP}/bridge/src/*.go")]
+    return set(re.findall(r'["`](xds_\w+)["`]', "".join(texts)))
 
 
 def check_text(text):

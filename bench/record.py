@@ -32,6 +32,7 @@ import subprocess
 import sys
 import tempfile
 import time
+import urllib.error
 import urllib.request
 
 FAILED = []
@@ -97,6 +98,17 @@ class Server:
     def ask(self, path, data=None):
         with urllib.request.urlopen(f"http://127.0.0.1:{self.port + 4}{path}", data=data, timeout=60) as reply:
             return reply.read().decode()
+
+    def look(self, path):
+        """What is answered once a replica's thread that is busy answers in time."""
+        for _ in range(60):
+            try:
+                return self.ask(path)
+            except urllib.error.HTTPError as error:
+                if error.code != 503:
+                    raise
+            time.sleep(0.2)
+        return self.ask(path)
 
     def told(self):
         self.errors.seek(0)
@@ -326,7 +338,7 @@ def segments(program, folder, pick):
             if f'"{turn} 0 '.encode() in text:
                 break
         for path in ("/metrics", "/status", "/ready"):
-            server.ask(path)
+            server.look(path)
     until, cuts, changes = time.time() + 60, [0, 0], []
     while time.time() < until and (min(cuts) < 1 or changes != [160, 160]):
         text = server.ask("/metrics")

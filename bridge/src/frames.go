@@ -7,6 +7,8 @@ import (
 	"fmt"
 	"io"
 	"net"
+	"sync"
+	"time"
 )
 
 // The kinds of frames that streams carry.
@@ -43,20 +45,61 @@ func writeFrame(conn net.Conn, kind byte, text []byte) error {
 	return err
 }
 
+const (
+	// roomFrom is how many bytes a text has from which on its reader waits for room, and roomWait how long at most.
+	roomFrom = 64 << 10
+	roomWait = 10 * time.Second
+)
+
 // frameReader reads one frame after another.
 type frameReader struct {
 	from *bufio.Reader
 	text []byte
+	room *room // for long texts, or nil
+	held int   // how much of it is taken
+	long *[]byte
 }
+
+// longTexts are buffers for long texts.
+var longTexts sync.Pool
 
 func newFrameReader(from io.Reader) *frameReader {
 	return &frameReader{from: bufio.NewReaderSize(from, 16<<10)}
 }
 
-// next gives the kind and the text of the next frame; the text is good until the next call. At the end of the input
+// done says that the last text isn't needed any more.
+func (r *frameReader) done() {
+	if r.long != nil {
+		*r.long = r.text
+		longTexts.Put(r.long)
+		r.long, r.text = nil, nil
+	}
+	if r.held > 0 {
+		r.room.give(r.held)
+		r.held = 0
+	}
+}
+
+// begin prepares for a text.
+func (r *frameReader) begin(length int) {
+	if r.room == nil || length < roomFrom {
+		return
+	}
+	if r.room.take(length, roomWait) {
+		r.held = length
+	}
+	r.long, _ = longTexts.Get().(*[]byte)
+	if r.long == nil {
+		r.long = new([]byte)
+	}
+	r.text = *r.long
+}
+
+// next gives the kind and the text of the next frame; the text is good until the next call, or until done. At the end of the input
 // it gives io.EOF, within a frame io.ErrUnexpectedEOF, and for what is no frame an errBadFrame.
 func (r *frameReader) next() (byte, []byte, error) {
 	var head [5]byte
+	r.done()
 	if _, err := io.ReadFull(r.from, head[:4]); err != nil {
 		return 0, nil, err
 	}
@@ -70,6 +113,7 @@ func (r *frameReader) next() (byte, []byte, error) {
 	if cap(r.text) > keptBuffer {
 		r.text = nil
 	}
+	r.begin(int(length) - 1)
 	err := r.fill(int(length) - 1)
 	return head[4], r.text, within(err)
 }

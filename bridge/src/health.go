@@ -2,6 +2,12 @@ package main
 
 import (
 	"context"
+	"errors"
+	"io"
+	"net"
+	"os"
+	"sync"
+	"sync/atomic"
 	"time"
 
 	"google.golang.org/grpc/codes"
@@ -10,14 +16,81 @@ import (
 )
 
 const (
-	// healthDial is how long the server may take to accept a connection for health's sake.
+	// healthDial is how long the server may take to accept a connection for health's sake, and healthTurn how long it may
+	// take to close one that it turns away.
 	healthDial = time.Second
-	// healthWatch is how often what is watched is looked at.
+	healthTurn = 300 * time.Millisecond
+	// healthWatch is how often what is watched is looked at, and for how long what is known of the server is taken as so.
 	healthWatch = 5 * time.Second
+	// healthAgain is how long after one try the next may be.
+	healthAgain = time.Second
 )
 
+// reach is what is known of whether the server takes streams: by the streams of clients, and where these say nothing for a
+// while by a stream that is opened for it and ends at once, one for all who ask.
+type reach struct {
+	server string
+
+	trying sync.Mutex // held by the one who tries
+	tried  time.Time  // the last time, of who holds it
+
+	mutex sync.Mutex
+	takes bool
+	known time.Time // when that was so; zero where it has to be tried
+}
+
+// say notes what a client's stream shows.
+func (r *reach) say(takes bool) {
+	r.mutex.Lock()
+	defer r.mutex.Unlock()
+	r.takes, r.known = takes, time.Now()
+}
+
+// doubt notes that what is known may not be so any more.
+func (r *reach) doubt() {
+	r.mutex.Lock()
+	defer r.mutex.Unlock()
+	r.known = time.Time{}
+}
+
+func (r *reach) last() (takes, known bool) {
+	r.mutex.Lock()
+	defer r.mutex.Unlock()
+	return r.takes, time.Since(r.known) < healthWatch
+}
+
+// holds tells whether the server takes streams.
+func (r *reach) holds(ctx context.Context) bool {
+	if takes, known := r.last(); known {
+		return takes
+	}
+	r.trying.Lock()
+	defer r.trying.Unlock()
+	if takes, known := r.last(); known || time.Since(r.tried) < healthAgain {
+		return takes // (another has tried meanwhile)
+	}
+	takes := r.try()
+	r.tried = time.Now()
+	if ctx.Err() == nil {
+		r.say(takes)
+	}
+	return takes
+}
+
+// try opens a stream, and looks whether the server closes it at once, as it does where it has too many.
+func (r *reach) try() bool {
+	conn, err := net.DialTimeout("tcp", r.server, healthDial)
+	if err != nil {
+		return false
+	}
+	defer conn.Close()
+	_ = conn.SetReadDeadline(time.Now().Add(healthTurn))
+	_, err = conn.Read(make([]byte, 1))
+	return errors.Is(err, os.ErrDeadlineExceeded)
+}
+
 // health answers gRPC's health service. The service with no name is the bridge: it serves until it stops. The services
-// of discovery serve while the server accepts connections, which is tried when it is asked.
+// of discovery serve while the server takes streams, and the bridge has room for one.
 type health struct{ bridge *bridge }
 
 func (h health) Check(ctx context.Context, r *grpc_health_v1.HealthCheckRequest) (*grpc_health_v1.HealthCheckResponse, error) {
@@ -56,7 +129,8 @@ func (h health) state(ctx context.Context, name string) grpc_health_v1.HealthChe
 	case !isService(name):
 		return grpc_health_v1.HealthCheckResponse_SERVICE_UNKNOWN
 	default:
-		serves = h.bridge.reached(ctx, healthDial)
+		full := h.bridge.maxStreams > 0 && int(atomic.LoadInt32(&h.bridge.streams)) >= h.bridge.maxStreams
+		serves = !full && h.bridge.reach.holds(ctx)
 	}
 	if serves {
 		return grpc_health_v1.HealthCheckResponse_SERVING
@@ -80,4 +154,24 @@ func (b *bridge) isStopping() bool {
 	default:
 		return false
 	}
+}
+
+// A firstByte tells of a stream whether the server took it: it did once something came, and it is in doubt where the
+// server ends it.
+type firstByte struct {
+	net.Conn
+	reach *reach
+	came  bool
+}
+
+func (f *firstByte) Read(to []byte) (int, error) {
+	n, err := f.Conn.Read(to)
+	if n > 0 && !f.came {
+		f.came = true
+		f.reach.say(true)
+	}
+	if errors.Is(err, io.EOF) {
+		f.reach.doubt()
+	}
+	return n, err
 }

@@ -1,6 +1,7 @@
 package main
 
 import (
+	"context"
 	"errors"
 	"os"
 	"strings"
@@ -8,7 +9,9 @@ import (
 	"testing"
 	"time"
 
+	"google.golang.org/grpc"
 	"google.golang.org/grpc/codes"
+	"google.golang.org/grpc/health/grpc_health_v1"
 )
 
 // mostHeld is how many bytes may be under way where nobody takes them: what the kernel's sockets hold, and a message
@@ -40,7 +43,7 @@ func TestAClientThatDoesntReadHoldsUpTheServer(t *testing.T) {
 func TestAServerThatDoesntReadHoldsUpTheClient(t *testing.T) {
 	k := newWorld(t).sotw()
 	const all = 3 * mostHeld / 2 >> 20
-	wire := append([]byte("\x0a\x80\x80\x40"), strings.Repeat("x", 1<<20)...)
+	wire := append([]byte("\x22\x01t\x0a\x80\x80\x40"), strings.Repeat("x", 1<<20)...)
 	var sent int32
 	ended := make(chan error, 1)
 	go func() {
@@ -69,7 +72,7 @@ func TestAServerThatDoesntReadHoldsUpTheClient(t *testing.T) {
 }
 
 func TestMessagesThatAreTooLong(t *testing.T) {
-	w := newWorld(t)
+	w := newWorld(t, "--max-message", "40000000")
 	k := w.sotw()
 	k.answers(`{"nonce":"` + strings.Repeat("x", maxText-12) + `"}`)
 	var in message
@@ -85,23 +88,43 @@ func TestMessagesThatAreTooLong(t *testing.T) {
 	k.closes()
 	// A byte 0 is six in JSON.
 	k = w.sotw()
-	_ = k.client.SendMsg(&message{append([]byte("\x0a\x80\x80\x80\x02"), make([]byte, 4<<20)...)})
+	_ = k.client.SendMsg(&message{append([]byte("\x22\x01t\x0a\x80\x80\x80\x02"), make([]byte, 4<<20)...)})
 	k.ends(codes.ResourceExhausted, "longer than a frame")
 	k.closes()
 }
 
 func TestLimitsOfOnesOwn(t *testing.T) {
-	w := newWorld(t, "--max-request", "1000", "--max-response", "500")
+	w := newWorld(t, "--max-request", "1000", "--max-message", "4096", "--max-streams", "1")
 	k := w.sotw()
-	k.asks(`{"versionInfo":"` + strings.Repeat("x", 990) + `"}`)
+	k.asks(`{"typeUrl":"t","versionInfo":"` + strings.Repeat("x", 980) + `"}`)
 	k.answers(`{"nonce":"` + strings.Repeat("x", 490) + `"}`)
 	k.takes()
+	w.refusesOneMore()
 	k.sends(`{"versionInfo":"` + strings.Repeat("x", 1000) + `"}`)
 	k.ends(codes.ResourceExhausted, "1000")
-	k = w.sotw()
-	k.answers(`{"nonce":"` + strings.Repeat("x", 500) + `"}`)
-	k.ends(codes.ResourceExhausted, "500")
 	k.closes()
+	// (the client may have its status a moment before the stream's place is free)
+	for end := time.Now().Add(patience); atomic.LoadInt32(&w.bridge.streams) > 0 && time.Now().Before(end); {
+		time.Sleep(time.Millisecond)
+	}
+	w.delta()
+}
+
+// refusesOneMore opens a stream for which there is no room.
+func (w *world) refusesOneMore() {
+	w.Helper()
+	ctx, cancel := context.WithTimeout(context.Background(), patience)
+	defer cancel()
+	client, err := w.conn.NewStream(ctx, &grpc.StreamDesc{ServerStreams: true, ClientStreams: true}, adsMethod+"DeltaAggregatedResources")
+	if err != nil {
+		w.Fatal(err)
+	}
+	(&talk{world: w, client: client}).ends(codes.ResourceExhausted, "--max-streams")
+	w.hasNumber("bridge_streams_turned_away_total 1\n")
+	state := health{w.bridge}.state(ctx, services[0].fullName())
+	if state != grpc_health_v1.HealthCheckResponse_NOT_SERVING {
+		w.Fatal(state)
+	}
 }
 
 func TestNamesThatAreTooMany(t *testing.T) {

@@ -41,10 +41,11 @@ func (r *request) texts(field protoreflect.Name) []string {
 	return made
 }
 
-// nodeID is the id of the request's node.
-func (r *request) nodeID() string {
+// node is the id and the cluster of the request's node, if it says one.
+func (r *request) node() (id, cluster string, ok bool) {
 	node := r.message.Get(r.fields.ByName("node")).Message()
-	return node.Get(node.Descriptor().Fields().ByName("id")).String()
+	fields := node.Descriptor().Fields()
+	return node.Get(fields.ByName("id")).String(), node.Get(fields.ByName("cluster")).String(), r.message.Has(r.fields.ByName("node"))
 }
 
 // json is the request's JSON text. Where JSON has no way to say something, as a number that is none in the node's

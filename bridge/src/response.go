@@ -1,6 +1,7 @@
 package main
 
 import (
+	"crypto/sha256"
 	"errors"
 	"fmt"
 
@@ -12,7 +13,6 @@ type response struct {
 	version, typeURL, nonce string
 	removed                 []string
 	resources               []resource
-	size                    int // of the bytes of resources, once they are converted
 }
 
 type resource struct {
@@ -28,6 +28,10 @@ const (
 	responseTypeURL   = 4
 	responseNonce     = 5
 	responseRemoved   = 6
+
+	responseControlPlane      = 6
+	responseDeltaControlPlane = 7
+	controlPlaneIdentifier    = 1
 
 	resourceVersion = 1
 	resourceBody    = 2
@@ -87,18 +91,40 @@ func (r *response) add(text []byte, delta bool) error {
 	return err
 }
 
-// convert converts all resources. The first that can't be is told with its name.
-func (r *response) convert(of func(text []byte) ([]byte, error)) error {
-	for i := range r.resources {
-		it := &r.resources[i]
+// convert converts all resources. The first that can't be, or that is too long for a message, is its fault; with skip those
+// are left out, and are its faults.
+func (r *response) convert(of func(text []byte) ([]byte, error), most int, delta bool, maxMessage int, skip bool) (bad []*fault) {
+	kept := r.resources[:0]
+	for _, it := range r.resources {
 		wire, err := of(it.text)
-		if err != nil {
-			return fmt.Errorf("resource %q: %s", it.called(), plainError(err))
-		}
 		it.wire = wire
-		r.size += len(wire) + len(it.name) + len(it.version) + 24
+		if err == nil && delta && it.size(delta) > most {
+			err = &fault{cause: fmt.Sprintf("it has %d bytes, too many for a message of at most %d (--max-message; a frame of the control "+
+				"plane may have %d)", len(wire), maxMessage, maxText)}
+		}
+		if err != nil {
+			bad = append(bad, it.fault(err))
+			if skip {
+				continue
+			}
+			return bad
+		}
+		kept = append(kept, it)
 	}
-	return nil
+	r.resources = kept
+	return bad
+}
+
+// fault is why a resource can't be converted, with its name and what tells this body of it from others.
+func (it *resource) fault(err error) *fault {
+	made := &fault{cause: plainError(err)}
+	var of *fault
+	if errors.As(err, &of) {
+		*made = *of
+	}
+	sum := sha256.Sum256(it.text)
+	made.resource, made.version = it.called(), string(sum[:])
+	return made
 }
 
 // called is a resource's name: in the variant of the state of the world its body says it.
@@ -115,32 +141,121 @@ func (it *resource) called() string {
 	return name
 }
 
-// wire is a converted response as protobuf.
-func (r *response) wire(delta bool) []byte {
-	b := make([]byte, 0, r.size+len(r.version)+len(r.typeURL)+len(r.nonce)+32)
+// assemble makes of a response's text what clients are sent: messages of at most so many bytes, in which there is room for a
+// nonce.
+func (b *bridge) assemble(text []byte, delta bool) (*assembled, string, error) {
+	r, err := readResponse(text, delta)
+	if err != nil {
+		return nil, "", err
+	}
+	nonceBytes := nonceRoom(r.nonce)
+	most := b.maxMessage - nonceBytes - len(r.version) - len(r.typeURL) - len(b.identifier) - 48
+	bad := r.convert(b.bodies.of, most, delta, b.maxMessage, b.skipBad)
+	a := &assembled{typeURL: r.typeURL, bad: bad}
+	if len(bad) > 0 && !b.skipBad {
+		a.why = bad[0].Error()
+		a.refusal = "the gRPC bridge can't convert " + a.why
+		return a, r.nonce, nil
+	}
+	a.bodies = r.bodies(delta, most, b.identifier, nonceBytes)
+	a.length = a.size() + nonceBytes
+	if !delta && a.length > b.maxMessage {
+		a.bodies = nil
+		a.why = fmt.Sprintf("a response of the state of the world has %d bytes and can't be split: --max-message allows %d, a frame of the "+
+			"control plane %d", a.length, b.maxMessage, maxText)
+		a.refusal = "the gRPC bridge refuses it: " + a.why
+	}
+	return a, r.nonce, nil
+}
+
+// bodies are the messages of a converted response as protobuf, without the nonce. Of the incremental variant they are as
+// many as it takes that none has more than so many bytes of resources and names.
+func (r *response) bodies(delta bool, most int, identifier string, nonceBytes int) (made [][]byte) {
+	at, gone := 0, 0
+	for {
+		end, endGone, size := at, gone, 0
+		for ; end < len(r.resources); end++ {
+			more := r.resources[end].size(delta)
+			if delta && size > 0 && size+more > most {
+				break
+			}
+			size += more
+		}
+		for ; end == len(r.resources) && endGone < len(r.removed); endGone++ {
+			more := sizeText(responseRemoved, r.removed[endGone])
+			if size > 0 && size+more > most {
+				break
+			}
+			size += more
+		}
+		made = append(made, r.body(delta, identifier, r.resources[at:end], r.removed[gone:endGone], size+nonceBytes))
+		at, gone = end, endGone
+		if at == len(r.resources) && gone == len(r.removed) {
+			return made
+		}
+	}
+}
+
+// size is how many bytes a resource takes in a message.
+func (it *resource) size(delta bool) int {
+	if !delta {
+		return sizeOfBytes(responseResources, len(it.wire))
+	}
+	return sizeOfBytes(responseResources, it.inner())
+}
+
+// inner is how many bytes a resource of the incremental variant has.
+func (it *resource) inner() int {
+	return sizeText(resourceVersion, it.version) + sizeText(resourceName, it.name) + sizeOfBytes(resourceBody, len(it.wire))
+}
+
+// body is one message, with the identifier of the control plane, if there is one.
+func (r *response) body(delta bool, identifier string, resources []resource, removed []string, size int) []byte {
+	b := make([]byte, 0, size+len(r.version)+len(r.typeURL)+len(identifier)+48)
 	b = appendText(b, responseVersion, r.version)
-	for i := range r.resources {
-		it := &r.resources[i]
+	for i := range resources {
+		it := &resources[i]
 		b = protowire.AppendTag(b, responseResources, protowire.BytesType)
 		if !delta {
 			b = protowire.AppendBytes(b, it.wire)
 			continue
 		}
-		size := sizeText(resourceVersion, it.version) + sizeText(resourceName, it.name)
-		size += protowire.SizeTag(resourceBody) + protowire.SizeBytes(len(it.wire))
-		b = protowire.AppendVarint(b, uint64(size))
+		b = protowire.AppendVarint(b, uint64(it.inner()))
 		b = appendText(b, resourceVersion, it.version)
 		b = protowire.AppendTag(b, resourceBody, protowire.BytesType)
 		b = protowire.AppendBytes(b, it.wire)
 		b = appendText(b, resourceName, it.name)
 	}
 	b = appendText(b, responseTypeURL, r.typeURL)
-	b = appendText(b, responseNonce, r.nonce)
-	for _, name := range r.removed {
+	for _, name := range removed {
 		b = protowire.AppendTag(b, responseRemoved, protowire.BytesType)
 		b = protowire.AppendString(b, name)
 	}
+	if identifier != "" {
+		field := protowire.Number(responseControlPlane)
+		if delta {
+			field = responseDeltaControlPlane
+		}
+		b = protowire.AppendTag(b, field, protowire.BytesType)
+		b = protowire.AppendBytes(b, appendText(nil, controlPlaneIdentifier, identifier))
+	}
 	return b
+}
+
+// assembledOf is what clients are sent of a response's text, which is shared where it is long, and its nonce.
+func (b *bridge) assembledOf(text []byte, delta bool) (*assembled, string, error) {
+	if len(text) < sharedFrom {
+		return b.assemble(text, delta)
+	}
+	key, nonce, err := keyOf(text, delta)
+	if err != nil {
+		return nil, "", err
+	}
+	made, err := b.shared.of(key, func() (*assembled, error) {
+		made, _, err := b.assemble(text, delta)
+		return made, err
+	})
+	return made, nonce, err
 }
 
 // appendText appends a field that is a text, unless it is empty.
@@ -156,4 +271,9 @@ func sizeText(field protowire.Number, text string) int {
 		return 0
 	}
 	return protowire.SizeTag(field) + protowire.SizeBytes(len(text))
+}
+
+// sizeOfBytes is how many bytes a field takes that has so many.
+func sizeOfBytes(field protowire.Number, size int) int {
+	return protowire.SizeTag(field) + protowire.SizeBytes(size)
 }

@@ -2,7 +2,6 @@ package main
 
 import (
 	"context"
-	"log"
 
 	"google.golang.org/grpc"
 	"google.golang.org/grpc/codes"
@@ -11,6 +10,7 @@ import (
 	_ "google.golang.org/grpc/encoding/proto" // the codec for messages of health
 	"google.golang.org/grpc/status"
 	"google.golang.org/protobuf/reflect/protoreflect"
+	"google.golang.org/protobuf/reflect/protoregistry"
 )
 
 // A bridge has what its streams share.
@@ -21,25 +21,43 @@ type bridge struct {
 	sotw     variant
 	delta    variant
 	stopping chan struct{} // closed once it stops
-	log      *log.Logger
+	skipBad  bool          // responses are served without what can't be converted
+	identity string        // what of a client's certificate the cluster of its node has to be
+	tell     *teller
+	frozen   *frozen
+	counters *counters
+	reach    *reach
+	shared   *assemblies
+	room     *room // for texts of responses that are read and converted
+	limits   *limits
+	files    []*protoregistry.Files // for reflection
+
+	identifier string // what responses say of the control plane
+	maxMessage int    // how many bytes a message to a client may have
+	maxStreams int    // how many there may be at a time, or 0
+	streams    int32  // how many there are
 }
 
 // newBridge makes the bridge to a server. The messages of requests are small's where known has none of them.
-func newBridge(server string, known, small *types, cacheBytes int, logger *log.Logger) *bridge {
+func newBridge(server string, known, small *types, cacheBytes int, tell *teller) *bridge {
 	request := func(name protoreflect.FullName) protoreflect.MessageType { return known.message(name, small) }
-	return &bridge{
+	b := &bridge{
 		server:   server,
 		types:    known,
 		bodies:   newBodies(cacheBytes, known.wireOf),
 		sotw:     variant{false, kindRequest, kindResponse, request(requestName)},
 		delta:    variant{true, kindDeltaRequest, kindDeltaResponse, request(deltaRequestName)},
 		stopping: make(chan struct{}),
-		log:      logger,
+		tell:     tell,
+		frozen:   newFrozen(tell),
+		counters: newCounters(),
+		reach:    &reach{server: server},
+		files:    []*protoregistry.Files{known.files, small.files},
+		shared:   newAssemblies(cacheBytes),
+		room:     newRoom(2 * maxText),
 	}
-}
-
-func (b *bridge) say(format string, words ...interface{}) {
-	b.log.Printf(format, words...)
+	b.limits = &limits{bridge: b, above: map[string]bool{}}
+	return b
 }
 
 // A service is one of discovery.

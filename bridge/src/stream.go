@@ -1,11 +1,11 @@
 package main
 
 import (
-	"context"
 	"errors"
 	"io"
 	"net"
 	"sync"
+	"sync/atomic"
 	"time"
 
 	"google.golang.org/grpc"
@@ -30,6 +30,13 @@ type variant struct {
 	message           protoreflect.MessageType
 }
 
+func (v *variant) name() string {
+	if v.delta {
+		return "delta"
+	}
+	return "sotw"
+}
+
 // A stream is one stream of gRPC and the framed stream that it is carried over.
 type stream struct {
 	bridge *bridge
@@ -37,14 +44,15 @@ type stream struct {
 	only   string // the type URL of a service of a single type, else empty
 	client grpc.ServerStream
 	server net.Conn
+	named  bool // the client may say that it is of the cluster that it says; of the thread that takes requests
 
 	writing sync.Mutex // held while a request is noted and written, so that what is kept is of what the server gets
 
 	mutex  sync.Mutex // held for moments, of what stands below; taken after the one above
-	node   string     // the id of the client's node, once it said one
 	asked  map[string]*asked
 	names  int  // how many bytes the names in asked have
 	closed bool // the client said that it asks for nothing more
+	left   bool // the stream has ended
 }
 
 // asked is what a refusal in the client's place has to know of a type: what the client's last request said, and which
@@ -55,17 +63,29 @@ type asked struct {
 	told     string // the nonce of the response that the client was sent last
 	answered bool   // the client answered that one
 	refused  string // the nonce of the response that was refused last in the client's place since then, else empty
+	parts    *partsOf
 }
 
 // carry carries one stream until either side ends it, and answers the status for the client.
 func (b *bridge) carry(client grpc.ServerStream, v *variant, only string) error {
+	defer atomic.AddInt32(&b.streams, -1)
+	if n := atomic.AddInt32(&b.streams, 1); b.maxStreams > 0 && int(n) > b.maxStreams {
+		b.counters.add(numTurned, 1)
+		return status.Errorf(codes.ResourceExhausted, "the bridge has as many streams as it may have, %d (--max-streams)", b.maxStreams)
+	}
 	dialer := net.Dialer{Timeout: dialTime}
 	server, err := dialer.DialContext(client.Context(), "tcp", b.server)
 	if err != nil {
+		if client.Context().Err() == nil {
+			b.reach.say(false)
+		}
 		return b.unreachable(err)
 	}
 	defer server.Close()
+	b.counters.add(numStreams, 1, "variant", v.name())
+	defer b.counters.add(numStreams, -1, "variant", v.name())
 	s := &stream{bridge: b, variant: v, only: only, client: client, server: server, asked: map[string]*asked{}}
+	defer s.leave()
 	requests, responses := make(chan error, 1), make(chan error, 1)
 	go func() { requests <- s.takeRequests() }()
 	go func() { responses <- s.takeResponses() }()
@@ -144,16 +164,24 @@ func (s *stream) half() error {
 
 // ask carries one request to the server.
 func (s *stream) ask(r *request) error {
-	if s.only != "" {
-		if of := r.text("type_url"); of == "" {
-			r.setText("type_url", s.only)
-		} else if of != s.only {
-			return status.Errorf(codes.InvalidArgument, "this service is of the type %s, not of %.200q", s.only, of)
+	switch of := r.text("type_url"); {
+	case of == "" && s.only == "":
+		return status.Errorf(codes.InvalidArgument, "the %s says no type_url, which an aggregated stream needs", s.message.Descriptor().Name())
+	case of == "":
+		r.setText("type_url", s.only)
+	case s.only != "" && of != s.only:
+		return status.Errorf(codes.InvalidArgument, "this service is of the type %s, not of %.200q", s.only, of)
+	}
+	// (each node that is said is looked at: the server may take any of them; without one in the first request it is of none)
+	if id, cluster, ok := r.node(); ok || !s.named {
+		if err := s.bridge.mayBe(s.client.Context(), id, cluster); err != nil {
+			return err
 		}
+		s.named = true
 	}
 	s.writing.Lock()
 	defer s.writing.Unlock()
-	if err := s.note(r); err != nil {
+	if nothing, err := s.note(r); err != nil || nothing {
 		return err
 	}
 	text, err := r.json(s.bridge.types)
@@ -169,18 +197,15 @@ func (s *stream) ask(r *request) error {
 // note keeps of a request what a refusal in the client's place will have to say. The client knows nothing of the
 // refusals that were made in its place: where its request names the response that it was sent last and answered before,
 // and the server had others refused since, the last of these is named, by which a server knows that the client is up
-// to date.
-func (s *stream) note(r *request) error {
+// to date. It answers true where nothing is left of a request that answers a part of a response.
+func (s *stream) note(r *request) (nothing bool, err error) {
 	s.mutex.Lock()
 	defer s.mutex.Unlock()
-	if s.node == "" {
-		s.node = r.nodeID()
-	}
 	of := r.text("type_url")
 	it := s.asked[of]
 	if it == nil {
 		if len(s.asked) == mostTypes {
-			return status.Errorf(codes.ResourceExhausted, "a stream asks for more than %d types", mostTypes)
+			return false, status.Errorf(codes.ResourceExhausted, "a stream asks for more than %d types", mostTypes)
 		}
 		it = new(asked)
 		s.asked[of] = it
@@ -189,7 +214,16 @@ func (s *stream) note(r *request) error {
 		s.names -= sizeOf(it.names)
 		it.version, it.names = r.text("version_info"), r.texts("resource_names")
 		if s.names += sizeOf(it.names); s.names > mostNames {
-			return status.Errorf(codes.ResourceExhausted, "a stream asks for names of more than %d bytes", mostNames)
+			return false, status.Errorf(codes.ResourceExhausted, "a stream asks for names of more than %d bytes", mostNames)
+		}
+	}
+	if s.delta {
+		if it.parts != nil && it.parts.join(r) {
+			return true, nil
+		}
+		// (a late answer to a part of an earlier response is none to any response of the server's)
+		if nonce := r.text("response_nonce"); nonce != it.told && isPart.MatchString(nonce) && r.noAnswer() {
+			return true, nil
 		}
 	}
 	if nonce := r.text("response_nonce"); nonce != "" && nonce == it.told {
@@ -198,7 +232,7 @@ func (s *stream) note(r *request) error {
 		}
 		it.answered = true
 	}
-	return nil
+	return false, nil
 }
 
 func sizeOf(names []string) (size int) {
@@ -210,7 +244,9 @@ func sizeOf(names []string) (size int) {
 
 // takeResponses carries responses, one at a time.
 func (s *stream) takeResponses() error {
-	frames := newFrameReader(s.server)
+	frames := newFrameReader(&firstByte{Conn: s.server, reach: s.bridge.reach})
+	frames.room = s.bridge.room
+	defer frames.done()
 	for {
 		kind, text, err := frames.next()
 		if err != nil {
@@ -224,43 +260,96 @@ func (s *stream) takeResponses() error {
 		if kind != s.response {
 			return status.Errorf(codes.Internal, "the control plane sent a frame of kind %d, and not %d", kind, s.response)
 		}
-		r, err := readResponse(text, s.delta)
+		a, nonce, err := s.bridge.assembledOf(text, s.delta)
 		if err != nil {
 			return status.Errorf(codes.Internal, "the control plane sent what is no response: %v", err)
 		}
-		if err := r.convert(s.bridge.bodies.of); err != nil {
-			if err := s.refuse(r, err.Error()); err != nil {
+		length := len(text)
+		frames.done() // (what follows waits for the client)
+		if s.isWhole(a.typeURL) {
+			s.bridge.limits.note(a.typeURL, s.variant, length, a.length)
+		}
+		s.bridge.tellBad(a.typeURL, a.bad)
+		if a.why != "" {
+			if err := s.refuse(a, nonce); err != nil {
 				return err
 			}
 			continue
 		}
-		s.mutex.Lock()
-		if it := s.asked[r.typeURL]; it != nil {
-			it.told, it.answered, it.refused = r.nonce, false, ""
-		}
-		s.mutex.Unlock()
-		if err := s.client.SendMsg(&message{r.wire(s.delta)}); err != nil {
-			return err
+		s.passes(a, nonce)
+		for _, it := range a.messages(nonce) {
+			if err := s.client.SendMsg(&message{it}); err != nil {
+				return err
+			}
 		}
 	}
 }
 
-// refuse refuses a response in the client's place, and tells so.
-func (s *stream) refuse(r *response, reason string) error {
+// isWhole tells whether the response that comes next of a type is a whole one: each of the state of the world, and the first.
+func (s *stream) isWhole(typeURL string) bool {
+	s.mutex.Lock()
+	defer s.mutex.Unlock()
+	it := s.asked[typeURL]
+	return !s.delta || (it != nil && it.told == "" && it.refused == "")
+}
+
+// passes notes that a response goes to the client.
+func (s *stream) passes(a *assembled, nonce string) {
+	s.mutex.Lock()
+	defer s.mutex.Unlock()
+	it := s.asked[a.typeURL]
+	if it == nil {
+		return
+	}
+	if it.refused != "" {
+		s.bridge.frozen.remove(a.typeURL, s)
+	}
+	it.told, it.answered, it.refused, it.parts = nonce, false, "", nil
+	if len(a.bodies) > 1 {
+		it.parts = newParts(nonce, len(a.bodies))
+	}
+}
+
+// leave notes that the stream has ended: it waits for nothing any more.
+func (s *stream) leave() {
+	s.mutex.Lock()
+	defer s.mutex.Unlock()
+	s.left = true
+	s.bridge.frozen.leave(s)
+}
+
+// tellBad tells what can't be converted, each body of a resource once, however many streams have it.
+func (b *bridge) tellBad(typeURL string, bad []*fault) {
+	kind := "refused"
+	if b.skipBad {
+		kind = "left out"
+		b.counters.add(numSkipped, int64(len(bad)), "type", typeURL)
+	}
+	for _, it := range bad {
+		if b.tell.first(typeURL + "\x00" + it.resource + "\x00" + it.version) {
+			b.tell.few(kind, "%s: %v", typeURL, it)
+		}
+	}
+}
+
+// refuse refuses a response in the client's place.
+func (s *stream) refuse(a *assembled, nonce string) error {
 	s.writing.Lock()
 	defer s.writing.Unlock()
 	s.mutex.Lock()
-	node, closed, it := s.node, s.closed, s.asked[r.typeURL]
+	closed, it := s.closed, s.asked[a.typeURL]
 	if it == nil {
 		it = new(asked)
+	} else if !s.left {
+		s.bridge.frozen.add(a.typeURL, s, a.why)
 	}
-	it.refused = r.nonce
+	it.refused = nonce
 	s.mutex.Unlock()
-	s.bridge.say("refused in the place of node %q: %s, nonce %q: %s", node, r.typeURL, r.nonce, reason)
+	s.bridge.counters.add(numRefused, 1, "type", a.typeURL)
 	if closed {
 		return nil // nothing more can be said to the server
 	}
-	text, err := refusal(r.typeURL, r.nonce, it.version, it.names, "the gRPC bridge can't convert "+reason)
+	text, err := refusal(a.typeURL, nonce, it.version, it.names, a.refusal)
 	if err != nil {
 		return status.Error(codes.Internal, err.Error())
 	}
@@ -268,15 +357,4 @@ func (s *stream) refuse(r *response, reason string) error {
 		return broken(err)
 	}
 	return nil
-}
-
-// reached tells whether the server accepts a stream.
-func (b *bridge) reached(ctx context.Context, most time.Duration) bool {
-	dialer := net.Dialer{Timeout: most}
-	conn, err := dialer.DialContext(ctx, "tcp", b.server)
-	if err != nil {
-		return false
-	}
-	conn.Close()
-	return true
 }

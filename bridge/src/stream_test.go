@@ -6,6 +6,7 @@ import (
 	"io"
 	"strings"
 	"testing"
+	"time"
 
 	"google.golang.org/grpc"
 	"google.golang.org/grpc/codes"
@@ -70,13 +71,17 @@ func TestARefusalInTheClientsPlace(t *testing.T) {
 	for _, nonce := range []string{"2", "3"} {
 		k.answers(`{"nonce":"` + nonce + `","resources":[{"@type":"` + clusterURL + `","name":"a"},
 			{"@type":"` + clusterURL + `","lbPolicy":"RANDOM","name":"b","nothingKnown":1}],"typeUrl":"` + clusterURL + `","versionInfo":"v2"}`)
-		k.wants(k.gets(), `{"errorDetail":{"code":3,"message":"the gRPC bridge can't convert resource \"b\": unknown field \"nothingKnown\""},
+		k.wants(k.gets(), `{"errorDetail":{"code":3,"message":"the gRPC bridge can't convert resource \"b\", field \"nothingKnown\": unknown field \"nothingKnown\""},
 			"resourceNames":["a","b"],"responseNonce":"`+nonce+`","typeUrl":"`+clusterURL+`","versionInfo":"v1"}`)
 	}
-	if told := k.told.String(); strings.Count(told, "\n") != 2 ||
-		!strings.Contains(told, `node "n1": `+clusterURL+`, nonce "3": resource "b": unknown field "nothingKnown"`) {
+	// (which is told once, however often the same body is refused)
+	k.tells(`refused: ` + clusterURL + `: resource "b", field "nothingKnown": unknown field "nothingKnown"`)
+	k.bridge.frozen.look(time.Now())
+	if told := k.tells("is frozen since"); strings.Count(told, "\n") != 2 || !strings.Contains(told, ", 1 client waits: resource \"b\", field") {
 		t.Fatal(told)
 	}
+	k.hasNumber(`bridge_frozen_clients{type="`+clusterURL+`"} 1`, `,cause="resource \"b\", field \"nothingKnown\": unknown`,
+		`bridge_refused_responses_total{type="`+clusterURL+`"} 2`)
 	// The client knows the response 1 alone. What it asks next is up to date, and so has to name the response 3.
 	k.wants(k.asks(`{"resourceNames":["a"],"typeUrl":"`+clusterURL+`","versionInfo":"v1","responseNonce":"1"}`),
 		`{"resourceNames":["a"],"typeUrl":"`+clusterURL+`","versionInfo":"v1","responseNonce":"3"}`)
@@ -86,6 +91,11 @@ func TestARefusalInTheClientsPlace(t *testing.T) {
 	good = strings.Replace(strings.Replace(good, `"1"`, `"4"`, 1), "v1", "v3", 1)
 	k.answers(good)
 	k.wants(k.takes(), good)
+	k.bridge.frozen.look(time.Now())
+	k.tells(clusterURL + " isn't frozen any more")
+	if found := k.bridge.frozen.all(); len(found) != 0 {
+		t.Fatal(found)
+	}
 	for _, nonce := range []string{"4", "1", ""} {
 		request := `{"resourceNames":["a"],"typeUrl":"` + clusterURL + `","versionInfo":"v3"}`
 		if nonce != "" {
@@ -113,7 +123,7 @@ func TestARefusalOfADelta(t *testing.T) {
 	k := newWorld(t).delta()
 	k.asks(`{"resourceNamesSubscribe":["a"],"typeUrl":"` + clusterURL + `","initialResourceVersions":{"a":"1-1"}}`)
 	k.answers(`{"nonce":"1","resources":[{"name":"a","resource":{"@type":"type.googleapis.com/un.Known"},"version":"1-1"}],"typeUrl":"` + clusterURL + `"}`)
-	k.wants(k.gets(), `{"errorDetail":{"code":3,"message":"the gRPC bridge can't convert resource \"a\": unable to resolve `+
+	k.wants(k.gets(), `{"errorDetail":{"code":3,"message":"the gRPC bridge can't convert resource \"a\", field \"@type\": unable to resolve `+
 		`\"type.googleapis.com/un.Known\": \"not found\""},"responseNonce":"1","typeUrl":"`+clusterURL+`"}`)
 }
 
@@ -237,7 +247,8 @@ func TestWrongWords(t *testing.T) {
 	for _, words := range []string{
 		"x", "--nothing", "--listen", "--listen 18200", "--listen 0.0.0.0:18200", "--listen :18200", "--listen [::]:1", "--server x",
 		"--listen example.com:1", "--tls-cert a", "--tls-key a", "--client-ca a", "--cache-bytes x", "--cache-bytes -1", "--max-request 0",
-		"--max-request 16777216", "--max-response 0",
+		"--max-request 16777216", "--max-message 0", "--max-message 100000000", "--max-streams -1", "--identity san", "--tls-cert a --tls-key b --client-ca c --identity x",
+		"--tls-cert a --tls-key b --identity cn", "--metrics 0.0.0.0:1", "--check 1",
 	} {
 		if _, err := readOptions(strings.Fields(words), io.Discard); err == nil {
 			t.Errorf("%s is taken", words)
@@ -245,7 +256,8 @@ func TestWrongWords(t *testing.T) {
 	}
 	for _, words := range []string{
 		"", "--listen [::1]:1", "--listen localhost:0", "-listen 127.0.0.2:1", "--listen :18200 --tls-cert a --tls-key b --client-ca c",
-		"--cache-bytes 0", "--max-request=1 --max-response=1",
+		"--cache-bytes 0", "--max-request=1 --max-message=4096 --max-streams=1", "--tls-cert a --tls-key b --client-ca c --identity cn", "--skip-bad",
+		"--metrics 127.0.0.1:0 --check localhost:1",
 	} {
 		if _, err := readOptions(strings.Fields(words), io.Discard); err != nil {
 			t.Errorf("%s: %v", words, err)

@@ -3,7 +3,6 @@ package main
 import (
 	_ "embed"
 	"encoding/json"
-	"errors"
 	"fmt"
 	"strings"
 
@@ -30,6 +29,7 @@ const (
 // types are the messages of a descriptor set.
 type types struct {
 	known *protoregistry.Types
+	files *protoregistry.Files
 }
 
 // readTypes reads a FileDescriptorSet.
@@ -42,7 +42,7 @@ func readTypes(set []byte) (*types, error) {
 	if err != nil {
 		return nil, fmt.Errorf("it isn't whole: %s", plainError(err))
 	}
-	made := &types{known: new(protoregistry.Types)}
+	made := &types{known: new(protoregistry.Types), files: read}
 	read.RangeFiles(func(file protoreflect.FileDescriptor) bool {
 		err = made.add(file.Messages())
 		return err == nil
@@ -84,14 +84,22 @@ func (t *types) wireOf(text []byte) (wire []byte, err error) {
 	defer asError(&err)
 	// (version 1.28 of the protobuf package never ends at some texts with an Any in them that are no JSON)
 	if !json.Valid(text) {
-		return nil, errors.New("it is no JSON")
+		return nil, &fault{cause: "it is no JSON"}
 	}
 	resource := new(anypb.Any)
-	if err := (protojson.UnmarshalOptions{Resolver: t.known}).Unmarshal(text, resource); err != nil {
-		return nil, err
+	for i := 0; ; i++ {
+		err := protojson.UnmarshalOptions{Resolver: t.known}.Unmarshal(text, resource)
+		if err == nil {
+			break
+		}
+		more := withValue(text, err)
+		if more == nil || i == mostEmpty {
+			return nil, faultOf(text, err)
+		}
+		text = more
 	}
 	if resource.TypeUrl == "" {
-		return nil, errors.New("it has no \"@type\"")
+		return nil, &fault{cause: "it has no \"@type\""}
 	}
 	return proto.MarshalOptions{Deterministic: true}.Marshal(resource)
 }

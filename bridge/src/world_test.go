@@ -6,7 +6,6 @@ import (
 	"encoding/json"
 	"fmt"
 	"io"
-	"log"
 	"net"
 	"reflect"
 	"strings"
@@ -27,7 +26,7 @@ const (
 	clusterURL = typePrefix + "config.cluster.v3.Cluster"
 	routeURL   = typePrefix + "config.route.v3.RouteConfiguration"
 	adsMethod  = "/envoy.service.discovery.v3.AggregatedDiscoveryService/"
-	patience   = 20 * time.Second
+	patience   = 60 * time.Second
 )
 
 var testTypes = func() *types {
@@ -76,7 +75,7 @@ func newWorld(t *testing.T, words ...string) *world {
 		t.Fatal(err)
 	}
 	w := &world{T: t, control: control, told: new(lines)}
-	w.bridge = newBridge(control.Addr().String(), testTypes, testTypes, 1<<20, log.New(w.told, "", 0))
+	w.bridge = newBridge(control.Addr().String(), testTypes, testTypes, 1<<20, newTeller(w.told))
 	o, err := readOptions(words, io.Discard)
 	if err != nil {
 		t.Fatal(err)
@@ -114,6 +113,7 @@ func (w *world) talk(method string, v *variant) *talk {
 	if err != nil {
 		w.Fatal(err)
 	}
+	_ = w.control.(*net.TCPListener).SetDeadline(time.Now().Add(patience))
 	server, err := w.control.Accept()
 	if err != nil {
 		w.Fatal(err)
@@ -164,6 +164,17 @@ func (k *talk) gets() map[string]interface{} {
 		k.Fatal(err)
 	}
 	return got
+}
+
+// tells waits until a line was told that has a part, and answers all lines.
+func (w *world) tells(part string) string {
+	w.Helper()
+	for end := time.Now().Add(patience); !strings.Contains(w.told.String(), part); time.Sleep(5 * time.Millisecond) {
+		if time.Now().After(end) {
+			w.Fatalf("%q wasn't told: %s", part, w.told)
+		}
+	}
+	return w.told.String()
 }
 
 // wants compares JSON.

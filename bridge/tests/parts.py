@@ -95,11 +95,11 @@ class Process:
 class Control(Process):
     """`xds serve` with one replica."""
 
-    def __init__(self, port=None):
+    def __init__(self, port=None, *words):
         self.port, self.rest = free_ports(2)
         self.port = port or self.port
         self.writes = {}
-        super().__init__([XDS, "serve", "--replicas", "1", "--port", str(self.port), "--rest-port", str(self.rest)])
+        super().__init__([XDS, "serve", "--replicas", "1", "--port", str(self.port), "--rest-port", str(self.rest), *words])
         # (the first run of ./xds may prove and build)
         self.wait_for("streams on", 7200 if XDS == os.path.join(TOP, "xds") else PATIENCE)
 

@@ -4,7 +4,7 @@ import json
 import unittest
 
 import grpc
-from google.protobuf import any_pb2, json_format
+from google.protobuf import any_pb2, empty_pb2, json_format  # noqa: F401 (Empty, for json_format)
 from parts import CLUSTER, ENDPOINT, LISTENER, MANAGER, PREFIX, ROUTE, ROUTER, SECRET, Bridge, Control, delta
 
 for it in ("config.cluster.v3.cluster", "config.endpoint.v3.endpoint", "config.listener.v3.listener", "config.route.v3.route",
@@ -28,6 +28,7 @@ GOOD = [
     (CLUSTER, {"commonLbConfig": {"healthyPanicThreshold": {"value": 50}, "localityWeightedLbConfig": {}}}),
     (CLUSTER, {"typedExtensionProtocolOptions": {"envoy.http": {"@type": OPTIONS, "explicitHttpConfig": {"http2ProtocolOptions": {
         "connectionKeepalive": {"interval": "-1.5s", "timeout": "315576000000s"}}}}}}),
+    (CLUSTER, {"typedExtensionProtocolOptions": {"e": {"@type": "type.googleapis.com/google.protobuf.Empty"}}}),
     (CLUSTER, {"transportSocket": {"name": "tls", "typedConfig": {"@type": TLS, "sni": "ä", "commonTlsContext": {
         "alpnProtocols": ["h2", ""], "validationContext": {"trustedCa": {"filename": "/x"}}}}}}),
     (ENDPOINT, {"endpoints": [{"locality": {"region": "r", "zone": "z", "subZone": "s"}, "loadBalancingWeight": 3, "priority": 1,

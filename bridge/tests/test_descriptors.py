@@ -96,8 +96,8 @@ class Descriptors(unittest.TestCase):
             self.addCleanup(stream.end)
             stream.ask(type_url=CLUSTER)
             stream.ask(type_url=LISTENER)
-            self.assertIn('"a": unknown field "preconnectPolicy"', small.wait_for(CLUSTER))
-            self.assertIn('"l": unable to resolve', small.wait_for(LISTENER))
+            self.assertIn('"a", field "preconnectPolicy": unknown field', small.wait_for(CLUSTER))
+            self.assertIn('"l", field "listenerFilters[0].typedConfig.@type": unable to resolve', small.wait_for(LISTENER))
 
 
 if __name__ == "__main__":

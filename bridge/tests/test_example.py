@@ -1,13 +1,16 @@
 """examples/envoy-ads.yaml: that it is a bootstrap, and that what stands in its head passes through the bridge."""
+import glob
 import json
 import os
+import signal
+import socket
 import unittest
 
 import envoy_set
 import grpc
 import yaml
 from google.protobuf import descriptor_pb2, descriptor_pool, json_format, message_factory
-from parts import CLUSTER, ENDPOINT, LISTENER, OUT, ROUTE, TOP, Bridge, Control, delta
+from parts import (CLUSTER, ENDPOINT, LISTENER, OUT, PATIENCE, ROUTE, TOP, XDS, Bridge, Control, Process, delta, free_ports)
 
 EXAMPLE = os.path.join(TOP, "examples", "envoy-ads.yaml")
 OPTIONS = "envoy/extensions/upstreams/http/v3/http_protocol_options.proto"
@@ -38,6 +41,64 @@ class Example(unittest.TestCase):
         with open(EXAMPLE, encoding="utf-8") as file:
             made = json_format.ParseDict(yaml.safe_load(file), kind(), descriptor_pool=pool)
         self.assertTrue(made.dynamic_resources.HasField("ads_config"))
+
+    def test_the_mesh_by_one_command(self):
+        def pair():
+            """A port that is free together with the next."""
+            while True:
+                port = free_ports(1)[0]
+                try:
+                    with socket.create_server(("127.0.0.1", port + 1)):
+                        return port
+                except OSError:
+                    pass
+
+        def is_open(port):
+            with socket.socket() as it:
+                return it.connect_ex(("127.0.0.1", port)) == 0
+
+        for how in (signal.SIGTERM, signal.SIGINT, None):
+            port, rest, at = pair(), pair(), free_ports(1)[0]
+            words = ["env", f"PORT={port}", f"REST={rest}", f"GRPC=127.0.0.1:{at}", f"XDS={XDS}", os.path.join(TOP, "examples", "mesh.sh")]
+            mesh = Process([*words, "--identifier", "mesh"])
+            self.addCleanup(mesh.end)
+            mesh.wait_for("replica 2: streams on")
+            mesh.wait_for("listening on")
+            with grpc.insecure_channel(f"127.0.0.1:{at}") as channel:
+                stream = delta(channel)
+                self.addCleanup(stream.end)
+                stream.ask(type_url=CLUSTER)
+                response, names = stream.take(), set()
+                while True:
+                    names |= {it.name for it in response.resources}
+                    stream.accept(response)
+                    if names == {"checkout", "payments"}:
+                        break
+                    response = stream.take()
+                self.assertEqual(response.control_plane.identifier, "mesh")
+            if how is None:
+                # (one of them ends)
+                server = [it for it in self.children(mesh.process.pid) if "serve" in it[1]]
+                os.kill(server[0][0], signal.SIGKILL)
+                self.assertEqual(mesh.process.wait(PATIENCE), 1)
+            else:
+                mesh.process.send_signal(how)
+                self.assertEqual(mesh.process.wait(PATIENCE), 0)
+            self.assertFalse([it for it in (port, port + 1, rest, at) if is_open(it)])
+
+    def children(self, parent):
+        """The processes that a process started, with their words."""
+        found = []
+        for it in glob.glob("/proc/[0-9]*/stat"):
+            try:
+                with open(it, encoding="utf-8") as file:
+                    if int(file.read().rsplit(")", 1)[1].split()[1]) != parent:
+                        continue
+                with open(os.path.join(os.path.dirname(it), "cmdline"), encoding="utf-8") as file:
+                    found.append((int(it.split("/")[2]), file.read().split("\0")))
+            except OSError:
+                continue
+        return found
 
     def test_its_resources_pass(self):
         lines = []

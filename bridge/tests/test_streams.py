@@ -1,4 +1,5 @@
 """Streams by raw stubs, over a control plane that runs."""
+import fcntl
 import os
 import signal
 import socket
@@ -10,6 +11,7 @@ import unittest
 
 import grpc
 from envoy.config.cluster.v3 import cluster_pb2
+from google.protobuf import struct_pb2
 from parts import (ADS, BRIDGE, CLUSTER, ENDPOINT, HERE, LISTENER, PATIENCE, ROUTE, SECRET, Bridge, Control, Process, Stream, Tap, delta,
                    free_ports, sotw, wait_until)
 
@@ -140,12 +142,10 @@ class Variants(Streams):
         wait_until(lambda: len(self.tap.of("up")) == 4)
         self.put("b", notOfEnvoy={"x": 1})
         wait_until(lambda: len(self.tap.of("up")) == 6, what="refusals")
-        wait_until(lambda: len(self.bridge.told("refused")) == 2, what="lines")
-        for node in ("left", "right"):
-            self.assertIn(f'refused in the place of node "{node}": {CLUSTER}, nonce "2": resource "b": unknown field "notOfEnvoy"',
-                          str(self.bridge.lines))
+        self.assertEqual(self.bridge.told("refused"),
+                         [f'bridge: refused: {CLUSTER}: resource "b", field "notOfEnvoy": unknown field "notOfEnvoy"'])
         wanted = {"typeUrl": CLUSTER, "responseNonce": "2", "errorDetail": {
-            "code": 3, "message": 'the gRPC bridge can\'t convert resource "b": unknown field "notOfEnvoy"'}}
+            "code": 3, "message": 'the gRPC bridge can\'t convert resource "b", field "notOfEnvoy": unknown field "notOfEnvoy"'}}
         self.assertIn(wanted, self.tap.of("up"))
         self.assertIn({**wanted, "resourceNames": ["a", "b"], "versionInfo": "1.3.named"}, self.tap.of("up"))
         # A client knows nothing of that. What it asks for next is heard, though it names the response before.
@@ -179,7 +179,11 @@ class Ends(Streams):
 
     def test_the_server_refuses_what_it_is_sent(self):
         stream = self.opened()
-        stream.ask()
+        nested = inner = struct_pb2.Struct()
+        for _ in range(130):
+            inner = inner.fields["x"].struct_value
+            inner.SetInParent()
+        stream.ask(type_url=CLUSTER, node={"id": "n", "metadata": nested})
         self.assertEqual(stream.status(), (grpc.StatusCode.UNAVAILABLE, "the control plane closed the stream"))
 
     def test_the_server_isnt_there(self):
@@ -229,7 +233,7 @@ class Ends(Streams):
                 self.assertLess(time.monotonic() - begun, 5)
 
     def test_a_signal_with_a_client_that_doesnt_read(self):
-        self.put(*(f"c{i}" for i in range(4)), altStatName="x" * 100_000)
+        self.put(*(f"c{i}" for i in range(4)), altStatName="x" * 30_000)
         stream = self.has(delta(self.channel))
         stream.ask(type_url=CLUSTER)
         wait_until(lambda: self.tap.of("down"), what="a response")
@@ -264,7 +268,7 @@ class Many(Streams):
 
     def test_a_slow_client_beside_others(self):
         # (gRPC takes 64 KiB of a message that nobody asks for; the slow ones are on the connection of the quick one)
-        self.put(*(f"c{i}" for i in range(6)), altStatName="x" * 100_000)
+        self.put(*(f"c{i}" for i in range(6)), altStatName="x" * 20_000)
         slow = [self.has(sotw(self.channel)) for _ in range(10)]
         for it in slow:
             it.ask(type_url=CLUSTER)
@@ -334,10 +338,93 @@ class Ports(Streams):
         with self.assertRaises(grpc.RpcError) as caught:
             check(b"\x0a\x01x", timeout=PATIENCE)
         self.assertEqual(caught.exception.code(), grpc.StatusCode.NOT_FOUND)
+        # Many who ask share one look at the server, which is good for five seconds.
+        looks = len(self.tap.held)
+        for _ in range(50):
+            check(ads, timeout=PATIENCE)
+        self.assertLessEqual(len(self.tap.held), looks + 2)
         self.tap.end()
-        self.assertEqual([check(it, timeout=PATIENCE) for it in (b"", ads)], [b"\x08\x01", b"\x08\x02"])
+        wait_until(lambda: check(ads, timeout=PATIENCE) == b"\x08\x02", what="NOT_SERVING")
+        self.assertEqual(check(b"", timeout=PATIENCE), b"\x08\x01")
         self.assertEqual(next(watch), b"\x08\x02")
         watch.cancel()
+
+    def test_health_where_the_server_turns_streams_away(self):
+        full = self.has(Control(None, "--max-streams", "1"))
+        bridge = self.has(Bridge(full.port))
+        full.put(CLUSTER, name="a")
+        full.settle()
+        with grpc.insecure_channel(bridge.address) as channel:
+            name = f"envoy.service.{ADS}".encode()
+            check = channel.unary_unary("/grpc.health.v1.Health/Check")
+            ask = b"\x0a" + bytes([len(name)]) + name
+            stream = self.has(delta(channel))
+            stream.ask(type_url=CLUSTER)
+            stream.accept(stream.take())
+            self.assertEqual(check(ask, timeout=PATIENCE), b"\x08\x01")
+            wait_until(lambda: check(ask, timeout=PATIENCE) == b"\x08\x02", what="NOT_SERVING")
+            stream.end()
+            wait_until(lambda: check(ask, timeout=PATIENCE) == b"\x08\x01", what="SERVING")
+
+    def test_reflection(self):
+        talk = self.channel.stream_stream("/grpc.reflection.v1alpha.ServerReflection/ServerReflectionInfo")
+        ads = f"envoy.service.{ADS}".encode()
+        # list_services is field 7, file_containing_symbol 4, file_by_filename 3
+        symbol = b"\x22" + bytes([len(ads)]) + ads
+        file = b"envoy/service/cluster/v3/cds.proto"
+        listed, found, named, none = talk(iter([b"\x3a\x00", symbol, b"\x1a" + bytes([len(file)]) + file, b"\x22\x04nope"]), timeout=PATIENCE)
+        for it in (ads, b"envoy.service.cluster.v3.ClusterDiscoveryService", b"grpc.health.v1.Health"):
+            self.assertIn(it, listed)
+        for it in (b"StreamAggregatedResources", b"DeltaDiscoveryRequest", b"google/protobuf/any.proto"):
+            self.assertIn(it, found)
+        self.assertIn(b"FetchClusters", named)
+        # (what the stream has already isn't sent again)
+        self.assertNotIn(b"DeltaDiscoveryRequest\x12", named)
+        self.assertIn(b"don't have it", none)
+
+    def test_what_responses_and_requests_say(self):
+        self.put("a")
+        named = self.has(Bridge(self.tap.port, "--identifier", "me"))
+        with grpc.insecure_channel(named.address) as channel:
+            for make in (sotw, delta):
+                for on, name in ((self.channel, f"xds at 127.0.0.1:{self.tap.port}"), (channel, "me")):
+                    stream = self.has(make(on))
+                    stream.ask(type_url=CLUSTER)
+                    self.assertEqual(stream.take().control_plane.identifier, name)
+                    stream.ask()
+                    code, details = stream.status()
+                    self.assertEqual(code, grpc.StatusCode.INVALID_ARGUMENT)
+                    self.assertIn("type_url", details)
+
+    def test_old_connections(self):
+        self.put("a")
+        bridge = self.has(Bridge(self.tap.port, "--max-connection-age", "1s", "--max-connection-age-grace", "500ms"))
+        with grpc.insecure_channel(bridge.address) as channel:
+            for _ in range(2):
+                stream = self.has(delta(channel))
+                stream.ask(type_url=CLUSTER)
+                self.assertEqual(stream.take().resources[0].name, "a")
+                self.assertEqual(stream.status()[0], grpc.StatusCode.UNAVAILABLE)
+
+    def test_an_error_output_that_nobody_reads(self):
+        bridge = subprocess.Popen([BRIDGE, "--listen", "127.0.0.1:0", "--server", f"127.0.0.1:{self.control.port}"], stderr=subprocess.PIPE)
+        self.addCleanup(bridge.stderr.close)
+        self.addCleanup(bridge.kill)
+        address = bridge.stderr.readline().split()[3].decode()
+        fcntl.fcntl(bridge.stderr, fcntl.F_SETPIPE_SZ, 4096)
+        with grpc.insecure_channel(address) as channel:
+            stream = self.has(delta(channel))
+            stream.ask(type_url=ENDPOINT, resource_names_subscribe=["e"])
+            for i in range(40):
+                name = f"b{i}" + "x" * 300
+                self.put(name, noSuch=1)
+                stream.ask(type_url=CLUSTER, resource_names_subscribe=[name])
+            self.put("e", url=ENDPOINT)
+            self.assertEqual(stream.take().type_url, ENDPOINT)
+        begun = time.monotonic()
+        bridge.send_signal(signal.SIGTERM)
+        self.assertEqual(bridge.wait(PATIENCE), 0)
+        self.assertLess(time.monotonic() - begun, 8)
 
     def test_words(self):
         def run(*words):
@@ -346,7 +433,8 @@ class Ports(Streams):
 
         status, text, errors = run("--help")
         self.assertEqual((status, errors), (0, ""))
-        for it in ("listen", "server", "descriptors", "cache-bytes", "tls-cert", "tls-key", "client-ca"):
+        for it in ("listen", "server", "descriptors", "cache-bytes", "tls-cert", "tls-key", "client-ca", "skip-bad", "metrics", "check", "identity",
+                   "identifier", "max-connection-age", "max-connection-age-grace"):
             self.assertIn("-" + it, text)
         for words, part in ((["--listn", "x"], "listn"), (["x"], "x"), (["--listen", "0.0.0.0:1"], "loopback"),
                             (["--cache-bytes", "many"], "many"), (["--client-ca", "x"], "--tls-cert")):
