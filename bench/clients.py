@@ -73,6 +73,7 @@ class Client:
     def wants(self, name):
         return is_complete(self.kind) and "*" in self.names or name in self.names
 
+    # rule: accept-reject
     def answer(self, frame_kind, text):
         """What is printed of a response, and the request that answers it."""
         if frame_kind != (4 if self.is_delta else 2):
@@ -117,6 +118,7 @@ class Client:
         _, name, other, _ = TYPES[self.kind]
         return resource[name] if name in resource else resource.get(other)
 
+    # rule: whole-or-nothing
     def fault(self, stated, removed):
         seen = set(removed)
         for told, _, resource in stated:
@@ -133,6 +135,7 @@ class Client:
             seen.add(name)
         return None
 
+    # rule: whole-response, rule: whole-or-nothing
     def take(self, stated, removed):
         shown = {self.name_of(resource): (version, compact(resource)) for _, version, resource in stated}
         shown = {name: held for name, held in shown.items() if self.wants(name)}

@@ -24,6 +24,7 @@ NAMES = ["a", "b", "c", "\u00e9", "a b", "B", "zz", "0"]
 CLUSTERS = ["g1", "g2", "\u00e9", ""]
 
 
+# rule: groups
 def groups_of(texts):
     """The groups that a list of texts is, in ascending order, or none where it is no such list."""
     if not isinstance(texts, list) or not all(isinstance(text, str) and 1 <= len(text.encode()) <= 1024 for text in texts):
@@ -32,6 +33,7 @@ def groups_of(texts):
     return groups if len(groups) <= 64 else None
 
 
+# rule: star-covers, rule: groups
 def is_open_to(groups, cluster):
     """Whether the star of a client of this cluster covers a write of these groups."""
     return not groups or cluster.encode() in groups
@@ -137,6 +139,7 @@ def spelled(pick, value):
     return json.dumps(dict(items), ensure_ascii=pick.random() < 0.5, separators=pick.choice([(",", ":"), (", ", ": ")]))
 
 
+# rule: listed-names
 def answer(replica, held, changes, word, request):
     """What a fresh stream's first poll gives, by what is held of the type."""
     url, _, _, complete = TYPES[word]

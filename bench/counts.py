@@ -108,6 +108,7 @@ def under_load():
     server.stop()
 
 
+# rule: stale-nonce, rule: first-variant
 def without_effect():
     """What is refused answers nothing, and what is out of date neither answers nor asks."""
     server = Server("--log", text=put("route", "n1") + put("route", "n2"))

@@ -156,6 +156,7 @@ def written(writes):
     return compact({"writes": listed} if listed else {}).encode()
 
 
+# rule: greatest-write
 def held_of(writes):
     """The greatest write of each name, by type and then by name."""
     best = {}
@@ -230,6 +231,7 @@ def join(held, line):
     held[write.kind].join(write.name, (counter, writer, write.body and write.body.decode(), groups))
 
 
+# rule: listed-names
 def asked(replica, held, line):
     """What a fresh stream's first poll gives."""
     url, request = streams.request_of(1, line)

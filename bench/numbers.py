@@ -98,6 +98,7 @@ def ended(*words):
     return run.returncode, run.stderr
 
 
+# rule: new-numbers
 def numbers():
     for first, is_told in (((), False), (("--first-number", "7"), True)):
         server = Server(text=put("a", 1))
@@ -116,6 +117,7 @@ def numbers():
         server.stop()
 
 
+# rule: loaded-first
 def loads(folder):
     file = f"{folder}/changes"
     with open(file, "w", encoding="utf-8") as it:

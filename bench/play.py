@@ -26,6 +26,7 @@ TYPES = {
 UNSURE = object()
 
 
+# rule: groups
 def groups_of(texts):
     """The groups that a list of texts is, in ascending order, or none where it is no such list."""
     if not isinstance(texts, list) or not all(isinstance(text, str) and 1 <= len(text.encode()) <= 1024 for text in texts):
@@ -34,6 +35,7 @@ def groups_of(texts):
     return groups if len(groups) <= 64 else None
 
 
+# rule: star-covers, rule: groups
 def is_open_to(groups, cluster):
     """Whether the star of a client of this cluster covers a write of these groups."""
     return not groups or cluster.encode() in groups
@@ -129,6 +131,7 @@ class Catalogue:
         self.entries = {}
         self.changes = 0
 
+    # rule: greatest-write
     def join(self, name, write):
         """A write is its counter, its writer, its body or none for a deletion, and its groups."""
         old = self.entries.get(name)
@@ -136,15 +139,18 @@ class Catalogue:
             self.entries[name] = write
             self.changes += 1
 
+    # rule: tombstones
     def stamp(self, name, writer, body, groups=()):
         counter = max((write[0] for write in self.entries.values()), default=0) + 1
         self.join(name, (counter, writer, body, list(groups)))
 
+    # rule: tombstones
     def live(self, name):
         write = self.entries.get(name)
         return None if write is None or write[2] is None else ("%d-%d" % write[:2], write[2], write[3])
 
 
+# rule: greatest-write, rule: tombstones
 def rank(write):
     counter, writer, body, groups = write
     return counter, writer, body is not None, b"" if body is None else body.encode(), groups
@@ -171,11 +177,13 @@ class Session:
     def reaches(self, name):
         return self.star or name in self.names
 
+    # rule: star-covers, rule: covered-only
     def present(self, catalogue, name):
         """The version, the body and the groups of what is live under a name, if the interest covers it."""
         live = catalogue.live(name)
         return live if live and (name in self.names or self.star and is_open_to(live[2], self.cluster)) else None
 
+    # rule: listed-names, rule: delta-names
     def new_interest(self, first, request):
         """The star, the names, what was touched, and what was mentioned."""
         complete = is_complete(self.kind)
@@ -201,6 +209,7 @@ class Session:
         names = listed - {"*"} if complete else listed
         return star, names, True if star != self.star else names ^ self.names, names
 
+    # rule: stale-nonce
     def take(self, request):
         if not self.asked:
             self.asked = True
@@ -225,6 +234,7 @@ class Session:
     def was_touched(self, name):
         return self.touched is True or name in self.touched
 
+    # rule: accept-reject, rule: refused-offer
     def settle(self, error):
         offer = self.unanswered[1]
         self.unanswered = None
@@ -243,6 +253,7 @@ class Session:
         self.was_accepted = True
         self.refused = None
 
+    # rule: owed
     def owed(self, catalogue):
         """Of each name that is owed, its version, or none where it is gone."""
         found = {}
@@ -256,6 +267,7 @@ class Session:
                 found[name] = live[0]
         return found
 
+    # rule: owed
     def is_due(self, catalogue):
         owed = self.owed(catalogue)
         if self.is_delta:
@@ -264,9 +276,11 @@ class Session:
             return bool(owed) or not self.was_accepted
         return any(version is not None for version in owed.values())
 
+    # rule: owed
     def owes(self, catalogue):
         return self.asked and (self.is_due(catalogue) or self.unanswered is not None)
 
+    # rule: whole-response
     def offer(self, catalogue):
         owed = self.owed(catalogue)
         if self.is_delta:
@@ -275,6 +289,7 @@ class Session:
             return {name: self.present(catalogue, name)[0] for name in catalogue.entries if self.present(catalogue, name)}
         return {name: version for name, version in owed.items() if version is not None}
 
+    # rule: best-writes, rule: one-unanswered, rule: refused-offer
     def poll(self, catalogue, nonce):
         if not self.asked or self.unanswered is not None or not self.is_due(catalogue):
             return None
@@ -298,6 +313,7 @@ class Replica:
         self.streams.append([0, {kind: Session(kind, is_delta) for kind in TYPES}, False])
         return len(self.streams) - 1
 
+    # rule: groups
     def request(self, stream, request):
         _, sessions, has_begun = self.streams[stream]
         if not has_begun:
@@ -306,6 +322,7 @@ class Replica:
                 session.cluster = request.get("cluster", "")
         sessions[request["kind"]].take(request)
 
+    # rule: nonce-numbers, rule: type-order
     def poll(self, stream, kinds):
         for kind in kinds:
             count, sessions, _ = self.streams[stream]
@@ -318,6 +335,7 @@ class Replica:
     def owes(self, stream, kind):
         return self.streams[stream][1][kind].owes(self.catalogues[kind])
 
+    # rule: not-modified
     def rest(self, kind, names, version, cluster):
         """What a poll without a stream is told: the version and what is to be seen, or none where nothing changed."""
         catalogue = self.catalogues[kind]
@@ -379,6 +397,7 @@ class Client:
                     request["versions"] = {name: version for name, (version, _) in self.cache[kind].items()}
                 self.link[2].append(request)
 
+    # rule: delta-names
     def change(self, kind, wish):
         if self.is_delta != (wish[0] == "change"):
             return
@@ -393,6 +412,7 @@ class Client:
             request = self.request(kind, "", subscribe=wish[1], unsubscribe=wish[2]) if self.is_delta else self.request(kind, self.nonce[kind])
             self.link[2].append(request)
 
+    # rule: whole-response, rule: whole-or-nothing
     def receive(self, response):
         kind, nonce = response["kind"], response["nonce"]
         self.nonce[kind] = nonce
@@ -407,6 +427,7 @@ class Client:
                 self.cache[kind].pop(name, None)
         return self.request(kind, nonce)
 
+    # rule: whole-or-nothing
     def poll(self, replica, kind, is_lost):
         """A poll without a stream."""
         if not self.wanted[kind]:

@@ -44,6 +44,7 @@ def poll_of(body, word):
     return request["names"], held or "", request["cluster"]
 
 
+# rule: listed-names, rule: not-modified
 def answer(replica, word, names, version, cluster):
     """The status and the body of the reply to a poll."""
     url, complete = TYPES[word][0], is_complete(word)
@@ -59,6 +60,7 @@ def answer(replica, word, names, version, cluster):
     return 200, compact(made).encode()
 
 
+# rule: star-covers
 def covered(catalogue, star, names, cluster):
     """What is live and covered, in ascending order of names."""
     for name, (body, groups) in sorted(live(catalogue).items(), key=lambda entry: entry[0].encode()):
@@ -66,6 +68,7 @@ def covered(catalogue, star, names, cluster):
             yield name, body
 
 
+# rule: tombstones
 def live(catalogue):
     return {name: (body, groups) for name, (_, _, body, groups) in catalogue.entries.items() if body is not None}
 

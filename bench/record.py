@@ -320,6 +320,7 @@ def whole_run(program, folder, pick, given):
     look_at(program, folder, pick, given.puts)
 
 
+# rule: cuts
 def segments(program, folder, pick):
     """Puts of 30 kB, of which a journal of 4 MiB has 140; a stream that is told of some; and an operator who looks at all of it."""
     server = Server(program, folder)

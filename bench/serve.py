@@ -214,6 +214,7 @@ def numbers():
     server.stop()
 
 
+# rule: marks, rule: cuts
 def cuts_and_parts():
     """Cuts of a journal that weighs too much, and parts that replicas tell each other."""
     server = Server()
@@ -546,6 +547,7 @@ class Many:
         return sum(it[1] != body for it in self.open.values())
 
 
+# rule: wake-ups
 def many_streams():
     """Each of 1,500 streams is told of each change, again and again: after holds, after some ended, and after some came."""
     server = Server(text=put("a", x="0"), open_input=True)

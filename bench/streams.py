@@ -114,6 +114,7 @@ class Served:
         self.frame_kind = None
         self.written = b""
 
+    # rule: first-variant
     def ask(self, frame_kind, text):
         url, request = request_of(frame_kind, text)
         if self.frame_kind not in (None, frame_kind):
@@ -156,6 +157,7 @@ class Served:
             return refusal.args[0]
         return 0
 
+    # rule: whole-frames
     def frame(self, data):
         """Answers the first frame, and gives what is behind it."""
         if len(data) < 4:

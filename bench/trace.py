@@ -115,6 +115,7 @@ def error_in(value):
     return True
 
 
+# rule: groups
 def cluster_in(value):
     node = member(value, "node")
     if node is None:
@@ -214,6 +215,7 @@ class Talk:
         self.complete, self.is_delta = TYPES[kind][3], is_delta
         self.taken, self.sent, self.pending = [], [], set()
 
+    # rule: listed-names, rule: delta-names
     def explicit(self):
         """The names that the taken requests want by their names, and whether they want all."""
         if not self.taken:
@@ -230,16 +232,20 @@ class Talk:
             star = "*" in names or not named
         return (names - {"*"}, star) if self.complete else (names, False)
 
+    # rule: star-covers, rule: groups, rule: covered-only
     def covers(self, name, write, cluster):
         names, star = self.explicit()
         return name in names or star and (not write.groups or cluster.encode() in write.groups)
 
+    # rule: one-unanswered
     def open(self):
         return [it for it in self.sent if it["state"] == "open"]
 
+    # rule: stale-nonce
     def is_ignored(self, request):
         return bool(self.taken) and request.nonce != "" and not self.open() and not (self.sent and self.sent[-1]["nonce"] == request.nonce)
 
+    # rule: accept-reject, rule: awaited-names
     def take(self, request):
         if self.is_ignored(request):
             return
@@ -258,6 +264,7 @@ class Talk:
             listed = set(request.names) - ({"*"} if self.complete else set())
             self.pending = self.pending & listed | listed - before
 
+    # rule: refused-offer
     def refused_offer(self):
         for response in reversed(self.sent):
             if response["state"] == "accepted":
@@ -267,6 +274,9 @@ class Talk:
         return None
 
 
+# rule: greatest-write, rule: tombstones, rule: awaited-names, rule: whole-response
+# rule: covered-only, rule: no-live-removal, rule: best-writes, rule: one-unanswered
+# rule: refused-offer, rule: new-nonce
 def verdict(lines):
     """The first line at which a rule is broken, with the least such rule, or none."""
     best = {word: {} for word in TYPES}

@@ -95,6 +95,7 @@ func (r *frameReader) begin(length int) {
 	r.text = *r.long
 }
 
+// rule: whole-frames
 // next gives the kind and the text of the next frame; the text is good until the next call, or until done. At the end of the input
 // it gives io.EOF, within a frame io.ErrUnexpectedEOF, and for what is no frame an errBadFrame.
 func (r *frameReader) next() (byte, []byte, error) {

@@ -9,6 +9,7 @@ import (
 	"testing"
 )
 
+// rule: whole-frames
 func TestFramesAreReadAsTheyAreWritten(t *testing.T) {
 	texts := []string{"", "{}", strings.Repeat("x", 3*keptBuffer+1), "{\"a\":1}", strings.Repeat("y", maxText)}
 	here, there := net.Pipe()

@@ -84,6 +84,7 @@ const invalidArgument = 3
 // mostReason is how long the reason of a refusal is at most.
 const mostReason = 1000
 
+// rule: accept-reject
 // refusal is the JSON text of a request that refuses a response in the client's place: of the state of the world with
 // the names and the version that the client's last request of that type had, which of the incremental variant are none.
 func refusal(typeURL, nonce, version string, names []string, reason string) ([]byte, error) {

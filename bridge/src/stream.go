@@ -194,6 +194,7 @@ func (s *stream) ask(r *request) error {
 	return nil
 }
 
+// rule: stale-nonce
 // note keeps of a request what a refusal in the client's place will have to say. The client knows nothing of the
 // refusals that were made in its place: where its request names the response that it was sent last and answered before,
 // and the server had others refused since, the last of these is named, by which a server knows that the client is up
@@ -332,6 +333,7 @@ func (b *bridge) tellBad(typeURL string, bad []*fault) {
 	}
 }
 
+// rule: whole-or-nothing
 // refuse refuses a response in the client's place.
 func (s *stream) refuse(a *assembled, nonce string) error {
 	s.writing.Lock()

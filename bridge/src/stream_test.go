@@ -60,6 +60,7 @@ func TestWhatJSONCantSayOfARequestIsLeftOut(t *testing.T) {
 	k.wants(k.gets(), `{"node":{"id":"n","cluster":"c"},"typeUrl":"t","errorDetail":{"code":3,"message":"m"}}`)
 }
 
+// rule: accept-reject, rule: whole-or-nothing
 func TestARefusalInTheClientsPlace(t *testing.T) {
 	k := newWorld(t).sotw()
 	k.asks(`{"node":{"id":"n1"},"resourceNames":["a"],"typeUrl":"` + clusterURL + `"}`)
@@ -105,6 +106,7 @@ func TestARefusalInTheClientsPlace(t *testing.T) {
 	}
 }
 
+// rule: stale-nonce
 func TestAnAnswerIsNeverTakenForAnother(t *testing.T) {
 	// A server that doesn't wait for the answer to one response before it sends the next.
 	k := newWorld(t).delta()
@@ -119,6 +121,7 @@ func TestAnAnswerIsNeverTakenForAnother(t *testing.T) {
 	k.wants(k.asks(answer), strings.Replace(answer, "1", "2", 1))
 }
 
+// rule: accept-reject, rule: whole-or-nothing
 func TestARefusalOfADelta(t *testing.T) {
 	k := newWorld(t).delta()
 	k.asks(`{"resourceNamesSubscribe":["a"],"typeUrl":"` + clusterURL + `","initialResourceVersions":{"a":"1-1"}}`)

@@ -39,6 +39,7 @@ class Follows(unittest.TestCase):
         client.wait_for_reply("one")
         self.assertFalse(self.bridge.told("refused"))
 
+    # rule: accept-reject
     def test_a_rejected_resource_and_its_repair(self):
         put_service(self.control, "shop")
         put_endpoints(self.control, "endpoints", self.one.port)
@@ -62,6 +63,7 @@ class Follows(unittest.TestCase):
     def wait_for_error(self):
         wait_until(lambda: [it for it in self.tap.of("up") if "errorDetail" in it], what="a refusal")
 
+    # rule: whole-or-nothing
     def test_a_resource_that_the_bridge_refuses_and_its_repair(self):
         put_service(self.control, "shop")
         put_endpoints(self.control, "endpoints", self.one.port)

@@ -41,9 +41,11 @@ has_name-wants_of names q = has_text-keys (wants_of names) q ∙ ap is_some (get
 pub list_is_interest : ListIsInterest
 list_is_interest t cluster names = same_interest t cluster (texts (wants_of names)) names (has_name-wants_of names)
 
+-- rule: delta-names
 pub wanted_by_name : WantedByName
 wanted_by_name = get-wants_after
 
+-- rule: whole-response
 pub shown_by_name : ShownByName
 shown_by_name = get-cache_after
 
@@ -79,6 +81,7 @@ star_stays true false true b = refl
 star_stays true false false b = refl
 star_stays false s u b = refl
 
+-- rule: delta-names
 pub change_is_asked : ChangeIsAsked
 change_is_asked t cluster s u b =
     let m : Mention = record { subscribe = texts s; unsubscribe = texts u } in
@@ -104,6 +107,7 @@ none_left (x ∷ xs) e = absurd cc
 no_texts : texts finmap.empty ≡ []
 no_texts = ap (map (λ e. e.0)) (none_left (finmap.entries finmap.empty) (sym (finmap.len-entries finmap.empty) ∙ finmap.len-empty text_cmp (Unit {0})))
 
+-- rule: listed-names
 pub list_is_asked : ListIsAsked
 list_is_asked t a w named = ap (λ b. in_cluster a.interest.cluster (if b then listed t (texts w) else everything t)) named
 
@@ -126,6 +130,7 @@ as_if_begun t cluster m named = λ i. record {
   cluster = cluster;
 }
 
+-- rule: delta-names
 pub first_change_is_asked : FirstChangeIsAsked
 first_change_is_asked t cluster s u some =
     let m : Mention = record { subscribe = texts s; unsubscribe = texts u } in
@@ -133,6 +138,7 @@ first_change_is_asked t cluster s u some =
     ∙ ap (λ l. (delta_asked t (record { begun = true; named = false; interest = in_cluster cluster (listed t l) }) m).interest) (sym no_texts)
     ∙ sym (change_is_asked t cluster s u finmap.empty)
 
+-- rule: delta-names
 pub first_is_asked : FirstIsAsked
 first_is_asked t cluster w some =
     ap (λ l. (delta_asked t (unasked cluster) (record { subscribe = texts w; unsubscribe = l })).interest) (sym no_texts)

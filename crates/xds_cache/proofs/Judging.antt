@@ -17,16 +17,19 @@ module _ {A B : Type 0} (v : A → B) (st : B → Stated) (t : TypeName) (test :
   abbrev states : Cache → List A → Cache
   states now l = stated_by t now (map st (map v l))
 
+  -- rule: whole-or-nothing
   pub fault_more : (x : A) (now next : Cache) (w : Option (List ℕ)) → i < length xs → x ≡ get_or xs i x → fault_of t test removed now (st (v x)) ≡ None → next ≡ and_stated t now (st (v x))
       → faults now (drop i xs) ≡ w → faults next (drop (i + 1) xs) ≡ w
   fault_more x now next w within is none stated so_far =
       sym (ap (faults now) (next_one xs i x within is) ∙ (λ j. option_or (none j) (faults (sym stated j) (drop (i + 1) xs)))) ∙ so_far
 
+  -- rule: whole-or-nothing
   pub stated_more : (x : A) (now next : Cache) (w : Cache) → i < length xs → x ≡ get_or xs i x → next ≡ and_stated t now (st (v x))
       → states now (drop i xs) ≡ w → states next (drop (i + 1) xs) ≡ w
   stated_more x now next w within is stated so_far =
       sym (ap (states now) (next_one xs i x within is) ∙ (λ j. states (sym stated j) (drop (i + 1) xs))) ∙ so_far
 
+  -- rule: whole-or-nothing
   pub fault_here : (x : A) (now : Cache) (w o : Option (List ℕ)) (f : List ℕ) → i < length xs → x ≡ get_or xs i x → o ≡ fault_of t test removed now (st (v x)) → o ≡ Some f
       → faults now (drop i xs) ≡ w → o ≡ w
   fault_here x now w o f within is told some so_far =

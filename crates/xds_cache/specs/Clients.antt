@@ -59,6 +59,7 @@ with_shelf c t s = record c { shelves = with_at c.shelves t s }
 abbrev pub identity : List ℕ → List ℕ → Identity
 identity node_id cluster = record { id = node_id; cluster = cluster }
 
+-- rule: groups
 -- what the next request says of who asks: the first one on a stream alone says it
 abbrev pub node : Bool → Client → Option Identity
 node greeted c = if greeted then None else Some (identity c.node_id c.cluster)

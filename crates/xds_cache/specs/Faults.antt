@@ -36,6 +36,7 @@ pub record Stated : Type 0 where
 abbrev pub refusal_text : Refusal → List ℕ
 refusal_text e = decimal (number_of e) ++ codes " " ++ name_of e
 
+-- rule: whole-or-nothing
 -- the first of the reasons that holds
 abbrev pub first_reason : List (Bool × List ℕ) → Option (List ℕ)
 first_reason [] = None
@@ -45,6 +46,7 @@ first_reason (r ∷ rs) = if r.0 then Some r.1 else first_reason rs
 abbrev pub is_misnamed : Option (List ℕ) → List ℕ → Bool
 is_misnamed named name = option_map_or (λ n. not (bytes_eq n name)) named false
 
+-- rule: whole-or-nothing
 -- what may be wrong with a resource that is one, beside those that the response states before it and removes
 abbrev pub reasons : TypeName → Test → Wants → Cache → Option (List ℕ) → Data → List ℕ → List (Bool × List ℕ)
 reasons t test removed before named body name =
@@ -56,6 +58,7 @@ abbrev pub fault_by : TypeName → Test → Wants → Cache → Stated → Resul
 fault_by t test removed before r (Err e) = Some (refusal_text e)
 fault_by t test removed before r (Ok body) = first_reason (reasons t test removed before r.named r.resource body.name)
 
+-- rule: whole-or-nothing
 -- why a resource is at fault, if it is
 abbrev pub fault_of : TypeName → Test → Wants → Cache → Stated → Option (List ℕ)
 fault_of t test removed before r = fault_by t test removed before r (from_value t r.resource)
@@ -73,6 +76,7 @@ abbrev pub stated_by : TypeName → Cache → List Stated → Cache
 stated_by t before [] = before
 stated_by t before (r ∷ rs) = stated_by t (and_stated t before r) rs
 
+-- rule: whole-or-nothing
 -- Why the first resource at fault is rejected, after what was stated before.
 abbrev pub first_fault : TypeName → Test → Wants → Cache → List Stated → Option (List ℕ)
 first_fault t test removed before [] = None

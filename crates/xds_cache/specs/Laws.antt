@@ -27,17 +27,20 @@ WantsWhatIsReached = (t : TypeName) (cluster : List ℕ) (w : Wants) (name : Lis
 abbrev pub ListIsInterest : Type 0
 ListIsInterest = (t : TypeName) (cluster : List ℕ) (names : List (List ℕ)) → interest t cluster (wants_of names) ≡ in_cluster cluster (listed t names)
 
+-- rule: listed-names
 -- State of the world: a server makes of each request what is wanted. The first one on a stream names something.
 abbrev pub ListIsAsked : Type 0
 ListIsAsked =
     (t : TypeName) (a : Asked) (w : Wants) → (a.named || wants_some w) ≡ true → (sotw_asked t a (texts w)).interest ≡ interest t a.interest.cluster w
 
+-- rule: delta-names
 -- delta: of the first request on a stream, which subscribes all that is wanted
 abbrev pub FirstIsAsked : Type 0
 FirstIsAsked =
     (t : TypeName) (cluster : List ℕ) (w : Wants) → wants_some w ≡ true
     → (delta_asked t (unasked cluster) (record { subscribe = texts w; unsubscribe = [] })).interest ≡ interest t cluster w
 
+-- rule: delta-names
 -- delta: of a change that is the first request of its type on a stream, where nothing was wanted before
 abbrev pub FirstChangeIsAsked : Type 0
 FirstChangeIsAsked =
@@ -45,6 +48,7 @@ FirstChangeIsAsked =
     → (delta_asked t (unasked cluster) (record { subscribe = texts subscribe; unsubscribe = texts unsubscribe })).interest
     ≡ interest t cluster (wants_after subscribe unsubscribe finmap.empty)
 
+-- rule: delta-names
 -- a change is what a server makes of a request with its two lists, after the first request
 abbrev pub ChangeIsAsked : Type 0
 ChangeIsAsked =
@@ -52,10 +56,12 @@ ChangeIsAsked =
     → interest t cluster (wants_after subscribe unsubscribe before)
     ≡ (delta_asked t (record { begun = true; named = false; interest = interest t cluster before }) (record { subscribe = texts subscribe; unsubscribe = texts unsubscribe })).interest
 
+-- rule: delta-names
 -- what is wanted after a change, text by text
 abbrev pub WantedByName : Type 0
 WantedByName = (subscribe unsubscribe before : Wants) (name : List ℕ) → finmap.get (wants_after subscribe unsubscribe before) name ≡ marked_after subscribe unsubscribe before name
 
+-- rule: whole-response
 -- what is held after a response that is taken, name by name
 abbrev pub ShownByName : Type 0
 ShownByName =

@@ -36,17 +36,21 @@ rest_asking c t = sotw_request t (Some (identity c.node_id c.cluster)) (unlinked
 abbrev pub rest_request : Client → TypeName → Option Request
 rest_request c t = if wants_some (shelf c t).wants then Some (rest_asking c t) else None
 
+-- rule: not-modified
 -- Once a client wants these of a type: it drops what they don't reach, and forgets the version.
 abbrev pub forgetting : TypeName → Wants → Shelf → Shelf
 forgetting t w s = record (wanting t w false s) { nonce = []; accepted = [] }
 
+-- rule: not-modified
 abbrev pub rest_changed : TypeName → Wants → Client → Client
 rest_changed t w c = with_shelf c t (forgetting t w (shelf c t))
 
+-- rule: whole-or-nothing
 -- An answer that is taken is taken whole, with its version. Of one that is rejected nothing is kept.
 abbrev pub rest_taking : TypeName → Shelf → Delivery → Shelf
 rest_taking t s d = unlinked_shelf (taking t s d)
 
+-- rule: whole-or-nothing
 abbrev pub rest_delivered : TypeName → Test → Shelf → Delivery → Shelf
 rest_delivered t test s d = option_map_or (λ fault. s) (fault_in t test d) (rest_taking t s d)
 
@@ -64,6 +68,7 @@ abbrev pub has_body : Client → TypeName → Option Response → Bool
 has_body c t None = false
 has_body c t (Some r) = answers_poll c t r.type_url
 
+-- rule: not-modified
 -- An answer to a poll of a type: its body, or that nothing changed, which changes nothing. Refused is a body of another type, and
 -- any answer where nothing of the type is wanted, so that it wasn't asked for.
 abbrev pub rest_receive : Test → Client → TypeName → Option Response → Outcome (Option (List ℕ))

@@ -18,6 +18,7 @@ pub use Rattle.xds_cache.specs.Shelves.{cached_version, cached_versions}
 use Rattle.xds_cache.specs.Shelves.{Wants, Shelf, texts, wants_some, connected}
 use Rattle.xds_cache.specs.Clients.{Client, shelf, node}
 
+-- rule: accept-reject
 -- why a response is rejected, as `INVALID_ARGUMENT` of google.rpc.Code
 abbrev pub failure : List ℕ → Failure
 failure message = record { code = pos 3; message = message }
@@ -78,6 +79,7 @@ delta_opening t who s = delta_request t who s.wants finmap.empty (cached_version
 abbrev pub delta_first : Client → TypeName → Bool → DeltaRequest
 delta_first c t greeted = first_of delta_opening c t greeted
 
+-- rule: accept-reject
 -- the answer to a response
 abbrev pub delta_answer : TypeName → List ℕ → Option (List ℕ) → DeltaRequest
 delta_answer t nonce fault = record {

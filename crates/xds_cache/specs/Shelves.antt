@@ -86,11 +86,13 @@ marked name = Some tt
 abbrev pub wants_of : List (List ℕ) → Wants
 wants_of names = tabulate marked names
 
+-- rule: delta-names
 -- Whether a text is wanted after a change that subscribes and unsubscribes texts: one in both is subscribed.
 abbrev pub marked_after : Wants → Wants → Wants → List ℕ → Option (Unit {0})
 marked_after subscribe unsubscribe before name =
     if finmap.contains_key subscribe name then Some tt else if finmap.contains_key unsubscribe name then None else finmap.get before name
 
+-- rule: delta-names
 abbrev pub wants_after : Wants → Wants → Wants → Wants
 wants_after subscribe unsubscribe before =
     tabulate (marked_after subscribe unsubscribe before) (finmap.keys subscribe ++ finmap.keys before)

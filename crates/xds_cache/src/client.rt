@@ -125,6 +125,7 @@ impl Client {
         self.greeted
     }
 
+    // rule: groups
     /// Who asks, unless that was said before on this stream.
     pub(crate) fn node(&self, alloc: Global, greeted: bool) -> Result<Option<Node>, Refusal>
         ensures ok { IfOk result (λ n. n ≡ node_of greeted self.now) }

@@ -49,6 +49,7 @@ fn request_for(
     })
 }
 
+// rule: accept-reject
 // The answer to a response.
 fn answer_to(
     alloc: Global,

@@ -41,6 +41,7 @@ fn state_resource<A: Accept>(
     )
 }
 
+// rule: whole-or-nothing
 // Why the first resource at fault is rejected, if one is, and else what the resources state.
 fn judge<A: Accept>(
     alloc: Global,
@@ -64,6 +65,7 @@ fn judge<A: Accept>(
     Ok(None)
 }
 
+// rule: whole-or-nothing
 /// Why a response is rejected, if it is, and else what it states and which names are gone.
 pub fn judged<A: Accept>(
     alloc: Global,

@@ -34,6 +34,7 @@ fn fault_at(alloc: Global, fault: &str, name: &str) -> Result<Option<String>, Re
     Ok(Some(text))
 }
 
+// rule: whole-or-nothing
 // Whether a response gives a resource another name than its body does.
 fn is_misnamed(named: Option<&str>, name: &str) -> bool
     ensures { result ≡ misnamed (option_map (λ s. s.now) named.entry) name.now }
@@ -44,6 +45,7 @@ fn is_misnamed(named: Option<&str>, name: &str) -> bool
     }
 }
 
+// rule: whole-or-nothing
 // What is wrong with a resource that is one, beside those that the response states before it and removes.
 fn reason_against<A: Accept>(
     alloc: Global,
@@ -70,6 +72,7 @@ fn reason_against<A: Accept>(
     Ok(None)
 }
 
+// rule: whole-or-nothing
 // The same of a resource that is one.
 fn state_read<A: Accept>(
     alloc: Global,
@@ -97,6 +100,7 @@ fn state_read<A: Accept>(
     Ok(None)
 }
 
+// rule: whole-or-nothing
 /// Why a resource is at fault, if it is. Else it is put beside those that the response states before it.
 pub fn state<A: Accept>(
     alloc: Global,

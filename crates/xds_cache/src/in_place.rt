@@ -87,6 +87,7 @@ fn add(
     cache.put(alloc, name, copy)
 }
 
+// rule: whole-or-nothing
 // Puts a copy of what is stated of each of some names, of which nothing is held: all or nothing.
 fn add_all(
     alloc: Global,
@@ -146,6 +147,7 @@ fn store_all(cache: &mut Cache, stated: NameMap<Holding>, names: &[String])
     }
 }
 
+// rule: whole-or-nothing
 /// Makes what is held what it is after a response that states this, isn't the whole and removes these names, where all
 /// that is held is wanted. It changes all or nothing, and looks at the names of which the response speaks alone.
 /// Refused only by `OutOfMemory`.

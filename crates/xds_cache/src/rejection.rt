@@ -8,6 +8,7 @@ use xds_message::Status;
 // `INVALID_ARGUMENT` of `google.rpc.Code`.
 const INVALID_ARGUMENT: i32 = 3;
 
+// rule: accept-reject
 /// The status of a request that rejects a response, if it does.
 pub(crate) fn rejection(fault: Option<String>) -> Option<Status>
     ensures { result ≡ option_map failure (option_map string_bytes fault) }

@@ -62,6 +62,7 @@ impl<A: Accept> RestClient<A> {
         &self.client.shelf(kind).cache
     }
 
+    // rule: not-modified
     // What a poll of a type asks for.
     fn asking(&self, alloc: Global, kind: TypeName) -> Result<DiscoveryRequest, Refusal>
         ensures ok { IfOk result (λ q. q ≡ rest_asking self.now kind) }
@@ -96,6 +97,7 @@ impl<A: Accept> RestClient<A> {
         Ok(Some(request))
     }
 
+    // rule: not-modified
     /// Sets what the client wants of a type, drops what it wants no longer, and forgets the version that it kept. `*` in a
     /// list of a complete type is the star. Refused is only `OutOfMemory`; then nothing changed.
     pub fn change(&mut self, alloc: Global, kind: TypeName, names: &[String]) -> Result<(), Refusal>
@@ -119,6 +121,7 @@ impl<A: Accept> RestClient<A> {
         self.client.wants(kind) && type_url == kind.url()
     }
 
+    // rule: whole-or-nothing
     // Takes the body of an answer to a poll of a type, or rejects it. After an `Err` the client is as it was.
     fn take(
         &mut self,
@@ -143,6 +146,7 @@ impl<A: Accept> RestClient<A> {
         Ok(None)
     }
 
+    // rule: whole-or-nothing, rule: not-modified
     /// Takes the answer to a poll of a type: the body of a 200 is taken whole or rejected whole, and of one that is rejected
     /// it answers why, for the first resource at fault. No body stands for 304, by which nothing changed. Refused are:
     /// `BadMessage` where the body is of another type, or nothing of the type is wanted, so that it wasn't asked for; and

@@ -122,6 +122,7 @@ fn put_added(
     }
 }
 
+// rule: whole-response
 // What is left of what was held.
 fn left(
     alloc: Global,
@@ -159,6 +160,7 @@ fn added(
     Ok(next)
 }
 
+// rule: whole-response
 // What is held after a response that states this, is the whole or not, and removes these names.
 fn cache_after(
     alloc: Global,
@@ -199,6 +201,7 @@ fn is_partial(kind: TypeName, whole: bool, pruned: Option<TypeName>) -> bool
     }
 }
 
+// rule: whole-or-nothing
 // Makes what is held what it is after a response that states this, is the whole or not, and removes these names: all or
 // nothing.
 fn change_cache(
@@ -261,6 +264,7 @@ impl Shelf {
         })
     }
 
+    // rule: whole-or-nothing
     /// After a response of this nonce that is taken as this version: it states this, is the whole or not, and removes
     /// these names. All or nothing.
     pub fn state(
@@ -296,6 +300,7 @@ impl Shelf {
         Ok(())
     }
 
+    // rule: accept-reject, rule: whole-or-nothing
     /// After a response of this nonce that is rejected. All or nothing.
     pub fn reject(&mut self, alloc: Global, nonce: &str) -> Result<(), Refusal>
         ensures ok { OnOk result (self.new ≡ record self.old { nonce = nonce.now }) }
@@ -307,6 +312,7 @@ impl Shelf {
         Ok(())
     }
 
+    // rule: whole-or-nothing
     /// After a response of this nonce that is rejected, or else taken as this version: it states this, is the whole or
     /// not, and removes these names. All or nothing.
     pub fn settle(

@@ -47,6 +47,7 @@ fn request_for(
     })
 }
 
+// rule: accept-reject
 // The version that a shelf has after a response of this version that is rejected or taken.
 fn version_after<'a>(shelf: &'a Shelf, rejects: bool, version: &'a str) -> &'a str
     ensures { result.now ≡ (if rejects then shelf.now.accepted else version.now) }

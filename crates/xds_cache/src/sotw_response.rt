@@ -33,6 +33,7 @@ fn state_value<A: Accept>(
     state::<A>(alloc, kind, removed, before, None, "", resource)
 }
 
+// rule: whole-or-nothing
 // Why the first resource at fault is rejected, if one is, and else what the resources state.
 fn judge<A: Accept>(
     alloc: Global,
@@ -56,6 +57,7 @@ fn judge<A: Accept>(
     Ok(None)
 }
 
+// rule: whole-or-nothing
 /// Why a response is rejected, if it is, and else what it states and which names are gone: none.
 pub fn judged<A: Accept>(
     alloc: Global,

@@ -140,6 +140,7 @@ impl<A: Accept, R: Asks> StreamingClient<A, Up, R> {
         answer
     }
 
+    // rule: whole-or-nothing
     /// Takes a response whole or rejects it whole, and answers the request that says so: `error_detail` names the
     /// first resource at fault. Refused are: `NoStream` where the client found no memory before, `BadMessage` where it
     /// didn't ask for the type on this stream, and `OutOfMemory`. Then what it holds stays; after `OutOfMemory` it is of

@@ -24,6 +24,7 @@ pub fn wants_of(alloc: Global, names: &[String]) -> Result<Wants, Refusal>
     Ok(wants)
 }
 
+// rule: delta-names
 // A text that was wanted, unless it is unsubscribed.
 fn unless_dropped(unsubscribe: &Wants, name: &str) -> Option<()>
     ensures { result ≡ dropping unsubscribe.now name.now tt }
@@ -35,6 +36,7 @@ fn unless_dropped(unsubscribe: &Wants, name: &str) -> Option<()>
     }
 }
 
+// rule: delta-names
 // The texts that were wanted, but for those that are unsubscribed.
 fn without(alloc: Global, before: &Wants, unsubscribe: &Wants) -> Result<Wants, Refusal>
     ensures ok { IfOk result (λ w. w ≡ put_all (dropping unsubscribe.now) finmap.empty (finmap.entries before.now)) }
@@ -47,6 +49,7 @@ fn without(alloc: Global, before: &Wants, unsubscribe: &Wants) -> Result<Wants, 
     Ok(left)
 }
 
+// rule: delta-names
 /// What is wanted after a change. A text that is both subscribed and unsubscribed is wanted.
 pub fn wants_after(
     alloc: Global,
@@ -92,6 +95,7 @@ pub fn wants_some(wants: &Wants) -> bool
     wants.iter().next().is_some()
 }
 
+// rule: star-covers
 /// Whether the resource of a name is wanted: by its name, or by the star.
 pub fn is_wanted(kind: TypeName, wants: &Wants, name: &str) -> bool
     ensures { result ≡ is_wanted_by kind wants.now name.now }

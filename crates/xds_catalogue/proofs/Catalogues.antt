@@ -31,6 +31,7 @@ best_named_at : (ws : List StampedWrite) (q : List ℕ) (o : Option StampedWrite
 best_named_at ws q None e is = tt
 best_named_at ws q (Some w) e is = is.named
 
+-- rule: greatest-write
 pub best_named : (ws : List StampedWrite) (q : List ℕ) → IfSome (best ws q) (λ w. w.name ≡ q)
 best_named ws q = best_named_at ws q (best ws q) refl (best_is_greatest ws q)
 
@@ -66,6 +67,7 @@ find-best : (ws : List StampedWrite) (q : List ℕ) (o : Option StampedWrite) �
 find-best ws q None e = find-beside_none (best ws) ws q e
 find-best ws q (Some v) e = find-beside_some (best ws) ws q v e (ap is_some e)
 
+-- rule: greatest-write
 pub get-catalogue_of : (ws : List StampedWrite) (q : List ℕ) → finmap.get (catalogue_of ws) q ≡ best ws q
 get-catalogue_of ws q = finmap.get-from_entries nat_list_cmp_total (beside (best ws) ws) q ∙ find-best ws q (best ws q) refl
 

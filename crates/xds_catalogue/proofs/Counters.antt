@@ -64,6 +64,7 @@ half_same v w same =
 both_le : (m n : ℕ) → m ≤ n → n ≤ m → m ≡ n
 both_le m n a b = omega arith
 
+-- rule: tombstones
 pub greatest_counter-held : (ws : List StampedWrite) → greatest_counter (catalogue_of ws) ≡ greatest_counter_of ws
 greatest_counter-held ws =
     both_le _ _ (half_same (finmap.values (catalogue_of ws)) ws (best-entries_of ws)) (half_same ws (finmap.values (catalogue_of ws)) (λ q. sym (best-entries_of ws q)))

@@ -23,6 +23,7 @@ use Rattle.xds_catalogue.proofs.Numbering.{neither}
 pub made_of_its_writes : IsMadeOfItsWrites
 made_of_its_writes m named = same_entries _ m (λ q. get-catalogue_of (finmap.values m) q ∙ best-values m named q)
 
+-- rule: greatest-write
 pub order_does_not_matter : OrderDoesNotMatter
 order_does_not_matter v w same = same_catalogue v w (λ q. best_of_same_writes v w q same)
 
@@ -33,18 +34,22 @@ get-join m n q = get-catalogue_of (finmap.values m ++ finmap.values n) q ∙ bes
 best-join : (m n : Entries) (q : List ℕ) → best (finmap.values (join m n)) q ≡ greater (best (finmap.values m) q) (best (finmap.values n) q)
 best-join m n q = best-entries_of (finmap.values m ++ finmap.values n) q ∙ best_of_both (finmap.values m) (finmap.values n) q
 
+-- rule: greatest-write
 pub joins_the_writes : JoinsTheWrites
 joins_the_writes v w = same_catalogue _ _ (λ q. best_of_both _ _ q ∙ (λ i. greater (best-entries_of v q i) (best-entries_of w q i)) ∙ sym (best_of_both v w q))
 
+-- rule: greatest-write
 pub join_commutes : JoinCommutes
 join_commutes m n = same_entries _ _ (λ q. get-join m n q ∙ greater-comm (best (finmap.values m) q) (best (finmap.values n) q) ∙ sym (get-join n m q))
 
+-- rule: greatest-write
 pub join_associates : JoinAssociates
 join_associates l m n =
     same_entries _ _ (λ q. get-join l (join m n) q ∙ ap (greater (best (finmap.values l) q)) (best-join m n q)
     ∙ greater-assoc (best (finmap.values l) q) (best (finmap.values m) q) (best (finmap.values n) q)
     ∙ ap (λ o. greater o (best (finmap.values n) q)) (sym (best-join l m q)) ∙ sym (get-join (join l m) n q))
 
+-- rule: greatest-write
 pub join_is_idempotent : JoinIsIdempotent
 join_is_idempotent m named = same_entries _ _ (λ q. get-join m m q ∙ greater-idem (best (finmap.values m) q) ∙ best-values m named q)
 
@@ -69,12 +74,14 @@ least_at_most (Some v) (Some w) (Some u) h k = not_Greater _ (max_below write_cm
 join_of_entries : (m n : Entries) → IsCatalogue m → IsCatalogue n → (q : List ℕ) → greater (finmap.get m q) (finmap.get n q) ≡ finmap.get (join m n) q
 join_of_entries m n named_m named_n q = (λ i. greater (sym (best-values m named_m q) i) (sym (best-values n named_n q) i)) ∙ sym (get-join m n q)
 
+-- rule: greatest-write
 pub join_is_above : JoinIsAbove
 join_is_above m n named_m named_n = (
   λ q. subst (AtMost (finmap.get m q)) (join_of_entries m n named_m named_n q) (left_at_most (finmap.get m q) (finmap.get n q)),
   λ q. subst (AtMost (finmap.get n q)) (join_of_entries m n named_m named_n q) (right_at_most (finmap.get m q) (finmap.get n q)),
 )
 
+-- rule: greatest-write
 pub join_is_least : JoinIsLeast
 join_is_least l m n named_m named_n above_m above_n = λ q.
     subst (λ o. AtMost o (finmap.get l q)) (join_of_entries m n named_m named_n q) (least_at_most (finmap.get m q) (finmap.get n q) (finmap.get l q) (above_m q) (above_n q))
@@ -88,6 +95,7 @@ no_news_at before w (Some h) listed is = not_gt (write_cmp w h) (is.unsurpassed 
 none_counted : (b : Bool) (n : ℕ) → b ≡ false → n ≡ 0 → (if b then 1 else 0) + n ≡ 0
 none_counted b n e z = λ i. (if e i then 1 else 0) + z i
 
+-- rule: greatest-write
 pub repeats_change_nothing : RepeatsChangeNothing
 repeats_change_nothing before [] came = refl
 repeats_change_nothing before (w ∷ ws) came =

@@ -86,6 +86,7 @@ deleting-NotFound h name writer dead =
 pub deleting-refused : (h : Holdings) (name : List ℕ) (writer : ℕ) (e : Refusal) → has_live h.entries name ≡ true → next h ≡ Err e → deleting h name writer ≡ Err e
 deleting-refused h name writer e live was = past_front (has_live h.entries name) _ live ∙ unless_refused-refused h _ e was
 
+-- rule: tombstones
 -- a deletion whose write was joined
 pub deleting-Ok : (h k : Holdings) (name : List ℕ) (writer c n : ℕ) → has_live h.entries name ≡ true → next h ≡ Ok c → joining h (deleted c writer name ∷ []) ≡ Ok (n, k) → deleting h name writer ≡ Ok (c, k)
 deleting-Ok h k name writer c n live next_is joins =

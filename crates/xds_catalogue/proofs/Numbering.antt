@@ -87,6 +87,7 @@ one_numbered h w false below named numbered =
     let is = joined-old h w named below in
     (subst (λ k. IsCatalogue k.entries) (sym is) named, subst IsNumbered (sym is) numbered)
 
+-- rule: marks
 pub entries_are_numbered : EntriesAreNumbered
 entries_are_numbered h [] named numbered = subst IsNumbered (sym (joined-none h named)) numbered
 entries_are_numbered h (w ∷ ws) named numbered =
@@ -117,6 +118,7 @@ change_list-none before n (w ∷ ws) none =
     let parts = neither (is_news before w) (changes_after (before ++ w ∷ []) ws) none in
     nothing_after _ _ (change_list-none (before ++ w ∷ []) (n + (if is_news before w then 1 else 0)) ws parts.1) (ap (λ b. if b then (w.name, n + 1) ∷ [] else []) parts.0)
 
+-- rule: marks
 pub no_change_keeps_numbers : NoChangeKeepsNumbers
 no_change_keeps_numbers h ws none = ap (λ l. finmap.from_entries (l ++ finmap.entries h.latest)) (change_list-none (finmap.values h.entries) h.changes ws none) ∙ from_own_entries h.latest
 
@@ -209,6 +211,7 @@ told : (before : List StampedWrite) (n : ℕ) (ws : List StampedWrite) (name : L
 told before n [] name = inl (λ front w back splits named. absurd (no_split front w back splits), refl)
 told before n (x ∷ ws) name = told_more before n x ws name _ _ refl refl (told (before ++ x ∷ []) (n + (if is_news before x then 1 else 0)) ws name)
 
+-- rule: marks
 pub number_is_of_the_last : NumberIsOfTheLast
 number_is_of_the_last h ws name =
     let list = change_list (finmap.values h.entries) h.changes ws in

@@ -65,6 +65,7 @@ taken_back-same t w d aside fresh = λ i. record {
   greatest = t.greatest;
 }
 
+-- rule: refused-event
 -- one that was made
 pub taken_back-put : (t : TwoMaps) (w : StampedWrite) (d : PutAside) (changes greatest : ℕ) → IsPutAside t w d → finmap.get t.numbers (t.changes + 1) ≡ None
     → with_counts (taken_back (with_write t w) d) changes greatest ≡ with_counts t changes greatest
@@ -81,6 +82,7 @@ pub all_taken_back-same : (t : TwoMaps) (w : StampedWrite) (ds : List PutAside) 
 all_taken_back-same t w ds d changes greatest aside fresh =
     ap (λ s. with_counts s changes greatest) (all_taken_back-push t ds d ∙ ap (λ s. all_taken_back s ds) (taken_back-same t w d aside fresh))
 
+-- rule: refused-event
 pub all_taken_back-put : (t : TwoMaps) (w : StampedWrite) (ds : List PutAside) (d : PutAside) (changes greatest : ℕ) → IsPutAside t w d → finmap.get t.numbers (t.changes + 1) ≡ None
     → with_counts (all_taken_back (with_write t w) (ds ++ d ∷ [])) changes greatest ≡ with_counts (all_taken_back t ds) changes greatest
 all_taken_back-put t w ds d changes greatest aside fresh =

@@ -11,11 +11,13 @@ use Rattle.std.specs.Ordering.{is_gt}
 use Rattle.xds_resource.specs.Writes.{StampedWrite, write_cmp}
 use Rattle.xds_resource.specs.Best.{best}
 
+-- rule: greatest-write
 -- greater than what is held, or the first
 abbrev pub surpasses : StampedWrite → Option StampedWrite → Bool
 surpasses w None = true
 surpasses w (Some held) = is_gt (write_cmp w held)
 
+-- rule: greatest-write
 -- a write that changes what is held, after the writes before it
 abbrev pub is_news : List StampedWrite → StampedWrite → Bool
 is_news before w = surpasses w (best before w.name)

@@ -12,22 +12,27 @@ use Rattle.xds_resource.specs.Writes.{StampedWrite}
 use Rattle.xds_interest.specs.Interests.{Selection, covers}
 use Rattle.xds_catalogue.specs.Holdings.{Entries}
 
+-- rule: tombstones
 -- a write that puts a resource, and no deletion
 abbrev pub is_live : StampedWrite → Bool
 is_live w = is_some w.body
 
+-- rule: star-covers
 -- live, and covered by the interest of a client
 abbrev pub is_shown : Selection → StampedWrite → Bool
 is_shown s w = is_live w && covers s w.name w.groups
 
+-- rule: star-covers
 -- what a client of this interest sees, in ascending order of names
 abbrev pub content : Entries → Selection → List StampedWrite
 content m s = filter (is_shown s) (finmap.values m)
 
+-- rule: tombstones
 -- the write, if it is live
 abbrev pub if_live : StampedWrite → Option StampedWrite
 if_live w = if is_live w then Some w else None
 
+-- rule: tombstones
 -- what stands live under a name
 abbrev pub live_at : Entries → List ℕ → Option StampedWrite
 live_at m name = option_and_then if_live (finmap.get m name)

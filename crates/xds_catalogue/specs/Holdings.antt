@@ -35,6 +35,7 @@ holdings_code =
 abbrev pub nothing_held : Holdings
 nothing_held = record { entries = finmap.empty; changes = 0; latest = finmap.empty }
 
+-- rule: greatest-write
 -- the best write of each name that the list has
 abbrev pub catalogue_of : List StampedWrite → Entries
 catalogue_of ws = finmap.from_entries (map (λ w. (w.name, unwrap_or (best ws w.name) w)) ws)
@@ -43,6 +44,7 @@ catalogue_of ws = finmap.from_entries (map (λ w. (w.name, unwrap_or (best ws w.
 abbrev pub IsCatalogue : Entries → Type 0
 IsCatalogue m = (name : List ℕ) → IfSome (finmap.get m name) (λ w. w.name ≡ name)
 
+-- rule: marks
 -- Each entry has a number, from 1 to the count of changes, and no two have the same.
 pub record IsNumbered (h : Holdings) : Type 0 where
   pub each : (name : List ℕ) → is_some (finmap.get h.latest name) ≡ is_some (finmap.get h.entries name)

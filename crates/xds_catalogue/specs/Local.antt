@@ -21,10 +21,12 @@ use Rattle.xds_catalogue.specs.Holdings.{Entries, Holdings}
 use Rattle.xds_catalogue.specs.Content.{is_live}
 use Rattle.xds_catalogue.specs.Joins.{joined}
 
+-- rule: tombstones
 -- the greatest counter among writes, or 0 where there are none
 abbrev pub greatest_counter_of : List StampedWrite → ℕ
 greatest_counter_of ws = fold max 0 (map (λ w. w.counter) ws)
 
+-- rule: tombstones
 -- the greatest counter that a catalogue holds, deletions included, or 0 where it holds none
 abbrev pub greatest_counter : Entries → ℕ
 greatest_counter m = greatest_counter_of (finmap.values m)
@@ -45,6 +47,7 @@ has_live m name = option_map_or is_live (finmap.get m name) false
 abbrev pub putting : Holdings → NamedBody → List (List ℕ) → ℕ → Result (ℕ × Holdings) Refusal
 putting h r groups writer = unless_refused (spent_conditions h) (next_counter h, joined h (written (next_counter h) writer r groups ∷ []))
 
+-- rule: tombstones
 -- the counter of the write that deletes a live resource, and what is held then
 abbrev pub deleting : Holdings → List ℕ → ℕ → Result (ℕ × Holdings) Refusal
 deleting h name writer =

@@ -19,6 +19,7 @@ pending_code = code_by (Holdings × Holdings) (coded× holdings_code holdings_co
 abbrev pub tables_before : TwoMaps → List PutAside → ℕ → ℕ → TwoMaps
 tables_before t aside changes greatest = with_counts (all_taken_back t aside) changes greatest
 
+-- rule: refused-event
 -- Once the changes are taken back, or the numbers that entries had before are taken out, both maps agree.
 pub record IsPending (t : TwoMaps) (aside : List PutAside) (changes greatest : ℕ) : Type 0 where
   pub after : IsSoundBut (former_numbers aside) t

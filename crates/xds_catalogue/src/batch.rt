@@ -16,6 +16,7 @@ use std::cmp::Ordering;
 use xds_resource::stamp::MAX_COUNTER;
 use xds_resource::{Refusal, ResourceType, Write};
 
+// rule: greatest-write
 // Joins a write, and answers how many entries it added or replaced.
 pub(crate) fn join<T: ResourceType>(tables: &mut Tables<T>, write: Write<T>) -> Result<u64, Refusal>
     requires { IsSound tables.old }
@@ -37,6 +38,7 @@ pub(crate) fn join<T: ResourceType>(tables: &mut Tables<T>, write: Write<T>) -> 
     Ok(1)
 }
 
+// rule: greatest-write, rule: refused-event
 // Joins writes, all or none, and answers how many entries they added or replaced.
 pub(crate) fn join_all<T: ResourceType>(
     tables: &mut Tables<T>,
@@ -58,6 +60,7 @@ pub(crate) fn join_all<T: ResourceType>(
     Ok(tables.changes() - changes)
 }
 
+// rule: greatest-write, rule: refused-event
 // Puts the writes that are news, all or none, and answers what they put aside. The numbers that entries had before stay.
 pub(crate) fn put_all<T: ResourceType>(
     tables: &mut Tables<T>,
@@ -86,6 +89,7 @@ pub(crate) fn put_all<T: ResourceType>(
     Ok(displaced)
 }
 
+// rule: greatest-write
 // Puts a write, if it is news, and keeps what it puts aside.
 fn put_news<T: ResourceType>(
     tables: &mut Tables<T>,
@@ -111,6 +115,7 @@ fn put_news<T: ResourceType>(
     Ok(())
 }
 
+// rule: refused-event
 // Takes changes back, the last one first.
 pub(crate) fn take_all_back<T: ResourceType>(tables: &mut Tables<T>, displaced: Vec<Displaced<T>>)
     ensures { tables.new ≡ all_taken_back tables.old displaced.items }
@@ -159,6 +164,7 @@ fn count_changes<T: ResourceType>(tables: &Tables<T>, writes: &[Write<T>]) -> u6
     count
 }
 
+// rule: greatest-write
 // Whether a write adds or replaces an entry, after the writes before it.
 fn is_news_after<T: ResourceType>(tables: &Tables<T>, before: &[Write<T>], write: &Write<T>) -> bool
     requires { IsCatalogue tables.now.named.entries }
@@ -167,6 +173,7 @@ fn is_news_after<T: ResourceType>(tables: &Tables<T>, before: &[Write<T>], write
     tables.is_news(write) && surpasses_all(write, before)
 }
 
+// rule: greatest-write
 // Whether a write is greater than each of the others that has its name.
 fn surpasses_all<T: ResourceType>(write: &Write<T>, others: &[Write<T>]) -> bool
     ensures { result ≡ surpasses write.now (best others.now write.now.name) }

@@ -52,6 +52,7 @@ impl<T: ResourceType> Model for Catalogue<T> {
     ghost invariant = { λ c. IsSound c.tables };
 }
 
+// rule: tombstones, rule: star-covers
 // Those of some writes that are live and covered.
 fn shown_of<'a, T: ResourceType>(
     alloc: Global,
@@ -88,6 +89,7 @@ impl<T: ResourceType> Catalogue<T> {
         self.tables.changes()
     }
 
+    // rule: marks
     /// The entry whose latest change has the least number above this one, and that number, or none where no entry
     /// changed since. It takes no memory.
     pub fn next_change(&self, after: u64) -> Option<(u64, &Write<T>)>
@@ -114,6 +116,7 @@ impl<T: ResourceType> Catalogue<T> {
         }
     }
 
+    // rule: greatest-write
     /// Joins a write: it stands if it is greater than what stands under its name. Answers by how much the
     /// changes grew, 0 or 1.
     pub fn join_write(&mut self, write: Write<T>) -> Result<u64, Refusal>
@@ -124,6 +127,7 @@ impl<T: ResourceType> Catalogue<T> {
         join(&mut self.tables, write)
     }
 
+    // rule: greatest-write
     /// Joins writes, all or none, as one by one in their order. Answers by how much the changes grew.
     pub fn join_all(&mut self, writes: Vec<Write<T>>) -> Result<u64, Refusal>
         ensures joins { Gives (λ grown. (grown, self.new)) result (joining self.old writes.items) }
@@ -163,6 +167,7 @@ impl<T: ResourceType> Catalogue<T> {
         }
     }
 
+    // rule: groups
     /// Puts a resource with these groups, as a new write even where an equal body stands, and whatever groups that had.
     /// `writer` is the number of this replica, from 1.
     pub fn put(
@@ -182,6 +187,7 @@ impl<T: ResourceType> Catalogue<T> {
         Ok(stamp)
     }
 
+    // rule: tombstones
     /// Deletes the live resource of a name; the write stays for good. `writer` is the number of this replica,
     /// from 1.
     pub fn delete(&mut self, name: &str, writer: u16) -> Result<Stamp, Refusal>
@@ -198,6 +204,7 @@ impl<T: ResourceType> Catalogue<T> {
         Ok(stamp)
     }
 
+    // rule: tombstones
     // The write that stands under a name, if it puts a resource there.
     fn live(&self, name: &str) -> Option<&Write<T>>
         ensures same { IfSome result (λ w. w.now.name ≡ name.now) }
@@ -208,6 +215,7 @@ impl<T: ResourceType> Catalogue<T> {
         Some(held)
     }
 
+    // rule: tombstones
     // The stamp of the next write of this replica.
     fn next_stamp(&self, writer: u16) -> Result<Stamp, Refusal>
         requires { 1 ≤ writer }
@@ -222,6 +230,7 @@ impl<T: ResourceType> Catalogue<T> {
         Ok(Stamp::new(greatest + 1, writer))
     }
 
+    // rule: tombstones
     /// Every write that stands, deletions included, in ascending order of names. Refused only by `OutOfMemory`.
     pub fn entries(&self, alloc: Global) -> Result<Vec<&Write<T>>, Refusal>
         ensures ok { IfOk result (λ v. map (λ w. w.now) v.items ≡ finmap.values self.now.entries) }
@@ -231,6 +240,7 @@ impl<T: ResourceType> Catalogue<T> {
         self.tables.names().in_order(alloc)
     }
 
+    // rule: star-covers
     /// The live writes that a client of this interest sees, in ascending order of names. Refused only by
     /// `OutOfMemory`.
     pub fn content(&self, alloc: Global, interest: &Interest<T>) -> Result<Vec<&Write<T>>, Refusal>

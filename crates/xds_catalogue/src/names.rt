@@ -135,6 +135,7 @@ impl<T: ResourceType> Names<T> {
         }
     }
 
+    // rule: tombstones
     // What stands under each name, in ascending order of names.
     pub(crate) fn in_order(&self, alloc: Global) -> Result<Vec<&Write<T>>, Refusal>
         ensures ok { IfOk result (λ v. map (λ w. w.now) v.items ≡ finmap.values self.now.entries) }
@@ -148,6 +149,7 @@ impl<T: ResourceType> Names<T> {
         Ok(writes)
     }
 
+    // rule: tombstones
     // What stands live under a name.
     fn live(&self, name: &str) -> Option<&Write<T>>
         ensures { option_map (λ w. w.now) result ≡ live_at self.now.entries name.now }
@@ -157,6 +159,7 @@ impl<T: ResourceType> Names<T> {
         Some(write)
     }
 
+    // rule: star-covers
     // The live writes of the explicit names of an interest without the star, in ascending order of names.
     pub(crate) fn shown(
         &self,

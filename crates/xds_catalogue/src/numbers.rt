@@ -59,6 +59,7 @@ impl Numbers {
         drop(self.names.remove(&number));
     }
 
+    // rule: marks
     // The least number from this one on, with its name.
     pub(crate) fn first_from(&self, start: u64) -> Option<(u64, &str)>
         ensures found { IfSome result (λ p. finmap.get self.now p.0 ≡ Some p.1.now) }

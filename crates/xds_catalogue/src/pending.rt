@@ -55,6 +55,7 @@ impl<T: ResourceType> PendingJoin<T> {
         Catalogue { tables, alloc }
     }
 
+    // rule: refused-event
     /// The catalogue as it was before the writes.
     pub fn take_back(self) -> Catalogue<T>
         ensures { result ≡ self.before }

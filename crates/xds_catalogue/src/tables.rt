@@ -111,6 +111,7 @@ impl<T: ResourceType> Tables<T> {
         self.greatest
     }
 
+    // rule: greatest-write
     // Whether a write adds or replaces an entry.
     pub(crate) fn is_news(&self, write: &Write<T>) -> bool
         ensures { result ≡ surpasses write.now (finmap.get self.now.named.entries write.now.name) }
@@ -121,6 +122,7 @@ impl<T: ResourceType> Tables<T> {
         }
     }
 
+    // rule: greatest-write
     // The number of what a write would replace, if it would replace anything; none where it is no news.
     pub(crate) fn former(&self, write: &Write<T>) -> Option<Option<u64>>
         ensures news { is_some result ≡ surpasses write.now (finmap.get self.now.named.entries write.now.name) }
@@ -150,6 +152,7 @@ impl<T: ResourceType> Tables<T> {
         })
     }
 
+    // rule: tombstones, rule: marks
     // Puts a write under its name with the next number. The number of what stood there stays.
     pub(crate) fn put(&mut self, write: Write<T>) -> Result<(), Refusal>
         requires room { self.old.changes < max_counter }
@@ -178,6 +181,7 @@ impl<T: ResourceType> Tables<T> {
         self.numbers.remove(number);
     }
 
+    // rule: refused-event
     // Takes a change back, but for the counts. It takes no memory.
     pub(crate) fn take_back(&mut self, displaced: Displaced<T>)
         ensures { self.new ≡ taken_back self.old displaced }

@@ -246,6 +246,7 @@ lacks_none m s names catalogue none q shown absent =
     lacked_now (is_shown s w) (has_name names w.name) (sym (ap (λ o. option_map_or (λ w. not (is_lacked s names w)) o true) has.1) ∙ kept)
     (sym (shown_same m s q w has.1 named) ∙ shown) (ap (has_name names) named ∙ absent)
 
+-- rule: whole-response
 whole_lacks : (whole lacks : Bool) → (whole && lacks) ≡ false → whole ≡ true → lacks ≡ false
 whole_lacks true lacks e w = e
 whole_lacks false lacks e w = never (sym w)
@@ -274,15 +275,19 @@ module _ (s : ℕ) (e : List Line) (held : Entries) (k : Talk) (a : Answer) (spo
   shown_is : (q : List ℕ) → is_shown_in held (wanted k) q ≡ said.is_shown s a.kind e q
   shown_is q = (λ i. is_some (option_and_then if_live (same q i)) && option_map_or (λ w. covers (want i) q w.groups) (same q i) false)
 
+  -- rule: new-nonce
   tells_nonce : Tells (is_reused k a.nonce) (HasReusedNonce e s a)
   tells_nonce = tells_same _ _ (ap (λ b. bytes_eq a.nonce [] || b) (spoken.used a.nonce))
 
+  -- rule: best-writes
   tells_best : Tells (breaks_best_resources held a) (BreaksBestResources e a)
   tells_best = tells_same _ _ (λ i. list_any (λ x. not (option_map_or (is_put_by x) (option_and_then if_live (same x.name i)) false)) a.statements)
 
+  -- rule: covered-only
   tells_covered : Tells (states_uncovered held (wanted k) a) (StatesUncovered e s a)
   tells_covered = tells_same _ _ (λ i. list_any (λ name. not (option_map_or (λ w. covers (want i) name w.groups) (same name i) false)) (stated_names a))
 
+  -- rule: whole-response
   tells_whole : Tells (lacks_a_name a.kind held (wanted k) a) (LacksAName e s a)
   tells_whole = (
     λ is_so. let one = lacks_tells held (wanted k) (stated_names a) catalogue (and_second (is_whole a.variant a.kind) _ is_so) in
@@ -290,15 +295,18 @@ module _ (s : ℕ) (e : List Line) (held : Entries) (k : Talk) (a : Answer) (spo
     λ none_so lacks. lacks_none held (wanted k) (stated_names a) catalogue (whole_lacks (is_whole a.variant a.kind) _ none_so lacks.0) lacks.1 (shown_is lacks.1 ∙ lacks.2) lacks.3,
   )
 
+  -- rule: no-live-removal
   tells_removals : Tells (removes_shown held (wanted k) a) (RemovesShown e s a)
   tells_removals = tells_same _ _ (λ i. list_any (λ q. shown_is q i) a.removed)
 
+  -- rule: one-unanswered
   tells_order : Tells (is_some k.unanswered) (IsSecondAtATime e s a)
   tells_order = tells_same _ _ (stands_waits (sent s a.kind e) k.unanswered k.refused spoken.stands)
 
   refused_is : offers_refused held k a ≡ option_map_or (same_offer (offer_at e a)) (refused_offer (sent s a.kind e)) false
   refused_is = (λ i. option_map_or (same_offer (sym (offer_same a.kind e held a refl same) i)) (stands_refused (sent s a.kind e) k.unanswered k.refused spoken.stands i) false)
 
+  -- rule: refused-offer
   tells_refused : Tells (offers_refused held k a) (OffersRefused e s a)
   tells_refused = subst (λ (b : Bool). Tells b (OffersRefused e s a)) (sym refused_is) (refused_case (offer_at e a) (refused_offer (sent s a.kind e)))
 
@@ -336,6 +344,7 @@ module _ (s : ℕ) (t : TypeName) (e : List Line) (held : Entries) (k : Talk) (s
   both_now true false x y e = never (sym y)
   both_now false b x y e = never (sym x)
 
+  -- rule: awaited-names
   -- and where none is
   pub none_pending : none_missed held k ≡ true → ¬ (LeavesPending e s t)
   none_pending all p =

@@ -78,6 +78,7 @@ offer_case false false w = refl
 absent_case : (removed stated : Bool) (w : Option Due) → removed ≡ false → stated ≡ false → (if removed then Some Removed else if stated then w else None) ≡ None
 absent_case removed stated w r s = (λ i. if r i then Some Removed else if s i then w else None)
 
+-- rule: refused-offer
 -- the offer of a response is the one that is made of what is held
 pub offer_same : (t : TypeName) (e : List Line) (held : Entries) (a : Answer) → a.kind ≡ t → ((q : List ℕ) → finmap.get held q ≡ standing t e q) → offer_at e a ≡ offer_in held a
 offer_same t e held a kind same =

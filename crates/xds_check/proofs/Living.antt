@@ -236,6 +236,7 @@ without_absent m n none = same_names (finmap.remove m n) m (λ q. get-remove m n
 
 -- ---- and put in
 
+-- rule: tombstones
 pub put_back : (m : Entries) (n : List ℕ) (w : StampedWrite) (x y : LiveNames) → IsCatalogue m → finmap.get m n ≡ Some w → is_live w ≡ true → y ≡ with_name_of true n w.groups x → AreLive (finmap.remove m n) x → AreLive m y
 put_back m n w x y named has lives is live =
     subst (AreLive m) (sym is) (moved (finmap.remove m n) m n w.groups true x
@@ -257,6 +258,7 @@ dead_case : (m : Entries) (n q : List ℕ) (w : StampedWrite) (f : StampedWrite 
 dead_case m n q w f true same has dead = sym (ap (λ (o : Option StampedWrite). option_map_or f o false) (sym (ap (finmap.get m) (bytes_eq_tells n q same)) ∙ has) ∙ dead)
 dead_case m n q w f false same has dead = refl
 
+-- rule: tombstones
 -- what is deleted isn't put in
 pub left_out : (m : Entries) (n : List ℕ) (w : StampedWrite) (x : LiveNames) → IsCatalogue m → finmap.get m n ≡ Some w → is_live w ≡ false → AreLive (finmap.remove m n) x → AreLive m x
 left_out m n w x named has dead live = record {
@@ -282,6 +284,7 @@ joined_beside h w named =
     same_names _ _ (λ q. get-remove (joined h (w ∷ [])).entries w.name q ∙ ap (λ o. cond (bytes_eq w.name q) None o) (get-catalogue_of (finmap.values h.entries ++ w ∷ []) q)
     ∙ best_beside h.entries w q (bytes_eq w.name q) refl named ∙ sym (get-remove h.entries w.name q))
 
+-- rule: tombstones
 -- before any write no name lives
 pub none_live : (h : Holdings) (x : LiveNames) → h ≡ nothing_held → x ≡ no_names → AreLive h.entries x
 none_live h x held is =
@@ -362,6 +365,7 @@ module _ (m : Entries) (x : LiveNames) (s : Selection) (stated : Marks) (live : 
   lives_case q None f has is = never (sym is)
   lives_case q (Some w) f has is = (w, has, is)
 
+  -- rule: star-covers, rule: whole-response
   starred_shown : (q : List ℕ) (w : StampedWrite) (f : Bool) → s.star ≡ true → finmap.get m q ≡ Some w → (is_live w && f) ≡ true → (f ≡ true → is_open_to w.groups s.cluster ≡ true) → is_shown_in m s q ≡ true
   starred_shown q w f star has is clear =
       shown_so q w (has, and_first (is_live w) f is, ap (λ b. set.contains s.names q || b) (both_of s.star _ star (clear (and_second (is_live w) f is))) ∙ or_true (set.contains s.names q))
@@ -378,6 +382,7 @@ module _ (m : Entries) (x : LiveNames) (s : Selection) (stated : Marks) (live : 
       let w = lives_case one.0 (finmap.get m one.0) (λ v. is_live v && has_group v.groups s.cluster) refl (sym (live.for_groups s.cluster one.0) ∙ one.1) in
       (one.0, starred_shown one.0 w.0 (has_group w.0.groups s.cluster) star w.1 w.2 (λ is. ap (λ b. (length w.0.groups == 0) || b) is ∙ or_true (length w.0.groups == 0)), one.2)
 
+  -- rule: star-covers, rule: whole-response
   starred_lacking : (b : Bool) → are_among x.everyone stated ≡ b → s.star ≡ true → (b && are_among (in_group x.by_group s.cluster) stated) ≡ false → Lacking
   starred_lacking true all star none = group_lacking star none
   starred_lacking false lacks star none = everyone_lacking star lacks
@@ -390,6 +395,7 @@ module _ (m : Entries) (x : LiveNames) (s : Selection) (stated : Marks) (live : 
   live_case None is = never (sym is)
   live_case (Some w) is = (w, refl, sym (live_some w (is_live w)) ∙ is)
 
+  -- rule: whole-response
   explicit_lacking : has_explicit m s stated ≡ false → Lacking
   explicit_lacking none =
       let one = one_lacks (has_if_live m stated) (set.items s.names) none in

@@ -34,6 +34,7 @@ order_after earlier k (lines.Request r m) o = record { opened = o.opened; delta 
 order_after earlier k (lines.Response r a) o = record { opened = o.opened; delta = λ s. at_number k.delta r s (is_delta a.variant) (delta_on s earlier) (o.delta s) }
 order_after earlier k (lines.Idle r t) o = record { opened = o.opened; delta = o.delta }
 
+-- rule: first-variant
 spoken : (earlier : List Line) (k : OrderKept) (s : ℕ) (delta : Bool) → IsOrderOf earlier k
     → (unwrap_or (finmap.get k.opened s) false && option_map_or (is_same delta) (finmap.get k.delta s) true) ≡ (unwrap_or (open_on s earlier) false && option_map_or (is_same delta) (delta_on s earlier) true)
 spoken earlier k s delta o = λ i. unwrap_or (o.opened s i) false && option_map_or (is_same delta) (o.delta s i) true

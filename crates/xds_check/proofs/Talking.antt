@@ -155,6 +155,7 @@ wanted_is t cluster begun requests responses pends uses k s =
 
 -- ---- steps
 
+-- rule: groups
 -- the client makes itself known
 pub introduced_spoken : (t : TypeName) (cluster : Option (List ℕ)) (c : List ℕ) (begun : Bool) (requests : List Asking) (responses : List Sent) (pends uses : List ℕ → Bool) (k : Talk)
     → IsSpoken t cluster begun requests responses pends uses k → IsSpoken t (option_or cluster (Some c)) begun requests responses pends uses (introduced c k)
@@ -175,6 +176,7 @@ introduced_spoken t None c begun requests responses pends uses k s =
       used = s.used;
     }
 
+-- rule: listed-names, rule: delta-names
 -- a request is taken
 pub taken_spoken : (t : TypeName) (c : List ℕ) (begun : Bool) (requests : List Asking) (responses : List Sent) (pends uses : List ℕ → Bool) (k : Talk) (old : Selection) (m : Asking)
     → IsSpoken t (Some c) begun requests responses pends uses k → (wanted k).names ≡ old.names
@@ -224,6 +226,7 @@ settled_case t cluster begun requests responses pends uses k m false is s =
     subst (λ (rs : List Sent). IsSpoken t cluster begun requests rs pends uses k)
     (sym (unsettled begun m responses k.last k.unanswered k.refused s.last s.stands (sym (ap (λ b. answers_open b m k.last k.unanswered) s.begun_is) ∙ is))) s
 
+-- rule: accept-reject
 pub answered_spoken : (t : TypeName) (cluster : Option (List ℕ)) (begun : Bool) (requests : List Asking) (responses : List Sent) (pends uses : List ℕ → Bool) (k : Talk) (m : Asking)
     → IsSpoken t cluster begun requests responses pends uses k → IsSpoken t cluster begun requests (answered_list begun m responses) pends uses (answered m k)
 answered_spoken t cluster begun requests responses pends uses k m s = settled_case t cluster begun requests responses pends uses k m (is_answer k m) refl s
@@ -233,6 +236,7 @@ begun_spoken : (t : TypeName) (cluster : Option (List ℕ)) (begun : Bool) (requ
 begun_spoken t cluster begun requests responses pends uses k s =
     record { known = s.known; begun_is = refl; sotw = s.sotw; delta = s.delta; strange = s.strange; last = s.last; stands = s.stands; waiting = s.waiting; used = s.used }
 
+-- rule: stale-nonce
 ignored_same : (t : TypeName) (cluster : Option (List ℕ)) (begun : Bool) (requests : List Asking) (responses : List Sent) (pends uses : List ℕ → Bool) (k : Talk) (m : Asking)
     → IsSpoken t cluster begun requests responses pends uses k → is_stale k m ≡ lines.is_stale begun responses m
 ignored_same t cluster begun requests responses pends uses k m s =
@@ -249,6 +253,7 @@ requested_case t c begun requests responses pends uses k old m false s names =
     begun_spoken t (Some c) begun (requests ++ m ∷ []) (answered_list begun m responses) after uses (answered m (with_taken t m k))
     (answered_spoken t (Some c) begun (requests ++ m ∷ []) responses after uses (with_taken t m k) m (taken_spoken t c begun requests responses pends uses k old m s names))
 
+-- rule: stale-nonce
 -- a request of the type
 pub requested_spoken : (t : TypeName) (c : List ℕ) (begun : Bool) (requests : List Asking) (responses : List Sent) (pends uses : List ℕ → Bool) (k : Talk) (old : Selection) (m : Asking)
     → IsSpoken t (Some c) begun requests responses pends uses k → (wanted k).names ≡ old.names
@@ -263,6 +268,7 @@ used_case : (here : Bool) (o : Option Bool) → is_some (cond here (Some true) o
 used_case true o = refl
 used_case false o = refl
 
+-- rule: new-nonce
 -- a nonce is used
 pub nonce_spoken : (t : TypeName) (cluster : Option (List ℕ)) (begun : Bool) (requests : List Asking) (responses : List Sent) (pends uses : List ℕ → Bool) (k : Talk) (nonce : List ℕ)
     → IsSpoken t cluster begun requests responses pends uses k → IsSpoken t cluster begun requests responses pends (λ q. bytes_eq nonce q || uses q) (with_nonce nonce k)

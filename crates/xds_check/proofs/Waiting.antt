@@ -22,6 +22,7 @@ listed_case false true true = refl
 listed_case false true false = refl
 listed_case false false waits = refl
 
+-- rule: awaited-names
 pub listed_waits : (t : TypeName) (old : Selection) (m : Marks) (names : List (List ℕ)) (q : List ℕ)
     → is_marked (listed_marks t old m names) q ≡ (has_name (names_among t names) q && (is_marked m q || not (set.contains old.names q)))
 listed_waits t old m names q =
@@ -63,6 +64,7 @@ mentioned_case false true false false (Some false) = refl
 mentioned_case false false true fresh (Some false) = refl
 mentioned_case false false false fresh (Some false) = refl
 
+-- rule: awaited-names
 pub mentioned_waits : (t : TypeName) (begun : Bool) (r : DeltaRequest) (m : Marks) (q : List ℕ)
     → is_marked (mentioned_marks t begun r m) q
     ≡ ((has_name (names_among t r.resource_names_subscribe) q && (begun || not (is_some (finmap.get r.initial_resource_versions q))))
@@ -96,6 +98,7 @@ neither_told true false r = refl
 neither_told false true r = refl
 neither_told false false r = refl
 
+-- rule: awaited-names
 pub told_waits : (m : Marks) (stated removed : List (List ℕ)) (q : List ℕ) → is_marked (unmarked (unmarked m stated) removed) q ≡ (is_marked m q && not (has_name stated q || has_name removed q))
 told_waits m stated removed q =
     unmarked_waits (unmarked m stated) removed q ∙ ap (λ b. b && not (has_name removed q)) (unmarked_waits m stated q) ∙ neither_told (is_marked m q) (has_name stated q) (has_name removed q)

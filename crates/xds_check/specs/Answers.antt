@@ -106,14 +106,17 @@ abbrev pub nonce_of : Asking → List ℕ
 nonce_of (Sotw m) = m.response_nonce
 nonce_of (Delta m) = m.response_nonce
 
+-- rule: accept-reject
 -- whether a request that answers a response rejects it
 abbrev pub rejects : Asking → Bool
 rejects (Sotw m) = is_some m.error_detail
 rejects (Delta m) = is_some m.error_detail
 
+-- rule: groups
 abbrev pub cluster_in : Option Identity → List ℕ
 cluster_in node = option_map_or (λ n. n.cluster) node []
 
+-- rule: groups
 -- the cluster text of the node in a request, empty where there is none
 abbrev pub cluster_of : Asking → List ℕ
 cluster_of (Sotw m) = cluster_in m.node

@@ -130,38 +130,47 @@ wanted k = if k.delta.begun then k.delta.interest else k.sotw.interest
 
 -- ---- requests
 
+-- rule: groups
 -- once the client made itself known, as one of this cluster
 abbrev pub introduced : List ℕ → Talk → Talk
 introduced cluster k = if k.known then k else record k { known = true; sotw = unasked cluster; delta = unasked cluster }
 
+-- rule: stale-nonce
 -- whether the nonce of a request is stale, so that the request is ignored
 abbrev pub is_stale : Talk → Asking → Bool
 is_stale k m = k.begun && not (bytes_eq (nonce_of m) []) && not (is_some k.unanswered) && not (option_map_or (bytes_eq (nonce_of m)) k.last false)
 
+-- rule: awaited-names
 -- what a request of the state of the world says of a name that it lists
 abbrev pub listed_mark : TypeName → Selection → Marks → List ℕ → Option Bool
 listed_mark t old m name = if not (is_star t name) && (is_marked m name || not (set.contains old.names name)) then Some true else None
 
+-- rule: awaited-names
 abbrev pub listed_marks : TypeName → Selection → Marks → List (List ℕ) → Marks
 listed_marks t old m names = put_each (listed_mark t old m) finmap.empty names
 
+-- rule: awaited-names
 -- without the names that a delta request unsubscribes, which subscribes others
 abbrev pub left_marks : List (List ℕ) → Marks → List (List ℕ) → Marks
 left_marks subscribed m names = without_each (λ name. not (has_name subscribed name)) m names
 
+-- rule: awaited-names
 -- what one says of a name that it subscribes, whose client says to have these versions
 abbrev pub joined_mark : TypeName → Bool → VersionMap → List ℕ → Option Bool
 joined_mark t begun versions name = if not (is_star t name) && (begun || not (is_some (finmap.get versions name))) then Some true else None
 
+-- rule: awaited-names
 abbrev pub mentioned_marks : TypeName → Bool → DeltaRequest → Marks → Marks
 mentioned_marks t begun m before =
     put_each (joined_mark t begun m.initial_resource_versions) (left_marks m.resource_names_subscribe before m.resource_names_unsubscribe) m.resource_names_subscribe
 
+-- rule: awaited-names
 -- the names that wait once a request is taken
 abbrev pub waiting_after : TypeName → Talk → Asking → Marks
 waiting_after t k (Sotw m) = listed_marks t (wanted k) k.waiting m.resource_names
 waiting_after t k (Delta m) = mentioned_marks t k.begun m k.waiting
 
+-- rule: listed-names, rule: delta-names
 abbrev pub with_asked : TypeName → Talk → Asking → Talk
 with_asked t k (Sotw m) = record k { sotw = sotw_asked t k.sotw m.resource_names }
 with_asked t k (Delta m) = record k { delta = delta_asked t k.delta (mention_in m) }
@@ -170,10 +179,12 @@ with_asked t k (Delta m) = record k { delta = delta_asked t k.delta (mention_in 
 abbrev pub with_taken : TypeName → Asking → Talk → Talk
 with_taken t m k = record (with_asked t k m) { waiting = waiting_after t k m }
 
+-- rule: accept-reject
 -- whether a request answers the response that is unanswered
 abbrev pub is_answer : Talk → Asking → Bool
 is_answer k m = k.begun && is_some k.unanswered && option_map_or (bytes_eq (nonce_of m)) k.last false
 
+-- rule: accept-reject, rule: refused-offer
 -- once the response is answered, if the request does that
 abbrev pub answered : Asking → Talk → Talk
 answered m k =
@@ -182,6 +193,7 @@ answered m k =
 abbrev pub begun_now : Talk → Talk
 begun_now k = record k { begun = true }
 
+-- rule: stale-nonce
 -- once a request of the type came
 abbrev pub requested : TypeName → Asking → Talk → Talk
 requested t m k = begun_now (answered m (if is_stale k m then k else with_taken t m k))
@@ -192,25 +204,31 @@ asked t m k = if is_of t m then requested t m (introduced (cluster_of m) k) else
 
 -- ---- responses
 
+-- rule: refused-offer
 -- what a response says of a name that it states
 abbrev pub stated_due : Entries → List ℕ → Option Due
 stated_due m name = option_map (λ w. Stated (version_of w)) (finmap.get m name)
 
+-- rule: refused-offer
 -- the offer of a response
 abbrev pub offer_in : Entries → Answer → Offer
 offer_in m a = put_each (λ _. Some Removed) (put_each (stated_due m) finmap.empty (stated_names a)) a.removed
 
+-- rule: awaited-names
 -- without the marks of these names
 abbrev pub unmarked : Marks → List (List ℕ) → Marks
 unmarked m names = without_each (λ _. true) m names
 
+-- rule: awaited-names, rule: one-unanswered
 -- once a response of the type was sent
 abbrev pub responded : Entries → Answer → Talk → Talk
 responded m a k = record k { last = Some a.nonce; unanswered = Some (offer_in m a); waiting = unmarked (unmarked k.waiting (stated_names a)) a.removed }
 
+-- rule: new-nonce
 abbrev pub with_nonce : List ℕ → Talk → Talk
 with_nonce nonce k = record k { used = finmap.insert k.used nonce true }
 
+-- rule: new-nonce
 -- once a response of whatever type was sent
 abbrev pub told : TypeName → Entries → Answer → Talk → Talk
 told t m a k = if is_same_type a.kind t then responded m a (with_nonce a.nonce k) else with_nonce a.nonce k
@@ -228,38 +246,48 @@ heard t m s (lines.Idle r u) k = k
 
 -- ---- what breaks the rules, by what is kept
 
+-- rule: new-nonce
 -- whether a response has no nonce, or one that was used before
 abbrev pub is_reused : Talk → List ℕ → Bool
 is_reused k nonce = bytes_eq nonce [] || is_some (finmap.get k.used nonce)
 
+-- rule: best-writes
 -- whether a resource is that of the best live write of its name
 abbrev pub is_best_in : Entries → Statement → Bool
 is_best_in m x = option_map_or (is_put_by x) (live_at m x.name) false
 
+-- rule: best-writes
 abbrev pub breaks_best_resources : Entries → Answer → Bool
 breaks_best_resources m a = list_any (λ x. not (is_best_in m x)) a.statements
 
+-- rule: covered-only
 -- whether a name that has a best write is covered
 abbrev pub is_covered_in : Entries → Selection → List ℕ → Bool
 is_covered_in m s name = option_map_or (λ w. covers s name w.groups) (finmap.get m name) false
 
+-- rule: covered-only
 abbrev pub states_uncovered : Entries → Selection → Answer → Bool
 states_uncovered m s a = list_any (λ name. not (is_covered_in m s name)) (stated_names a)
 
+-- rule: whole-response
 -- whether a response lacks one of some writes
 abbrev pub lacks_one : List (List ℕ) → List StampedWrite → Bool
 lacks_one names ws = list_any (λ w. not (has_name names w.name)) ws
 
+-- rule: whole-response
 abbrev pub lacks_a_name : TypeName → Entries → Selection → Answer → Bool
 lacks_a_name t m s a = is_whole a.variant t && lacks_one (stated_names a) (content m s)
 
+-- rule: no-live-removal
 -- whether a name is live and covered
 abbrev pub is_shown_in : Entries → Selection → List ℕ → Bool
 is_shown_in m s name = is_some (live_at m name) && is_covered_in m s name
 
+-- rule: no-live-removal
 abbrev pub removes_shown : Entries → Selection → Answer → Bool
 removes_shown m s a = list_any (is_shown_in m s) a.removed
 
+-- rule: refused-offer
 abbrev pub offers_refused : Entries → Talk → Answer → Bool
 offers_refused m k a = option_map_or (same_offer (offer_in m a)) k.refused false
 
@@ -271,6 +299,7 @@ least_by_names t m s a =
     else if lacks_a_name t m s a then Some WholeResponse
     else if removes_shown m s a then Some RightRemovals else None
 
+-- rule: one-unanswered
 -- and of those that look at what became of the responses before it
 abbrev pub least_by_order : Entries → Talk → Answer → Option Rule
 least_by_order m k a =
@@ -280,10 +309,12 @@ least_by_order m k a =
 abbrev pub least : TypeName → Entries → Talk → Answer → Option Rule
 least t m k a = if is_reused k a.nonce then Some FreshNonce else option_or (least_by_names t m (wanted k) a) (least_by_order m k a)
 
+-- rule: awaited-names
 -- whether a name waits whose answer is missed
 abbrev pub is_missed : Entries → Talk → List ℕ → Bool
 is_missed m k name = is_marked k.waiting name && (k.delta.begun || is_some (live_at m name))
 
+-- rule: awaited-names
 -- whether no name waits whose answer is missed
 abbrev pub none_missed : Entries → Talk → Bool
 none_missed m k = list_all (λ e. not (is_missed m k e.0)) (finmap.entries k.waiting)
@@ -299,6 +330,7 @@ broken_in t m talks (lines.Idle s u) = if is_same_type u t then (if none_missed 
 
 -- ---- all that is kept, after a line
 
+-- rule: greatest-write
 -- the writes that are held
 abbrev pub held_after : TypeName → Line → Holdings → Holdings
 held_after t (lines.Write w) h = option_map_or (λ x. joined h (x ∷ [])) (write_of t w) h

@@ -72,10 +72,12 @@ write_at t (lines.Idle s u) = []
 abbrev pub writes_in : TypeName → List Line → List StampedWrite
 writes_in t earlier = flat_map (write_at t) earlier
 
+-- rule: greatest-write
 -- the best write of a name: the greatest
 abbrev pub standing : TypeName → List Line → List ℕ → Option StampedWrite
 standing t earlier name = best (writes_in t earlier) name
 
+-- rule: tombstones
 -- the best write of a name, if it isn't a deletion
 abbrev pub live : TypeName → List Line → List ℕ → Option StampedWrite
 live t earlier name = option_and_then if_live (standing t earlier name)
@@ -106,6 +108,7 @@ has_asked s t earlier = list_any (λ l. is_asking (turn s t l)) earlier
 
 -- ---- responses, and what became of each
 
+-- rule: refused-offer
 -- What a response offers of a name: the version of the best write of a name that it states, or that a name is removed. (A name
 -- that it both states and removes counts as removed; it breaks another rule in any case.)
 abbrev pub offered : List Line → Answer → List ℕ → Option Due
@@ -113,6 +116,7 @@ offered earlier a name =
     if has_name a.removed name then Some Removed
     else if has_name (stated_names a) name then option_map (λ w. Stated (version_of w)) (standing a.kind earlier name) else None
 
+-- rule: refused-offer
 -- the offer of a response, at its line
 abbrev pub offer_at : List Line → Answer → Offer
 offer_at earlier a = tabulate (offered earlier a) (a.removed ++ stated_names a)
@@ -133,11 +137,13 @@ pub record Sent : Type 0 where
   pub offer : Offer
   pub fate : Fate
 
+-- rule: accept-reject
 -- a response once this request came: one that is unanswered and has its nonce is accepted or refused by it
 abbrev pub answered_by : Asking → Sent → Sent
 answered_by m r =
     if is_unanswered r.fate && bytes_eq r.nonce (nonce_of m) then record { nonce = r.nonce; offer = r.offer; fate = if rejects m then Refused else Accepted } else r
 
+-- rule: accept-reject
 -- the responses after a line; the first request of all answers none
 abbrev pub sent_after : List Line → Bool → Turn → List Sent → List Sent
 sent_after earlier begun (Asks m) before = if begun then map (answered_by m) before else before
@@ -149,6 +155,7 @@ abbrev pub sent : ℕ → TypeName → List Line → List Sent
 sent s t [] = []
 sent s t (l ∷ earlier) = sent_after earlier (has_asked s t earlier) (turn s t l) (sent s t earlier)
 
+-- rule: one-unanswered
 abbrev pub is_waiting : List Sent → Bool
 is_waiting responses = list_any (λ r. is_unanswered r.fate) responses
 
@@ -157,24 +164,28 @@ abbrev pub last_nonce : List Sent → Option (List ℕ)
 last_nonce [] = None
 last_nonce (r ∷ responses) = Some r.nonce
 
+-- rule: refused-offer
 -- the offer of the latest refused response, where none was accepted since
 abbrev pub refused_after : Fate → Offer → Option Offer → Option Offer
 refused_after Unanswered o before = before
 refused_after Accepted o before = None
 refused_after Refused o before = Some o
 
+-- rule: refused-offer
 abbrev pub refused_offer : List Sent → Option Offer
 refused_offer [] = None
 refused_offer (r ∷ responses) = refused_after r.fate r.offer (refused_offer responses)
 
 -- ---- requests that are taken
 
+-- rule: stale-nonce
 -- The nonce of a request is stale, and the request ignored, where it isn't the first of its type, has a nonce, no response of the
 -- type is unanswered, and its nonce isn't that of the last response.
 abbrev pub is_stale : Bool → List Sent → Asking → Bool
 is_stale begun responses m =
     begun && not (bytes_eq (nonce_of m) []) && not (is_waiting responses) && not (option_map_or (bytes_eq (nonce_of m)) (last_nonce responses) false)
 
+-- rule: stale-nonce
 abbrev pub taken_after : Bool → List Sent → Turn → List Asking → List Asking
 taken_after begun responses (Asks m) before = if is_stale begun responses m then before else before ++ m ∷ []
 taken_after begun responses (Answers a) before = before
@@ -187,6 +198,7 @@ taken s t (l ∷ earlier) = taken_after (has_asked s t earlier) (sent s t earlie
 
 -- ---- interests
 
+-- rule: groups
 -- the cluster text that a line brings, if it is a request on the stream, be it ignored or of a type outside the table
 abbrev pub cluster_at : ℕ → Line → Option (List ℕ)
 cluster_at s (lines.Write w) = None
@@ -196,6 +208,7 @@ cluster_at s (lines.Request r m) = if r == s then Some (cluster_of m) else None
 cluster_at s (lines.Response r a) = None
 cluster_at s (lines.Idle r u) = None
 
+-- rule: groups
 -- the cluster text of the stream's first request
 abbrev pub cluster_on : ℕ → List Line → Option (List ℕ)
 cluster_on s [] = None
@@ -212,6 +225,7 @@ abbrev pub is_mentioned : List Mention → Bool
 is_mentioned [] = false
 is_mentioned (m ∷ ms) = true
 
+-- rule: listed-names, rule: delta-names
 -- the interest that some requests come to, by the rules of their variant
 abbrev pub interest_of : TypeName → List Asking → List Mention → Selection
 interest_of t requests [] = sotw_interest t (lists requests)
@@ -225,16 +239,19 @@ interest s t earlier = in_cluster (unwrap_or (cluster_on s earlier) []) (interes
 abbrev pub speaks_delta : ℕ → TypeName → List Line → Bool
 speaks_delta s t earlier = is_mentioned (mentions (taken s t earlier))
 
+-- rule: covered-only
 -- whether a name that has a best write is covered
 abbrev pub is_covered : ℕ → TypeName → List Line → List ℕ → Bool
 is_covered s t earlier name = option_map_or (λ w. covers (interest s t earlier) name w.groups) (standing t earlier name) false
 
+-- rule: no-live-removal
 -- whether a name is live and covered
 abbrev pub is_shown : ℕ → TypeName → List Line → List ℕ → Bool
 is_shown s t earlier name = is_some (live t earlier name) && is_covered s t earlier name
 
 -- ---- pending names
 
+-- rule: awaited-names
 -- A name after a taken delta request: it is pending that the request subscribes, unless the first one says which version the
 -- client has; and no longer if the request only unsubscribes it.
 abbrev pub pending_in_delta : TypeName → Bool → DeltaRequest → List ℕ → Bool → Bool
@@ -242,25 +259,30 @@ pending_in_delta t begun m name before =
     (has_name (names_among t m.resource_names_subscribe) name && (begun || not (is_some (finmap.get m.initial_resource_versions name))))
     || (before && not (has_name m.resource_names_unsubscribe name && not (has_name m.resource_names_subscribe name)))
 
+-- rule: awaited-names
 -- A name after a taken request of the state of the world: it is pending that the request lists, if it was before or wasn't
 -- explicit; and no longer if the request doesn't list it.
 abbrev pub pending_in_sotw : TypeName → Selection → Request → List ℕ → Bool → Bool
 pending_in_sotw t old m name before = has_name (names_among t m.resource_names) name && (before || not (set.contains old.names name))
 
+-- rule: awaited-names
 abbrev pub pending_taken : TypeName → Bool → Selection → Asking → List ℕ → Bool → Bool
 pending_taken t begun old (Sotw m) name before = pending_in_sotw t old m name before
 pending_taken t begun old (Delta m) name before = pending_in_delta t begun m name before
 
+-- rule: awaited-names
 -- whether a response states or removes a name
 abbrev pub tells : Answer → List ℕ → Bool
 tells a name = has_name (stated_names a) name || has_name a.removed name
 
+-- rule: stale-nonce, rule: awaited-names
 abbrev pub pending_after : ℕ → TypeName → List Line → Turn → List ℕ → Bool → Bool
 pending_after s t earlier (Asks m) name before =
     if is_stale (has_asked s t earlier) (sent s t earlier) m then before else pending_taken t (has_asked s t earlier) (interest s t earlier) m name before
 pending_after s t earlier (Answers a) name before = before && not (tells a name)
 pending_after s t earlier Nothing name before = before
 
+-- rule: awaited-names
 -- whether a name of the type waits for an answer on the stream
 abbrev pub is_pending : ℕ → TypeName → List Line → List ℕ → Bool
 is_pending s t [] name = false
@@ -268,6 +290,7 @@ is_pending s t (l ∷ earlier) name = pending_after s t earlier (turn s t l) nam
 
 -- ---- nonces
 
+-- rule: new-nonce
 -- whether a line is a response on the stream with this nonce
 abbrev pub has_nonce : ℕ → List ℕ → Line → Bool
 has_nonce s nonce (lines.Write w) = false
@@ -277,6 +300,7 @@ has_nonce s nonce (lines.Request r m) = false
 has_nonce s nonce (lines.Response r a) = r == s && bytes_eq a.nonce nonce
 has_nonce s nonce (lines.Idle r u) = false
 
+-- rule: new-nonce
 -- whether a nonce was used on the stream, for a response of whatever type
 abbrev pub is_used : ℕ → List Line → List ℕ → Bool
 is_used s earlier nonce = list_any (has_nonce s nonce) earlier

@@ -50,13 +50,16 @@ in_group by group = unwrap_or (finmap.get by group) finmap.empty
 abbrev pub stands : Marks → List ℕ → Bool
 stands m name = is_some (finmap.get m name)
 
+-- rule: star-covers, rule: groups
 -- whether what stands under a name lives and is for everyone, and whether it lives and is for a group
 abbrev pub lives_for_everyone : Entries → List ℕ → Bool
 lives_for_everyone m name = option_map_or (λ w. is_live w && (length w.groups == 0)) (finmap.get m name) false
 
+-- rule: star-covers, rule: groups
 abbrev pub lives_for : Entries → List ℕ → List ℕ → Bool
 lives_for m group name = option_map_or (λ w. is_live w && has_group w.groups group) (finmap.get m name) false
 
+-- rule: tombstones
 -- these are the names of the live writes among some entries
 pub record AreLive (m : Entries) (x : LiveNames) : Type 0 where
   pub named : IsCatalogue m
@@ -87,18 +90,22 @@ with_name_of lives name groups x =
 abbrev pub are_among : Marks → Marks → Bool
 are_among names others = list_all (stands others) (finmap.keys names)
 
+-- rule: star-covers, rule: whole-response
 -- whether it has all that the star covers for a client of a cluster
 abbrev pub has_starred : LiveNames → List ℕ → Marks → Bool
 has_starred x cluster stated = are_among x.everyone stated && are_among (in_group x.by_group cluster) stated
 
+-- rule: whole-response
 -- whether it has a name, where that lives
 abbrev pub has_if_live : Entries → Marks → List ℕ → Bool
 has_if_live m stated name = not (is_some (live_at m name)) || stands stated name
 
+-- rule: whole-response
 -- whether it has all explicit names that live
 abbrev pub has_explicit : Entries → Selection → Marks → Bool
 has_explicit m s stated = list_all (has_if_live m stated) (set.items s.names)
 
+-- rule: whole-response
 -- whether it has all that an interest covers
 abbrev pub has_shown : Entries → LiveNames → Selection → Marks → Bool
 has_shown m x s stated = has_explicit m s stated && (not s.star || has_starred x s.cluster stated)

@@ -43,6 +43,7 @@ pub record IsOrderOf (earlier : List Line) (k : OrderKept) : Type 0 where
 abbrev pub is_open_in : OrderKept → ℕ → Bool
 is_open_in k s = unwrap_or (finmap.get k.opened s) false
 
+-- rule: first-variant
 -- whether a message may come on a stream
 abbrev pub may_speak_in : OrderKept → ℕ → Bool → Bool
 may_speak_in k s delta = is_open_in k s && option_map_or (is_same delta) (finmap.get k.delta s) true

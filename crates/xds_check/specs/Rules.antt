@@ -58,46 +58,57 @@ word_of NothingPending = codes "P8"
 
 -- ---- what breaks each
 
+-- rule: new-nonce
 -- P1: a response's nonce is empty, or was used before on its stream
 abbrev pub HasReusedNonce : List Line → ℕ → Answer → Type 0
 HasReusedNonce earlier s a = (bytes_eq a.nonce [] || is_used s earlier a.nonce) ≡ true
 
+-- rule: best-writes
 -- whether a label is that of a write: its name, and its version
 abbrev pub is_label_of : StampedWrite → Label → Bool
 is_label_of w label = bytes_eq label.name w.name && bytes_eq label.version (version_of w)
 
+-- rule: best-writes
 -- whether a resource is the one that a write puts; in delta also by its label
 abbrev pub is_put_by : Statement → StampedWrite → Bool
 is_put_by x w = option_map_or (bytes_eq x.body) w.body false && option_map_or (is_label_of w) x.label true
 
+-- rule: best-writes
 -- whether a resource is that of the best live write of its name
 abbrev pub is_best : TypeName → List Line → Statement → Bool
 is_best t earlier x = option_map_or (is_put_by x) (live t earlier x.name) false
 
+-- rule: best-writes
 -- P2: a response's resource isn't that of the best live write of its name
 abbrev pub BreaksBestResources : List Line → Answer → Type 0
 BreaksBestResources earlier a = list_any (λ x. not (is_best a.kind earlier x)) a.statements ≡ true
 
+-- rule: covered-only
 -- P3: a response's resource isn't covered by the interest
 abbrev pub StatesUncovered : List Line → ℕ → Answer → Type 0
 StatesUncovered earlier s a = list_any (λ name. not (is_covered s a.kind earlier name)) (stated_names a) ≡ true
 
+-- rule: whole-response
 -- P4: a response of the state of the world, of a complete type, lacks a name that is live and covered
 abbrev pub LacksAName : List Line → ℕ → Answer → Type 0
 LacksAName earlier s a = (is_whole a.variant a.kind ≡ true) × (name : List ℕ) × (is_shown s a.kind earlier name ≡ true) × (has_name (stated_names a) name ≡ false)
 
+-- rule: no-live-removal
 -- P5: a response removes a name that is live and covered
 abbrev pub RemovesShown : List Line → ℕ → Answer → Type 0
 RemovesShown earlier s a = list_any (is_shown s a.kind earlier) a.removed ≡ true
 
+-- rule: one-unanswered
 -- P6: a response is sent while another of its type on its stream is unanswered
 abbrev pub IsSecondAtATime : List Line → ℕ → Answer → Type 0
 IsSecondAtATime earlier s a = is_waiting (sent s a.kind earlier) ≡ true
 
+-- rule: refused-offer
 -- P7: a response offers what the latest refused one of its type on its stream did, none having been accepted since
 abbrev pub OffersRefused : List Line → ℕ → Answer → Type 0
 OffersRefused earlier s a = refused_offer (sent s a.kind earlier) ≡ Some (offer_at earlier a)
 
+-- rule: awaited-names
 -- P8: it is said that nothing is owed while a name is pending; on a stream of the state of the world, one that is live
 pub record LeavesPending (earlier : List Line) (s : ℕ) (t : TypeName) : Type 0 where
   pub name : List ℕ

@@ -32,6 +32,7 @@ open_on s (l ∷ earlier) = option_or (open_at s l) (open_on s earlier)
 abbrev pub is_open : ℕ → List Line → Bool
 is_open s earlier = unwrap_or (open_on s earlier) false
 
+-- rule: first-variant
 -- whether a line is delta, if it is a message on the stream
 abbrev pub delta_at : ℕ → Line → Option Bool
 delta_at s (lines.Write w) = None
@@ -41,14 +42,17 @@ delta_at s (lines.Request r m) = if r == s then Some (is_delta (variant_of m)) e
 delta_at s (lines.Response r a) = if r == s then Some (is_delta a.variant) else None
 delta_at s (lines.Idle r t) = None
 
+-- rule: first-variant
 -- whether the stream is one of delta; none before its first message
 abbrev pub delta_on : ℕ → List Line → Option Bool
 delta_on s [] = None
 delta_on s (l ∷ earlier) = option_or (delta_at s l) (delta_on s earlier)
 
+-- rule: first-variant
 abbrev pub is_same : Bool → Bool → Bool
 is_same a b = if a then b else not b
 
+-- rule: first-variant
 -- whether a message may come on the stream: it is open, and of the message's variant
 abbrev pub may_speak : ℕ → Bool → List Line → Bool
 may_speak s delta earlier = is_open s earlier && option_map_or (is_same delta) (delta_on s earlier) true

@@ -25,6 +25,7 @@ impl Drop for Asking {
     }
 }
 
+// rule: groups
 // The cluster text of a node, if there is one.
 fn cluster_in(node: &Option<Node>) -> &str
     ensures { result.now ≡ cluster_in node.now }
@@ -54,6 +55,7 @@ impl Asking {
         }
     }
 
+    // rule: stale-nonce, rule: accept-reject
     /// The nonce of the response that the request answers, empty where there is none.
     pub fn nonce(&self) -> &str
         ensures { result.now ≡ nonce_of self.now }
@@ -64,6 +66,7 @@ impl Asking {
         }
     }
 
+    // rule: accept-reject
     /// Whether it rejects the response that it answers.
     pub fn rejects(&self) -> bool
         ensures { result ≡ rejects self.now }

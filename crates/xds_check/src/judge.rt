@@ -137,6 +137,7 @@ fn none_missed<T: ResourceType>(
     }
 }
 
+// rule: awaited-names
 // The least rule that a line breaks, if it is one of the type.
 fn broken_at<T: ResourceType>(
     alloc: Global,
@@ -169,6 +170,7 @@ fn broken_at<T: ResourceType>(
     }
 }
 
+// rule: greatest-write
 // Joins a copy of a write.
 fn join<T: ResourceType>(
     alloc: Global,
@@ -251,6 +253,7 @@ fn take_name<T: ResourceType>(
     }
 }
 
+// rule: tombstones
 // Puts the name of what stands under it into the live names, if that lives.
 fn put_name<T: ResourceType>(
     alloc: Global,
@@ -273,6 +276,7 @@ fn put_name<T: ResourceType>(
     }
 }
 
+// rule: groups
 // Joins a copy of a write, and keeps the names of the live ones.
 fn take_one<T: ResourceType>(
     alloc: Global,
@@ -292,6 +296,7 @@ fn take_one<T: ResourceType>(
     put_name(alloc, catalogue, live_names, name)
 }
 
+// rule: greatest-write
 // Joins the write that a line is, if it is one of the type.
 fn take_write<T: ByType>(
     alloc: Global,

@@ -25,6 +25,7 @@ use xds_catalogue::Catalogue;
 use xds_interest::Interest;
 use xds_resource::{NameMap, Refusal, ResourceType, Stamp, Write};
 
+// rule: best-writes
 // Whether a text is the version of a stamp. It takes no memory.
 fn is_version(text: &str, stamp: Stamp) -> bool
     ensures { result ≡ bytes_eq text.now (version_text stamp.counter stamp.writer) }
@@ -35,6 +36,7 @@ fn is_version(text: &str, stamp: Stamp) -> bool
     }
 }
 
+// rule: best-writes
 // Whether a label is that of a write.
 fn is_label_of<T: ResourceType>(label: &Label, write: &Write<T>) -> bool
     ensures { result ≡ rules.is_label_of write.now label.now }
@@ -42,6 +44,7 @@ fn is_label_of<T: ResourceType>(label: &Label, write: &Write<T>) -> bool
     label.name() == write.name() && is_version(label.version(), write.stamp())
 }
 
+// rule: best-writes
 // Whether a resource's label is that of a write, or it has none.
 fn is_labelled<T: ResourceType>(statement: &Statement, write: &Write<T>) -> bool
     ensures { result ≡ option_map_or (rules.is_label_of write.now) statement.now.label true }
@@ -52,6 +55,7 @@ fn is_labelled<T: ResourceType>(statement: &Statement, write: &Write<T>) -> bool
     }
 }
 
+// rule: best-writes
 // Whether a resource is the one that a write puts.
 fn is_put_by<T: ResourceType>(statement: &Statement, write: &Write<T>) -> bool
     ensures { result ≡ rules.is_put_by statement.now write.now }
@@ -62,6 +66,7 @@ fn is_put_by<T: ResourceType>(statement: &Statement, write: &Write<T>) -> bool
     }
 }
 
+// rule: tombstones, rule: best-writes
 // The write that stands under a name, if it is live.
 fn live<'a, T: ResourceType>(catalogue: &'a Catalogue<T>, name: &str) -> Option<&'a Write<T>>
     ensures { option_map (λ w. w.now) result ≡ live_at catalogue.now.entries name.now }
@@ -73,6 +78,7 @@ fn live<'a, T: ResourceType>(catalogue: &'a Catalogue<T>, name: &str) -> Option<
     Some(write)
 }
 
+// rule: best-writes
 // Whether a resource is that of the best live write of its name.
 fn is_best<T: ResourceType>(catalogue: &Catalogue<T>, statement: &Statement) -> bool
     ensures { result ≡ is_best_in catalogue.now.entries statement.now }
@@ -83,6 +89,7 @@ fn is_best<T: ResourceType>(catalogue: &Catalogue<T>, statement: &Statement) -> 
     }
 }
 
+// rule: best-writes
 // Whether a resource isn't that of the best live write of its name.
 fn breaks_best_resources<T: ResourceType>(
     catalogue: &Catalogue<T>,
@@ -98,6 +105,7 @@ fn breaks_best_resources<T: ResourceType>(
     false
 }
 
+// rule: covered-only
 // Whether a name that has a best write is covered.
 fn is_covered<T: ResourceType>(catalogue: &Catalogue<T>, interest: &Interest<T>, name: &str) -> bool
     ensures { result ≡ is_covered_in catalogue.now.entries interest.now name.now }
@@ -108,6 +116,7 @@ fn is_covered<T: ResourceType>(catalogue: &Catalogue<T>, interest: &Interest<T>,
     }
 }
 
+// rule: covered-only
 // Whether a resource isn't covered.
 fn states_uncovered<T: ResourceType>(
     catalogue: &Catalogue<T>,
@@ -136,6 +145,7 @@ fn names_of(alloc: Global, statements: &[Statement]) -> Result<NameMap<bool>, Re
     Ok(names)
 }
 
+// rule: whole-response
 // Whether the names of a response have one, where that lives.
 fn has_if_live<T: ResourceType>(
     catalogue: &Catalogue<T>,
@@ -147,6 +157,7 @@ fn has_if_live<T: ResourceType>(
     live(catalogue, name).is_none() || stated.contains(name)
 }
 
+// rule: whole-response
 // Whether they have all explicit names that live.
 fn has_explicit<T: ResourceType>(
     catalogue: &Catalogue<T>,
@@ -163,6 +174,7 @@ fn has_explicit<T: ResourceType>(
     true
 }
 
+// rule: star-covers, rule: whole-response
 // Whether they have all that is live and covered. It looks at explicit names, and, up to the first that is lacking, at names that
 // the response has: not at all that stand in the catalogue.
 fn has_shown<T: ResourceType>(
@@ -177,6 +189,7 @@ fn has_shown<T: ResourceType>(
         && (!interest.has_star() || live_names.are_in(interest.cluster(), stated))
 }
 
+// rule: whole-response
 // Whether a whole response lacks a name that is live and covered.
 fn lacks_a_name<T: ResourceType>(
     alloc: Global,
@@ -196,6 +209,7 @@ fn lacks_a_name<T: ResourceType>(
     Ok(!has_shown(catalogue, live_names, interest, &stated))
 }
 
+// rule: no-live-removal
 // Whether a name is live and covered.
 fn is_shown<T: ResourceType>(catalogue: &Catalogue<T>, interest: &Interest<T>, name: &str) -> bool
     ensures { result ≡ is_shown_in catalogue.now.entries interest.now name.now }
@@ -203,6 +217,7 @@ fn is_shown<T: ResourceType>(catalogue: &Catalogue<T>, interest: &Interest<T>, n
     live(catalogue, name).is_some() && is_covered(catalogue, interest, name)
 }
 
+// rule: no-live-removal
 // Whether a response removes a name that is live and covered.
 fn removes_shown<T: ResourceType>(
     catalogue: &Catalogue<T>,
@@ -219,6 +234,7 @@ fn removes_shown<T: ResourceType>(
     false
 }
 
+// rule: new-nonce
 // Whether a nonce is empty or was used.
 fn is_reused<T: ResourceType>(talk: &Talk<T>, nonce: &str) -> bool
     ensures { result ≡ kept.is_reused talk.now nonce.now }
@@ -226,6 +242,7 @@ fn is_reused<T: ResourceType>(talk: &Talk<T>, nonce: &str) -> bool
     nonce.is_empty() || talk.used.contains(nonce)
 }
 
+// rule: refused-offer
 // Whether a response offers what was refused.
 fn offers_refused<T: ResourceType>(
     alloc: Global,
@@ -272,6 +289,7 @@ fn broken_by_names<T: ResourceType>(
     Ok(None)
 }
 
+// rule: one-unanswered
 // The least rule that it breaks, of those that look at what became of the responses before it.
 fn broken_by_order<T: ResourceType>(
     alloc: Global,
@@ -312,6 +330,7 @@ pub(crate) fn broken_by<T: ResourceType>(
     broken_by_order(alloc, catalogue, talk, answer)
 }
 
+// rule: awaited-names
 // Whether a name waits whose answer is missed.
 fn is_missed<T: ResourceType>(catalogue: &Catalogue<T>, talk: &Talk<T>, name: &str) -> bool
     ensures { result ≡ kept.is_missed catalogue.now.entries talk.now name.now }
@@ -319,6 +338,7 @@ fn is_missed<T: ResourceType>(catalogue: &Catalogue<T>, talk: &Talk<T>, name: &s
     is_marked(&talk.waiting, name) && (talk.speaks_delta() || live(catalogue, name).is_some())
 }
 
+// rule: awaited-names
 /// Whether no name waits whose answer is missed.
 pub(crate) fn none_missed<T: ResourceType>(catalogue: &Catalogue<T>, talk: &Talk<T>) -> bool
     ensures { result ≡ kept.none_missed catalogue.now.entries talk.now }

@@ -45,6 +45,7 @@ impl LiveNames {
         }
     }
 
+    // rule: tombstones, rule: groups
     /// Puts in the name of a write of these groups, or takes it out where it doesn't live. Refused only by `OutOfMemory`.
     pub(crate) fn set(
         &mut self,
@@ -62,6 +63,7 @@ impl LiveNames {
         set_in_each(alloc, &mut self.by_group, groups.texts(), name, lives)
     }
 
+    // rule: star-covers, rule: groups, rule: whole-response
     /// Whether all names that the star covers for a client of a cluster stand among those of a response.
     pub(crate) fn are_in(&self, cluster: &str, stated: &NameMap<bool>) -> bool
         ensures { result ≡ has_starred self.now cluster.now stated.now }
@@ -70,6 +72,7 @@ impl LiveNames {
     }
 }
 
+// rule: tombstones
 // Puts a name in, or takes it out.
 fn set_name(
     alloc: Global,
@@ -120,6 +123,7 @@ fn set_in(
     }
 }
 
+// rule: groups
 // Puts a name into each of some groups, or takes it out.
 fn set_in_each(
     alloc: Global,
@@ -137,6 +141,7 @@ fn set_in_each(
     Ok(())
 }
 
+// rule: whole-response
 // Whether all of some names stand among others.
 fn are_among(names: &NameMap<bool>, others: &NameMap<bool>) -> bool
     ensures { result ≡ are_among_of names.now others.now }

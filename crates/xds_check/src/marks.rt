@@ -24,6 +24,7 @@ pub(crate) fn is_marked(marks: &NameMap<bool>, name: &str) -> bool
     }
 }
 
+// rule: star-covers
 // Whether a text in a request of the type is the star.
 fn is_star(kind: TypeName, text: &str) -> bool
     ensures { result ≡ is_star_of kind text.now }
@@ -58,6 +59,7 @@ pub(crate) fn explicit_names<T: ResourceType>(
     Ok(marks)
 }
 
+// rule: awaited-names
 // Takes the marks of these names. It takes no memory.
 pub(crate) fn unmark(marks: &mut NameMap<bool>, names: &[String])
     ensures { marks.new ≡ unmarked marks.old (map string_bytes names.now) }
@@ -67,6 +69,7 @@ pub(crate) fn unmark(marks: &mut NameMap<bool>, names: &[String])
     }
 }
 
+// rule: awaited-names
 // Takes the marks of the names of resources. It takes no memory.
 pub(crate) fn unmark_stated(marks: &mut NameMap<bool>, statements: &[Statement])
     ensures { marks.new ≡ unmarked marks.old (map (λ x. x.name) statements.now) }
@@ -83,6 +86,7 @@ fn mark_if(waits: bool) -> Option<bool>
     if waits { Some(true) } else { None }
 }
 
+// rule: awaited-names
 // Whether a name waits that a request of the state of the world lists, by the names that were explicit.
 fn listed_mark_of(
     kind: TypeName,
@@ -95,6 +99,7 @@ fn listed_mark_of(
     !is_star(kind, name) && (is_marked(before, name) || !explicit.contains(name))
 }
 
+// rule: awaited-names
 // The names that wait once a request of the state of the world is taken that lists these.
 pub(crate) fn listed<T: ResourceType>(
     alloc: Global,
@@ -114,6 +119,7 @@ pub(crate) fn listed<T: ResourceType>(
     Ok(marks)
 }
 
+// rule: awaited-names
 // Takes the marks of the names that a delta request unsubscribes and doesn't subscribe.
 fn leave(
     alloc: Global,
@@ -131,6 +137,7 @@ fn leave(
     Ok(())
 }
 
+// rule: awaited-names
 // Takes the mark of a name that a delta request unsubscribes, which subscribes these.
 fn leave_one(marks: &mut NameMap<bool>, subscribed: &NameMap<bool>, name: &str)
     ensures { marks.new ≡ (if not (is_some (finmap.get subscribed.now name.now)) then finmap.remove marks.old name.now else marks.old) }
@@ -140,6 +147,7 @@ fn leave_one(marks: &mut NameMap<bool>, subscribed: &NameMap<bool>, name: &str)
     }
 }
 
+// rule: awaited-names
 // What a delta request says of a name that it subscribes.
 fn joined_mark_of(kind: TypeName, begun: bool, versions: &Versions, name: &str) -> Option<bool>
     ensures { result ≡ joined_mark kind begun versions.now name.now }
@@ -153,6 +161,7 @@ fn joined_mark_of(kind: TypeName, begun: bool, versions: &Versions, name: &str) 
     None
 }
 
+// rule: awaited-names
 // Marks the names that a delta request subscribes and that its client doesn't say to have.
 fn join(
     alloc: Global,
@@ -172,6 +181,7 @@ fn join(
     Ok(())
 }
 
+// rule: awaited-names
 // Leaves the names waiting that wait once a delta request is taken.
 pub(crate) fn mention(
     alloc: Global,

@@ -14,6 +14,7 @@ use xds_catalogue::Catalogue;
 use xds_ledger::{Due, Version};
 use xds_resource::{NameMap, Refusal, ResourceType};
 
+// rule: refused-offer
 // What a response says of a name that it states: the version of its best write.
 fn due_of<T: ResourceType>(
     alloc: Global,
@@ -32,6 +33,7 @@ fn due_of<T: ResourceType>(
     }
 }
 
+// rule: refused-offer
 // The offer of the resources that a response states.
 fn stated<T: ResourceType>(
     alloc: Global,
@@ -49,6 +51,7 @@ fn stated<T: ResourceType>(
     Ok(offer)
 }
 
+// rule: refused-offer
 // Puts in that names are removed.
 fn remove(alloc: Global, offer: &mut NameMap<Due>, removed: &[String]) -> Result<(), Refusal>
     ensures ok { OnOk result (offer.new ≡ put_each (λ _. Some Removed) offer.old (map string_bytes removed.now)) }
@@ -60,6 +63,7 @@ fn remove(alloc: Global, offer: &mut NameMap<Due>, removed: &[String]) -> Result
     Ok(())
 }
 
+// rule: refused-offer
 /// The offer of a response, by the best writes of its names. Refused only by `OutOfMemory`.
 pub(crate) fn offer_of<T: ResourceType>(
     alloc: Global,
@@ -74,6 +78,7 @@ pub(crate) fn offer_of<T: ResourceType>(
     Ok(offer)
 }
 
+// rule: refused-offer
 // Whether the first offer says nothing that the second doesn't say.
 fn is_within(offer: &NameMap<Due>, other: &NameMap<Due>) -> bool
     ensures { result ≡ is_within_of offer.now other.now }
@@ -90,6 +95,7 @@ fn is_within(offer: &NameMap<Due>, other: &NameMap<Due>) -> bool
     true
 }
 
+// rule: refused-offer
 /// Whether two offers are the same.
 pub(crate) fn is_same(offer: &NameMap<Due>, other: &NameMap<Due>) -> bool
     ensures { result ≡ is_same_offer offer.now other.now }

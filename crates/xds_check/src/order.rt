@@ -52,6 +52,7 @@ impl Order {
         }
     }
 
+    // rule: first-variant
     // Whether a message of the variant may come on the stream.
     fn may_speak(&self, stream: u64, delta: bool) -> bool
         ensures { result ≡ may_speak_in self.now stream delta }

@@ -99,6 +99,7 @@ fn is_of(kind: TypeName, asking: &Asking) -> bool
     }
 }
 
+// rule: delta-names
 // Takes a delta request. The names that it doesn't mention aren't looked at.
 fn take_mention<T: ResourceType>(
     alloc: Global,
@@ -133,6 +134,7 @@ impl<T: ResourceType> Talk<T> {
         }
     }
 
+    // rule: delta-names
     /// What the client wants.
     pub(crate) fn wanted(&self) -> &Interest<T>
         ensures { result.now ≡ wanted self.now }
@@ -161,6 +163,7 @@ impl<T: ResourceType> Talk<T> {
         }
     }
 
+    // rule: groups
     // Notes the client's cluster, where it makes itself known.
     fn introduce(&mut self, alloc: Global, cluster: &str) -> Result<(), Refusal>
         ensures ok { OnOk result (self.new ≡ introduced cluster.now self.old) }
@@ -177,6 +180,7 @@ impl<T: ResourceType> Talk<T> {
         Ok(())
     }
 
+    // rule: stale-nonce
     // Whether a request is one that is ignored.
     fn is_stale(&self, asking: &Asking) -> bool
         ensures { result ≡ is_stale self.now asking.now }
@@ -195,6 +199,7 @@ impl<T: ResourceType> Talk<T> {
         listed(alloc, self.wanted(), &self.waiting, names)
     }
 
+    // rule: awaited-names
     fn await_listed(&mut self, alloc: Global, names: &[String]) -> Result<(), Refusal>
         ensures ok { OnOk result (self.new
             ≡ record self.old { waiting = listed_marks T.TYPE (wanted self.old) self.old.waiting (map string_bytes names.now) }) }
@@ -205,6 +210,7 @@ impl<T: ResourceType> Talk<T> {
         Ok(())
     }
 
+    // rule: awaited-names
     fn await_mentioned(
         &mut self,
         alloc: Global,
@@ -218,6 +224,7 @@ impl<T: ResourceType> Talk<T> {
         mention(alloc, T::TYPE, begun, &mut self.waiting, request)
     }
 
+    // rule: awaited-names
     // Notes which names wait once a request is taken.
     fn await_names(&mut self, alloc: Global, asking: &Asking) -> Result<(), Refusal>
         ensures ok { OnOk result (self.new ≡ record self.old { waiting = waiting_after T.TYPE self.old asking.now }) }
@@ -229,6 +236,7 @@ impl<T: ResourceType> Talk<T> {
         }
     }
 
+    // rule: listed-names, rule: delta-names
     // Notes what a request asks for.
     fn ask(&mut self, alloc: Global, asking: &Asking) -> Result<(), Refusal>
         ensures ok { OnOk result (self.new ≡ with_asked T.TYPE self.old asking.now) }
@@ -256,6 +264,7 @@ impl<T: ResourceType> Talk<T> {
         self.ask(alloc, asking)
     }
 
+    // rule: accept-reject
     // Whether a request answers the response that is unanswered.
     fn is_answer(&self, asking: &Asking) -> bool
         ensures { result ≡ is_answer self.now asking.now }
@@ -263,6 +272,7 @@ impl<T: ResourceType> Talk<T> {
         self.begun && self.unanswered.is_some() && self.is_last(asking.nonce())
     }
 
+    // rule: accept-reject, rule: refused-offer
     // Notes that the response is answered, if the request does that.
     fn settle(&mut self, asking: &Asking)
         ensures { self.new ≡ answered asking.now self.old }
@@ -273,6 +283,7 @@ impl<T: ResourceType> Talk<T> {
         }
     }
 
+    // rule: stale-nonce
     // Takes or ignores a request of the type.
     fn hear_own(&mut self, alloc: Global, asking: &Asking) -> Result<(), Refusal>
         ensures ok { OnOk result (self.new ≡ requested T.TYPE asking.now self.old) }
@@ -298,6 +309,7 @@ impl<T: ResourceType> Talk<T> {
         Ok(())
     }
 
+    // rule: new-nonce
     // Notes that a nonce was used.
     fn use_nonce(&mut self, alloc: Global, nonce: &str) -> Result<(), Refusal>
         ensures ok { OnOk result (self.new ≡ with_nonce nonce.now self.old) }
@@ -306,6 +318,7 @@ impl<T: ResourceType> Talk<T> {
         self.used.put(alloc, nonce, Some(true))
     }
 
+    // rule: awaited-names, rule: one-unanswered
     // A response of the type.
     fn hear_own_answer(
         &mut self,
@@ -325,6 +338,7 @@ impl<T: ResourceType> Talk<T> {
         Ok(())
     }
 
+    // rule: new-nonce
     /// A response on the stream, of whatever type. Refused only by `OutOfMemory`.
     pub(crate) fn hear_answer(
         &mut self,

@@ -121,6 +121,7 @@ fn turn<R: Read, W: Write, O: Write>(
     }
 }
 
+// rule: whole-frames
 // Reads a piece, where there is less than a frame.
 fn fill<R: Read>(decoder: &mut Decoder, reader: &mut Counted<R>) -> Result<(), Refusal>
     requires { IsPartial decoder.old }

@@ -125,6 +125,7 @@ fn push_lines(alloc: Global, printed: &[u8], text: &mut String) -> Result<(), Re
     Ok(())
 }
 
+// rule: accept-reject
 #[test]
 fn state_of_the_world_is_answered(rt: HostRuntime) -> Result<(), Fail> {
     hold_stories::<Client, HostRuntime>(
@@ -191,6 +192,7 @@ sotw cluster 0
     )
 }
 
+// rule: accept-reject
 #[test]
 fn delta_is_answered(rt: HostRuntime) -> Result<(), Fail> {
     hold_stories::<Client, HostRuntime>(

@@ -22,6 +22,7 @@ none_before (Some e) new stays none = absurd (never e (sym (stays refl) ∙ none
     never : (e : Refusal) → Some e ≡ None → ⊥
     never e is = cc
 
+-- rule: loaded-first
 -- none was refused on the way, where none is at the end
 none_on_the_way : (s t : Loader) (ws : List Written) → AllHanded Takes s t ws → (so_far t).refused ≡ None → (so_far s).refused ≡ None
 none_on_the_way s t [] is none = ap (λ l. (so_far l).refused) (sym is) ∙ none
@@ -34,6 +35,7 @@ then_all : (first replicas : ℕ) (s u : Store) (r : Result Store Refusal) (w : 
     → all_loaded first replicas s (w ∷ ws) ≡ r
 then_all first replicas s u r w ws one others = ap (then_loaded (λ (v : Store). all_loaded first replicas v ws)) one ∙ others
 
+-- rule: loaded-first
 -- where none is refused at the end, all were made, one after another
 all_are_made : (s t : Loader) (ws : List Written) → AllHanded Takes s t ws → (so_far t).refused ≡ None → all_loaded s.first s.replicas s.held ws ≡ Ok t.held
 all_are_made s t [] is none = ap (λ (l : Loader). Ok l.held) (sym is)
@@ -93,6 +95,7 @@ by_first s u t w ws e (Some f) is step rest none some others =
     let why = subst (λ (o : Option Refusal). IfSome o (λ x. (x ≡ OutOfMemory) ⊎ (loading s.first s.replicas s.held w ≡ Err x))) is (step.2.refused none) in
     now_refused s.first s.replicas s.held w ws e (subst (λ (x : Refusal). (x ≡ OutOfMemory) ⊎ (loading s.first s.replicas s.held w ≡ Err x)) same why)
 
+-- rule: loaded-first
 -- why one is refused at the end, where none was at the start
 why_refused : (s t : Loader) (ws : List Written) (e : Refusal) → AllHanded Takes s t ws → (so_far s).refused ≡ None → (so_far t).refused ≡ Some e → IsWhy s.first s.replicas s.held ws e
 why_refused s t [] e is none some = absurd (never_some e (sym some ∙ ap (λ l. (so_far l).refused) is ∙ none))

@@ -36,6 +36,7 @@ abbrev pub replica_line : ℕ → ℕ → ℕ → ℕ → List ℕ
 replica_line place number port rest_port =
     codes "replica " ++ (decimal place ++ (number_text place number ++ (codes ": streams on 127.0.0.1:" ++ (decimal port ++ (codes ", REST on 127.0.0.1:" ++ (decimal rest_port ++ codes "\n"))))))
 
+-- rule: new-numbers
 -- what is told of a server whose replicas have the numbers of every run in which none was said
 abbrev pub same_numbers_line : List ℕ
 same_numbers_line =
@@ -51,6 +52,7 @@ file_fault_text Unknown = codes ""
 abbrev pub file_line : List ℕ → FileFault → List ℕ
 file_line file fault = file ++ (codes ": 19 Device" ++ (file_fault_text fault ++ codes "\n"))
 
+-- rule: loaded-first
 -- the line of a file that isn't loaded, by one of its lines or by what else was refused
 abbrev pub unloaded_line : List ℕ → Option ℕ → Refusal → List ℕ
 unloaded_line file (Some line) refusal = file ++ (codes ": line " ++ (decimal line ++ (codes ": " ++ (decimal (number_of refusal) ++ (codes " " ++ (name_of refusal ++ codes "\n"))))))

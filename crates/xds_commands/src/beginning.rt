@@ -50,6 +50,7 @@ pub(crate) enum Unbegun {
     Load(End),
 }
 
+// rule: loaded-first
 /// What a server begins with: all lines of a file that is to be loaded.
 pub(crate) fn begin_with<R>(
     rt: &R,
@@ -67,6 +68,7 @@ where
     Ok(Begun { serving, world })
 }
 
+// rule: loaded-first
 // All that the lines of a file come to.
 fn world_in<R>(rt: &R, alloc: Global, file: &str, serving: Serving) -> Result<Batch, Unbegun>
 where
@@ -84,6 +86,7 @@ where
     }
 }
 
+// rule: new-numbers
 /// The number of the first replica.
 pub(crate) fn first_number(serving: Serving) -> u16
     ensures { result ≡ unwrap_or serving.first_number 1 }

@@ -16,6 +16,7 @@ use xds_message::Batch;
 use xds_monitor::End;
 use xds_resource::{AnyResource, Groups, Refusal, TypeName};
 
+// rule: new-numbers
 /// The number of the replica at this place among those of a server, from 1, where the first has this one. None is greater than 65,535.
 pub fn number_at(first: u16, place: u16) -> u16
     ensures { result ≡ number_at first place }
@@ -52,6 +53,7 @@ impl Hands for Loader {
 
     ghost hands = { Takes };
 
+    // rule: loaded-first
     fn hand<R: Wait>(&mut self, _rt: &R, change: Change) {
         if self.refused.is_some() {
             drop(change);
@@ -84,6 +86,7 @@ impl Loader {
         }
     }
 
+    // rule: new-numbers, rule: loaded-first
     // Makes a change at the replica of this place. What is refused changes nothing.
     fn make(&mut self, replica: u16, event: Event) -> Result<(), Refusal>
         ensures made { Gives (λ _. self.new.held) result (loading self.old.first self.old.replicas self.old.held (replica, event_of event)) }
@@ -98,6 +101,7 @@ impl Loader {
     }
 }
 
+// rule: loaded-first
 // Makes a change by the replica of this number.
 fn made_by(held: &mut Catalogues, writer: u16, event: Event) -> Result<(), Refusal>
     requires { 1 ≤ writer }
@@ -138,6 +142,7 @@ fn deleted_by(held: &mut Catalogues, writer: u16, kind: TypeName, name: &str) ->
     }
 }
 
+// rule: loaded-first
 /// All that is held once the lines of an input are made, the last of which needs no line feed, over what is held before: each is a
 /// change, made by its replica, of which the first of so many has this number, over all that the lines before it made.
 ///

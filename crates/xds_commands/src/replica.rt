@@ -38,6 +38,7 @@ pub struct Sockets {
 /// What a replica's thread is started with.
 pub type Replica = Bound<Sockets, Receiver<Order>, Sends, Takes>;
 
+// rule: loaded-first
 /// Runs a replica for as long as the process runs: what is there from the start, and then streams, polls, what is told to and by other replicas, and the changes
 /// that the input makes. It ends only where no change can come any more, or with the refusal by which it couldn't begin.
 pub fn run_replica<R, A>(
@@ -84,6 +85,7 @@ where
     ended
 }
 
+// rule: loaded-first
 // Merges what is there from the start, if there is such.
 fn begin<R: Wait, A: Served>(rt: &R, node: &A, world: Option<Batch>) -> Result<(), Refusal> {
     let Some(batch) = world else {

@@ -178,6 +178,7 @@ pub(crate) fn tell_same_numbers<E: Write>(alloc: Global, errors: &mut Counted<E>
     put(errors, same_numbers_line(alloc));
 }
 
+// rule: new-numbers
 fn same_numbers_line(alloc: Global) -> Result<String, Refusal>
     ensures { IfOk result (λ t. string_bytes t ≡ same_numbers_line) }
 {

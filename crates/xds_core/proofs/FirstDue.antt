@@ -19,10 +19,12 @@ unsent : (replica : ℕ) (store : Store) (s : Stream) (t : TypeName) (q : Option
 unsent replica store s t None is = sym (ap (λ q. option_map_or (responding replica store s t) q (Ok (None, s))) is)
 unsent replica store s t (Some o) is = refl
 
+-- rule: type-order
 -- a poll of one type
 pub polled_alone : (replica : ℕ) (store : Store) (s : Stream) (t : TypeName) → polled_first replica store s (t ∷ []) ≡ polled replica store s t
 polled_alone replica store s t = alone replica store s t (to_send store s t) ∙ unsent replica store s t (to_send store s t) refl
 
+-- rule: type-order
 -- what a poll of one type gives
 pub gives_alone : (replica : ℕ) (held : Store) (kind : TypeName) (which : Option TypeName) (result : Result (Option Draft) Refusal) (left self : Stream) → which ≡ Some kind
     → Gives (λ o. (o, left)) result (polled replica held self kind) → Gives (λ o. (o, left)) result (polled_first replica held self (looked_at which))

@@ -29,6 +29,7 @@ use Rattle.xds_core.specs.Steps.{Core, step, stream_step, with_stream}
 use Rattle.xds_core.specs.Legal.{after, left_by, answer_of, IsLegal}
 use Rattle.xds_core.specs.Laws.{RefusalsChangeNothing, BeginningsAreLegal, EndsAreLegal, EventsDecide, StreamsStandApart, is_write, OnlyWritesChangeTheStore, NumberStays, CountersNeverFall, OwnCountersRise, OwnDeletionsRise}
 
+-- rule: refused-event
 pub refusals_change_nothing : RefusalsChangeNothing
 refusals_change_nothing c e refusal is = ap (left_by c) is
 
@@ -247,6 +248,7 @@ own_counters_rise c left t r groups counter writer is =
     let made = done_with (λ p. (Written p.0 c.replica, record c { store = p.1 })) (putting_at c.store t r groups c.replica) (Written counter writer, left) is in
     written_counter counter writer made.0.0 c.replica (ap (λ x. x.0) made.2) ∙ (put_is c.store t r groups c.replica made.0 made.1).0
 
+-- rule: tombstones
 pub own_deletions_rise : OwnDeletionsRise
 own_deletions_rise c left t name counter writer is =
     let made = done_with (λ p. (Written p.0 c.replica, record c { store = p.1 })) (deleting_at c.store t name c.replica) (Written counter writer, left) is in

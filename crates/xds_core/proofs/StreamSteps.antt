@@ -51,6 +51,7 @@ module _ {X : Type 0} (c : Core) (n : ℕ) (reply : X → Reply) (f : Stream →
   pub step_refused : (e : Refusal) → f s ≡ Err e → stream_step c n reply f ≡ Err e
   step_refused e is = at_open c n reply f s has ∙ ap (if_done (λ p. (reply p.0, with_stream c n p.1))) is
 
+  -- rule: refused-event
   pub step_undone : left ≡ s → with_streams c back ≡ c
   step_undone same = λ i. with_streams c ((puts ∙ ap (finmap.insert (finmap.insert c.streams n x) n) same ∙ put_back c.streams n x s has) i)
 
@@ -84,6 +85,7 @@ module _ {X : Type 0} (c : Core) (n : ℕ) (reply : X → Reply) (make : X → d
   kept_at (Ok o) same = same
   kept_at (Err e) same = step_undone c n reply f s left x has back puts same
 
+  -- rule: refused-event
   pub step_kept : (r : Result X Refusal) (result : Result declared.Reply Refusal) (core : Core) → core ≡ with_streams c back → result ≡ if_done make r → OnErr r (left ≡ s) → OnErr result (core ≡ c)
   step_kept r result core same is kept = subst (λ y. OnErr y (core ≡ c)) (sym is) (subst (λ k. OnErr (if_done make r) (k ≡ c)) (sym same) (kept_at r kept))
 

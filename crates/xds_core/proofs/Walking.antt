@@ -31,6 +31,7 @@ none_yet : (mark : ℕ) (here stands : Option StampedWrite) (o : Option ℕ) →
 none_yet mark here stands None none = none
 none_yet mark here stands (Some k) none = (λ _. none, λ _. none, λ above below. absurd (never_both mark k above below))
 
+-- rule: marks
 pub walk_begins : (h : Holdings) (mark : ℕ) → IsWalkedTo h mark mark finmap.empty
 walk_begins h mark = record { onward = same_number mark; found = λ q. none_yet mark _ (finmap.get h.entries q) (finmap.get h.latest q) (finmap.get-empty text_cmp q) }
 
@@ -80,6 +81,7 @@ module _ (h : Holdings) (mark : ℕ) where
       differs : (n q : List ℕ) → bytes_eq n q ≡ false → n ≡ q → ⊥
       differs n q other is = let never : false ≡ true = sym other ∙ ap (bytes_eq n) (sym is) ∙ bytes_eq_same n in absurd cc
 
+  -- rule: marks
   pub walk_on : (last number : ℕ) (w : StampedWrite) (m : Entries) → IsNumbered h → IsNextChange h last number w → IsWalkedTo h mark last m → IsWalkedTo h mark number (finmap.insert m w.name w)
   walk_on last number w m numbered next walked = record {
     onward = onward_to mark last number walked.onward next.above;
@@ -94,6 +96,7 @@ module _ (h : Holdings) (mark : ℕ) where
         | inr below ↦ found.0 below ∙ ap (λ b. cond b stands None) (sym (le-ltb mark k below))
       ]
 
+  -- rule: marks
   -- where nothing changed after that, it found all that changed after the mark
   pub walk_ends : (last : ℕ) (m : Entries) → NoneAfter h last → IsWalkedTo h mark last m → m ≡ finmap.retain_keys h.entries (is_above h mark)
   walk_ends last m none walked =

@@ -21,6 +21,7 @@ use Rattle.xds_core.specs.Events.{Event, Open, Request, Poll, Owes, Close, Put, 
 use Rattle.xds_core.specs.Steps.{Core, step}
 use Rattle.xds_core.specs.Legal.{Record, after, replayed, IsLegal}
 
+-- rule: refused-event
 -- a refused event changes nothing
 abbrev pub RefusalsChangeNothing : Type 0
 RefusalsChangeNothing = (c : Core) (e : Event) (refusal : Refusal) → step c e ≡ Err refusal → after c e ≡ c
@@ -78,5 +79,6 @@ CountersNeverFall = (c : Core) (e : Event) (t : TypeName) → greatest_counter (
 abbrev pub OwnCountersRise : Type 0
 OwnCountersRise = (c after : Core) (t : TypeName) (r : NamedBody) (groups : List (List ℕ)) (counter writer : ℕ) → step c (Put t r groups) ≡ Ok (Written counter writer, after) → counter ≡ greatest_counter (at c.store t).entries + 1
 
+-- rule: tombstones
 abbrev pub OwnDeletionsRise : Type 0
 OwnDeletionsRise = (c after : Core) (t : TypeName) (name : List ℕ) (counter writer : ℕ) → step c (Delete t name) ≡ Ok (Written counter writer, after) → counter ≡ greatest_counter (at c.store t).entries + 1

@@ -23,6 +23,7 @@ abbrev pub answer_of : Step → Result Reply Refusal
 answer_of (Ok p) = Ok p.0
 answer_of (Err e) = Err e
 
+-- rule: refused-event
 -- what is left after a step that began here: a refused event changes nothing
 abbrev pub left_by : Core → Step → Core
 left_by c (Ok p) = p.1

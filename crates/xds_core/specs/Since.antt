@@ -11,18 +11,22 @@ use Rattle.xds_resource.specs.Writes.{StampedWrite}
 use Rattle.xds_catalogue.specs.Holdings.{Holdings}
 use Rattle.xds_core.specs.Stores.{Store, Batch}
 
+-- rule: marks
 -- whether the latest change of a name's entry is above this number
 abbrev pub is_above : Holdings → ℕ → List ℕ → Bool
 is_above h mark name = option_map_or (nat_lt mark) (finmap.get h.latest name) false
 
+-- rule: tombstones, rule: marks
 -- what stands under the names whose latest change is above this number, deletions included, in ascending order of names
 abbrev pub changed_after : Holdings → ℕ → List StampedWrite
 changed_after h mark = finmap.values (finmap.retain_keys h.entries (is_above h mark))
 
+-- rule: marks
 -- the same of each type, by its own mark
 abbrev pub changed_since : Store → PerType ℕ → Batch
 changed_since s marks = per_type (λ t. changed_after (at s t) (at marks t))
 
+-- rule: marks
 -- how many writes added or replaced an entry, of each type
 abbrev pub marks_of : Store → PerType ℕ
 marks_of s = per_type (λ t. (at s t).changes)

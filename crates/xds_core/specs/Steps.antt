@@ -77,11 +77,13 @@ write_step c r = if_done (λ p. (Written p.0 c.replica, record c { store = p.1 }
 abbrev pub merge_step : Core → Batch → Step
 merge_step c b = if_done (λ p. (Merged p.0, record c { store = p.1 })) (merging c.store b)
 
+-- rule: not-modified
 -- What a client is answered that polls without a stream: all that the interest of its one list covers, or none where it asks for
 -- all of the type and the version that it kept is the present one.
 abbrev pub rested : Core → TypeName → List (List ℕ) → List ℕ → List ℕ → Option Drafted
 rested c t names version cluster = unless_present c.replica t (at c.store t) (asked_once t names cluster) version
 
+-- rule: refused-event
 abbrev pub step : Core → Event → Step
 step c Open = opening_step c
 step c (Request n m) = stream_step c n Answered (λ s. requested s m)

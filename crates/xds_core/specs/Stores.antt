@@ -34,6 +34,7 @@ Store = PerType Holdings
 abbrev pub Batch : Type 0
 Batch = PerType (List StampedWrite)
 
+-- rule: greatest-write
 -- what is held of each type once a batch came
 abbrev pub merged : Store → Batch → Store
 merged s b = per_type (λ t. joined (at s t) (at b t))
@@ -63,10 +64,12 @@ if_done f (Err e) = Err e
 abbrev pub putting_at : Store → TypeName → NamedBody → List (List ℕ) → ℕ → Result (ℕ × Store) Refusal
 putting_at s t r groups writer = if_done (λ p. (p.0, with_at s t p.1)) (putting (at s t) r groups writer)
 
+-- rule: tombstones
 -- the counter of the write that deletes a live resource of the type, and what is held then
 abbrev pub deleting_at : Store → TypeName → List ℕ → ℕ → Result (ℕ × Store) Refusal
 deleting_at s t name writer = if_done (λ p. (p.0, with_at s t p.1)) (deleting (at s t) name writer)
 
+-- rule: tombstones
 -- all that is held, deletions included, of each type in ascending order of names
 abbrev pub all_entries : Store → Batch
 all_entries s = per_type (λ t. finmap.values (at s t).entries)

@@ -99,10 +99,12 @@ abbrev pub nonce_of : Message → List ℕ
 nonce_of (Sotw m) = m.response_nonce
 nonce_of (Delta m) = m.response_nonce
 
+-- rule: groups
 -- the cluster text of the node in a request, if there is one
 abbrev pub cluster_in : Option Identity → List ℕ
 cluster_in node = option_map_or (λ n. n.cluster) node []
 
+-- rule: groups
 abbrev pub cluster_of : Message → List ℕ
 cluster_of (Sotw m) = cluster_in m.node
 cluster_of (Delta m) = cluster_in m.node
@@ -112,10 +114,12 @@ abbrev pub is_same_variant : VariantName → VariantName → Bool
 is_same_variant variants.StateOfTheWorld v = not (is_delta v)
 is_same_variant variants.Delta v = is_delta v
 
+-- rule: first-variant
 -- whether a request isn't of the stream's variant; while the stream is opening, either is
 abbrev pub is_foreign : Stream → Message → Bool
 is_foreign s m = option_map_or (λ v. not (is_same_variant v (variant_of m))) s.variant false
 
+-- rule: groups
 -- the session of a type after a request
 abbrev pub session_after : TypeName → Session → Message → Session
 session_after t s (Sotw m) = sotw.take t s m
@@ -126,6 +130,7 @@ abbrev pub answered_by : PerType Session → Message → Option TypeName → Out
 answered_by ss m None = (Ignored, ss)
 answered_by ss m (Some t) = (sessions.outcome (at ss t) (nonce_of m), with_at ss t (session_after t (at ss t) m))
 
+-- rule: first-variant
 -- the same of a request that must name a type
 abbrev pub answered : PerType Session → Message → Result (Outcome × PerType Session) Refusal
 answered ss m = unless_refused ((length (url_of m) == 0, BadMessage) ∷ []) (answered_by ss m (type_of_url (url_of m)))
@@ -134,6 +139,7 @@ answered ss m = unless_refused ((length (url_of m) == 0, BadMessage) ∷ []) (an
 abbrev pub sessions_for : Stream → Message → PerType Session
 sessions_for s m = if is_some s.variant then s.sessions else each (unopened (cluster_of m))
 
+-- rule: first-variant
 -- What a request becomes on a stream, and the stream after it. The first that isn't refused decides the variant and the
 -- cluster text, be it of a type outside the table; the nodes of later ones aren't looked at.
 abbrev pub requested : Stream → Message → Result (Outcome × Stream) Refusal
@@ -146,6 +152,7 @@ requested s m =
 abbrev pub to_send : Store → Stream → TypeName → Option Offer
 to_send store s t = option_and_then (λ v. sessions.sending v t (at s.sessions t) (at store t).entries) s.variant
 
+-- rule: owed
 -- whether the client is owed something of the type
 abbrev pub owes_of : Store → Stream → TypeName → Bool
 owes_of store s t = option_map_or (λ v. sessions.owes v t (at s.sessions t) (at store t).entries) s.variant false
@@ -159,6 +166,7 @@ abbrev pub response_of : ℕ → Store → PerType Session → TypeName → Offe
 response_of replica store ss t o number variants.StateOfTheWorld = drafts.Sotw (sotw.response replica t (at store t) (at ss t).asked.interest o number)
 response_of replica store ss t o number variants.Delta = drafts.Delta (delta.response replica t (at store t) o number)
 
+-- rule: nonce-numbers
 -- this offer is sent, where the stream has a number left for it
 abbrev pub responding : ℕ → Store → Stream → TypeName → Offer → Result (Option Draft × Stream) Refusal
 responding replica store s t o =
@@ -168,15 +176,18 @@ responding replica store s t o =
 abbrev pub polled : ℕ → Store → Stream → TypeName → Result (Option Draft × Stream) Refusal
 polled replica store s t = option_map_or (responding replica store s t) (to_send store s t) (Ok (None, s))
 
+-- rule: type-order
 -- one type, or all in the order of the table
 abbrev pub looked_at : Option TypeName → List TypeName
 looked_at None = types
 looked_at (Some t) = t ∷ []
 
+-- rule: type-order
 -- the first of these types that has a response to send
 abbrev pub first_due : Store → Stream → List TypeName → Option TypeName
 first_due store s ts = find (λ t. is_some (to_send store s t)) ts
 
+-- rule: type-order
 -- the response of the first of these types that has one to send
 abbrev pub polled_first : ℕ → Store → Stream → List TypeName → Result (Option Draft × Stream) Refusal
 polled_first replica store s ts = option_map_or (polled replica store s) (first_due store s ts) (Ok (None, s))
@@ -185,6 +196,7 @@ polled_first replica store s ts = option_map_or (polled replica store s) (first_
 abbrev pub IsToRespond : Store → Stream → List TypeName → Type 0
 IsToRespond store s ts = IsSome (first_due store s ts) × (s.count < max_counter)
 
+-- rule: owed
 -- whether the client is owed something of these types
 abbrev pub owes_some : Store → Stream → List TypeName → Bool
 owes_some store s ts = list_any (owes_of store s) ts

@@ -127,6 +127,7 @@ impl Catalogues {
         }
     }
 
+    // rule: refused-event
     /// Joins the writes of a batch, all or none. Answers by how much the changes grew, over all types.
     pub fn join_all(&mut self, alloc: Global, batch: Batch) -> Result<u128, Refusal>
         ensures joins { Gives (λ n. (n, self.new)) result (merging self.old batch) }
@@ -151,6 +152,7 @@ impl Catalogues {
         }
     }
 
+    // rule: refused-event
     // Whether a batch makes more changes of some type than can be counted. It takes no memory.
     fn is_spent_by(&self, batch: &Batch) -> bool
         ensures { result ≡ is_spent self.now batch.now }
@@ -162,6 +164,7 @@ impl Catalogues {
             || self.secret.catalogue().is_spent_by(&batch.secret)
     }
 
+    // rule: tombstones
     /// All that is held, deletions included, of each type in ascending order of names. No body is copied.
     pub fn entries(&self, alloc: Global) -> Result<Batch, Refusal>
         ensures ok { IfOk result (λ b. b ≡ all_entries self.now) }
@@ -199,6 +202,7 @@ impl Catalogues {
         Ok(batch)
     }
 
+    // rule: marks
     /// The entries that changed after these counts of changes, deletions included, of each type in ascending order of names.
     /// For m such entries it takes some m log n steps, however many are held. No body is copied. Refused only by
     /// `OutOfMemory`.
@@ -222,6 +226,7 @@ impl Catalogues {
         })
     }
 
+    // rule: marks
     /// The counts of changes of all types.
     pub fn marks(&self) -> Marks
         ensures cluster { result.cluster ≡ self.now.cluster.changes }
@@ -294,6 +299,7 @@ fn join_one<T: ResourceType>(catalogue: &mut Published<T>, write: Write<T>) -> R
     Ok(())
 }
 
+// rule: tombstones
 // All that a catalogue holds.
 fn writes_of<T: ResourceType>(
     alloc: Global,

@@ -8,6 +8,7 @@ use std::alloc::Global;
 use xds_catalogue::Catalogue;
 use xds_resource::{NameMap, Refusal, ResourceType, Write};
 
+// rule: tombstones, rule: marks
 /// What stands under the names whose latest change is above the mark, deletions included, in ascending order of names.
 pub(crate) fn changed_after<T: ResourceType>(
     alloc: Global,
@@ -21,6 +22,7 @@ pub(crate) fn changed_after<T: ResourceType>(
     values(alloc, &changed)
 }
 
+// rule: tombstones, rule: marks
 // The same by their names.
 fn by_name<T: ResourceType>(
     alloc: Global,

@@ -1,6 +1,7 @@
 // Laws of steps and of lists of records. Each is a function that does nothing, whose clause is the law.
 ghost use Rattle.xds_core.specs.Laws.{RefusalsChangeNothing, BeginningsAreLegal, EndsAreLegal, EventsDecide, StreamsStandApart, OnlyWritesChangeTheStore, NumberStays, CountersNeverFall, OwnCountersRise, OwnDeletionsRise};
 
+// rule: refused-event
 /// A refused event changes nothing, and a replica keeps its number.
 pub fn refusals_change_nothing()
     ensures refused { RefusalsChangeNothing }
@@ -20,6 +21,7 @@ pub fn streams_stand_apart()
     ensures held { OnlyWritesChangeTheStore }
 {}
 
+// rule: tombstones
 /// The counters of own writes only rise.
 pub fn own_counters_rise()
     ensures held { CountersNeverFall }

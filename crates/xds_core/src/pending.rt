@@ -34,6 +34,7 @@ impl Model for Pending {
 }
 
 impl Pending {
+    // rule: refused-event
     /// Joins a batch, all or none. Where there is no memory, the catalogues come back as they were.
     pub(crate) fn start(
         alloc: Global,

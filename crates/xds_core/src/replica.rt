@@ -85,6 +85,7 @@ impl Core {
         }
     }
 
+    // rule: refused-event
     /// What an event is answered; where it is refused, nothing changes. Refused are: a stream that isn't open
     /// (`NoStream`); a request of the other variant than the stream's (`WrongVariant`), then one that names no type
     /// (`BadMessage`); the deletion of a name that isn't live (`NotFound`); a stream or a write more than can be
@@ -227,6 +228,7 @@ impl Core {
         Ok(Reply::Opened(number))
     }
 
+    // rule: refused-event
     fn request(&mut self, number: u64, request: &Request) -> Result<Reply, Refusal>
         ensures steps { Gives (λ r. (reply_of r, self.new)) result (step self.old (events.Request number (message_of request.now))) }
         ensures memory { IfErr result (λ e. e ≡ OutOfMemory → IsShort self.old (events.Request number (message_of request.now))) }
@@ -400,6 +402,7 @@ impl Core {
         }
     }
 
+    // rule: marks
     fn since(&self, marks: Marks) -> Result<Reply, Refusal>
         ensures steps { Gives (λ r. (reply_of r, self.now)) result (step self.now (events.Since (counts_of marks))) }
         ensures memory { IfErr result (λ e. e ≡ OutOfMemory → IsShort self.now (events.Since (counts_of marks))) }
@@ -460,6 +463,7 @@ impl Core {
         &self.held
     }
 
+    // rule: owed
     /// Whether the client of a stream is owed something, of a type or at all; none where the stream isn't open. It
     /// takes no memory.
     pub fn owes(&self, number: u64, which: Option<TypeName>) -> Option<bool>
@@ -469,6 +473,7 @@ impl Core {
         Some(stream.owes(&self.held, which))
     }
 
+    // rule: wake-ups
     /// Whether a poll of a stream would give a response, or be refused by `NonceSpent`; none where the stream isn't
     /// open. It takes no memory.
     pub fn due(&self, number: u64) -> Option<bool>

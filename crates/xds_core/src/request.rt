@@ -25,6 +25,7 @@ impl Drop for Request {
     }
 }
 
+// rule: groups
 // The cluster text of a node, if there is one.
 fn cluster_in(node: &Option<Node>) -> &str
     ensures { result.now ≡ cluster_in node.now }

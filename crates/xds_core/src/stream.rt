@@ -50,6 +50,7 @@ impl Stream {
         Stream { talk: None }
     }
 
+    // rule: first-variant, rule: refused-event
     /// What becomes of a request. Refused by `WrongVariant` where it isn't of the stream's variant, by `BadMessage`
     /// where it names no type, and by `OutOfMemory`, in this order. The first that isn't refused decides the variant and,
     /// by the cluster of its node, which groups the stars of the stream cover.
@@ -68,6 +69,7 @@ impl Stream {
         self.take(alloc, request)
     }
 
+    // rule: first-variant
     // Whether a request is of another variant than the stream.
     fn is_foreign(&self, request: &Request) -> bool
         ensures { result ≡ is_foreign self.now.stream (message_of request.now) }
@@ -78,6 +80,7 @@ impl Stream {
         }
     }
 
+    // rule: groups, rule: first-variant
     // Takes a request of the stream's variant that names a type.
     fn take(&mut self, alloc: Global, request: &Request) -> Result<Outcome, Refusal>
         requires variant { is_foreign self.old.stream (message_of request.now) ≡ false }
@@ -93,6 +96,7 @@ impl Stream {
         }
     }
 
+    // rule: groups, rule: first-variant
     // Takes the first request.
     fn begin(&mut self, alloc: Global, request: &Request) -> Result<Outcome, Refusal>
         requires opening { self.old.stream ≡ opening }
@@ -116,6 +120,7 @@ impl Stream {
         }
     }
 
+    // rule: owed
     /// Whether the client is owed something, of a type or at all. It takes no memory.
     pub fn owes(&self, held: &Catalogues, which: Option<TypeName>) -> bool
         requires { StreamFits held.now self.now }
@@ -133,6 +138,7 @@ impl Stream {
         }
     }
 
+    // rule: owed
     fn owes_type(&self, held: &Catalogues, kind: TypeName) -> bool
         requires { StreamFits held.now self.now }
         ensures { result ≡ owes_of held.now self.now.stream kind }
@@ -154,6 +160,7 @@ impl Stream {
         }
     }
 
+    // rule: type-order
     /// The next response: of a type, or of the first in the order of the types that has one. Refused only where one is to
     /// be sent: by `NonceSpent` where the stream has no number left, and else by `OutOfMemory`.
     pub fn poll(
@@ -267,6 +274,7 @@ impl Stream {
         }
     }
 
+    // rule: wake-ups
     /// Whether a response is to be sent, of any type. It takes no memory.
     pub fn sends(&self, held: &Catalogues) -> bool
         requires { StreamFits held.now self.now }
@@ -275,6 +283,7 @@ impl Stream {
         self.first_due(held).is_some()
     }
 
+    // rule: type-order
     // The first type that has a response to send. It takes no memory.
     fn first_due(&self, held: &Catalogues) -> Option<TypeName>
         requires { StreamFits held.now self.now }

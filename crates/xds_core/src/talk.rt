@@ -198,6 +198,7 @@ impl Talk {
         }
     }
 
+    // rule: new-nonce, rule: nonce-numbers
     /// The next response of the type, if one is to be sent. Refused only where one is: by `NonceSpent` where the stream
     /// has no number left, and else by `OutOfMemory`.
     pub(crate) fn poll(
@@ -299,6 +300,7 @@ impl Talk {
         self.poll_twice_tidied(alloc, replica, held, kind)
     }
 
+    // rule: one-unanswered, rule: nonce-numbers, rule: refused-event
     // The next response and an equal one, from the lists as they are.
     fn poll_twice_tidied(
         &mut self,

@@ -3,6 +3,7 @@ use crate::script::play;
 use std::test::Fail;
 use xds_core::Core;
 
+// rule: tombstones, rule: marks
 #[test]
 fn what_changed_since_is_told(rt: HostRuntime) -> Result<(), Fail> {
     play::<Core, HostRuntime>(

@@ -3,6 +3,7 @@ use crate::script::play;
 use std::test::Fail;
 use xds_core::Core;
 
+// rule: star-covers, rule: groups
 // The first streams are of clients of `g1`, of no cluster, and of `g1` again, which names what its
 // star wouldn't cover.
 #[test]
@@ -42,6 +43,7 @@ entries cluster => {"body":{"@type":"CDS","name":"a"},"counter":1,"groups":["g1"
     )
 }
 
+// rule: groups
 #[test]
 fn the_first_request_decides_the_cluster(rt: HostRuntime) -> Result<(), Fail> {
     play::<Core, HostRuntime>(
@@ -69,6 +71,7 @@ poll 3 => none"#,
     )
 }
 
+// rule: groups
 #[test]
 fn what_leaves_the_group_is_removed(rt: HostRuntime) -> Result<(), Fail> {
     play::<Core, HostRuntime>(
@@ -122,6 +125,7 @@ entries cluster => {"body":{"@type":"CDS","name":"a"},"counter":5,"name":"a","ty
     )
 }
 
+// rule: star-covers, rule: groups
 #[test]
 fn a_name_is_covered_in_any_group(rt: HostRuntime) -> Result<(), Fail> {
     play::<Core, HostRuntime>(

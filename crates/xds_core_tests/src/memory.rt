@@ -58,6 +58,7 @@ fn comes_again<A: Actor>(alloc: Global) -> Result<bool, Fail> {
     Ok(refused)
 }
 
+// rule: refused-event
 #[test]
 fn a_batch_without_memory(rt: HostRuntime) -> Result<(), Fail> {
     if comes_again::<Core>(rt.alloc())? {
@@ -261,6 +262,7 @@ fn is_told<A: Actor>(alloc: Global, story: &str) -> Result<bool, Fail> {
     Ok(refused)
 }
 
+// rule: refused-event
 #[test]
 fn each_event_without_memory(rt: HostRuntime) -> Result<(), Fail> {
     let events = unfolded(rt.alloc(), EVENTS)?;

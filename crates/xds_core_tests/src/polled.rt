@@ -3,6 +3,7 @@ use crate::script::play;
 use std::test::Fail;
 use xds_core::Core;
 
+// rule: not-modified
 #[test]
 fn all_is_told_unless_the_version_is_the_present_one(rt: HostRuntime) -> Result<(), Fail> {
     play::<Core, HostRuntime>(

@@ -44,6 +44,7 @@ delete cluster a => 9 NotFound"#,
     )
 }
 
+// rule: first-variant
 #[test]
 fn the_first_request_decides_the_variant(rt: HostRuntime) -> Result<(), Fail> {
     play::<Core, HostRuntime>(
@@ -141,6 +142,7 @@ owed 1 => none"#,
     )
 }
 
+// rule: greatest-write
 #[test]
 fn a_batch_is_joined_once(rt: HostRuntime) -> Result<(), Fail> {
     play::<Core, HostRuntime>(
@@ -203,6 +205,7 @@ marks => 1 0 3 0 0"#,
     )
 }
 
+// rule: type-order
 #[test]
 fn types_are_polled_in_their_order(rt: HostRuntime) -> Result<(), Fail> {
     play::<Core, HostRuntime>(
@@ -259,6 +262,7 @@ delete secret s => 9 NotFound"#,
     )
 }
 
+// rule: one-unanswered, rule: nonce-numbers
 // The first stream is of the state of the world, the second incremental.
 #[test]
 fn two_streams_of_both_variants(rt: HostRuntime) -> Result<(), Fail> {

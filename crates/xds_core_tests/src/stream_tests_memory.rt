@@ -57,6 +57,7 @@ fn is_served(alloc: Global) -> Result<bool, Fail> {
     short
 }
 
+// rule: refused-event
 #[test]
 fn a_stream_without_memory(rt: HostRuntime) -> Result<(), Fail> {
     if is_served(rt.alloc())? {

@@ -36,6 +36,7 @@ same_joined : (from to : Store) (marks : PerType ℕ) → IsKept from → IsKept
 same_joined from to marks kept_from kept_to knows t =
     ap (joined (at to t)) (at-changed from marks t) ∙ changed_are_all (at from t) (at to t) (at marks t) (kept_from t).0 (kept_to t).0 (knows t) ∙ ap (joined (at to t)) (sym (at-entries from t))
 
+-- rule: marks
 pub changes_all : ChangesAreAll
 changes_all from to marks kept_from kept_to knows =
     let same = same_joined from to marks kept_from kept_to knows in (
@@ -57,6 +58,7 @@ above_part m n p above name =
     let Q = λ (v : StampedWrite). IsSomeAnd (finmap.get m name) (λ w. write_cmp v w ≢ Greater) in
     subst (λ o. IfSome o Q) (sym (finmap.get-retain_keys n p name (same_told p name))) (kept_or_not Q (p name) (finmap.get n name) (above name))
 
+-- rule: marks
 pub all_known : AllIsKnown
 all_known from to marks kept_from kept_to t =
     let above = (join_is_above (at to t).entries (at from t).entries (kept_to t).0 (kept_from t).0).1 in
@@ -79,6 +81,7 @@ zero_below h to numbered name =
     subst (λ o. IfSome o (λ v. IsSomeAnd (finmap.get to name) (λ w. write_cmp v w ≢ Greater)))
     (sym (finmap.get-retain_keys h.entries stays name (same_told stays name) ∙ zero_at h.changes (finmap.get h.entries name) (finmap.get h.latest name) (numbered.each name) (numbered.counted name))) tt
 
+-- rule: marks
 pub zeros_know : ZerosKnowNothing
 zeros_know from to kept t = subst (λ n. IsAbove (at to t).entries (unchanged_after (at from t) n)) (sym (at-each 0 t)) (zero_below (at from t) (at to t).entries (kept t).1)
 
@@ -100,6 +103,7 @@ above_joined h ws n named above name =
     let here = get-catalogue_of (finmap.values h.entries ++ ws) name ∙ best_of_both (finmap.values h.entries) ws name ∙ ap (λ o. greater o (best ws name)) (best-values h.entries named name) in
     weaker _ _ (finmap.get n name) (λ v yet. subst (λ o. IsSomeAnd o (λ w. write_cmp v w ≢ Greater)) (sym here) (still_there v (finmap.get h.entries name) (best ws name) yet)) (above name)
 
+-- rule: marks
 pub merges_keep : MergesKeepKnowing
 merges_keep from to marks writes kept knows t =
     subst (λ h. IsAbove h.entries (unchanged_after (at from t) (at marks t))) (sym (at-merged to writes t)) (above_joined (at to t) (at writes t) (unchanged_after (at from t) (at marks t)) (kept t).0 (knows t))

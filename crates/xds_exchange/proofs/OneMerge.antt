@@ -68,6 +68,7 @@ pub grown_by-joined : (s : Store) (ps : List (List TypedWrite)) → grown_by s p
 grown_by-joined s [] = refl
 grown_by-joined s (p ∷ ps) = ap (λ n. grown s (by_type p) + n) (grown_by-joined (merged s (by_type p)) ps) ∙ sym (grown_twice s p (flat_map (λ q. q) ps))
 
+-- rule: greatest-write
 pub parts_one_merge : PartsAreOneMerge
 parts_one_merge s ws kept = (
   merged_by-joined s (parts_of ws) (λ t. (kept t).0) ∙ ap (λ xs. merged s (by_type xs)) (parts_joined ws),

@@ -105,6 +105,7 @@ entries_kept m p =
     (λ q. finmap.get-retain_keys m p q (same_told p q) ∙ ap (λ o. cond (p q) o None) (finmap.get-entries m q) ∙ sym (find-where_key text_cmp p q (same_told p q) (finmap.entries m)) ∙ sym (finmap.get-from_sorted text_cmp (where_key text_cmp p (finmap.entries m)) q sorted)))
     ∙ finmap.entries-from_sorted text_cmp (where_key text_cmp p (finmap.entries m)) sorted
 
+-- rule: marks
 -- so what changed comes to the same as all
 pub changed_are_all : (h to : Holdings) (mark : ℕ) → IsCatalogue h.entries → IsCatalogue to.entries → IsAbove to.entries (unchanged_after h mark) → joined to (changed_after h mark) ≡ joined to (finmap.values h.entries)
 changed_are_all h to mark named kept above =

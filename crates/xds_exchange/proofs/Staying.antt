@@ -134,6 +134,7 @@ events_keep c e kept t = kept_by (at c.store t) (at (after c e).store t) (all_gr
 not_above : (m a b : ℕ) → m ≤ a → a ≤ b → m ≤ b
 not_above m a b low grows = omega arith
 
+-- rule: marks
 pub tellers_write : TellersMayWrite
 tellers_write c e marks to kept taken knows =
     let later = λ (t : TypeName). later_by (at c.store t) (at (after c e).store t) (all_grow c e t) (kept t).0 in (
@@ -141,6 +142,7 @@ tellers_write c e marks to kept taken knows =
       λ t. not_above (at marks t) (at c.store t).changes (at (after c e).store t).changes (taken t) (later t).grows,
     )
 
+-- rule: marks
 pub hearers_write : HearersMayWrite
 hearers_write c e marks from kept knows t = above_by (at c.store t) (at (after c e).store t) (unchanged_after (at from t) (at marks t)) (all_grow c e t) (kept t).0 (knows t)
 
@@ -150,6 +152,7 @@ same_is_low m n is = omega (arith, is)
 zero_is_low : (m n : ℕ) → m ≡ 0 → m ≤ n
 zero_is_low m n is = omega (arith, is)
 
+-- rule: marks
 pub marks_taken : MarksAreTaken
 marks_taken s = (λ t. same_is_low (at (marks_of s) t) (at s t).changes (at-per_type (λ u. (at s u).changes) t), λ t. zero_is_low (at (each 0) t) (at s t).changes (at-each 0 t))
 

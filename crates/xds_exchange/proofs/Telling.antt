@@ -13,6 +13,7 @@ use Rattle.xds_exchange.proofs.OneMerge.{parts_one_merge}
 use Rattle.xds_exchange.proofs.Knowing.{changes_all, entries_joined, all_known, zeros_know}
 
 module _ (from : Store) (old new : Core) (marks : PerType ℕ) (kept_from : IsKept from) (kept_to : IsKept old.store) (knows : Knows from marks old.store) where
+  -- rule: marks
   pub has_all : (parts growth : ℕ) → AllMerged old (told from marks) parts growth new → HasAll from old.store new.store
   has_all parts growth h =
       let once = parts_one_merge old.store (told from marks) kept_to in
@@ -24,6 +25,7 @@ module _ (from : Store) (old new : Core) (marks : PerType ℕ) (kept_from : IsKe
       let once = parts_one_merge old.store (told from marks) kept_to in
       h.grows ∙ once.1 ∙ ap (grown old.store) (by_type-in_order (changed_since from marks)) ∙ (changes_all from old.store marks kept_from kept_to knows).1
 
+-- rule: marks
 pub knows_again : {X : Type 0} (from old new : Store) (marks : PerType ℕ) (r : Result X Refusal) → IsKept from → IsKept old → IfOk r (λ x. HasAll from old new) → OnErr r (marks ≡ each 0) → Knows from marks new
 knows_again from old new marks (Ok x) kept_from kept_to has lost = subst (Knows from marks) (sym has.all) (all_known from old marks kept_from kept_to)
 knows_again from old new marks (Err e) kept_from kept_to has lost = subst (λ m. Knows from m new) (sym lost) (zeros_know from new kept_from)

@@ -45,6 +45,7 @@ impl Model for Peer {
 }
 
 impl Peer {
+    // rule: marks
     /// A peer that was told nothing.
     pub fn new() -> Peer
         ensures { result ≡ each 0 }
@@ -68,6 +69,7 @@ impl Peer {
     }
 }
 
+// rule: marks
 /// Tells a replica what changed at another since the last time, part by part. Where the one knew all else, it holds
 /// afterwards what the merge of all entries of the other would have left, and knows all. On a refusal, which is that of
 /// a merge or `OutOfMemory`, the parts before it are merged, and all is told again the next time.
@@ -96,6 +98,7 @@ pub fn round(alloc: Global, from: &Core, to: &mut Core, peer: &mut Peer) -> Resu
 }
 
 // The same, whatever was known.
+// rule: marks
 fn exchange(alloc: Global, from: &Core, to: &mut Core, peer: &mut Peer) -> Result<Round, Refusal>
     ensures sent { IfOk result (λ r. r.sent ≡ length (told from.now.store peer.old)) }
     ensures merged { IfOk result
@@ -113,6 +116,7 @@ fn exchange(alloc: Global, from: &Core, to: &mut Core, peer: &mut Peer) -> Resul
     Ok(Round { sent, parts, grown })
 }
 
+// rule: marks
 // What changed at a replica since then, to be sent.
 fn changed_since(alloc: Global, from: &Core, marks: Marks) -> Result<Outbox, Refusal>
     ensures ok { IfOk result (λ o. o ≡ told from.now.store (counts_of marks)) }

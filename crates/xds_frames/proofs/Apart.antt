@@ -51,6 +51,7 @@ fronts_apart s t x y len same = (
 behind_kinds : (k l : FrameKind) (s t : List ℕ) → number_of k ∷ s ≡ number_of l ∷ t → (k ≡ l) × (s ≡ t)
 behind_kinds k l s t same = (kinds_apart k l cc, cc)
 
+-- rule: whole-frames
 -- bytes begin with one frame at most
 pub frames_apart : (f g : Framed) (x y : List ℕ) → IsFrame f → IsFrame g → frame_bytes f ++ x ≡ frame_bytes g ++ y → (f ≡ g) × (x ≡ y)
 frames_apart f g x y is_f is_g same =
@@ -111,6 +112,7 @@ long_or_kind : (bytes : List ℕ) → IsTooLong bytes → IsOfNoKind bytes → �
 long_or_kind bytes (n, body, above, fits, too) (m, k, rest, counts, none, at) =
     let same = lengths_apart n m body (k ∷ rest) fits (omega (arith, counts.1)) (sym too ∙ at) in absurd (omega (arith, same.0, counts.1, above))
 
+-- rule: whole-frames
 -- bytes are at one fault at most
 pub faults_apart : (bytes : List ℕ) (e d : Refusal) → IsFault bytes e → IsFault bytes d → e ≡ d
 faults_apart bytes e d (inl (is, _)) (inl (is', _)) = is ∙ sym is'

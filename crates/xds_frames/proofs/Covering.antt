@@ -94,5 +94,6 @@ read_upto (suc n) bytes fits are = elim (front bytes are) [
   | inr (inr (f, x, is_f, at)) ↦ one_more f bytes x is_f at (read_upto n x (omega (arith, fits, ap (λ (l : List ℕ). length l) at, length-append f.text x)) (bytes_behind (frame_bytes f) bytes x are at))
 ]
 
+-- rule: whole-frames
 pub all_read : (bytes : List ℕ) → AreBytes bytes → (frames : List Framed) × (end : Option Refusal) × IsRead bytes frames end
 all_read bytes are = read_upto (length bytes + 1) bytes (omega arith) are

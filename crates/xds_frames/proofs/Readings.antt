@@ -41,6 +41,7 @@ no_frame f rest x None is_f at ends = absurd (cc (at, ends))
 no_frame f rest x (Some e) is_f at (inl fault) = fault_or_frame f rest x e is_f at fault
 no_frame f rest x (Some e) is_f at (inr (is, part, some)) = partial_or_frame f rest x is_f at part
 
+-- rule: whole-frames
 -- frames that stand first are the first of all
 pub reads_on : (given frames : List Framed) (x rest : List ℕ) (end : Option Refusal) → All IsFrame given → All IsFrame frames
     → flat_map frame_bytes given ++ x ≡ flat_map frame_bytes frames ++ rest → Ends rest end
@@ -124,6 +125,7 @@ has_read bytes left given h (inl part) = at_part left part refl
 has_read bytes left given h (inr (e, fault)) =
     (Some e, record { rest = left ++ h.passed; splits = h.splits; ends = inl (fault_on left h.passed e fault) })
 
+-- rule: whole-frames
 -- any cutting gives the same frames
 pub same_frames : (bytes left rest : List ℕ) (given others : List Framed) → HasDecoded bytes given left → HasDecoded bytes others rest → HasGivenAll left → HasGivenAll rest → given ≡ others
 same_frames bytes left rest given others h k all all' =

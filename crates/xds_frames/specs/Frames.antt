@@ -38,6 +38,7 @@ longest = 16777216
 abbrev pub IsLength : ℕ → Type 0
 IsLength n = (0 < n) × (n ≤ longest)
 
+-- rule: whole-frames
 -- four bytes of length, most significant first, and what follows them
 abbrev pub after_length : ℕ → List ℕ → List ℕ
 after_length n body = to_be_bytes w32 n ++ body
@@ -71,6 +72,7 @@ abbrev pub MayFollow : List ℕ → Type 0
 MayFollow [] = ⊤
 MayFollow (k ∷ text) = IsKind k
 
+-- rule: whole-frames
 -- less than a frame, and no fault: the rest of it may come
 abbrev pub IsPartial : List ℕ → Type 0
 IsPartial bytes = (length bytes < 4)

@@ -38,6 +38,7 @@ impl Model for Decoder {
     ghost invariant = { λ d. d.given ≤ vec_len d.bytes };
 }
 
+// rule: whole-frames
 // The length that stands first, and what follows it.
 fn split_length(bytes: &[u8]) -> Option<(usize, &[u8])>
     ensures some { IfSome result (λ p. (p.0 < 2 ^ 32) × (bytes.now ≡ after_length p.0 p.1.now)) }
@@ -47,6 +48,7 @@ fn split_length(bytes: &[u8]) -> Option<(usize, &[u8])>
     Some((u32::from_be_bytes(*length) as usize, body))
 }
 
+// rule: whole-frames
 /// The frame at the front of the bytes, if all of it is there. `EmptyFrame` and `FrameTooLong` are told as soon as the four
 /// bytes of a length are there, and `UnknownKind` as soon as the kind is.
 pub fn first_frame(bytes: &[u8]) -> Result<Option<Frame<'_>>, Refusal>
@@ -86,6 +88,7 @@ impl Decoder {
         }
     }
 
+    // rule: whole-frames
     /// Takes the next piece, or passes over it behind a fault. It takes memory for what has come, whatever length a
     /// frame announces.
     pub fn feed(&mut self, piece: &[u8]) -> Result<(), Refusal>
@@ -100,6 +103,7 @@ impl Decoder {
         Ok(())
     }
 
+    // rule: whole-frames
     // Moves what is left to the front once no less than that was given. So for a byte that was given one is moved at most.
     fn make_room(&mut self)
         ensures { self.new ≡ self.old }
@@ -112,6 +116,7 @@ impl Decoder {
         }
     }
 
+    // rule: whole-frames
     /// The next whole frame, as [`first_frame`] finds it, or none while less than one is there. It takes no memory: the
     /// text is lent from where it was put when it came. A fault is told again at each call.
     pub fn next(&mut self) -> Result<Option<Frame<'_>>, Refusal>
@@ -127,6 +132,7 @@ impl Decoder {
         }
     }
 
+    // rule: whole-frames
     /// How the bytes end where no more come, once `next` has given none: `Truncated` where some are left, or the fault
     /// that they begin with.
     pub fn finish(&self) -> Result<(), Refusal>

@@ -6,6 +6,7 @@ ghost use Rattle.xds_frames.specs.Frames.{Framed, AreBytes, IsFrame, IsFault, Is
 ghost use Rattle.xds_frames.specs.Decoding.{IsFed, GivesNext, Finishes, framed};
 ghost use Rattle.xds_frames.specs.Reading.{Splits, IsRead, HasDecoded, HasGivenAll, refused_by};
 
+// rule: whole-frames
 /// However bytes are cut into pieces, and whenever a decoder is asked, what it gave are the first frames of all bytes that
 /// it was fed: so it is at the start, and each call keeps it.
 pub fn decoders_keep_to_the_bytes()
@@ -16,6 +17,7 @@ pub fn decoders_keep_to_the_bytes()
         → GivesNext left (Ok (Some f)) after → HasDecoded bytes (given ++ framed f ∷ []) after }
 {}
 
+// rule: whole-frames
 /// A decoder that gives none has given all whole frames of the bytes, and tells how they end.
 pub fn decoders_leave_nothing_out()
     ensures first { (bytes left : List ℕ) (given frames : List Framed) (end : Option Refused) → HasDecoded bytes given left
@@ -28,6 +30,7 @@ pub fn decoders_leave_nothing_out()
         → IsFault left e → IsRead bytes given (Some e) }
 {}
 
+// rule: whole-frames
 /// Any cutting gives the same frames: decoders that were fed the same bytes in all, in whatever pieces, and have no more to
 /// give, gave the same.
 pub fn any_cutting_gives_the_same_frames()
@@ -35,6 +38,7 @@ pub fn any_cutting_gives_the_same_frames()
         → HasDecoded bytes others rest → HasGivenAll left → HasGivenAll rest → given ≡ others }
 {}
 
+// rule: whole-frames
 /// A fault stands for good: no piece changes what is left, and each call tells it again.
 pub fn faults_stand()
     ensures fed { (left piece after : List ℕ) (e : Refused) → IsFault left e → IsFed left piece after → after ≡ left }
@@ -43,12 +47,14 @@ pub fn faults_stand()
     ensures finished { (left : List ℕ) (e : Refused) (r : Result Unit Refused) → IsFault left e → Finishes left r → r ≡ Err e }
 {}
 
+// rule: whole-frames
 /// A frame that was written is found again, whatever follows it.
 pub fn written_frames_are_found()
     ensures { (f : Framed) (rest after : List ℕ) (r : Result (Option Frame) Refused) → IsFrame f
         → GivesNext (frame_bytes f ++ rest) r after → (g : Frame) × (r ≡ Ok (Some g)) × (framed g ≡ f) × (after ≡ rest) }
 {}
 
+// rule: whole-frames
 /// All bytes are read as frames, up to their end or a fault, and in one way.
 pub fn bytes_are_read_in_one_way()
     ensures one { (bytes : List ℕ) (frames others : List Framed) (end another : Option Refused) → IsRead bytes frames end

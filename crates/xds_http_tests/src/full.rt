@@ -78,6 +78,7 @@ fn full<N: NodeName, R: Wait>(rt: &R, alloc: Global, opened: Opened<Line>) -> Re
     records
 }
 
+// rule: cuts
 #[test]
 fn a_full_journal_is_cut_for_a_request(rt: HostRuntime) -> Result<(), Fail> {
     let opened = Opened::<Line>::new(rt.alloc())?;

@@ -235,10 +235,12 @@ pub taken_out : (now : Asked) (begun : Bool) (held new : Selection) (out : set.F
     → kept_as begun new ≡ without_names now out
 taken_out now begun held new out is took = ap (kept_as begun) took ∙ ap (λ a. without_names a out) is
 
+-- rule: delta-names
 pub widening_is_undone : WideningIsUndone
 widening_is_undone before names =
     (λ i. record { begun = before.begun; named = before.named; interest = record before.interest { names = difference-union_rest before.interest.names names i } })
 
+-- rule: delta-names
 pub narrowing_is_the_rest : NarrowingIsTheRest
 narrowing_is_the_rest t before m = (λ i. record {
   begun = true;

@@ -27,6 +27,7 @@ use Rattle.xds_interest.proofs.DeltaLaws.{last_word-push, star-push, contains-de
 
 -- ---- what is kept
 
+-- rule: listed-names
 pub sotw_is_kept : SotwIsKept
 sotw_is_kept t cluster [] last =
     let named : is_named last ≡ (is_named last || false) = sym (or-false (is_named last)) in
@@ -58,6 +59,7 @@ names_kept t ms m = same_texts _ _ (λ q.
     ∙ ap (λ b. b && not (is_star t q)) (sym (last_word-push ms m q false))
     ∙ sym (contains-delta t (ms ++ m ∷ []) q))
 
+-- rule: delta-names
 pub delta_is_kept : DeltaIsKept
 delta_is_kept t cluster [] m =
     let star : ((row t).is_complete && star_after m (not (is_named m.subscribe))) ≡ (delta_interest t (m ∷ [])).star =
@@ -88,6 +90,7 @@ delta_touch_is_a_set t m name =
 
 -- ---- untouched names
 
+-- rule: star-covers
 pub kept_star_is_of_complete : KeptStarIsOfComplete
 kept_star_is_of_complete t = (λ cluster incomplete. refl, λ a names. listed_star a names, λ a m incomplete. ap (λ c. c && star_after m (if a.begun then a.interest.star else not (is_named m.subscribe))) incomplete)
   where

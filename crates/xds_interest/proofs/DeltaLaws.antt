@@ -47,6 +47,7 @@ contains-delta t ms name =
 contains-delta_plain : (t : TypeName) (ms : List Mention) (name : List ℕ) → is_star t name ≡ false → set.contains (delta_interest t ms).names name ≡ is_subscribed ms name
 contains-delta_plain t ms name plain = contains-delta t ms name ∙ ap (λ b. is_subscribed ms name && not b) plain ∙ and-true (is_subscribed ms name)
 
+-- rule: delta-names
 pub one_request_more : OneRequestMore
 one_request_more t ms m name plain =
     contains-delta_plain t (ms ++ m ∷ []) name plain ∙ last_word-push ms m name false
@@ -57,6 +58,7 @@ pub star-push : (ms : List Mention) (m : Mention) → ms ≢ []
     ≡ (if has_name m.subscribe star_text then true else if has_name m.unsubscribe star_text then false else unwrap_or (last_said ms star_text) (opens_unnamed ms))
 star-push ms m some = ap (λ b. unwrap_or (last_said (ms ++ m ∷ []) star_text) b) (opens_unnamed-push ms m some) ∙ last_word-push ms m star_text (opens_unnamed ms)
 
+-- rule: delta-names
 pub one_request_more_for_the_star : OneRequestMoreForTheStar
 one_request_more_for_the_star t ms m some complete =
     ap (λ c. c && unwrap_or (last_said (ms ++ m ∷ []) star_text) (opens_unnamed (ms ++ m ∷ []))) complete ∙ star-push ms m some

@@ -15,9 +15,11 @@ by_name_or_star true false o h = refl
 by_name_or_star false true o h = refl
 by_name_or_star false false o h = h
 
+-- rule: star-covers
 pub covered_is_reached : CoveredIsReached
 covered_is_reached s name groups h = by_name_or_star (set.contains s.names name) s.star (is_open_to groups s.cluster) h
 
+-- rule: star-covers
 pub without_groups : WithoutGroupsReachedIsCovered
 without_groups s name = ap (λ b. set.contains s.names name || b) (and-true s.star) ∙ or_swap (set.contains s.names name) s.star
 

@@ -25,6 +25,7 @@ is_named-true : (names : List (List ℕ)) → names ≢ [] → is_named names �
 is_named-true [] some = absurd (some refl)
 is_named-true (x ∷ xs) some = refl
 
+-- rule: listed-names
 pub last_list_says_all : LastListSaysAll
 last_list_says_all t lists last named (k, within, is) some =
     cond-true _ _ _ (list_any_at is_named (lists ++ last ∷ []) k named within (ap is_named is ∙ is_named-true named some)) ∙ ap (listed t) (last_list-push lists last)
@@ -34,6 +35,7 @@ nothing_is_named [] empty = refl
 nothing_is_named (x ∷ xs) empty =
     (λ i. is_named (empty x (0, omega arith, refl) i) || nothing_is_named xs (λ names (k, within, is). empty names (suc k, omega arith, is)) i)
 
+-- rule: listed-names
 pub while_nothing_is_named : WhileNothingIsNamed
 while_nothing_is_named t [] some empty = absurd (some refl)
 while_nothing_is_named t (x ∷ xs) some empty = cond-false _ _ _ (nothing_is_named (x ∷ xs) empty)
@@ -50,6 +52,7 @@ has_name-names_among t names name =
 pub contains-listed : (t : TypeName) (names : List (List ℕ)) (name : List ℕ) → set.contains (listed t names).names name ≡ (not (is_star t name) && has_name names name)
 contains-listed t names name = contains-from_texts (names_among t names) name ∙ has_name-names_among t names name
 
+-- rule: listed-names
 pub list_reaches_its_names : ListReachesItsNames
 list_reaches_its_names t names name =
     (λ i. list_any-is_star t names i || contains-listed t names name i)

@@ -48,6 +48,7 @@ everything t = record { star = (row t).is_complete; names = set.empty; cluster =
 abbrev pub unasked : List ℕ → Asked
 unasked cluster = record { begun = false; named = false; interest = nothing cluster }
 
+-- rule: listed-names
 -- state of the world: after one list more
 abbrev pub sotw_asked : TypeName → Asked → List (List ℕ) → Asked
 sotw_asked t a names = record {
@@ -56,14 +57,17 @@ sotw_asked t a names = record {
   interest = in_cluster a.interest.cluster (if a.named || is_named names then listed t names else everything t);
 }
 
+-- rule: delta-names
 -- delta: whether the star stands after one request more, where it stood before or not
 abbrev pub star_after : Mention → Bool → Bool
 star_after m before = if has_name m.subscribe star_text then true else if has_name m.unsubscribe star_text then false else before
 
+-- rule: delta-names
 -- delta: the explicit names after one request more, which are those that it subscribes and those of before that it doesn't unsubscribe
 abbrev pub names_after : TypeName → Mention → List (List ℕ) → List (List ℕ)
 names_after t m before = names_among t m.subscribe ++ filter (λ name. not (has_name m.unsubscribe name)) before
 
+-- rule: delta-names
 -- delta: after one request more; before the first the star stands if that subscribes nothing
 abbrev pub delta_asked : TypeName → Asked → Mention → Asked
 delta_asked t a m = record {
@@ -76,6 +80,7 @@ delta_asked t a m = record {
   };
 }
 
+-- rule: delta-names
 -- delta: what a request leaves the client wanting of the names that it touches, which are those that it subscribes
 abbrev pub wanted_by : TypeName → Asked → Mention → Selection
 wanted_by t a m = record { star = (delta_asked t a m).interest.star; names = set.from_list (names_among t m.subscribe); cluster = a.interest.cluster }
@@ -100,16 +105,19 @@ narrowed a wanted texts = record {
   };
 }
 
+-- rule: listed-names
 -- what is kept of the lists of a whole stream, of a client of this cluster
 abbrev pub sotw_kept : TypeName → List ℕ → List (List (List ℕ)) → Asked
 sotw_kept t cluster [] = unasked cluster
 sotw_kept t cluster (names ∷ lists) = record { begun = true; named = list_any is_named (names ∷ lists); interest = in_cluster cluster (sotw_interest t (names ∷ lists)) }
 
+-- rule: delta-names
 -- what is kept of the delta requests of a whole stream, of a client of this cluster
 abbrev pub delta_kept : TypeName → List ℕ → List Mention → Asked
 delta_kept t cluster [] = unasked cluster
 delta_kept t cluster (m ∷ ms) = record { begun = true; named = false; interest = in_cluster cluster (delta_interest t (m ∷ ms)) }
 
+-- rule: star-covers
 -- the star of an incomplete type does not stand
 abbrev pub IsStarOfComplete : TypeName → Asked → Type 0
 IsStarOfComplete t a = (row t).is_complete ≡ false → a.interest.star ≡ false

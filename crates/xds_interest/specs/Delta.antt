@@ -25,28 +25,34 @@ pub record Mention : Type 0 where
 abbrev pub mention_of : {Y : Type 0} → List (String Y) → List (String Y) → Mention
 mention_of subscribe unsubscribe = record { subscribe = map string_bytes subscribe; unsubscribe = map string_bytes unsubscribe }
 
+-- rule: delta-names
 -- What one request says of a text: subscribed or not, or nothing where it does not mention it. In both lists it is subscribed.
 abbrev pub said : Mention → List ℕ → Option Bool
 said m text = if has_name m.subscribe text then Some true else if has_name m.unsubscribe text then Some false else None
 
+-- rule: delta-names
 -- what the last request that mentions a text says of it
 abbrev pub last_said : List Mention → List ℕ → Option Bool
 last_said [] text = None
 last_said (m ∷ ms) text = option_or (last_said ms text) (said m text)
 
+-- rule: delta-names
 -- whether the last request that mentions a text subscribes it
 abbrev pub is_subscribed : List Mention → List ℕ → Bool
 is_subscribed ms text = unwrap_or (last_said ms text) false
 
+-- rule: delta-names
 -- whether there is a first request, and it subscribes nothing
 abbrev pub opens_unnamed : List Mention → Bool
 opens_unnamed [] = false
 opens_unnamed (m ∷ ms) = not (is_named m.subscribe)
 
+-- rule: delta-names
 -- every text that some request subscribes
 abbrev pub ever_subscribed : List Mention → List (List ℕ)
 ever_subscribed ms = flat_map (λ m. m.subscribe) ms
 
+-- rule: delta-names
 -- The interest after these requests, in order. A complete type's star stands by its last mention, or else from the first request on if that subscribed nothing.
 abbrev pub delta_interest : TypeName → List Mention → Selection
 delta_interest t ms = record {

@@ -27,6 +27,7 @@ a_alone = record { star = false; names = set.from_list (a ∷ []); cluster = [] 
 abbrev pub star_and_a : Selection
 star_and_a = record { star = true; names = set.from_list (a ∷ []); cluster = [] }
 
+-- rule: listed-names
 -- Clusters, state of the world: nothing, then `*` and A, then A, then nothing. The last list is empty and yet no star.
 pub record SotwClusters : Type 0 where
   pub before : sotw_interest Cluster [] ≡ nothing
@@ -35,11 +36,13 @@ pub record SotwClusters : Type 0 where
   pub third : sotw_interest Cluster ([] ∷ (star_text ∷ a ∷ []) ∷ (a ∷ []) ∷ []) ≡ a_alone
   pub fourth : sotw_interest Cluster ([] ∷ (star_text ∷ a ∷ []) ∷ (a ∷ []) ∷ [] ∷ []) ≡ nothing
 
+-- rule: listed-names
 -- Routes, state of the world: an empty list is nothing, and `*` is a name.
 pub record SotwRoutes : Type 0 where
   pub first : sotw_interest Route ([] ∷ []) ≡ nothing
   pub second : sotw_interest Route ([] ∷ (star_text ∷ []) ∷ []) ≡ record { star = false; names = set.from_list (star_text ∷ []); cluster = [] }
 
+-- rule: listed-names
 -- a name that comes twice counts once
 abbrev pub SotwTwice : Type 0
 SotwTwice = sotw_interest Route ((a ∷ a ∷ []) ∷ []) ≡ a_alone
@@ -50,6 +53,7 @@ adds names = record { subscribe = names; unsubscribe = [] }
 abbrev pub drops : List (List ℕ) → Mention
 drops names = record { subscribe = []; unsubscribe = names }
 
+-- rule: delta-names
 -- Clusters, delta: an empty request, then A comes, `*` goes, A goes, and `*` comes by its name.
 pub record DeltaClusters : Type 0 where
   pub before : delta_interest Cluster [] ≡ nothing
@@ -59,6 +63,7 @@ pub record DeltaClusters : Type 0 where
   pub fourth : delta_interest Cluster (adds [] ∷ adds (a ∷ []) ∷ drops (star_text ∷ []) ∷ drops (a ∷ []) ∷ []) ≡ nothing
   pub fifth : delta_interest Cluster (adds [] ∷ adds (a ∷ []) ∷ drops (star_text ∷ []) ∷ drops (a ∷ []) ∷ adds (star_text ∷ []) ∷ []) ≡ star_alone
 
+-- rule: delta-names
 -- Routes, delta: an empty request is nothing, `*` is a name, and a name in both lists is subscribed.
 pub record DeltaRoutes : Type 0 where
   pub first : delta_interest Route (adds [] ∷ []) ≡ nothing

@@ -34,10 +34,12 @@ selection_code =
 abbrev pub reaches : Selection → List ℕ → Bool
 reaches s name = s.star || set.contains s.names name
 
+-- rule: star-covers, rule: groups
 -- whether the star of a client of this cluster covers a write of these groups: it has none, or the cluster is among them
 abbrev pub is_open_to : List (List ℕ) → List ℕ → Bool
 is_open_to groups cluster = (length groups == 0) || has_group groups cluster
 
+-- rule: star-covers
 -- whether an interest covers a write of this name and these groups: an explicit name covers it whatever its groups, the star what is open to the cluster
 abbrev pub covers : Selection → List ℕ → List (List ℕ) → Bool
 covers s name groups = set.contains s.names name || (s.star && is_open_to groups s.cluster)
@@ -54,6 +56,7 @@ text_or_empty bytes text = option_map_or bytes text []
 abbrev pub star_text : List ℕ
 star_text = codes "*"
 
+-- rule: star-covers
 -- whether a text in a request of the type is the star: of an incomplete type `*` is a name as any other
 abbrev pub is_star : TypeName → List ℕ → Bool
 is_star t name = (row t).is_complete && bytes_eq star_text name

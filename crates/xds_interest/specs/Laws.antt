@@ -32,22 +32,26 @@ use Rattle.xds_interest.specs.Touched.{sotw_touches, delta_touches}
 use Rattle.xds_interest.specs.Asked.{Asked, IsStarOfComplete, unasked, sotw_asked, sotw_kept, delta_asked, delta_kept, wanted_by, widened, without_names, narrowed}
 use Rattle.xds_interest.specs.Touches.{touches, sotw_touch, delta_touch}
 
+-- rule: listed-names
 -- once something was named, the last list says all
 abbrev pub LastListSaysAll : Type 0
 LastListSaysAll =
     (t : TypeName) (lists : List (List (List ℕ))) (last named : List (List ℕ)) → Contains (lists ++ last ∷ []) named → named ≢ [] → sotw_interest t (lists ++ last ∷ []) ≡ listed t last
 
+-- rule: listed-names
 -- while requests came and none named anything, the interest is the star of a complete type, and nothing of an incomplete one
 abbrev pub WhileNothingIsNamed : Type 0
 WhileNothingIsNamed =
     (t : TypeName) (lists : List (List (List ℕ))) → lists ≢ [] → ((names : List (List ℕ)) → Contains lists names → names ≡ [])
     → sotw_interest t lists ≡ record { star = (row t).is_complete; names = set.empty; cluster = [] }
 
+-- rule: listed-names
 -- a list reaches the names that it has, and its star reaches all
 abbrev pub ListReachesItsNames : Type 0
 ListReachesItsNames =
     (t : TypeName) (names : List (List ℕ)) (name : List ℕ) → reaches (listed t names) name ≡ (has_name names name || ((row t).is_complete && has_name names star_text))
 
+-- rule: delta-names
 -- one request more subscribes what it subscribes, drops what else it unsubscribes, and leaves the other names
 abbrev pub OneRequestMore : Type 0
 OneRequestMore =
@@ -55,6 +59,7 @@ OneRequestMore =
     → set.contains (delta_interest t (ms ++ m ∷ [])).names name
     ≡ (if has_name m.subscribe name then true else if has_name m.unsubscribe name then false else set.contains (delta_interest t ms).names name)
 
+-- rule: delta-names
 -- and so it does with the star of a complete type, after the first request
 abbrev pub OneRequestMoreForTheStar : Type 0
 OneRequestMoreForTheStar =
@@ -62,12 +67,14 @@ OneRequestMoreForTheStar =
     → (delta_interest t (ms ++ m ∷ [])).star
     ≡ (if has_name m.subscribe star_text then true else if has_name m.unsubscribe star_text then false else (delta_interest t ms).star)
 
+-- rule: star-covers
 -- the star is no explicit name
 abbrev pub StarIsNoName : Type 0
 StarIsNoName =
     (t : TypeName) (name : List ℕ) → is_star t name ≡ true
     → ((lists : List (List (List ℕ))) → set.contains (sotw_interest t lists).names name ≡ false) × ((ms : List Mention) → set.contains (delta_interest t ms).names name ≡ false)
 
+-- rule: star-covers
 -- only a complete type has the star
 abbrev pub IncompleteHasNoStar : Type 0
 IncompleteHasNoStar =
@@ -83,10 +90,12 @@ UntouchedKeepsReachInDelta =
     (t : TypeName) (ms : List Mention) (m : Mention) (name : List ℕ) → ms ≢ [] → delta_touches t m name ≡ false
     → reaches (delta_interest t (ms ++ m ∷ [])) name ≡ reaches (delta_interest t ms) name
 
+-- rule: star-covers
 -- what is covered is reached
 abbrev pub CoveredIsReached : Type 0
 CoveredIsReached = (s : Selection) (name : List ℕ) (groups : List (List ℕ)) → covers s name groups ≡ true → reaches s name ≡ true
 
+-- rule: star-covers
 -- of writes without groups all that is reached is covered
 abbrev pub WithoutGroupsReachedIsCovered : Type 0
 WithoutGroupsReachedIsCovered = (s : Selection) (name : List ℕ) → covers s name [] ≡ reaches s name
@@ -96,19 +105,23 @@ abbrev pub UntouchedKeepsCover : Type 0
 UntouchedKeepsCover =
     (old new : Selection) (name : List ℕ) (groups : List (List ℕ)) → old.cluster ≡ new.cluster → sotw_touches old new name ≡ false → covers old name groups ≡ covers new name groups
 
+-- rule: listed-names
 -- What is kept of the lists of a stream suffices: after one list more it is what is kept of them all.
 abbrev pub SotwIsKept : Type 0
 SotwIsKept =
     (t : TypeName) (cluster : List ℕ) (lists : List (List (List ℕ))) (last : List (List ℕ)) → sotw_asked t (sotw_kept t cluster lists) last ≡ sotw_kept t cluster (lists ++ last ∷ [])
 
+-- rule: delta-names
 -- and so it is with delta requests
 abbrev pub DeltaIsKept : Type 0
 DeltaIsKept = (t : TypeName) (cluster : List ℕ) (ms : List Mention) (m : Mention) → delta_asked t (delta_kept t cluster ms) m ≡ delta_kept t cluster (ms ++ m ∷ [])
 
+-- rule: delta-names
 -- with more explicit names, and without those that came, all is as before
 abbrev pub WideningIsUndone : Type 0
 WideningIsUndone = (before : Asked) (names : set.FinSet text_cmp) → without_names (widened before names) (set.difference names before.interest.names) ≡ before
 
+-- rule: delta-names
 -- with the explicit names that a delta request subscribes, and narrowed by the rest of it, is what is kept after the request
 abbrev pub NarrowingIsTheRest : Type 0
 NarrowingIsTheRest =
@@ -121,6 +134,7 @@ SotwTouchIsASet = (old new : Selection) (name : List ℕ) → touches (sotw_touc
 abbrev pub DeltaTouchIsASet : Type 0
 DeltaTouchIsASet = (t : TypeName) (m : Mention) (name : List ℕ) → touches (delta_touch t m) name ≡ delta_touches t m name
 
+-- rule: star-covers
 -- only a complete type's star stands in what is kept
 abbrev pub KeptStarIsOfComplete : Type 0
 KeptStarIsOfComplete =

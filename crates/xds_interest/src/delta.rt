@@ -44,6 +44,7 @@ impl<T: ResourceType> Model for DeltaNames<T> {
     ghost view = { λ a. record { begun = a.begun; named = false; interest = a.interest } };
 }
 
+// rule: delta-names
 // Whether the star stands after a request, where it stood before or not. What a request both
 // subscribes and unsubscribes it subscribes.
 fn star_after(before: bool, subscribe: &[String], unsubscribe: &[String]) -> bool
@@ -60,6 +61,7 @@ fn touches_all(kind: TypeName, subscribe: &[String], unsubscribe: &[String]) -> 
 }
 
 impl<T: ResourceType> DeltaNames<T> {
+    // rule: delta-names
     /// Before the first request of a client of this cluster, when it wants nothing.
     pub fn new(alloc: Global, cluster: ClusterText) -> Self
         ensures { result ≡ unasked cluster }
@@ -83,6 +85,7 @@ impl<T: ResourceType> DeltaNames<T> {
         self.begun
     }
 
+    // rule: delta-names, rule: star-covers
     // Whether the star stands after a request.
     fn has_star_after(&self, subscribe: &[String], unsubscribe: &[String]) -> bool
         ensures { result ≡ (delta_asked T.TYPE self.now (mention_of subscribe.now unsubscribe.now)).interest.star }
@@ -95,6 +98,7 @@ impl<T: ResourceType> DeltaNames<T> {
         T::TYPE.is_complete() && star_after(before, subscribe, unsubscribe)
     }
 
+    // rule: delta-names
     // The explicit names after a request.
     fn names_after(&self, subscribe: &[String], unsubscribe: &[String]) -> Result<NameSet, Refusal>
         ensures ok { IfOk result (λ s. s ≡ (delta_asked T.TYPE self.now (mention_of subscribe.now unsubscribe.now)).interest.names) }
@@ -106,6 +110,7 @@ impl<T: ResourceType> DeltaNames<T> {
         Ok(names)
     }
 
+    // rule: delta-names
     /// What is kept after one request more. Refused only by `OutOfMemory`.
     pub fn after(
         &self,
@@ -125,6 +130,7 @@ impl<T: ResourceType> DeltaNames<T> {
         })
     }
 
+    // rule: delta-names
     /// The interest after one request more, but for the names that it doesn't mention, which are left out. Refused only by
     /// `OutOfMemory`.
     pub fn wanted_by(
@@ -143,6 +149,7 @@ impl<T: ResourceType> DeltaNames<T> {
         Ok(Interest::of_parts(star, names, cluster))
     }
 
+    // rule: delta-names
     /// Adds the explicit names of another interest, and answers those that were not there. Refused only by `OutOfMemory`,
     /// and then none is added.
     pub fn widen(&mut self, alloc: Global, wanted: &Interest<T>) -> Result<NameSet, Refusal>
@@ -163,6 +170,7 @@ impl<T: ResourceType> DeltaNames<T> {
         self.interest.take_out(added);
     }
 
+    // rule: delta-names
     /// Takes the star of an interest, and takes those of some texts out that it doesn't name. With the answer of `wanted_by`, once
     /// `widen` added its names, it leaves what is kept after the request. It takes no memory.
     pub fn narrow(&mut self, wanted: &Interest<T>, unsubscribe: &[String])
@@ -189,6 +197,7 @@ impl<T: ResourceType> DeltaNames<T> {
         Ok(Touched::of_parts(all, names))
     }
 
+    // rule: delta-names
     /// Takes one request more, and answers the names that it touches. Refused only by
     /// `OutOfMemory`, and then the request is not taken.
     pub fn take(

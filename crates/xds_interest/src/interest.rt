@@ -50,6 +50,7 @@ impl<T: ResourceType> Model for Interest<T> {
     ghost view = { λ i. record { star = i.star; names = i.names; cluster = i.cluster } };
 }
 
+// rule: listed-names, rule: star-covers
 // Whether a stream's first list is the star, since it names nothing or names `*`.
 fn opens_star(kind: TypeName, names: &[String]) -> bool
     ensures { result ≡ (sotw_interest kind (map string_bytes names.now ∷ [])).star }
@@ -57,6 +58,7 @@ fn opens_star(kind: TypeName, names: &[String]) -> bool
     kind.is_complete() && (names.is_empty() || has_star_text(names))
 }
 
+// rule: star-covers, rule: groups
 // Whether the star of a client of this cluster covers a write of these groups.
 fn is_open_to(groups: &Groups, cluster: &str) -> bool
     ensures { result ≡ is_open_to groups.now cluster.now }
@@ -83,6 +85,7 @@ impl<T: ResourceType> Interest<T> {
         }
     }
 
+    // rule: listed-names
     /// The interest of a client of this cluster whose first request lists these names. No name at
     /// all is the star of a complete type, and nothing of an incomplete one.
     ///
@@ -109,6 +112,7 @@ impl<T: ResourceType> Interest<T> {
         self.star || self.names.contains(name)
     }
 
+    // rule: star-covers, rule: groups
     /// Whether the client sees a resource of this name and these groups: as one of its explicit
     /// names, or by the star where there are no groups or the client's cluster is among them.
     pub fn covers(&self, name: &str, groups: &Groups) -> bool
@@ -179,6 +183,7 @@ impl<T: ResourceType> Interest<T> {
         self.names.take_out(names);
     }
 
+    // rule: delta-names
     // Takes the star of another interest, and those of some texts out that it doesn't name. It takes no memory.
     pub(crate) fn narrow(&mut self, wanted: &Interest<T>, texts: &[String])
         ensures { self.new ≡ record self.old { star = wanted.now.star; names = set.difference self.old.names (set.difference (set.from_list (map string_bytes texts.now)) wanted.now.names) } }

@@ -5,6 +5,7 @@ ghost use Rattle.xds_interest.specs.Interests.{star_text, is_star, has_name};
 
 use xds_resource::TypeName;
 
+// rule: star-covers
 // Whether a text in a request of the type is the star.
 pub(crate) fn is_star(kind: TypeName, text: &str) -> bool
     ensures { result ≡ is_star kind text.now }

@@ -79,6 +79,7 @@ impl NameSet {
         self.names.remove(name);
     }
 
+    // rule: star-covers
     // Puts in the texts of a request of the type that are names. After an `Err` some of them may be in.
     pub(crate) fn insert_names(&mut self, kind: TypeName, texts: &[String]) -> Result<(), Refusal>
         ensures ok { OnOk result (self.new ≡ set.union self.old (set.from_list (names_among kind (map string_bytes texts.now)))) }
@@ -154,6 +155,7 @@ impl NameSet {
         Ok(())
     }
 
+    // rule: delta-names
     // Takes out the texts of a list that a set lacks. It takes no memory.
     pub(crate) fn remove_but(&mut self, texts: &[String], kept: &NameSet)
         ensures { self.new ≡ set.difference self.old (set.difference (set.from_list (map string_bytes texts.now)) kept.now) }

@@ -42,6 +42,7 @@ impl<T: ResourceType> Model for SotwNames<T> {
 }
 
 impl<T: ResourceType> SotwNames<T> {
+    // rule: listed-names
     /// Before the first request of a client of this cluster, when it wants nothing.
     pub fn new(alloc: Global, cluster: ClusterText) -> Self
         ensures { result ≡ unasked cluster }
@@ -66,6 +67,7 @@ impl<T: ResourceType> SotwNames<T> {
         self.begun
     }
 
+    // rule: listed-names
     /// What is kept after one list more. Refused only by `OutOfMemory`.
     pub fn after(&self, alloc: Global, names: &[String]) -> Result<SotwNames<T>, Refusal>
         ensures ok { IfOk result (λ n. n ≡ sotw_asked T.TYPE self.now (map string_bytes names.now)) }
@@ -84,6 +86,7 @@ impl<T: ResourceType> SotwNames<T> {
         })
     }
 
+    // rule: listed-names
     /// Takes one list more, and answers the names that it touches. Refused only by `OutOfMemory`,
     /// and then the list is not taken.
     pub fn take(&mut self, alloc: Global, names: &[String]) -> Result<Touched, Refusal>

@@ -79,6 +79,7 @@ accepted_is whole sent b d some alone is =
 
 -- ---- an account
 
+-- rule: accept-reject
 pub taken_as_offered : (v : VariantName) (t : TypeName) (a out : Account) (o : Option Sent) (names : Names) (next new : Beliefs) → IfSome o (λ sent. next ≡ beliefs_accepted (is_whole v t) sent a.beliefs)
     → new ≡ beliefs_after names next → IfSome o (λ sent. out ≡ record (answered v t a sent false) { beliefs = a.beliefs }) → IfSome o (λ sent. record out { beliefs = new } ≡ taken (answered v t a sent false) names)
 taken_as_offered v t a out None names next new told made settled = tt

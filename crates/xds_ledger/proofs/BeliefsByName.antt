@@ -16,6 +16,7 @@ use Rattle.xds_interest.proofs.Choices.{and-false}
 accepted_absent : (whole touched : Bool) (o : Option Due) (e : Option Entry) → o ≡ None → e ≡ None → believed_accepted whole touched o e ≡ None
 accepted_absent whole touched o e unsaid unheld = (λ i. believed_accepted whole touched (unsaid i) (unheld i)) ∙ cond_same (whole && not touched) None
 
+-- rule: accept-reject
 pub accepted_by_name : AcceptedByName
 accepted_by_name whole sent b q =
     get-tabulated (λ name. believed_accepted whole (was_touched sent name) (finmap.get sent.offer name) (finmap.get b name)) (finmap.keys sent.offer ++ finmap.keys b) q

@@ -34,6 +34,7 @@ unknown_name m b q e =
     let parts = in_neither (finmap.keys b) (finmap.keys m) q e in
     (absent_key b q parts.0, absent_key m q parts.1)
 
+-- rule: whole-response
 pub offer_says_it : OfferSaysIt
 offer_says_it v t s m b q =
     get-tabulated (offered v t s m b) (names_known m b) q (λ e. offered_absent v t s m b q (unknown_name m b q e).0 (unknown_name m b q e).1)
@@ -43,5 +44,6 @@ not_owed_at : (v : VariantName) (t : TypeName) (s : Selection) (m : Entries) (b 
 not_owed_at v t s m b q true known none = listed_fails (is_owed v t s m b) (names_known m b) q none known
 not_owed_at v t s m b q false unknown none = ap (λ o. option_map_or (is_told v t) o false) (owed_absent s m b q (unknown_name m b q unknown).0 (unknown_name m b q unknown).1)
 
+-- rule: owed
 pub nothing_owed : NothingOwed
 nothing_owed v t s m b q none = not_owed_at v t s m b q (has_text (names_known m b) q) refl none

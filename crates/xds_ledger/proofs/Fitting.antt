@@ -155,6 +155,7 @@ listed_by true b o none is = refl
 listed_by false true o none is = refl
 listed_by false false o none is = let never : false ≡ true = sym (none refl refl) ∙ is in absurd cc
 
+-- rule: owed
 pub owed_is_listed : OwedIsListed
 owed_is_listed v t s h b l name numbered fits is =
     refreshed_has h l name ∙ listed_by (is_listed l name) (is_since h l.mark name) (is_owed v t s h.entries b name) (unowed_else v t s h b l name numbered fits) is

@@ -89,6 +89,7 @@ get-base s m q named =
     ap (λ o. finmap.get o q) (base_entries s m named) ∙ get-put_all (if_shown s stated) finmap.empty m q
     ∙ ap (option_or (option_and_then (if_shown s stated q) (finmap.get m q))) (finmap.get-empty text_cmp q) ∙ base_at s q (finmap.get m q) (named q)
 
+-- rule: whole-response
 -- a response that is the whole states what is present
 pub whole_offer_made : (v : VariantName) (t : TypeName) (s : Selection) (m : Entries) (b : Beliefs) → is_whole v t ≡ true → IsCatalogue m → base s m ≡ offer v t s m b
 whole_offer_made v t s m b whole named =
@@ -133,6 +134,7 @@ untold : (o : Option Due) (b : Bool) → b ≡ false → (if b then o else None)
 untold o true is = absurd cc
 untold o false is = refl
 
+-- rule: whole-response
 -- where a list suffices, that is the offer of a response that isn't the whole
 pub partial_offer_made : (v : VariantName) (t : TypeName) (s : Selection) (h : Holdings) (b : Beliefs) (l : Listed) (mark : ℕ) (due said : Offer) → is_whole v t ≡ false → IsNumbered h → Fits v t s h b l → mark ≡ l.mark
     → due ≡ put_all (λ name number. told_of v t s h.entries b name) finmap.empty (finmap.entries l.names)

@@ -57,12 +57,14 @@ one_fails p [] none = absurd cc
 one_fails p (e ∷ es) none = fails_first p e es (p e.0) refl none (one_fails p es)
 
 module _ (refused : Offer) (v : VariantName) (t : TypeName) (s : Selection) (m : Entries) (b : Beliefs) where
+  -- rule: refused-offer
   -- where they agree of each name, they are the same
   pub repeats_where : ((q : List ℕ) → still_says refused v t s m b q ≡ true) → same_offer (offer v t s m b) refused ≡ true
   repeats_where each =
       (offers_are_told_apart (offer v t s m b) refused).1
       (same_names (offer v t s m b) refused (λ q. offer_says_it v t s m b q ∙ sym (same_tells (finmap.get refused q) (offered v t s m b q) (each q))))
 
+  -- rule: refused-offer
   -- where they don't agree of some name, they differ
   pub differs_where : (name : List ℕ) → still_says refused v t s m b name ≡ false → same_offer (offer v t s m b) refused ≡ false
   differs_where name apart =
@@ -101,6 +103,7 @@ module _ (v : VariantName) (t : TypeName) (s : Selection) (h : Holdings) (b : Be
   each_at q None None false has there is from fits numbered said listed changed =
       λ i. same_saying (has i) (silent v t s h b l q (is_whole v t) refl numbered fits (ap is_some there) (ap (λ n. is_since h n q) (sym from) ∙ is) i)
 
+  -- rule: refused-offer
   -- once they agree of each name that was refused or is listed, those that changed since decide
   pub others_decide : (result : Bool) → mark ≡ (if is_whole v t then 0 else l.mark) → Fits v t s h b l → list_all (λ e. test e.0) (finmap.entries refused) ≡ true → list_all (λ e. test e.0) (finmap.entries l.names) ≡ true
       → (result ≡ true → (name : List ℕ) → is_since h mark name ≡ true → test name ≡ true) → (result ≡ false → (name : List ℕ) × (test name ≡ false)) → (result ≡ true → IsNumbered h)

@@ -87,5 +87,6 @@ within_itself a = by_entries a (finmap.entries a) (found_in_itself (finmap.entri
 same_offer_itself : (a : Offer) → same_offer a a ≡ true
 same_offer_itself a = (λ i. within_itself a i && within_itself a i)
 
+-- rule: refused-offer
 pub offers_are_told_apart : OffersAreToldApart
 offers_are_told_apart a b = (same_offer_tells a b, λ same. ap (same_offer a) (sym same) ∙ same_offer_itself a)

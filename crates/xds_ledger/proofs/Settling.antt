@@ -65,6 +65,7 @@ accepted_settles : (whole : Bool) (tells : Due → Bool) (e : Option Entry) (p :
 accepted_settles true tells e p = wholly tells e p
 accepted_settles false tells e p = partly tells e p (owed e p) refl
 
+-- rule: accept-reject, rule: owed
 pub accepted_owes_nothing : AcceptedOwesNothing
 accepted_owes_nothing v t s m a =
     let b : Beliefs = a.beliefs in

@@ -44,10 +44,12 @@ some_owed : (v : VariantName) (t : TypeName) (s : Selection) (m : Entries) (b : 
 some_owed v t s m b name true is owed = refl
 some_owed v t s m b name false is owed = let never : false ≡ true = sym (nothing_owed v t s m b name is) ∙ owed in absurd cc
 
+-- rule: owed
 -- where one name is owed, something is
 pub owed_found : (v : VariantName) (t : TypeName) (s : Selection) (m : Entries) (b : Beliefs) (name : List ℕ) → is_owed v t s m b name ≡ true → true ≡ something_owed v t s m b
 owed_found v t s m b name = some_owed v t s m b name (something_owed v t s m b) refl
 
+-- rule: owed
 -- where a listed name is
 pub owed_listed : (v : VariantName) (t : TypeName) (s : Selection) (m : Entries) (b : Beliefs) (l : Listed) → list_any (λ e. is_owed v t s m b e.0) (finmap.entries l.names) ≡ true → true ≡ something_owed v t s m b
 owed_listed v t s m b l some = let one = one_passes (is_owed v t s m b) (finmap.entries l.names) some in owed_found v t s m b one.0 one.1
@@ -58,6 +60,7 @@ none_at v t s h b l name true since there is numbered fits none unchanged = name
 none_at v t s h b l name false true out is numbered fits none unchanged = unchanged name is
 none_at v t s h b l name false false out is numbered fits none unchanged = unowed_else v t s h b l name numbered fits out is
 
+-- rule: owed
 -- where none is, those that changed since the mark decide
 pub owed_else : (v : VariantName) (t : TypeName) (s : Selection) (h : Holdings) (b : Beliefs) (l : Listed) (result : Bool) → Fits v t s h b l → list_any (λ e. is_owed v t s h.entries b e.0) (finmap.entries l.names) ≡ false
     → (result ≡ true → (name : List ℕ) × (is_owed v t s h.entries b name ≡ true)) → (result ≡ false → (q : List ℕ) → is_since h l.mark q ≡ true → is_owed v t s h.entries b q ≡ false) → (result ≡ false → IsNumbered h)

@@ -13,6 +13,7 @@ use Rattle.xds_ledger.specs.declared.entry.Entry.TheVariants.{Told}
 use Rattle.xds_ledger.specs.Owed.{Beliefs}
 use Rattle.xds_ledger.specs.Believing.{Sent, was_touched, believed_accepted, beliefs_accepted, believed_taken, beliefs_taken}
 
+-- rule: accept-reject
 -- once a response is accepted, each name is believed as the rule for it says
 abbrev pub AcceptedByName : Type 0
 AcceptedByName =

@@ -54,17 +54,20 @@ last_touch_forgotten sent = record sent { touched = take (length sent.touched - 
 abbrev pub was_touched : Sent → List ℕ → Bool
 was_touched sent name = list_any (λ touch. touches touch name) sent.touched
 
+-- rule: accept-reject
 -- what is believed of a name that was told
 abbrev pub once_told : Due → Option Entry
 once_told (Stated v) = Some (Told v)
 once_told Removed = None
 
+-- rule: accept-reject, rule: whole-response
 -- What is believed of a name once the response is accepted, from what the response says of it and what was believed before.
 -- A name that was touched meanwhile is unsure; a whole response leaves no other name that wasn't touched.
 abbrev pub believed_accepted : Bool → Bool → Option Due → Option Entry → Option Entry
 believed_accepted whole touched (Some due) before = if touched then Some Unsure else once_told due
 believed_accepted whole touched None before = if whole && not touched then None else before
 
+-- rule: accept-reject
 abbrev pub beliefs_accepted : Bool → Sent → Beliefs → Beliefs
 beliefs_accepted whole sent beliefs =
     tabulate (λ name. believed_accepted whole (was_touched sent name) (finmap.get sent.offer name) (finmap.get beliefs name)) (finmap.keys sent.offer ++ finmap.keys beliefs)

@@ -33,6 +33,7 @@ SendingCommutes =
     → s.account.sent ≡ None → bytes_eq answer.nonce (nonce_text nonce) ≡ false
     → taken v t (with_sent s offer since nonce) answer names ≡ with_sent (taken v t s answer names) offer (since ++ names.touched ∷ []) nonce
 
+-- rule: accept-reject, rule: owed
 -- Once an offer is accepted of which no name was touched, nothing is due by the entries that it was made from.
 abbrev pub AcceptedOwesNothing : Type 0
 AcceptedOwesNothing =

@@ -57,17 +57,21 @@ untold = record { beliefs = finmap.empty; nonce = 0; accepted = false; sent = No
 
 -- ---- what is due
 
+-- rule: owed
 -- Whether a response is due: something is owed that can be told, or, where responses are whole, none was accepted yet.
 abbrev pub is_due : VariantName → TypeName → Selection → Entries → Account → Bool
 is_due v t s m a = something_owed v t s m a.beliefs || (is_whole v t && not a.accepted)
 
+-- rule: owed
 -- Whether the client is owed something: an answer of its own is out, or a response is due.
 abbrev pub owes : VariantName → TypeName → Selection → Entries → Account → Bool
 owes v t s m a = is_some a.sent || is_due v t s m a
 
+-- rule: refused-offer
 abbrev pub is_refused : Account → Offer → Bool
 is_refused a o = option_map_or (same_offer o) a.refused false
 
+-- rule: one-unanswered, rule: refused-offer
 -- The offer that is sent now, if one is: nothing is unanswered, a response is due, and the offer isn't the one that was refused.
 abbrev pub sending : VariantName → TypeName → Selection → Entries → Account → Option Offer
 sending v t s m a =
@@ -79,33 +83,40 @@ send a o nonce = record a { nonce = nonce; sent = Some (record { offer = o; touc
 
 -- ---- nonces
 
+-- rule: new-nonce, rule: nonce-numbers
 -- the nonce of the response of this number, and none before the first
 abbrev pub nonce_text : ℕ → List ℕ
 nonce_text zero = []
 nonce_text (suc n) = decimal (suc n)
 
+-- rule: accept-reject
 -- whether a request with this nonce answers the unanswered response
 abbrev pub answers : Account → List ℕ → Bool
 answers a nonce = is_some a.sent && bytes_eq nonce (nonce_text a.nonce)
 
+-- rule: stale-nonce
 -- Whether a request with this nonce is out of date: nothing is unanswered, and it names another response than the last.
 abbrev pub is_stale : Account → List ℕ → Bool
 is_stale a nonce = is_none a.sent && not (bytes_eq nonce []) && not (bytes_eq nonce (nonce_text a.nonce))
 
 -- ---- answers
 
+-- rule: accept-reject, rule: refused-offer
 -- the client accepts the response
 abbrev pub accept : VariantName → TypeName → Account → Sent → Account
 accept v t a sent = record a { beliefs = beliefs_accepted (is_whole v t) sent a.beliefs; accepted = true; sent = None; refused = None }
 
+-- rule: accept-reject, rule: refused-offer
 -- the client rejects the response
 abbrev pub reject : Account → Sent → Account
 reject a sent = record a { sent = None; refused = Some sent.offer }
 
+-- rule: accept-reject
 -- the client accepts or rejects the response
 abbrev pub answered : VariantName → TypeName → Account → Sent → Bool → Account
 answered v t a sent rejects = if rejects then reject a sent else accept v t a sent
 
+-- rule: accept-reject
 -- once the unanswered response was settled by a request with this nonce, if it answers that response
 abbrev pub settled : VariantName → TypeName → Account → List ℕ → Bool → Account
 settled v t a nonce rejects = if answers a nonce then option_map_or (λ sent. answered v t a sent rejects) a.sent a else a

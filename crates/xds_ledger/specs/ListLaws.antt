@@ -30,6 +30,7 @@ RefreshedListFits = (v : VariantName) (t : TypeName) (s : Selection) (h : Holdin
 abbrev pub PrunedListFits : Type 0
 PrunedListFits = (v : VariantName) (t : TypeName) (s : Selection) (h : Holdings) (b : Beliefs) (l : Listed) → Fits v t s h b l → Fits v t s h b (pruned v t s h b l)
 
+-- rule: owed
 -- once a list was refreshed, all that is owed is listed
 abbrev pub OwedIsListed : Type 0
 OwedIsListed =

@@ -60,6 +60,7 @@ is_since h mark name = option_map_or (nat_lt mark) (finmap.get h.latest name) fa
 abbrev pub IsPast : Holdings → ℕ → List ℕ → Type 0
 IsPast h mark name = (finmap.get h.entries name ≡ None) ⊎ IsSomeAnd (finmap.get h.latest name) (λ k. (1 ≤ k) × (k ≤ mark))
 
+-- rule: owed
 -- The list suffices for a client of this variant, type and interest, at a catalogue of these holdings: the mark is one of its
 -- counts of changes, and a name that isn't listed and didn't change since is owed nothing that can be told.
 pub record Fits (v : VariantName) (t : TypeName) (s : Selection) (h : Holdings) (b : Beliefs) (l : Listed) : Type 0 where

@@ -93,6 +93,7 @@ refreshed h b = record b { listed = lists.refreshed h b.listed }
 
 -- ---- requests
 
+-- rule: accept-reject
 -- whether a request with this nonce accepts the unanswered response
 abbrev pub accepts : Account → List ℕ → Bool → Bool
 accepts a nonce rejects = not rejects && answers a nonce

@@ -11,14 +11,17 @@ use Rattle.xds_ledger.specs.declared.variant.VariantName.{VariantName}
 use Rattle.xds_ledger.specs.Owed.{Beliefs, is_owed, something_owed}
 use Rattle.xds_ledger.specs.Offers.{Offer, offered, offer, same_offer}
 
+-- rule: whole-response
 -- an offer says of each name what it is to say
 abbrev pub OfferSaysIt : Type 0
 OfferSaysIt = (v : VariantName) (t : TypeName) (s : Selection) (m : Entries) (b : Beliefs) (name : List ℕ) → finmap.get (offer v t s m b) name ≡ offered v t s m b name
 
+-- rule: owed
 -- where nothing that can be told is owed of any name that is known, nothing that can be told is owed of any name at all
 abbrev pub NothingOwed : Type 0
 NothingOwed = (v : VariantName) (t : TypeName) (s : Selection) (m : Entries) (b : Beliefs) (name : List ℕ) → something_owed v t s m b ≡ false → is_owed v t s m b name ≡ false
 
+-- rule: refused-offer
 -- offers are told apart
 abbrev pub OffersAreToldApart : Type 0
 OffersAreToldApart = (a b : Offer) → (same_offer a b ≡ true → a ≡ b) × (a ≡ b → same_offer a b ≡ true)

@@ -39,14 +39,17 @@ due_stated_again Removed = refl
 abbrev pub due_code : Coded Due
 due_code = code_by (Option (List ℕ)) (coded_option (coded_list coded_ℕ)) stated_version due_stated due_stated_again
 
+-- rule: whole-response
 -- What an offer says of a name: a whole response states what is present, another one what is owed and can be told.
 abbrev pub offered : VariantName → TypeName → Selection → Entries → Beliefs → List ℕ → Option Due
 offered v t s m beliefs name =
     if is_whole v t then option_map Stated (present s m name) else if is_owed v t s m beliefs name then owed_of s m beliefs name else None
 
+-- rule: whole-response
 abbrev pub offer : VariantName → TypeName → Selection → Entries → Beliefs → Offer
 offer v t s m beliefs = tabulate (offered v t s m beliefs) (names_known m beliefs)
 
+-- rule: refused-offer
 -- whether two say the same of a name
 abbrev pub same_due : Due → Due → Bool
 same_due (Stated v) (Stated w) = bytes_eq v w
@@ -54,10 +57,12 @@ same_due (Stated v) Removed = false
 same_due Removed (Stated w) = false
 same_due Removed Removed = true
 
+-- rule: refused-offer
 -- whether the first says nothing that the second doesn't say
 abbrev pub is_within : Offer → Offer → Bool
 is_within a b = list_all (λ e. option_map_or (same_due e.1) (finmap.get b e.0) false) (finmap.entries a)
 
+-- rule: refused-offer
 -- whether two offers are equal
 abbrev pub same_offer : Offer → Offer → Bool
 same_offer a b = is_within a b && is_within b a

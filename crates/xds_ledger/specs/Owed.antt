@@ -48,34 +48,41 @@ entry_told_again Unsure = refl
 abbrev pub entry_code : Coded Entry
 entry_code = code_by (Option (List ℕ)) (coded_option (coded_list coded_ℕ)) told_version entry_told entry_told_again
 
+-- rule: tombstones, rule: owed
 -- the version of a live write
 abbrev pub live_version : StampedWrite → Option (List ℕ)
 live_version w = if is_live w then Some (version_of w) else None
 
+-- rule: owed, rule: covered-only
 -- the version at which a write of a name is shown: it is live, and the interest covers the name in the write's groups
 abbrev pub version_shown : Selection → List ℕ → StampedWrite → Option (List ℕ)
 version_shown s name w = if covers s name w.groups then live_version w else None
 
+-- rule: owed, rule: covered-only
 -- The version at which a name is present: the catalogue has a live write of it, which the interest covers.
 abbrev pub present : Selection → Entries → List ℕ → Option (List ℕ)
 present s m name = option_and_then (version_shown s name) (finmap.get m name)
 
+-- rule: owed
 -- what is due to a client that was told this version, where this one is present
 abbrev pub owed_after : List ℕ → Option (List ℕ) → Option Due
 owed_after told None = Some Removed
 owed_after told (Some v) = if bytes_eq told v then None else Some (Stated v)
 
+-- rule: owed
 -- what is due to a client of whom it is not known what it holds
 abbrev pub owed_unsure : Option (List ℕ) → Option Due
 owed_unsure None = Some Removed
 owed_unsure (Some v) = Some (Stated v)
 
+-- rule: owed, rule: no-live-removal
 -- What is owed of a name, from its entry and the version that is present. A client without an entry holds nothing of the name.
 abbrev pub owed : Option Entry → Option (List ℕ) → Option Due
 owed None version = option_map Stated version
 owed (Some (Told told)) version = owed_after told version
 owed (Some Unsure) version = owed_unsure version
 
+-- rule: owed
 -- what is owed of a name
 abbrev pub owed_of : Selection → Entries → Beliefs → List ℕ → Option Due
 owed_of s m beliefs name = owed (finmap.get beliefs name) (present s m name)
@@ -84,10 +91,12 @@ owed_of s m beliefs name = owed (finmap.get beliefs name) (present s m name)
 abbrev pub names_known : Entries → Beliefs → List (List ℕ)
 names_known m beliefs = finmap.keys beliefs ++ finmap.keys m
 
+-- rule: owed
 -- whether something is owed of a name that can be told
 abbrev pub is_owed : VariantName → TypeName → Selection → Entries → Beliefs → List ℕ → Bool
 is_owed v t s m beliefs name = option_map_or (is_told v t) (owed_of s m beliefs name) false
 
+-- rule: owed
 -- whether something that can be told is owed of some name
 abbrev pub something_owed : VariantName → TypeName → Selection → Entries → Beliefs → Bool
 something_owed v t s m beliefs = list_any (is_owed v t s m beliefs) (names_known m beliefs)

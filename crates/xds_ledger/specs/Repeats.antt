@@ -30,10 +30,12 @@ due_said sayings.Removed = Some dues.Removed
 abbrev pub if_told : VariantName → TypeName → Option Due → Option Due
 if_told v t o = if option_map_or (is_told v t) o false then o else None
 
+-- rule: refused-offer
 -- what a response says of a name, from its entry and the version that is present
 abbrev pub said_of : VariantName → TypeName → Option Entry → Option (List ℕ) → Option Due
 said_of v t e p = if is_whole v t then option_map dues.Stated p else if_told v t (owed e p)
 
+-- rule: refused-offer
 -- whether two say the same of a name, be it nothing
 abbrev pub same_saying : Option Due → Option Due → Bool
 same_saying None None = true
@@ -41,6 +43,7 @@ same_saying None (Some e) = false
 same_saying (Some d) None = false
 same_saying (Some d) (Some e) = same_due d e
 
+-- rule: refused-offer
 -- whether an offer says of a name what a response would say now
 abbrev pub still_says : Offer → VariantName → TypeName → Selection → Entries → Beliefs → List ℕ → Bool
 still_says refused v t s m b name = same_saying (finmap.get refused name) (offered v t s m b name)

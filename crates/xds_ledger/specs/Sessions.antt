@@ -71,6 +71,7 @@ delta_names t before m versions =
       versions = if before.begun then finmap.empty else versions;
     }
 
+-- rule: stale-nonce
 -- whether a request with this nonce is stale, so that it is ignored: the first request never is
 abbrev pub is_stale : Session → List ℕ → Bool
 is_stale s nonce = s.asked.begun && ledgers.is_stale s.account nonce
@@ -82,14 +83,17 @@ taken v t s answer names = record {
   account = resume (touch (settled v t s.account answer.nonce answer.rejects) names.asked.interest names.touched names.mentioned) names.versions;
 }
 
+-- rule: stale-nonce
 -- what became of a request with this nonce
 abbrev pub outcome : Session → List ℕ → Outcome
 outcome s nonce = if not (is_stale s nonce) then Taken else Ignored
 
+-- rule: stale-nonce
 -- after a request
 abbrev pub take : VariantName → TypeName → Session → Answer → Names → Session
 take v t s answer names = if not (is_stale s answer.nonce) then taken v t s answer names else s
 
+-- rule: owed
 -- whether the client is owed something, by a replica that holds these entries
 abbrev pub owes : VariantName → TypeName → Session → Entries → Bool
 owes v t s m = s.asked.begun && ledgers.owes v t s.asked.interest m s.account
@@ -102,6 +106,7 @@ sending v t s m = if s.asked.begun then ledgers.sending v t s.asked.interest m s
 abbrev pub send : Session → Offer → ℕ → Session
 send s offer nonce = record s { account = ledgers.send s.account offer nonce }
 
+-- rule: nonce-numbers
 -- What a poll answers and leaves, of the session and of the stream's count of responses: where an offer is to be sent, it is
 -- sent as the next response, and else nothing happens. `respond` is the response of an offer, as the one of a number.
 abbrev pub HasPolled : {R : Type 0} → VariantName → TypeName → Entries → (Offer → ℕ → R) → Session → ℕ → Option R → Session → ℕ → Type 0

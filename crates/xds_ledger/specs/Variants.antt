@@ -15,14 +15,17 @@ abbrev pub is_delta : VariantName → Bool
 is_delta StateOfTheWorld = false
 is_delta Delta = true
 
+-- rule: whole-response
 -- Whether each response is the whole, so that what it lacks is gone: state of the world, of a complete type.
 abbrev pub is_whole : VariantName → TypeName → Bool
 is_whole v t = not (is_delta v) && (row t).is_complete
 
+-- rule: owed
 -- Whether there is a way to tell a client that a name is gone: by its removal, or by a whole response without it.
 abbrev pub tells_removals : VariantName → TypeName → Bool
 tells_removals v t = is_delta v || (row t).is_complete
 
+-- rule: owed
 -- whether what is due can be told
 abbrev pub is_told : VariantName → TypeName → Due → Bool
 is_told v t (Stated version) = true

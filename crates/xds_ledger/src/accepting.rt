@@ -32,6 +32,7 @@ fn copied(alloc: Global, held: Option<Believed<'_>>) -> Result<Option<Entry>, Re
     }
 }
 
+// rule: accept-reject
 // What is believed of a touched name once the response is accepted, where that differs from what the offer tells.
 fn change_since(
     alloc: Global,
@@ -100,6 +101,7 @@ fn differences_since(alloc: Global, sent: &Sent, beliefs: &Beliefs) -> Result<Di
     Ok(next)
 }
 
+// rule: accept-reject
 /// After a response was accepted since which no request touched every name. It is the whole, or nothing was believed
 /// held. It looks at the touched names alone.
 pub fn accepted_as_offered(

@@ -52,6 +52,7 @@ impl<T: ResourceType, V: Variant> Model for Account<T, V> {
     ghost view = { λ l. record { beliefs = l.beliefs; nonce = l.nonce; accepted = l.accepted; sent = l.sent; refused = l.refused } };
 }
 
+// rule: stale-nonce
 // Whether a text is the nonce of the response of a number. It takes no memory.
 fn is_nonce(number: u64, text: &str) -> bool
     ensures { result ≡ bytes_eq text.now (nonce_text number) }
@@ -100,6 +101,7 @@ impl<T: ResourceType, V: Variant> Account<T, V> {
         self.sent.as_ref()
     }
 
+    // rule: one-unanswered
     /// Whether a response is unanswered.
     pub(crate) fn awaits_answer(&self) -> bool
         ensures { result ≡ is_some self.now.sent }
@@ -114,6 +116,7 @@ impl<T: ResourceType, V: Variant> Account<T, V> {
         self.refused.as_ref()
     }
 
+    // rule: accept-reject
     /// Whether a request with this nonce answers the unanswered response.
     pub fn answers(&self, nonce: &str) -> bool
         ensures { result ≡ ledgers.answers self.now nonce.now }
@@ -121,6 +124,7 @@ impl<T: ResourceType, V: Variant> Account<T, V> {
         self.sent.is_some() && is_nonce(self.nonce, nonce)
     }
 
+    // rule: stale-nonce
     /// Whether a request with this nonce is out of date, so that it is ignored.
     pub fn is_stale(&self, nonce: &str) -> bool
         ensures { result ≡ ledgers.is_stale self.now nonce.now }
@@ -128,6 +132,7 @@ impl<T: ResourceType, V: Variant> Account<T, V> {
         self.sent.is_none() && !nonce.is_empty() && !is_nonce(self.nonce, nonce)
     }
 
+    // rule: stale-nonce, rule: accept-reject, rule: one-unanswered
     /// Notes that an offer was sent, as the response of this number.
     pub fn send(&mut self, alloc: Global, offer: SharedMap<Due>, number: u64)
         ensures { self.new ≡ ledgers.send self.old offer number }

@@ -20,6 +20,7 @@ use std::collections::btree_set::Iter;
 use xds_interest::{Interest, Touched};
 use xds_resource::{NameMap, Refusal, ResourceType};
 
+// rule: accept-reject
 // What is believed of a name that an accepted response speaks of.
 pub fn once_told(alloc: Global, touched: bool, due: &Due) -> Result<Option<Entry>, Refusal>
     ensures ok { IfOk result (λ e. e ≡ told_unless_touched touched due.now) }
@@ -48,6 +49,7 @@ fn put_told(
     next.put(alloc, name, entry)
 }
 
+// rule: accept-reject
 // What the names of an accepted response leave.
 fn told_by(alloc: Global, sent: &Sent) -> Result<Beliefs, Refusal>
     ensures ok { IfOk result (λ m. m ≡ put_all (λ name due. told_unless_touched (was_touched sent.now name) due)
@@ -61,6 +63,7 @@ fn told_by(alloc: Global, sent: &Sent) -> Result<Beliefs, Refusal>
     Ok(next)
 }
 
+// rule: accept-reject, rule: whole-response
 // Puts what is believed of a name of which an accepted response doesn't speak.
 fn put_kept(
     alloc: Global,
@@ -80,6 +83,7 @@ fn put_kept(
     }
 }
 
+// rule: accept-reject
 // After the response was accepted, from all that was believed.
 fn accepted_beside(
     alloc: Global,
@@ -97,6 +101,7 @@ fn accepted_beside(
     Ok(next)
 }
 
+// rule: accept-reject
 /// After the response was accepted. `whole` says that what it lacks is gone.
 pub fn accepted(
     alloc: Global,

@@ -39,6 +39,7 @@ fn put_told(
     changes.put(alloc, name, Some(entry))
 }
 
+// rule: accept-reject
 /// What an accepted response changes that isn't the whole.
 pub fn changes_told(alloc: Global, sent: &Sent) -> Result<NameMap<Option<Entry>>, Refusal>
     ensures ok { IfOk result (λ m. m ≡ specs.changes_told sent.now) }

@@ -68,6 +68,7 @@ impl Due {
         }
     }
 
+    // rule: refused-offer
     /// Whether both say the same.
     pub fn is_same(&self, other: &Due) -> bool
         ensures { result ≡ same_due self.now other.now }

@@ -90,6 +90,7 @@ impl<T: ResourceType, V: Variant> Ledger<T, V> {
         offer(alloc, V::NAME, interest, catalogue, beliefs, &self.listed)
     }
 
+    // rule: owed, rule: whole-response
     /// Whether a response is due: something is owed that can be told, or, where a response is the whole, none was
     /// accepted yet. It takes no memory, and looks at the listed names and at the changes above the mark alone.
     pub fn is_due(&self, interest: &Interest<T>, catalogue: &Catalogue<T>) -> bool
@@ -101,6 +102,7 @@ impl<T: ResourceType, V: Variant> Ledger<T, V> {
             || (V::NAME.is_whole(T::TYPE) && !self.account.has_accepted())
     }
 
+    // rule: owed
     /// Whether the client is owed something: its answer is out, or a response is due. It takes no memory.
     pub fn owes(&self, interest: &Interest<T>, catalogue: &Catalogue<T>) -> bool
         requires { Fits V.NAME T.TYPE interest.now catalogue.now self.now }
@@ -109,6 +111,7 @@ impl<T: ResourceType, V: Variant> Ledger<T, V> {
         self.account.awaits_answer() || self.is_due(interest, catalogue)
     }
 
+    // rule: one-unanswered, rule: refused-offer
     /// Whether a response is to be sent: nothing is unanswered, a response is due, and its offer isn't the one that was
     /// refused last. It takes no memory.
     pub fn sends(&self, interest: &Interest<T>, catalogue: &Catalogue<T>) -> bool
@@ -120,6 +123,7 @@ impl<T: ResourceType, V: Variant> Ledger<T, V> {
             && !self.repeats(interest, catalogue)
     }
 
+    // rule: refused-offer
     // Whether the offer of the next response is the one that was refused last.
     fn repeats(&self, interest: &Interest<T>, catalogue: &Catalogue<T>) -> bool
         requires { Fits V.NAME T.TYPE interest.now catalogue.now self.now }

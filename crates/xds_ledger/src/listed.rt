@@ -123,6 +123,7 @@ impl Listed {
         self.sent_mark = None;
     }
 
+    // rule: owed
     /// Lists the names that changed since the mark, which moves to the count of changes. Answers how many names these
     /// are. Refused only by `OutOfMemory`, and then the list is as it was.
     pub fn refresh<T: ResourceType>(
@@ -234,6 +235,7 @@ fn with_names(
     Ok(all)
 }
 
+// rule: owed
 // Those of some names that something is owed of.
 fn owed_names<T: ResourceType>(
     alloc: Global,

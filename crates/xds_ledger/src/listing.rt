@@ -85,6 +85,7 @@ fn put_touched(alloc: Global, listed: &mut Listed, touched: &Touched) -> Result<
     Ok(())
 }
 
+// rule: owed
 // The names that requests touched by themselves since a response was sent, from a mark on.
 fn list_since(alloc: Global, mark: u64, sent: &Sent) -> Result<Listed, Refusal>
     ensures mark { IfOk result (λ l. l.mark ≡ mark) }
@@ -174,6 +175,7 @@ impl<T: ResourceType, V: Variant> Ledger<T, V> {
         Some((sent, mark))
     }
 
+    // rule: owed
     // The list once a request is taken, which accepts the unanswered response or doesn't: all that was listed, and all
     // names of which the request may change what is owed.
     fn listed_wider(
@@ -194,6 +196,7 @@ impl<T: ResourceType, V: Variant> Ledger<T, V> {
         Ok(list_changes(held, names.touched.all()))
     }
 
+    // rule: accept-reject
     // Whether a request with this nonce accepts the unanswered response.
     fn accepts(&self, nonce: &str, rejects: bool) -> bool
         ensures { result ≡ accepts self.now.account nonce.now rejects }
@@ -201,6 +204,7 @@ impl<T: ResourceType, V: Variant> Ledger<T, V> {
         !rejects && self.answers(nonce)
     }
 
+    // rule: owed
     // Whether all that is believed may change.
     fn changes_all(touched: &Touched, accepts: bool) -> bool
         ensures { result ≡ (touched.now.all || (accepts && is_whole V.NAME T.TYPE)) }

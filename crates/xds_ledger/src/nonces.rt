@@ -28,6 +28,7 @@ impl Model for Nonces {
 }
 
 impl Nonces {
+    // rule: nonce-numbers
     /// The nonces of a stream that sent nothing.
     pub fn new() -> Nonces
         ensures { result ≡ 0 }
@@ -35,6 +36,7 @@ impl Nonces {
         Nonces { last: 0 }
     }
 
+    // rule: new-nonce, rule: nonce-numbers
     /// Draws the next number; after the greatest, 9,223,372,036,854,775,807, it is `NonceSpent`.
     pub fn next(&mut self) -> Result<u64, Refusal>
         ensures ok { IfOk result (λ n. (n ≡ self.old + 1) × (self.new ≡ self.old + 1)) }
@@ -48,6 +50,7 @@ impl Nonces {
         Ok(self.last)
     }
 
+    // rule: nonce-numbers
     /// Whether the greatest number was drawn.
     pub fn are_spent(&self) -> bool
         ensures { IsTrue result ↔ (self.now ≡ max_counter) }

@@ -36,6 +36,7 @@ fn put_stated<T: ResourceType>(
     said.put(alloc, write.name(), Some(Due::Stated(version)))
 }
 
+// rule: whole-response
 // States these writes, live and covered, each at its version.
 fn all_stated<T: ResourceType>(alloc: Global, writes: &[&Write<T>]) -> Result<NameMap<Due>, Refusal>
     ensures ok { IfOk result (λ m. m ≡ put_writes stated finmap.empty (map (λ w. w.now) writes.now)) }
@@ -48,6 +49,7 @@ fn all_stated<T: ResourceType>(alloc: Global, writes: &[&Write<T>]) -> Result<Na
     Ok(said)
 }
 
+// rule: whole-response
 // A response that is the whole: it states what is present.
 fn wholly<T: ResourceType>(
     alloc: Global,
@@ -62,6 +64,7 @@ fn wholly<T: ResourceType>(
     Ok(stated)
 }
 
+// rule: owed, rule: whole-response
 // Puts what is owed of a name and can be told.
 fn put_owed<T: ResourceType>(
     alloc: Global,
@@ -134,6 +137,7 @@ fn with_changed<T: ResourceType>(
     Ok(said)
 }
 
+// rule: owed, rule: whole-response
 // What a response says: what is present, where it is the whole, and else what is owed and can be told, of the listed
 // names and of those that changed since the mark.
 fn said<T: ResourceType>(
@@ -157,6 +161,7 @@ fn said<T: ResourceType>(
     Ok(said)
 }
 
+// rule: whole-response
 /// The offer of a response: what is present, where a response is the whole, and else what is owed and can be told. It
 /// looks at the listed names and at those that changed since the mark, or where it is the whole, at all that is
 /// present.

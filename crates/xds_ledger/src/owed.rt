@@ -22,6 +22,7 @@ use xds_catalogue::Catalogue;
 use xds_interest::Interest;
 use xds_resource::{Refusal, ResourceType, Stamp, TypeName};
 
+// rule: tombstones, rule: owed, rule: covered-only
 // The stamp at which a name is present: of the live write that the interest covers. It takes no memory.
 pub fn present<T: ResourceType>(
     interest: &Interest<T>,
@@ -40,6 +41,7 @@ pub fn present<T: ResourceType>(
     }
 }
 
+// rule: owed
 // Whether something is owed of a name that can be told. It takes no memory.
 pub fn is_owed(
     variant: VariantName,
@@ -58,6 +60,7 @@ pub fn is_owed(
     }
 }
 
+// rule: owed, rule: no-live-removal
 // What is owed of a name.
 pub fn due_of(
     alloc: Global,
@@ -75,6 +78,7 @@ pub fn due_of(
     }
 }
 
+// rule: owed
 // Whether something is owed of a name that can be told, from the whole. It takes no memory.
 pub(crate) fn name_owed<T: ResourceType>(
     variant: VariantName,
@@ -93,6 +97,7 @@ pub(crate) fn name_owed<T: ResourceType>(
     )
 }
 
+// rule: owed
 // Whether something is owed of a listed name.
 fn listed_owed<T: ResourceType>(
     variant: VariantName,
@@ -111,6 +116,7 @@ fn listed_owed<T: ResourceType>(
     false
 }
 
+// rule: owed
 // Whether something is owed of a name that changed since a mark.
 fn changed_owed<T: ResourceType>(
     variant: VariantName,
@@ -133,6 +139,7 @@ fn changed_owed<T: ResourceType>(
     false
 }
 
+// rule: owed
 /// Whether something is owed of some name that can be told: of a listed one, or of one that changed since the mark. It
 /// takes no memory.
 pub fn something_owed<T: ResourceType>(

@@ -27,6 +27,7 @@ enum Saying {
     Removed,
 }
 
+// rule: refused-offer
 // What a response says of a name, from its entry and the write that is present. It takes no memory.
 fn said_of(
     variant: VariantName,
@@ -45,6 +46,7 @@ fn said_of(
     }
 }
 
+// rule: refused-offer
 // Whether an offer says of a name what a response would say now.
 fn still_says<T: ResourceType>(
     refused: &NameMap<Due>,
@@ -68,6 +70,7 @@ fn still_says<T: ResourceType>(
     }
 }
 
+// rule: refused-offer
 // Whether it does so of each name that it speaks of.
 fn still_says_where_said<T: ResourceType>(
     refused: &NameMap<Due>,
@@ -86,6 +89,7 @@ fn still_says_where_said<T: ResourceType>(
     true
 }
 
+// rule: refused-offer
 // Whether it does so of each listed name.
 fn still_says_where_listed<T: ResourceType>(
     refused: &NameMap<Due>,
@@ -105,6 +109,7 @@ fn still_says_where_listed<T: ResourceType>(
     true
 }
 
+// rule: refused-offer
 // Whether it does so of each name that changed since a mark.
 fn still_says_where_changed<T: ResourceType>(
     refused: &NameMap<Due>,
@@ -129,6 +134,7 @@ fn still_says_where_changed<T: ResourceType>(
     true
 }
 
+// rule: refused-offer
 /// Whether a response would say what an offer says. Where responses aren't the whole, only the names of the offer, the
 /// listed ones and those that changed since the mark are looked at. It takes no memory.
 pub fn repeats<T: ResourceType>(
@@ -152,6 +158,7 @@ pub fn repeats<T: ResourceType>(
     still_says_where_changed(refused, variant, interest, catalogue, beliefs, mark)
 }
 
+// rule: refused-offer
 // The mark from which on changes are looked at: a whole response speaks of every name.
 fn first_mark(whole: bool, listed: &Listed) -> u64
     ensures { result ≡ (if whole then 0 else listed.now.mark) }

@@ -39,6 +39,7 @@ fn change_beliefs<T: ResourceType>(
 }
 
 impl<T: ResourceType, V: Variant> Account<T, V> {
+    // rule: accept-reject
     /// Takes a request: it settles the response that it answers, and then its names are taken. Refused only by
     /// `OutOfMemory`, and then nothing is taken. Where it accepts a response that is the whole, or before which
     /// nothing was believed held, it looks at the names alone that it mentions or that were touched since the
@@ -62,6 +63,7 @@ impl<T: ResourceType, V: Variant> Account<T, V> {
         }
     }
 
+    // rule: accept-reject
     // Takes a request that answers the unanswered response.
     fn take_answer(
         &mut self,
@@ -83,6 +85,7 @@ impl<T: ResourceType, V: Variant> Account<T, V> {
         }
     }
 
+    // rule: accept-reject
     // What is believed once the unanswered response is accepted, where that is what it offers, but for the names that
     // requests touched since.
     fn accepted_as_offered(&self, alloc: Global) -> Result<Option<Beliefs>, Refusal>
@@ -124,6 +127,7 @@ impl<T: ResourceType, V: Variant> Account<T, V> {
         Ok(())
     }
 
+    // rule: accept-reject, rule: whole-response
     // Takes such a request where an offer isn't believed by holding it.
     fn take_answer_by_name(
         &mut self,
@@ -144,6 +148,7 @@ impl<T: ResourceType, V: Variant> Account<T, V> {
         }
     }
 
+    // rule: accept-reject
     fn take_answer_anew(
         &mut self,
         alloc: Global,
@@ -166,6 +171,7 @@ impl<T: ResourceType, V: Variant> Account<T, V> {
         Ok(())
     }
 
+    // rule: accept-reject
     fn take_answer_in_place(
         &mut self,
         alloc: Global,
@@ -185,6 +191,7 @@ impl<T: ResourceType, V: Variant> Account<T, V> {
         Ok(())
     }
 
+    // rule: accept-reject
     // What an answer changes, where the response isn't the whole or is rejected.
     fn changes_answered(
         &self,
@@ -200,6 +207,7 @@ impl<T: ResourceType, V: Variant> Account<T, V> {
         }
     }
 
+    // rule: accept-reject, rule: whole-response
     // What is believed once the unanswered response is accepted.
     fn beliefs_accepted(&self, alloc: Global) -> Result<Beliefs, Refusal>
         ensures ok { IfOk result (λ m. IfSome self.now.sent (λ sent.
@@ -212,6 +220,7 @@ impl<T: ResourceType, V: Variant> Account<T, V> {
         }
     }
 
+    // rule: accept-reject, rule: refused-offer
     // Settles the unanswered response, but for what is believed.
     fn settle(&mut self, rejects: bool)
         ensures { IfSome self.old.sent (λ sent.

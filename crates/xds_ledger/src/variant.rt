@@ -24,6 +24,7 @@ impl VariantName {
         }
     }
 
+    // rule: whole-response
     /// Whether each response of the type is the whole, so that what it lacks is gone.
     pub fn is_whole(self, kind: TypeName) -> bool
         ensures { result ≡ is_whole self kind }
@@ -31,6 +32,7 @@ impl VariantName {
         !self.is_delta() && kind.is_complete()
     }
 
+    // rule: owed
     /// Whether there is a way to tell a client of the type that a name is gone.
     pub fn tells_removals(self, kind: TypeName) -> bool
         ensures { result ≡ tells_removals self kind }

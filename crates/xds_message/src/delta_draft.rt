@@ -281,6 +281,7 @@ impl DeltaDraft {
     }
 }
 
+// rule: best-writes
 /// Puts the resource that a write puts, under its name and with its version, behind others. A deletion has none. No byte of its
 /// text is copied.
 pub fn push_resource<T: ResourceType>(

@@ -168,6 +168,7 @@ fn number_at(value: &Value<'_>, key: &str) -> Option<u64>
     whole_number(find_member(value, key)?)
 }
 
+// rule: groups
 // The groups that are there, none where there is no such member.
 fn groups_in(alloc: Global, value: &Value<'_>) -> Option<Groups>
     requires { IsOrdered (value_view value.now) }

@@ -157,6 +157,7 @@ impl SotwDraft {
     }
 }
 
+// rule: best-writes
 /// Puts the text of the resource that a write puts behind others. A deletion has none. No byte of it is copied.
 pub fn push_body<T: ResourceType>(bodies: &mut Vec<Body>, write: &Write<T>) -> Result<(), Refusal>
     ensures ok { OnOk result (bodies.new.items ≡ with_text bodies.old.items write.now.body) }

@@ -182,6 +182,7 @@ fn write_of<T: ResourceType>(alloc: Global, value: &Value) -> Result<Write<T>, R
     }
 }
 
+// rule: groups
 // The write that puts what a body is, if that is a resource of this name.
 fn put_of<T: ResourceType>(
     alloc: Global,
@@ -197,6 +198,7 @@ fn put_of<T: ResourceType>(
     Ok(Write::put(stamp, resource, groups))
 }
 
+// rule: groups
 // The write that deletes, which has no groups.
 fn deletion_of<T: ResourceType>(
     alloc: Global,
@@ -214,6 +216,7 @@ fn deletion_of<T: ResourceType>(
     Ok(Write::deletion(stamp, ArcStr::from_str(alloc, name)?))
 }
 
+// rule: groups
 // The groups that are there, none where nothing is set.
 fn groups_field(alloc: Global, value: &Value) -> Result<Groups, Refusal>
     ensures { Reads (AreGroups (get (codes "groups") (view value.now))) (λ g. g) result }
@@ -222,6 +225,7 @@ fn groups_field(alloc: Global, value: &Value) -> Result<Groups, Refusal>
     groups_from(alloc, texts.as_slice())
 }
 
+// rule: groups
 // The groups that the texts come to.
 pub(crate) fn groups_from(alloc: Global, texts: &[String]) -> Result<Groups, Refusal>
     ensures { Reads (λ groups. groups_of (map string_bytes texts.now) ≡ Ok groups) (λ g. g) result }

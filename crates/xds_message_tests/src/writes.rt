@@ -95,6 +95,7 @@ null => 7 BadMessage
     )
 }
 
+// rule: groups
 #[test]
 fn groups_are_read(rt: HostRuntime) -> Result<(), Fail> {
     hold::<WriteAgain, HostRuntime>(

@@ -88,11 +88,13 @@ stream_of Change = None
 stream_of Part = None
 stream_of Other = None
 
+-- rule: stale-nonce
 -- the type of a request that was taken
 abbrev pub taken_kind : Heard → Outcome → Option TypeName
 taken_kind heard Taken = heard.kind
 taken_kind heard Ignored = None
 
+-- rule: accept-reject
 -- Whether a request accepts the last response of its type (true) or rejects it (false), if it does either: it names the nonce of that
 -- response, to which no request answered before.
 abbrev pub verdict : TypeStatus → Heard → Option Bool
@@ -100,6 +102,7 @@ verdict status heard =
     if status.is_answered || length (string_bytes status.nonce) == 0 || not (bytes_eq (string_bytes heard.nonce) (string_bytes status.nonce)) then None
     else Some (is_none heard.rejection)
 
+-- rule: accept-reject
 -- whether the last response was answered, once a request said that of it
 abbrev pub answered_after : Bool → Option Bool → Bool
 answered_after before None = before

@@ -17,6 +17,7 @@ use Rattle.xds_monitor.specs.Metrics.{help_line, sample_line}
 use Rattle.xds_monitor.specs.declared.tapes.TapeFault.{TapeFault}
 use Rattle.xds_monitor.specs.declared.tapes.TapeFault.TheVariants.{NoFolder, NotAllowed, IsThere, Other}
 
+-- rule: cuts
 -- the number of the record that comes behind so many from this one on, as far as such numbers go
 abbrev pub next_after : ℕ → ℕ → ℕ
 next_after number count = min (number + count) (2 ^ 64 - 1)

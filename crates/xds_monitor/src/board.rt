@@ -207,6 +207,7 @@ fn is_nack(verdict: Option<bool>) -> bool
     }
 }
 
+// rule: stale-nonce
 // The type of a request that was taken.
 fn taken_kind(heard: &Heard, outcome: Outcome) -> Option<TypeName>
     ensures { result ≡ taken_kind heard.now outcome }

@@ -134,6 +134,7 @@ fn log_line(alloc: Global, level: Level, message: &str) -> Result<String, Refusa
     Ok(format!(in alloc; "{line}\n")?)
 }
 
+// rule: new-numbers
 /// What is told of a replica's number, where it isn't its place among those of the server.
 pub fn number_text(alloc: Global, place: u16, number: u16) -> Result<String, Refusal>
     ensures { IfOk result (λ t. string_bytes t ≡ number_text place number) }

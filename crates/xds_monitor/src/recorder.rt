@@ -69,6 +69,7 @@ impl<W: Write> Recorder<W> {
         self.replica
     }
 
+    // rule: cuts
     /// Cuts the journal of the replica, and writes what was cut. The node's lock is held for the cut alone. The outer answer is that
     /// of the cut; the inner one is the refusal by which the recording ended just now, if it did. It may wait for others that cut.
     pub fn record<R: Wait, H: Host<Segment: Piece>>(
@@ -83,6 +84,7 @@ impl<W: Write> Recorder<W> {
         }
     }
 
+    // rule: cuts
     /// The same where the journal is full, and none where it isn't, as where another thread has cut it meanwhile.
     pub fn record_full<R: Wait, H: Host<Segment: Piece>>(
         &self,

@@ -128,6 +128,7 @@ impl<W: Write> Recording<W> {
         }
     }
 
+    // rule: cuts
     // Writes the records of a segment that is the next one.
     fn put<P: Piece>(&mut self, alloc: Global, piece: &P) -> Result<(), Refusal>
         ensures gap { P.number piece.now ≢ self.old.next → (result ≡ Err Gap) × (self.new.writer ≡ self.old.writer) }

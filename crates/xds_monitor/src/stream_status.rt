@@ -49,6 +49,7 @@ impl TypeStatus {
         }
     }
 
+    // rule: accept-reject
     /// Whether a request accepts the last response (true) or rejects it (false), if it does either for the first time.
     pub fn verdict(&self, heard: &Heard) -> Option<bool>
         ensures { result ≡ verdict self.now heard.now }
@@ -60,6 +61,7 @@ impl TypeStatus {
         Some(heard.rejection.is_none())
     }
 
+    // rule: accept-reject
     /// Notes a request that was taken. Without memory for a text that stays as it was.
     pub fn hear(&mut self, alloc: Global, heard: &Heard) -> Result<(), Refusal>
         ensures asked { self.new.is_asked ≡ true }

@@ -70,6 +70,7 @@ impl<A: Served> Weighed<A> {
         }
     }
 
+    // rule: cuts
     // Cuts the journal, unless another did while this waited for its turn. So no more is held back than a journal, where what is cut
     // is written slowly. A cut that finds no memory is tried again once as much came again.
     fn lighten<R: Wait>(&self, rt: &R) {

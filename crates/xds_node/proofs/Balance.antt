@@ -39,6 +39,7 @@ module _ {E : Type 0} where
       (λ (there : (j ≢ i) × (get_elem? views j ≡ some u)). others j u there.1)
       (at_set views i j w u at)
 
+  -- rule: one-seat
   -- one holding changes, and its own balance stays
   moved : (views : List (Holding E)) (i : ℕ) (v w : Holding E) → Balanced views → get_elem? views i ≡ some v → Even v w → Balanced (set views i w)
   moved views i v w b at even = record {
@@ -143,12 +144,15 @@ module _ {E : Type 0} where
 
   -- what the calls of the table ask, whatever becomes of its word (f), which the rule does not look at
 
+  -- rule: one-seat
   pub lends : (id : ℕ) (v : Holding E) → Splits Rule id v (kept_part v) (lent_part v)
   lends id v s b at = forks s.views id v b at
 
+  -- rule: one-seat
   pub gives : (id : ℕ) (v : Holding E) (other : ℕ) (w : Holding E) → w.keepers ≡ 0 → Joins Rule id v other w (both v w) nothing
   gives id v other w lent s b at apart there = merges s.views id v other w b at apart there lent
 
+  -- rule: one-seat
   pub appends : (slots id : ℕ) (m : Me E (Holding E)) (f : ℕ → ℕ) (n : ℕ) (e : E) → m.0.keepers ≡ 1 → 0 < m.0.seats → Allows Rule slots id m 0 f (Appends (step slots 0 n n (some e)) m)
   appends slots id m f n e keeper seated s b wide at small =
       let v = m.0 in
@@ -186,6 +190,7 @@ module _ {E : Type 0} where
       } in
       (w, keeps, tt, moved s.views id v w b at even, refl)
 
+  -- rule: one-seat
   pub sits : (slots id : ℕ) (m : Me E (Holding E)) (f : ℕ → ℕ) → m.0.keepers ≡ 1 → Allows Rule slots id m 0 f (Sits (step slots 0 0 0 none) m)
   sits slots id m f keeper s b wide at small =
       let v = m.0 in
@@ -199,6 +204,7 @@ module _ {E : Type 0} where
       } in
       (with_seat v, keeps, tt, moved s.views id v (with_seat v) b at even, refl)
 
+  -- rule: cuts
   pub cuts : (slots id : ℕ) (m : Me E (Holding E)) (f : ℕ → ℕ) → m.0.keepers ≡ 1 → Allows Rule slots id m 0 f (Cuts (step slots 0 0 0 none) m)
   cuts slots id m f keeper s b wide at small =
       let v = m.0 in

@@ -70,6 +70,7 @@ module _ {E : Type 0} (known given : Holding E → List (ℕ × E)) where
     pub grows : (e : ℕ × E) → Contains (known v) e → Contains (known w) e
     pub each : (e : ℕ × E) → Contains (given w) e → Contains (given v) e ⊎ Contains (known w) e
 
+  -- rule: one-seat
   pub covers_set : (views : List (Holding E)) (i : ℕ) (v w : Holding E) → Covers known given views → get_elem? views i ≡ some v → Turns v w → Covers known given (set views i w)
   covers_set views i v w c at turns = record {
     same = λ h.
@@ -97,6 +98,7 @@ module _ {E : Type 0} (known given : Holding E → List (ℕ × E)) where
       let t = stands_set views i v w at (λ f (p : Contains (known v) f). subst (λ (l : List (ℕ × E)). Contains l f) (sym same_known) p) e s in
       (t.0, t.1, at_longer (set views i w) (x ∷ []) t.0 t.1 t.2, t.3)
 
+  -- rule: one-seat
   -- a holding is cut in two, of which the first knows what it knew, and the second has what it was given
   pub covers_fork : (views : List (Holding E)) (i : ℕ) (v w x : Holding E) → Covers known given views → get_elem? views i ≡ some v → given w ≡ [] → known w ≡ known v → given x ≡ given v → known x ≡ [] → Covers known given (set views i w ++ x ∷ [])
   covers_fork views i v w x c at no_given same_known same_given no_known =
@@ -126,6 +128,7 @@ module _ {E : Type 0} (known given : Holding E → List (ℕ × E)) where
             (at_snoc (set views i w) x u j there);
       }
 
+  -- rule: one-seat
   -- one holding is added to another, and is then nothing
   pub covers_merge : (views : List (Holding E)) (i other : ℕ) (v w x n : Holding E) → Covers known given views → get_elem? views i ≡ some v → get_elem? views other ≡ some w → ¬ (other ≡ i) → given x ≡ given v ++ given w → known x ≡ known v → known w ≡ [] → given n ≡ [] → known n ≡ [] → Covers known given (set (set views i x) other n)
   covers_merge views i other v w x n c at there apart sum_given same_known w_none n_given n_none =
@@ -164,6 +167,7 @@ module _ {E : Type 0} (known given : Holding E → List (ℕ × E)) where
           (λ (else : (j ≢ i) × (get_elem? views j ≡ some u)). All-weaker (StandsIn known views) (StandsIn known (set views i x)) still (given u) (c.stands j u else.1))
           (at_set views i j x u at_j)
 
+  -- rule: one-seat
   -- where only one token knows anything of the list, what was given to it is part of that, and all of it where no other was given any
   pub part_of : (views : List (Holding E)) (i : ℕ) (v : Holding E) (g : Holding E → ℕ) (all : Type 0) → Covers known given views → get_elem? views i ≡ some v → weigh g views ≡ g v → ((j : ℕ) (u : Holding E) → get_elem? views j ≡ some u → g u ≡ 0 → known u ≡ []) → (all → (h : ℕ × E → ℕ) → weigh (λ u. weigh h (given u)) views ≡ weigh h (given v)) → IsPartOf (given v) (known v) all
   part_of views i v g all c at alone idle others = record {

@@ -27,10 +27,12 @@ story replica base core journal cut seats many v u w calls k gathered same known
       legal = k.legal;
     }
 
+-- rule: one-seat
 -- what the seats were told was cut, or stands in the journal
 pub story_stands : (replica : ℕ) (base : Core) (records : List Record) (cut : ℕ) (complete : Bool) (v : Holding Record) → IsStory replica base records cut complete v → All (Contains (v.cut ++ numbered (length v.cut + 1) records)) v.told
 story_stands replica base records cut complete v k = subst (λ (j : List (ℕ × Record)). All (Contains (v.cut ++ j)) v.told) k.closed.journal_is k.closed.stands
 
+-- rule: one-seat
 -- where it is complete, what the seats were told is what was recorded, in some order
 pub story_each : (replica : ℕ) (base : Core) (records : List Record) (cut : ℕ) (complete : Bool) (v : Holding Record) → IsStory replica base records cut complete v → complete ≡ true → IsPermutation v.told (v.cut ++ numbered (length v.cut + 1) records)
 story_each replica base records cut complete v k whole = subst (λ (j : List (ℕ × Record)). IsPermutation v.told (v.cut ++ j)) k.closed.journal_is (k.closed.whole whole)
@@ -44,6 +46,7 @@ pub record Audits (s : Story) (pieces : List Piece) : Type 0 where
   pub so : Counted 1 (pieces_entries pieces) → length (pieces_entries pieces) ≡ length s.before → pieces_entries pieces ≡ s.before
   pub only : pieces_entries pieces ≡ s.before → Counted 1 (pieces_entries pieces)
 
+-- rule: cuts
 pub audits : (replica : ℕ) (base : Core) (records : List Record) (cut : ℕ) (complete : Bool) (v u : Holding Record) (s : Story) (pieces : List Piece) → IsStory replica base records cut complete v → u ≡ with_shares piece_before piece_entries v pieces → Known u → record { base = base; records = records; before = v.cut; made = v.made; complete = complete; told = v.told } ≡ s → Audits s pieces
 audits replica base records cut complete v u s pieces k gathered known is =
     subst (λ t. Audits t pieces) is (record {
@@ -55,6 +58,7 @@ audits replica base records cut complete v u s pieces k gathered known is =
       only = λ same. subst (Counted 1) (sym same) k.closed.counted;
     })
 
+-- rule: cuts
 -- the same, once they were looked at: they are all that was cut
 pub all_cut : (replica : ℕ) (base : Core) (records : List Record) (cut : ℕ) (complete : Bool) (v u : Holding Record) (s : Story) (pieces looked : List Piece) → IsStory replica base records cut complete v → u ≡ with_shares piece_before piece_entries v pieces → Known u → record { base = base; records = records; before = v.cut; made = v.made; complete = complete; told = v.told } ≡ s → looked ≡ pieces → Counted 1 (pieces_entries looked) × (length (pieces_entries looked) ≡ cut) → pieces_entries pieces ≡ s.before
 all_cut replica base records cut complete v u s pieces looked k gathered known is same order =

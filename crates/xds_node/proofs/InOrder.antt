@@ -19,6 +19,7 @@ pub record Decides (last left : ℕ) (rest all : List Piece) : Type 0 where
   pub so : (n : ℕ) → n + left ≡ last + 1 → AreNext n left (pieces_entries rest) → AreNext 1 last (pieces_entries all)
   pub only : (n : ℕ) → n + left ≡ last + 1 → AreNext 1 last (pieces_entries all) → AreNext n left (pieces_entries rest)
 
+-- rule: cuts
 pub decides_start : (last : ℕ) (all : List Piece) → Decides last last all all
 decides_start last all = record {
   few = omega arith;
@@ -35,6 +36,7 @@ counted_first_is : (n first : ℕ) (rs : List Record) (es : List (ℕ × Record)
 counted_first_is n first [] es some_of c = absurd (some_of refl)
 counted_first_is n first (r ∷ rs) es some_of c = c.0
 
+-- rule: cuts
 -- the next segment has no more than are to come, and begins with the next where it has any
 pub decides_next : (last left fewer : ℕ) (p : Piece) (rest all : List Piece) → Decides last left (p ∷ rest) all → fewer + length p.records ≡ left → (length p.records ≡ 0) ⊎ (p.first + left ≡ last + 1) → Decides last fewer rest all
 decides_next last left fewer p rest all d many next =
@@ -70,6 +72,7 @@ decides_next last left fewer p rest all d many next =
     starts : (n : ℕ) → length p.records ≤ n → (k : ℕ) × (k + length p.records ≡ n)
     starts n le = (n - length p.records, omega arith)
 
+-- rule: cuts
 -- or it doesn't
 pub decides_no : (last left : ℕ) (p : Piece) (rest all : List Piece) → Decides last left (p ∷ rest) all → (left < length p.records) ⊎ ((length p.records ≢ 0) × (p.first + left ≢ last + 1)) → Counted 1 (pieces_entries all) → length (pieces_entries all) ≡ last → ⊥
 decides_no last left p rest all d wrong counted many =
@@ -87,6 +90,7 @@ decides_no last left p rest all d wrong counted many =
     absurd (apart.1 (omega arith)))
     wrong
 
+-- rule: cuts
 -- at the end all have come
 pub decides_end : (last left : ℕ) (rest all : List Piece) → Decides last left rest all → rest ≡ [] → MatchBool (nat_eq left 0) (Counted 1 (pieces_entries all) × (length (pieces_entries all) ≡ last)) (Counted 1 (pieces_entries all) → length (pieces_entries all) ≡ last → ⊥)
 decides_end last left rest all d none = by_test (nat_eq left 0) (eqb_tells left 0)

@@ -114,6 +114,7 @@ step_told replica base core journal cut seats n e a r v old new k number answer 
       answered = answer ∙ ap (λ c. answer_of (step c e)) all.comes_to;
     }
 
+-- rule: cuts
 -- a cut
 pub kept_cut : (replica : ℕ) (base core base' : Core) (journal journal' : List Record) (cut seats n : ℕ) (v w : Holding Record) → IsKept replica base core journal cut seats v → base' ≡ core → journal' ≡ [] → n ≡ length journal → w ≡ keeper v.made (recorded v) [] → IsKept replica base' core journal' (cut + n) seats w
 kept_cut replica base core base' journal journal' cut seats n v w k copy empty many is =
@@ -138,6 +139,7 @@ kept_cut replica base core base' journal journal' cut seats n v w k copy empty m
       lawful = subst (λ c. IsLegal c (records_of w.cut)) start (subst (λ l. IsLegal (fresh replica) l) (sym all) happened.lawful);
     }
 
+-- rule: cuts
 -- what is handed out goes on where what was cut before it ends
 pub goes_on : (replica : ℕ) (base core base' : Core) (journal : List Record) (cut seats : ℕ) (v : Holding Record) (before : List (ℕ × Record)) → IsKept replica base core journal cut seats v → base' ≡ base → before ≡ v.cut → GoesOn replica base' (cut + 1) before
 goes_on replica base core base' journal cut seats v before k old same = record {
@@ -148,6 +150,7 @@ goes_on replica base core base' journal cut seats v before k old same = record {
   origin = old ∙ k.origin ∙ (λ i. replayed (fresh (k.own i)) (records_of (sym same i)));
 }
 
+-- rule: cuts
 pub piece_kept : (replica : ℕ) (base core base' : Core) (journal journal' : List Record) (cut seats : ℕ) (v l : Holding Record) → IsKept replica base core journal cut seats v → base' ≡ base → journal' ≡ journal → l ≡ share_holding v.cut v.journal → IsPiece replica base' (cut + 1) journal' (past_of l) l
 piece_kept replica base core base' journal journal' cut seats v l k old same is =
     let past : past_of l ≡ v.cut = ap past_of is in
@@ -158,6 +161,7 @@ piece_kept replica base core base' journal journal' cut seats v l k old same is 
       share = share_is journal seats v l k.keeper is ∙ (λ i. share_holding (sym past i) (numbered (first i) (sym same i)));
     }
 
+-- rule: cuts
 pub piece_is : (replica : ℕ) (base core base' : Core) (journal journal' : List Record) (cut seats : ℕ) (v l : Holding Record) (b : Books) → IsKept replica base core journal cut seats v → base' ≡ base → journal' ≡ journal → l ≡ share_holding v.cut v.journal → record { replica = base.replica; before = v.cut; journal = journal; seats = seats } ≡ b → record { base = base'; first = cut + 1; records = journal'; before = past_of l } ≡ piece_of b
 piece_is replica base core base' journal journal' cut seats v l b k old same is is_books =
     let first : cut + 1 ≡ length v.cut + 1 = ap (λ n. n + 1) k.cut_is in

@@ -112,6 +112,7 @@ module _ (s0 s1 s2 : List (ℕ × Record)) (r0 r1 r2 : List Record) (t0 t1 t2 : 
       drops = omega (arith, counts, so.drops, sum-snoc takings one);
     }
 
+    -- rule: marks
     lost_now : (takings : List Taking) → lost ≡ lost_after false takings → now ≡ (lost_after false takings || not (is_merged step.0))
     lost_now takings is = loses ∙ ap (λ b. lost || not b) step.4.1 ∙ ap (λ b. b || not (is_merged step.0)) is
 

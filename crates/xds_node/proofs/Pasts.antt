@@ -54,6 +54,7 @@ module _ {E : Type 0} where
           (λ (new : IsBeginning past w.cut). (i, w, set_there views i v w at, new))
           (each past in_it))
 
+  -- rule: cuts
   pub pasts_set : (views : List (Holding E)) (i : ℕ) (v w : Holding E) → AllBegin views → get_elem? views i ≡ some v → Begins v w → AllBegin (set views i w)
   pasts_set views i v w all at begins =
       all_begin_set views i v w all at begins.grows (λ past in_it.
@@ -81,6 +82,7 @@ module _ {E : Type 0} where
       longer : (past : List (ℕ × E)) → BeginsIn (set views i w) past → BeginsIn (set views i w ++ x ∷ []) past
       longer past s = (s.0, s.1, at_longer (set views i w) (x ∷ []) s.0 s.1 s.2, s.3)
 
+  -- rule: cuts
   -- one token is added to another, and is then nothing
   pub pasts_merge : (views : List (Holding E)) (i other : ℕ) (v w x n : Holding E) → AllBegin views → get_elem? views i ≡ some v → get_elem? views other ≡ some w → ¬ (other ≡ i) → x.cut ≡ v.cut → x.pasts ≡ v.pasts ++ w.pasts → w.cut ≡ n.cut → n.pasts ≡ [] → AllBegin (set (set views i x) other n)
   pasts_merge views i other v w x n all at there apart same_cut sum same_none no_past =
@@ -92,6 +94,7 @@ module _ {E : Type 0} where
       first : AllBegin (set views i x)
       first = all_begin_set views i v x all at (λ past b. subst (IsBeginning past) (sym same_cut) b) (λ past p. inl (All-contains (BeginsIn views) x.pasts past both_begin p))
 
+  -- rule: cuts
   -- where only one token knows what was cut, what was cut before its shares is what it cut first
   pub begins_own : (views : List (Holding E)) (i : ℕ) (v : Holding E) (g : Holding E → ℕ) → AllBegin views → get_elem? views i ≡ some v → weigh g views ≡ g v → ((j : ℕ) (u : Holding E) → get_elem? views j ≡ some u → g u ≡ 0 → u.cut ≡ []) → All (λ past. IsBeginning past v.cut) v.pasts
   begins_own views i v g all at alone idle =

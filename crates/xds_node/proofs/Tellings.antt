@@ -222,11 +222,13 @@ module _ (marks : PerType ℕ) (s0 s1 : List (ℕ × Record)) (r0 r1 : List Reco
         ((refl, refl), (entry, (refl, refl, tried), refl, subst (λ (b : PerType (List StampedWrite)). Begins put (parcels_of (in_order b))) batch_is begins)),
       )
 
+  -- rule: marks
   pub turn_merged : (after : PerType ℕ) (reply : Reply) (batch : PerType (List StampedWrite)) (receipt : Receipt) → Answering s0 s1 r0 r1 (Since marks) (Ok reply) → batch ≡ (changed_in reply).0
       → after ≡ (changed_in reply).1 → receipt ≡ Merged → Settles (parcels_of (in_order batch)) p0 p1 g0 g1 (Ok receipt) → Turned after (Ok true)
   turn_merged after reply batch receipt told batch_is after_is is settles =
       merged_by after reply batch told batch_is after_is (subst (λ (x : Receipt). Settles (parcels_of (in_order batch)) p0 p1 g0 g1 (Ok x)) is settles)
 
+  -- rule: marks
   pub turn_lost : (after : PerType ℕ) (reply : Reply) (batch : PerType (List StampedWrite)) (receipt : Receipt) → Answering s0 s1 r0 r1 (Since marks) (Ok reply) → batch ≡ (changed_in reply).0 → after ≡ each 0
       → receipt ≡ Lost → Settles (parcels_of (in_order batch)) p0 p1 g0 g1 (Ok receipt) → Turned after (Ok true)
   turn_lost after reply batch receipt told batch_is zeros is settles =
@@ -241,6 +243,7 @@ module _ (marks : PerType ℕ) (s0 s1 : List (ℕ × Record)) (r0 r1 : List Reco
       let (t, a, b, c, d, e, f, off) = left_over reply batch (unsent.Refused why) told batch_is settles in
       (t, a, b ∙ sym zeros, c, d, e, f, (given_off t off, inr (inr (something t off, settles.0))))
 
+  -- rule: marks
   pub turn_given_up : (after : PerType ℕ) (reply : Reply) (batch : PerType (List StampedWrite)) (u : Unsent) (r : Result Bool Refusal) → Answering s0 s1 r0 r1 (Since marks) (Ok reply)
       → batch ≡ (changed_in reply).0 → after ≡ each 0 → Settles (parcels_of (in_order batch)) p0 p1 g0 g1 (Err u) → r ≡ given_up u → Turned after r
   turn_given_up after reply batch u r told batch_is zeros settles is = subst (λ (x : Result Bool Refusal). Turned after x) (sym is) (ended_by after reply batch u told batch_is zeros settles)

@@ -23,6 +23,7 @@ use Rattle.xds_node.specs.declared.holding.Holding.{Holding}
 use Rattle.xds_node.specs.Entries.{numbered, records_of}
 use Rattle.xds_node.specs.Holdings.{IsKeeperOf}
 
+-- rule: cuts
 -- how many records a journal may have
 abbrev pub most_records : ℕ
 most_records = 65536
@@ -39,6 +40,7 @@ pub record Books : Type 0 where
 abbrev pub opened_books : ℕ → Books
 opened_books replica = record { replica = replica; before = []; journal = []; seats = 0 }
 
+-- rule: cuts
 -- the replica as the latest cut left it: until the first cut, one at which nothing happened
 abbrev pub base_of : Books → Core
 base_of b = replayed (fresh b.replica) (records_of b.before)
@@ -71,10 +73,12 @@ with_record b r = record { replica = b.replica; before = b.before; journal = b.j
 abbrev pub with_seat : Books → Books
 with_seat b = record { replica = b.replica; before = b.before; journal = b.journal; seats = b.seats + 1 }
 
+-- rule: cuts
 -- after a cut
 abbrev pub after_cut : Books → Books
 after_cut b = record { replica = b.replica; before = b.before ++ entries_of b; journal = []; seats = b.seats }
 
+-- rule: cuts
 -- no record more has room: the journal has as many as it may, or all numbers are spent
 abbrev pub IsFull : Books → Type 0
 IsFull b = (length b.journal ≡ most_records) ⊎ (length b.before + length b.journal ≡ max_counter)

@@ -62,6 +62,7 @@ pub record Turn : Type 0 where
   pub receipts : List Receipt
   pub after : PerType ℕ
 
+-- rule: marks
 -- the entries above the marks were asked for
 abbrev pub IsSince : Turn → ℕ × Record → Type 0
 IsSince t entry = (t.told ≡ entry ∷ []) × (entry.1.event ≡ Since t.marks) × IsTriedBefore (Since t.marks) t.tried
@@ -70,6 +71,7 @@ IsSince t entry = (t.told ≡ entry ∷ []) × (entry.1.event ≡ Since t.marks)
 abbrev pub IsUnasked : Turn → Refusal → Type 0
 IsUnasked t e = (t.told ≡ []) × (t.put ≡ []) × LeavesNoRecord e × IsTriedInVain (Since t.marks) e t.tried
 
+-- rule: marks
 -- One receipt was taken where there was a parcel, and the marks are those that were told; but where it was lost, all is told again.
 abbrev pub IsReceived : Turn → ℕ × Record → Type 0
 IsReceived t entry =
@@ -81,10 +83,12 @@ IsReceived t entry =
 abbrev pub IsWhole : Turn → Type 0
 IsWhole t = (entry : ℕ × Record) × IsSince t entry × IsGranted entry × (t.put ≡ parcels_in entry.1.answer) × IsReceived t entry
 
+-- rule: marks
 -- no receipt was taken, and all is told again
 abbrev pub IsToldAgain : Turn → Type 0
 IsToldAgain t = (t.receipts ≡ []) × (t.after ≡ each 0)
 
+-- rule: marks
 -- The batch was given up: all is told again. A beginning of it was put.
 abbrev pub IsGivenUp : Turn → Type 0
 IsGivenUp t =
@@ -103,6 +107,7 @@ IsGivenUpFor t e = IsGivenUp t
 abbrev pub IsTurn : Turn → Type 0
 IsTurn t = IsWhole t ⊎ IsGivenUp t
 
+-- rule: marks
 -- each turn begins with the marks that the one before left
 abbrev pub Follows : PerType ℕ → List Turn → PerType ℕ → Type 0
 Follows first [] last = first ≡ last
@@ -164,15 +169,18 @@ abbrev pub is_merged : List (ℕ × Record) → Bool
 is_merged [] = false
 is_merged (entry ∷ more) = is_ok entry.1.answer
 
+-- rule: marks
 -- Whether a part of the present batch was lost, after these parcels.
 abbrev pub lost_after : Bool → List Taking → Bool
 lost_after lost [] = lost
 lost_after lost (t ∷ ts) = lost_after (if t.parcel.1 then false else lost || not (is_merged t.told)) ts
 
+-- rule: marks
 -- the receipt of a batch
 abbrev pub receipt_for : Bool → Receipt
 receipt_for lost = if lost then Lost else Merged
 
+-- rule: marks
 -- A receipt is due after the last parcel of each batch: merged where no part of it was lost.
 abbrev pub receipts_due : Bool → List Taking → List Receipt
 receipts_due lost [] = []

@@ -158,6 +158,7 @@ module _ {E : Type 0} where
     pasts = v.pasts;
   }
 
+  -- rule: cuts
   -- the journal is cut, and shared, with what was cut before
   abbrev pub after_cut : Holding E → Holding E
   after_cut v = record {

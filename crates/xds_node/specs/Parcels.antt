@@ -27,6 +27,7 @@ packed (p ∷ ps) = (frame_bytes (batch_frame (by_type p)), length ps == 0) ∷ 
 abbrev pub parcels_of : List TypedWrite → List (List ℕ × Bool)
 parcels_of ws = packed (parts_of ws)
 
+-- rule: marks
 -- a batch that is told and the marks that it comes up to
 abbrev pub changed_in : Reply → PerType (List StampedWrite) × PerType ℕ
 changed_in (Changed b marks) = (b, marks)
@@ -37,6 +38,7 @@ abbrev pub parcels_in : {E : Type 0} → Result Reply E → List (List ℕ × Bo
 parcels_in (Ok r) = parcels_of (in_order (changed_in r).0)
 parcels_in (Err e) = []
 
+-- rule: marks
 -- the marks that an answer comes up to
 abbrev pub marks_in : {E : Type 0} → Result Reply E → PerType ℕ
 marks_in (Ok r) = (changed_in r).1

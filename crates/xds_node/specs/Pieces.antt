@@ -27,6 +27,7 @@ pub record Piece : Type 0 where
   pub records : List Record
   pub before : List (ℕ × Record)
 
+-- rule: cuts
 -- what is cut of a node
 abbrev pub piece_of : Books → Piece
 piece_of b = record { base = base_of b; first = length b.before + 1; records = b.journal; before = b.before }
@@ -42,6 +43,7 @@ pieces_entries ps = flat_map piece_entries ps
 abbrev pub piece_before : Piece → List (ℕ × Record)
 piece_before p = p.before
 
+-- rule: cuts
 -- It goes on where what was cut before it ends: those records, numbered from 1 on, make of the replica of this number, at which
 -- nothing happened, its base, and its first record has the next number.
 pub record GoesOn (replica : ℕ) (base : Core) (first : ℕ) (before : List (ℕ × Record)) : Type 0 where
@@ -51,6 +53,7 @@ pub record GoesOn (replica : ℕ) (base : Core) (first : ℕ) (before : List (�
   pub lawful : IsLegal (fresh replica) (records_of before)
   pub origin : base ≡ replayed (fresh replica) (records_of before)
 
+-- rule: cuts
 -- Each answer in it is the core's, it goes on where what was cut before it ends, and the token is the share of its records, behind
 -- what was cut before.
 pub record IsPiece (replica : ℕ) (base : Core) (first : ℕ) (records : List Record) (before : List (ℕ × Record)) (token : Holding Record) : Type 0 where
@@ -72,14 +75,17 @@ pub record Story : Type 0 where
 abbrev pub last_entries : Story → List (ℕ × Record)
 last_entries s = numbered (length s.before + 1) s.records
 
+-- rule: one-seat
 -- each entry that any of the seats was told was cut, or stands in the journal
 abbrev pub StandsInStory : Story → Type 0
 StandsInStory s = All (Contains (s.before ++ last_entries s)) s.told
 
+-- rule: cuts
 -- what was cut before each of these segments is what the node cut first
 abbrev pub BeginAsCut : Story → List Piece → Type 0
 BeginAsCut s ps = All (λ p. IsBeginning p.before s.before) ps
 
+-- rule: one-seat, rule: cuts
 -- One list of steps is all that happened: the records that were cut, numbered from 1 on, make of a replica at which nothing happened
 -- the base; the records since are answered as the replica answers there.
 pub record IsWhole (s : Story) : Type 0 where

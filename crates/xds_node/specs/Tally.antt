@@ -16,15 +16,18 @@ use Rattle.xds_node.specs.Entries.{weigh, SameEach, IsBeginning}
 use Rattle.xds_node.specs.Holdings.{recorded, with_entry, with_refused, with_seat, after_cut}
 
 module _ {E : Type 0} where
+  -- rule: one-seat
   -- only a keeper knows records, and only a seat is told any
   pub record IsIdle (v : Holding E) : Type 0 where
     pub apart : v.keepers ≡ 0 → (v.made ≡ 0) × (v.cut ≡ []) × (v.journal ≡ [])
     pub silent : v.seats ≡ 0 → v.told ≡ []
 
+  -- rule: one-seat
   -- some token has the entry in this list of its own
   abbrev pub StandsIn : (Holding E → List (ℕ × E)) → List (Holding E) → ℕ × E → Type 0
   StandsIn list views e = (i : ℕ) × (v : Holding E) × (get_elem? views i ≡ some v) × Contains (list v) e
 
+  -- rule: one-seat
   -- over all tokens one list weighs what another weighs, and each entry of the one stands in the other
   pub record Covers (known given : Holding E → List (ℕ × E)) (views : List (Holding E)) : Type 0 where
     pub same : (h : ℕ × E → ℕ) → weigh (λ v. weigh h (given v)) views ≡ weigh (λ v. weigh h (known v)) views
@@ -34,6 +37,7 @@ module _ {E : Type 0} where
   abbrev pub BeginsIn : List (Holding E) → List (ℕ × E) → Type 0
   BeginsIn views past = (i : ℕ) × (v : Holding E) × (get_elem? views i ≡ some v) × IsBeginning past v.cut
 
+  -- rule: one-seat
   -- there is one keeper, each seat made is a seat of some token, what all were told is what the keeper recorded, what all share is what
   -- it cut, and what was cut before a share is what it cut first
   pub record Balanced (views : List (Holding E)) : Type 0 where
@@ -44,12 +48,14 @@ module _ {E : Type 0} where
     pub pasts : (i : ℕ) (v : Holding E) → get_elem? views i ≡ some v → All (BeginsIn views) v.pasts
     pub idle : (i : ℕ) (v : Holding E) → get_elem? views i ≡ some v → IsIdle v
 
+  -- rule: one-seat
   -- what the keeper knows of one of its lists, and of what was given of it: no more was given, each entry that was given stands there, and where all was given, it is the same
   pub record IsPartOf (given known : List (ℕ × E)) (all : Type 0) : Type 0 where
     pub most : (h : ℕ × E → ℕ) → weigh h given ≤ weigh h known
     pub stands : All (Contains known) given
     pub whole : all → SameEach given known
 
+  -- rule: one-seat
   -- what the keeper knows of all tokens: what it was told is part of what is recorded, and all of it where it has every seat;
   -- what it shares is part of what was cut, and all of it where it shares as many entries; what was cut before each of its shares is
   -- what was cut first

@@ -24,6 +24,7 @@ pub record Calls : Type 0 where
 abbrev pub no_calls : Calls
 no_calls = record { told = []; refused = [] }
 
+-- rule: one-seat
 -- a call more, which was told this entry
 abbrev pub also_told : ℕ × Record → Calls → Calls
 also_told entry c = record { told = c.told ++ entry ∷ []; refused = c.refused }
@@ -32,10 +33,12 @@ also_told entry c = record { told = c.told ++ entry ∷ []; refused = c.refused 
 abbrev pub also_refused : Event → Refusal → Calls → Calls
 also_refused event refusal c = record { told = c.told; refused = c.refused ++ record { event = event; answer = Err refusal } ∷ [] }
 
+-- rule: one-seat
 -- it was told one entry more: this event and this answer, under a number above all before
 abbrev pub IsTold : List (ℕ × Record) → List (ℕ × Record) → Event → Result Reply Refusal → Type 0
 IsTold old new event answer = (n : ℕ) × (new ≡ old ++ (n, record { event = event; answer = answer }) ∷ []) × AllBelow n old
 
+-- rule: one-seat
 -- It was told one step of the replica of this number. There are the records of all that happened at that replica before, from nothing
 -- on, each answered as it answers there; all that was told before is among them; and this event has the next number, and the answer
 -- of the step that follows them.

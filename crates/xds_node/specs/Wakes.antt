@@ -18,6 +18,7 @@ use Rattle.xds_node.specs.declared.wakes.Wake.TheVariants.{Nobody, Writer, All}
 use Rattle.xds_node.specs.declared.desk.Due.{Due}
 use Rattle.xds_node.specs.declared.desk.Due.TheVariants.{Ready, Closed}
 
+-- rule: wake-ups
 -- A request or the end of a stream wakes that stream's writer alone, and a write all that may be owed something. A poll wakes nobody:
 -- it is the writer that polls.
 abbrev pub wakes : Event → Wake
@@ -33,6 +34,7 @@ wakes events.Snapshot = Nobody
 wakes (events.Rest t names version cluster) = Nobody
 wakes (events.Since marks) = Nobody
 
+-- rule: wake-ups
 -- a reply that tells that nothing changed
 abbrev pub changes_nothing : events.Reply → Bool
 changes_nothing (events.Merged grown) = grown == 0
@@ -46,26 +48,31 @@ changes_nothing (events.Entries b) = false
 changes_nothing (events.Rested d) = false
 changes_nothing (events.Changed b marks) = false
 
+-- rule: wake-ups
 -- the same by what the event was answered: where nothing changed it wakes nobody
 abbrev pub wakes_by : Wake → events.Reply → Wake
 wakes_by w r = if changes_nothing r then Nobody else w
 
+-- rule: wake-ups
 -- whether a poll of a stream would give a response, or be refused for want of a number; none where the stream isn't open
 abbrev pub due_at : Core → ℕ → Option Bool
 due_at c n = option_map (λ s. is_some (first_due c.store s types)) (finmap.get c.streams n)
 
+-- rule: wake-ups
 -- what a wait ends by: it ends once something is due, or the stream isn't open
 abbrev pub wait_ends : Option Bool → Option Due
 wait_ends None = Some Closed
 wait_ends (Some true) = Some Ready
 wait_ends (Some false) = None
 
+-- rule: wake-ups
 -- a writer whose stream is owed nothing isn't woken
 abbrev pub if_due : Option Bool → Wake → Wake
 if_due None w = w
 if_due (Some true) w = w
 if_due (Some false) w = Nobody
 
+-- rule: wake-ups
 abbrev pub narrowed : Core → Wake → Wake
 narrowed c Nobody = Nobody
 narrowed c (Writer n) = if_due (due_at c n) (Writer n)

@@ -32,6 +32,7 @@ abbrev pub IsTriedInVain : Event → Refusal → List Record → Type 0
 IsTriedInVain event e tries =
     ((e ≡ OutOfMemory) × (tries ≡ in_vain event e ∷ [])) ⊎ (LeavesNoRecord e × (tries ≡ in_vain event JournalFull ∷ in_vain event e ∷ []))
 
+-- rule: cuts
 -- An event is tried once, and once more exactly where the journal was full: these tries of it left no record, and it is recorded then,
 -- or it isn't, for this refusal.
 abbrev pub IsTried : {T : Type 0} → Event → Result T Refusal → List Record → Type 0

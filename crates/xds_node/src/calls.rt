@@ -12,6 +12,7 @@ use std::sync::Wait;
 use xds_core::{Event, Reply};
 use xds_resource::Refusal;
 
+// rule: cuts
 /// One event of a seat, as [`Host::call`] makes it. Where the journal is full it is cut, unless another thread has done so, the gate
 /// keeps the segment, and the event is tried once more. So `JournalFull` comes only where that was in vain, and else `OutOfMemory`, where there
 /// was no memory; then no record is left. An event is never tried thrice, and never twice but where the journal was full.

@@ -113,6 +113,7 @@ impl<N: NodeName> Desk<N> {
         }
     }
 
+    // rule: one-seat
     /// A seat more, which made no call. `CounterSpent` where no more can be counted.
     pub fn seat(&mut self, tokens: &Tokens<Line, N>) -> Result<Seat<N>, Refusal>
         ensures ok { IfOk result (λ s. (s ≡ no_calls) × (self.new ≡ with_seat self.old)) }
@@ -126,6 +127,7 @@ impl<N: NodeName> Desk<N> {
         Ok(Seat::of(tokens.seat(&mut self.token)))
     }
 
+    // rule: one-seat, rule: cuts
     /// One event of a seat: one step of the replica, and one record at the end of the journal. The answer is the step's,
     /// a refusal or not. No record is left, and nothing changes but that the seat keeps the event and why, where the journal is full
     /// (`JournalFull`) or there is no memory (`OutOfMemory`); then the event comes back.
@@ -167,6 +169,7 @@ impl<N: NodeName> Desk<N> {
         }
     }
 
+    // rule: cuts
     /// Hands out the journal and its base, and begins anew from a copy of the present replica. Refused only by
     /// `OutOfMemory`; then nothing changes.
     pub fn cut(&mut self, tokens: &Tokens<Line, N>) -> Result<Segment<N>, Refusal>
@@ -186,6 +189,7 @@ impl<N: NodeName> Desk<N> {
         })
     }
 
+    // rule: one-seat
     /// The end: the records since the last cut, and whether all seats are handed in.
     pub fn close(self, tokens: Tokens<Line, N>, seats: Vec<Seat<N>>) -> History<N>
         ensures base { result.base ≡ base_of self }
@@ -225,6 +229,7 @@ impl<N: NodeName> Desk<N> {
         }
     }
 
+    // rule: wake-ups
     /// What a wait for a stream ends by now; where by nothing, its writer counts as one that waits.
     pub fn await_due(&mut self, stream: u64) -> Option<Due>
         ensures due { result ≡ wait_ends (due_at (present self.old) stream) }
@@ -240,6 +245,7 @@ impl<N: NodeName> Desk<N> {
         }
     }
 
+    // rule: wake-ups
     /// From here on no writer is told that something is due, until whoever holds them back releases them. It is no event.
     pub fn hold(&mut self)
         ensures { self.new ≡ self.old }
@@ -252,6 +258,7 @@ impl<N: NodeName> Desk<N> {
         self.holders != 0
     }
 
+    // rule: wake-ups
     /// The writer of this stream waits, too.
     pub fn note_waiting(&mut self, stream: u64)
         ensures { self.new ≡ self.old }
@@ -259,6 +266,7 @@ impl<N: NodeName> Desk<N> {
         self.waiting.add(stream);
     }
 
+    // rule: wake-ups
     /// The writer of a stream was woken. Answers the lane that is to be woken after it, if there is one.
     pub fn was_woken(&mut self, stream: u64) -> Option<usize>
         ensures { self.new ≡ self.old }
@@ -267,6 +275,7 @@ impl<N: NodeName> Desk<N> {
         self.waiting.next()
     }
 
+    // rule: wake-ups
     /// One holds them back no longer. Answers the lanes in which writers wait that are to be woken first, where none does.
     pub fn release(&mut self) -> LaneSet
         ensures { self.new ≡ self.old }
@@ -275,6 +284,7 @@ impl<N: NodeName> Desk<N> {
         self.woken(Wake::All)
     }
 
+    // rule: cuts
     /// Whether the journal has no room for one more record.
     pub fn is_full(&self) -> bool
         ensures { MatchBool result (IsFull self.now) (¬ IsFull self.now) }
@@ -282,6 +292,7 @@ impl<N: NodeName> Desk<N> {
         is_full(self.journal.len(), self.cut)
     }
 
+    // rule: wake-ups
     /// Whom an event wakes, but for a writer whose stream is owed nothing.
     pub fn narrowed(&self, wake: Wake) -> Wake
         ensures { result ≡ narrowed (present self.now) wake }
@@ -295,6 +306,7 @@ impl<N: NodeName> Desk<N> {
         }
     }
 
+    // rule: wake-ups
     /// The lanes in which writers wait that are to be woken first, where an event wakes all of them and nobody holds them back.
     pub fn woken(&mut self, wake: Wake) -> LaneSet
         ensures { self.new ≡ self.old }
@@ -311,6 +323,7 @@ impl<N: NodeName> Desk<N> {
         }
     }
 
+    // rule: wake-ups
     /// From here on nobody waits for changes. It is no event.
     pub fn stop(&mut self)
         ensures { self.new ≡ self.old }
@@ -331,6 +344,7 @@ impl<N: NodeName> Desk<N> {
     }
 }
 
+// rule: cuts
 // Whether a journal of so many records, after so many that were cut, has no room for one more.
 fn is_full(records: usize, cut: u64) -> bool
     requires { cut + records ≤ max_counter }

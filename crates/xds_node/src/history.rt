@@ -72,6 +72,7 @@ impl<N: NodeName> History<N> {
         self.records.as_slice()
     }
 
+    // rule: cuts
     /// How many records were cut before.
     pub fn cut(&self) -> u64
         ensures { result ≡ length self.now.before }
@@ -79,6 +80,7 @@ impl<N: NodeName> History<N> {
         self.cut
     }
 
+    // rule: cuts
     /// Whether these segments, in this order, hold just the records from 1 up to the first one that the history has.
     pub fn follows(&self, segments: &[Segment<N>]) -> bool
         ensures { MatchBool result
@@ -97,6 +99,7 @@ impl<N: NodeName> History<N> {
         self.complete
     }
 
+    // rule: cuts
     /// The end of the history, by these segments: `Gap` where they, in this order, don't begin with record 1 and join
     /// without a gap up to the first record that the history has. Either way what was cut before each of them is what the node cut
     /// first.
@@ -124,6 +127,7 @@ impl<N: NodeName> History<N> {
     }
 }
 
+// rule: cuts
 // Whether segments hold just the records from 1 up to this number, in order.
 fn are_in_order<N: NodeName>(segments: &[Segment<N>], last: u64) -> bool
     ensures { MatchBool result (Counted 1 (pieces_entries segments.now) × (length (pieces_entries segments.now) ≡ last)) (Counted 1 (pieces_entries segments.now) → length (pieces_entries segments.now) ≡ last → ⊥) }
@@ -139,6 +143,7 @@ fn are_in_order<N: NodeName>(segments: &[Segment<N>], last: u64) -> bool
     left == 0
 }
 
+// rule: cuts
 // How many records are left to come after a segment of so many, if it has no more of them and begins with the next.
 fn left_after(last: u64, left: u64, first: u64, records: u64) -> Option<u64>
     requires { left ≤ last }

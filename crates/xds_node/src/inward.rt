@@ -55,6 +55,7 @@ pub fn exchange_in<H: Host, G: Gate<H::Segment>, R: Wait>(
     unreachable!()
 }
 
+// rule: marks
 // Merges a parcel. Answers 1 where it was dropped, and whether it was merged.
 fn merge<H: Host, G: Gate<H::Segment>, R: Wait>(
     rt: &R,
@@ -77,6 +78,7 @@ fn merge<H: Host, G: Gate<H::Segment>, R: Wait>(
     }
 }
 
+// rule: marks
 // Puts the receipt of a batch behind its last parcel. Answers whether the receipts' channel has its other end, as far as
 // that is known.
 fn acknowledge<R: Wait>(
@@ -99,6 +101,7 @@ fn acknowledge<R: Wait>(
     }
 }
 
+// rule: marks
 fn receipt_for(lost: bool) -> Receipt
     ensures { result ≡ receipt_for lost }
 {

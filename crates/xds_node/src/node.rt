@@ -40,6 +40,7 @@ impl<N: NodeName> Drop for Node<N> {
 }
 
 impl<N: NodeName> Node<N> {
+    // rule: new-numbers
     /// A node whose replica has this number, from 1, which its name says too, and at which nothing happened. Refused only by
     /// `OutOfMemory`.
     pub fn new(alloc: Global, opened: Opened<Line>, replica: u16) -> Result<Node<N>, Refusal>
@@ -58,6 +59,7 @@ impl<N: NodeName> Node<N> {
         })
     }
 
+    // rule: one-seat
     /// A seat, which made no call. `CounterSpent` where no more can be counted. It may wait for the lock.
     pub fn seat<R: Wait>(&self, rt: &R) -> Result<Seat<N>, Refusal>
         ensures ok { IfOk result (λ s. s ≡ no_calls) }
@@ -66,6 +68,7 @@ impl<N: NodeName> Node<N> {
         self.desk.lock(rt).seat(&self.tokens)
     }
 
+    // rule: wake-ups, rule: one-seat
     /// One event of a seat: one step of the replica, and one record. It may wait for the lock. What the seat is told is a step of the
     /// one replica of this node, after all that happened there before; where no record is left, the seat keeps the event and why.
     pub fn call<R: Wait>(
@@ -92,6 +95,7 @@ impl<N: NodeName> Node<N> {
         answer
     }
 
+    // rule: wake-ups
     /// Waits until a poll of a stream would give a response, or be refused by `NonceSpent`, or the stream isn't open. Where many are to
     /// be woken, each wakes the next. It is no event.
     pub fn wait_due<R: Wait>(&self, rt: &R, stream: u64) -> Due {
@@ -118,12 +122,14 @@ impl<N: NodeName> Node<N> {
         self.desk.lock(rt).hold();
     }
 
+    // rule: wake-ups
     /// Ends what [`Node::hold`] began, and wakes the writers that wait. It is no event. It may wait for the lock.
     pub fn release<R: Wait>(&self, rt: &R) {
         let first = self.desk.lock(rt).release();
         self.lanes.wake(Wake::All, first);
     }
 
+    // rule: wake-ups
     /// Waits until the counts of changes differ from these, and answers them; none once the node was stopped. It is no
     /// event.
     pub fn wait_changed<R: Wait>(&self, rt: &R, seen: Marks) -> Option<Marks>
@@ -143,12 +149,14 @@ impl<N: NodeName> Node<N> {
         unreachable!()
     }
 
+    // rule: wake-ups
     /// Ends all waiting for changes, now and from here on. It is no event, and the node is called as before.
     pub fn stop<R: Wait>(&self, rt: &R) {
         self.desk.lock(rt).stop();
         self.lanes.changed().notify_all();
     }
 
+    // rule: cuts
     /// The same where the journal is full, and none where it isn't, as where another thread has cut it meanwhile. Refused only by
     /// `OutOfMemory`; then nothing changes. It may wait for the lock.
     pub fn cut_full<R: Wait>(&self, rt: &R) -> Result<Option<Segment<N>>, Refusal>
@@ -166,6 +174,7 @@ impl<N: NodeName> Node<N> {
         }
     }
 
+    // rule: cuts
     /// Hands out base and journal, and begins anew from a copy of the present replica. Refused only by `OutOfMemory`; then
     /// nothing changes. It may wait for the lock.
     pub fn cut<R: Wait>(&self, rt: &R) -> Result<Segment<N>, Refusal>
@@ -176,6 +185,7 @@ impl<N: NodeName> Node<N> {
         self.desk.lock(rt).cut(&self.tokens)
     }
 
+    // rule: one-seat
     /// The end of the node, by these seats. Whether they are all that were made or not, each record that they were told was cut, or
     /// is the history's.
     pub fn close(self, seats: Vec<Seat<N>>) -> History<N>
@@ -195,6 +205,7 @@ impl<N: NodeName> Node<N> {
     }
 }
 
+// rule: wake-ups
 pub(crate) fn differ(marks: Marks, seen: Marks) -> bool
     ensures { MatchBool result (counts_of marks ≢ counts_of seen) (counts_of marks ≡ counts_of seen) }
 {

@@ -84,6 +84,7 @@ fn nothing() -> Marks
     }
 }
 
+// rule: marks
 // What counts as seen after a turn: what the peer was told, which is nothing where the batch was lost, so that it is told again at
 // once. Once it was lost too often in a row, these marks.
 fn seen_after(told: Marks, marks: Marks, again: &mut u64) -> Marks {
@@ -99,6 +100,7 @@ fn seen_after(told: Marks, marks: Marks, again: &mut u64) -> Marks {
     marks
 }
 
+// rule: marks
 // Tells the peer what changed after its marks. Answers whether the channels have their other ends.
 fn tell<H: Host, G: Gate<H::Segment>, R: Wait>(
     rt: &R,
@@ -135,6 +137,7 @@ fn tell<H: Host, G: Gate<H::Segment>, R: Wait>(
     }
 }
 
+// rule: marks
 // How a turn ends whose batch isn't sent.
 fn given_up(unsent: Unsent) -> Result<bool, Refusal>
     ensures { result ≡ given_up unsent }
@@ -145,6 +148,7 @@ fn given_up(unsent: Unsent) -> Result<bool, Refusal>
     }
 }
 
+// rule: marks
 // The batch that is told, and the marks that it comes up to.
 fn changed_in(alloc: Global, reply: Reply) -> (Batch, Marks)
     ensures batch { result.0 ≡ (changed_in (reply_of reply)).0 }
@@ -156,6 +160,7 @@ fn changed_in(alloc: Global, reply: Reply) -> (Batch, Marks)
     }
 }
 
+// rule: marks
 // Puts all parcels of a batch, and takes the receipt. A batch without parcels counts as merged.
 fn settle<R: Wait>(
     rt: &R,

@@ -47,6 +47,7 @@ pub fn next_request(alloc: Global, decoder: &mut Decoder) -> Result<Option<Reque
     }
 }
 
+// rule: whole-frames
 /// Reads a piece, where there is less than a frame. Answers whether there was one; there is none at the end of the input.
 /// `Truncated` where that comes within a frame, and `Device` where the call of the reader failed.
 pub fn fill<R: Read>(decoder: &mut Decoder, reader: &mut Counted<R>) -> Result<bool, Refusal>

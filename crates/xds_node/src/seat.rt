@@ -51,6 +51,7 @@ impl<N: NodeName> Seat<N> {
         Seat { token }
     }
 
+    // rule: one-seat
     /// Tells it a record that the keeper adds to its journal. All that it was told before is recorded.
     pub fn tell(
         &mut self,
@@ -76,6 +77,7 @@ impl<N: NodeName> Seat<N> {
     }
 }
 
+// rule: one-seat
 /// Puts seats into a token.
 pub fn gather<N: NodeName>(
     tokens: &Tokens<Line, N>,

@@ -46,6 +46,7 @@ impl<N: NodeName> Segment<N> {
         &self.base
     }
 
+    // rule: cuts
     /// The number of the first record. The node's first record has the number 1.
     pub fn first(&self) -> u64
         ensures { result ≡ self.now.first }

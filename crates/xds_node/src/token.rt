@@ -95,6 +95,7 @@ impl<E, N: NodeName> Tokens<E, N> {
         }
     }
 
+    // rule: one-seat
     /// Puts a token into another. Only the keeper may not be given away.
     pub fn give(&self, token: &mut Token<E, N>, other: Token<E, N>)
         requires { other.keepers ≡ 0 }
@@ -104,6 +105,7 @@ impl<E, N: NodeName> Tokens<E, N> {
         self.table.shared.join_seat::<Give>(&mut token.seat, seat);
     }
 
+    // rule: one-seat
     /// Adds an entry to the journal, and to what the keeper's seats were told, in one step.
     pub fn append(&self, token: &mut Token<E, N>, number: u64, entry: &E)
         requires { (token.old.keepers ≡ 1) × (0 < token.old.seats) }
@@ -125,6 +127,7 @@ impl<E, N: NodeName> Tokens<E, N> {
             .compare_exchange_with::<Note>(&mut token.seat, 0, 0, 0, refused);
     }
 
+    // rule: one-seat
     /// Makes one more seat, which was told nothing. The keeper has it.
     pub fn sit(&self, token: &mut Token<E, N>)
         requires { token.old.keepers ≡ 1 }
@@ -133,6 +136,7 @@ impl<E, N: NodeName> Tokens<E, N> {
         let _found = self.table.shared.load::<Sit>(&mut token.seat, 0);
     }
 
+    // rule: cuts
     /// Cuts the journal. The keeper has the share of it, and what was cut before.
     pub fn cut(&self, token: &mut Token<E, N>)
         requires { token.old.keepers ≡ 1 }
@@ -150,6 +154,7 @@ impl<E, N: NodeName> Tokens<E, N> {
         let _found = self.table.shared.load::<Look>(&mut token.seat, 0);
     }
 
+    // rule: one-seat
     /// Makes one more seat, which was told nothing, and hands it out.
     pub fn seat(&self, token: &mut Token<E, N>) -> Token<E, N>
         requires { IsAlone token.old }
@@ -160,6 +165,7 @@ impl<E, N: NodeName> Tokens<E, N> {
         self.lend(token)
     }
 
+    // rule: one-seat
     /// Adds an entry to the keeper's journal, and tells it to a seat, in one step. All that the seat was told before is recorded.
     pub fn tell(&self, token: &mut Token<E, N>, seat: &mut Token<E, N>, number: u64, entry: &E)
         requires kept { IsAlone token.old }
@@ -176,6 +182,7 @@ impl<E, N: NodeName> Tokens<E, N> {
         self.give(seat, back);
     }
 
+    // rule: cuts
     /// Cuts the keeper's journal, and hands out the share of it, with what was cut before.
     pub fn share(&self, token: &mut Token<E, N>) -> Token<E, N>
         requires { IsAlone token.old }

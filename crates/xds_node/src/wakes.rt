@@ -23,6 +23,7 @@ pub enum Wake {
 }
 
 impl Wake {
+    // rule: wake-ups
     /// Whom an event wakes: a request or the end of a stream that stream's writer, and a write all that may be owed something. A
     /// poll wakes nobody: it is the writer that polls.
     pub fn by(event: &Event) -> Wake
@@ -43,6 +44,7 @@ impl Wake {
         }
     }
 
+    // rule: wake-ups
     /// The same by what the event was answered: a merge that changed nothing wakes nobody.
     pub fn answered(self, reply: &Reply) -> Wake
         ensures { result ≡ wakes_by self (reply_of reply.now) }
@@ -58,6 +60,7 @@ impl Wake {
 /// ask for the node's lock at once.
 pub const WOKEN: usize = 8;
 
+// rule: wake-ups
 fn lane_of(stream: u64) -> usize
     ensures { result < 1024 }
 {
@@ -130,18 +133,21 @@ impl Waiting {
         })
     }
 
+    // rule: wake-ups
     /// The writer of this stream waits, too.
     pub fn add(&mut self, stream: u64) {
         let count = &mut self.counts[lane_of(stream)];
         *count = count.saturating_add(1);
     }
 
+    // rule: wake-ups
     /// The writer of this stream waits no longer.
     pub fn remove(&mut self, stream: u64) {
         let count = &mut self.counts[lane_of(stream)];
         *count = count.saturating_sub(1);
     }
 
+    // rule: wake-ups
     /// All that wait are to be woken.
     pub fn call(&mut self) {
         for lane in 0..LANES {
@@ -151,6 +157,7 @@ impl Waiting {
         }
     }
 
+    // rule: wake-ups
     /// A lane that is to be woken, where one waits: it is woken now.
     pub fn next(&mut self) -> Option<usize>
         ensures { IfSome result (λ lane. lane < 1024) }
@@ -164,6 +171,7 @@ impl Waiting {
         None
     }
 
+    // rule: wake-ups
     /// The first lanes that are to be woken. Whoever waits there wakes the others, one lane after another.
     pub fn first(&mut self) -> LaneSet {
         let mut first = LaneSet::new();
@@ -203,6 +211,7 @@ impl Lanes {
         &self.changed
     }
 
+    // rule: wake-ups
     /// Wakes those that an event wakes, and of all writers that wait those in these lanes.
     pub fn wake(&self, wake: Wake, first: LaneSet) {
         match wake {
@@ -215,6 +224,7 @@ impl Lanes {
         }
     }
 
+    // rule: wake-ups
     fn wake_each(&self, lanes: LaneSet) {
         let mut left = lanes;
         for _ in 0..LANES {
@@ -225,6 +235,7 @@ impl Lanes {
         }
     }
 
+    // rule: wake-ups
     /// Wakes whoever waits in a lane.
     pub fn wake_lane(&self, lane: Option<usize>) {
         if let Some(lane) = lane {
@@ -255,6 +266,7 @@ fn lanes_of(writers: Vec<Condvar>) -> Lanes
     }
 }
 
+// rule: wake-ups
 fn writers(alloc: Global) -> Result<Vec<Condvar>, Refusal>
     ensures ok { IfOk result (λ v. vec_len v ≡ 1024) }
     ensures refused { IfErr result (λ e. e ≡ OutOfMemory) }

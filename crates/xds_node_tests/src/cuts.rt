@@ -84,6 +84,7 @@ fn cuts<N: NodeName, R: Wait>(
     cut_twice(rt, alloc, Node::<N>::new(alloc, opened, 1))
 }
 
+// rule: cuts
 #[test]
 fn each_record_is_handed_out_once(rt: HostRuntime) -> Result<(), Fail> {
     let opened = Opened::<Line>::new(rt.alloc())?;
@@ -101,6 +102,7 @@ fn each_record_is_handed_out_once(rt: HostRuntime) -> Result<(), Fail> {
     Ok(())
 }
 
+// rule: cuts
 #[test]
 fn each_segment_begins_where_the_one_before_it_ends(rt: HostRuntime) -> Result<(), Fail> {
     let opened = Opened::<Line>::new(rt.alloc())?;

@@ -88,6 +88,7 @@ fn audits<N: NodeName, R: Wait>(
     audited(rt, alloc, Node::<N>::new(alloc, opened, 1), order)
 }
 
+// rule: cuts
 #[test]
 fn segments_are_all_that_was_cut(rt: HostRuntime) -> Result<(), Fail> {
     let opened = Opened::<Line>::new(rt.alloc())?;
@@ -98,6 +99,7 @@ fn segments_are_all_that_was_cut(rt: HostRuntime) -> Result<(), Fail> {
     Ok(())
 }
 
+// rule: cuts
 #[test]
 fn a_segment_that_is_missing_is_a_gap(rt: HostRuntime) -> Result<(), Fail> {
     let opened = Opened::<Line>::new(rt.alloc())?;
@@ -108,6 +110,7 @@ fn a_segment_that_is_missing_is_a_gap(rt: HostRuntime) -> Result<(), Fail> {
     Ok(())
 }
 
+// rule: cuts
 #[test]
 fn segments_in_another_order_are_a_gap(rt: HostRuntime) -> Result<(), Fail> {
     let opened = Opened::<Line>::new(rt.alloc())?;
@@ -166,6 +169,7 @@ fn has_both_seats<N: NodeName, R: Wait>(
     two_of_two(rt, alloc, Node::<N>::new(alloc, opened, 1))
 }
 
+// rule: one-seat
 #[test]
 fn each_call_makes_one_seat(rt: HostRuntime) -> Result<(), Fail> {
     let opened = Opened::<Line>::new(rt.alloc())?;
@@ -176,6 +180,7 @@ fn each_call_makes_one_seat(rt: HostRuntime) -> Result<(), Fail> {
     Ok(())
 }
 
+// rule: one-seat
 #[test]
 fn without_a_seat_it_is_not_complete(rt: HostRuntime) -> Result<(), Fail> {
     let opened = Opened::<Line>::new(rt.alloc())?;

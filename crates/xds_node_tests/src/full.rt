@@ -110,6 +110,7 @@ fn fills_up<N: NodeName, R: Wait>(
     full(rt, alloc, Node::<N>::new(alloc, opened, 1))
 }
 
+// rule: cuts
 #[test]
 fn a_full_journal_takes_no_record_until_it_is_cut(rt: HostRuntime) -> Result<(), Fail> {
     let opened = Opened::<Line>::new(rt.alloc())?;

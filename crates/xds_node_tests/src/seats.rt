@@ -165,6 +165,7 @@ fn four_seats<N: NodeName + Send + Sync, R: Threads + Wait + Sync>(
     four(alloc, node, done)
 }
 
+// rule: one-seat
 #[test]
 fn four_seats_are_told_each_counter_once(rt: HostRuntime) -> Result<(), Fail> {
     let opened = Opened::<Line>::new(rt.alloc())?;
@@ -202,6 +203,7 @@ fn finds_its_write<N: NodeName, R: Wait>(
     found(rt, alloc, Node::<N>::new(alloc, opened, 7))
 }
 
+// rule: one-seat
 #[test]
 fn a_seat_reads_what_it_wrote(rt: HostRuntime) -> Result<(), Fail> {
     let opened = Opened::<Line>::new(rt.alloc())?;

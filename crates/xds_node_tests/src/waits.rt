@@ -134,6 +134,7 @@ fn holds<N: NodeName + Send + Sync, R: Threads + Wait + Sync>(
     count
 }
 
+// rule: wake-ups
 #[test]
 fn a_writer_that_is_held_back_finds_all_changes(rt: HostRuntime) -> Result<(), Fail> {
     let opened = Opened::<Line>::new(rt.alloc())?;
@@ -156,6 +157,7 @@ fn waits<N: NodeName + Send + Sync, R: Threads + Wait + Sync>(
     outcome
 }
 
+// rule: wake-ups
 #[test]
 fn waits_end_by_what_others_do(rt: HostRuntime) -> Result<(), Fail> {
     let opened = Opened::<Line>::new(rt.alloc())?;

@@ -105,6 +105,7 @@ pub fn show_content<T: ResourceType>(
     push_writes(alloc, text, &live)
 }
 
+// rule: tombstones
 // The writes that put a resource.
 fn live_among<T: ResourceType>(
     alloc: Global,

@@ -36,6 +36,7 @@ held_of xs t = joined nothing_held (writes_of t xs)
 abbrev pub objects_of : List StampedWrite → List Data
 objects_of ws = filter_map (λ w. option_map value_of w.body) ws
 
+-- rule: nonce-numbers
 -- the response with this content, to a client of this interest
 abbrev pub response_with : ℕ → TypeName → ℕ → Selection → List StampedWrite → Response
 response_with replica t changes s shown = record {

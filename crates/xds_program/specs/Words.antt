@@ -99,6 +99,7 @@ pub record AsksServe (rows : List Row) (task : ServeTask) : Type 0 where
   pub alone : is_alone task.admin_port task.port task.rest_port task.replicas ≡ true
   pub apart : are_apart task.port task.rest_port task.replicas ≡ true
 
+-- rule: new-numbers
 -- each of so many replicas has a number, where the first has this one
 abbrev pub has_numbers : Option ℕ → ℕ → Bool
 has_numbers None replicas = true

@@ -148,6 +148,7 @@ fn respond_of(
     }
 }
 
+// rule: groups
 // The text of the cluster of the node that a request comes from, empty where it has none.
 fn cluster_of(alloc: Global, request: &DiscoveryRequest) -> Result<ClusterText, Refusal>
     ensures ok { IfOk result (λ c. c ≡ cluster_in request.now.node) }
@@ -189,6 +190,7 @@ fn is_answered<T: ResourceType>(shown: &[&Write<T>]) -> bool
     T::TYPE.is_complete() || !shown.is_empty()
 }
 
+// rule: nonce-numbers
 // The first response of a stream, to a client that sees these.
 fn first_response<T: ResourceType>(
     alloc: Global,

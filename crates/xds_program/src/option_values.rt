@@ -146,6 +146,7 @@ fn serving(given: &ArgMatches) -> Option<ServeTask>
     }
 }
 
+// rule: new-numbers
 // Whether each replica has a number, where the first has this one.
 pub(crate) fn has_numbers(first: Option<u16>, replicas: u16) -> bool
     ensures { result ≡ has_numbers first replicas }

@@ -93,6 +93,7 @@ fn wrong_port(given: &ArgMatches) -> WrongValue
     }
 }
 
+// rule: new-numbers
 fn wrong_number(given: &ArgMatches, replicas: u16) -> WrongValue
     requires { IsNumber (rows_of (found_of given.now)) (codes "replicas") replicas }
     ensures { Blames (rows_of (found_of given.now)) result }

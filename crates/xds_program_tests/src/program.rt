@@ -169,6 +169,7 @@ answer
     )
 }
 
+// rule: greatest-write
 #[test]
 fn the_greatest_write_of_a_name_stands(rt: HostRuntime) -> Result<(), Fail> {
     hold_stories::<Run, HostRuntime>(
@@ -202,6 +203,7 @@ const GROUPED: &str = r#"{"body":{"@type":"CDS","name":"a"},"counter":1,"groups"
     {"body":{"@type":"CDS","name":"c"},"counter":3,"groups":["g2"],"name":"c",
     "typeUrl":"CDS","writer":1}~"#;
 
+// rule: star-covers, rule: groups
 #[test]
 fn the_star_covers_what_is_open_to_the_cluster(rt: HostRuntime) -> Result<(), Fail> {
     hold_stories::<Run, HostRuntime>(
@@ -277,6 +279,7 @@ answer
     )
 }
 
+// rule: star-covers
 #[test]
 fn secrets_are_answered_by_name(rt: HostRuntime) -> Result<(), Fail> {
     hold_stories::<Run, HostRuntime>(

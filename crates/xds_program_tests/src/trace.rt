@@ -78,6 +78,8 @@ close 1
     )
 }
 
+// rule: awaited-names, rule: whole-response, rule: covered-only, rule: no-live-removal
+// rule: best-writes, rule: one-unanswered, rule: refused-offer, rule: new-nonce
 #[test]
 fn the_first_broken_rule_is_told(rt: HostRuntime) -> Result<(), Fail> {
     hold_stories::<Run, HostRuntime>(

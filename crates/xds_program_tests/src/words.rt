@@ -172,6 +172,7 @@ Check => wrong",
     )
 }
 
+// rule: new-numbers
 #[test]
 fn words_ask_for_servers(rt: HostRuntime) -> Result<(), Fail> {
     hold::<Asked, HostRuntime>(
@@ -308,6 +309,7 @@ fn tells(rt: &HostRuntime, given: &str, part: &str) -> Result<(), Fail> {
     Err(Fail::new(format_args!("{told} and not {part}")))
 }
 
+// rule: new-numbers
 #[test]
 fn the_option_that_is_wrong_is_named(rt: HostRuntime) -> Result<(), Fail> {
     let addr = "error: --addr: an address of IPv4 and a port, as 127.0.0.1:18000; for localhost \

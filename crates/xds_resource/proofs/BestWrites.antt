@@ -90,22 +90,26 @@ module _ {K : Type 0} {R : K → K → Ordering} (o : IsTotalOrder R) where
         both_below _ _ (max_below a (ord_max R b c) _ a_left (max_below b c _ b_left (right_below_max (ord_max R a b) c)))
         (max_below (ord_max R a b) c _ (max_below a b _ (left_below_max a (ord_max R b c)) b_right) c_right)
 
+-- rule: greatest-write
 pub greater-comm : (a b : Option StampedWrite) → greater a b ≡ greater b a
 greater-comm None None = refl
 greater-comm None (Some w) = refl
 greater-comm (Some v) None = refl
 greater-comm (Some v) (Some w) = ap Some (ord_max-comm write_cmp_total write_cmp-IsAntisymmetric v w)
 
+-- rule: greatest-write
 pub greater-idem : (a : Option StampedWrite) → greater a a ≡ a
 greater-idem None = refl
 greater-idem (Some v) = ap Some (ord_max-idem write_cmp_total write_cmp-IsAntisymmetric v)
 
+-- rule: greatest-write
 pub greater-assoc : (a b c : Option StampedWrite) → greater a (greater b c) ≡ greater (greater a b) c
 greater-assoc None b c = refl
 greater-assoc (Some u) None c = refl
 greater-assoc (Some u) (Some v) None = refl
 greater-assoc (Some u) (Some v) (Some w) = ap Some (ord_max-assoc write_cmp_total write_cmp-IsAntisymmetric u v w)
 
+-- rule: greatest-write
 pub best_of_both : (v w : List StampedWrite) (name : List ℕ) → BestOfBoth v w name
 best_of_both [] w name = refl
 best_of_both (x ∷ v) w name = ap (greater (if_named name x)) (best_of_both v w name) ∙ greater-assoc (if_named name x) (best v name) (best w name)
@@ -172,6 +176,7 @@ greatest_with w ws name true e (Some g) is =
       ];
     }
 
+-- rule: greatest-write
 pub best_is_greatest : (ws : List StampedWrite) (name : List ℕ) → BestIsGreatest ws name
 best_is_greatest [] name = λ v h same. absurd (omega (arith, h.1))
 best_is_greatest (w ∷ ws) name = greatest_with w ws name (bytes_eq w.name name) refl (best ws name) (best_is_greatest ws name)
@@ -187,6 +192,7 @@ greatest_of_same v w name same (Some a) (Some b) one two =
     (not_gt _ (two.unsurpassed a ((same a).0 one.listed) one.named))
     (not_gt _ (one.unsurpassed b ((same b).1 two.listed) two.named)))
 
+-- rule: greatest-write
 -- the best depends on which writes there are alone
 pub best_of_same_writes : (v w : List StampedWrite) (name : List ℕ) → SameWrites v w → best v name ≡ best w name
 best_of_same_writes v w name same = greatest_of_same v w name same (best v name) (best w name) (best_is_greatest v name) (best_is_greatest w name)

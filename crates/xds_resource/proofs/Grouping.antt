@@ -90,6 +90,7 @@ has_group-placed t (x ∷ ts) q =
       | Greater ↦ λ is. ap (λ b. bytes_eq q x || b) (has_group-placed t ts q) ∙ or_swap (bytes_eq q x) (bytes_eq q t) (has_group ts q)
     ] refl
 
+-- rule: groups
 -- what is among the groups is what is among the texts
 pub has_group-grouped : (ts : Texts) (q : List ℕ) → has_group (grouped ts) q ≡ has_group ts q
 has_group-grouped [] q = refl
@@ -139,9 +140,11 @@ by_keys : (es : List (List ℕ × Unit {0})) → map (λ k. (k, tt {0})) (map (�
 by_keys [] = refl
 by_keys (e ∷ es) = ap (λ l. e ∷ l) (by_keys es)
 
+-- rule: groups
 pub grouped-ascend : (ts : Texts) → Ascend (grouped ts)
 grouped-ascend ts = subst (λ es. T (is_sorted text_cmp es)) (sym (by_keys (finmap.entries (keyed ts))) ∙ ap (map (λ k. (k, tt {0}))) (keys-keyed ts)) (finmap.entries_sorted (keyed ts))
 
+-- rule: groups
 pub grouped-again : (ts : Texts) → grouped (grouped ts) ≡ grouped ts
 grouped-again ts = grouped_same (grouped ts) ts (has_group-grouped ts)
 

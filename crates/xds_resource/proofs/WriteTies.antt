@@ -54,6 +54,7 @@ compared v w stamps bodies groups names first second third s b g n one two three
     three ∙ (λ i. ordering_then (second_is i) (n i)) ∙ then_assoc (ordering_then (ordering_then counter writer) body) group name
     ∙ then_assoc (ordering_then counter writer) body (ordering_then group name) ∙ then_assoc counter writer (ordering_then body (ordering_then group name))
 
+-- rule: greatest-write
 pub write_cmp-IsAntisymmetric : IsAntisymmetric write_cmp
 write_cmp-IsAntisymmetric v w e =
     let counters = ordering_then-Equal _ _ e in

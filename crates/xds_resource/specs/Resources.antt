@@ -167,6 +167,7 @@ pub record IsWritable (t : TypeName) (w : StampedWrite) : Type 0 where
 abbrev pub written : ℕ → ℕ → NamedBody → List (List ℕ) → StampedWrite
 written counter writer r groups = record { name = r.name; counter = counter; writer = writer; body = Some r.body; groups = groups }
 
+-- rule: tombstones
 -- the write that deletes the resource of a name
 abbrev pub deleted : ℕ → ℕ → List ℕ → StampedWrite
 deleted counter writer name = record { name = name; counter = counter; writer = writer; body = None; groups = [] }

@@ -27,6 +27,7 @@ pub record Row : Type 0 where
   -- the path of the REST variant
   pub rest_path : List ℕ
 
+-- rule: star-covers, rule: whole-response
 abbrev pub row : TypeName → Row
 row Cluster = record {
   word = codes "cluster";
@@ -69,6 +70,7 @@ row Secret = record {
   rest_path = codes "/v3/discovery:secrets";
 }
 
+-- rule: type-order
 -- the types, in the order in which a server answers them
 abbrev pub types : List TypeName
 types = Cluster ∷ Endpoint ∷ Listener ∷ Route ∷ Secret ∷ []
@@ -85,10 +87,12 @@ type_of_word word = find (λ t. bytes_eq word (row t).word) types
 abbrev pub is_same_type : TypeName → TypeName → Bool
 is_same_type s t = bytes_eq (row s).url (row t).url
 
+-- rule: type-order
 -- how many types a server answers before this one
 abbrev pub place : TypeName → ℕ
 place t = position_or_len (is_same_type t) types
 
+-- rule: type-order
 -- the order of types, in which a server answers them
 abbrev pub type_cmp : TypeName → TypeName → Ordering
 type_cmp s t = nat_cmp (place s) (place t)

@@ -32,10 +32,12 @@ write_code =
 abbrev pub text_cmp : List ℕ → List ℕ → Ordering
 text_cmp = slice_cmp nat_cmp
 
+-- rule: groups
 -- the order of lists of groups: group by group
 abbrev pub groups_cmp : List (List ℕ) → List (List ℕ) → Ordering
 groups_cmp = slice_cmp text_cmp
 
+-- rule: greatest-write, rule: tombstones
 -- By counter, then writer, then a deletion below a body, then the body's bytes, then the groups. The name breaks the ties
 -- that are left, which no two writes of one name have.
 abbrev pub write_cmp : StampedWrite → StampedWrite → Ordering

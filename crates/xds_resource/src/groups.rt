@@ -54,6 +54,7 @@ impl Groups {
         Groups { list: None }
     }
 
+    // rule: groups
     /// The groups that the texts are, in whatever order, where a doubled text counts once. Refused by `BadGroup` where a
     /// text is empty or longer than [`MAX_GROUP`] bytes, or more than [`MAX_GROUPS`] different ones are left; then by
     /// `OutOfMemory`.
@@ -68,6 +69,7 @@ impl Groups {
         Groups::of_groups(alloc, texts)
     }
 
+    // rule: groups
     // The groups of texts of which none is refused.
     fn of_groups(alloc: Global, texts: &[String]) -> Result<Groups, Refusal>
         requires { groups_of (map string_bytes texts.now) ≡ Ok (grouped (map string_bytes texts.now)) }
@@ -108,6 +110,7 @@ impl Groups {
         self.texts().len()
     }
 
+    // rule: groups
     /// Whether the text is one of them.
     pub fn has(&self, text: &str) -> bool
         ensures { result ≡ has_group self.now text.now }
@@ -130,6 +133,7 @@ impl Groups {
         Ok(self.clone()?)
     }
 
+    // rule: greatest-write, rule: groups
     // Their order: text by text.
     pub(crate) fn compare(&self, other: &Groups) -> Ordering
         ensures { result ≡ groups_cmp self.now other.now }
@@ -154,6 +158,7 @@ impl Clone for Groups {
     }
 }
 
+// rule: groups
 // Whether the text may be a group.
 fn is_group(text: &str) -> bool
     ensures { result ≡ may_be_group text.now }
@@ -161,6 +166,7 @@ fn is_group(text: &str) -> bool
     !text.is_empty() && text.len() <= MAX_GROUP
 }
 
+// rule: groups
 // Whether each of the texts may be a group.
 fn all_are_groups(texts: &[String]) -> bool
     ensures { result ≡ list_all may_be_group (map string_bytes texts.now) }
@@ -173,6 +179,7 @@ fn all_are_groups(texts: &[String]) -> bool
     true
 }
 
+// rule: groups
 // Whether the text is one of these.
 fn is_among(texts: &[String], text: &str) -> bool
     ensures { result ≡ has_group (map string_bytes texts.now) text.now }
@@ -185,6 +192,7 @@ fn is_among(texts: &[String], text: &str) -> bool
     false
 }
 
+// rule: groups
 // Whether the texts are few enough, a doubled one counted once. No memory is taken. Each text is looked for among those
 // after it, so that a long list of few different texts doesn't take long.
 fn are_few(texts: &[String]) -> bool
@@ -204,6 +212,7 @@ fn are_few(texts: &[String]) -> bool
     true
 }
 
+// rule: groups
 // The texts in ascending order, a doubled one once.
 fn gathered(alloc: Global, texts: &[String]) -> Result<Vec<String>, Refusal>
     ensures ok { IfOk result (λ v. map string_bytes v.items ≡ grouped (map string_bytes texts.now)) }
@@ -218,6 +227,7 @@ fn gathered(alloc: Global, texts: &[String]) -> Result<Vec<String>, Refusal>
     Ok(list)
 }
 
+// rule: groups
 // Puts a text in its place in an ascending list, if it isn't there.
 fn add(alloc: Global, list: &mut Vec<String>, text: &str) -> Result<(), Refusal>
     ensures ok { OnOk result (map string_bytes list.new.items ≡ placed text.now (map string_bytes list.old.items)) }

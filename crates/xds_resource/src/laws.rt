@@ -17,12 +17,14 @@ use crate::any::AnyResource;
 use crate::groups::Groups;
 use crate::types::TypeName;
 
+// rule: greatest-write
 /// The order of writes is total, and two writes that tie are the same.
 pub fn writes_are_ordered()
     ensures total { IsTotalOrder write_cmp }
     ensures ties { (v w : StampedWrite) → write_cmp v w ≡ Equal → v ≡ w }
 {}
 
+// rule: groups
 /// The groups that texts come to are those texts, ascending and none of them twice, and depend on nothing else.
 pub fn groups_are_a_set()
     ensures ascend { (texts : List (List ℕ)) → Ascend (grouped texts) }
@@ -31,21 +33,25 @@ pub fn groups_are_a_set()
         → grouped texts ≡ grouped others }
 {}
 
+// rule: greatest-write
 /// The best of a name is the greatest write of that name, and missing only where no write has it.
 pub fn best_is_greatest()
     ensures { (ws : List StampedWrite) (name : List ℕ) → BestIsGreatest ws name }
 {}
 
+// rule: greatest-write
 /// The best of two lists together follows from the best of each.
 pub fn best_of_both()
     ensures { (v w : List StampedWrite) (name : List ℕ) → BestOfBoth v w name }
 {}
 
+// rule: greatest-write
 /// The best depends on which writes are there, and neither on their order nor on how often each stands there.
 pub fn best_of_the_same_writes()
     ensures { (v w : List StampedWrite) (name : List ℕ) → SameWrites v w → best v name ≡ best w name }
 {}
 
+// rule: greatest-write
 /// Which of three writes is the greater doesn't depend on the order in which they are compared.
 pub fn greater_joins()
     ensures associative { (a b c : Option StampedWrite) → greater a (greater b c) ≡ greater (greater a b) c }
@@ -66,12 +72,14 @@ pub fn one_type_at_a_time<X>()
     ensures same { (p q : PerType X) → ((t : TypeName) → at p t ≡ at q t) → p ≡ q }
 {}
 
+// rule: type-order
 /// The types stand in the order of the table, in `TypeName::ALL` and by their own order.
 pub fn types_stand_in_order()
     ensures all { TypeName.ALL ≡ types }
     ensures order { (s t : TypeName) → ⟦<TypeName as Ord>⟧.cmp s t ≡ type_cmp s t }
 {}
 
+// rule: groups
 /// What is held as groups are groups, ascending, as they are kept.
 pub fn groups_are_kept(groups: &Groups)
     ensures { IsGroups groups.now }

@@ -1,6 +1,7 @@
 // The resource types, by name and as type parameters.
 ghost use Rattle.std.specs.Prelude.{◌≡◌};
 
+// rule: type-order
 /// The name of a resource type.
 #[derive(Clone, Copy, Debug, PartialEq, Eq, PartialOrd, Ord, Hash)]
 pub enum TypeName {
@@ -103,6 +104,7 @@ impl TypeName {
         }
     }
 
+    // rule: star-covers, rule: whole-response
     /// Whether a state-of-the-world response of the type is the whole: what it lacks is gone.
     pub fn is_complete(self) -> bool
         ensures { result ≡ (row self).is_complete }

@@ -58,6 +58,7 @@ impl<T: ResourceType> Model for Write<T> {
 }
 
 impl<T: ResourceType> Write<T> {
+    // rule: groups
     /// The write that puts a resource, for clients of these groups, or for all where there are none.
     pub fn put(stamp: Stamp, resource: Resource<T>, groups: Groups) -> Write<T>
         ensures { result ≡ written stamp.counter stamp.writer resource groups }
@@ -73,6 +74,7 @@ impl<T: ResourceType> Write<T> {
         }
     }
 
+    // rule: tombstones
     /// The write that deletes the resource of this name.
     pub fn deletion(stamp: Stamp, name: ArcStr<Global>) -> Write<T>
         requires { is_valid_name (arc_str_bytes name) ≡ true }
@@ -206,6 +208,7 @@ impl<T: ResourceType> PartialEq for Write<T> {
 
     ghost laws = { Prim.search (write_cmp_total, comparing, rules) };
 
+    // rule: greatest-write
     /// Whether the two are the same write.
     fn eq(&self, other: &Write<T>) -> bool
         ensures value { result ≡ eq_by_cmp write_cmp self.now other.now }
@@ -235,6 +238,7 @@ impl<T: ResourceType> PartialOrd for Write<T> {
 
     ghost laws = { partial_order_from_own_ties (Prim.search (write_cmp_total, comparing, rules)) (Prim.search (comparing, rules)) };
 
+    // rule: greatest-write
     fn partial_cmp(&self, other: &Write<T>) -> Option<Ordering> {
         Some(self.cmp(other))
     }
@@ -254,6 +258,7 @@ impl<T: ResourceType> Ord for Write<T> {
 
     ghost matches_eq = { Prim.search (comparing, rules) };
 
+    // rule: greatest-write, rule: tombstones
     fn cmp(&self, other: &Write<T>) -> Ordering {
         self.stamp
             .cmp(&other.stamp)

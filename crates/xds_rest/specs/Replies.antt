@@ -18,6 +18,7 @@ use Rattle.xds_core.specs.Streams.{cluster_in}
 use Rattle.xds_core.specs.Steps.{Core, rested}
 use Rattle.xds_rest.specs.Posts.{HttpReply, without_body, with_body, addressed, IsPoll, RefusesBody, refused_reply}
 
+-- rule: not-modified
 -- what is written of a replica's answer to a poll
 abbrev pub http_of : Option Drafted → HttpReply
 http_of None = without_body 304
@@ -33,6 +34,7 @@ abbrev pub IfPoll : Event → (TypeName → List (List ℕ) → List ℕ → Lis
 IfPoll (events.Rest t names version cluster) P = P t names version cluster
 IfPoll e P = ⊤
 
+-- rule: not-modified
 -- the reply to a poll of a type at a replica
 abbrev pub poll_reply : Core → TypeName → Request → HttpReply
 poll_reply c t q = http_of (rested c t q.resource_names q.version_info (cluster_in q.node))

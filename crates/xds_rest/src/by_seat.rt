@@ -77,6 +77,7 @@ fn is_full(refusal: Refusal) -> bool
     refusal == Refusal::JournalFull
 }
 
+// rule: cuts
 // The reply of a node that is asked by a poll, where a full journal is cut, and the poll called once more by the same seat.
 fn reply_by_calls<R: Wait, P: Posts>(
     rt: &R,

@@ -32,6 +32,7 @@ fn is_own(kind: TypeName, type_url: &str) -> bool
     type_url == "" || type_url == kind.url()
 }
 
+// rule: groups
 // The cluster of who asks, empty where none is said.
 fn cluster_of(alloc: Global, node: Option<Node>) -> String
     ensures { string_bytes result ≡ cluster_in node }

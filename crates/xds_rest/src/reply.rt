@@ -47,6 +47,7 @@ fn whole(alloc: Global, draft: &SotwDraft) -> Result<HttpReply, Refusal>
     })
 }
 
+// rule: not-modified
 /// The reply by what a replica answered to a poll: 304 where nothing changed, and else 200 with all of it. Any other answer of a
 /// replica isn't one to a poll, and gives 500. Refused is only `OutOfMemory`, where there is a text to make.
 pub fn reply_of(alloc: Global, reply: &Reply) -> Result<HttpReply, Refusal>

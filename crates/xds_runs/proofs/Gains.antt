@@ -160,6 +160,7 @@ keeps_after test (m ∷ ms) s r site within has named =
     let parts = none_begins (is_beginning m) (list_any is_beginning ms) within in
     keeps_or test s m ms r site (occurs test s m) refl parts.0 has named (λ u y. keeps_after test ms u r y parts.1)
 
+-- rule: greatest-write
 pub keeps_what_was_stored : (test : Test) (store : ℕ) (ms : List Moment) → is_number store ≡ true → PutResourcesThen ms → KeepsWhatWasStored test store ms
 keeps_what_was_stored test store ms number put rs r more new listed within =
     let s : Runs = runs test store ms in

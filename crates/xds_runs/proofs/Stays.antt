@@ -69,6 +69,7 @@ adds_after : (test : Test) (ms : List Moment) (s : Runs) → AllRoomy s.stored �
 adds_after test [] s roomy = adds_same s.stored roomy
 adds_after test (m ∷ ms) s roomy = adds_or test s m ms (occurs test s m) refl (adds_after test ms) roomy
 
+-- rule: greatest-write
 pub stored_stays : (test : Test) (store : ℕ) (ms more : List Moment) → StoredStays test store ms more
 stored_stays test store ms more t =
     let s : Runs = runs test store ms in

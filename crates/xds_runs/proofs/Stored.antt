@@ -51,6 +51,7 @@ come_keeps : (w : World) (q r : ℕ) (site : Site) (b : Bool) → q ≢ r → fi
 come_keeps w q r site true other = passed w.sites q site r other
 come_keeps w q r site false other = refl
 
+-- rule: loaded-first
 arrivals_keep : (test : Test) (rs taken : List ℕ) (w : World) (r : ℕ) → are_new taken rs ≡ true → is_among r taken ≡ true → finmap.get (after test w (arrivals rs)).sites r ≡ finmap.get w.sites r
 arrivals_keep test [] taken w r new among = refl
 arrivals_keep test (q ∷ rs) taken w r new among =
@@ -135,6 +136,7 @@ stored_again test s x t =
     let batch : at (all_entries s.stored) t ≡ finmap.values (catalogue_of ws) = at-per_type (λ u. finmap.values (at s.stored u).entries) t ∙ ap finmap.values is in
     ap (λ (y : Holdings). y.entries) (at-per_type (λ u. joined (at (each nothing_held) u) (at (all_entries s.stored) u)) t) ∙ joined_best (at (each nothing_held) t) [] ws (at (all_entries s.stored) t) nothing batch ∙ sym is
 
+-- rule: loaded-first
 pub begins_with_what_is_stored : (test : Test) (store : ℕ) (ms : List Moment) → is_number store ≡ true → PutResourcesThen ms → BeginsWithWhatIsStored test store ms
 begins_with_what_is_stored test store ms number put rs r new listed =
     let s : Runs = runs test store ms in

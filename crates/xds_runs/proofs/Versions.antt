@@ -65,6 +65,7 @@ there_made test s x t y there =
       | inr held ↦ held_made test s x held.0 held.1 t there.0 y (ap (λ v. finmap.get v.sites held.0) x.made ∙ x.inside.here held.0 held.1 held.2) held.3
     ]
 
+-- rule: new-numbers
 pub one_write_a_version : (test : Test) (store : ℕ) (ms more : List Moment) → is_number store ≡ true → PutResourcesThen ms → PutResourcesThen more → OneWriteAVersion test store ms more
 one_write_a_version test store ms more number put puts t x y there_x there_y same =
     let before = grown test ms (no_run store) (one_start test store number) put in

@@ -90,6 +90,7 @@ pub record HoldsTheStored (s run : Runs) (r : ℕ) : Type 0 where
   pub there : finmap.get run.now.sites r ≡ Some site
   pub holds : (t : TypeName) → (at site.core.store t).entries ≡ (at s.stored t).entries
 
+-- rule: loaded-first
 -- Each replica of a run that begins holds exactly what is stored.
 abbrev pub BeginsWithWhatIsStored : Test → ℕ → List Moment → Type 0
 BeginsWithWhatIsStored test store ms =
@@ -100,18 +101,21 @@ abbrev pub is_beginning : Moment → Bool
 is_beginning (Begin rs) = true
 is_beginning m = false
 
+-- rule: greatest-write
 -- a replica of this number, of a run, that holds of each name what was stored or a greater write
 pub record HoldsAtLeast (s run : Runs) (r : ℕ) : Type 0 where
   pub site : Site
   pub there : finmap.get run.now.sites r ≡ Some site
   pub holds : (t : TypeName) → IsAbove (at site.core.store t).entries (at s.stored t).entries
 
+-- rule: greatest-write
 -- Until the next run begins, each replica of a run holds of each name what was stored where the run began, or a greater write.
 abbrev pub KeepsWhatWasStored : Test → ℕ → List Moment → Type 0
 KeepsWhatWasStored test store ms =
     (rs : List ℕ) (r : ℕ) (more : List Moment) → are_new (runs test store ms).taken rs ≡ true → Contains rs r → list_any is_beginning more ≡ false
     → HoldsAtLeast (runs test store ms) (runs test store (ms ++ Begin rs ∷ more)) r
 
+-- rule: greatest-write
 -- What is stored of a name stays, whatever comes, until a greater write of the name is stored.
 abbrev pub StoredStays : Test → ℕ → List Moment → List Moment → Type 0
 StoredStays test store ms more = (t : TypeName) → IsAbove (at (runs test store (ms ++ more)).stored t).entries (at (runs test store ms).stored t).entries
@@ -122,6 +126,7 @@ StoredStays test store ms more = (t : TypeName) → IsAbove (at (runs test store
 abbrev pub IsThere : Runs → TypeName → StampedWrite → Type 0
 IsThere s t x = (name : List ℕ) × ((finmap.get (at s.stored t).entries name ≡ Some x) ⊎ ((r : ℕ) × (site : Site) × (finmap.get s.now.sites r ≡ Some site) × (finmap.get (at site.core.store t).entries name ≡ Some x)))
 
+-- rule: new-numbers
 -- Writes of a type with the same version are the same write, with one name and one body, however many runs lie between them.
 abbrev pub OneWriteAVersion : Test → ℕ → List Moment → List Moment → Type 0
 OneWriteAVersion test store ms more =

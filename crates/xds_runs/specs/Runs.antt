@@ -52,15 +52,18 @@ no_run store = record { store = store; taken = store ∷ []; stored = each nothi
 
 -- ---- numbers
 
+-- rule: new-numbers
 -- whether a replica may have this number
 abbrev pub is_number : ℕ → Bool
 is_number r = nat_lt 0 r && not (nat_lt max_writer r)
 
+-- rule: new-numbers
 -- whether these are numbers of replicas, each its own, that aren't taken
 abbrev pub are_new : List ℕ → List ℕ → Bool
 are_new taken [] = true
 are_new taken (r ∷ rs) = (is_number r && not (list_any (λ q. q == r) taken)) && are_new (r ∷ taken) rs
 
+-- rule: new-numbers
 -- the numbers that are taken once these are
 abbrev pub with_taken : List ℕ → List ℕ → List ℕ
 with_taken taken [] = taken
@@ -68,6 +71,7 @@ with_taken taken (r ∷ rs) = with_taken (r ∷ taken) rs
 
 -- ---- a run begins
 
+-- rule: loaded-first
 -- what happens first at each replica of a run: it comes, and merges the one batch that is there
 abbrev pub arrivals : List ℕ → List Happening
 arrivals [] = []
@@ -77,6 +81,7 @@ arrivals (r ∷ rs) = AddReplica r ∷ Merge r 1 ∷ arrivals rs
 abbrev pub ground : Runs → World
 ground s = record { sites = finmap.empty; peers = s.now.peers; pool = (s.store, all_entries s.stored) ∷ [] }
 
+-- rule: new-numbers
 abbrev pub begun : Test → Runs → List ℕ → Runs
 begun test s rs = record { store = s.store; taken = with_taken s.taken rs; stored = s.stored; now = after test (ground s) (arrivals rs) }
 
@@ -95,6 +100,7 @@ missed_on w c p l = if is_none (finmap.get w.sites l.replica) then Some (with_pe
 abbrev pub missed : World → ℕ → Option World
 missed w c = on_link w c (missed_on w c)
 
+-- rule: new-numbers
 -- replicas come where a run begins, and at no other time
 abbrev pub brings_a_replica : Happening → Bool
 brings_a_replica (AddReplica r) = true

@@ -209,6 +209,7 @@ fn names_shown<T: ResourceType>(
     Ok(names)
 }
 
+// rule: greatest-write, rule: tombstones
 #[test]
 fn a_replica_keeps_the_greatest_write(rt: HostRuntime) -> Result<(), Fail> {
     follow::<Replica<Cluster>, HostRuntime>(
@@ -348,6 +349,7 @@ impl Outcome for Exchange {
     }
 }
 
+// rule: greatest-write
 #[test]
 fn two_replicas_agree(rt: HostRuntime) -> Result<(), Fail> {
     hold::<Exchange, HostRuntime>(
@@ -357,6 +359,7 @@ fn two_replicas_agree(rt: HostRuntime) -> Result<(), Fail> {
     )
 }
 
+// rule: star-covers, rule: groups
 #[test]
 fn groups_narrow_the_star_alone(rt: HostRuntime) -> Result<(), Fail> {
     follow::<Replica<Cluster>, HostRuntime>(
@@ -412,6 +415,7 @@ want  => a"#,
     )
 }
 
+// rule: star-covers
 #[test]
 fn secrets_are_seen_by_name_alone(rt: HostRuntime) -> Result<(), Fail> {
     follow::<Replica<Secret>, HostRuntime>(
@@ -424,6 +428,7 @@ put {"@type":"RDS","name":"s"} => 4 BadResource"#,
     )
 }
 
+// rule: star-covers
 #[test]
 fn routes_are_seen_by_name_alone(rt: HostRuntime) -> Result<(), Fail> {
     follow::<Replica<Route>, HostRuntime>(

@@ -141,6 +141,7 @@ fn outcome_text(alloc: Global, outcome: Result<Outcome, Refusal>) -> Result<Stri
     }
 }
 
+// rule: owed
 #[test]
 fn an_unknown_name_is_removed(rt: HostRuntime) -> Result<(), Fail> {
     hold::<Server<Cluster>>(
@@ -160,6 +161,7 @@ owes => no"#,
     )
 }
 
+// rule: delta-names
 #[test]
 fn interests_change_by_what_requests_mention(rt: HostRuntime) -> Result<(), Fail> {
     hold::<Server<Cluster>>(
@@ -199,6 +201,7 @@ owes => no"#,
     )
 }
 
+// rule: accept-reject, rule: owed
 #[test]
 fn a_name_touched_meanwhile_is_told_again(rt: HostRuntime) -> Result<(), Fail> {
     hold::<Server<Cluster>>(
@@ -219,6 +222,7 @@ owes => no"#,
     )
 }
 
+// rule: accept-reject, rule: refused-offer
 #[test]
 fn a_refused_offer_waits_until_it_differs(rt: HostRuntime) -> Result<(), Fail> {
     hold::<Server<Cluster>>(
@@ -247,6 +251,7 @@ owes => no"#,
     )
 }
 
+// rule: owed
 #[test]
 fn a_client_resumes_at_a_replica_that_lags(rt: HostRuntime) -> Result<(), Fail> {
     hold::<Server<Cluster>>(
@@ -264,6 +269,7 @@ poll => none"#,
     )
 }
 
+// rule: owed
 #[test]
 fn what_a_client_holds_is_not_sent_again(rt: HostRuntime) -> Result<(), Fail> {
     hold::<Server<Route>>(
@@ -284,6 +290,7 @@ owes => no"#,
     )
 }
 
+// rule: groups, rule: owed
 #[test]
 fn what_leaves_the_group_is_removed(rt: HostRuntime) -> Result<(), Fail> {
     hold::<Server<Cluster>>(
@@ -315,6 +322,7 @@ owes => no"#,
     )
 }
 
+// rule: owed
 #[test]
 fn a_settled_client_costs_what_changes(rt: HostRuntime) -> Result<(), Fail> {
     hold::<Server<Cluster>>(

@@ -150,6 +150,7 @@ impl<V: Variant> Script for Client<V> {
     }
 }
 
+// rule: whole-response
 #[test]
 fn a_whole_response_tells_all(rt: HostRuntime) -> Result<(), Fail> {
     follow::<Client<StateOfTheWorld>, HostRuntime>(
@@ -209,6 +210,7 @@ due => no"#,
     )
 }
 
+// rule: owed, rule: whole-response
 #[test]
 fn a_response_tells_what_differs(rt: HostRuntime) -> Result<(), Fail> {
     follow::<Client<Delta>, HostRuntime>(
@@ -246,6 +248,7 @@ sending => {B-,}"#,
     )
 }
 
+// rule: new-nonce, rule: nonce-numbers
 #[test]
 fn nonces_are_numbers_from_one(rt: HostRuntime) -> Result<(), Fail> {
     let mut nonces = Nonces::new();
@@ -339,6 +342,7 @@ fn entries_are_copied(rt: HostRuntime) -> Result<(), Fail> {
     )
 }
 
+// rule: owed
 #[test]
 fn variants_tell_removals(rt: HostRuntime) -> Result<(), Fail> {
     let (whole, parts) = (VariantName::StateOfTheWorld, VariantName::Delta);

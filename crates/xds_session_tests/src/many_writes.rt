@@ -113,6 +113,7 @@ fn told_of_writes(alloc: Global) -> Result<String, Refusal> {
     told
 }
 
+// rule: greatest-write
 #[test]
 fn order_does_not_matter(rt: HostRuntime) -> Result<(), Fail> {
     let told = told_of_writes(rt.alloc())?;
@@ -181,6 +182,7 @@ fn joined_or_unchanged(alloc: Global) -> Result<bool, Refusal> {
     answer
 }
 
+// rule: refused-event
 // With ample memory the batch is joined. It is also run with each allocation failing in turn.
 #[test]
 fn refused_batch_changes_nothing(rt: HostRuntime) -> Result<(), Fail> {
@@ -243,6 +245,7 @@ fn is_refused(alloc: Global, verb: &str) -> Result<bool, Refusal> {
     changes_again(alloc, &mut catalogue, &before, verb)
 }
 
+// rule: refused-event
 // With ample memory each change is made at once; `bench/refused.py` refuses one allocation after
 // another.
 #[test]

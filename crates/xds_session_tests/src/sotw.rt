@@ -90,6 +90,8 @@ fn outcome_text(alloc: Global, outcome: Result<Outcome, Refusal>) -> Result<Stri
     either(alloc, outcome == Outcome::Taken, "taken", "ignored")
 }
 
+// rule: listed-names, rule: stale-nonce, rule: accept-reject, rule: whole-response
+// rule: refused-offer
 #[test]
 fn clusters_are_told(rt: HostRuntime) -> Result<(), Fail> {
     follow::<Stream<Cluster>, HostRuntime>(
@@ -160,6 +162,7 @@ poll => {"nonce":"2","resources":[{"@type":"CDS","name":"B"}],"typeUrl":"CDS",
     )
 }
 
+// rule: listed-names, rule: star-covers, rule: one-unanswered
 #[test]
 fn routes_are_told(rt: HostRuntime) -> Result<(), Fail> {
     follow::<Stream<Route>, HostRuntime>(
@@ -199,6 +202,7 @@ poll => none"#,
     )
 }
 
+// rule: star-covers, rule: groups
 #[test]
 fn a_star_covers_the_groups_of_its_cluster(rt: HostRuntime) -> Result<(), Fail> {
     follow::<Stream<Cluster>, HostRuntime>(
@@ -239,6 +243,7 @@ owes => quiet"#,
     )
 }
 
+// rule: star-covers
 #[test]
 fn secrets_are_told_by_name(rt: HostRuntime) -> Result<(), Fail> {
     follow::<Stream<Secret>, HostRuntime>(

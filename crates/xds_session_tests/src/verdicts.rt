@@ -98,6 +98,7 @@ close 1
     )
 }
 
+// rule: first-variant
 #[test]
 fn bad_lines_are_told_first(rt: HostRuntime) -> Result<(), Fail> {
     hold_stories::<Verdict, HostRuntime>(
@@ -157,6 +158,8 @@ write {}
     )
 }
 
+// rule: awaited-names, rule: whole-response, rule: covered-only, rule: no-live-removal
+// rule: best-writes, rule: one-unanswered, rule: refused-offer, rule: new-nonce
 #[test]
 fn broken_rules_are_told(rt: HostRuntime) -> Result<(), Fail> {
     hold_stories::<Verdict, HostRuntime>(
@@ -262,6 +265,9 @@ response 1 2 {"nonce":"1","resources":[{"@type":"CDS","name":"a"}],"typeUrl":"CD
     )
 }
 
+// rule: tombstones, rule: groups, rule: stale-nonce, rule: accept-reject, rule: awaited-names
+// rule: whole-response, rule: no-live-removal, rule: best-writes, rule: one-unanswered
+// rule: refused-offer, rule: new-nonce
 #[test]
 fn rules_at_their_edges(rt: HostRuntime) -> Result<(), Fail> {
     hold_stories::<Verdict, HostRuntime>(

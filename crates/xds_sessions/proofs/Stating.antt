@@ -89,6 +89,7 @@ all_stated : (m : Entries) (o : Offer) (es : List (List ℕ × Due)) → EachSta
 all_stated m o [] each found = refl
 all_stated m o (e ∷ es) each found = entry_stated m o e.0 e.1 es each found.0 (all_stated m o es each found.1)
 
+-- rule: best-writes
 pub response_states_the_offer : ResponseStatesTheOffer
 response_states_the_offer replica t h s b number catalogue =
     let o : Offer = offer Delta t s h.entries b in all_stated h.entries o (finmap.entries o) (stated_resource t s h.entries b catalogue) (each_found o)

@@ -32,6 +32,7 @@ use Rattle.xds_ledger.specs.Texts.{replica_version}
 abbrev pub mention : DeltaRequest → Mention
 mention m = record { subscribe = m.resource_names_subscribe; unsubscribe = m.resource_names_unsubscribe }
 
+-- rule: accept-reject
 -- the nonce of a request, which rejects where it has an error
 abbrev pub answer_in : DeltaRequest → Answer
 answer_in m = record { nonce = m.response_nonce; rejects = is_some m.error_detail }
@@ -59,10 +60,12 @@ is_removal Removed = true
 abbrev pub names_where : (Due → Bool) → Offer → List (List ℕ)
 names_where says o = map (λ e. e.0) (filter (λ e. says e.1) (finmap.entries o))
 
+-- rule: best-writes
 -- the resource that a write puts, under its name and with its version, if it is live
 abbrev pub resource_of : StampedWrite → Option DraftedResource
 resource_of w = option_map (λ body. record { name = w.name; version = version_of w; body = body }) w.body
 
+-- rule: best-writes
 -- the live resource of a name
 abbrev pub resource_at : Entries → List ℕ → Option DraftedResource
 resource_at m name = option_and_then resource_of (finmap.get m name)

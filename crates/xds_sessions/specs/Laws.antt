@@ -16,6 +16,7 @@ use Rattle.xds_sessions.specs.DeltaPolls.{response}
 abbrev pub statements : Offer → List (List ℕ × List ℕ)
 statements o = filter_map (λ e. option_map (λ version. (e.0, version)) (stated_version e.1)) (finmap.entries o)
 
+-- rule: best-writes
 -- The resources of a response have the names that its offer states, at the versions that it states, in the same order: all
 -- of them are in the catalogue that the offer was made from.
 abbrev pub ResponseStatesTheOffer : Type 0

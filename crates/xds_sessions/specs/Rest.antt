@@ -14,6 +14,7 @@ use Rattle.xds_catalogue.specs.Content.{content}
 use Rattle.xds_message.specs.Drafts.{Drafted}
 use Rattle.xds_ledger.specs.Texts.{interest_version}
 
+-- rule: listed-names
 -- the interest of a client of this cluster that sends one list of names
 abbrev pub asked_once : TypeName → List (List ℕ) → List ℕ → Selection
 asked_once t names cluster = in_cluster cluster (sotw_interest t (names ∷ []))
@@ -27,11 +28,13 @@ whole replica t h s = record {
   bodies = filter_map (λ w. w.body) (content h.entries s);
 }
 
+-- rule: not-modified
 -- Whether a client of this interest that kept this version has all that it sees: the version is the present one. Without the
 -- star a version says nothing of the names that were asked for.
 abbrev pub is_present : ℕ → Holdings → Selection → List ℕ → Bool
 is_present replica h s version = s.star && bytes_eq version (interest_version replica h.changes s)
 
+-- rule: not-modified
 -- all that it sees, unless it has that
 abbrev pub unless_present : ℕ → TypeName → Holdings → Selection → List ℕ → Option Drafted
 unless_present replica t h s version = if is_present replica h s version then None else Some (whole replica t h s)

@@ -38,10 +38,12 @@ sending t s m = sessions.sending StateOfTheWorld t s m
 abbrev pub owes : TypeName → Session → Entries → Bool
 owes t s m = sessions.owes StateOfTheWorld t s m
 
+-- rule: best-writes
 -- the live writes that the interest covers and the offer speaks of, in ascending order of names
 abbrev pub stated_writes : Entries → Selection → Offer → List StampedWrite
 stated_writes m s o = filter (λ w. is_some (finmap.get o w.name)) (content m s)
 
+-- rule: best-writes
 -- their texts
 abbrev pub stated_bodies : Entries → Selection → Offer → List (List ℕ)
 stated_bodies m s o = filter_map (λ w. w.body) (stated_writes m s o)

@@ -77,6 +77,7 @@ impl Gathered {
         }
     }
 
+    // rule: no-live-removal, rule: best-writes
     // Adds what an offer says of a name: its live resource, or that it is gone.
     fn say<T: ResourceType>(
         &mut self,
@@ -109,6 +110,7 @@ impl Gathered {
     }
 }
 
+// rule: best-writes
 // What an offer says of each of its names, in ascending order of names.
 fn say_all<T: ResourceType>(
     alloc: Global,

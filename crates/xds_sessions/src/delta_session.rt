@@ -83,6 +83,7 @@ fn take_names<T: ResourceType>(
 }
 
 impl<T: ResourceType> session::Session<T, Delta> {
+    // rule: stale-nonce, rule: accept-reject
     /// Takes a request of this type: it settles the response that it answers, and its names are taken. One whose
     /// nonce is out of date is ignored; the first is taken in any case, and it alone says which versions the client
     /// holds. Refused only by `OutOfMemory`, and then nothing is taken.
@@ -111,6 +112,7 @@ impl<T: ResourceType> session::Session<T, Delta> {
         Ok(Outcome::Taken)
     }
 
+    // rule: delta-names
     // Takes a request, with its explicit names made anew.
     fn take_anew(
         &mut self,
@@ -134,6 +136,7 @@ impl<T: ResourceType> session::Session<T, Delta> {
         Ok(())
     }
 
+    // rule: delta-names, rule: refused-event
     // Takes a later request that doesn't touch every name: it looks at the names that it mentions, and at no others.
     fn take_in_place(
         &mut self,

@@ -81,6 +81,7 @@ impl<T: ResourceType> Published<T> {
         &self.catalogue
     }
 
+    // rule: best-writes
     /// Joins a write: it stands if it is greater than what stands under its name. Answers by how much the
     /// changes grew, 0 or 1.
     pub fn join_write(&mut self, write: Write<T>) -> Result<u64, Refusal>
@@ -92,6 +93,7 @@ impl<T: ResourceType> Published<T> {
         self.catalogue.join_write(write)
     }
 
+    // rule: best-writes
     /// Puts a resource with these groups, as a new write even where an equal body stands, and whatever groups that had.
     /// `writer` is the number of this replica, from 1.
     pub fn put(
@@ -110,6 +112,7 @@ impl<T: ResourceType> Published<T> {
         self.catalogue.put(resource, groups, writer)
     }
 
+    // rule: best-writes
     /// Deletes the live resource of a name; the write stays for good. `writer` is the number of this replica,
     /// from 1.
     pub fn delete(&mut self, name: &str, writer: u16) -> Result<Stamp, Refusal>
@@ -172,6 +175,7 @@ impl<T: ResourceType> Published<T> {
         Ok(first)
     }
 
+    // rule: groups
     /// What clients of this cluster share that want everything, in the state of the world, if it was made.
     pub fn sotw_wildcard(&self, cluster: &str) -> Option<&Wildcard<Bodies>>
         ensures { IfSome result (λ w. IsShared variants.StateOfTheWorld T.TYPE (λ m s o x. x ≡ sotw.stated_bodies m s o) self.now.entries cluster.now w.now) }
@@ -186,6 +190,7 @@ impl<T: ResourceType> Published<T> {
         self.wildcards.delta.get(cluster)
     }
 
+    // rule: groups
     /// Makes what clients of this cluster share that want everything, in the state of the world, if it isn't there.
     pub fn share_sotw(&mut self, alloc: Global, interest: &Interest<T>) -> Result<(), Refusal>
         requires { interest.now ≡ all_of interest.now.cluster }

@@ -13,6 +13,7 @@ use xds_ledger::texts::interest_version;
 use xds_message::{Bodies, Body, SotwDraft, push_body};
 use xds_resource::{Refusal, ResourceType, Write};
 
+// rule: not-modified
 /// What a client of this cluster is answered that sends one list of names and the version that it kept: all that it sees, for
 /// all types alike, without a nonce; or none where it wants all of the type and that version is the present one. `replica`
 /// is the number of this replica. Refused only by `OutOfMemory`.

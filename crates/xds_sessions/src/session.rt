@@ -58,6 +58,7 @@ impl<T: ResourceType, V: Speaks<T>> Session<T, V> {
         }
     }
 
+    // rule: stale-nonce
     // Whether a request with this nonce is stale, so that it is ignored.
     pub(crate) fn is_stale(&self, nonce: &str) -> bool
         ensures { result ≡ is_stale self.now.session nonce.now }
@@ -65,6 +66,7 @@ impl<T: ResourceType, V: Speaks<T>> Session<T, V> {
         V::has_begun(&self.names) && self.ledger.is_stale(nonce)
     }
 
+    // rule: owed
     /// Whether the client is owed something: a response of the type is unanswered or due. It takes no memory.
     pub fn owes(&self, catalogue: &Published<T>) -> bool
         requires { SessionFits V.NAME T.TYPE catalogue.now self.now }
@@ -76,6 +78,7 @@ impl<T: ResourceType, V: Speaks<T>> Session<T, V> {
                 .owes(V::interest(&self.names), catalogue.catalogue())
     }
 
+    // rule: owed
     /// Whether `poll` has a response to send, be there a nonce for it or not. It takes no memory.
     pub fn sends(&self, catalogue: &Published<T>) -> bool
         requires { SessionFits V.NAME T.TYPE catalogue.now self.now }
@@ -107,6 +110,7 @@ impl<T: ResourceType, V: Speaks<T>> Session<T, V> {
         }
     }
 
+    // rule: groups, rule: covered-only
     // What is kept for the clients of this session's interest, where its offer is the one of this session.
     fn wildcard<'a>(&self, catalogue: &'a Published<T>) -> Option<&'a Wildcard<V::Said>>
         ensures { IfSome result (λ w. IsShared V.NAME T.TYPE V.IsSaid catalogue.now.entries self.now.session.asked.interest.cluster w.now
@@ -217,6 +221,7 @@ impl<T: ResourceType, V: Speaks<T>> Session<T, V> {
             .tidy(alloc, V::interest(&self.names), catalogue.catalogue());
     }
 
+    // rule: nonce-numbers
     /// The next response, if one is to be sent: nothing of the type is unanswered, something is due, and it isn't
     /// what the client refused. `replica` is the number of this replica. Refused only where a response is to be sent: by
     /// `NonceSpent` where the stream has no nonce left, and else by `OutOfMemory`; then nothing is sent, and no nonce is
@@ -239,6 +244,7 @@ impl<T: ResourceType, V: Speaks<T>> Session<T, V> {
         self.poll_tidied(alloc, replica, catalogue, nonces)
     }
 
+    // rule: one-unanswered, rule: nonce-numbers
     // The next response, from the list as it is.
     fn poll_tidied(
         &mut self,
@@ -265,6 +271,7 @@ impl<T: ResourceType, V: Speaks<T>> Session<T, V> {
         Ok(Some(draft))
     }
 
+    // rule: one-unanswered, rule: nonce-numbers
     /// Notes that a response with this offer was sent, as the one of this number. It takes no memory. Where the offer is that
     /// of a catalogue, the session still fits it (`xds_ledger::laws::books_suffice`).
     pub fn send(&mut self, alloc: Global, offer: SharedMap<Due>, number: u64)

@@ -13,6 +13,7 @@ use xds_ledger::texts::{interest_version, nonce_text};
 use xds_message::{Bodies, Body, SotwDraft, push_body};
 use xds_resource::{NameMap, Refusal, ResourceType, Write};
 
+// rule: best-writes
 // Puts the text of a write behind others, if the offer speaks of its name.
 fn push_offered<T: ResourceType>(
     bodies: &mut Vec<Body>,
@@ -44,6 +45,7 @@ fn push_all<T: ResourceType>(
     Ok(all)
 }
 
+// rule: best-writes
 /// The texts that a response with this offer states. They depend on the offer and on what is held alone, so that all clients
 /// which are offered the same share them.
 pub(crate) fn stated_bodies<T: ResourceType>(

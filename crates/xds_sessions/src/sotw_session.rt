@@ -16,6 +16,7 @@ use xds_resource::{Refusal, ResourceType};
 pub type Session<T> = session::Session<T, StateOfTheWorld>;
 
 impl<T: ResourceType> session::Session<T, StateOfTheWorld> {
+    // rule: accept-reject
     /// Takes a request of this type: it settles the response that it answers, and its names are taken. One whose
     /// nonce is out of date is ignored; the first is taken in any case. Refused only by `OutOfMemory`, and then
     /// nothing is taken.
@@ -34,6 +35,7 @@ impl<T: ResourceType> session::Session<T, StateOfTheWorld> {
         )
     }
 
+    // rule: listed-names, rule: stale-nonce
     // Takes a request with this nonce, with or without an error, and with this list of names.
     fn take_list(
         &mut self,

@@ -27,6 +27,7 @@ stored_in trees t = stored t (trees writes_tree)
 abbrev pub kept : Trees → TypeName → Entries
 kept trees t = catalogue_of (stored_in trees t)
 
+-- rule: greatest-write
 -- The stored writes and those of a batch are joined, as catalogues are, and no other tree changes.
 pub record IsJoined (old new : Trees) (batch : PerType (List StampedWrite)) : Type 0 where
   pub others : (tree : ℕ) → tree ≢ writes_tree → new tree ≡ old tree

@@ -16,12 +16,14 @@ pub record Notes (old new : Trees) (next : ℕ) : Type 0 where
   pub noted : next_number new ≡ next
   pub others : (tree : ℕ) → tree ≢ numbers_tree → new tree ≡ old tree
 
+-- rule: new-numbers
 -- the numbers from the first on are taken: those were free, and the free ones below are passed over
 pub record Takes (old new : Trees) (first count : ℕ) : Type 0 where
   pub free : next_number old ≤ first
   pub fits : first + count ≤ max_number + 1
   pub noted : Notes old new (first + count)
 
+-- rule: new-numbers
 -- whatever a crash leaves now, the numbers below this one are taken
 abbrev pub AreTaken : {S : Type 0} → (S → Trees → Type 0) → S → ℕ → Type 0
 AreTaken recovers s next = (db : Trees) → recovers s db → next ≤ next_number db

@@ -8,6 +8,7 @@ use crate::store::Store;
 use sqlite_trees::store::Reopen;
 use xds_message::Batch;
 
+// rule: new-numbers
 /// A run that takes numbers and puts a batch, whatever that answers, and ends by a crash; and the next run over what the
 /// crash leaves. It answers the first number of each: those of the second are above all of the first.
 pub fn numbers_of_two_runs<S: Reopen>(

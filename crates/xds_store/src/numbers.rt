@@ -20,6 +20,7 @@ const NUMBERS_END: u32 = 65_536;
 const FORMAT: i64 = 1;
 
 impl<S: Trees> Store<S> {
+    // rule: new-numbers
     /// Takes `count` replica numbers that no call took before, the next free ones, and answers the first of them once
     /// that is committed. Refused by `NumbersUsed` where fewer are left up to 65,535, and by `LaterFormat` where the table
     /// of numbers has a row of another format.
@@ -50,6 +51,7 @@ impl<S: Trees> Store<S> {
         }
     }
 
+    // rule: new-numbers
     /// Takes the `count` numbers from `first` on, once that is committed, and with them the free ones below. Refused by
     /// `NumberTaken` where `first` is below the next free one, by `NumbersUsed` where the last is above 65,535, and by
     /// `LaterFormat` as `take_numbers`.

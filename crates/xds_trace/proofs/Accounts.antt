@@ -36,6 +36,7 @@ tells_nothing = record { nonce = refl; waiting = refl; refused = refl }
 
 -- ---- whether something waits
 
+-- rule: one-unanswered
 pub waits_as : (o : Option ledgers.Sent) (nonce : ℕ) (rs : List Sent) → IsOpen o nonce rs → is_waiting rs ≡ is_some o
 waits_as None nonce rs waiting = waiting
 waits_as (Some x) nonce rs waiting = ap is_waiting waiting.1
@@ -48,6 +49,7 @@ is_none_not : {X : Type 0} (o : Option X) → not (is_some o) ≡ is_none o
 is_none_not None = refl
 is_none_not (Some x) = refl
 
+-- rule: stale-nonce
 stale_by : (begun empty waiting : Bool) (n : List ℕ) (last : Option (List ℕ)) (text : List ℕ) → bytes_eq n [] ≡ empty → unwrap_or last [] ≡ text
     → (begun && not empty && not waiting && not (option_map_or (bytes_eq n) last false)) ≡ (begun && (not waiting && not empty && not (bytes_eq n text)))
 stale_by false empty waiting n last text is same = refl
@@ -57,6 +59,7 @@ stale_by true false true n last text is same = refl
 stale_by true false false n None text is same = ap not (sym is ∙ ap (bytes_eq n) same)
 stale_by true false false n (Some z) text is same = ap (λ x. not (bytes_eq n x)) same
 
+-- rule: stale-nonce
 -- a request is ignored by the lines just where it is out of date by the account
 pub ignored_as : (begun : Bool) (k : Account) (rs : List Sent) (m : Asking) → Tells k rs → told_of.is_stale begun rs m ≡ (begun && is_stale k (nonce_of m))
 ignored_as begun k rs m told =
@@ -91,6 +94,7 @@ first_answered k x m before same is none = λ i. (if is i then fated (waiting_on
 abbrev pub settled_as : VariantName → TypeName → Account → Option ledgers.Sent → Bool → Bool → Account
 settled_as v t k o same rejected = if is_some o && same then option_map_or (λ sent. answered v t k sent rejected) o k else k
 
+-- rule: accept-reject
 told_answered : (v : VariantName) (t : TypeName) (k : Account) (x : ledgers.Sent) (before : List Sent) (rejected : Bool) → unwrap_or (last_nonce (waiting_one k x ∷ before)) [] ≡ nonce_text k.nonce → is_waiting before ≡ false
     → Tells (answered v t k x rejected) (fated (waiting_one k x) (if rejected then Refused else Accepted) ∷ before)
 told_answered v t k x before true nonce none = record { nonce = refl; waiting = none; refused = refl }
@@ -109,6 +113,7 @@ told_by v t k rs m (Some x) sent waiting told =
     (sym (ap (map (answered_by m)) waiting.1 ∙ first_answered k x m waiting.0 (bytes_eq (nonce_of m) (nonce_text k.nonce)) (bytes_eq_swap (nonce_text k.nonce) (nonce_of m)) waiting.2))
     (told_open v t k x waiting.0 (bytes_eq (nonce_of m) (nonce_text k.nonce)) (rejects m) sent waiting.2 (sym (ap refused_offer waiting.1) ∙ told.refused))
 
+-- rule: accept-reject
 -- a request that isn't the first settles what it answers, on both sides
 pub told_settled : (v : VariantName) (t : TypeName) (k : Account) (rs : List Sent) (m : Asking) → Tells k rs → Tells (settled v t k (nonce_of m) (rejects m)) (map (answered_by m) rs)
 told_settled v t k rs m told = told_by v t k rs m k.sent refl told.waiting told
@@ -125,5 +130,6 @@ told_touched k rs s touched mentioned versions told = record { nonce = told.nonc
 
 -- ---- a response
 
+-- rule: one-unanswered
 pub told_sent : (k : Account) (rs : List Sent) (o : Offer) (number : ℕ) → k.sent ≡ None → Tells k rs → Tells (send k o number) (record { nonce = nonce_text number; offer = o; fate = Unanswered } ∷ rs)
 told_sent k rs o number none told = record { nonce = refl; waiting = (rs, refl, waits_as k.sent k.nonce rs told.waiting ∙ ap is_some none); refused = told.refused }

@@ -93,6 +93,7 @@ module _ (v : VariantName) (cluster : List ℕ) (t : TypeName) (x : Session) (ha
   ignored_same true is none = none_answered m rs none
   ignored_same false is none = refl
 
+  -- rule: stale-nonce
   ignored_agrees : (has && is_stale x.account (nonce_of m)) ≡ true → Agrees v cluster t x true (sent_asked has m rs) qs P
   ignored_agrees stale =
       let there : has ≡ true = and_first has (is_stale x.account (nonce_of m)) stale in

@@ -119,6 +119,7 @@ module _ (named : Naming) (t : TypeName) (m : Entries) (s : Selection) (b : Beli
       subst (AllRight m s sotw_offer) (sym (stated_next e.1 es (is_shown s e.1) (spoken e.1) refl refl))
       (right_next e.0 e.1 (is_shown s e.1) (spoken e.1) e.1.body (stated_from es) found.0 refl refl refl (right_from es found.1))
 
+  -- rule: best-writes
   pub sotw_right : AllRight m s sotw_offer (stated_from (finmap.entries m))
   sotw_right = right_from (finmap.entries m) (each_found m)
 

@@ -89,6 +89,7 @@ module _ (named : Naming) (t : TypeName) (m : Entries) (s : Selection) (b : Beli
   right_from [] found = tt
   right_from (e ∷ es) found = right_next e.0 e.1 es found.0 (right_from es found.1)
 
+  -- rule: best-writes
   pub delta_right : AllRight m s delta_offer (stated_from (finmap.entries delta_offer))
   delta_right = right_from (finmap.entries delta_offer) (each_found delta_offer)
 
@@ -104,6 +105,7 @@ module _ (named : Naming) (t : TypeName) (m : Entries) (s : Selection) (b : Beli
   removed_from [] found name among = absurd cc
   removed_from (e ∷ es) found name among = removed_next e.0 name e.1 es (bytes_eq name e.0) refl found.0 (removed_from es found.1 name) among
 
+  -- rule: no-live-removal
   pub delta_removed : (name : List ℕ) → has_name (names_in removes (finmap.entries delta_offer)) name ≡ true → finmap.get delta_offer name ≡ Some Removed
   delta_removed name among = removed_from (finmap.entries delta_offer) (each_found delta_offer) name among
 

@@ -82,6 +82,7 @@ keeps_plainly l trace replica keeps legal = subst NoneBroken (append-nil trace) 
 
 -- of segments and a history, whose records are these
 module _ (ps : List Piece) (s : Story) (rs : List Record) (whole : IsWhole s) (same : rs ≡ s.records) where
+  -- rule: cuts
   -- segments that are all that was cut join it
   pub joins_all : pieces_entries ps ≡ s.before → Joins ps s
   joins_all all = (subst (Counted 1) (sym all) whole.counted, ap length all)

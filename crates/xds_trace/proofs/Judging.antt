@@ -70,6 +70,7 @@ module _ (n : ℕ) (ls : List Line) (v : VariantName) (s : Selection) (m : Entri
   live_write : (w : StampedWrite) (body : List ℕ) (o : Option (List ℕ)) → o ≡ Some body → (if is_some o then Some w else None) ≡ Some w
   live_write w body o is = ap (λ x. if is_some x then Some w else None) is
 
+  -- rule: best-writes
   put_by : (x : Statement) (w : StampedWrite) → w.body ≡ Some x.body → option_map_or (is_label_of w) x.label true ≡ true → is_put_by x w ≡ true
   put_by x w body label = (λ i. option_map_or (bytes_eq x.body) (body i) false && label i) ∙ both (bytes_eq x.body x.body) (bytes_eq_same x.body)
     where
@@ -77,21 +78,25 @@ module _ (n : ℕ) (ls : List Line) (v : VariantName) (s : Selection) (m : Entri
       both true is = refl
       both false is = absurd cc
 
+  -- rule: best-writes
   best_one : (x : Statement) → IsRight m s this x → is_best a.kind ls x ≡ true
   best_one x right =
       ap (λ o. option_map_or (is_put_by x) (option_and_then if_live o) false) (found x.name right.write right.found)
       ∙ ap (λ o. option_map_or (is_put_by x) o false) (live_write right.write x.body right.write.body right.body)
       ∙ put_by x right.write right.body right.label
 
+  -- rule: best-writes
   all_best : (xs : List Statement) → AllRight m s this xs → list_any (λ x. not (is_best a.kind ls x)) xs ≡ false
   all_best [] right = refl
   all_best (x ∷ xs) right = neither (is_best a.kind ls x) _ (best_one x right.0) (all_best xs right.1)
 
   -- P3
 
+  -- rule: covered-only
   covered_by : (q : List ℕ) (w : StampedWrite) → finmap.get m q ≡ Some w → covers s q w.groups ≡ true → is_covered n a.kind ls q ≡ true
   covered_by q w is covered = (λ i. option_map_or (λ x. covers (known.wanted i) q x.groups) (found q w is i) false) ∙ covered
 
+  -- rule: covered-only
   all_covered : (xs : List Statement) → AllRight m s this xs → list_any (λ q. not (is_covered n a.kind ls q)) (map (λ x. x.name) xs) ≡ false
   all_covered [] right = refl
   all_covered (x ∷ xs) right = neither (is_covered n a.kind ls x.name) _ (covered_by x.name right.0.write right.0.found right.0.covered) (all_covered xs right.1)
@@ -107,6 +112,7 @@ module _ (n : ℕ) (ls : List Line) (v : VariantName) (s : Selection) (m : Entri
   told_of q false true is or none = known.removed q is
   told_of q false false is or none = absurd cc
 
+  -- rule: whole-response
   pub whole_states : (q : List ℕ) → is_whole a.variant a.kind ≡ true → is_shown n a.kind ls q ≡ true → has_name (stated_names a) q ≡ false → ⊥
   whole_states q whole shown none =
       let there = shown_there q shown in
@@ -119,6 +125,7 @@ module _ (n : ℕ) (ls : List Line) (v : VariantName) (s : Selection) (m : Entri
       differ : {version : List ℕ} → Some Removed ≡ Some (Stated version) → ⊥
       differ e = cc
 
+  -- rule: no-live-removal
   pub removed_hidden : list_any (is_shown n a.kind ls) a.removed ≡ true → ⊥
   removed_hidden is =
       let one = named_any (is_shown n a.kind ls) a.removed is in
@@ -155,6 +162,7 @@ module _ (n : ℕ) (ls : List Line) (v : VariantName) (s : Selection) (m : Entri
       none_told None same = same
       none_told (Some d) same = unless_true (tells a q) ((λ i. names i || is i)) (known.told q (ap is_some same))
 
+  -- rule: refused-offer
   -- the offer that the lines say is the one that was sent
   pub offer_is : offer_at ls a ≡ this
   offer_is = same_names (offer_at ls a) this (λ q.

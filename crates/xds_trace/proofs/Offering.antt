@@ -90,6 +90,7 @@ module _ (v : VariantName) (t : TypeName) (s : Selection) (m : Entries) (b : Bel
   pub present_is_stated : (q version : List ℕ) (d : Due) → present s m q ≡ Some version → finmap.get this_offer q ≡ Some d → d ≡ Stated version
   present_is_stated q version d there is = offered_where v t (finmap.get b q) (present s m q) (is_whole v t) version d there (sym (offer_says_it v t s m b q) ∙ is)
 
+  -- rule: no-live-removal
   pub removed_is_absent : (q : List ℕ) → finmap.get this_offer q ≡ Some Removed → present s m q ≡ None
   removed_is_absent q is = offered_gone v t (finmap.get b q) (present s m q) (is_whole v t) (sym (offer_says_it v t s m b q) ∙ is)
 

@@ -74,6 +74,7 @@ settled_waits v t k None same rejected name sent waits = waits
 settled_waits v t k (Some x) true rejected name sent waits = accepted_waits v t k x rejected name (subst (λ o. IsNoted o name) sent waits.noted) waits.untold
 settled_waits v t k (Some x) false rejected name sent waits = waits
 
+-- rule: awaited-names
 -- a name that waits still does once a request settled a response
 pub waits_settled : (v : VariantName) (t : TypeName) (k : Account) (nonce : List ℕ) (rejected : Bool) (name : List ℕ) → Waits (is_delta v) k name → Waits (is_delta v) (settled v t k nonce rejected) name
 waits_settled v t k nonce rejected name waits = settled_waits v t k k.sent (bytes_eq nonce (nonce_text k.nonce)) rejected name refl waits
@@ -117,6 +118,7 @@ unresumed : (k : Account) (s : Selection) (touched : Touch) (mentioned : set.Fin
 unresumed k s touched mentioned versions name none =
     resumed_by_name versions (touch k s touched mentioned).beliefs name ∙ ap (λ o. option_or (option_map Told o) (finmap.get (touch k s touched mentioned).beliefs name)) none ∙ taken_by_name s touched mentioned k.beliefs name
 
+-- rule: awaited-names
 -- a name that waited and is still wanted waits on
 pub waits_on : (delta : Bool) (k : Account) (s : Selection) (touched : Touch) (mentioned : set.FinSet text_cmp) (versions : finmap.FinMap text_cmp (List ℕ)) (name : List ℕ)
     → finmap.get versions name ≡ None → reaches s name ≡ true → Waits delta k name → Waits delta (resume (touch k s touched mentioned) versions) name
@@ -125,6 +127,7 @@ waits_on delta k s touched mentioned versions name none reached waits = record {
   noted = noted_on k.sent touched name waits.noted;
 }
 
+-- rule: awaited-names
 -- a name that is wanted, mentioned and touched waits
 pub waits_anew : (delta : Bool) (k : Account) (s : Selection) (touched : Touch) (mentioned : set.FinSet text_cmp) (versions : finmap.FinMap text_cmp (List ℕ)) (name : List ℕ)
     → finmap.get versions name ≡ None → reaches s name ≡ true → set.contains mentioned name ≡ true → touches touched name ≡ true → Waits delta (resume (touch k s touched mentioned) versions) name

@@ -63,6 +63,7 @@ module _ (cluster : List ℕ) (t : TypeName) (x : Session) (has : Bool) (rs : Li
   abbrev said : Names
   said = sotw_names t x.asked m.resource_names
 
+  -- rule: awaited-names
   sotw_waits : (name : List ℕ) (before : Bool) → P name ≡ before → has_name (names_among t m.resource_names) name ≡ true → (before || not (set.contains old.names name)) ≡ true
       → Waits false (account_taken StateOfTheWorld t x (askings.Sotw m) said) name
   sotw_waits name true is listed_now or =
@@ -180,6 +181,7 @@ module _ (cluster : List ℕ) (t : TypeName) (x : Session) (has : Bool) (rs : Li
       differ : false ≡ true → ⊥
       differ e = cc
 
+  -- rule: awaited-names
   delta_waits : (name : List ℕ) (anew : Bool) → (has_name (names_among t m.resource_names_subscribe) name && (has || not (is_some (finmap.get m.initial_resource_versions name)))) ≡ anew
       → (anew || (P name && not (has_name m.resource_names_unsubscribe name && not (has_name m.resource_names_subscribe name)))) ≡ true
       → (set.contains told_names.asked.interest.names name ≡ true) × Waits true (account_taken Delta t x (askings.Delta m) told_names) name

@@ -86,6 +86,7 @@ variant_is : (m : Message) → answers.variant_of (asking_of m) ≡ variant_of m
 variant_is (Sotw m) = refl
 variant_is (Delta m) = refl
 
+-- rule: first-variant
 -- a message on an open stream of its variant may come
 may_come : (n : ℕ) (s : Stream) (ls : List Line) (v : VariantName) → Speaks n s ls → (s.variant ≡ None) ⊎ (s.variant ≡ Some v) → may_speak n (is_delta v) ls ≡ true
 may_come n s ls v speaks which =
@@ -187,6 +188,7 @@ module _ (c : Core) (ls : List Line) (orders : Orders c ls) where
 
 -- ---- messages
 
+-- rule: first-variant
 pub request_speaks : (n : ℕ) (s : Stream) (m : Message) (p : Outcome × Stream) (ls : List Line) → requested s m ≡ Ok p → Speaks n s ls
     → Speaks n p.1 (lines.Request n (asking_of m) ∷ ls) × (may_follow ls (lines.Request n (asking_of m)) ≡ true)
 request_speaks n s m p ls is speaks =
@@ -208,6 +210,7 @@ response_variant : (named : Naming) (replica : ℕ) (store : Store) (ss : PerTyp
 response_variant named replica store ss t o number variants.StateOfTheWorld = refl
 response_variant named replica store ss t o number variants.Delta = refl
 
+-- rule: first-variant
 pub response_speaks : (named : Naming) (n : ℕ) (replica : ℕ) (store : Store) (s : Stream) (d : Draft) (left : Stream) (ls : List Line) → IsPolled replica store s d left → Speaks n s ls
     → Speaks n left (lines.Response n (making.answer_of named d) ∷ ls) × (may_follow ls (lines.Response n (making.answer_of named d)) ≡ true)
 response_speaks named n replica store s d left ls polled speaks =

@@ -104,14 +104,17 @@ module _ (n : ℕ) (ls : List Line) (s : Stream) (v : VariantName) (a : Answer) 
 
   -- ---- rules
 
+  -- rule: new-nonce
   fresh_nonce : (bytes_eq a.nonce [] || is_used n ls a.nonce) ≡ false
   fresh_nonce =
       (λ i. bytes_eq (nonce_is i) [] || is_used n ls (nonce_is i))
       ∙ (λ i. not_empty (s.count + 1) (omega (arith, below)) i || counted.unused (s.count + 1) (omega arith) (omega (arith, below)) i)
 
+  -- rule: one-unanswered
   free : is_waiting (sent n a.kind ls) ≡ false
   free = waits_as x.account.sent x.account.nonce (sent n a.kind ls) (hears.agrees a.kind).told.waiting ∙ ap is_some due.free
 
+  -- rule: refused-offer
   not_refused : refused_offer (sent n a.kind ls) ≡ Some o → ⊥
   not_refused is =
       unless_true (is_refused x.account o) due.fresh
@@ -155,6 +158,7 @@ module _ (n : ℕ) (ls : List Line) (s : Stream) (v : VariantName) (a : Answer) 
       (sym (at-with_at_other s.sessions a.kind (sessions.send x o (s.count + 1)) t (λ e. other.0 (sym e))))
       (agrees_after n line ls v hears.cluster t (at s.sessions t) Nothing (turn_is t false other.1) (hears.agrees t))
 
+  -- rule: new-nonce
   counted_sent : IsCounted n (s.count + 1) (line ∷ ls)
   counted_sent = record {
     within = omega (arith, below);
@@ -209,6 +213,7 @@ module _ (named : Naming) (n : ℕ) (ls : List Line) (store : Store) (s : Stream
   abbrev held : Entries
   held = (at store t).entries
 
+  -- rule: awaited-names
   owed_pending : (v : VariantName) (name : List ℕ) → Hears v n s ls → is_pending n t ls name ≡ true → (speaks_delta n t ls || is_some (live t ls name)) ≡ true → is_owed v t y.asked.interest held y.account.beliefs name ≡ true
   owed_pending variants.Delta name hears waits counts = delta_owed t (finmap.get y.account.beliefs name) (present y.asked.interest held name) ((hears.agrees t).waits name waits).untold
   owed_pending variants.StateOfTheWorld name hears waits counts =
@@ -225,6 +230,7 @@ module _ (named : Naming) (n : ℕ) (ls : List Line) (store : Store) (s : Stream
   begun_by v name hears waits false is =
       let before = hears.agrees t in unless_true (is_pending n t ls name) ((before.fresh (sym before.begun ∙ is)).1 name) waits
 
+  -- rule: awaited-names
   none_pending : (p : Option VariantName) (name : List ℕ) → s.variant ≡ p → IsHeard p n s ls → option_map_or (λ v. sessions.owes v t y held) p false ≡ false → is_pending n t ls name ≡ true
       → (speaks_delta n t ls || is_some (live t ls name)) ≡ true → ⊥
   none_pending None name is heard none waits counts = unless_true (is_pending n t ls name) (heard.pending t name) waits
@@ -235,6 +241,7 @@ module _ (named : Naming) (n : ℕ) (ls : List Line) (store : Store) (s : Stream
       (nothing_owed v t y.asked.interest held y.account.beliefs name (or_parts (something_owed v t y.asked.interest held y.account.beliefs) (is_whole v t && not y.account.accepted) due).0)
       (owed_pending v name heard waits counts)
 
+  -- rule: awaited-names
   -- that nothing is owed, where it is so, breaks no rule
   pub idle_keeps : Follows n s ls → owes_of store s t ≡ false → KeepsRules ls (lines.Idle n t)
   idle_keeps follows none FreshNonce broken = broken

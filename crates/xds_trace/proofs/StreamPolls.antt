@@ -30,6 +30,7 @@ use Rattle.xds_trace.proofs.Accounts.{none_of}
 one_more : (n : ℕ) → n + 1 ≡ suc n
 one_more n = omega arith
 
+-- rule: nonce-numbers
 pub number_text : (n : ℕ) → nonce_text (n + 1) ≡ decimal (n + 1)
 number_text n = ap nonce_text (one_more n) ∙ ap decimal (sym (one_more n))
 
@@ -37,6 +38,7 @@ pub apart_by : (x y : List ℕ) (b : Bool) → bytes_eq x y ≡ b → (x ≡ y �
 apart_by x y true is other = absurd (other (bytes_eq_tells x y is))
 apart_by x y false is other = refl
 
+-- rule: new-nonce
 pub not_empty : (n : ℕ) → n ≤ max_counter → bytes_eq (decimal n) [] ≡ false
 not_empty n within = apart_by (decimal n) [] (bytes_eq (decimal n) []) refl (λ is. let some : 0 < length (decimal n) = decimal_nonempty n (omega (arith, within)) in omega (arith, some, ap length is))
 

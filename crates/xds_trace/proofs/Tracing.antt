@@ -76,5 +76,6 @@ taken_idle_ends named replica rs quiet legal called all =
     let now : Kept named (replayed (fresh replica) rs) (reverse (trace_by named rs)) = subst (Kept named (replayed (fresh replica) rs)) (append-nil (reverse (trace_by named rs))) kept in
     subst AllKeep (sym (reverse-append (trace_by named rs) (map (λ p. lines.Idle p.0 p.1) quiet))) (idle_kept named (replayed (fresh replica) rs) quiet (reverse (trace_by named rs)) now all)
 
+-- rule: awaited-names
 pub so_do_idle_ends : SoDoIdleEnds
 so_do_idle_ends named replica rs quiet legal called all = taken_idle_ends named replica rs quiet legal (all_named named rs called) all

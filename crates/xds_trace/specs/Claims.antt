@@ -17,6 +17,8 @@ use Rattle.xds_check.specs.Streams.{IsInOrder}
 use Rattle.xds_check.specs.Texts.{HasStream}
 use Rattle.xds_trace.specs.Making.{Naming, IsWellNamed, IsSound, trace_by, trace_of}
 
+-- rule: awaited-names, rule: whole-response, rule: covered-only, rule: no-live-removal
+-- rule: best-writes, rule: one-unanswered, rule: refused-offer, rule: new-nonce
 -- The trace of every legal list of records from a fresh replica, whoever sent the requests, breaks no rule.
 abbrev pub EveryLegalTraceKeepsTheRules : Type 0
 EveryLegalTraceKeepsTheRules =
@@ -26,16 +28,20 @@ EveryLegalTraceKeepsTheRules =
 abbrev pub IsQuiet : Core → ℕ × TypeName → Type 0
 IsQuiet c p = IsSomeAnd (finmap.get c.streams p.0) (λ s. owes_of c.store s p.1 ≡ false)
 
+-- rule: awaited-names
 -- Nor does that trace with lines at its end which say of streams that nothing is owed to them of a type, where that is so then.
 abbrev pub SoDoIdleEnds : Type 0
 SoDoIdleEnds =
     (named : Naming) (replica : ℕ) (rs : List Record) (quiet : List (ℕ × TypeName)) → IsLegal (fresh replica) rs → All (λ r. IsWellNamed named r.event) rs
     → All (IsQuiet (replayed (fresh replica) rs)) quiet → NoneBroken (trace_by named rs ++ map (λ p. lines.Idle p.0 p.1) quiet)
 
+-- rule: awaited-names, rule: whole-response, rule: covered-only, rule: no-live-removal
+-- rule: best-writes, rule: one-unanswered, rule: refused-offer, rule: new-nonce
 -- So it is with what the calls of a replica take, whose resources go by their own names.
 abbrev pub EveryTraceKeepsTheRules : Type 0
 EveryTraceKeepsTheRules = (replica : ℕ) (rs : List Record) → IsLegal (fresh replica) rs → All (λ r. IsSound r.event) rs → NoneBroken (trace_of rs)
 
+-- rule: awaited-names
 abbrev pub SoDoesOneWithIdleEnds : Type 0
 SoDoesOneWithIdleEnds =
     (replica : ℕ) (rs : List Record) (quiet : List (ℕ × TypeName)) → IsLegal (fresh replica) rs → All (λ r. IsSound r.event) rs → All (IsQuiet (replayed (fresh replica) rs)) quiet

@@ -137,6 +137,7 @@ abbrev pub response_lines : Naming → ℕ → Reply → List Line
 response_lines named n (Polled sent) = sent_lines named n sent
 response_lines named n reply = []
 
+-- rule: awaited-names
 -- that nothing is owed of a type; what is said of all types at once makes no line
 abbrev pub idle_lines : ℕ → Option TypeName → Reply → List Line
 idle_lines n (Some t) (Owed false) = lines.Idle n t ∷ []

@@ -15,6 +15,7 @@ use xds_core::Core;
 use xds_node::{History, Line, NodeName, Segment};
 use xds_resource::Refusal;
 
+// rule: cuts
 /// The trace of what the threads of a node did: the lines of each record of the segments, one after another, and then of the
 /// history. Where nothing was cut it breaks no rule, nor where the segments are all that was cut, as `History::audit` finds out.
 /// `Gap` where the segments, in this order, don't begin with record 1 and join without a gap up to the first record of the
@@ -41,6 +42,7 @@ pub fn of_history<N: NodeName>(
     }
 }
 
+// rule: cuts
 // The lines of segments, and of the records behind them that were made from this base.
 fn all_lines<N: NodeName>(
     alloc: Global,
@@ -62,6 +64,7 @@ fn all_lines<N: NodeName>(
     }
 }
 
+// rule: cuts
 // Adds the lines of segments, one after another.
 fn push_segments<N: NodeName>(
     alloc: Global,
@@ -111,6 +114,7 @@ fn push_lines(alloc: Global, lines: &mut Vec<TraceLine>, records: &[Line]) -> Re
     Ok(())
 }
 
+// rule: cuts
 /// The same of a history that is audited then by these segments, and handed over with them: the trace breaks no rule. `Gap` where
 /// the segments aren't all that was cut, in order; else refused only by `OutOfMemory`.
 pub fn of_audited<N: NodeName>(

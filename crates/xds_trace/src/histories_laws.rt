@@ -7,6 +7,7 @@ pub fn every_record_is_told_from_its_base()
     ensures { EveryRecordIsToldFromItsBase }
 {}
 
+// rule: cuts
 /// The texts of a node's segments, one after another, and of what its history has behind them are the text of the trace that
 /// `of_history` gives.
 pub fn texts_join()

@@ -2,6 +2,8 @@
 ghost use Rattle.xds_trace.specs.Telling.{EveryRecordIsTold};
 ghost use Rattle.xds_trace.specs.Claims.{EveryLegalTraceKeepsTheRules, SoDoIdleEnds, EveryTraceKeepsTheRules, SoDoesOneWithIdleEnds, EveryLegalTraceIsInOrder, EveryStreamHasANumber};
 
+// rule: awaited-names, rule: whole-response, rule: covered-only, rule: no-live-removal
+// rule: best-writes, rule: one-unanswered, rule: refused-offer, rule: new-nonce
 /// The trace of what a replica did breaks no rule, whoever sent the requests and however bodies are called, nor does it with lines
 /// at its end that say truly that nothing is owed.
 pub fn every_legal_trace_keeps_the_rules()
@@ -9,6 +11,8 @@ pub fn every_legal_trace_keeps_the_rules()
     ensures idle { SoDoIdleEnds }
 {}
 
+// rule: awaited-names, rule: whole-response, rule: covered-only, rule: no-live-removal
+// rule: best-writes, rule: one-unanswered, rule: refused-offer, rule: new-nonce
 /// The same of what the calls of a replica take.
 pub fn every_trace_keeps_the_rules()
     ensures kept { EveryTraceKeepsTheRules }

@@ -194,6 +194,7 @@ fn push_response(
     }
 }
 
+// rule: awaited-names
 fn push_idle(
     lines: &mut Vec<Line>,
     stream: u64,

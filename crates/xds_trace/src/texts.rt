@@ -24,6 +24,7 @@ use xds_resource::Refusal;
 // How many bytes are gathered before they are written.
 const BLOCK: usize = 65_536;
 
+// rule: cuts
 /// Writes the records of a segment as lines of a trace, and flushes: of the segments of a node, one after another, and of what its
 /// history has behind them, the texts are the text of the trace (`laws`). The text of a record at a time is in memory, and a block
 /// of 65,536 bytes. `Device` where a call of the writer failed, else refused only by `OutOfMemory`; either way a beginning was
@@ -38,6 +39,7 @@ pub fn write_segment<N: NodeName, W: Write>(
     write_legal(alloc, segment.base(), segment.records(), writer)
 }
 
+// rule: cuts
 /// The same of the records that a history has, which stand behind all segments.
 pub fn write_history<N: NodeName, W: Write>(
     alloc: Global,

@@ -206,6 +206,7 @@ impl Trial for WhereFull {
     }
 }
 
+// rule: cuts
 #[test]
 fn a_journal_that_stays_full_is_told(rt: HostRuntime) -> Result<(), Fail> {
     let came = tried(&rt, rt.alloc(), &WhereFull)?;

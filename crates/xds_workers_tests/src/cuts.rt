@@ -268,6 +268,7 @@ fn four_seats<N: NodeName + Send + Sync, R: Threads + Wait + Sync>(
     four(rt, alloc, Node::<N>::new(alloc, opened, 1))
 }
 
+// rule: one-seat, rule: cuts
 #[test]
 fn records_of_four_threads_are_numbered_once(rt: HostRuntime) -> Result<(), Fail> {
     let opened = Opened::<Line>::new(rt.alloc())?;

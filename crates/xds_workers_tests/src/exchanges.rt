@@ -233,6 +233,7 @@ fn told_b(outcome: &Exchanged) -> Result<(), Fail> {
     )
 }
 
+// rule: marks
 #[test]
 fn what_a_stopped_node_holds_comes_to_another(rt: HostRuntime) -> Result<(), Fail> {
     let first = Opened::<Line>::new(rt.alloc())?;
@@ -359,6 +360,7 @@ fn exchange_shortly<M: NodeName + Send + Sync, N: NodeName + Send + Sync, R: Thr
     short(rt, alloc, two::<M, N>(alloc, first, second), count)
 }
 
+// rule: cuts
 #[test]
 fn a_hundred_parcels_pass_where_the_journals_are_short(rt: HostRuntime) -> Result<(), Fail> {
     let first = Opened::<Line>::new(rt.alloc())?;

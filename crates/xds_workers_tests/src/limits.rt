@@ -307,6 +307,7 @@ fn while_it_runs(of_stream: bool, first: Deed, then: Deed) -> Case {
     }
 }
 
+// rule: wake-ups
 #[test]
 fn who_waits_for_a_stream_is_let_go_by_what_others_do(rt: HostRuntime) -> Result<(), Fail> {
     let put = while_it_runs(true, Deed::Put, Deed::Close);
@@ -315,6 +316,7 @@ fn who_waits_for_a_stream_is_let_go_by_what_others_do(rt: HostRuntime) -> Result
     ends(&rt, rt.alloc(), closed, End::Closed)
 }
 
+// rule: wake-ups
 #[test]
 fn who_waits_for_changes_is_let_go_by_what_others_do(rt: HostRuntime) -> Result<(), Fail> {
     let put = while_it_runs(false, Deed::Put, Deed::Stop);
@@ -464,6 +466,7 @@ fn many_go<N: NodeName + Send + Sync, R: Threads + Wait + Clock + Sync>(
     Ok((many, one))
 }
 
+// rule: wake-ups
 #[test]
 fn a_put_lets_more_writers_go_than_it_wakes(rt: HostRuntime) -> Result<(), Fail> {
     let opened = Opened::<Line>::new(rt.alloc())?;

@@ -136,6 +136,7 @@ fn lost_once<M: NodeName, N: NodeName, R: Wait>(
     put_twice(rt, alloc, two::<M, N>(alloc, first, second))
 }
 
+// rule: marks
 #[test]
 fn a_merge_without_a_record_is_receipted_as_lost(rt: HostRuntime) -> Result<(), Fail> {
     let first = Opened::<Line>::new(rt.alloc())?;
@@ -233,6 +234,7 @@ fn lost_and_told<M: NodeName + Send + Sync, N: NodeName + Send + Sync, R: Thread
     again(rt, alloc, two::<M, N>(alloc, first, second))
 }
 
+// rule: marks
 #[test]
 fn what_is_lost_is_told_again_at_once(rt: HostRuntime) -> Result<(), Fail> {
     let first = Opened::<Line>::new(rt.alloc())?;

@@ -138,6 +138,7 @@ impl Trial for WhereFull {
     }
 }
 
+// rule: cuts
 #[test]
 fn what_is_cut_is_kept(rt: HostRuntime) -> Result<(), Fail> {
     let (second, passed, cuts) = tried(&rt, rt.alloc(), &WhereFull)?;

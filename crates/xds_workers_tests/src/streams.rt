@@ -206,6 +206,7 @@ fn a_frame_of_another_kind_is_refused(rt: HostRuntime) -> Result<(), Fail> {
     Ok(())
 }
 
+// rule: first-variant
 #[test]
 fn a_request_of_the_other_variant_ends_a_stream(rt: HostRuntime) -> Result<(), Fail> {
     let mut input = write_frame(rt.alloc(), FrameKind::DiscoveryRequest, REQUEST)?;

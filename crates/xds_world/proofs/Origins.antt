@@ -357,6 +357,7 @@ pub stamped_after : (test : Test) (hs : List Happening) (w : World) (k : Knowled
 stamped_after test [] w k all kept stamped = stamped
 stamped_after test (h ∷ hs) w k all kept stamped = stamped_or test w k all h hs (happens test w h) refl kept stamped (stamped_after test hs)
 
+-- rule: new-numbers
 pub one_write_a_stamp : (test : Test) (hs : List Happening) → OneWriteAStamp test hs
 one_write_a_stamp test hs =
     let stamped = stamped_after test hs empty_world nothing_known [] kept_start stamped_start in

@@ -202,6 +202,7 @@ shows_writes t cluster f m w ws of same content shows = (
   (λ name h is. shows.agrees name h (ap (λ v. shown_in (interest t cluster v) m name) same ∙ content name ∙ is), λ name unwanted. shows.within name (ap (λ v. is_wanted t v name) same ∙ unwanted)),
 )
 
+-- rule: not-modified
 pub polled_is_exact : (test : Test) (hs : List Happening) → PutResources hs → PolledIsExact test hs
 polled_is_exact test hs put c r t x accepts =
     let p = rest_poll_is test (world test x.before) x.left c r t Arrives x.possible in
@@ -212,6 +213,7 @@ polled_is_exact test hs put c r t x accepts =
     (shows_writes t p.peer.client.cluster (shelf p.client t) (at is.site.core.store t).entries (wants test x.before c t) (writes_of t (knows test x.before r)) (cluster_of test x.before c) wanted
     (λ name. ap (λ v. shown_in (interest t p.peer.client.cluster v) (at is.site.core.store t).entries name) (wanted_here test hs c r t Arrives x) ∙ content_here test hs c r t Arrives x put name) shows)
 
+-- rule: whole-or-nothing
 pub polled_is_taken : (test : Test) (hs : List Happening) → PutResources hs → PolledIsTaken test hs
 polled_is_taken test hs put c r t x takes =
     let p = rest_poll_is test (world test x.before) x.left c r t Arrives x.possible in
@@ -219,6 +221,7 @@ polled_is_taken test hs put c r t x takes =
     rejected_is test (world test x.before) x.left c r t Arrives p
     ∙ polled_taken test (world test x.before) _ r t p.peer.client p.draft is (sound_here test hs c r t Arrives x put) (λ name h live. takes name h (sym (content_here test hs c r t Arrives x put name) ∙ live))
 
+-- rule: whole-or-nothing
 pub lost_leaves_the_view : (test : Test) (hs : List Happening) → LostLeavesTheView test hs
 lost_leaves_the_view test hs c r t answer x why u =
     let p = rest_poll_is test (world test x.before) x.left c r t answer x.possible in

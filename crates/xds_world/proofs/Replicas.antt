@@ -475,10 +475,12 @@ pub kept_after : (test : Test) (hs : List Happening) (w : World) (k : Knowledge)
 kept_after test [] w k kept = kept
 kept_after test (h ∷ hs) w k kept = kept_or test w k h hs (happens test w h) refl kept (kept_after test hs)
 
+-- rule: greatest-write
 -- the replicas' half of the headline
 pub holds_what_it_knows : (test : Test) (hs : List Happening) → HoldsWhatItKnows test hs
 holds_what_it_knows test hs r s t has = (kept_after test hs empty_world nothing_known kept_start).holds r s t has
 
+-- rule: greatest-write
 pub same_knowledge : (test : Test) (hs : List Happening) → SameKnowledgeSameHoldings test hs
 same_knowledge test hs r q a b t has_a has_b same =
     holds_what_it_knows test hs r a t has_a ∙ order_does_not_matter (writes_of t (knows test hs r)) (writes_of t (knows test hs q)) same ∙ sym (holds_what_it_knows test hs q b t has_b)

@@ -91,6 +91,7 @@ asked_is Rest c t q is = if_some (wants_some (shelf c t).wants) (rest_asking c t
 asked_is Sotw c t q is = absurd (never q is)
 asked_is Delta c t q is = absurd (never q is)
 
+-- rule: not-modified
 rested_same : (a b : Option Drafted) → events.Rested a ≡ events.Rested b → a ≡ b
 rested_same a b e = cc
 
@@ -190,6 +191,7 @@ still w left same present = subst (λ m. AllPresent m left.sites) (sym same) pre
 streams_only : (k : ClientKind) → k ≡ Rest → has_streams k ≡ true → ⊥
 streams_only k is has = let never : false ≡ true = ap has_streams (sym is) ∙ has in absurd cc
 
+-- rule: not-modified
 -- a client that has a link
 stays_present : (w left : World) (all : List TypedWrite) (d : ℕ) (p : Peer) (l : Link) → finmap.get w.peers d ≡ Some p → p.link ≡ Some l → Stays w left d → Fine w all → AllPresent w.peers left.sites → AllPresent left.peers left.sites
 stays_present w left all d p l has linked x fine present =

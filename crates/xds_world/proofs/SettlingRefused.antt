@@ -95,6 +95,7 @@ unless_settled : (settled held : Bool) → (settled ≡ true) ⊎ (held ≡ true
 unless_settled settled held (inl is) not_is = let never : true ≡ false = sym is ∙ not_is in absurd cc
 unless_settled settled held (inr is) not_is = is
 
+-- rule: refused-offer
 pub unsettled_has_refused : (test : Test) (hs : List Happening) → PutResources hs → UnsettledHasRefused test hs
 unsettled_has_refused test hs put c t more l settling linked unsettled =
     let w : World = world test hs in

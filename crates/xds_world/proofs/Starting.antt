@@ -36,6 +36,7 @@ requested_started cluster x m =
     ap (λ ss. if is_foreign x m then Err WrongVariant else if_done (λ p. (p.0, record { variant = Some (variant_of m); count = x.count; sessions = p.1 })) (answered ss m))
     (chosen_twice (is_some x.variant) x.sessions (each (unopened cluster)) (each (unopened (cluster_of m))))
 
+-- rule: first-variant
 -- the first request decides the variant
 pub requested_decides : (x : Stream) (m : Message) (z : Outcome × Stream) → requested x m ≡ Ok z → z.1.variant ≡ Some (variant_of m)
 requested_decides x m z is = ap (λ (y : Stream). y.variant) (taken_by (is_foreign x m) x (variant_of m) (answered (sessions_for x m) m) z is).2
@@ -109,6 +110,7 @@ module _ {X : Type 0} (tag : X → Message) (make : TypeName → Bool → X) (c 
   first_by true s ss later = says s
   first_by false s ss later = later
 
+  -- rule: groups
   pub first_greets : (ts : List TypeName) → IsGreeting (linked (is_greeted c false ts) c) (firsts tag make c false ts)
   first_greets [] = refl
   first_greets (s ∷ ss) = first_by (wants_some (shelf c s).wants) s ss (first_greets ss)

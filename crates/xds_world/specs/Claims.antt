@@ -91,10 +91,12 @@ is_settled w c t = option_map_or (λ p. option_map_or (is_settled_on w t) p.link
 abbrev pub holding_of : StampedWrite → Option Holding
 holding_of w = option_map (λ body. record { version = version_of w; body = body }) w.body
 
+-- rule: star-covers, rule: groups
 -- what is held of a write of a name, where an interest covers the name in the write's groups
 abbrev pub shown_of : Selection → List ℕ → StampedWrite → Option Holding
 shown_of s name w = if covers s name w.groups then holding_of w else None
 
+-- rule: groups
 -- what a client of a cluster that wants these is to show of a name: the greatest write of it, if that puts a resource and is covered
 abbrev pub content_at : TypeName → List StampedWrite → List ℕ → Wants → List ℕ → Option Holding
 content_at t ws cluster w name = option_and_then (shown_of (interest t cluster w) name) (best ws name)
@@ -138,6 +140,7 @@ PutResources (h ∷ hs) = PutsAResource h × PutResources hs
 
 -- ---- the headline
 
+-- rule: greatest-write
 -- the replicas' half: what a replica holds are the best writes of what it knows
 abbrev pub HoldsWhatItKnows : Test → List Happening → Type 0
 HoldsWhatItKnows test hs = (r : ℕ) (s : Site) (t : TypeName) → finmap.get (world test hs).sites r ≡ Some s → (at s.core.store t).entries ≡ catalogue_of (writes_of t (knows test hs r))
@@ -181,18 +184,21 @@ is_rejected_by test p t (reply, w) = false
 abbrev pub rejects : Test → World → ℕ → ℕ → TypeName → Bool
 rejects test w c r t = option_map_or (λ p. option_map_or (λ q. option_map_or (is_rejected_by test p t) (at_site w r (poll_event t q)) false) (poll_of p t) false) (finmap.get w.peers c) false
 
+-- rule: not-modified
 -- after a poll whose answer came and wasn't rejected, or was that nothing changed, the client shows what the replica knew then
 abbrev pub PolledIsExact : Test → List Happening → Type 0
 PolledIsExact test hs =
     (c r : ℕ) (t : TypeName) (x : IsPoll test hs c r t Arrives) → rejects test (world test x.before) c r t ≡ false
     → Shows t (writes_of t (knows test x.before r)) (cluster test x.before c) (wants test x.before c t) (clients.view x.polled.client t)
 
+-- rule: whole-or-nothing
 -- what comes is rejected only where the client's test refuses something that the client is to show
 abbrev pub PolledIsTaken : Test → List Happening → Type 0
 PolledIsTaken test hs =
     (c r : ℕ) (t : TypeName) (x : IsPoll test hs c r t Arrives) → TakesAll test t (writes_of t (knows test x.before r)) (cluster test x.before c) (wants test x.before c t)
     → rejects test (world test x.before) c r t ≡ false
 
+-- rule: whole-or-nothing
 -- an answer that is lost or rejected changes nothing of what the client shows
 abbrev pub LostLeavesTheView : Test → List Happening → Type 0
 LostLeavesTheView test hs =
@@ -211,6 +217,7 @@ PollsArePossible test hs =
 
 -- ---- replicas, stamps, journals
 
+-- rule: greatest-write
 -- replicas that know the same writes hold the same, whatever came in which order and how often
 abbrev pub SameKnowledgeSameHoldings : Test → List Happening → Type 0
 SameKnowledgeSameHoldings test hs =
@@ -221,6 +228,7 @@ SameKnowledgeSameHoldings test hs =
 abbrev pub all_made : Test → List Happening → List TypedWrite
 all_made test hs = made_after test empty_world [] hs
 
+-- rule: new-numbers
 -- what is known was made somewhere, and a stamp names one write of a type
 abbrev pub OneWriteAStamp : Test → List Happening → Type 0
 OneWriteAStamp test hs =

@@ -64,6 +64,7 @@ knows test hs r = (known_after test empty_world nothing_known hs).at r
 
 -- ---- what is wanted
 
+-- rule: delta-names
 -- what a client wants of a type after a change of its own
 abbrev pub wished : Wish → Wants → Wants
 wished (Names names) before = wants_of names
@@ -92,6 +93,7 @@ abbrev pub cluster_after : Test → World → ℕ → List ℕ → List Happenin
 cluster_after test w c before [] = before
 cluster_after test w c before (h ∷ hs) = option_map_or (λ x. cluster_after test x c (placing c h before) hs) (happens test w h) (cluster_after test w c before hs)
 
+-- rule: groups
 -- the text of a client's cluster, empty where it has none
 abbrev pub cluster : Test → List Happening → ℕ → List ℕ
 cluster test hs c = cluster_after test empty_world c [] hs

@@ -123,12 +123,14 @@ IsAddedToSettle test c t hs more =
 
 -- ---- what is held back
 
+-- rule: refused-offer
 -- whether what a replica would send on a stream is what the client refused last
 abbrev pub would_repeat : TypeName → Store → Stream → Bool
 would_repeat t store x =
     let s = at x.sessions t in
     option_map_or (λ v. is_refused s.account (offer v t s.asked.interest (at store t).entries s.account.beliefs)) x.variant false
 
+-- rule: refused-offer
 -- Whether the next response of the type to a client is held back: it is what the client refused last.
 abbrev pub is_held_back : World → ℕ → TypeName → Bool
 is_held_back w c t = says_of_stream (would_repeat t) w c

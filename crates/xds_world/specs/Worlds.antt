@@ -120,6 +120,7 @@ pooled r (reply, w) = None
 abbrev pub with_peer : World → ℕ → Peer → World
 with_peer w c p = record w { peers = finmap.insert w.peers c p }
 
+-- rule: groups
 abbrev pub new_peer : ℕ → ClientKind → List ℕ → Peer
 new_peer c kind cluster = record { kind = kind; client = clients.fresh (decimal c) cluster; link = None }
 
@@ -215,6 +216,7 @@ abbrev pub client_in : {X : Type 0} → Outcome X → Option Client
 client_in (Ok p) = Some p.0
 client_in (Err refusal) = None
 
+-- rule: not-modified
 -- the client after an answer, which has no body where nothing changed; one that is lost changes nothing
 abbrev pub answer_taken : Test → Answer → Client → TypeName → Option Drafted → Option Client
 answer_taken test Arrives c t d = client_in (rest_receive test c t (option_map message_of d))
@@ -255,6 +257,7 @@ abbrev pub down_taken : Test → World → ℕ → Peer → Link → List Draft 
 down_taken test w c p l [] = None
 down_taken test w c p l (d ∷ rest) = option_map (λ q. with_peer w c (taken_down p l rest q)) (received test p d)
 
+-- rule: new-numbers
 -- whether a replica may come under this number: replicas have numbers from 1 to the greatest writer, each its own
 abbrev pub is_free : World → ℕ → Bool
 is_free w r = (nat_lt 0 r && not (nat_lt max_writer r)) && is_none (finmap.get w.sites r)

@@ -5,12 +5,14 @@ ghost use Rattle.xds_world.specs.Happenings.{Happening};
 ghost use Rattle.xds_world.specs.Claims.{HoldsWhatItKnows, PutResources, SameKnowledgeSameHoldings, SettledIsExact, SettledAgrees, LinksAreFollowed, OneWriteAStamp, JournalsAreLegal, JournalsTellAll, PolledIsExact, PolledIsTaken, LostLeavesTheView, PollsArePossible, PollersHaveNoStream};
 ghost use Rattle.xds_world.specs.Settling.{TwoResponsesSuffice, QuietAtTheEnd, UnsettledHasRefused, StopsWhereSpent, SettlesWhereAllIsTaken};
 
+// rule: greatest-write
 /// What a replica holds are the best writes of what it knows, so replicas that know the same writes hold the same.
 pub fn replicas_hold_what_they_know()
     ensures holds { (test : Test) (hs : List Happening) → HoldsWhatItKnows test hs }
     ensures same { (test : Test) (hs : List Happening) → SameKnowledgeSameHoldings test hs }
 {}
 
+// rule: new-numbers
 /// What is known was made at some replica, and no two writes of a type have the same stamp.
 pub fn a_stamp_names_one_write()
     ensures { (test : Test) (hs : List Happening) → OneWriteAStamp test hs }
@@ -30,6 +32,7 @@ pub fn settled_clients_are_exact()
     ensures sotw { (test : Test) (hs : List Happening) → PutResources hs → SettledAgrees test hs }
 {}
 
+// rule: whole-or-nothing, rule: not-modified
 /// A client of REST shows, after a poll whose answer came and wasn't rejected or said that nothing changed, what its replica knew then;
 /// but of an incomplete type what is live there no longer may remain. An answer is rejected only where the client's test refuses
 /// something of it, and one that is lost or rejected leaves the view. A poll is possible wherever something is wanted. Such a client

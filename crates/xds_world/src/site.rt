@@ -83,6 +83,7 @@ impl Site {
         }
     }
 
+    // rule: refused-event
     /// What an event is answered; nothing where it is refused, and then nothing happened. Refused only by `OutOfMemory`, and then
     /// the replica and its journal may not fit.
     pub(crate) fn take(&mut self, alloc: Global, event: Event) -> Result<Option<Reply>, Refusal>

@@ -174,6 +174,7 @@ impl<A: Accept> State<A> {
         reply
     }
 
+    // rule: refused-event
     // Lets an event happen at a replica. Answers whether it happened.
     fn happened_at(&mut self, alloc: Global, replica: u16, event: Event) -> Result<bool, Refusal>
         ensures ok { IfOk result (λ b. Happened self.old b self.new (happened_at self.old replica (event_of event))) }
@@ -389,6 +390,7 @@ impl<A: Accept> State<A> {
         Ok(connected)
     }
 
+    // rule: new-numbers
     fn add_replica(&mut self, alloc: Global, replica: u16) -> Result<bool, Refusal>
         ensures ok { IfOk result (λ b. Happened self.old b self.new (happens A.accepts self.old (happenings.AddReplica replica))) }
         ensures refused { IfErr result (λ e. e ≡ OutOfMemory) }

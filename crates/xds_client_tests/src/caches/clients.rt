@@ -4,6 +4,7 @@ use crate::caches::script::{play, play_in};
 use crate::caches::sotw::Sotw;
 use std::test::Fail;
 
+// rule: accept-reject, rule: whole-or-nothing
 #[test]
 fn state_of_the_world_is_taken_whole(rt: HostRuntime) -> Result<(), Fail> {
     play::<Sotw, HostRuntime>(
@@ -93,6 +94,7 @@ view listener => {"@type":"LDS","name":"l"}"#,
     )
 }
 
+// rule: accept-reject, rule: whole-or-nothing
 #[test]
 fn delta_responses_are_taken_whole(rt: HostRuntime) -> Result<(), Fail> {
     play::<Delta, HostRuntime>(
@@ -135,6 +137,7 @@ view cluster => 3-1 {"@type":"CDS","name":"a"}"#,
     )
 }
 
+// rule: delta-names
 #[test]
 fn delta_changes(rt: HostRuntime) -> Result<(), Fail> {
     play::<Delta, HostRuntime>(
@@ -179,6 +182,7 @@ connect => {"initialResourceVersions":{"w":"5-2","x":"4-2"},"node":{"id":"7"},
     )
 }
 
+// rule: groups
 #[test]
 fn the_first_request_says_the_cluster(rt: HostRuntime) -> Result<(), Fail> {
     play_in::<Sotw, HostRuntime>(

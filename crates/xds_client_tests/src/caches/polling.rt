@@ -4,6 +4,7 @@ use crate::caches::rest::Rest;
 use crate::caches::script::{play, play_in};
 use std::test::Fail;
 
+// rule: whole-response
 #[test]
 fn answers_of_complete_types_are_the_whole(rt: HostRuntime) -> Result<(), Fail> {
     play::<Rest, HostRuntime>(
@@ -30,6 +31,7 @@ poll listener => none"#,
     )
 }
 
+// rule: not-modified
 #[test]
 fn a_change_forgets_the_version(rt: HostRuntime) -> Result<(), Fail> {
     play::<Rest, HostRuntime>(
@@ -60,6 +62,7 @@ receive cluster {"typeUrl":"CDS","versionInfo":"1.3.named"} => 7 BadMessage"#,
     )
 }
 
+// rule: whole-response
 #[test]
 fn names_that_an_answer_lacks_stay_where_the_type_is_incomplete(
     rt: HostRuntime,
@@ -92,6 +95,7 @@ view secret => {"@type":"SDS","name":"s"}"#,
     )
 }
 
+// rule: whole-or-nothing
 #[test]
 fn answers_are_rejected_whole(rt: HostRuntime) -> Result<(), Fail> {
     play::<Rest, HostRuntime>(
@@ -127,6 +131,7 @@ view endpoint => {"@type":"EDS","cluster_name":"e"}"#,
     )
 }
 
+// rule: groups
 #[test]
 fn each_poll_says_who_asks(rt: HostRuntime) -> Result<(), Fail> {
     play_in::<Rest, HostRuntime>(

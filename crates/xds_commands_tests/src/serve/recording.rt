@@ -107,6 +107,7 @@ fn is_recorded<
     )
 }
 
+// rule: cuts
 #[test]
 fn a_recorded_run_is_checked(rt: HostRuntime) -> Result<(), Fail> {
     let folder = new_folder(&rt)?;

@@ -136,6 +136,7 @@ fn left_after_streams<R: Wait + AllocGlobal>(
     left_after(rt, story)
 }
 
+// rule: cuts
 #[test]
 fn a_heavy_journal_is_cut(rt: HostRuntime) -> Result<(), Fail> {
     assert_eq!(rt; left_after_puts(&rt, 4)?, 4);

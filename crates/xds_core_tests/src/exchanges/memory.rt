@@ -43,6 +43,7 @@ fn tell_again<S: Site>(alloc: Global, one: &mut S, other: &mut S) -> Result<bool
     Ok(is_refused)
 }
 
+// rule: marks
 #[test]
 fn rounds_without_memory(rt: HostRuntime) -> Result<(), Fail> {
     if told_again::<Core>(rt.alloc())? {

@@ -69,6 +69,7 @@ fn told_thrice<S: Site>(alloc: Global, one: &mut S, other: &mut S) -> Result<(),
     are_equal(alloc, one, other)
 }
 
+// rule: marks
 #[test]
 fn a_thousand_clusters(rt: HostRuntime) -> Result<(), Fail> {
     thousand_clusters::<Core>(rt.alloc())
@@ -95,6 +96,7 @@ fn told_of_types<S: Site>(alloc: Global, one: &mut S, other: &mut S) -> Result<(
     are_equal(alloc, one, other)
 }
 
+// rule: marks
 #[test]
 fn all_five_types(rt: HostRuntime) -> Result<(), Fail> {
     five_types::<Core>(rt.alloc())
@@ -223,6 +225,7 @@ fn tell<S: Site>(alloc: Global, all: &mut Three<S>, which: u64) -> Result<(), Re
     Ok(())
 }
 
+// rule: greatest-write, rule: marks
 #[test]
 fn replicas_agree(rt: HostRuntime) -> Result<(), Fail> {
     wander::<Core>(rt.alloc())

@@ -3,6 +3,7 @@ use crate::rest::served::Served;
 use std::test::Fail;
 use xds_cases::scripts::follow;
 
+// rule: not-modified
 #[test]
 fn all_is_told_unless_the_version_is_the_present_one(rt: HostRuntime) -> Result<(), Fail> {
     follow::<Served, HostRuntime>(
@@ -69,6 +70,7 @@ POST /v3/discovery:clusters {"versionInfo":"1.0"} => 304"#,
     )
 }
 
+// rule: not-modified
 #[test]
 fn who_asks_by_name_is_told_all_of_it_each_time(rt: HostRuntime) -> Result<(), Fail> {
     follow::<Served, HostRuntime>(
@@ -120,6 +122,7 @@ POST /v3/discovery:secrets {"resourceNames":["s"]}
     )
 }
 
+// rule: not-modified
 #[test]
 fn the_star_of_a_cluster_has_its_own_versions(rt: HostRuntime) -> Result<(), Fail> {
     follow::<Served, HostRuntime>(

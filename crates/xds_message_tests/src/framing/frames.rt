@@ -76,6 +76,7 @@ fn push_frame_told(alloc: Global, all: &mut String, frame: Frame<'_>) -> Result<
     Ok(all.push_str(format!(in alloc; "({number},{text})")?.as_str())?)
 }
 
+// rule: whole-frames
 #[test]
 fn frames_are_found_however_they_are_cut(rt: HostRuntime) -> Result<(), Fail> {
     follow::<Decoding, HostRuntime>(

@@ -43,6 +43,7 @@ fn gives_both(decoder: &mut Decoder) -> Result<(), Fail> {
     Ok(decoder.finish()?)
 }
 
+// rule: whole-frames
 #[test]
 fn feeding_without_memory(rt: HostRuntime) -> Result<(), Fail> {
     if is_found(rt.alloc(), b"\x00\x00\x00\x03\x01{}\x00\x00\x00\x03\x01[]")? {

@@ -39,6 +39,7 @@ fn listed(alloc: Global, given: &str) -> Result<String, Refusal> {
     Ok(all)
 }
 
+// rule: groups
 #[test]
 fn texts_come_to_groups(rt: HostRuntime) -> Result<(), Fail> {
     hold::<ListedGroups, HostRuntime>(
@@ -81,6 +82,7 @@ fn push_twice(alloc: Global, texts: &mut Vec<String>, number: u16) -> Result<(),
     Ok(texts.push(number.to_string(alloc)?)?)
 }
 
+// rule: groups
 #[test]
 fn there_are_64_groups_at_most(rt: HostRuntime) -> Result<(), Fail> {
     hold::<CountedGroups, HostRuntime>(

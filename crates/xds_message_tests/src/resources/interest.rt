@@ -39,6 +39,7 @@ impl Outcome for Wanted {
     }
 }
 
+// rule: listed-names
 #[test]
 fn a_list_makes_an_interest(rt: HostRuntime) -> Result<(), Fail> {
     hold::<Wanted, HostRuntime>(
@@ -103,6 +104,7 @@ fn standing(interest: &Interest<Cluster>, name: &str, groups: &Groups) -> &'stat
     }
 }
 
+// rule: star-covers
 #[test]
 fn the_star_covers_open_writes_and_those_of_the_cluster(rt: HostRuntime) -> Result<(), Fail> {
     hold::<CoveredNames, HostRuntime>(

@@ -104,6 +104,7 @@ fn write_of(alloc: Global, given: &str) -> Result<Write<Cluster>, Refusal> {
     Ok(Write::put(stamp, Resource::parse(alloc, body)?, groups))
 }
 
+// rule: greatest-write, rule: tombstones
 #[test]
 fn writes_are_ordered(rt: HostRuntime) -> Result<(), Fail> {
     hold::<Compared, HostRuntime>(

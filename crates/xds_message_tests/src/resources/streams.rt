@@ -157,6 +157,7 @@ impl Outcome for Streams {
     }
 }
 
+// rule: listed-names, rule: delta-names
 #[test]
 fn streams_leave_interests(rt: HostRuntime) -> Result<(), Fail> {
     hold::<Streams, HostRuntime>(

@@ -134,16 +134,19 @@ fn same(found: &str, wanted: &str) -> Result<(), Fail> {
     }
 }
 
+// rule: cuts
 #[test]
 fn all_records_make_the_trace(rt: HostRuntime) -> Result<(), Fail> {
     is_told(&rt, Story::Delta, Order::AsCut, DELTA_TRACE)
 }
 
+// rule: cuts
 #[test]
 fn so_do_those_of_a_node_that_was_not_cut(rt: HostRuntime) -> Result<(), Fail> {
     is_told(&rt, Story::Delta, Order::NothingCut, DELTA_TRACE)
 }
 
+// rule: cuts
 #[test]
 fn so_do_those_that_were_all_cut(rt: HostRuntime) -> Result<(), Fail> {
     is_told(&rt, Story::Sotw, Order::AsCut, SOTW_TRACE)?;
@@ -156,24 +159,28 @@ fn of_nothing_there_is_no_line(rt: HostRuntime) -> Result<(), Fail> {
     is_told(&rt, Story::Cut, Order::AsCut, "")
 }
 
+// rule: cuts
 #[test]
 fn a_segment_that_is_missing_is_a_gap(rt: HostRuntime) -> Result<(), Fail> {
     is_told(&rt, Story::Delta, Order::WithoutTheLast, "Gap")?;
     is_told(&rt, Story::Sotw, Order::WithoutTheLast, "Gap")
 }
 
+// rule: cuts
 #[test]
 fn so_is_the_first(rt: HostRuntime) -> Result<(), Fail> {
     is_told(&rt, Story::Delta, Order::WithoutTheFirst, "Gap")?;
     is_told(&rt, Story::Sotw, Order::WithoutTheFirst, "Gap")
 }
 
+// rule: cuts
 #[test]
 fn so_are_all(rt: HostRuntime) -> Result<(), Fail> {
     is_told(&rt, Story::Delta, Order::NoneOfThem, "Gap")?;
     is_told(&rt, Story::Sotw, Order::NoneOfThem, "Gap")
 }
 
+// rule: cuts
 #[test]
 fn segments_in_another_order_are_a_gap(rt: HostRuntime) -> Result<(), Fail> {
     is_told(&rt, Story::Delta, Order::Backwards, "Gap")?;

@@ -3,6 +3,7 @@ use crate::program::Run;
 use std::test::Fail;
 use xds_cases::cases::hold_stories;
 
+// rule: star-covers, rule: groups
 #[test]
 fn groups_narrow_the_star(rt: HostRuntime) -> Result<(), Fail> {
     hold_stories::<Run, HostRuntime>(

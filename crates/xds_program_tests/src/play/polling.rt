@@ -3,6 +3,7 @@ use crate::program::Run;
 use std::test::Fail;
 use xds_cases::cases::hold_stories;
 
+// rule: not-modified
 #[test]
 fn clients_poll(rt: HostRuntime) -> Result<(), Fail> {
     hold_stories::<Run, HostRuntime>(

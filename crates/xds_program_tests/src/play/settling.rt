@@ -3,6 +3,7 @@ use crate::program::Run;
 use std::test::Fail;
 use xds_cases::cases::hold_stories;
 
+// rule: refused-offer
 #[test]
 fn clients_are_settled(rt: HostRuntime) -> Result<(), Fail> {
     hold_stories::<Run, HostRuntime>(
