@@ -109,7 +109,7 @@ impl<S: Trees> Store<S> {
         requires tables { HasTables (S.Store.view self.old.trees) }
         ensures pending { IsPending S.Store.view S.Store.recovers self.old.trees self.new.trees }
         ensures tables { HasTables (S.Store.view self.new.trees) }
-        ensures named { IfOk result (λ found. IsTrue found → column self.new.row 1 ≡ Text write.now.name) }
+        ensures named { IfOk result (λ found. IsTrue found → column (self.new.row) 1 ≡ Text write.now.name) }
         ensures ok { IfOk result (λ found. IsClean (S.Store.view self.new.trees)
             → ((S.Store.view self.new.trees).trees ≡ (S.Store.view self.old.trees).trees)
             × (IsTrue found → IsFound ((S.Store.view self.old.trees).trees writes_tree) self.new.row)) }
