@@ -8,7 +8,6 @@ import (
 	"io"
 	"net"
 	"sync"
-	"time"
 )
 
 // The kinds of frames that streams carry.
@@ -45,19 +44,13 @@ func writeFrame(conn net.Conn, kind byte, text []byte) error {
 	return err
 }
 
-const (
-	// roomFrom is how many bytes a text has from which on its reader waits for room, and roomWait how long at most.
-	roomFrom = 64 << 10
-	roomWait = 10 * time.Second
-)
-
 // frameReader reads one frame after another.
 type frameReader struct {
-	from *bufio.Reader
-	text []byte
-	room *room // for long texts, or nil
-	held int   // how much of it is taken
-	long *[]byte
+	from  *bufio.Reader
+	text  []byte
+	rooms *rooms // in which long texts have a place, or nil
+	place *place
+	long  *[]byte
 }
 
 // longTexts are buffers for long texts.
@@ -74,33 +67,38 @@ func (r *frameReader) done() {
 		longTexts.Put(r.long)
 		r.long, r.text = nil, nil
 	}
-	if r.held > 0 {
-		r.room.give(r.held)
-		r.held = 0
+}
+
+// leave says that what was made of the last text isn't needed any more, either.
+func (r *frameReader) leave() {
+	r.done()
+	if r.rooms != nil {
+		r.place.leave()
 	}
 }
 
-// begin prepares for a text.
-func (r *frameReader) begin(length int) {
-	if r.room == nil || length < roomFrom {
-		return
+// begin prepares for a text. It answers false where the stream ends before there is room for it.
+func (r *frameReader) begin(length int) bool {
+	if r.rooms == nil || length < roomFrom {
+		return true
 	}
-	if r.room.take(length, roomWait) {
-		r.held = length
+	if !r.place.take(r.rooms.of(length), length) {
+		return false
 	}
 	r.long, _ = longTexts.Get().(*[]byte)
 	if r.long == nil {
 		r.long = new([]byte)
 	}
 	r.text = *r.long
+	return true
 }
 
 // rule: whole-frames
 // next gives the kind and the text of the next frame; the text is good until the next call, or until done. At the end of the input
-// it gives io.EOF, within a frame io.ErrUnexpectedEOF, and for what is no frame an errBadFrame.
+// it gives io.EOF, within a frame io.ErrUnexpectedEOF, for what is no frame an errBadFrame, and errOver where the stream has ended.
 func (r *frameReader) next() (byte, []byte, error) {
 	var head [5]byte
-	r.done()
+	r.leave()
 	if _, err := io.ReadFull(r.from, head[:4]); err != nil {
 		return 0, nil, err
 	}
@@ -114,7 +112,9 @@ func (r *frameReader) next() (byte, []byte, error) {
 	if cap(r.text) > keptBuffer {
 		r.text = nil
 	}
-	r.begin(int(length) - 1)
+	if !r.begin(int(length) - 1) {
+		return 0, nil, errOver
+	}
 	err := r.fill(int(length) - 1)
 	return head[4], r.text, within(err)
 }

@@ -22,8 +22,13 @@ import (
 // What bridge/memory runs: how much memory a bridge takes at most while many streams of gRPC settle on many clusters. The
 // control plane is the program that BRIDGE_MEMORY names, or where it is "stand-in" one that tells all clusters at once, the
 // bridges are those of BRIDGE_PROGRAMS, separated by spaces, and BRIDGE_BENCH_STREAMS is how many the streams are (1,000). With
-// BRIDGE_NONCES the stand-in gives each stream a nonce of its own.
-const memoryConnections = 20
+// BRIDGE_NONCES the stand-in gives each stream a nonce of its own. With BRIDGE_SLOW so many clients of the stand-in, each with a
+// connection of its own, take nothing of a response of 13.5 MB: first all of the same, then each of another.
+const (
+	memoryConnections = 20
+	slowBytes         = 13400 // of a cluster
+	slowTime          = 40 * time.Second
+)
 
 func TestMemory(t *testing.T) {
 	program := os.Getenv("BRIDGE_MEMORY")
@@ -46,6 +51,10 @@ func TestMemory(t *testing.T) {
 			b.put(fmt.Sprintf("c%04d", i))
 		}
 		b.settle("http://127.0.0.1:" + rest + "/v3/discovery:clusters")
+	}
+	if slow, err := strconv.Atoi(os.Getenv("BRIDGE_SLOW")); err == nil {
+		b.slow(slow)
+		return
 	}
 	fmt.Printf("%d streams settle on %d clusters of %d bytes; the most memory that the bridge had:\n", streams, benchClusters, benchBytes)
 	for _, delta := range []bool{true, false} {
@@ -130,6 +139,65 @@ func settle(ctx context.Context, conn *grpc.ClientConn, delta bool) error {
 		}
 	}
 	return stream.SendMsg(&message{request})
+}
+
+// slow measures bridges whose clients take nothing of a long response.
+func (b *bench) slow(count int) {
+	text := strings.ReplaceAll(clustersText("N", benchClusters, false), strings.Repeat("x", 500), strings.Repeat("x", slowBytes))
+	for _, alike := range []bool{true, false} {
+		for _, it := range strings.Fields(os.Getenv("BRIDGE_PROGRAMS")) {
+			control, err := net.Listen("tcp", "127.0.0.1:0")
+			if err != nil {
+				b.Fatal(err)
+			}
+			var told int32
+			go func() {
+				for n := 0; ; n++ {
+					conn, err := control.Accept()
+					if err != nil {
+						return
+					}
+					of := strings.Replace(text, `"N"`, fmt.Sprintf(`"%d"`, n), 1)
+					if !alike {
+						of = strings.TrimSuffix(of, `"v"}`) + fmt.Sprintf(`"v%d"}`, n)
+					}
+					go func() {
+						if writeFrame(conn, kindResponse, []byte(of)) == nil {
+							atomic.AddInt32(&told, 1)
+						}
+					}()
+				}
+			}()
+			bridge := exec.Command(it, "--listen", "127.0.0.1:0", "--server", control.Addr().String(), "--max-message", "20000000")
+			line := b.starts(bridge, "listening on")
+			for i := 0; i < count; i++ {
+				conn, err := grpc.Dial(strings.Fields(line)[3], grpc.WithInsecure(), grpc.WithCodec(codec{}), grpc.WithInitialWindowSize(64<<10),
+					grpc.WithInitialConnWindowSize(64<<10), grpc.WithDefaultCallOptions(grpc.MaxCallRecvMsgSize(2*maxText)))
+				if err != nil {
+					b.Fatal(err)
+				}
+				defer conn.Close()
+				stream, err := conn.NewStream(context.Background(), &grpc.StreamDesc{ServerStreams: true, ClientStreams: true},
+					adsMethod+"StreamAggregatedResources")
+				if err != nil {
+					b.Fatal(err)
+				}
+				if err := stream.SendMsg(&message{appendText(nil, 4, clusterURL)}); err != nil {
+					b.Fatal(err)
+				}
+			}
+			begun := time.Now()
+			for time.Since(begun) < slowTime && atomic.LoadInt32(&told) < int32(count) {
+				time.Sleep(100 * time.Millisecond)
+			}
+			took := time.Since(begun)
+			time.Sleep(time.Second)
+			fmt.Printf("%d slow clients of %d bytes, alike %v, %s: %d MB, after %.1f s the bridge has read %d\n", count, len(text), alike, it,
+				mostMemory(b.T, bridge.Process.Pid)/1000, took.Seconds(), atomic.LoadInt32(&told))
+			_ = bridge.Process.Kill()
+			control.Close()
+		}
+	}
 }
 
 // newSettler serves framed streams, each of which is told all clusters once.

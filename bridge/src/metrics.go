@@ -68,6 +68,7 @@ const (
 
 	numTurned = "bridge_streams_turned_away_total"
 	numBytes  = "bridge_response_bytes"
+	numSlow   = "bridge_slow_clients_total"
 
 	numHandshakes = "bridge_handshakes_refused_total"
 	numIdentities = "bridge_clusters_refused_total"
@@ -82,6 +83,7 @@ var numbers = []struct{ name, kind, help string }{
 	{numStreams, "gauge", "open streams"},
 	{numTurned, "counter", "streams for which --max-streams left no room"},
 	{numBytes, "gauge", "bytes of the control plane's last whole response, of 16777215 that it may have"},
+	{numSlow, "counter", "streams that ended because their client took a response too slowly while others waited for room"},
 	{numHandshakes, "counter", "TLS handshakes that failed"},
 	{numIdentities, "counter", "streams whose node named a cluster that isn't its certificate's"},
 	{"bridge_lines_left_out_total", "counter", "lines that the error output had no room for"},
@@ -98,7 +100,7 @@ func (b *bridge) numbersText() []byte {
 		b.counters.set("bridge_frozen_clients", int64(it.clients), "type", it.typeURL)
 		b.counters.set("bridge_frozen_since_seconds", it.since.Unix(), "type", it.typeURL, "cause", shortened(it.why, mostReason))
 	}
-	for _, it := range []string{numTurned, numHandshakes, numIdentities} {
+	for _, it := range []string{numTurned, numSlow, numHandshakes, numIdentities} {
 		b.counters.add(it, 0) // (so that it is there before it counts)
 	}
 	b.counters.set("bridge_lines_left_out_total", int64(b.tell.leftOut()))

@@ -157,7 +157,7 @@ func (b *bridge) assemble(text []byte, delta bool) (*assembled, string, error) {
 		a.refusal = "the gRPC bridge can't convert " + a.why
 		return a, r.nonce, nil
 	}
-	a.bodies = r.bodies(delta, most, b.identifier, nonceBytes)
+	a.bodies = r.bodies(delta, most, b.identifier)
 	a.length = a.size() + nonceBytes
 	if !delta && a.length > b.maxMessage {
 		a.bodies = nil
@@ -170,7 +170,7 @@ func (b *bridge) assemble(text []byte, delta bool) (*assembled, string, error) {
 
 // bodies are the messages of a converted response as protobuf, without the nonce. Of the incremental variant they are as
 // many as it takes that none has more than so many bytes of resources and names.
-func (r *response) bodies(delta bool, most int, identifier string, nonceBytes int) (made [][]byte) {
+func (r *response) bodies(delta bool, most int, identifier string) (made []*pieces) {
 	at, gone := 0, 0
 	for {
 		end, endGone, size := at, gone, 0
@@ -188,7 +188,7 @@ func (r *response) bodies(delta bool, most int, identifier string, nonceBytes in
 			}
 			size += more
 		}
-		made = append(made, r.body(delta, identifier, r.resources[at:end], r.removed[gone:endGone], size+nonceBytes))
+		made = append(made, r.body(delta, identifier, r.resources[at:end], r.removed[gone:endGone], size))
 		at, gone = end, endGone
 		if at == len(r.resources) && gone == len(r.removed) {
 			return made
@@ -210,21 +210,22 @@ func (it *resource) inner() int {
 }
 
 // body is one message, with the identifier of the control plane, if there is one.
-func (r *response) body(delta bool, identifier string, resources []resource, removed []string, size int) []byte {
-	b := make([]byte, 0, size+len(r.version)+len(r.typeURL)+len(identifier)+48)
-	b = appendText(b, responseVersion, r.version)
+func (r *response) body(delta bool, identifier string, resources []resource, removed []string, size int) *pieces {
+	made := &pieces{more: size + len(r.version) + len(r.typeURL) + len(identifier) + 48}
+	b := appendText(nil, responseVersion, r.version)
 	for i := range resources {
 		it := &resources[i]
 		b = protowire.AppendTag(b, responseResources, protowire.BytesType)
-		if !delta {
-			b = protowire.AppendBytes(b, it.wire)
-			continue
+		if delta {
+			b = protowire.AppendVarint(b, uint64(it.inner()))
+			b = appendText(b, resourceVersion, it.version)
+			b = protowire.AppendTag(b, resourceBody, protowire.BytesType)
 		}
-		b = protowire.AppendVarint(b, uint64(it.inner()))
-		b = appendText(b, resourceVersion, it.version)
-		b = protowire.AppendTag(b, resourceBody, protowire.BytesType)
-		b = protowire.AppendBytes(b, it.wire)
-		b = appendText(b, resourceName, it.name)
+		made.add(protowire.AppendVarint(b, uint64(len(it.wire))))
+		made.add(it.wire)
+		if b = b[:0]; delta {
+			b = appendText(b, resourceName, it.name)
+		}
 	}
 	b = appendText(b, responseTypeURL, r.typeURL)
 	for _, name := range removed {
@@ -239,7 +240,8 @@ func (r *response) body(delta bool, identifier string, resources []resource, rem
 		b = protowire.AppendTag(b, field, protowire.BytesType)
 		b = protowire.AppendBytes(b, appendText(nil, controlPlaneIdentifier, identifier))
 	}
-	return b
+	made.add(b)
+	return made
 }
 
 // assembledOf is what clients are sent of a response's text, which is shared where it is long, and its nonce.

@@ -28,7 +28,8 @@ type bridge struct {
 	counters *counters
 	reach    *reach
 	shared   *assemblies
-	room     *room // for texts of responses that are read and converted
+	rooms    *rooms
+	inPieces bool // long messages are sent piece by piece
 	limits   *limits
 	files    []*protoregistry.Files // for reflection
 
@@ -54,7 +55,8 @@ func newBridge(server string, known, small *types, cacheBytes int, tell *teller)
 		reach:    &reach{server: server},
 		files:    []*protoregistry.Files{known.files, small.files},
 		shared:   newAssemblies(cacheBytes),
-		room:     newRoom(2 * maxText),
+		rooms:    newRooms(),
+		inPieces: canCut,
 	}
 	b.limits = &limits{bridge: b, above: map[string]bool{}}
 	return b

@@ -33,21 +33,20 @@ func clustersText(nonce string, count int, delta bool) string {
 func TestStreamsThatAreToldAlikeShare(t *testing.T) {
 	w := newWorld(t)
 	for _, delta := range []bool{true, false} {
-		var first []byte
+		var first *assembled
 		for i, nonce := range []string{"1", "1", "2", "1", "long" + strings.Repeat("x", 500)} {
 			made, told, err := w.bridge.assembledOf([]byte(clustersText(nonce, 100, delta)), delta)
 			if err != nil || told != nonce || made.why != "" {
 				t.Fatal(err, told, made)
 			}
-			messages := made.messages(nonce)
 			alone, _, _ := w.bridge.assemble([]byte(clustersText(nonce, 100, delta)), delta)
-			if want := alone.messages(nonce); len(messages) != 1 || len(want) != 1 || !bytes.Equal(messages[0], want[0]) {
+			if len(made.bodies) != 1 || len(alone.bodies) != 1 || !bytes.Equal(made.bodies[0].with(nil), alone.bodies[0].with(nil)) {
 				t.Fatal("other bytes")
 			}
 			if i == 0 {
-				first = messages[0]
+				first = made
 			}
-			if same := &messages[0][0] == &first[0]; same != (nonce == "1") {
+			if same := made == first; same != (len(nonce) == 1) {
 				t.Fatal(nonce, same)
 			}
 		}
@@ -72,10 +71,13 @@ func TestWhatIsSharedIsBounded(t *testing.T) {
 					if of == 0 {
 						return nil, errTooLong
 					}
-					return &assembled{bodies: [][]byte{bytes.Repeat([]byte{of}, 1000)}}, nil
+					return anAssembled(of, 1000), nil
 				})
-				if (err != nil) != (of == 0) || (err == nil && made.bodies[0][0] != of) {
+				if (err != nil) != (of == 0) || (err == nil && made.bodies[0].all[0][0] != of) {
 					t.Error(of, err)
+				}
+				if err == nil {
+					made.isSent(-1)
 				}
 			}
 		}()
@@ -87,53 +89,6 @@ func TestWhatIsSharedIsBounded(t *testing.T) {
 	}
 	if a.bytes > a.most || sum != a.bytes || len(a.held) != a.recent.Len() {
 		t.Error(a.bytes, sum, len(a.held), a.recent.Len())
-	}
-}
-
-func TestRoomIsWaitedForInALineAndNotForGood(t *testing.T) {
-	r := newRoom(10)
-	if !r.take(7, time.Minute) || r.take(4, time.Millisecond) {
-		t.Fatal("room")
-	}
-	got := make(chan int, 2)
-	for _, size := range []int{10, 1} {
-		go func(size int) {
-			if r.take(size, time.Minute) {
-				got <- size
-			}
-		}(size)
-		for {
-			r.mutex.Lock()
-			waits := r.waiting.Len()
-			r.mutex.Unlock()
-			if waits == 1 && size == 10 || waits == 2 {
-				break
-			}
-			time.Sleep(time.Millisecond)
-		}
-	}
-	r.give(7)
-	if size := <-got; size != 10 {
-		t.Fatal(size)
-	}
-	r.give(10)
-	if size := <-got; size != 1 || r.left != 9 {
-		t.Fatal(size, r.left)
-	}
-}
-
-func TestRoomIsGivenBack(t *testing.T) {
-	w := newWorld(t)
-	for i := 0; i < 20; i++ {
-		k := w.delta()
-		k.asks(`{"typeUrl":"` + clusterURL + `"}`)
-		k.answers(clustersText("1", 300, true))
-		k.takes()
-		k.cancel()
-		k.closes()
-	}
-	if w.bridge.room.left != 2*maxText {
-		t.Fatal(w.bridge.room.left)
 	}
 }
 

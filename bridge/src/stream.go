@@ -10,6 +10,8 @@ import (
 
 	"google.golang.org/grpc"
 	"google.golang.org/grpc/codes"
+	"google.golang.org/grpc/encoding"
+	"google.golang.org/grpc/peer"
 	"google.golang.org/grpc/status"
 	"google.golang.org/protobuf/reflect/protoreflect"
 )
@@ -46,6 +48,12 @@ type stream struct {
 	server net.Conn
 	named  bool // the client may say that it is of the cluster that it says; of the thread that takes requests
 
+	inPieces   bool // long messages are sent piece by piece
+	compressor encoding.Compressor
+	place      *place
+	sending    chan struct{} // has one in it while a message is sent, and once the stream is over
+	over       chan struct{} // closed once the stream is over
+
 	writing sync.Mutex // held while a request is noted and written, so that what is kept is of what the server gets
 
 	mutex  sync.Mutex // held for moments, of what stands below; taken after the one above
@@ -68,6 +76,30 @@ type asked struct {
 
 // carry carries one stream until either side ends it, and answers the status for the client.
 func (b *bridge) carry(client grpc.ServerStream, v *variant, only string) error {
+	s := &stream{bridge: b, variant: v, only: only, client: client, asked: map[string]*asked{}, place: newPlace(client.Context().Done()),
+		sending: make(chan struct{}, 1), over: make(chan struct{})}
+	compressor, known := compressorOf(client)
+	s.compressor, s.inPieces = compressor, known && b.inPieces
+	defer close(s.over)
+	err := s.carry()
+	// (a status comes behind whole messages, as far as the client takes them)
+	select {
+	case s.sending <- struct{}{}:
+	case <-client.Context().Done():
+	case <-s.place.gone:
+	}
+	if err == errSlow {
+		b.counters.add(numSlow, 1)
+		if it, ok := peer.FromContext(client.Context()); ok {
+			b.tell.few("slow clients", "a stream of %s ends: the client took a response too slowly, and others wait for room", it.Addr)
+		}
+	}
+	return err
+}
+
+// carry carries the stream.
+func (s *stream) carry() error {
+	b, client := s.bridge, s.client
 	defer atomic.AddInt32(&b.streams, -1)
 	if n := atomic.AddInt32(&b.streams, 1); b.maxStreams > 0 && int(n) > b.maxStreams {
 		b.counters.add(numTurned, 1)
@@ -82,9 +114,9 @@ func (b *bridge) carry(client grpc.ServerStream, v *variant, only string) error 
 		return b.unreachable(err)
 	}
 	defer server.Close()
-	b.counters.add(numStreams, 1, "variant", v.name())
-	defer b.counters.add(numStreams, -1, "variant", v.name())
-	s := &stream{bridge: b, variant: v, only: only, client: client, server: server, asked: map[string]*asked{}}
+	b.counters.add(numStreams, 1, "variant", s.name())
+	defer b.counters.add(numStreams, -1, "variant", s.name())
+	s.server = server
 	defer s.leave()
 	requests, responses := make(chan error, 1), make(chan error, 1)
 	go func() { requests <- s.takeRequests() }()
@@ -100,13 +132,19 @@ func (b *bridge) carry(client grpc.ServerStream, v *variant, only string) error 
 			return err
 		case <-client.Context().Done():
 			return status.FromContextError(client.Context().Err()).Err()
+		case <-s.place.gone:
+			return errSlow
 		case <-b.stopping:
 			return errStopping
 		}
 	}
 }
 
-var errStopping = status.Error(codes.Unavailable, "the bridge is stopping")
+var (
+	errStopping = status.Error(codes.Unavailable, "the bridge is stopping")
+	errSlow     = status.Error(codes.ResourceExhausted, "the client took a response too slowly, and others wait for room in the bridge")
+	errOver     = status.Error(codes.Canceled, "the stream is over")
+)
 
 func (b *bridge) unreachable(err error) error {
 	return status.Errorf(codes.Unavailable, "the control plane at %s can't be reached: %v", b.server, err)
@@ -246,10 +284,13 @@ func sizeOf(names []string) (size int) {
 // takeResponses carries responses, one at a time.
 func (s *stream) takeResponses() error {
 	frames := newFrameReader(&firstByte{Conn: s.server, reach: s.bridge.reach})
-	frames.room = s.bridge.room
-	defer frames.done()
+	frames.rooms, frames.place = s.bridge.rooms, s.place
+	defer frames.leave()
 	for {
 		kind, text, err := frames.next()
+		if err == errOver {
+			return err
+		}
 		if err != nil {
 			s.mutex.Lock()
 			defer s.mutex.Unlock()
@@ -265,8 +306,17 @@ func (s *stream) takeResponses() error {
 		if err != nil {
 			return status.Errorf(codes.Internal, "the control plane sent what is no response: %v", err)
 		}
-		length := len(text)
+		length, own := len(text), len(nonce)
+		if s.compressor != nil {
+			own += length
+		}
 		frames.done() // (what follows waits for the client)
+		if a.why == "" {
+			s.place.sends(a, own)
+		} else {
+			s.place.leave()
+		}
+		a.isSent(-1) // (the room says it from now on)
 		if s.isWhole(a.typeURL) {
 			s.bridge.limits.note(a.typeURL, s.variant, length, a.length)
 		}
@@ -278,12 +328,27 @@ func (s *stream) takeResponses() error {
 			continue
 		}
 		s.passes(a, nonce)
-		for _, it := range a.messages(nonce) {
-			if err := s.client.SendMsg(&message{it}); err != nil {
-				return err
-			}
+		if err := s.sendAll(len(a.bodies), nonce); err != nil {
+			return err
 		}
 	}
+}
+
+// sendAll sends the messages of the response that the place is for.
+func (s *stream) sendAll(count int, nonce string) error {
+	for i := 0; i < count; i++ {
+		select {
+		case s.sending <- struct{}{}:
+		case <-s.over:
+			return errOver
+		}
+		err := s.send(i, appendText(nil, responseNonce, partNonce(nonce, i, count)))
+		<-s.sending
+		if err != nil {
+			return err
+		}
+	}
+	return nil
 }
 
 // isWhole tells whether the response that comes next of a type is a whole one: each of the state of the world, and the first.

@@ -105,11 +105,11 @@ type talk struct {
 	frames  *frameReader
 }
 
-func (w *world) talk(method string, v *variant) *talk {
+func (w *world) talk(method string, v *variant, options ...grpc.CallOption) *talk {
 	w.Helper()
 	ctx, cancel := context.WithTimeout(context.Background(), patience)
 	w.Cleanup(cancel)
-	client, err := w.conn.NewStream(ctx, &grpc.StreamDesc{ServerStreams: true, ClientStreams: true}, method)
+	client, err := w.conn.NewStream(ctx, &grpc.StreamDesc{ServerStreams: true, ClientStreams: true}, method, options...)
 	if err != nil {
 		w.Fatal(err)
 	}

@@ -18,6 +18,15 @@ def follow(stream):
         pass
 
 
+def clusters(stream):
+    """The next response of clusters. Those of other types are accepted."""
+    response = stream.take()
+    while response.type_url != CLUSTER:
+        stream.accept(response)
+        response = stream.take()
+    return response
+
+
 class Limits(unittest.TestCase):
     def setUp(self):
         self.control = self.has(Control())
@@ -60,17 +69,18 @@ class Limits(unittest.TestCase):
         stream.accept(parts[2])
         wait_until(lambda: self.answers() == [("1", False)], what="an answer")
         # One part is rejected: so is the response, and the server tells on once there is something new.
-        self.put(*names)
-        # (the first of them is told alone, since the client is owed nothing else then)
-        seen, rejected = 0, None
-        while seen < 9:
-            response = stream.take()
-            seen += len(response.resources)
-            if "#1of" in response.nonce:
-                rejected = response.nonce.split("#")[0]
-                stream.ask(type_url=CLUSTER, response_nonce=response.nonce, error_detail={"code": 3, "message": "not so"})
-            else:
-                stream.accept(response)
+        # (the first of them isn't answered before the others are there, so these are told in one response)
+        self.put(names[0])
+        first = clusters(stream)
+        self.assertEqual([it.name for it in first.resources], names[:1])
+        self.put(*names[1:])
+        stream.accept(first)
+        parts = [clusters(stream) for _ in range(2)]
+        rejected = parts[1].nonce
+        self.assertEqual(parts[0].nonce, f"{rejected}#1of2")
+        self.assertEqual([it.name for part in parts for it in part.resources], names[1:])
+        stream.ask(type_url=CLUSTER, response_nonce=parts[0].nonce, error_detail={"code": 3, "message": "not so"})
+        stream.accept(parts[1])
         wait_until(lambda: (rejected, True) in self.answers(), what="a rejection")
         self.assertEqual(self.tap.of("up", CLUSTER)[-1]["errorDetail"], {"code": 3, "message": "not so"})
         self.control.put(ENDPOINT, clusterName="e")
