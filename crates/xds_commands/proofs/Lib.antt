@@ -8,3 +8,4 @@ mod Joining
 mod Wired
 mod LoadSteps
 mod Watchings
+pub mod Numbering

@@ -1,6 +1,9 @@
 -- What a line of the server's input changes. This project's own.
---     Written, change_of               a replica's number, and what happens there
---     write_of, written_by, change_said  the write that may happen so, if it is one
+--     Written                          a replica's number, and what happens there
+--     change_of                        what a change makes happen, and where
+--     write_of                         the write that a happening is, if it is one
+--     written_by                       the same of what a line of a script says
+--     change_said                      the same of a command
 --     only_change                      what a line says has to be a change, if it says anything
 --     most_line                        as many bytes as a line may have
 --     change_within                    what a line changes that isn't longer; none where it is skipped

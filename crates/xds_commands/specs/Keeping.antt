@@ -1,5 +1,6 @@
 -- What is made of each line of an input whose refused lines are passed over, however its bytes come. This project's own.
---     HandsWhat, HandsSaid
+--     HandsWhat     a change is handed over, or a refusal told, or nothing is done
+--     HandsSaid     so it is for what a line says
 --                   what a line says is handed over, or its refusal told
 --     KeepsChange   what is made of a line, by what it changes
 --     KeepsLine     a change is handed over, a refusal is told, and a line that is skipped does nothing; or there was no memory for

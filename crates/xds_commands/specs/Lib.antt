@@ -11,3 +11,5 @@ pub mod Servings
 pub mod Wiring
 pub mod Channels
 pub mod Loads
+pub mod Stored
+pub mod Given

@@ -20,7 +20,7 @@ use Rattle.std.specs.Prelude.{◌≡◌, ◌⊎◌, ℕ, ◌+◌, ◌-◌, min, 
 use Rattle.std.specs.Io.KnownBytes.{Consumes, IsAtEnd}
 use Rattle.xds_resource.specs.declared.refusal.Refusal.{Refusal}
 use Rattle.xds_resource.specs.declared.refusal.Refusal.TheVariants.{BadScript, Device, OutOfMemory}
-use Rattle.xds_core.specs.Events.{Event, Put, Delete, Open, Request, Poll, Owes, Close, Merge, Snapshot, Rest, Since}
+use Rattle.xds_core.specs.Events.{Event, Put, Delete}
 use Rattle.xds_core.specs.Stores.{Batch, Store, all_entries, putting_at, deleting_at, if_done}
 use Rattle.xds_world.specs.Lines.{feed, pieces}
 use Rattle.xds_monitor.specs.declared.ending.End.{End}

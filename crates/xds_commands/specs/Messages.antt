@@ -3,7 +3,8 @@
 --     port_line        the line of a port that can't be bound
 --     admin_line       the line of an operator's port
 --     replica_line     the line of a replica: its place among those of the server, its number, and its ports
---     same_numbers_line  what is told where replicas have the numbers of every run in which none was said
+--     same_numbers_line  what is told where replicas have the numbers of every run in which none was said, from this one on
+--     old_numbers_line   what is told where replicas would have numbers that are not above those of the writes of a file
 --     file_fault_text  what is told of why a file can't be opened
 --     file_line        the line of a file that can't be opened
 --     unloaded_line    the line of a file that isn't loaded, by one of its lines or by what else was refused
@@ -38,9 +39,14 @@ replica_line place number port rest_port =
 
 -- rule: new-numbers
 -- what is told of a server whose replicas have the numbers of every run in which none was said
-abbrev pub same_numbers_line : List ℕ
-same_numbers_line =
-    codes "numbers begin at 1 again: a client of an earlier run may keep what is no longer so; --first-number keeps runs apart\n"
+abbrev pub same_numbers_line : ℕ → List ℕ
+same_numbers_line first =
+    codes "numbers begin at " ++ (decimal first ++ codes " again: a client of an earlier run may keep what is no longer so; --store or --first-number keeps runs apart\n")
+
+-- rule: new-numbers
+-- what is told where replicas would have numbers that are not above those of the writes of a file
+abbrev pub old_numbers_line : List ℕ → List ℕ
+old_numbers_line file = file ++ codes ": its writes have the numbers of these replicas, or greater ones: --first-number has to be above them\n"
 
 -- what is told of why a file can't be opened
 abbrev pub file_fault_text : FileFault → List ℕ

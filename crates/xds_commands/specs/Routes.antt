@@ -2,9 +2,9 @@
 --     found_at   what is found at a path, and by which method
 --     routed_by  what a request of this method asks for, by what is found at its path
 --     routed     what a request asks for, or the status that refuses it
-use Rattle.std.specs.Prelude.{ℕ, List, if◌then◌else◌, bytes_eq, Option, Some, None, Result, Ok, Err, codes}
+use Rattle.std.specs.Prelude.{ℕ, List, ◌&&◌, if◌then◌else◌, bytes_eq, Option, Some, None, Result, Ok, Err, codes}
 use Rattle.xds_commands.specs.declared.admin.Route.{Route}
-use Rattle.xds_commands.specs.declared.admin.Route.TheVariants.{Health, Ready, Metrics, Status, Changes, Stop}
+use Rattle.xds_commands.specs.declared.admin.Route.TheVariants.{Health, Ready, Open, Metrics, Status, Changes, Stop}
 
 -- what is found at a path, and by which method
 abbrev pub found_at : List ℕ → Option (Route × List ℕ)
@@ -23,4 +23,4 @@ routed_by method (Some found) = if bytes_eq method found.1 then Ok found.0 else 
 
 -- what a request asks for, or the status that refuses it
 abbrev pub routed : List ℕ → List ℕ → Result Route ℕ
-routed method path = routed_by method (found_at path)
+routed method path = if bytes_eq path (codes "/ready") && bytes_eq method (codes "POST") then Ok Open else routed_by method (found_at path)

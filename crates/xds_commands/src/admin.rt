@@ -1,17 +1,20 @@
 // An operator's port: what it answers. It waits for nobody longer than a second: not for a replica's thread, and not for who reads what
 // the server tells.
-ghost use Rattle.std.specs.Prelude.{◌≡◌, option_map};
+ghost use Rattle.std.specs.Prelude.{◌≡◌, option_map, string_bytes, is_some, IfOk};
+ghost use Rattle.xds_commands.specs.Stored.{stored_text};
 ghost use Rattle.xds_commands.specs.Routes.{found_at, routed};
 
 use crate::change::Change;
 use crate::kept::{Kept, Said};
 use crate::order::Order;
+use crate::storing::{Progress, Reached as Reach, Told, owned};
 use crate::timed::Deadline;
 use crossbeam_channel::{Receiver, RecvTimeoutError, Sender, TryRecvError, unbounded};
 use std::alloc::Global;
 use std::mem;
 use std::sync::{Arc, Mutex, Wait};
 use std::time::{Clock, Duration};
+use xds_core::Marks;
 use xds_http::{Page, Pages};
 use xds_monitor::{
     Cause, End, Ending, Fault, Look, Lookout, Shown, Tape, numbers_text, recorded_text,
@@ -30,6 +33,9 @@ const JSON: &str = "application/json";
 // As many milliseconds as are waited for what replicas' threads answer to one request, or to one line of many.
 const MOST_MILLISECONDS: u64 = 1_000;
 
+// As many milliseconds as are waited for what was changed to be stored.
+const STORE_MILLISECONDS: u64 = 30_000;
+
 // As many milliseconds as lines of changes are made in before other requests may be looked at. The loop that answers them looks for what
 // has come after 64 of these.
 const PART_MILLISECONDS: u64 = 1;
@@ -39,8 +45,10 @@ const PART_MILLISECONDS: u64 = 1;
 pub enum Route {
     /// Whether the server runs.
     Health,
-    /// Whether each replica takes changes.
+    /// Whether each replica takes changes, and clients are answered.
     Ready,
+    /// That clients are to be answered.
+    Open,
     Metrics,
     Status,
     Changes,
@@ -67,6 +75,9 @@ fn at_path(path: &str) -> Option<(Route, &'static str)>
 pub fn routed(method: &str, path: &str) -> Result<Route, u16>
     ensures { result ≡ routed method.now path.now }
 {
+    if path == "/ready" && method == "POST" {
+        return Ok(Route::Open);
+    }
     match at_path(path) {
         Some((route, wanted)) => {
             if method == wanted {
@@ -107,6 +118,8 @@ impl Drop for Reached {
 /// What an operator's port answers by: the replicas, of which the first has number 1, and how the server ends.
 pub(crate) struct Admin {
     pub replicas: Vec<Reached>,
+    /// How far writes are stored, if they are.
+    pub store: Option<Arc<Progress>>,
     pub ending: Arc<Ending>,
 }
 
@@ -115,6 +128,7 @@ impl Drop for Admin {
     fn drop(self) {
         let Admin {
             replicas: _,
+            store: _,
             ending: _,
         } = self;
     }
@@ -127,8 +141,12 @@ pub(crate) struct Changing {
     at: usize,
     kept: Kept,
     text: String,
+    // The answers as they are where no change is stored.
+    unstored: String,
     // Whether a replica didn't answer in time. Then no line more is tried.
     is_stuck: bool,
+    // Once all were made, until when they are to be stored, and the counts of changes of each replica then.
+    storing: Option<(Deadline, Vec<Marks>)>,
 }
 
 // Written out: docs/PROVING.md, "Drops".
@@ -139,7 +157,9 @@ impl Drop for Changing {
             at: _,
             kept: _,
             text: _,
+            unstored: _,
             is_stuck: _,
+            storing: _,
         } = self;
     }
 }
@@ -165,15 +185,31 @@ impl Pages for Admin {
     }
 
     fn go_on<R: Wait + Clock>(&self, rt: &R, alloc: Global, work: &mut Changing) -> Option<Page> {
-        match self.change_on(rt, alloc, work) {
-            Ok(false) => None,
-            Ok(true) => {
-                let text = mem::replace(&mut work.text, String::new(alloc));
-                Some(found(PLAIN, text))
-            }
+        match self.go_on_changing(rt, alloc, work) {
+            Ok(page) => page,
             Err(_) => Some(bare(alloc, 503)),
         }
     }
+}
+
+// What is known of a store, in words.
+fn store_state(alloc: Global, told: Told) -> Result<String, Refusal> {
+    match told.failing {
+        Some(unstored) => unstored.text(alloc),
+        None => owned(alloc, "goes on"),
+    }
+}
+
+// The numbers of a store, in the text format of Prometheus.
+fn stored_text(alloc: Global, told: Told) -> Result<String, Refusal>
+    ensures { IfOk result (λ t. string_bytes t ≡ stored_text told.commits told.failures (is_some told.failing)) }
+{
+    let commits = told.commits;
+    let failures = told.failures;
+    let failing = u64::from(told.failing.is_some());
+    Ok(format!(in alloc;
+        "# TYPE xds_store_commits_total counter\nxds_store_commits_total {commits}\n# TYPE xds_store_failures_total counter\nxds_store_failures_total {failures}\n# TYPE xds_store_failing gauge\nxds_store_failing {failing}\n"
+    )?)
 }
 
 // A status alone.
@@ -201,7 +237,9 @@ fn changes_in(alloc: Global, body: &[u8]) -> Result<Changing, Refusal> {
         at: 0,
         kept: Kept::new(alloc),
         text: String::new(alloc),
+        unstored: String::new(alloc),
         is_stuck: false,
+        storing: None,
     })
 }
 
@@ -217,6 +255,12 @@ impl Admin {
         match route {
             Route::Health => Ok(Ok(found(PLAIN, String::from_str(alloc, "ok\n")?))),
             Route::Ready => Ok(Ok(self.ready(rt, alloc)?)),
+            Route::Open => {
+                self.ending.ask(rt);
+                self.ending
+                    .wait_open_within(rt, Duration::from_millis(MOST_MILLISECONDS));
+                Ok(Ok(self.ready(rt, alloc)?))
+            }
             Route::Metrics => Ok(Ok(found(NUMBERS, self.numbers(rt, alloc)?))),
             Route::Status => Ok(Ok(found(JSON, self.status(rt, alloc)?))),
             Route::Changes => Ok(Err(changes_in(alloc, body)?)),
@@ -242,8 +286,11 @@ impl Admin {
         Ok(looks)
     }
 
-    // Whether each replica answers in time.
+    // Whether clients are answered, and each replica answers in time.
     fn ready<R: Wait + Clock>(&self, rt: &R, alloc: Global) -> Result<Page, Refusal> {
+        if self.ending.is_held(rt) {
+            return Ok(bare(alloc, 503));
+        }
         for look in self.looks(rt, alloc)? {
             if look.is_none() {
                 return Ok(bare(alloc, 503));
@@ -265,6 +312,10 @@ impl Admin {
         let mut text = numbers_text(alloc, shown.as_slice())?;
         let recordings = self.recordings(rt, alloc)?;
         text.push_str(recordings.as_str())?;
+        if let Some(store) = &self.store {
+            let stored = stored_text(alloc, store.told(rt))?;
+            text.push_str(stored.as_str())?;
+        }
         Ok(text)
     }
 
@@ -292,8 +343,93 @@ impl Admin {
             let one = replica.status(rt, alloc)?;
             text.push_str(one.as_str())?;
         }
-        text.push_str("]}\n")?;
+        text.push_str("]")?;
+        if let Some(store) = &self.store {
+            let state = store_state(alloc, store.told(rt))?;
+            let state = state.as_str();
+            let state = format!(in alloc; ",\"store\":\"{state}\"")?;
+            text.push_str(state.as_str())?;
+        }
+        text.push_str("}\n")?;
         Ok(text)
+    }
+
+    // rule: stored
+    // Makes changes, and waits until they are stored, where they are, both for a while. Answers what the lines are answered, once all is
+    // done.
+    fn go_on_changing<R: Wait + Clock>(
+        &self,
+        rt: &R,
+        alloc: Global,
+        work: &mut Changing,
+    ) -> Result<Option<Page>, Refusal> {
+        if work.storing.is_none() {
+            if !self.change_on(rt, alloc, work)? {
+                return Ok(None);
+            }
+            let Some(_) = &self.store else {
+                return Ok(Some(work.answered(alloc, true)));
+            };
+            match self.marks(rt, alloc)? {
+                Some(marks) => {
+                    let time = Duration::from_millis(STORE_MILLISECONDS);
+                    work.storing = Some((Deadline::within(rt, time), marks));
+                }
+                None => return Ok(Some(work.answered(alloc, false))),
+            }
+        }
+        Ok(self.store_on(rt, alloc, work))
+    }
+
+    // Waits for a while until all changes are stored. Answers what the lines are answered, once they are, or the store has failed.
+    fn store_on<R: Wait + Clock>(
+        &self,
+        rt: &R,
+        alloc: Global,
+        work: &mut Changing,
+    ) -> Option<Page> {
+        match self.reached(rt, &work.storing) {
+            Reach::Stored => Some(work.answered(alloc, true)),
+            Reach::Failing => Some(work.answered(alloc, false)),
+            Reach::Waiting => {
+                if let Some(store) = &self.store {
+                    store.pause(rt, Duration::from_millis(PART_MILLISECONDS));
+                }
+                None
+            }
+        }
+    }
+
+    // rule: stored
+    // Whether what all replicas held then is stored.
+    fn reached<R: Wait + Clock>(&self, rt: &R, storing: &Option<(Deadline, Vec<Marks>)>) -> Reach {
+        let (Some(store), Some((deadline, marks))) = (&self.store, storing) else {
+            return Reach::Failing;
+        };
+        let mut all = Reach::Stored;
+        for (replica, marks) in self.replicas.iter().zip(marks) {
+            match store.reached(rt, replica.lookout.replica(), *marks) {
+                Reach::Stored => {}
+                Reach::Failing => return Reach::Failing,
+                Reach::Waiting => all = Reach::Waiting,
+            }
+        }
+        if all == Reach::Waiting && deadline.rest(rt).is_zero() {
+            return Reach::Failing;
+        }
+        all
+    }
+
+    // The counts of changes of each replica; none where one doesn't answer in time.
+    fn marks<R: Wait + Clock>(&self, rt: &R, alloc: Global) -> Result<Option<Vec<Marks>>, Refusal> {
+        let mut marks = Vec::new(alloc);
+        for replica in &self.replicas {
+            match replica.marks(rt, alloc) {
+                Some(one) => marks.push(one)?,
+                None => return Ok(None),
+            }
+        }
+        Ok(Some(marks))
     }
 
     // Makes changes of those that are still to be made, one after another, for a while, and adds what each line is answered. Answers
@@ -332,11 +468,19 @@ impl Admin {
             Ok(Some(change)) => self.make(rt, alloc, change, &mut work.is_stuck),
             Err(fault) => Err(fault),
         };
-        let answer = match made {
-            Ok(stamp) => stamp_line(alloc, line, stamp)?,
-            Err(fault) => refused_line(alloc, line, fault)?,
-        };
-        work.text.push_str(answer.as_str())?;
+        match made {
+            Ok(stamp) => {
+                work.text
+                    .push_str(stamp_line(alloc, line, stamp)?.as_str())?;
+                let unstored = unstored_line(alloc, line, stamp)?;
+                work.unstored.push_str(unstored.as_str())?;
+            }
+            Err(fault) => {
+                let refused = refused_line(alloc, line, fault)?;
+                work.text.push_str(refused.as_str())?;
+                work.unstored.push_str(refused.as_str())?;
+            }
+        }
         Ok(())
     }
 
@@ -368,7 +512,21 @@ impl Admin {
     }
 }
 
+// The line of a line that was made a write, which has this stamp, and isn't stored.
+fn unstored_line(alloc: Global, line: u64, stamp: Stamp) -> Result<String, Refusal> {
+    let counter = stamp.counter;
+    let writer = stamp.writer;
+    Ok(format!(in alloc; "line {line}: {counter}-{writer}, not stored\n")?)
+}
+
 impl Changing {
+    // What the lines are answered, where the changes are stored, or where they aren't.
+    fn answered(&mut self, alloc: Global, are_stored: bool) -> Page {
+        let text = mem::replace(&mut self.text, String::new(alloc));
+        let unstored = mem::replace(&mut self.unstored, String::new(alloc));
+        found(PLAIN, if are_stored { text } else { unstored })
+    }
+
     // What the next line says, and whether it is the last.
     fn next(&mut self, alloc: Global) -> (Said, bool) {
         let body = self.body.as_slice();
@@ -467,6 +625,26 @@ impl Reached {
             return None;
         }
         from.recv_timeout(rt, deadline.rest(rt)).ok()
+    }
+
+    // Its counts of changes. None where its thread doesn't answer in time.
+    fn marks<R: Wait + Clock>(&self, rt: &R, alloc: Global) -> Option<Marks> {
+        let Ok((to, from)) = unbounded(alloc) else {
+            return None;
+        };
+        let deadline = Deadline::within(rt, Duration::from_millis(MOST_MILLISECONDS));
+        let order = Order::Marks(to);
+        if self
+            .orders
+            .send_timeout(rt, order, deadline.rest(rt))
+            .is_err()
+        {
+            return None;
+        }
+        match from.recv_timeout(rt, deadline.rest(rt)) {
+            Ok(Ok(marks)) => Some(marks),
+            _ => None,
+        }
     }
 
     // What is shown of it: its recording, where there is one, and its streams.

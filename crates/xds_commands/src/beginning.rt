@@ -1,19 +1,31 @@
 // What a server begins with: the numbers of its replicas, and what is there before anybody is answered.
-ghost use Rattle.std.specs.Prelude.{◌≡◌, unwrap_or};
+ghost use Rattle.std.specs.Prelude.{◌≡◌, unwrap_or, is_some, IfOk, OnOk, List, ℕ};
+ghost use Rattle.std.specs.Prelude.{Option as Maybe};
+ghost use Rattle.xds_core.specs.Stores.{all_entries};
+ghost use Rattle.xds_commands.specs.Loads.{IsLoaded};
+ghost use Rattle.xds_commands.specs.Given.{IsWorldOver, MergesSome};
 
+use crate::given::number_over;
 use crate::loading::load;
 use crate::machine::Runtime;
-use crate::serve_telling::{FileFault, tell_file, tell_unloaded};
+use crate::serve_telling::{
+    FileFault, tell, tell_file, tell_old_numbers, tell_store, tell_unloaded,
+};
 use crate::server::Serving;
+use crate::storing::{FileStore, Progress, Storage};
+use crate::workers::share;
 use std::alloc::Global;
 use std::fs::File;
 use std::io::Write;
 use std::rt::Files;
+use std::sync::Arc;
 use xds_core::Catalogues;
-use xds_frames::Counted;
+use xds_frames::{Counted, read_whole};
 use xds_message::Batch;
 use xds_monitor::End;
+use xds_program::read_writes;
 use xds_resource::Refusal;
+use xds_store::StoreRefusal;
 
 /// The files of a server by their names, as far as it has such.
 #[derive(Clone, Copy)]
@@ -22,13 +34,21 @@ pub struct ServeFiles<'a> {
     pub record: Option<&'a str>,
     /// The file of which all lines are made before anybody is answered.
     pub load: Option<&'a str>,
+    /// The store of its writes.
+    pub store: Option<&'a str>,
+    /// The file of the stamped writes that it begins with.
+    pub writes: Option<&'a str>,
 }
 
 /// What a server begins with.
 pub(crate) struct Begun {
     pub serving: Serving,
+    /// Whether its replicas have numbers that no run had before, as far as it is known.
+    pub is_new: bool,
     /// What each replica merges before anybody is answered, if there is such.
     pub world: Option<Batch>,
+    /// Where writes are stored, if they are.
+    pub storage: Option<Arc<Storage>>,
 }
 
 // Written out: docs/PROVING.md, "Drops".
@@ -36,22 +56,52 @@ impl Drop for Begun {
     fn drop(self) {
         let Begun {
             serving: _,
+            is_new: _,
             world: _,
+            storage: _,
         } = self;
     }
+}
+
+impl Begun {
+    /// How far writes are stored, if they are.
+    pub(crate) fn progress(&self) -> Result<Option<Arc<Progress>>, Refusal> {
+        match &self.storage {
+            Some(storage) => Ok(Some(share(&storage.progress)?)),
+            None => Ok(None),
+        }
+    }
+}
+
+/// Why the stamped writes of a file aren't taken.
+#[derive(Clone, Copy)]
+pub(crate) enum Unwritten {
+    /// The file can't be opened.
+    File(FileFault),
+    /// A line of it is refused, or it can't be read.
+    Line(Option<u64>, Refusal),
+    /// The replicas have no numbers above those of the replicas that made these writes.
+    Numbers,
 }
 
 /// Why a server doesn't begin.
 #[derive(Clone, Copy)]
 pub(crate) enum Unbegun {
+    /// The stamped writes aren't taken.
+    Writes(Unwritten),
     /// The file that is to be loaded can't be opened.
     File(FileFault),
     /// A line of it is refused, or it can't be read.
     Load(End),
+    /// The store is refused.
+    Store(StoreRefusal),
+    /// There is no memory.
+    Refused(Refusal),
 }
 
 // rule: loaded-first
-/// What a server begins with: all lines of a file that is to be loaded.
+/// What a server begins with: of a store new numbers and all writes; over these the stamped writes of a file; over these all lines of
+/// another.
 pub(crate) fn begin_with<R>(
     rt: &R,
     alloc: Global,
@@ -61,24 +111,267 @@ pub(crate) fn begin_with<R>(
 where
     R: Runtime + Files<File = File>,
 {
-    let world = match files.load {
-        Some(file) => Some(world_in(rt, alloc, file, serving)?),
+    let given = match files.writes {
+        Some(file) => Some(writes_in(rt, alloc, file)?),
         None => None,
     };
-    Ok(Begun { serving, world })
+    match files.store {
+        Some(path) => begun_stored(rt, alloc, serving, path, given, files.load),
+        None => begun_anew(rt, alloc, serving, given, files.load),
+    }
 }
 
-// rule: loaded-first
-// All that the lines of a file come to.
-fn world_in<R>(rt: &R, alloc: Global, file: &str, serving: Serving) -> Result<Batch, Unbegun>
+// The stamped writes of a file.
+fn writes_in<R: Files<File = File>>(rt: &R, alloc: Global, file: &str) -> Result<Batch, Unbegun> {
+    let opened = match File::open(rt, file) {
+        Ok(opened) => opened,
+        Err(error) => return Err(Unbegun::Writes(Unwritten::File(FileFault::of(error.kind())))),
+    };
+    let bytes = match read_whole(alloc, &mut Counted::new(opened)) {
+        Ok(bytes) => bytes,
+        Err(refusal) => return Err(Unbegun::Writes(Unwritten::Line(None, refusal))),
+    };
+    let held = match read_writes(alloc, bytes.as_slice()) {
+        Ok(held) => held,
+        Err(fault) => {
+            let line = Some(fault.line as u64);
+            return Err(Unbegun::Writes(Unwritten::Line(line, fault.refusal)));
+        }
+    };
+    drop(bytes);
+    let batch = held.entries(alloc);
+    drop(held);
+    match batch {
+        Ok(batch) => Ok(batch),
+        Err(refusal) => Err(Unbegun::Refused(refusal)),
+    }
+}
+
+// Without a store.
+fn begun_anew<R>(
+    rt: &R,
+    alloc: Global,
+    serving: Serving,
+    given: Option<Batch>,
+    load: Option<&str>,
+) -> Result<Begun, Unbegun>
 where
     R: Runtime + Files<File = File>,
 {
+    let Some(first) = number_over(serving.first_number, serving.replicas, &given) else {
+        drop(given);
+        return Err(Unbegun::Writes(Unwritten::Numbers));
+    };
+    let is_new = serving.first_number.is_some();
+    let mut serving = serving;
+    serving.first_number = Some(first);
+    let world = match (given, load) {
+        (None, None) => None,
+        (given, load) => Some(world_over(rt, alloc, serving, None, given, load)?),
+    };
+    Ok(Begun {
+        serving,
+        is_new,
+        world,
+        storage: None,
+    })
+}
+
+// With a store: all of it is read before anything of it changes, and its numbers are taken, and committed, before one is used.
+fn begun_stored<R>(
+    rt: &R,
+    alloc: Global,
+    serving: Serving,
+    path: &str,
+    given: Option<Batch>,
+    load: Option<&str>,
+) -> Result<Begun, Unbegun>
+where
+    R: Runtime + Files<File = File>,
+{
+    let had_log = rt.has_log(path);
+    let mut store = match rt.open_store(path) {
+        Ok(store) => store,
+        Err(refusal) => {
+            drop(given);
+            return Err(Unbegun::Store(refusal));
+        }
+    };
+    let (world, first) = match stored_world(rt, alloc, &mut store, serving, given, load) {
+        Ok(world) => world,
+        Err(fault) => {
+            rt.leave_store(path, store, had_log);
+            return Err(fault);
+        }
+    };
+    let mut serving = serving;
+    serving.first_number = Some(first);
+    match storage_of(alloc, path, store, serving.replicas) {
+        Ok(storage) => Ok(Begun {
+            serving,
+            is_new: true,
+            world: Some(world),
+            storage: Some(storage),
+        }),
+        Err(refusal) => {
+            drop(world);
+            Err(Unbegun::Refused(refusal))
+        }
+    }
+}
+
+// rule: stored
+// All that a store has, and over it what is given, which is stored, too; and the first of the numbers that were taken for it.
+fn stored_world<R>(
+    rt: &R,
+    alloc: Global,
+    store: &mut FileStore,
+    serving: Serving,
+    given: Option<Batch>,
+    load: Option<&str>,
+) -> Result<(Batch, u16), Unbegun>
+where
+    R: Runtime + Files<File = File>,
+{
+    let is_more = given.is_some() || load.is_some();
+    let stored = match store.read_all() {
+        Ok(stored) => stored,
+        Err(refusal) => {
+            drop(given);
+            return Err(Unbegun::Store(refusal));
+        }
+    };
+    let first = match numbers_of(store, serving, &given) {
+        Ok(first) => first,
+        Err(fault) => {
+            drop(stored);
+            drop(given);
+            return Err(fault);
+        }
+    };
+    let mut serving = serving;
+    serving.first_number = Some(first);
+    let world = world_over(rt, alloc, serving, Some(stored), given, load)?;
+    if !is_more {
+        return Ok((world, first));
+    }
+    match store.put_batch(&world) {
+        Ok(()) => Ok((world, first)),
+        Err(refusal) => {
+            drop(world);
+            Err(Unbegun::Store(refusal))
+        }
+    }
+}
+
+// rule: new-numbers
+// Takes the numbers of a server's replicas, above those of the replicas that made the given writes, and answers the first.
+fn numbers_of(
+    store: &mut FileStore,
+    serving: Serving,
+    given: &Option<Batch>,
+) -> Result<u16, Unbegun> {
+    let Some(first) = number_over(serving.first_number, serving.replicas, given) else {
+        return Err(Unbegun::Writes(Unwritten::Numbers));
+    };
+    match store.take_numbers_from(first, serving.replicas) {
+        Ok(()) => Ok(first),
+        Err(StoreRefusal::NumberTaken) if serving.first_number.is_none() => {
+            // The next free one is above it.
+            match store.take_numbers(serving.replicas) {
+                Ok(first) => Ok(first),
+                Err(refusal) => Err(Unbegun::Store(refusal)),
+            }
+        }
+        Err(refusal) => Err(Unbegun::Store(refusal)),
+    }
+}
+
+// What is held at the start: what is stored; over it the given writes; over these what all lines of a file come to.
+fn world_over<R>(
+    rt: &R,
+    alloc: Global,
+    serving: Serving,
+    stored: Option<Batch>,
+    given: Option<Batch>,
+    load: Option<&str>,
+) -> Result<Batch, Unbegun>
+where
+    R: Runtime + Files<File = File>,
+    ensures { IfOk result (IsWorldOver (unwrap_or serving.first_number 1) serving.replicas stored given (is_some load.entry)) }
+{
+    let mut held = Catalogues::new(alloc);
+    if let Err(refusal) = join_some(alloc, &mut held, stored) {
+        drop(held);
+        drop(given);
+        return Err(Unbegun::Refused(refusal));
+    }
+    if let Err(refusal) = join_some(alloc, &mut held, given) {
+        drop(held);
+        return Err(Unbegun::Refused(refusal));
+    }
+    match load {
+        Some(file) => world_in(rt, alloc, file, serving, held),
+        None => all_of(alloc, held),
+    }
+}
+
+// Joins a batch, if there is one.
+fn join_some(alloc: Global, held: &mut Catalogues, batch: Option<Batch>) -> Result<(), Refusal>
+    ensures { OnOk result (MergesSome held.old batch held.new) }
+{
+    match batch {
+        Some(batch) => match held.join_all(alloc, batch) {
+            Ok(_) => Ok(()),
+            Err(refusal) => Err(refusal),
+        },
+        None => Ok(()),
+    }
+}
+
+// All that is held.
+fn all_of(alloc: Global, held: Catalogues) -> Result<Batch, Unbegun>
+    ensures { IfOk result (λ b. b ≡ all_entries held) }
+{
+    let batch = held.entries(alloc);
+    drop(held);
+    match batch {
+        Ok(batch) => Ok(batch),
+        Err(refusal) => Err(Unbegun::Refused(refusal)),
+    }
+}
+
+fn storage_of(
+    alloc: Global,
+    path: &str,
+    store: FileStore,
+    replicas: u16,
+) -> Result<Arc<Storage>, Refusal> {
+    let path = String::from_str(alloc, path)?;
+    let progress = Arc::new(alloc, Progress::new(alloc, replicas)?)?;
+    Ok(Arc::new(alloc, Storage::new(alloc, path, store, progress))?)
+}
+
+// rule: loaded-first
+// All that the lines of a file come to, over what is held.
+fn world_in<R>(
+    rt: &R,
+    alloc: Global,
+    file: &str,
+    serving: Serving,
+    held: Catalogues,
+) -> Result<Batch, Unbegun>
+where
+    R: Runtime + Files<File = File>,
+    ensures { IfOk result (λ b. (before : Maybe (List ℕ)) × (after : Maybe (List ℕ)) × IsLoaded (unwrap_or serving.first_number 1) serving.replicas held before after b) }
+{
     let mut opened = match File::open(rt, file) {
         Ok(opened) => opened,
-        Err(error) => return Err(Unbegun::File(FileFault::of(error.kind()))),
+        Err(error) => {
+            drop(held);
+            return Err(Unbegun::File(FileFault::of(error.kind())));
+        }
     };
-    let held = Catalogues::new(alloc);
     let first = first_number(serving);
     match load(rt, alloc, &mut opened, held, first, serving.replicas) {
         Ok(world) => Ok(world),
@@ -108,6 +401,7 @@ pub(crate) fn tell_unbegun<E: Write>(
 {
     let file = named(files.load);
     match fault {
+        Unbegun::Writes(fault) => tell_unwritten(alloc, errors, named(files.writes), fault),
         Unbegun::File(fault) => tell_file(alloc, errors, file, fault),
         Unbegun::Load(End::Line(line, refusal)) => {
             tell_unloaded(alloc, errors, file, Some(line), refusal)
@@ -116,6 +410,24 @@ pub(crate) fn tell_unbegun<E: Write>(
         Unbegun::Load(End::Streams | End::Stopped) => {
             tell_unloaded(alloc, errors, file, None, Refusal::Device)
         }
+        Unbegun::Store(refusal) => tell_store(alloc, errors, named(files.store), refusal),
+        Unbegun::Refused(refusal) => tell(alloc, errors, refusal),
+    }
+}
+
+// Tells why the stamped writes of a file aren't taken, and answers the status.
+fn tell_unwritten<E: Write>(
+    alloc: Global,
+    errors: &mut Counted<E>,
+    file: &str,
+    fault: Unwritten,
+) -> u8
+    ensures { result ≡ 1 }
+{
+    match fault {
+        Unwritten::File(fault) => tell_file(alloc, errors, file, fault),
+        Unwritten::Line(line, refusal) => tell_unloaded(alloc, errors, file, line, refusal),
+        Unwritten::Numbers => tell_old_numbers(alloc, errors, file),
     }
 }
 

@@ -1,5 +1,5 @@
 // A run of the program with a network beside it.
-ghost use Rattle.std.specs.Prelude.{◌≡◌, option_map, string_bytes};
+ghost use Rattle.std.specs.Prelude.{◌≡◌, ◌≤◌, option_map, string_bytes};
 ghost use Rattle.xds_frames.specs.Devices.{seen};
 ghost use Rattle.xds_commands.specs.Ends.{GoesOn};
 ghost use Rattle.xds_commands.specs.Servings.{serving_of};
@@ -10,6 +10,7 @@ use crate::polling::poll_once;
 use crate::progress::ProgressReader;
 use crate::server::{Serving, serve};
 use crate::watching::watch;
+use crate::writes::print_writes;
 use std::fs::File;
 use std::io::{Read, Write};
 use std::net::{Net, TcpListener, TcpStream};
@@ -70,21 +71,43 @@ where
         Ran::Done(status) => status,
         Ran::Poll(task) => poll_once(rt, &Connects, task, output, errors),
         Ran::Client(task) => watch(rt, &task, output, errors),
-        Ran::Serve(words) => {
-            let serving = serving_of(words.task, words.first_number, is_terminal);
-            serve(rt, input, errors, teller, serving, files_in(&words))
-        }
+        Ran::Writes(task) => print_writes(rt, &task, output, errors),
+        Ran::Serve(words) => serve_words(rt, words, input, errors, teller, is_terminal),
     }
+}
+
+// A server of these words, until it ends.
+fn serve_words<R, I, E, T>(
+    rt: &R,
+    words: ServeWords,
+    input: I,
+    errors: &mut Counted<E>,
+    teller: Option<T>,
+    is_terminal: bool,
+) -> u8
+where
+    R: Machine + Files<File = File>,
+    I: Read + Drop + Send + 'static,
+    E: Write,
+    T: Write + Drop + Send + 'static,
+    ensures { result ≤ 1 }
+{
+    let serving = serving_of(words.task, words.first_number, words.hold, is_terminal);
+    serve(rt, input, errors, teller, serving, files_in(&words))
 }
 
 // The names of a server's files.
 fn files_in(words: &ServeWords) -> ServeFiles<'_>
     ensures record { option_map (λ f. f.now) result.record ≡ words.now.folder }
     ensures load { option_map (λ f. f.now) result.load ≡ words.now.load }
+    ensures store { option_map (λ f. f.now) result.store ≡ words.now.store }
+    ensures writes { option_map (λ f. f.now) result.writes ≡ words.now.writes }
 {
     ServeFiles {
         record: text_in(&words.folder),
         load: text_in(&words.load),
+        store: text_in(&words.store),
+        writes: text_in(&words.writes),
     }
 }
 
@@ -99,8 +122,8 @@ fn text_in(text: &Option<String>) -> Option<&str>
 }
 
 // What the server is asked for. At a terminal it tells refused changes.
-fn serving_of(task: ServeTask, first_number: Option<u16>, is_terminal: bool) -> Serving
-    ensures { result ≡ serving_of task first_number is_terminal }
+fn serving_of(task: ServeTask, first_number: Option<u16>, hold: bool, is_terminal: bool) -> Serving
+    ensures { result ≡ serving_of task first_number hold is_terminal }
 {
     Serving {
         first_number,
@@ -114,5 +137,6 @@ fn serving_of(task: ServeTask, first_number: Option<u16>, is_terminal: bool) -> 
         max_streams: task.max_streams,
         idle_seconds: task.idle_seconds,
         admin_port: task.admin_port,
+        hold,
     }
 }

@@ -1,4 +1,5 @@
 // What the commands take of a runtime.
+use crate::storing::OpensStores;
 use std::alloc::AllocGlobal;
 use std::net::{Net, TcpListener, TcpStream};
 use std::random::RandomSource;
@@ -12,6 +13,7 @@ pub trait Runtime: Wait
     + Clock
     + RandomSource
     + AllocGlobal
+    + OpensStores
     + Copy
     + Drop
     + Send
@@ -20,7 +22,17 @@ pub trait Runtime: Wait
 
 impl<R> Runtime for R
 where
-    R: Wait + Threads + Clock + RandomSource + AllocGlobal + Copy + Drop + Send + Sync + 'static,
+    R: Wait
+        + Threads
+        + Clock
+        + RandomSource
+        + AllocGlobal
+        + OpensStores
+        + Copy
+        + Drop
+        + Send
+        + Sync
+        + 'static,
 {}
 
 /// A runtime and its network. What is called with a runtime's own type, as `run` is, names both bounds: a proof doesn't

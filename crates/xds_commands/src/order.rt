@@ -1,7 +1,8 @@
 // What a replica's thread is asked to do.
 use crate::change::Change;
 use crossbeam_channel::Sender;
-use xds_core::Reply;
+use xds_core::{Marks, Reply};
+use xds_message::Batch;
 use xds_monitor::Look;
 use xds_resource::{Refusal, Stamp};
 
@@ -14,6 +15,12 @@ pub enum Order {
     Asked(Change, Sender<Result<Stamp, Refusal>>),
     /// To look at what it holds.
     Look(Sender<Result<Look, Refusal>>),
+    /// To answer its counts of changes.
+    Marks(Sender<Result<Marks, Refusal>>),
+    /// To answer all that it holds.
+    Entries(Sender<Result<Batch, Refusal>>),
+    /// To merge what another holds.
+    Merge(Batch, Sender<Result<(), Refusal>>),
 }
 
 /// The stamp that a reply says, if it is of a write.

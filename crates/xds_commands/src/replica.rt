@@ -6,6 +6,8 @@ ghost use Rattle.xds_commands.specs.Messages.{refusal_in};
 use crate::gate::NoGate;
 use crate::machine::{Machine, Runtime};
 use crate::order::{Order, stamp_in};
+use crate::starting::DRAIN_SECONDS;
+use crate::storing::{Follows, Storage, marks_now};
 use crate::streams::serve_streams;
 use crate::wires::{Bound, both};
 use crate::workers::{Shared, place, share, shares, start_worker};
@@ -13,6 +15,7 @@ use crossbeam_channel::Receiver;
 use std::alloc::Global;
 use std::net::TcpListener;
 use std::sync::{Arc, Wait};
+use std::time::Duration;
 use xds_core::{Event, Marks, Reply};
 use xds_exchange::{Incoming, Outgoing};
 use xds_http::{Replies, Seats, serve_on};
@@ -29,23 +32,31 @@ pub type Takes = (Incoming<Parcel>, Outgoing<Receipt>);
 
 /// The sockets of a replica, and what it merges before it answers anybody at them, if there is such.
 #[derive(Drop)]
-pub struct Sockets {
+pub struct SocketsOver<S> {
     pub streams: TcpListener,
     pub polls: TcpListener,
     pub world: Option<Batch>,
+    /// Where writes are stored, if they are.
+    pub storage: Option<Arc<S>>,
 }
 
-/// What a replica's thread is started with.
-pub type Replica = Bound<Sockets, Receiver<Order>, Sends, Takes>;
+/// The same, where what changes is stored in a file that threads share, if it is stored.
+pub type Sockets = SocketsOver<Storage>;
+
+/// What a replica's thread is started with, where what changes is stored so.
+pub type ReplicaOver<S> = Bound<SocketsOver<S>, Receiver<Order>, Sends, Takes>;
+
+/// The same, where it is stored in a file.
+pub type Replica = ReplicaOver<Storage>;
 
 // rule: loaded-first
 /// Runs a replica for as long as the process runs: what is there from the start, and then streams, polls, what is told to and by other replicas, and the changes
 /// that the input makes. It ends only where no change can come any more, or with the refusal by which it couldn't begin.
-pub fn run_replica<R, A>(
+pub fn run_replica<R, A, S>(
     rt: &R,
     alloc: Global,
     node: &Arc<A>,
-    replica: Replica,
+    replica: ReplicaOver<S>,
     lookout: &Arc<Lookout>,
 ) -> Result<(), Refusal>
 where
@@ -55,6 +66,7 @@ where
     A::Segment: Send,
     A::PostSeat: Send,
     <A as Replies>::Seat: Send,
+    S: Follows + Drop + Send + Sync + 'static,
 {
     let Bound {
         sockets,
@@ -62,12 +74,19 @@ where
         sends,
         takes,
     } = replica;
-    let Sockets {
+    let SocketsOver {
         streams,
         polls,
         world,
+        storage,
     } = sockets;
-    let begun = begin(rt, &**node, world);
+    let begun = match begin(rt, &**node, world) {
+        Ok(()) => start_storing(rt, node, storage, lookout),
+        Err(refusal) => {
+            drop(storage);
+            Err(refusal)
+        }
+    };
     let exchanging = start_exchange(rt, alloc, node, sends, takes);
     let serving = match begun {
         Ok(()) => start_serving(rt, alloc, node, streams, polls, lookout),
@@ -99,6 +118,95 @@ fn begin<R: Wait, A: Served>(rt: &R, node: &A, world: Option<Batch>) -> Result<(
     };
     drop(answer);
     begun
+}
+
+// rule: stored
+// The threads by which what changes at a replica is stored, where it is: one that follows it, and one that stores the rest at the end.
+// What it holds now is stored.
+fn start_storing<R, A, S>(
+    rt: &R,
+    node: &Arc<A>,
+    storage: Option<Arc<S>>,
+    lookout: &Arc<Lookout>,
+) -> Result<(), Refusal>
+where
+    R: Runtime,
+    A: Shared,
+    A::Seat: 'static,
+    S: Follows + Drop + Send + Sync + 'static,
+{
+    let Some(storage) = storage else {
+        return Ok(());
+    };
+    let mut seat = node.seat(rt)?;
+    let marks = marks_now(rt, &**node, &mut seat)?;
+    storage.begin(rt, lookout.replica(), marks);
+    let finishing = start_finishing(rt, node, &storage, lookout);
+    both(finishing, start_following(rt, node, &storage, lookout))
+}
+
+// A thread that stores what changes at a replica.
+fn start_following<R, A, S>(
+    rt: &R,
+    node: &Arc<A>,
+    storage: &Arc<S>,
+    lookout: &Arc<Lookout>,
+) -> Result<(), Refusal>
+where
+    R: Runtime,
+    A: Shared,
+    A::Seat: 'static,
+    S: Follows + Drop + Send + Sync + 'static,
+{
+    let (storage, lookout) = shares(storage, lookout)?;
+    start_worker(rt, place(rt, node), move |rt, (seat, node)| {
+        follow_storing(rt, &*node, seat, &*storage, &lookout);
+    })
+}
+
+fn follow_storing<R: Runtime, A: Served, S: Follows>(
+    rt: &R,
+    node: &A,
+    seat: A::Seat,
+    storage: &S,
+    lookout: &Lookout,
+) {
+    let mut seat = seat;
+    storage.follow(rt, node, &mut seat, lookout);
+}
+
+// A thread that stores the rest of what changed at a replica, once the server ends and frames that were begun are written.
+fn start_finishing<R, A, S>(
+    rt: &R,
+    node: &Arc<A>,
+    storage: &Arc<S>,
+    lookout: &Arc<Lookout>,
+) -> Result<(), Refusal>
+where
+    R: Runtime,
+    A: Shared,
+    A::Seat: 'static,
+    S: Follows + Drop + Send + Sync + 'static,
+{
+    let (storage, lookout) = shares(storage, lookout)?;
+    start_worker(rt, place(rt, node), move |rt, (seat, node)| {
+        finish_storing(rt, &*node, seat, &*storage, &lookout);
+    })
+}
+
+fn finish_storing<R: Runtime, A: Served, S: Follows>(
+    rt: &R,
+    node: &A,
+    seat: A::Seat,
+    storage: &S,
+    lookout: &Lookout,
+) {
+    let mut seat = seat;
+    lookout.ending().wait(rt);
+    lookout
+        .ending()
+        .drain(rt, Duration::from_secs(DRAIN_SECONDS));
+    storage.finish(rt, node, &mut seat, lookout);
 }
 
 // The threads by which a replica and the others tell each other what changed.
@@ -294,7 +402,45 @@ fn do_order<R: Wait, A: Served>(
         Order::Look(reply) => {
             let _ = reply.send(rt, look(rt, node, seat));
         }
+        Order::Marks(reply) => {
+            let _ = reply.send(rt, marks_now(rt, node, seat));
+        }
+        Order::Entries(reply) => {
+            let _ = reply.send(rt, entries(rt, node, seat));
+        }
+        Order::Merge(batch, reply) => {
+            let _ = reply.send(rt, merge(rt, node, seat, batch));
+        }
     }
+}
+
+// All that a replica holds.
+fn entries<R: Wait, A: Served>(rt: &R, node: &A, seat: &mut A::Seat) -> Result<Batch, Refusal> {
+    match called(rt, node, &NoGate, seat, Event::Snapshot) {
+        Ok(Ok(Reply::Entries(batch))) => Ok(batch),
+        Ok(Ok(reply)) => {
+            drop(reply);
+            Err(Refusal::Device)
+        }
+        Ok(Err(refusal)) => Err(refusal),
+        Err(refusal) => Err(refusal),
+    }
+}
+
+// Lets a replica merge a batch.
+fn merge<R: Wait, A: Served>(
+    rt: &R,
+    node: &A,
+    seat: &mut A::Seat,
+    batch: Batch,
+) -> Result<(), Refusal> {
+    let answer = called(rt, node, &NoGate, seat, Event::Merge(batch));
+    let merged = match reply_in(&answer) {
+        Ok(_) => Ok(()),
+        Err(refusal) => Err(refusal),
+    };
+    drop(answer);
+    merged
 }
 
 // Makes a change. Answers its stamp.

@@ -1,7 +1,7 @@
 // What a server tells on its error output.
 ghost use Rattle.std.specs.Prelude.{◌≡◌, string_bytes, IfOk, Ok};
 ghost use Rattle.xds_monitor.specs.Endings.{fault_line, refusal_line, status_of, TellsEnd, TellsLine, TellsText};
-ghost use Rattle.xds_commands.specs.Messages.{admin_line, file_fault_text, file_line, port_fault_text, port_line, replica_line, same_numbers_line, unloaded_line};
+ghost use Rattle.xds_commands.specs.Messages.{admin_line, file_fault_text, file_line, old_numbers_line, port_fault_text, port_line, replica_line, same_numbers_line, unloaded_line};
 ghost use Rattle.xds_frames.specs.Devices.{seen};
 ghost use Rattle.xds_monitor.specs.Recordings.{tape_line};
 
@@ -13,6 +13,7 @@ use xds_frames::{Counted, write_whole};
 use xds_monitor::{End, Ending, Next, TapeFault, fault_line, number_text, tape_line};
 use xds_program::run;
 use xds_resource::Refusal;
+use xds_store::StoreRefusal;
 
 /// The status of a server that ended by a refusal.
 pub(crate) const REFUSED: u8 = 1;
@@ -171,20 +172,57 @@ pub(crate) fn tell_unloaded<E: Write>(
     REFUSED
 }
 
-/// Tells that the replicas have the numbers of every run in which none was said, and what that means for clients of one before.
-pub(crate) fn tell_same_numbers<E: Write>(alloc: Global, errors: &mut Counted<E>)
-    ensures { TellsLine same_numbers_line (seen E.contents errors.old errors.new) }
+/// Tells that a store is refused, and why, and answers the status.
+pub(crate) fn tell_store<E: Write>(
+    alloc: Global,
+    errors: &mut Counted<E>,
+    file: &str,
+    refusal: StoreRefusal,
+) -> u8
+    ensures { result ≡ 1 }
 {
-    put(errors, same_numbers_line(alloc));
+    put(errors, store_line(alloc, file, refusal));
+    REFUSED
+}
+
+// The line of a store that is refused.
+fn store_line(alloc: Global, file: &str, refusal: StoreRefusal) -> Result<String, Refusal> {
+    Ok(format!(in alloc; "{file}: {refusal}\n")?)
+}
+
+/// Tells that the replicas that were asked for have no numbers above those of the replicas that made the writes of a file, and answers the
+/// status.
+pub(crate) fn tell_old_numbers<E: Write>(alloc: Global, errors: &mut Counted<E>, file: &str) -> u8
+    ensures told { TellsLine (old_numbers_line file.now) (seen E.contents errors.old errors.new) }
+    ensures status { result ≡ 1 }
+{
+    put(errors, old_numbers_line(alloc, file));
+    REFUSED
 }
 
 // rule: new-numbers
-fn same_numbers_line(alloc: Global) -> Result<String, Refusal>
-    ensures { IfOk result (λ t. string_bytes t ≡ same_numbers_line) }
+fn old_numbers_line(alloc: Global, file: &str) -> Result<String, Refusal>
+    ensures { IfOk result (λ t. string_bytes t ≡ old_numbers_line file.now) }
 {
-    Ok(String::from_str(
-        alloc,
-        "numbers begin at 1 again: a client of an earlier run may keep what is no longer so; --first-number keeps runs apart\n",
+    Ok(format!(in alloc;
+        "{file}: its writes have the numbers of these replicas, or greater ones: --first-number has to be above them\n"
+    )?)
+}
+
+/// Tells that the replicas have the numbers of every run in which none was said, from this one on, and what that means for clients of one
+/// before.
+pub(crate) fn tell_same_numbers<E: Write>(alloc: Global, errors: &mut Counted<E>, first: u16)
+    ensures { TellsLine (same_numbers_line first) (seen E.contents errors.old errors.new) }
+{
+    put(errors, same_numbers_line(alloc, first));
+}
+
+// rule: new-numbers
+fn same_numbers_line(alloc: Global, first: u16) -> Result<String, Refusal>
+    ensures { IfOk result (λ t. string_bytes t ≡ same_numbers_line first) }
+{
+    Ok(format!(in alloc;
+        "numbers begin at {first} again: a client of an earlier run may keep what is no longer so; --store or --first-number keeps runs apart\n"
     )?)
 }
 
@@ -302,7 +340,7 @@ pub(crate) fn tell_until_end<R: Wait, E: Write>(
     unreachable!()
 }
 
-/// The same, and what comes up to where nothing more is to be told, and then why the server ended, where that is a refusal.
+/// Tells all notes up to the end, those that come until nothing more is to be told, and then why the server ended, if by a refusal.
 pub(crate) fn tell_all<R: Wait, E: Write>(
     rt: &R,
     alloc: Global,

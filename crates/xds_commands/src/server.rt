@@ -7,14 +7,15 @@ use crate::beginning::{Begun, ServeFiles, begin_with, first_number, tell_unbegun
 use crate::loading::number_at;
 use crate::machine::{Machine, Runtime};
 use crate::order::Order;
-use crate::replica::{Sends, Sockets, Takes};
+use crate::replica::{Sends, Sockets, SocketsOver, Takes};
 use crate::serve_telling::{
     PortFault, status_of, tell, tell_admin, tell_end, tell_port, tell_replicas, tell_same_numbers,
     tell_tape, tell_until_end,
 };
 use crate::starting::{
-    DRAIN_SECONDS, shared_tape, start_admin, start_input, start_replica, start_teller,
+    DRAIN_SECONDS, shared_tape, start_admin, start_input, start_opener, start_replica, start_teller,
 };
+use crate::storing::{Progress, Storage, owned};
 use crate::timed::Deadline;
 use crate::wires::{Links, Wires, both, crossed, wired};
 use crate::workers::share;
@@ -61,6 +62,8 @@ pub struct Serving {
     pub idle_seconds: Option<u16>,
     /// An operator's port, if there is one.
     pub admin_port: Option<u16>,
+    /// Whether nobody is answered before the input has a line `ready`, or an operator says so.
+    pub hold: bool,
 }
 
 // As many milliseconds as who stopped the server has to take the answer.
@@ -71,6 +74,12 @@ const TELL_MILLISECONDS: u64 = 200;
 
 // As many seconds as the rest of the traces has at most to be written at the end. It is no more than a journal has.
 const RECORD_SECONDS: u64 = 60;
+
+// As many seconds as the rest of what changed has at most to be stored at the end.
+const STORE_SECONDS: u64 = 60;
+
+// What is told of a store that doesn't have all writes at the end.
+const NOT_ALL: &str = "doesn't have the last writes";
 
 // What the replicas are started with, and what changes of the input are sent by.
 type Wiring = Wires<Sockets, Sender<Order>, Receiver<Order>, Sends, Takes>;
@@ -83,7 +92,8 @@ type Wiring = Wires<Sockets, Sender<Order>, Receiver<Order>, Sends, Takes>;
 /// is told with its name as 19 Device, and why, and nothing is read. A recording that ends by a refusal is told; the server goes on.
 ///
 /// Where a file is to be loaded, all its lines are made before the ports are bound, each by its replica over all that was made before;
-/// one that is refused is told with the file's name, and nothing is served.
+/// one that is refused is told with the file's name, and nothing is served. Where there is a store, its writes are there from the start,
+/// its replicas have numbers that no run of it had, and what changes is stored. A store that is refused is told, and nothing is served.
 ///
 /// Where the error output is given once more, as a teller, a thread of its own tells on it, and the server ends some three seconds after its
 /// end is known, whoever reads that output; what isn't told by then is left out. Without one the server waits for who reads it.
@@ -134,10 +144,13 @@ where
     ensures { result ≤ 1 }
 {
     let serving = begun.serving;
+    let is_new = begun.is_new;
     let bound = all_bound(rt, alloc, &begun);
     drop(begun);
     match bound {
-        Ok(doors) => serve_recorded(rt, alloc, input, errors, teller, doors, serving, folder),
+        Ok(doors) => serve_recorded(
+            rt, alloc, input, errors, teller, doors, serving, is_new, folder,
+        ),
         Err(Unbound::Port(port, fault)) => {
             drop(input);
             drop(teller);
@@ -160,6 +173,7 @@ fn serve_recorded<R, I, E, T>(
     teller: Option<T>,
     doors: Bindings,
     serving: Serving,
+    is_new: bool,
     folder: Option<&str>,
 ) -> u8
 where
@@ -191,8 +205,8 @@ where
     if let Some(port) = serving.admin_port {
         tell_admin(alloc, errors, port);
     }
-    if serving.first_number.is_none() {
-        tell_same_numbers(alloc, errors);
+    if !is_new {
+        tell_same_numbers(alloc, errors, first_number(serving));
     }
     match run(rt, alloc, input, errors, teller, doors, &tapes, serving) {
         Ok(status) => status,
@@ -215,12 +229,14 @@ fn tell_unrecordable<E: Write>(
     }
 }
 
-// The sockets of a server.
+// The sockets of a server, and what is known of its store.
 struct Bindings {
     // Of each replica, with what it begins with.
     sockets: Vec<Sockets>,
     // Of an operator's port, if there is one.
     admin: Option<TcpListener>,
+    // How far writes are stored, if they are.
+    progress: Option<Arc<Progress>>,
 }
 
 // Written out: docs/PROVING.md, "Drops".
@@ -229,14 +245,19 @@ impl Drop for Bindings {
         let Bindings {
             sockets: _,
             admin: _,
+            progress: _,
         } = self;
     }
 }
 
 impl Bindings {
-    fn into_parts(self) -> (Vec<Sockets>, Option<TcpListener>) {
-        let Bindings { sockets, admin } = self;
-        (sockets, admin)
+    fn into_parts(self) -> (Vec<Sockets>, Option<TcpListener>, Option<Arc<Progress>>) {
+        let Bindings {
+            sockets,
+            admin,
+            progress,
+        } = self;
+        (sockets, admin, progress)
     }
 }
 
@@ -258,10 +279,12 @@ where
         let streams = bind(rt, serving.port, index)?;
         let polls = bind(rt, serving.rest_port, index)?;
         let world = copied(alloc, &begun.world)?;
-        let one = Sockets {
+        let storage = shared_storage(&begun.storage)?;
+        let one = SocketsOver {
             streams,
             polls,
             world,
+            storage,
         };
         match sockets.push(one) {
             Ok(()) => {}
@@ -269,6 +292,17 @@ where
         }
     }
     Ok(sockets)
+}
+
+// A share of where writes are stored, if they are.
+fn shared_storage(storage: &Option<Arc<Storage>>) -> Result<Option<Arc<Storage>>, Unbound> {
+    match storage {
+        Some(storage) => match share(storage) {
+            Ok(storage) => Ok(Some(storage)),
+            Err(refusal) => Err(Unbound::Refused(refusal)),
+        },
+        None => Ok(None),
+    }
 }
 
 // A copy of what is there from the start, if there is something. No text is copied.
@@ -284,7 +318,7 @@ fn copied(alloc: Global, world: &Option<Batch>) -> Result<Option<Batch>, Unbound
     }
 }
 
-// The same, and the socket of an operator's port, where there is one.
+// The sockets of all replicas, and that of an operator's port, where there is one.
 fn all_bound<R>(rt: &R, alloc: Global, begun: &Begun) -> Result<Bindings, Unbound>
 where
     R: Net<Listener = TcpListener, Stream = TcpStream>,
@@ -294,7 +328,14 @@ where
         Some(port) => Some(bind(rt, port, 0)?),
         None => None,
     };
-    Ok(Bindings { sockets, admin })
+    match begun.progress() {
+        Ok(progress) => Ok(Bindings {
+            sockets,
+            admin,
+            progress,
+        }),
+        Err(refusal) => Err(Unbound::Refused(refusal)),
+    }
 }
 
 fn bind<R>(rt: &R, first: u16, index: u16) -> Result<TcpListener, Unbound>
@@ -326,54 +367,69 @@ where
     T: Write + Drop + Send + 'static,
     ensures { IfOk result (λ status. status ≤ 1) }
 {
-    let (sockets, admin) = doors.into_parts();
+    let (sockets, admin, progress) = doors.into_parts();
     let wires = wired(alloc, sockets, &Channels { alloc })?;
     let ending = Arc::new(alloc, ending_of(alloc, serving))?;
+    if serving.hold {
+        ending.hold(rt);
+    }
     let lookouts = lookouts_of(alloc, serving, &ending)?;
     log_replicas(rt, &ending, serving);
     let is_told_beside = start_teller(rt, alloc, teller, &ending)?;
     start(
-        rt,
-        alloc,
-        input,
-        wires,
-        admin,
-        serving.keep_going,
-        &lookouts,
-        tapes,
-        &ending,
+        rt, alloc, input, wires, admin, serving, &lookouts, tapes, &progress, &ending,
     )?;
     if is_told_beside {
-        return Ok(end_beside(rt, tapes, &ending));
+        return Ok(end_beside(rt, alloc, tapes, &progress, &ending));
     }
     let end = tell_until_end(rt, alloc, errors, &ending);
-    finish(rt, tapes, &ending, end);
+    finish(rt, alloc, tapes, &progress, &ending, end);
     let end = tell_until_end(rt, alloc, errors, &ending);
     Ok(tell_end(alloc, errors, Ok(end)))
 }
 
 // Waits for the end, and for what is to be done then, while another thread tells. That one is waited for as long as frames that were begun
 // may be written, and a moment at least. Answers the status.
-fn end_beside<R: Wait + Clock>(rt: &R, tapes: &Vec<Arc<Tape>>, ending: &Ending) -> u8
+fn end_beside<R: Wait + Clock>(
+    rt: &R,
+    alloc: Global,
+    tapes: &Vec<Arc<Tape>>,
+    progress: &Option<Arc<Progress>>,
+    ending: &Ending,
+) -> u8
     ensures { result ≤ 1 }
 {
     let end = ending.wait(rt);
     let deadline = Deadline::within(rt, Duration::from_secs(DRAIN_SECONDS));
-    finish(rt, tapes, ending, end);
+    finish(rt, alloc, tapes, progress, ending, end);
     let least = Duration::from_millis(TELL_MILLISECONDS);
     ending.wait_told(rt, deadline.rest(rt).max(least));
     status_of(end)
 }
 
-// What is done once the end is known: who stopped the server takes the answer, frames that were begun are written, and traces to their
-// ends. Then nothing more is to be told.
-fn finish<R: Wait + Clock>(rt: &R, tapes: &Vec<Arc<Tape>>, ending: &Ending, end: End) {
+// What is done once the end is known: who stopped the server takes the answer, frames that were begun are written, traces to their
+// ends, and what changed is stored. Then nothing more is to be told.
+fn finish<R: Wait + Clock>(
+    rt: &R,
+    alloc: Global,
+    tapes: &Vec<Arc<Tape>>,
+    progress: &Option<Arc<Progress>>,
+    ending: &Ending,
+    end: End,
+) {
     if end == End::Stopped {
         thread::sleep(rt, Duration::from_millis(PARTING_MILLISECONDS));
     }
     ending.drain(rt, Duration::from_secs(DRAIN_SECONDS));
     if !tapes.is_empty() {
         wait_tapes(rt, tapes, ending);
+    }
+    if let Some(progress) = progress {
+        if !progress.wait(rt, Duration::from_secs(STORE_SECONDS)) {
+            if let Ok(text) = owned(alloc, NOT_ALL) {
+                ending.announce(rt, Note::Store(text));
+            }
+        }
     }
     ending.close(rt);
 }
@@ -443,9 +499,10 @@ fn start<R, I>(
     input: I,
     wires: Wiring,
     admin: Option<TcpListener>,
-    keep_going: bool,
+    serving: Serving,
     lookouts: &Vec<Arc<Lookout>>,
     tapes: &Vec<Arc<Tape>>,
+    progress: &Option<Arc<Progress>>,
     ending: &Arc<Ending>,
 ) -> Result<(), Refusal>
 where
@@ -455,14 +512,25 @@ where
     let (senders, replicas) = wires.apart();
     let mut done = match admin {
         Some(listener) => {
-            let desk = desk_of(alloc, senders.as_slice(), lookouts, tapes, ending);
+            let desk = desk_of(alloc, senders.as_slice(), lookouts, tapes, progress, ending);
             start_admin(rt, alloc, listener, desk)
         }
         None => Ok(()),
     };
+    if serving.hold {
+        done = both(done, start_opener(rt, alloc, senders.as_slice(), ending));
+    }
     done = both(
         done,
-        start_input(rt, alloc, input, senders, keep_going, ending),
+        start_input(
+            rt,
+            alloc,
+            input,
+            senders,
+            serving.keep_going,
+            serving.hold,
+            ending,
+        ),
     );
     let mut lookouts = lookouts.iter();
     let mut tapes = tapes.iter();
@@ -482,6 +550,7 @@ fn desk_of(
     senders: &[Sender<Order>],
     lookouts: &Vec<Arc<Lookout>>,
     tapes: &Vec<Arc<Tape>>,
+    progress: &Option<Arc<Progress>>,
     ending: &Arc<Ending>,
 ) -> Result<Admin, Refusal> {
     let mut replicas = Vec::new(alloc);
@@ -497,8 +566,13 @@ fn desk_of(
             late: Mutex::new(None),
         })?;
     }
+    let store = match progress {
+        Some(progress) => Some(share(progress)?),
+        None => None,
+    };
     Ok(Admin {
         replicas,
+        store,
         ending: share(ending)?,
     })
 }

@@ -5,9 +5,12 @@ use crate::admin::Admin;
 use crate::input::take_input;
 use crate::keeping::keep_input;
 use crate::machine::{Machine, Runtime};
+use crate::opening::open_when_asked;
 use crate::order::Order;
-use crate::replica::{Replica, run_replica};
+use crate::ready_line::ReadyReader;
+use crate::replica::{ReplicaOver, run_replica};
 use crate::serve_telling::tell_all;
+use crate::storing::Follows;
 use crate::wires::{both, started};
 use crate::workers::{share, shares, start_worker};
 use crossbeam_channel::Sender;
@@ -31,19 +34,20 @@ pub(crate) const DRAIN_SECONDS: u64 = 3;
 const LOOK_SECONDS: u64 = 1;
 
 /// Starts the thread of a replica, whose number its lookout knows, and that of its tape, if it has one. Its node has a name of its own.
-pub(crate) fn start_replica<R>(
+pub(crate) fn start_replica<R, S>(
     rt: &R,
     alloc: Global,
-    replica: Replica,
+    replica: ReplicaOver<S>,
     lookout: &Arc<Lookout>,
     tape: Option<&Arc<Tape>>,
 ) -> Result<(), Refusal>
 where
     R: Machine,
+    S: Follows + Drop + Send + Sync + 'static,
 {
     let number = lookout.number().max(1);
     match Opened::<Line>::new(alloc) {
-        Ok(opened) => start_named::<R, Brand>(rt, alloc, opened, number, replica, lookout, tape),
+        Ok(opened) => start_named::<R, Brand, S>(rt, alloc, opened, number, replica, lookout, tape),
         Err(_) => {
             drop(replica);
             Err(Refusal::OutOfMemory)
@@ -52,18 +56,19 @@ where
 }
 
 // Starts the thread of a replica by a node of this name.
-fn start_named<R, N>(
+fn start_named<R, N, S>(
     rt: &R,
     alloc: Global,
     opened: Opened<Line>,
     number: u16,
-    replica: Replica,
+    replica: ReplicaOver<S>,
     lookout: &Arc<Lookout>,
     tape: Option<&Arc<Tape>>,
 ) -> Result<(), Refusal>
 where
     R: Machine,
     N: NodeName + Send + Sync + 'static,
+    S: Follows + Drop + Send + Sync + 'static,
     requires name { opened ≡ N.id }
     requires first { 1 ≤ number }
     requires own { number ≡ N.replica }
@@ -80,11 +85,11 @@ where
 // What stands round a node is put round it by one function each: with all of it in one, a proof of the call finds no end.
 
 // Starts the threads of a replica by this node, whose journal goes to a tape, if there is one.
-fn start_recorded<R, A>(
+fn start_recorded<R, A, S>(
     rt: &R,
     alloc: Global,
     node: A,
-    replica: Replica,
+    replica: ReplicaOver<S>,
     lookout: &Arc<Lookout>,
     tape: Option<&Arc<Tape>>,
 ) -> Result<(), Refusal>
@@ -93,6 +98,7 @@ where
     A: Served + Host<Segment: Piece + Send> + Drop + Send + Sync + 'static,
     <A as Host>::Seat: Send + 'static,
     A::PostSeat: Send,
+    S: Follows + Drop + Send + Sync + 'static,
 {
     match recorded_node(node, lookout, tape) {
         Ok(node) => start_watched(rt, alloc, node, replica, lookout, tape),
@@ -126,12 +132,12 @@ pub(crate) fn shared_tape(tape: Option<&Arc<Tape>>) -> Result<Option<Arc<Tape>>,
     }
 }
 
-// The same, by a node whose events are noted.
-fn start_watched<R, A>(
+// Serves a replica by a node whose events are noted.
+fn start_watched<R, A, S>(
     rt: &R,
     alloc: Global,
     node: A,
-    replica: Replica,
+    replica: ReplicaOver<S>,
     lookout: &Arc<Lookout>,
     tape: Option<&Arc<Tape>>,
 ) -> Result<(), Refusal>
@@ -141,6 +147,7 @@ where
     <A as Host>::Seat: Send + 'static,
     A::Segment: Send,
     A::PostSeat: Send,
+    S: Follows + Drop + Send + Sync + 'static,
 {
     match watched_node(alloc, node, *rt, lookout) {
         Ok(node) => start_weighed(rt, alloc, node, replica, lookout, tape),
@@ -167,12 +174,12 @@ fn watched_node<A: Served + Drop, C: Clock + Drop>(
     }
 }
 
-// The same, by a node whose journal is cut by its weight.
-fn start_weighed<R, A>(
+// Serves a replica by a node whose journal is cut by its weight.
+fn start_weighed<R, A, S>(
     rt: &R,
     alloc: Global,
     node: A,
-    replica: Replica,
+    replica: ReplicaOver<S>,
     lookout: &Arc<Lookout>,
     tape: Option<&Arc<Tape>>,
 ) -> Result<(), Refusal>
@@ -182,6 +189,7 @@ where
     <A as Host>::Seat: Send + 'static,
     A::Segment: Send,
     A::PostSeat: Send,
+    S: Follows + Drop + Send + Sync + 'static,
 {
     match Arc::new(alloc, Weighed::new(alloc, node, tape.is_some())) {
         Ok(node) => start_node(rt, alloc, node, replica, lookout, tape),
@@ -193,11 +201,11 @@ where
 }
 
 // Starts the threads of a replica and of its tape.
-fn start_node<R, A>(
+fn start_node<R, A, S>(
     rt: &R,
     alloc: Global,
     node: Arc<A>,
-    replica: Replica,
+    replica: ReplicaOver<S>,
     lookout: &Arc<Lookout>,
     tape: Option<&Arc<Tape>>,
 ) -> Result<(), Refusal>
@@ -208,6 +216,7 @@ where
     A::Segment: Send,
     A::PostSeat: Send,
     <A as Replies>::Seat: Send,
+    S: Follows + Drop + Send + Sync + 'static,
 {
     let taping = match tape {
         Some(tape) => start_tape(rt, &node, tape, lookout),
@@ -268,11 +277,11 @@ fn look_until_end<R: Wait + Clock>(rt: &R, tape: &Tape, lookout: &Lookout) {
 }
 
 // Starts the thread of a replica.
-fn start_calls<R, A>(
+fn start_calls<R, A, S>(
     rt: &R,
     alloc: Global,
     node: Arc<A>,
-    replica: Replica,
+    replica: ReplicaOver<S>,
     lookout: &Arc<Lookout>,
 ) -> Result<(), Refusal>
 where
@@ -282,6 +291,7 @@ where
     A::Segment: Send,
     A::PostSeat: Send,
     <A as Replies>::Seat: Send,
+    S: Follows + Drop + Send + Sync + 'static,
 {
     let Ok(lookout) = share(lookout) else {
         drop(replica);
@@ -296,12 +306,14 @@ where
 }
 
 /// Starts the thread that takes the input, and keeps going at a line that is refused or doesn't, which a server doesn't wait for at its end.
+/// Where nobody is answered yet, a line `ready` ends that.
 pub(crate) fn start_input<R, I>(
     rt: &R,
     alloc: Global,
     input: I,
     senders: Vec<Sender<Order>>,
     keep_going: bool,
+    hold: bool,
     ending: &Arc<Ending>,
 ) -> Result<(), Refusal>
 where
@@ -310,12 +322,75 @@ where
 {
     start_worker(rt, share(ending), move |rt, ending| {
         let mut input = input;
-        if keep_going {
-            keep_input(rt, alloc, &mut input, senders.as_slice(), &ending);
+        if hold {
+            let mut input = ReadyReader::new(rt, &ending, input);
+            read_input(
+                rt,
+                alloc,
+                &mut input,
+                senders.as_slice(),
+                keep_going,
+                &ending,
+            );
         } else {
-            take_input(rt, alloc, &mut input, senders.as_slice(), &ending);
+            read_input(
+                rt,
+                alloc,
+                &mut input,
+                senders.as_slice(),
+                keep_going,
+                &ending,
+            );
         }
     })
+}
+
+/// Starts the thread that lets clients be answered once that is asked for.
+pub(crate) fn start_opener<R>(
+    rt: &R,
+    alloc: Global,
+    senders: &[Sender<Order>],
+    ending: &Arc<Ending>,
+) -> Result<(), Refusal>
+where
+    R: Runtime,
+{
+    let owned = match (copies(alloc, senders), share(ending)) {
+        (Ok(senders), Ok(ending)) => Ok((senders, ending)),
+        _ => Err(Refusal::OutOfMemory),
+    };
+    start_worker(rt, owned, move |rt, (senders, ending)| {
+        open_when_asked(rt, alloc, senders.as_slice(), &ending);
+    })
+}
+
+// Shares of what changes are sent by.
+fn copies(alloc: Global, senders: &[Sender<Order>]) -> Result<Vec<Sender<Order>>, Refusal> {
+    let mut copies = Vec::new(alloc);
+    for sender in senders {
+        copies.push(sender.clone()?)?;
+    }
+    Ok(copies)
+}
+
+// Takes the input to its end.
+fn read_input<R, I>(
+    rt: &R,
+    alloc: Global,
+    input: &mut I,
+    senders: &[Sender<Order>],
+    keep_going: bool,
+    ending: &Ending,
+)
+where
+    R: Wait,
+    I: Read,
+{
+    if keep_going {
+        keep_input(rt, alloc, input, senders, ending);
+    } else {
+        take_input(rt, alloc, input, senders, ending);
+    }
 }
 
 /// Starts the thread that tells what there is to tell, where there is something that it may tell on. Answers whether there is.

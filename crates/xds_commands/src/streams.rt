@@ -64,13 +64,16 @@ where
     }
 }
 
-// One stream, and what is counted at its end.
+// rule: loaded-first
+// One stream, once clients may be answered, and what is counted at its end.
 fn serve_and_leave<R, A>(rt: &R, alloc: Global, socket: &TcpStream, node: &A, lookout: &Lookout)
 where
     R: Wait + Threads + Clock + Sync,
     A: Shared,
 {
-    serve_stream(rt, alloc, socket, node, lookout);
+    if lookout.ending().wait_open(rt) {
+        serve_stream(rt, alloc, socket, node, lookout);
+    }
     lookout.leave(rt);
     lookout.ending().stream_ended(rt);
 }

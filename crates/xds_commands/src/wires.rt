@@ -35,7 +35,7 @@ pub struct Bound<L, C, S, T> {
     pub takes: Vec<T>,
 }
 
-/// The same of several replicas, in their order, and what changes of the input are sent by.
+/// The sockets and ends of several replicas, in their order, and the senders of changes of the input.
 #[derive(Drop)]
 pub struct Wires<L, I, C, S, T> {
     senders: Vec<I>,

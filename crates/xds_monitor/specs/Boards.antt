@@ -15,7 +15,8 @@
 --     counts_at         what was counted of a type
 --     with_counts       the same with other counts of a type
 --     no_answers        nothing was counted
---     judged, judged_at        once a response was accepted or rejected, if one was; and of which type
+--     judged            the counts of a type once a response was accepted or rejected, if one was
+--     judged_at         the counts of all types then
 --     responded_at      once a stream was told a response of a type
 --     status_of         what is shown of a type on a stream
 --     verdict_on        what a request says on a stream, if it is open: nothing, where it is out of date

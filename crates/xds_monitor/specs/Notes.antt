@@ -2,15 +2,16 @@
 --     caused_line    the line of a line of the input that is refused, with what is wrong of it
 --     refused_by     the same, or without that, where there is none
 --     refused_line   the same, or without that, where it isn't known
+--     store_line     the line of what is so of the store
 --     note_line      the line of a note
 --     stamp_line     the line of a line that was made a write, which has this stamp
-use Rattle.std.specs.Prelude.{ℕ, List, ◌++◌, Option, Some, None, codes, decimal}
+use Rattle.std.specs.Prelude.{ℕ, List, ◌++◌, Option, Some, None, codes, decimal, string_bytes}
 use Rattle.xds_resource.specs.declared.refusal.Refusal.{Refusal}
 use Rattle.xds_resource.specs.Refusals.{number_of, name_of}
 use Rattle.xds_monitor.specs.declared.cause.Cause.{Cause}
 use Rattle.xds_monitor.specs.declared.fault.Fault.{Fault}
 use Rattle.xds_monitor.specs.declared.note.Note.{Note}
-use Rattle.xds_monitor.specs.declared.note.Note.TheVariants.{Refused, Event, Missed, RecordingEnded}
+use Rattle.xds_monitor.specs.declared.note.Note.TheVariants.{Refused, Event, Missed, RecordingEnded, Store}
 use Rattle.xds_monitor.specs.Causes.{cause_text}
 use Rattle.xds_monitor.specs.Logging.{event_line}
 use Rattle.xds_monitor.specs.Endings.{fault_line}
@@ -29,12 +30,17 @@ refused_by line refusal (Some cause) = caused_line line refusal cause
 abbrev pub refused_line : ℕ → Fault → List ℕ
 refused_line line fault = refused_by line fault.refusal fault.cause
 
+-- the line of what is so of the store
+abbrev pub store_line : List ℕ → List ℕ
+store_line text = codes "the store " ++ (text ++ codes "\n")
+
 -- the line of a note
 abbrev pub note_line : Note → List ℕ
 note_line (Refused line fault) = refused_line line fault
 note_line (Event event) = event_line event
 note_line (Missed count) = decimal count ++ codes " lines are left out\n"
 note_line (RecordingEnded replica refusal) = recording_line replica refusal
+note_line (Store text) = store_line (string_bytes text)
 
 -- the line of a line that was made a write, which has this stamp
 abbrev pub stamp_line : ℕ → ℕ → ℕ → List ℕ

@@ -1,17 +1,26 @@
 -- Which number of a server stands under which name, in the text format of Prometheus. This project's own.
---     type_name, type_kind          the name of a number of a type, and what it does
---     held_number, counted_number   the number, if it is of what is held; if it is of what was counted
+--     type_name                     the name of a number of a type
+--     type_kind                     whether a number of a type rises only
+--     held_number                   the number, if it is of what is held
+--     counted_number                the number, if it is of what was counted
 --     type_number                   the number of a type at a replica; none where it isn't known
---     replica_name, replica_kind    the name of a number of a replica, and what it does
+--     replica_name                  the name of a number of a replica
+--     replica_kind                  whether a number of a replica rises only
 --     replica_number                the number; none where there is none
 --     labelled                      the line of a number of a replica with a label more
---     type_line, replica_line       the line of a number of a type, and of a replica, if it is known
---     with_streams, with_polls      a text with lines of a replica behind it: of its open streams; of its replies to polls over HTTP
---     with_types, with_replica      of a number of each type; of a number of the replica
+--     type_line                     the line of a number of a type, if it is known
+--     replica_line                  the line of a number of a replica, if there is one
+--     with_streams                  a text with the lines of a replica's open streams behind it
+--     with_polls                    a text with the lines of its replies to polls behind it
+--     with_types                    a text with the line of a number of each type behind it
+--     with_replica                  a text with the line of a number of the replica behind it
 --     with_each                     a text once lines of each replica were put behind it
---     with_numbers_of, with_number  a text with a number of each type behind it, or of the replica, for each replica, and what it does
---     with_all_streams, with_all_polls   with the open streams of replicas; with their replies to polls over HTTP
---     with_held, with_journals      with all numbers of types; with what was counted of journals and changes
+--     with_numbers_of               a text with a number of each type of each replica behind it, and what the number does
+--     with_number                   a text with a number of each replica behind it, and what the number does
+--     with_all_streams              a text with the open streams of all replicas behind it
+--     with_all_polls                a text with their replies to polls behind it
+--     with_held                     a text with all numbers of types behind it
+--     with_journals                 a text with the counts of journals and changes behind it
 --     numbers_text                  all numbers of these replicas
 use Rattle.std.specs.Prelude.{ℕ, List, [], ◌∷◌, ◌++◌, Option, Some, None, codes, decimal}
 use Rattle.xds_resource.specs.declared.types.TypeName.{TypeName}

@@ -27,7 +27,7 @@ impl TypeCounts {
         }
     }
 
-    // The same once a response was accepted (true) or rejected (false), if one was.
+    // These counts once a response was accepted (true) or rejected (false), if one was.
     fn judged(self, verdict: Option<bool>) -> TypeCounts
         ensures { result ≡ judged self verdict }
     {
@@ -41,7 +41,7 @@ impl TypeCounts {
     }
 }
 
-/// The same of each type.
+/// The counts of each type.
 #[derive(Clone, Copy, Debug, PartialEq, Eq)]
 pub struct Counts {
     pub cluster: TypeCounts,

@@ -58,6 +58,9 @@ struct State {
     is_told: bool,
     // How many frames of responses are being written.
     writing: u64,
+    // Whether nobody is answered yet, and whether clients are to be answered as soon as it may be.
+    is_held: bool,
+    is_asked: bool,
 }
 
 // Written out: docs/PROVING.md, "Drops".
@@ -71,6 +74,8 @@ impl Drop for State {
             is_closed: _,
             is_told: _,
             writing: _,
+            is_held: _,
+            is_asked: _,
         } = self;
     }
 }
@@ -191,7 +196,7 @@ pub struct Ending {
     room: Condvar,
     // No frame is being written.
     quiet: Condvar,
-    // The server ends, nothing more is to be told, or all was told.
+    // The server ends, nothing more is to be told, all was told, or clients may be answered.
     over: Condvar,
     telling: Telling,
 }
@@ -224,6 +229,8 @@ impl Ending {
                 is_closed: false,
                 is_told: false,
                 writing: 0,
+                is_held: false,
+                is_asked: false,
             }),
             told: Condvar::new(),
             room: Condvar::new(),
@@ -323,6 +330,81 @@ impl Ending {
                 return next;
             }
             state = self.told.wait(rt, state);
+        }
+        unreachable!()
+    }
+
+    /// Nobody is answered from here on, up to [`Ending::open`]. It may wait for the lock.
+    pub fn hold<R: Wait>(&self, rt: &R) {
+        self.state.lock(rt).is_held = true;
+    }
+
+    /// Clients are to be answered, as soon as it may be. It may wait for the lock.
+    pub fn ask<R: Wait>(&self, rt: &R) {
+        let mut state = self.state.lock(rt);
+        state.is_asked = true;
+        drop(state);
+        self.over.notify_all();
+    }
+
+    /// Waits until clients are to be answered, or the server ends. Answers whether they are.
+    pub fn wait_asked<R: Wait>(&self, rt: &R) -> bool {
+        let mut state = self.state.lock(rt);
+        for _ in rt.forever() {
+            if state.is_asked {
+                return true;
+            }
+            if state.end.is_some() {
+                return false;
+            }
+            state = self.over.wait(rt, state);
+        }
+        unreachable!()
+    }
+
+    /// Clients may be answered from here on. It may wait for the lock.
+    pub fn open<R: Wait>(&self, rt: &R) {
+        let mut state = self.state.lock(rt);
+        state.is_held = false;
+        drop(state);
+        self.over.notify_all();
+    }
+
+    /// Whether nobody is answered yet. It may wait for the lock.
+    pub fn is_held<R: Wait>(&self, rt: &R) -> bool {
+        self.state.lock(rt).is_held
+    }
+
+    /// Waits until clients may be answered, but no longer than this time. Answers whether they may.
+    pub fn wait_open_within<R: Wait + Clock>(&self, rt: &R, time: Duration) -> bool {
+        let Ok(begun) = Instant::now(rt) else {
+            return false;
+        };
+        let mut state = self.state.lock(rt);
+        for _ in 0..u64::MAX {
+            if !state.is_held {
+                return true;
+            }
+            let Some(left) = left_of(rt, begun, time) else {
+                return false;
+            };
+            let (next, _) = self.over.wait_timeout(rt, state, left);
+            state = next;
+        }
+        false
+    }
+
+    /// Waits until clients may be answered, or the server ends. Answers whether they may.
+    pub fn wait_open<R: Wait>(&self, rt: &R) -> bool {
+        let mut state = self.state.lock(rt);
+        for _ in rt.forever() {
+            if !state.is_held {
+                return true;
+            }
+            if state.end.is_some() {
+                return false;
+            }
+            state = self.over.wait(rt, state);
         }
         unreachable!()
     }

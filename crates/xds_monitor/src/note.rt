@@ -1,6 +1,6 @@
 // What a server tells on its error output while it serves.
 ghost use Rattle.std.specs.Prelude.{◌≡◌, string_bytes, IfOk};
-ghost use Rattle.xds_monitor.specs.Notes.{note_line, refused_line, caused_line, stamp_line};
+ghost use Rattle.xds_monitor.specs.Notes.{note_line, refused_line, caused_line, stamp_line, store_line};
 ghost use Rattle.xds_monitor.specs.Endings.{fault_line};
 ghost use Rattle.xds_monitor.specs.Recordings.{recording_line};
 
@@ -21,6 +21,8 @@ pub enum Note {
     Missed(u64),
     /// The recording of a replica's trace ended by a refusal.
     RecordingEnded(u16, Refusal),
+    /// What is so of the store, behind a word for it.
+    Store(String),
 }
 
 impl Note {
@@ -33,8 +35,15 @@ impl Note {
             Note::Event(event) => event.line(alloc),
             Note::Missed(count) => missed_line(alloc, *count),
             Note::RecordingEnded(replica, refusal) => recording_line(alloc, *replica, *refusal),
+            Note::Store(text) => store_line(alloc, text.as_str()),
         }
     }
+}
+
+fn store_line(alloc: Global, text: &str) -> Result<String, Refusal>
+    ensures { IfOk result (λ t. string_bytes t ≡ store_line text.now) }
+{
+    Ok(format!(in alloc; "the store {text}\n")?)
 }
 
 fn missed_line(alloc: Global, count: u64) -> Result<String, Refusal>

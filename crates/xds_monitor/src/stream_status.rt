@@ -116,7 +116,7 @@ fn rejection_in(alloc: Global, heard: &Heard) -> Result<String, Refusal>
     }
 }
 
-/// The same of each type.
+/// The status of each type on a stream.
 #[derive(Drop)]
 pub struct TypeStatuses {
     cluster: TypeStatus,

@@ -155,7 +155,13 @@ impl<A: Served, C: Clock> Posts for Watched<A, C> {
 
     ghost calls = { A.calls };
 
+    // rule: loaded-first
+    // Nobody has one while nobody is answered yet: then a poll is replied to with 503.
     fn post_seat<R: Wait>(&self, rt: &R) -> Result<A::PostSeat, Refusal> {
+        if self.lookout.ending().is_held(rt) {
+            self.lookout.polled(rt, 503);
+            return Err(Refusal::Device);
+        }
         self.node.post_seat(rt)
     }
 

@@ -16,3 +16,4 @@ pub mod LongWords
 pub mod OneOption
 pub mod OnlyRight
 pub mod RightWords
+pub mod GivenWrites

@@ -5,12 +5,12 @@ use Rattle.std.specs.Net.Grammar.{IsSocketV4Text}
 use Rattle.std.proofs.NetLemmas.Theorems.{IsSocketV4Text_unique}
 use Rattle.clap.specs.Words.{Row, Text, one_of}
 use Rattle.xds_program.specs.declared.tasks.Task.{Task}
-use Rattle.xds_program.specs.declared.tasks.Task.TheVariants.{Answer, Play, Check, Serve, Client, Poll}
+use Rattle.xds_program.specs.declared.tasks.Task.TheVariants.{Answer, Play, Check, Serve, Client, Poll, Writes}
 use Rattle.xds_program.specs.declared.tasks.ServeTask.{ServeTask}
-use Rattle.xds_program.specs.Tasks.{Look, Serves, Watch}
+use Rattle.xds_program.specs.Tasks.{Look, Reads, Serves, Watch}
 use Rattle.xds_program.specs.CommandLine.{named_in}
-use Rattle.xds_program.specs.Words.{Asks, AsksBy, AsksClient, AsksIn, AsksPoll, AsksServe, AsksServed, Finds, IsAddress, IsNumber}
-use Rattle.xds_program.proofs.Values.{one_number, only_answer, only_check, only_client, only_play, only_poll, only_serve, same_some}
+use Rattle.xds_program.specs.Words.{Asks, AsksBy, AsksClient, AsksIn, AsksPoll, AsksServe, AsksServed, AsksWrites, Finds, IsAddress, IsNumber}
+use Rattle.xds_program.proofs.Values.{one_number, only_answer, only_check, only_client, only_play, only_poll, only_serve, only_writes, same_some}
 
 -- what fits one thing at most is found once
 pub one_found : {X : Type 0} (Fits : X → Type 0) → ((x y : X) → Fits x → Fits y → x ≡ y) → (o p : Option X) → Finds Fits o → Finds Fits p → o ≡ p
@@ -46,7 +46,10 @@ one_served rows s t h k =
     let first_number = one_found (IsNumber rows (codes "first-number")) (one_number rows (codes "first-number")) s.first_number t.first_number h.first_number k.first_number in
     let folder = sym h.folder ∙ k.folder in
     let load = sym h.load ∙ k.load in
-    λ i. record { task = task i; first_number = first_number i; folder = folder i; load = load i }
+    let store = sym h.store ∙ k.store in
+    let writes = sym h.writes ∙ k.writes in
+    let hold = sym h.hold ∙ k.hold in
+    λ i. record { task = task i; first_number = first_number i; folder = folder i; load = load i; store = store i; writes = writes i; hold = hold i }
 
 one_client : (rows : List Row) (c d : Watch) → AsksClient rows c → AsksClient rows d → c ≡ d
 one_client rows c d h k =
@@ -69,6 +72,11 @@ one_poll rows p q h k =
     let names = sym h.names ∙ k.names in
     λ i. record { addr = addr i; kind = kind i; seconds = seconds i; version = version i; cluster = cluster i; names = names i }
 
+one_writes : (rows : List Row) (v w : Reads) → AsksWrites rows v → AsksWrites rows w → v ≡ w
+one_writes rows v w h k =
+    let store = same_value _ v.store w.store h.store k.store in
+    λ i. record { store = store i }
+
 -- the command is that of the task
 named : (command name : Text) (rows : List Row) (task : Task) → command ≡ name → AsksBy command rows task → AsksBy name rows task
 named command name rows task is h = subst (λ (c : Text). AsksBy c rows task) is h
@@ -90,6 +98,9 @@ one_by command rows (Client c) other h k =
 one_by command rows (Poll p) other h k =
     let only = only_poll rows other (named command _ rows other h.0 k) in
     ap Poll (one_poll rows p only.0 h.1 only.2) ∙ sym only.1
+one_by command rows (Writes w) other h k =
+    let only = only_writes rows other (named command _ rows other h.0 k) in
+    ap Writes (one_writes rows w only.0 h.1 only.2) ∙ sym only.1
 
 one_in : (found : Option (Text × List Row)) (one other : Task) → AsksIn found one → AsksIn found other → one ≡ other
 one_in None one other h k = absurd h

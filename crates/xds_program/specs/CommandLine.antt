@@ -1,18 +1,22 @@
 -- The command line of `xds`, in the words in which `clap` says what a command is. This project's own.
 --     text_option                      an option whose value is any text
---     number_up_to, number_option      an option whose value is a number from 1 to the most
+--     number_up_to                     an option whose value is a number from 1 to the most
+--     number_option                    an option whose value is a number from 1 to 65,535
 --     flag_option                      an option without a value
 --     with_default                     the value of an option that isn't given
 --     required                         an option, or a word at least, that has to be given
 --     name_words                       words that are no options: the names of resources
 --     answer_command                   `xds answer [--replica N]`
 --     play_command                     `xds play [--trace N]`
---     check_command, replicas_option, port_option,
---     rest_port_option                 `xds check`, which has no options
+--     check_command                    `xds check`, which has no options
+--     replicas_option                  `--replicas`, 2 if left out
+--     port_option                      `--port`, 18000 if left out
+--     rest_port_option                 `--rest-port`, 18100 if left out
 --     serve_start                      `xds serve`, with the options that say what is served where, and for how long
 --     serve_command                    `xds serve [--replicas N] [--port P] [--rest-port Q] [--streams S] [--keep-going] [--log]
 --                                      [--max-streams N] [--idle-seconds T] [--admin-port A] [--record DIR]
---                                      [--first-number F] [--load FILE]`
+--                                      [--first-number F] [--load FILE] [--store FILE] [--writes FILE] [--hold]`
+--     writes_command                   `xds writes --store FILE`
 --     client_start                     `xds client`, with the options that say where it asks, how, and for what
 --     client_command                   `xds client`, with its options and names
 --     poll_start                       `xds poll`, with the options that say where it asks, and for what
@@ -94,17 +98,20 @@ serve_start =
     rest_port_option)
     (number_option (codes "streams"))
 
--- `xds serve [--replicas N] [--port P] [--rest-port Q] [--streams S] [--keep-going] [--log] [--max-streams N] [--idle-seconds T] [--admin-port A] [--record DIR] [--first-number F] [--load FILE]`
+-- `xds serve [--replicas N] [--port P] [--rest-port Q] [--streams S] [--keep-going] [--log] [--max-streams N] [--idle-seconds T] [--admin-port A] [--record DIR] [--first-number F] [--load FILE] [--store FILE] [--writes FILE] [--hold]`
 abbrev pub serve_command : App
 serve_command =
-    with_rule (with_rule (with_rule (with_rule (with_rule (with_rule (with_rule (with_rule serve_start (flag_option (codes "keep-going")))
+    with_rule (with_rule (with_rule (with_rule (with_rule (with_rule (with_rule (with_rule (with_rule (with_rule (with_rule serve_start (flag_option (codes "keep-going")))
     (flag_option (codes "log")))
     (number_option (codes "max-streams")))
     (number_option (codes "idle-seconds")))
     (number_option (codes "admin-port")))
     (text_option (codes "record")))
     (number_option (codes "first-number")))
-    (text_option (codes "load"))
+    (text_option (codes "load")))
+    (text_option (codes "store")))
+    (text_option (codes "writes")))
+    (flag_option (codes "hold"))
 
 -- `xds client`, with the options that say where it asks, how, and for what
 abbrev pub client_start : App
@@ -130,6 +137,10 @@ abbrev pub poll_command : App
 poll_command =
     with_rule (with_rule (with_rule (with_rule poll_start (text_option (codes "version"))) (number_option (codes "seconds"))) (text_option (codes "cluster"))) name_words
 
+-- `xds writes --store FILE`
+abbrev pub writes_command : App
+writes_command = with_rule (new_app (codes "writes")) (required (text_option (codes "store")))
+
 -- `xds`, which wants a command, and says its version
 abbrev pub wanting_command : App
 wanting_command = on_top (λ s. record s { has_version = true; subcommand_required = true }) (new_app (codes "xds"))
@@ -144,7 +155,9 @@ first_commands =
 
 -- `xds`, with all of them
 abbrev pub command_line : App
-command_line = with_subcommand (with_subcommand (with_subcommand first_commands serve_command.top) client_command.top) poll_command.top
+command_line =
+    with_subcommand (with_subcommand (with_subcommand (with_subcommand first_commands serve_command.top) client_command.top) poll_command.top)
+    writes_command.top
 
 -- ---- commands and options of `clap`
 

@@ -1,6 +1,7 @@
 pub mod Answers
 pub mod Faults
 pub mod Gathered
+pub mod Stamped
 pub mod Tasks
 pub mod CommandLine
 pub mod Words

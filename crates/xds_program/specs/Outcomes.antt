@@ -42,7 +42,7 @@ use Rattle.xds_check.specs.Texts.{IsFirstBad}
 use Rattle.xds_play.specs.Traced.{IsTraced}
 use Rattle.xds_program.specs.Judged.{TellsVerdict}
 use Rattle.xds_program.specs.declared.tasks.Task.{Task}
-use Rattle.xds_program.specs.declared.tasks.Task.TheVariants.{Answer, Play, Check, Serve, Client, Poll}
+use Rattle.xds_program.specs.declared.tasks.Task.TheVariants.{Answer, Play, Check, Serve, Client, Poll, Writes}
 use Rattle.xds_program.specs.declared.run.Ran.{Ran}
 use Rattle.xds_program.specs.declared.run.Ran.TheVariants.{Done}
 use Rattle.xds_program.specs.declared.run.Ran.TheVariants as rans
@@ -151,8 +151,8 @@ IsDone Ends ran s = (status : ℕ) × (ran ≡ Done status) × Ends status s
 abbrev pub IsHanded : Ran → Ran → Streams → Type 0
 IsHanded handed ran s = (ran ≡ handed) × IsUntouched s
 
--- what becomes of a task: `xds answer`, `xds play` and `xds check` are done; one that needs a network is handed to
--- the caller
+-- what becomes of a task: `xds answer`, `xds play` and `xds check` are done; one that needs a network or a file is
+-- handed to the caller
 abbrev pub Runs : Task → Ran → Streams → Type 0
 Runs (Answer replica) ran s = IsDone (RunsAnswer replica) ran s
 Runs (Play trace) ran s = IsDone (RunsPlay trace) ran s
@@ -160,6 +160,7 @@ Runs Check ran s = IsDone RunsCheck ran s
 Runs (Serve task) ran s = IsHanded (rans.Serve task) ran s
 Runs (Client task) ran s = IsHanded (rans.Client task) ran s
 Runs (Poll task) ran s = IsHanded (rans.Poll task) ran s
+Runs (Writes task) ran s = IsHanded (rans.Writes task) ran s
 
 -- the words call for help, or for the version
 abbrev pub IsCall : ErrorKind → Type 0

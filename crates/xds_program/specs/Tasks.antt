@@ -1,9 +1,10 @@
 -- What the program may be asked for, as contracts see it: texts as their bytes. This project's own.
 --     variant_of_word   the variant that the programs call by this word
---     Serves            `xds serve`: what is served, the number of the first replica, the folder of the traces and the file that is loaded
+--     Serves            `xds serve`: what is served, the number of the first replica, the folder of the traces, the file that is loaded, those of the store and of writes, and whether it waits
 --     Watch             `xds client`: a client that subscribes on a stream
 --     Look              `xds poll`: one look at a replica, over REST
-use Rattle.std.specs.Prelude.{ℕ, List, codes, Option, Some, None, if◌then◌else◌}
+--     Reads             `xds writes`: the file of the store that is read
+use Rattle.std.specs.Prelude.{ℕ, Bool, List, codes, Option, Some, None, if◌then◌else◌}
 use Rattle.std.specs.Str.{bytes_eq}
 use Rattle.std.specs.declared.net.socket_addr.SocketAddrV4.{SocketAddrV4}
 use Rattle.xds_resource.specs.declared.types.TypeName.{TypeName}
@@ -16,12 +17,15 @@ abbrev pub variant_of_word : List ℕ → Option StreamVariant
 variant_of_word word =
     if bytes_eq word (codes "sotw") then Some Sotw else if bytes_eq word (codes "delta") then Some Delta else None
 
--- `xds serve`: what is served, the number of the first replica, the folder of the traces and the file that is loaded, if there are such
+-- `xds serve`: what is served, the number of the first replica, the folder of the traces, the file that is loaded, that of the store and that of writes, if there are such, and whether nobody is answered until it is told to
 pub record Serves : Type 0 where
   pub task : ServeTask
   pub first_number : Option ℕ
   pub folder : Option (List ℕ)
   pub load : Option (List ℕ)
+  pub store : Option (List ℕ)
+  pub writes : Option (List ℕ)
+  pub hold : Bool
 
 -- `xds client`: a client that subscribes on a stream
 pub record Watch : Type 0 where
@@ -41,3 +45,7 @@ pub record Look : Type 0 where
   pub version : List ℕ
   pub cluster : List ℕ
   pub names : List (List ℕ)
+
+-- `xds writes`: the file of the store that is read
+pub record Reads : Type 0 where
+  pub store : List ℕ

@@ -14,6 +14,7 @@
 --     AsksServed     the same, and the folder of the traces, if one is given
 --     AsksClient     `xds client`
 --     AsksPoll       `xds poll`
+--     AsksWrites     `xds writes`
 --     AsksBy         the command of this name, with these values, asks for the task
 --     AsksIn         the command that was named, if one was, asks for the task
 --     Asks           the words ask for the task
@@ -30,9 +31,9 @@ use Rattle.clap.specs.declared.error.kind.ErrorKind.TheVariants.{OutOfMemory, Va
 use Rattle.clap.specs.Words.{IsAmong, Row, Text, all_of, first_of, one_of}
 use Rattle.xds_resource.specs.Types.{type_of_word}
 use Rattle.xds_program.specs.declared.tasks.Task.{Task}
-use Rattle.xds_program.specs.declared.tasks.Task.TheVariants.{Answer, Play, Check, Serve, Client, Poll}
+use Rattle.xds_program.specs.declared.tasks.Task.TheVariants.{Answer, Play, Check, Serve, Client, Poll, Writes}
 use Rattle.xds_program.specs.declared.tasks.ServeTask.{ServeTask}
-use Rattle.xds_program.specs.Tasks.{Look, Serves, Watch, variant_of_word}
+use Rattle.xds_program.specs.Tasks.{Look, Reads, Serves, Watch, variant_of_word}
 use Rattle.xds_program.specs.CommandLine.{faults, named_in}
 
 -- ---- the values of a command's options
@@ -105,13 +106,16 @@ abbrev pub has_numbers : Option ℕ → ℕ → Bool
 has_numbers None replicas = true
 has_numbers (Some first) replicas = nat_le (first + replicas) 65536
 
--- the same, with the number of the first replica, the folder of the traces and the file that is loaded: no replica's number is above 65,535
+-- the same, with the number of the first replica, the folder of the traces, the file that is loaded, that of the store and that of writes, and whether it waits: no replica's number is above 65,535
 pub record AsksServed (rows : List Row) (serves : Serves) : Type 0 where
   pub task : AsksServe rows serves.task
   pub first_number : Finds (IsNumber rows (codes "first-number")) serves.first_number
   pub numbers : has_numbers serves.first_number serves.task.replicas ≡ true
   pub folder : first_of (codes "record") rows ≡ serves.folder
   pub load : first_of (codes "load") rows ≡ serves.load
+  pub store : first_of (codes "store") rows ≡ serves.store
+  pub writes : first_of (codes "writes") rows ≡ serves.writes
+  pub hold : is_given (codes "hold") rows ≡ serves.hold
 
 -- `xds client`
 pub record AsksClient (rows : List Row) (task : Watch) : Type 0 where
@@ -132,6 +136,10 @@ pub record AsksPoll (rows : List Row) (task : Look) : Type 0 where
   pub cluster : text_in (codes "cluster") rows ≡ task.cluster
   pub names : names_in rows ≡ task.names
 
+-- `xds writes`
+pub record AsksWrites (rows : List Row) (task : Reads) : Type 0 where
+  pub store : first_of (codes "store") rows ≡ Some task.store
+
 -- the command of this name, with these values, asks for the task
 abbrev pub AsksBy : Text → List Row → Task → Type 0
 AsksBy command rows (Answer replica) = (command ≡ codes "answer") × IsNumber rows (codes "replica") replica
@@ -140,6 +148,7 @@ AsksBy command rows Check = command ≡ codes "check"
 AsksBy command rows (Serve task) = (command ≡ codes "serve") × AsksServed rows task
 AsksBy command rows (Client task) = (command ≡ codes "client") × AsksClient rows task
 AsksBy command rows (Poll task) = (command ≡ codes "poll") × AsksPoll rows task
+AsksBy command rows (Writes task) = (command ≡ codes "writes") × AsksWrites rows task
 
 -- the command that was named, if one was, asks for the task
 abbrev pub AsksIn : Option (Text × List Row) → Task → Type 0

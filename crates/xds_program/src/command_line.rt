@@ -5,7 +5,7 @@ ghost use Rattle.xds_program.specs.CommandLine.{IsCommand, IsLocal, IsOption, an
 ghost use Rattle.xds_program.specs.CommandLine.{client_start, flag_option, poll_start, port_option, rest_port_option, serve_start};
 ghost use Rattle.xds_program.specs.CommandLine.{command_line, first_commands, name_words, number_option, play_command};
 ghost use Rattle.xds_program.specs.CommandLine.{poll_command, replicas_option, required, serve_command, text_option};
-ghost use Rattle.xds_program.specs.CommandLine.{with_default, wanting_command};
+ghost use Rattle.xds_program.specs.CommandLine.{with_default, wanting_command, writes_command};
 
 use crate::help;
 use clap::{Arg, ArgAction, Command, value_parser};
@@ -18,7 +18,8 @@ pub(crate) fn command_line<'a>(alloc: Global) -> Result<Command<'a>, AllocError>
     let xds = first_commands(alloc)?;
     let xds = with_command(xds, serve_command(alloc))?;
     let xds = with_command(xds, client_command(alloc))?;
-    with_command(xds, poll_command(alloc))
+    let xds = with_command(xds, poll_command(alloc))?;
+    with_command(xds, writes_command(alloc))
 }
 
 // `xds`, with the commands that use no device but the program's own.
@@ -96,7 +97,13 @@ fn serve_command<'a>(alloc: Global) -> Result<Command<'a>, AllocError>
     let help = "The first replica's number, new in each run";
     let serve = with_option(serve, number_option(alloc, "first-number", "F", help))?;
     let help = "Makes all lines of this file before it answers";
-    with_option(serve, text_option(alloc, "load", "FILE", help))
+    let serve = with_option(serve, text_option(alloc, "load", "FILE", help))?;
+    let help = "Keeps all writes in this file, from run to run";
+    let serve = with_option(serve, text_option(alloc, "store", "FILE", help))?;
+    let help = "Begins with the stamped writes of this file";
+    let serve = with_option(serve, text_option(alloc, "writes", "FILE", help))?;
+    let help = "Answers nobody before a line ready or POST /ready";
+    with_option(serve, flag_option(alloc, "hold", help))
 }
 
 // `xds serve`, with the options that say what is served where, and for how long.
@@ -205,6 +212,23 @@ fn poll_start<'a>(alloc: Global) -> Result<Command<'a>, AllocError>
     let about = "Polls resources once over REST, and prints the reply's status and body";
     let poll = with_option(named(alloc, "poll", about, help::POLL), addr_option(alloc))?;
     with_option(poll, type_option(alloc))
+}
+
+fn writes_command<'a>(alloc: Global) -> Result<Command<'a>, AllocError>
+    ensures { IfOk result (IsCommand writes_command) }
+{
+    let about = "Prints the writes that a store has, as lines of xds answer";
+    with_option(
+        named(alloc, "writes", about, help::WRITES),
+        store_option(alloc),
+    )
+}
+
+// `--store FILE`, which has to be given.
+fn store_option<'a>(alloc: Global) -> Arg<'a>
+    ensures { IsOption (required (text_option (codes "store"))) result }
+{
+    required(text_option(alloc, "store", "FILE", "The file of the store"))
 }
 
 // `--addr A`.

@@ -32,10 +32,10 @@ pub(crate) struct Gathered {
 
 // What the lines so far leave, and the number of the line that comes next.
 #[derive(Drop)]
-struct Reading {
-    catalogues: Catalogues,
-    reader: WriteReader,
-    line: usize,
+pub(crate) struct Reading {
+    pub(crate) catalogues: Catalogues,
+    pub(crate) reader: WriteReader,
+    pub(crate) line: usize,
 }
 
 /// Reads the lines of an input.
@@ -63,7 +63,7 @@ pub(crate) fn gather_freeing(alloc: Global, input: Vec<u8>) -> Result<Gathered, 
 }
 
 // Nothing was read.
-fn begin(alloc: Global) -> Reading
+pub(crate) fn begin(alloc: Global) -> Reading
     ensures { (result.line ≡ 1) × (result.catalogues ≡ each nothing_held) }
 {
     Reading {
@@ -162,7 +162,7 @@ fn finish(alloc: Global, reading: Reading, last: &[u8]) -> Result<Gathered, Line
 }
 
 // Joins the write that the line spells.
-fn take_write(
+pub(crate) fn take_write(
     alloc: Global,
     reader: &mut WriteReader,
     catalogues: &mut Catalogues,

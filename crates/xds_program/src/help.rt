@@ -11,8 +11,8 @@ pub(crate) const PROGRAM: &str = "Example, in the repository's top folder, and w
 
 A command reads the standard input, prints on the standard output, and tells
 refusals on the error output. `xds COMMAND --help` says in which formats;
-docs/CLI.md has all of them, and what to do about each refusal. At a terminal
-a long run tells every two seconds how far it is.
+docs/SERVING.md has all of them, and what to do about each refusal. At a
+terminal a long run tells every two seconds how far it is.
 
 Statuses:
   0  done
@@ -26,7 +26,7 @@ pub(crate) const ANSWER: &str = "Example:
 
 Reads lines of JSON: stamped writes, and a DiscoveryRequest on the last.
 Prints the response as a line of JSON, or nothing where there is none to send.
-The formats are in docs/FORMATS.md, the refusals in docs/CLI.md.
+The formats are in docs/FORMATS.md, the refusals in docs/SERVING.md.
 
 Statuses:
   0  done
@@ -40,7 +40,7 @@ pub(crate) const PLAY: &str = "Examples:
 
 Reads a script, a command a line, as in `view 2 cluster`.
 Prints what the lines `view` and `content` show, or the trace of a replica.
-The formats are in docs/FORMATS.md, the refusals in docs/CLI.md.
+The formats are in docs/FORMATS.md, the refusals in docs/SERVING.md.
 
 Statuses:
   0  done
@@ -55,7 +55,7 @@ pub(crate) const CHECK: &str = "Example, and what it prints:
 Reads a trace, a line an event, as `xds play --trace N` prints it.
 Prints `ok`, or `broken LINE RULE`: the first line that breaks a rule, and the
 least rule that it breaks. Traces and rules are in docs/FORMATS.md, the
-refusals in docs/CLI.md.
+refusals in docs/SERVING.md.
 
 Statuses:
   0  ok
@@ -74,10 +74,15 @@ answers /healthz, /ready, /metrics, /status, /changes and /stop over HTTP;
 the last ends it with status 0. With --record DIR what replica K does is
 written to DIR/replica-K.trace, which `xds check` reads once it has ended.
 With --load FILE all lines of the file are made before anybody is answered.
+With --store FILE all writes are kept in the file, and are there again in the
+next run over it, whose replicas have numbers that none before had. With
+--writes FILE it begins with the writes that `xds writes` printed, stamps kept.
+With --hold polls have 503, and streams wait, until the input has a line
+`ready` or POST /ready comes.
 Writes are stamped by the numbers of their replicas, F and the next ones with
 --first-number F: give each run new ones, so that no version means two bodies.
 Prints nothing; the error output has a line a replica, which says what is
-served where. docs/SERVING.md has more, docs/CLI.md the refusals.
+served where. docs/SERVING.md has more, and the refusals.
 
 Statuses:
   0  as many streams have ended as --streams says
@@ -94,7 +99,7 @@ Reads no input; `*` asks for all clusters or listeners.
 With --seconds T it gives up after T seconds, with status 1.
 Prints for each response `taken NONCE` or `refused NONCE`, and then what it
 shows, a line a resource. The formats are in docs/FORMATS.md, the refusals in
-docs/CLI.md.
+docs/SERVING.md.
 
 Statuses:
   0  so many responses were answered
@@ -108,9 +113,22 @@ pub(crate) const POLL: &str = "Example, beside `./xds serve < examples/mesh.serv
 Reads no input; without a NAME it asks for all clusters or listeners.
 With --seconds T it gives up after T seconds, with status 1.
 Prints the status of the reply, and its body, where it has one, in the next
-line. docs/SERVING.md has more, docs/CLI.md the refusals.
+line. docs/SERVING.md has more, and the refusals.
 
 Statuses:
   0  a reply came, whatever its status is
   1  no reply came
   2  the words are wrong; nothing was sent";
+
+/// At the end of `xds writes --help`.
+pub(crate) const WRITES: &str = "Example:
+  ./xds writes --store mesh.db
+
+Prints all writes that the store has, deletions among them, each as a line of
+JSON, those of a type together in the order of their names. No server may use
+the store meanwhile. docs/SERVING.md has more.
+
+Statuses:
+  0  ok
+  1  the file is no store, or it can't be read
+  2  the words are wrong; nothing was read";

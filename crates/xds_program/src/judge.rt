@@ -96,7 +96,7 @@ fn broken_in(alloc: Global, bytes: &[u8]) -> Result<Option<Broken>, Unjudged>
     broken_by(&checker)
 }
 
-// The same of the bytes that were read, where no more follow.
+// The first line at which a rule is broken in the bytes that were read, where no more follow.
 fn broken_by(checker: &PiecewiseChecker) -> Result<Option<Broken>, Unjudged>
     requires { (bytes : List ℕ) × HasRead bytes checker.now }
     ensures judged { IfOk result (λ broken. (bytes : List ℕ) → HasRead bytes checker.now → IsJudged bytes broken) }

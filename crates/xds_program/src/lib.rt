@@ -10,12 +10,14 @@ pub mod laws;
 mod option_values;
 pub mod output;
 pub mod run;
+pub mod stamped;
 pub mod tasks;
 pub mod words;
 pub mod wrong_values;
 
 pub use answer::{answer_lines, draft_answer};
 pub use gathering::LineFault;
-pub use tasks::{ClientTask, PollTask, ServeTask, ServeWords, StreamVariant, Task};
+pub use stamped::read_writes;
+pub use tasks::{ClientTask, PollTask, ServeTask, ServeWords, StreamVariant, Task, WritesTask};
 pub use words::task_of;
 pub use wrong_values::WrongValue;

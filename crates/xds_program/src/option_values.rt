@@ -7,7 +7,7 @@ ghost use Rattle.xds_program.specs.Tasks.{variant_of_word};
 ghost use Rattle.xds_program.specs.Words.{AsksBy, AsksClient, AsksIn, AsksPoll, AsksServe, AsksServed, Finds, IsAddress, IsNumber};
 ghost use Rattle.xds_program.specs.Words.{are_apart, has_numbers, is_alone, is_given, is_outside, names_in, text_in};
 
-use crate::tasks::{ClientTask, PollTask, ServeTask, ServeWords, StreamVariant, Task};
+use crate::tasks::{ClientTask, PollTask, ServeTask, ServeWords, StreamVariant, Task, WritesTask};
 use clap::ArgMatches;
 use std::alloc::{AllocError, Global};
 use std::net::SocketAddrV4;
@@ -32,8 +32,11 @@ pub(crate) fn task_in(alloc: Global, matches: &ArgMatches) -> Result<Option<Task
     if let Some(given) = matches.subcommand_matches("client") {
         return client_in(alloc, given);
     }
-    match matches.subcommand_matches("poll") {
-        Some(given) => poll_in(alloc, given),
+    if let Some(given) = matches.subcommand_matches("poll") {
+        return poll_in(alloc, given);
+    }
+    match matches.subcommand_matches("writes") {
+        Some(given) => writes_in(alloc, given),
         None => Ok(None),
     }
 }
@@ -80,6 +83,15 @@ fn poll_in(alloc: Global, given: &ArgMatches) -> Result<Option<Task>, AllocError
     }
 }
 
+fn writes_in(alloc: Global, given: &ArgMatches) -> Result<Option<Task>, AllocError>
+    ensures { IfOk result (Finds (AsksBy (codes "writes") (rows_of (found_of given.now)))) }
+{
+    match text_given(alloc, given, "store")? {
+        Some(store) => Ok(Some(Task::Writes(WritesTask { store }))),
+        None => Ok(None),
+    }
+}
+
 fn served(alloc: Global, given: &ArgMatches) -> Result<Option<ServeWords>, AllocError>
     ensures { IfOk result (Finds (AsksServed (rows_of (found_of given.now)))) }
 {
@@ -87,11 +99,17 @@ fn served(alloc: Global, given: &ArgMatches) -> Result<Option<ServeWords>, Alloc
         Some((task, first_number)) => {
             let folder = text_given(alloc, given, "record")?;
             let load = text_given(alloc, given, "load")?;
+            let store = text_given(alloc, given, "store")?;
+            let writes = text_given(alloc, given, "writes")?;
+            let hold = is_given(given, "hold");
             Ok(Some(ServeWords {
                 task,
                 first_number,
                 folder,
                 load,
+                store,
+                writes,
+                hold,
             }))
         }
         None => Ok(None),

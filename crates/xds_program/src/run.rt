@@ -9,7 +9,7 @@ use crate::answer::draft_answer;
 use crate::gathering::LineFault;
 use crate::judge::{NoVerdict, Unjudged, judge_input};
 use crate::output::write_answer;
-use crate::tasks::{ClientTask, PollTask, ServeWords, Task};
+use crate::tasks::{ClientTask, PollTask, ServeWords, Task, WritesTask};
 use crate::words::task_of;
 use clap::error::ErrorKind;
 use std::alloc::Global;
@@ -38,10 +38,12 @@ pub enum Ran {
     Client(ClientTask),
     /// It is up to the caller to poll. Nothing was read or written.
     Poll(PollTask),
+    /// It is up to the caller to print the writes of a store. Nothing was read or written.
+    Writes(WritesTask),
 }
 
 /// Runs the program with these words, the first of which is its name. The words are looked at before any input. It does
-/// `xds answer`, `xds play` and `xds check`; a task that needs a network is handed to the caller.
+/// `xds answer`, `xds play` and `xds check`; a task that needs a network or a store is handed to the caller.
 pub fn run<I: Read, O: Write, E: Write>(
     alloc: Global,
     words: &[String],
@@ -82,6 +84,7 @@ fn run_task<I: Read, O: Write, E: Write>(
         Task::Serve(serve) => Ran::Serve(serve),
         Task::Client(client) => Ran::Client(client),
         Task::Poll(poll) => Ran::Poll(poll),
+        Task::Writes(writes) => Ran::Writes(writes),
     }
 }
 

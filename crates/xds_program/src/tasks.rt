@@ -18,6 +18,8 @@ pub enum Task {
     Client(ClientTask),
     /// `xds poll`.
     Poll(PollTask),
+    /// `xds writes`.
+    Writes(WritesTask),
 }
 
 /// What a server is asked for.
@@ -54,6 +56,12 @@ pub struct ServeWords {
     pub folder: Option<String>,
     /// The file of which all lines are made before anybody is answered; none, where there is none.
     pub load: Option<String>,
+    /// The file that writes are stored in, and that they are taken from at the start; none, where there is none.
+    pub store: Option<String>,
+    /// The file of the stamped writes that it begins with; none, where there is none.
+    pub writes: Option<String>,
+    /// Whether nobody is answered until it is told to.
+    pub hold: bool,
 }
 
 impl Model for ServeWords {
@@ -67,6 +75,9 @@ impl Model for ServeWords {
       first_number = s.first_number;
       folder = option_map string_bytes s.folder;
       load = option_map string_bytes s.load;
+      store = option_map string_bytes s.store;
+      writes = option_map string_bytes s.writes;
+      hold = s.hold;
     } };
 }
 
@@ -177,4 +188,20 @@ impl Model for PollTask {
       cluster = string_bytes p.cluster;
       names = map string_bytes p.names.items;
     } };
+}
+
+/// What `xds writes` is asked for.
+#[derive(Debug, Drop)]
+pub struct WritesTask {
+    /// The file of the store whose writes it prints.
+    pub store: String,
+}
+
+impl Model for WritesTask {
+    ghost use Rattle.std.specs.Prelude.{string_bytes};
+    ghost use Rattle.xds_program.specs.Tasks.{Reads};
+
+    ghost Value = { Reads };
+
+    ghost view = { λ w. record { store = string_bytes w.store } };
 }

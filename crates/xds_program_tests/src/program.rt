@@ -23,6 +23,7 @@ fn end_of(alloc: Global, ran: &Ran) -> Result<String, Fail> {
         Ran::Serve(_) => "serve",
         Ran::Client(_) => "client",
         Ran::Poll(_) => "poll",
+        Ran::Writes(_) => "writes",
     };
     Ok(String::from_str(alloc, task)?)
 }

@@ -3,7 +3,7 @@ use crate::program::{told as told_by_run, words};
 use std::alloc::Global;
 use std::test::Fail;
 use xds_cases::cases::{Outcome, hold};
-use xds_program::{ClientTask, PollTask, ServeTask, ServeWords, Task, task_of};
+use xds_program::{ClientTask, PollTask, ServeTask, ServeWords, Task, WritesTask, task_of};
 
 // What words ask for, told in words; `help`, or `wrong`.
 struct Asked;
@@ -34,7 +34,13 @@ fn told(alloc: Global, task: &Task) -> Result<String, Fail> {
         Task::Serve(serve) => told_recorded(alloc, serve),
         Task::Client(client) => told_client(alloc, client),
         Task::Poll(poll) => told_poll(alloc, poll),
+        Task::Writes(writes) => told_writes(alloc, writes),
     }
+}
+
+fn told_writes(alloc: Global, writes: &WritesTask) -> Result<String, Fail> {
+    let store = writes.store.as_str();
+    Ok(format!(in alloc; "writes {store}")?)
 }
 
 fn told_answer(alloc: Global, replica: u16) -> Result<String, Fail> {
@@ -58,6 +64,17 @@ fn told_recorded(alloc: Global, serve: &ServeWords) -> Result<String, Fail> {
     if let Some(file) = &serve.load {
         text.push_str(" load ")?;
         text.push_str(file.as_str())?;
+    }
+    if let Some(file) = &serve.store {
+        text.push_str(" store ")?;
+        text.push_str(file.as_str())?;
+    }
+    if let Some(file) = &serve.writes {
+        text.push_str(" writes ")?;
+        text.push_str(file.as_str())?;
+    }
+    if serve.hold {
+        text.push_str(" hold")?;
     }
     Ok(text)
 }
@@ -234,6 +251,16 @@ serve --replicas 16 --first-number 65521 => wrong
 serve --first-number 0 => wrong
 serve --load a.changes --first-number 3 => serve 2 18000 18100 None first 3 load a.changes
 serve --load a --load b => wrong
+serve --store mesh.db --load a => serve 2 18000 18100 None load a store mesh.db
+serve --store => wrong
+serve --hold --writes old.lines --store new.db => serve 2 18000 18100 None store new.db writes old.lines hold
+serve --writes a --writes b => wrong
+serve --hold --hold => wrong
+serve --hold yes => wrong
+writes --store mesh.db => writes mesh.db
+writes => wrong
+writes --store a b => wrong
+writes --store a --store b => wrong
 serve --help => help",
     )
 }

@@ -19,6 +19,7 @@ use Rattle.xds_store.specs.Tables.{writes_tree}
 abbrev pub AreWrites : Trees → Type 0
 AreWrites trees = AreRows (trees writes_tree)
 
+-- rule: stored
 -- a type's stored writes
 abbrev pub stored_in : Trees → TypeName → List StampedWrite
 stored_in trees t = stored t (trees writes_tree)
@@ -27,7 +28,7 @@ stored_in trees t = stored t (trees writes_tree)
 abbrev pub kept : Trees → TypeName → Entries
 kept trees t = catalogue_of (stored_in trees t)
 
--- rule: greatest-write
+-- rule: greatest-write, rule: stored
 -- The stored writes and those of a batch are joined, as catalogues are, and no other tree changes.
 pub record IsJoined (old new : Trees) (batch : PerType (List StampedWrite)) : Type 0 where
   pub others : (tree : ℕ) → tree ≢ writes_tree → new tree ≡ old tree

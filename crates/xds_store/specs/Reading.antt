@@ -33,6 +33,7 @@ pub record IsReadTo (rows : List Row) (cursor : Option (List Row)) (batch : Batc
   pub read : batch ≡ by_type (map typed_in done)
   pub are_rows : AreRows done
 
+-- rule: stored
 -- all are read
 pub record IsWhole (rows : List Row) (batch : Batch) : Type 0 where
   pub are_rows : AreRows rows

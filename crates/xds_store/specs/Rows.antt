@@ -3,10 +3,14 @@
 --     groups_data                groups as a list of texts
 --     row_with                   the row of a write, with this text of its groups
 --     IsRowOf                    the row is one that the write is stored as
---     text_of, texts_of, texts_in  a text, the texts of a list, and of a value
---     body_in, groups_in         the body and the groups that a row has
+--     text_of                    the text that a value is, empty where it is none
+--     texts_of                   the texts of the items of a list
+--     texts_in                   the texts of a value that is a list
+--     body_in                    the body that a row has
+--     groups_in                  the groups that a text lists
 --     typed_in                   the write that a row is read as, with its type
---     IsRow, AreRows             rows that are read as what they are stored for
+--     IsRow                      a row that is read as what it is stored for
+--     AreRows                    rows that each are
 --     stored                     the writes of a type, of those that the table has
 --     best_in                    the best write of a name, of those of a type
 --     Puts                       the table has the best of what it had and of these writes, at each name of each type

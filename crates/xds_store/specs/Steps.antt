@@ -18,6 +18,7 @@ pub record IsFresh (v : View) : Type 0 where
   pub sound : v.is_broken ≡ false
   pub same : v.trees ≡ v.committed
 
+-- rule: stored
 -- a crash leaves what it could leave before, or what the call commits
 abbrev pub Survives : {S : Type 0} → (S → Trees → Type 0) → S → S → (Trees → Type 0) → Type 0
 Survives recovers old new Made = (db : Trees) → recovers new db → recovers old db ⊎ Made db

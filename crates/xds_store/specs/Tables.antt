@@ -1,7 +1,9 @@
 -- The two tables of a store, and the number in the first of them.
---     numbers_tree, writes_tree   the trees of the two
+--     numbers_tree                the tree of the table of numbers
+--     writes_tree                 the tree of the table of writes
 --     HasTables                   the trees are there, of the right shapes
---     next_in, next_number        the next free replica number, 1 where none is noted
+--     next_in                     the next free replica number of some rows, 1 where none is noted
+--     next_number                 the next free replica number of a store
 use Rattle.std.specs.Prelude.{◌≡◌, ℕ, pos, List, [], ◌∷◌, filter}
 use Rattle.sqlite_value.specs.Keys.{plain}
 use Rattle.sqlite_value.specs.Order.{Row, column}

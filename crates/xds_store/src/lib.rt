@@ -14,6 +14,6 @@ mod schema;
 mod store;
 mod writes;
 
-pub use opening::{File, open_at, open_files, reopen_at, reopen_files};
+pub use opening::{File, close_at, has_log, open_at, open_files, reopen_at, reopen_files};
 pub use refusal::StoreRefusal;
 pub use store::{FileStore, Store};

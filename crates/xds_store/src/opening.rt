@@ -66,6 +66,31 @@ pub fn reopen_at(rt: &HostRuntime, path: &str) -> Result<Store<FileStore<File>>,
     }
 }
 
+/// Whether a log lies beside the file at a path.
+pub fn has_log(rt: &HostRuntime, path: &str) -> bool {
+    match log_path(rt, path) {
+        Ok(log) => fs::symlink_metadata(rt, log.as_str()).is_ok(),
+        Err(_) => false,
+    }
+}
+
+/// Closes a store that was opened at a path just now and isn't used. Where all that was committed stands in the file, no log
+/// stays beside it.
+pub fn close_at(
+    rt: &HostRuntime,
+    path: &str,
+    store: Store<FileStore<File>>,
+) -> Result<(), StoreRefusal> {
+    let log = log_path(rt, path);
+    let (files, copied) = store.close();
+    // No other process can have begun to use what is removed: the files are still locked.
+    if let (Ok(()), Ok(log)) = (&copied, &log) {
+        let _ = fs::remove_file(rt, log.as_str());
+    }
+    drop(files);
+    copied
+}
+
 // Opens a file that had this length before it was locked.
 fn open_path(
     rt: &HostRuntime,
@@ -74,7 +99,7 @@ fn open_path(
     making: Making,
 ) -> Result<Store<FileStore<File>>, StoreRefusal> {
     let log = log_path(rt, path)?;
-    let had_log = fs::symlink_metadata(rt, log.as_str()).is_ok();
+    let had_log = has_log(rt, path);
     let Ok(state) = RandomState::new(rt) else {
         return Err(StoreRefusal::Device);
     };

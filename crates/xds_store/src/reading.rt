@@ -26,6 +26,7 @@ use xds_message::Batch;
 use xds_resource::{AnyWrite, TypeName, for_type};
 
 impl<S: Trees> Store<S> {
+    // rule: stored
     /// All writes of the store: those of each type in ascending order of names. Refused by `Damaged` where a row is not
     /// that of a write.
     pub fn read_all(&mut self) -> Result<Batch, StoreRefusal>

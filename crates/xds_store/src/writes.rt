@@ -24,7 +24,7 @@ use xds_message::Batch;
 use xds_resource::{ResourceType, Write};
 
 impl<S: Trees> Store<S> {
-    // rule: greatest-write
+    // rule: greatest-write, rule: stored
     /// Puts the writes of a batch in one transaction: under each type and name the greatest write stays, of those that
     /// stand there and those that come. It answers once that is committed.
     pub fn put_batch(&mut self, batch: &Batch) -> Result<(), StoreRefusal>

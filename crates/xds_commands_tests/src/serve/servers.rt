@@ -31,6 +31,7 @@ pub(crate) fn serving(replicas: u16, port: u16, streams: Option<u16>) -> Serving
         max_streams: None,
         idle_seconds: None,
         admin_port: None,
+        hold: false,
     }
 }
 
@@ -73,6 +74,8 @@ pub(crate) fn recorded<
     let files = ServeFiles {
         record: folder,
         load: None,
+        store: None,
+        writes: None,
     };
     let status = serve(rt, input, &mut errors, teller, serving, files);
     Came {

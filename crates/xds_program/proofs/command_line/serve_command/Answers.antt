@@ -12,4 +12,7 @@ returns c =
     let o4 = one_option _ (number_option (codes "admin-port")) _ _ c.number_option-3.result o3 c.number_option-3.ensures c.in_ok-serve-6.ensures in
     let o5 = one_option _ (text_option (codes "record")) _ _ c.text_option.result o4 c.text_option.ensures c.in_ok-serve-7.ensures in
     let o6 = one_option _ (number_option (codes "first-number")) _ _ c.number_option-4.result o5 c.number_option-4.ensures c.in_ok-serve-8.ensures in
-    one_option_or _ (text_option (codes "load")) _ c.text_option-2.result _ o6 c.text_option-2.ensures c.with_option-8.ensures
+    let o7 = one_option _ (text_option (codes "load")) _ _ c.text_option-2.result o6 c.text_option-2.ensures c.in_ok-serve-9.ensures in
+    let o8 = one_option _ (text_option (codes "store")) _ _ c.text_option-3.result o7 c.text_option-3.ensures c.in_ok-serve-10.ensures in
+    let o9 = one_option _ (text_option (codes "writes")) _ _ c.text_option-4.result o8 c.text_option-4.ensures c.in_ok-serve-11.ensures in
+    one_option_or _ (flag_option (codes "hold")) _ c.flag_option-3.result _ o9 c.flag_option-3.ensures c.with_option-11.ensures

@@ -1,0 +1,18 @@
+use Rattle.std.proofs.Common.{◌≤◌, ◌<◌, arith, subst}
+use Rattle.xds_commands.specs.Given.{AreBelow}
+use Rattle.xds_commands.proofs.Numbering.{below_more, below_all}
+use Rattle.xds_commands.proofs.given.above_all.Goals as goal
+
+pub loop-write-preserved : goal.loop-write-preserved
+loop-write-preserved g c =
+    let before = c.loop-write.invariant in
+    let grown : c.loop-write.number ≤ c.max-number.result = omega (arith, c.max-number.ensures) in
+    let above : c.write-item.result.writer < c.max-number.result = omega (arith, c.max-number.ensures, c.from.ensures, c.stamp.ensures.writer) in (
+      omega (arith, before.0, grown),
+      below_more c.deref-write-items.result.now c.loop-write.write-index c.loop-write.number c.max-number.result c.write-item.result c.loop-write-test.true c.write-item.is grown above before.1,
+    )
+
+pub returns-clause-above : goal.returns-clause-above
+returns-clause-above g c =
+    subst (AreBelow c.loop-write.number) c.deref-write-items.ensures.value
+    (below_all c.deref-write-items.result.now c.loop-write.write-index c.loop-write.number (omega (arith, c.loop-write-test.false)) c.loop-write.invariant.1)
