@@ -2,7 +2,9 @@
 --     Client, client_code          what a client knows: of itself, of its stream, and of each type
 --     fresh                        a client that is new wants nothing, and has no stream
 --     shelf                        what it keeps of a type
---     view, with_shelf, identity   what it shows of a type
+--     view                         the cache of a type, which the client shows
+--     with_shelf                   the client with another shelf of a type
+--     identity                     the node of requests: an id and a cluster
 --     node                         what the next request says of who asks: the first one on a stream alone says it
 --     is_sent                      whether a change to these is sent
 --     shelf_after                  what is kept of a type once the client wants these of it
@@ -11,9 +13,11 @@
 --     linked                       on a new stream
 --     unlinked                     once its stream is lost
 --     IsUsableWhenDown             a client that has no stream isn't broken: it can use the next one
---     broken_off, if_asked         once it found no memory for a response
+--     broken_off                   the client once it found no memory for a response
+--     if_asked                     the type, if the client asked for it on this stream
 --     addressed                    the type of a response with this URL, if the client asked for it on this stream
---     addressed_or, addressing     the same, where there is one, and else why a response is refused
+--     addressed_or                 this type, and else the refusal `BadMessage`
+--     addressing                   the type that a response is of, or why the response is refused
 use Rattle.std.specs.Prelude.{◌≡◌, ℕ, List, Bool, true, false, if◌then◌else◌, Option, Some, None, Result, Ok, Err, refl}
 use Rattle.std.specs.Option.{option_and_then}
 use Rattle.std.specs.Coded.{Coded, code_by, coded×, coded_ℕ, coded_bool, coded_list}

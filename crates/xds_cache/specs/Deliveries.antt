@@ -1,10 +1,14 @@
 -- What a response leaves of what a client holds, in both variants. This project's own.
---     Delivery, sotw_stated, delta_stated  a response of either variant
+--     Delivery                         a response of either variant
+--     sotw_stated                      a stated resource of the state of the world, which has no name and no version of its own
+--     delta_stated                     a stated resource of a delta response
 --     sotw_delivery                    state of the world: a response of a complete type is the whole
 --     delta_delivery                   delta: no version of a response is kept
 --     fault_in                         why a response is rejected, if it is
 --     statements                       what a response that is taken states
---     shown, shown_after, cache_after  what is held of a name after a response that is taken: what it states
+--     shown                            the holding of a name that is wanted, after a response that is taken
+--     shown_after                      the same of any name: nothing of one that isn't wanted
+--     cache_after                      the cache of a type after a response that is taken
 --     taking                           a response that is taken is taken whole
 --     rejecting                        of one that is rejected nothing but the nonce is kept
 --     delivered                        after a response

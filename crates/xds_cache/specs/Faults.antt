@@ -5,7 +5,8 @@
 --     refusal_text        the number of a refusal and its name, as `4 BadResource`
 --     first_reason        the first of the reasons that holds
 --     is_misnamed         whether the message gives a resource another name than its body does
---     reasons, fault_by   what may be wrong with a resource that is one
+--     reasons             the tests that a resource may fail, each with its text
+--     fault_by            the text of the first fault of a stated resource, if it has one
 --     fault_of            why a resource is at fault, if it is
 --     holding_of          what is held of a resource
 --     and_stated          what is stated once a resource is, too

@@ -1,10 +1,18 @@
 -- What `change` and `receive` leave of a client and give to send. This project's own.
 --     Outcome                          what a call leaves of a client, and what it gives to send
---     sotw_changed, sotw_change        a client of the state of the world wants these texts
---     delta_changed, delta_change      after a delta client subscribes and unsubscribes, with the request that says so
---     sotw_delivered, delta_delivered  what a response leaves of what is kept of its type
---     answered, sotw_answered, delta_answered, if_addressed  a client after a response of a type, with its answer
---     receive, sotw_receive, delta_receive  a client that can't use its stream refuses a response
+--     sotw_changed                     a client of the state of the world once it wants these texts, and its request on a stream
+--     sotw_change                      the same, refused by `NoStream` where its stream is of no use
+--     delta_changed                    a delta client once it subscribes and unsubscribes, and its request on a stream
+--     delta_change                     the same, refused by `NoStream` where its stream is of no use
+--     sotw_delivered                   the shelf of a type after a response of the state of the world, and the answer
+--     delta_delivered                  the same of a delta response
+--     answered                         a client after a response of a type, with its answer, by the change of the shelf
+--     sotw_answered                    the same in the state of the world
+--     delta_answered                   the same in delta
+--     if_addressed                     an answer of the type that a response is of, or the refusal
+--     receive                          a client after a response, or why it is refused
+--     sotw_receive                     the same in the state of the world
+--     delta_receive                    the same in delta
 use Rattle.std.specs.Prelude.{ℕ, List, Bool, ◌&&◌, if◌then◌else◌, Option, Some, None, Result, Ok, Err}
 use Rattle.std.specs.FinMap as finmap
 use Rattle.xds_resource.specs.declared.types.TypeName.{TypeName}

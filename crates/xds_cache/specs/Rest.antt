@@ -1,9 +1,12 @@
 -- A client that polls: what it asks for, and what an answer leaves of it. The paths and statuses are those of Envoy's "xDS REST and
 -- gRPC protocol"; that the client keeps the version of what it took, and forgets it with what it wants, is this project's own.
 --     unlinked_shelf                a request without a nonce, since no stream is there
---     rest_asking, rest_request     what a client asks for in a poll of a type
---     forgetting, rest_changed      once a client wants these of a type
---     rest_taking, rest_delivered   an answer that is taken is taken whole, with its version
+--     rest_asking                   the request of a poll for all that a client wants of a type, with the version that it keeps
+--     rest_request                  the same, and none where nothing of the type is wanted
+--     forgetting                    a shelf once these texts are wanted, without its version
+--     rest_changed                  a client that polls, once it wants these texts of a type
+--     rest_taking                   a shelf after an answer that is taken
+--     rest_delivered                a shelf after an answer: as it was, where the answer has a fault
 --     rest_answered                 after an answer to a poll of a type, with why it is rejected, if it is
 --     answers_poll                  whether an answer of this URL is one to a poll of a type
 --     has_body                      whether an answer has a body that is one to a poll of a type

@@ -4,8 +4,11 @@
 --     first_requests                   the first requests on a stream, of these types in order
 --     is_greeted                       whether who asks was said once these types were asked for
 --     sotw_request                     every request has all that is wanted
---     sotw_opening, sotw_first, delta_request  the first request of a type on a stream has no nonce
---     delta_opening, delta_first       the first request of a type on a stream subscribes all that is wanted
+--     sotw_opening                     the first request of a type on a stream, from its shelf, without a nonce
+--     sotw_first                       the same of a client, with its node where it hasn't said who it is
+--     delta_request                    a delta request with these two lists and versions
+--     delta_opening                    the first request of a type on a stream, which says the versions that are held
+--     delta_first                      the same of a client, with its node where it hasn't said who it is
 --     delta_answer                     the answer to a response
 use Rattle.std.specs.Prelude.{ℕ, List, [], ◌∷◌, Bool, true, if◌then◌else◌, Option, None, option_map, pos}
 use Rattle.std.specs.FinMap as finmap

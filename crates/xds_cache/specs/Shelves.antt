@@ -1,14 +1,19 @@
 -- What a client keeps of each type: what it wants, what it holds, and how far its stream is. This project's own.
 --     Wants                            the texts that a client asks for; in a complete type `*` is the star
---     Holding, Cache, Shelf, holding_code, shelf_code  what a client holds of a name
+--     Holding, holding_code            what a client holds of a name: a version and a body
+--     Cache                            what a client holds of each name
+--     Shelf, shelf_code                what a client keeps of a type
 --     bare                             of a client that wants nothing
 --     texts                            the texts in ascending order, as requests list them
 --     wants_some                       whether something is wanted
 --     interest                         the interest that these texts are, of a client whose node is of this cluster
---     is_wanted, marked                whether the client wants the resource of a name
+--     is_wanted                        whether the client wants the resource of a name
+--     marked                           a text is among the wanted ones
 --     wants_of                         the texts of a list
---     marked_after, wants_after        whether a text is wanted after a change that subscribes and unsubscribes texts
---     kept, kept_of                    what is still held of a name once the client wants these
+--     marked_after                     whether a text is wanted after a change that subscribes and unsubscribes texts
+--     wants_after                      the wanted texts after such a change
+--     kept                             the holding of a name once these texts are wanted
+--     kept_of                          the cache once these texts are wanted
 --     cached_version                   the version that is held of a name
 --     cached_versions                  the versions that are held
 --     wanting                          once the client wants these, and asked for them or not

@@ -73,7 +73,7 @@ fn reason_against<A: Accept>(
 }
 
 // rule: whole-or-nothing
-// The same of a resource that is one.
+// Judges a stated resource that is one, and notes it as stated.
 fn state_read<A: Accept>(
     alloc: Global,
     kind: TypeName,

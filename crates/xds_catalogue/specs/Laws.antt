@@ -3,8 +3,10 @@
 --     StandUnderTheirNames             each of its writes stands under its own name
 --     IsMadeOfItsWrites                a catalogue is made again of what it holds
 --     OrderDoesNotMatter               neither the order of writes nor how often each comes changes a catalogue
---     JoinsTheWrites, JoinCommutes, JoinAssociates,
---     JoinIsIdempotent                 to join two catalogues is to make one of all their writes
+--     JoinsTheWrites                   to join two catalogues is to make one of all their writes
+--     JoinCommutes                     the join of two catalogues is the same either way
+--     JoinAssociates                   three catalogues join to the same in either order of joining
+--     JoinIsIdempotent                 a catalogue joined with itself is itself
 --     JoinIsAbove                      a join is above both of its parts
 --     JoinIsLeast                      and below everything that is above both
 --     JoinsOneAfterAnother             writes that come in two lists are joined as those of one

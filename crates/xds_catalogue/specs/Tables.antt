@@ -3,11 +3,13 @@
 --     by_text                          the entries of a map from texts, each seen by f
 --     by_number                        the entries of a map from numbers, each seen by f
 --     Named, named_code                the map from names, as its writes and its numbers
---     named_by, no_names               what the entries of an ordered map say
+--     named_by                         the map from names that some entries of an ordered map are
+--     no_names                         the map without an entry
 --     with_name                        this write under this name
 --     without_name                     nothing under this name
 --     with_former                      under this name what stood there before, if that was anything
---     TwoMaps, two_maps_code, no_tables  both maps, the count of changes
+--     TwoMaps, two_maps_code           both maps, the count of changes
+--     no_tables                        both maps without an entry, and no change
 --     held_by                          the catalogue that the tables stand for
 --     with_write                       the write under its name with the next number, beside which the old number stays
 --     without_number                   this number taken out
@@ -17,7 +19,8 @@
 --     all_taken_back                   changes taken back, the last one first
 --     with_counts                      with this count of changes, and this greatest counter
 --     former_number                    the number of what stood there before
---     former_numbers, IsAmong          the numbers of all that was put aside
+--     former_numbers                   the numbers of all that was put aside
+--     IsAmong                          a number is in a list
 --     IsSoundBut                       the two maps agree, but for numbers that are still to be taken out
 --     IsSound                          the two maps agree, and what they stand for is a catalogue
 use Rattle.std.specs.Prelude.{◌≡◌, ◌≢◌, ◌⊎◌, ℕ, ◌+◌, ◌≤◌, max, List, [], ◌∷◌, ◌++◌, map, String, Option, Some, None, if◌then◌else◌, is_some, IfSome, refl}

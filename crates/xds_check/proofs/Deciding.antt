@@ -5,7 +5,7 @@ use Rattle.std.specs.List.{list_any, list_all, filter}
 use Rattle.std.specs.Option.{option_map_or, option_and_then, option_or, unwrap_or}
 use Rattle.std.specs.FinMap as finmap
 use Rattle.xds_resource.specs.declared.types.TypeName.{TypeName}
-use Rattle.xds_resource.specs.Writes.{StampedWrite}
+use Rattle.xds_resource.specs.Writes.{StampedWrite, version_of}
 use Rattle.xds_resource.proofs.MadeMaps.{EachFound, each_found}
 use Rattle.xds_interest.specs.Interests.{Selection, covers, has_name}
 use Rattle.xds_interest.specs.Asked.{Asked, delta_kept}
@@ -14,6 +14,7 @@ use Rattle.xds_interest.proofs.Choices.{and_first, and_second}
 use Rattle.xds_catalogue.specs.Content.{is_live, is_shown, if_live, live_at, content}
 use Rattle.xds_catalogue.specs.Holdings.{Entries, IsCatalogue}
 use Rattle.xds_ledger.specs.Offers.{Offer, same_offer}
+use Rattle.xds_ledger.specs.Owed.{present_as}
 use Rattle.xds_ledger.specs.Variants.{is_whole}
 use Rattle.xds_ledger.proofs.Repeating.{named_passes, one_fails}
 use Rattle.xds_ledger.proofs.SameOffers.{offers_are_told_apart}
@@ -21,7 +22,7 @@ use Rattle.xds_check.specs.declared.line.Line.{Line}
 use Rattle.xds_check.specs.declared.rule.Rule.{Rule}
 use Rattle.xds_check.specs.declared.rule.Rule.TheVariants.{FreshNonce, BestResources, CoveredResources, WholeResponse, RightRemovals, OneAtATime, NothingRefusedAgain, NothingPending}
 use Rattle.xds_check.specs.Answers.{Answer, stated_names}
-use Rattle.xds_check.specs.Lines.{standing, live, interest, is_used, cluster_on, has_asked, taken, sent, is_pending, refused_offer, offer_at, speaks_delta, mentions, is_mentioned}
+use Rattle.xds_check.specs.Lines.{standing, live, interest, is_used, cluster_on, has_asked, taken, sent, is_pending, refused_offer, offer_at, speaks_delta, mentions, is_mentioned, is_covered_as}
 use Rattle.xds_check.specs.Lines as said
 use Rattle.xds_check.specs.Rules.{place, is_put_by, HasReusedNonce, BreaksBestResources, StatesUncovered, LacksAName, RemovesShown, IsSecondAtATime, OffersRefused, LeavesPending, BreaksAtResponse}
 use Rattle.xds_check.specs.Kept.{Talk, Marks, is_marked, wanted, is_reused, breaks_best_resources, states_uncovered, lacks_one, lacks_a_name, is_shown_in, removes_shown, offers_refused, is_missed, none_missed, least}
@@ -196,14 +197,26 @@ pub live_some : (w : StampedWrite) (l : Bool) → is_some (if_so w l) ≡ l
 live_some w true = refl
 live_some w false = refl
 
+shown_by : (w : StampedWrite) (covered lives : Bool) (version : List ℕ) → is_some (if covered then (if lives then Some version else None) else None) ≡ (is_some (if lives then Some w else None) && covered)
+shown_by w true true version = refl
+shown_by w true false version = refl
+shown_by w false true version = refl
+shown_by w false false version = refl
+
+-- what is present is live and covered
+pub shown_parts : (s : Selection) (q : List ℕ) (o : Option StampedWrite) → is_some (present_as s q o) ≡ (is_some (option_and_then if_live o) && is_covered_as s q o)
+shown_parts s q None = refl
+shown_parts s q (Some w) = shown_by w (covers s q w.groups) (is_live w) (version_of w)
+
 -- of a name with a write, that it is shown
 shown_same : (m : Entries) (s : Selection) (q : List ℕ) (w : StampedWrite) → finmap.get m q ≡ Some w → w.name ≡ q → is_shown_in m s q ≡ is_shown s w
 shown_same m s q w has named =
-    (λ i. is_some (option_and_then if_live (has i)) && option_map_or (λ w. covers s q w.groups) (has i) false)
+    shown_parts s q (finmap.get m q)
+    ∙ (λ i. is_some (option_and_then if_live (has i)) && option_map_or (λ w. covers s q w.groups) (has i) false)
     ∙ (λ i. live_some w (is_live w) i && covers s (sym named i) w.groups)
 
 shown_has : (m : Entries) (s : Selection) (q : List ℕ) (o : Option StampedWrite) → finmap.get m q ≡ o → is_shown_in m s q ≡ true → (w : StampedWrite) × (finmap.get m q ≡ Some w)
-shown_has m s q None has shown = never (sym shown ∙ (λ i. is_some (option_and_then if_live (has i)) && option_map_or (λ w. covers s q w.groups) (has i) false))
+shown_has m s q None has shown = never (sym shown ∙ (λ i. is_some (present_as s q (has i))))
 shown_has m s q (Some w) has shown = (w, has)
 
 not_false : (b : Bool) → not b ≡ false → b ≡ true
@@ -273,7 +286,7 @@ module _ (s : ℕ) (e : List Line) (held : Entries) (k : Talk) (a : Answer) (spo
   want = wanted_is a.kind (cluster_on s e) (has_asked s a.kind e) (taken s a.kind e) (sent s a.kind e) (is_pending s a.kind e) (is_used s e) k spoken
 
   shown_is : (q : List ℕ) → is_shown_in held (wanted k) q ≡ said.is_shown s a.kind e q
-  shown_is q = (λ i. is_some (option_and_then if_live (same q i)) && option_map_or (λ w. covers (want i) q w.groups) (same q i) false)
+  shown_is q = (λ i. is_some (present_as (want i) q (same q i)))
 
   -- rule: new-nonce
   tells_nonce : Tells (is_reused k a.nonce) (HasReusedNonce e s a)

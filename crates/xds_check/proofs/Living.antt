@@ -19,7 +19,7 @@ use Rattle.xds_catalogue.specs.Joins.{joined}
 use Rattle.xds_catalogue.proofs.Catalogues.{get-catalogue_of, best-values}
 use Rattle.xds_check.specs.Kept.{Marks, is_shown_in, lacks_one}
 use Rattle.xds_check.specs.LiveNames.{LiveNames, ByGroup, AreLive, no_names, in_group, stands, lives_for_everyone, lives_for, with_name, with_name_in, with_name_in_each, with_name_of, are_among, has_starred, has_if_live, has_explicit, has_shown}
-use Rattle.xds_check.proofs.Deciding.{never, live_some, lacks_tells, lacks_none}
+use Rattle.xds_check.proofs.Deciding.{never, live_some, shown_parts, lacks_tells, lacks_none}
 use Rattle.xds_check.proofs.Hearing.{nothing_in}
 
 -- ---- lists of names
@@ -326,10 +326,12 @@ module _ (m : Entries) (x : LiveNames) (s : Selection) (stated : Marks) (live : 
   shown_by_case q (Some w) has is = (w, (has, sym (live_some w (is_live w)) ∙ and_first _ _ is, and_second _ _ is))
 
   shown_by : (q : List ℕ) → is_shown_in m s q ≡ true → (w : StampedWrite) × is_shown_by q w
-  shown_by q is = shown_by_case q (finmap.get m q) refl is
+  shown_by q is = shown_by_case q (finmap.get m q) refl (sym (shown_parts s q (finmap.get m q)) ∙ is)
 
   shown_so : (q : List ℕ) (w : StampedWrite) → is_shown_by q w → is_shown_in m s q ≡ true
-  shown_so q w by = ap (λ (o : Option StampedWrite). is_some (option_and_then if_live o) && option_map_or (λ v. covers s q v.groups) o false) by.0 ∙ both_of _ _ (live_some w (is_live w) ∙ by.1) by.2
+  shown_so q w by =
+      shown_parts s q (finmap.get m q)
+      ∙ ap (λ (o : Option StampedWrite). is_some (option_and_then if_live o) && option_map_or (λ v. covers s q v.groups) o false) by.0 ∙ both_of _ _ (live_some w (is_live w) ∙ by.1) by.2
 
   -- ---- where all is there
 

@@ -19,6 +19,7 @@ use Rattle.xds_check.specs.declared.asking.Asking.TheVariants.{Sotw, Delta}
 use Rattle.xds_check.specs.Answers.{Answer, nonce_of, rejects, lists_in, mentions_in, mention_in, stated_names}
 use Rattle.xds_check.specs.Lines as lines
 use Rattle.xds_check.specs.Lines.{Sent, Unanswered, Accepted, Refused, is_unanswered, answered_by, is_waiting, last_nonce, refused_after, refused_offer, lists, mentions, interest_of, pending_taken, tells}
+use Rattle.xds_ledger.specs.Stale as stale
 use Rattle.xds_check.specs.Kept.{Talk, unheard, wanted, introduced, is_stale, is_marked, with_taken, is_answer, answered, begun_now, requested, with_nonce, responded, offer_in}
 use Rattle.xds_check.proofs.Waiting.{listed_waits, mentioned_waits, told_waits}
 
@@ -240,7 +241,7 @@ begun_spoken t cluster begun requests responses pends uses k s =
 ignored_same : (t : TypeName) (cluster : Option (List ℕ)) (begun : Bool) (requests : List Asking) (responses : List Sent) (pends uses : List ℕ → Bool) (k : Talk) (m : Asking)
     → IsSpoken t cluster begun requests responses pends uses k → is_stale k m ≡ lines.is_stale begun responses m
 ignored_same t cluster begun requests responses pends uses k m s =
-    (λ i. s.begun_is i && not (bytes_eq (nonce_of m) []) && not (stands_waits responses k.unanswered k.refused s.stands i) && not (option_map_or (bytes_eq (nonce_of m)) (s.last i) false))
+    (λ i. stale.is_stale (s.begun_is i) (not (stands_waits responses k.unanswered k.refused s.stands i)) (s.last i) (nonce_of m))
 
 requested_case : (t : TypeName) (c : List ℕ) (begun : Bool) (requests : List Asking) (responses : List Sent) (pends uses : List ℕ → Bool) (k : Talk) (old : Selection) (m : Asking) (b : Bool)
     → IsSpoken t (Some c) begun requests responses pends uses k → (wanted k).names ≡ old.names

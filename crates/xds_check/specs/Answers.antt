@@ -5,12 +5,19 @@
 --     IsReadable                       a resource whose text can be read again
 --     IsStatement                      a resource of the type, with a label just in delta
 --     IsAnswer                         what every response is that is read
---     sotw_message, label_or_none, labelled_resource,
---     delta_message                    the messages that responses are written as
---     stated_names, variant_of, url_of  the names of the resources that a response states
---     is_of, nonce_of                  whether a request is of this type; one of a type outside the table is of none
---     rejects, cluster_in              whether a request that answers a response rejects it
---     cluster_of, mention_in           the cluster text of the node in a request, empty where there is none
+--     sotw_message                     the message of a response of the state of the world
+--     label_or_none                    a label, empty where there is none
+--     labelled_resource                a stated resource with its name and version, as in a delta response
+--     delta_message                    the message of a delta response
+--     stated_names                     the names of the resources that a response states
+--     variant_of                       the variant of a request
+--     url_of                           the type URL of a request
+--     is_of                            whether a request is of this type; one of a type outside the table is of none
+--     nonce_of                         the nonce of a request
+--     rejects                          whether a request that answers a response rejects it
+--     cluster_in                       the cluster text of a node, empty where there is none
+--     cluster_of                       the cluster text of the node in a request, empty where there is none
+--     mention_in                       the two lists of a delta request
 --     lists_in                         the list of names of a request, if it is one of the state of the world
 --     mentions_in                      the two lists of a request, if it is one of delta
 use Rattle.std.specs.Prelude.{◌≡◌, ℕ, List, [], ◌∷◌, map, Bool, false, Option, Some, is_some, All}

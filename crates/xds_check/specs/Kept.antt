@@ -1,33 +1,45 @@
 -- What the checker of a trace keeps of the lines so far, of one type: of each stream the client's interest, the last response,
 -- the offers that count, the names that wait and the nonces that were used. This project's own.
---     Marks, is_marked                 names, each with whether it is marked
+--     Marks                            names, each with whether it is marked
+--     is_marked                        whether a name is marked
 --     without_each                     without those names of a list of which a test is true
 --     Talk, offer_code, marks_code, talk_code  what is kept of a stream, of one type
---     unheard, Talks                   of a stream of which no line spoke
+--     unheard                          the account of a stream of which no line spoke
+--     Talks                            the accounts of all streams, by number
 --     talk_at                          what is kept of a stream
 --     wanted                           what the client wants
 --     introduced                       once the client made itself known, as one of this cluster
 --     is_stale                         whether the nonce of a request is stale, so that the request is ignored
---     listed_mark, listed_marks        what a request of the state of the world says of a name that it lists
+--     listed_mark                      the mark of a name that a request of the state of the world lists
+--     listed_marks                     the marks of all names that it lists
 --     left_marks                       without the names that a delta request unsubscribes, which subscribes others
---     joined_mark, mentioned_marks     what one says of a name that it subscribes
---     waiting_after, with_asked        the names that wait once a request is taken
+--     joined_mark                      the mark of a name that a delta request subscribes
+--     mentioned_marks                  the marks after a delta request
+--     waiting_after                    the names that wait once a request is taken
+--     with_asked                       with the interest as after a request
 --     with_taken                       once a request is taken
 --     is_answer                        whether a request answers the response that is unanswered
---     answered, begun_now              once the response is answered, if the request does that
+--     answered                         once the response is answered, if the request does that
+--     begun_now                        once the type was asked for
 --     requested                        once a request of the type came
 --     asked                            once a request of whatever type came
 --     stated_due                       what a response says of a name that it states
 --     offer_in                         the offer of a response
 --     unmarked                         without the marks of these names
---     responded, with_nonce            once a response of the type was sent
+--     responded                        once a response of the type was sent
+--     with_nonce                       with this nonce among the used ones
 --     told                             once a response of whatever type was sent
 --     heard                            what is kept of a stream after a line
 --     is_reused                        whether a response has no nonce, or one that was used before
---     is_best_in, breaks_best_resources  whether a resource is that of the best live write of its name
---     is_covered_in, states_uncovered  whether a name that has a best write is covered
---     lacks_one, lacks_a_name          whether a response lacks one of some writes
---     is_shown_in, removes_shown, offers_refused  whether a name is live and covered
+--     is_best_in                       whether a resource is that of the best live write of its name
+--     breaks_best_resources            whether a response states a resource that isn't
+--     is_covered_in                    whether a name that has a best write is covered
+--     states_uncovered                 whether a response states a name that isn't covered
+--     lacks_one                        whether some names lack that of one of some writes
+--     lacks_a_name                     whether a whole response lacks a name that is live and covered
+--     is_shown_in                      whether a name is present to a client
+--     removes_shown                    whether a response removes such a name
+--     offers_refused                   whether a response offers what was refused last
 --     least_by_names                   the least rule that a response breaks
 --     least_by_order                   and of those that look at what became of the responses before it
 --     least                            the least rule that a response breaks
@@ -57,6 +69,8 @@ use Rattle.xds_message.specs.DeltaMessages.{DeltaRequest}
 use Rattle.xds_ledger.specs.declared.entry.Due.{Due}
 use Rattle.xds_ledger.specs.declared.entry.Due.TheVariants.{Stated, Removed}
 use Rattle.xds_ledger.specs.Offers.{Offer, due_code, same_offer}
+use Rattle.xds_ledger.specs.Owed.{present}
+use Rattle.xds_ledger.specs.Stale as stale
 use Rattle.xds_ledger.specs.Variants.{is_whole}
 use Rattle.xds_check.specs.declared.asking.Asking.{Asking}
 use Rattle.xds_check.specs.declared.asking.Asking.TheVariants.{Sotw, Delta}
@@ -65,7 +79,8 @@ use Rattle.xds_check.specs.declared.line.Line.TheVariants as lines
 use Rattle.xds_check.specs.declared.rule.Rule.{Rule}
 use Rattle.xds_check.specs.declared.rule.Rule.TheVariants.{FreshNonce, BestResources, CoveredResources, WholeResponse, RightRemovals, OneAtATime, NothingRefusedAgain, NothingPending}
 use Rattle.xds_check.specs.Answers.{Statement, Answer, stated_names, is_of, nonce_of, rejects, cluster_of, mention_in}
-use Rattle.xds_check.specs.Rules.{is_put_by}
+use Rattle.xds_check.specs.Lines.{is_covered_as}
+use Rattle.xds_check.specs.Rules.{is_best_as}
 use Rattle.xds_check.specs.Writes.{write_of}
 
 -- names, each with whether it is marked
@@ -138,7 +153,7 @@ introduced cluster k = if k.known then k else record k { known = true; sotw = un
 -- rule: stale-nonce
 -- whether the nonce of a request is stale, so that the request is ignored
 abbrev pub is_stale : Talk → Asking → Bool
-is_stale k m = k.begun && not (bytes_eq (nonce_of m) []) && not (is_some k.unanswered) && not (option_map_or (bytes_eq (nonce_of m)) k.last false)
+is_stale k m = stale.is_stale k.begun (not (is_some k.unanswered)) k.last (nonce_of m)
 
 -- rule: awaited-names
 -- what a request of the state of the world says of a name that it lists
@@ -254,7 +269,7 @@ is_reused k nonce = bytes_eq nonce [] || is_some (finmap.get k.used nonce)
 -- rule: best-writes
 -- whether a resource is that of the best live write of its name
 abbrev pub is_best_in : Entries → Statement → Bool
-is_best_in m x = option_map_or (is_put_by x) (live_at m x.name) false
+is_best_in m x = is_best_as x (finmap.get m x.name)
 
 -- rule: best-writes
 abbrev pub breaks_best_resources : Entries → Answer → Bool
@@ -263,7 +278,7 @@ breaks_best_resources m a = list_any (λ x. not (is_best_in m x)) a.statements
 -- rule: covered-only
 -- whether a name that has a best write is covered
 abbrev pub is_covered_in : Entries → Selection → List ℕ → Bool
-is_covered_in m s name = option_map_or (λ w. covers s name w.groups) (finmap.get m name) false
+is_covered_in m s name = is_covered_as s name (finmap.get m name)
 
 -- rule: covered-only
 abbrev pub states_uncovered : Entries → Selection → Answer → Bool
@@ -279,9 +294,9 @@ abbrev pub lacks_a_name : TypeName → Entries → Selection → Answer → Bool
 lacks_a_name t m s a = is_whole a.variant t && lacks_one (stated_names a) (content m s)
 
 -- rule: no-live-removal
--- whether a name is live and covered
+-- whether a name is present to a client of this interest: live and covered
 abbrev pub is_shown_in : Entries → Selection → List ℕ → Bool
-is_shown_in m s name = is_some (live_at m name) && is_covered_in m s name
+is_shown_in m s name = is_some (present s m name)
 
 -- rule: no-live-removal
 abbrev pub removes_shown : Entries → Selection → Answer → Bool

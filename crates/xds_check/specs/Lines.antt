@@ -5,29 +5,41 @@
 --     write_at                         the write of this type that a line is, if it is one
 --     writes_in                        the writes of a type
 --     standing                         the best write of a name: the greatest
---     live, Turn, turn, is_asking      the best write of a name, if it isn't a deletion
+--     live                             the best write of a name, if it isn't a deletion
+--     Turn                             what a line is to a stream and a type: a request, a response, or nothing
+--     turn                             the turn of a line
+--     is_asking                        whether a turn is a request
 --     has_asked                        whether there was a request
 --     offered                          what a response offers of a name
---     offer_at, Fate, is_unanswered    the offer of a response, at its line
+--     offer_at                         the offer of a response, at its line
+--     Fate                             what became of a response: unanswered, accepted or refused
+--     is_unanswered                    whether a response is unanswered
 --     Sent                             a response that was sent
 --     answered_by                      a response once this request came
 --     sent_after                       the responses after a line; the first request of all answers none
---     sent, is_waiting                 the responses of the type on the stream, the last one first
+--     sent                             the responses of the type on the stream, the last one first
+--     is_waiting                       whether one of some responses is unanswered
 --     last_nonce                       the nonce of the last response
---     refused_after, refused_offer     the offer of the latest refused response, where none was accepted since
---     is_stale, taken_after            the nonce of a request is stale, and the request ignored
+--     refused_after                    the refused offer that counts, after a response of this fate
+--     refused_offer                    the offer of the latest refused response, where none was accepted since
+--     is_stale                         whether the nonce of a request is stale, so that the request is ignored
+--     taken_after                      the requests that were taken, after one turn more
 --     taken                            the requests of the type on the stream that were taken, the first one first
 --     cluster_at                       the cluster text that a line brings, if it is a request on the stream
---     cluster_on, lists, mentions      the cluster text of the stream's first request
+--     cluster_on                       the cluster text of the stream's first request
+--     lists                            the lists of names of some requests of the state of the world
+--     mentions                         the two lists of each of some delta requests
 --     is_mentioned                     whether there is a delta request among those that mentions were taken from
 --     interest_of                      the interest that some requests come to, by the rules of their variant
 --     interest                         the interest of the stream in the type
 --     speaks_delta                     whether the requests that were taken are those of delta
---     is_covered                       whether a name that has a best write is covered
---     is_shown                         whether a name is live and covered
+--     is_covered_as, is_covered        whether a name that has a best write is covered
+--     is_shown                         whether a name is present to the client
 --     pending_in_delta                 a name after a taken delta request
---     pending_in_sotw, pending_taken   a name after a taken request of the state of the world
---     tells, pending_after             whether a response states or removes a name
+--     pending_in_sotw                  whether a name is pending after a taken request of the state of the world
+--     pending_taken                    the same after a taken request of either variant
+--     tells                            whether a response states or removes a name
+--     pending_after                    whether a name is pending after a turn
 --     is_pending                       whether a name of the type waits for an answer on the stream
 --     has_nonce                        whether a line is a response on the stream with this nonce
 --     is_used                          whether a nonce was used on the stream, for a response of whatever type
@@ -51,6 +63,8 @@ use Rattle.xds_message.specs.Messages.{Request}
 use Rattle.xds_ledger.specs.declared.entry.Due.{Due}
 use Rattle.xds_ledger.specs.declared.entry.Due.TheVariants.{Stated, Removed}
 use Rattle.xds_ledger.specs.Offers.{Offer}
+use Rattle.xds_ledger.specs.Owed.{present_as}
+use Rattle.xds_ledger.specs.Stale as stale
 use Rattle.xds_check.specs.declared.asking.Asking.{Asking}
 use Rattle.xds_check.specs.declared.asking.Asking.TheVariants.{Sotw, Delta}
 use Rattle.xds_check.specs.declared.line.Line.{Line}
@@ -179,11 +193,9 @@ refused_offer (r ∷ responses) = refused_after r.fate r.offer (refused_offer re
 -- ---- requests that are taken
 
 -- rule: stale-nonce
--- The nonce of a request is stale, and the request ignored, where it isn't the first of its type, has a nonce, no response of the
--- type is unanswered, and its nonce isn't that of the last response.
+-- whether the nonce of a request is stale, so that the request is ignored, by the responses so far
 abbrev pub is_stale : Bool → List Sent → Asking → Bool
-is_stale begun responses m =
-    begun && not (bytes_eq (nonce_of m) []) && not (is_waiting responses) && not (option_map_or (bytes_eq (nonce_of m)) (last_nonce responses) false)
+is_stale begun responses m = stale.is_stale begun (not (is_waiting responses)) (last_nonce responses) (nonce_of m)
 
 -- rule: stale-nonce
 abbrev pub taken_after : Bool → List Sent → Turn → List Asking → List Asking
@@ -240,14 +252,19 @@ abbrev pub speaks_delta : ℕ → TypeName → List Line → Bool
 speaks_delta s t earlier = is_mentioned (mentions (taken s t earlier))
 
 -- rule: covered-only
+-- whether a name is covered, by the write that stands under it, if there is one
+abbrev pub is_covered_as : Selection → List ℕ → Option StampedWrite → Bool
+is_covered_as s name standing = option_map_or (λ w. covers s name w.groups) standing false
+
+-- rule: covered-only
 -- whether a name that has a best write is covered
 abbrev pub is_covered : ℕ → TypeName → List Line → List ℕ → Bool
-is_covered s t earlier name = option_map_or (λ w. covers (interest s t earlier) name w.groups) (standing t earlier name) false
+is_covered s t earlier name = is_covered_as (interest s t earlier) name (standing t earlier name)
 
 -- rule: no-live-removal
--- whether a name is live and covered
+-- whether a name is present to the client: live and covered
 abbrev pub is_shown : ℕ → TypeName → List Line → List ℕ → Bool
-is_shown s t earlier name = is_some (live t earlier name) && is_covered s t earlier name
+is_shown s t earlier name = is_some (present_as (interest s t earlier) name (standing t earlier name))
 
 -- ---- pending names
 

@@ -1,12 +1,16 @@
 -- The names of the live writes, kept by whom the star covers them for: everyone, or the clients of a cluster among a write's
 -- groups. So a whole response is judged by names that it ought to have, without a look at all that ever stood. This project's own.
 --     ByGroup                          for each group the names that live in it
---     LiveNames, live_names_code, no_names  the names of live writes that have no groups
+--     LiveNames, live_names_code       the names of live writes: those without groups, and those of each group
+--     no_names                         no name lives
 --     in_group                         the names that live in a group
 --     stands                           whether a name stands among some
---     lives_for_everyone, lives_for    whether what stands under a name lives and is for everyone
+--     lives_for_everyone               whether the write of a name lives and is for everyone
+--     lives_for                        whether the write of a name lives and is for this group
 --     AreLive                          these are the names of the live writes among some entries
---     with_name, with_name_in, with_name_in_each  with a name, or without it
+--     with_name                        marks with a name, or without it
+--     with_name_in                     the marks of each group, with a name in one group or without it
+--     with_name_in_each                the same of several groups
 --     with_name_of                     with the name of a write of these groups, or without it
 --     are_among                        whether all of some names stand among others
 --     has_starred                      whether it has all that the star covers for a client of a cluster

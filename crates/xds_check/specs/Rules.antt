@@ -5,7 +5,7 @@
 --     HasReusedNonce        P1: a response's nonce is empty, or was used before on its stream
 --     is_label_of           whether a label is that of a write: its name, and its version
 --     is_put_by             whether a resource is the one that a write puts; in delta also by its label
---     is_best               whether a resource is that of the best live write of its name
+--     is_best_as, is_best   whether a resource is that of the best live write of its name
 --     BreaksBestResources   P2: a response's resource isn't that of the best live write of its name
 --     StatesUncovered       P3: a response's resource isn't covered by the interest
 --     LacksAName            P4: a response of the state of the world, of a complete type
@@ -20,19 +20,20 @@
 --     AllKeep               no rule is broken at any of some lines, the last of which stands first
 --     NoneBroken            no rule is broken at any line of a trace
 --     FirstBroken           the first line of a trace at which a rule is broken, by its number from 1
-use Rattle.std.specs.Prelude.{◌≡◌, ◌<◌, ℕ, ◌+◌, List, [], ◌∷◌, ◌++◌, length, reverse, Bool, true, false, not, ◌&&◌, ◌||◌, Some, is_some, bytes_eq, codes, ⊤}
+use Rattle.std.specs.Prelude.{◌≡◌, ◌<◌, ℕ, ◌+◌, List, [], ◌∷◌, ◌++◌, length, reverse, Bool, true, false, not, ◌&&◌, ◌||◌, Option, Some, is_some, bytes_eq, codes, ⊤}
 use Rattle.std.specs.List.{list_any}
-use Rattle.std.specs.Option.{option_map_or}
+use Rattle.std.specs.Option.{option_map_or, option_and_then}
 use Rattle.xds_resource.specs.declared.types.TypeName.{TypeName}
 use Rattle.xds_resource.specs.Writes.{StampedWrite, version_of}
 use Rattle.xds_interest.specs.Interests.{has_name}
+use Rattle.xds_catalogue.specs.Content.{if_live}
 use Rattle.xds_ledger.specs.Variants.{is_whole}
 use Rattle.xds_check.specs.declared.line.Line.{Line}
 use Rattle.xds_check.specs.declared.line.Line.TheVariants as lines
 use Rattle.xds_check.specs.declared.rule.Rule.{Rule}
 use Rattle.xds_check.specs.declared.rule.Rule.TheVariants.{FreshNonce, BestResources, CoveredResources, WholeResponse, RightRemovals, OneAtATime, NothingRefusedAgain, NothingPending}
 use Rattle.xds_check.specs.Answers.{Label, Statement, Answer, stated_names}
-use Rattle.xds_check.specs.Lines.{live, is_used, is_covered, is_shown, sent, is_waiting, refused_offer, offer_at, is_pending, speaks_delta}
+use Rattle.xds_check.specs.Lines.{standing, live, is_used, is_covered, is_shown, sent, is_waiting, refused_offer, offer_at, is_pending, speaks_delta}
 
 -- the place of a rule among the eight
 abbrev pub place : Rule → ℕ
@@ -74,9 +75,14 @@ abbrev pub is_put_by : Statement → StampedWrite → Bool
 is_put_by x w = option_map_or (bytes_eq x.body) w.body false && option_map_or (is_label_of w) x.label true
 
 -- rule: best-writes
+-- whether a resource is that of the write that stands under its name, if there is one, and is live
+abbrev pub is_best_as : Statement → Option StampedWrite → Bool
+is_best_as x standing = option_map_or (is_put_by x) (option_and_then if_live standing) false
+
+-- rule: best-writes
 -- whether a resource is that of the best live write of its name
 abbrev pub is_best : TypeName → List Line → Statement → Bool
-is_best t earlier x = option_map_or (is_put_by x) (live t earlier x.name) false
+is_best t earlier x = is_best_as x (standing t earlier x.name)
 
 -- rule: best-writes
 -- P2: a response's resource isn't that of the best live write of its name

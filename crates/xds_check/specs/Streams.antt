@@ -1,9 +1,11 @@
 -- Which lists of lines make a trace: a stream is opened once, used only while it is open, and speaks one variant. In these
 -- definitions the line that came last stands first. This project's own.
 --     open_at             whether a line leaves the stream open; none where it neither opens nor closes it
---     open_on, is_open    whether the stream is open; none where it never was
+--     open_on             whether a stream is open; none where it never was
+--     is_open             whether a stream is open
 --     delta_at            whether a line is delta, if it is a message on the stream
---     delta_on, is_same   whether the stream is one of delta; none before its first message
+--     delta_on            whether a stream is one of delta; none before its first message
+--     is_same             whether two truth values are the same
 --     may_speak           whether a message may come on the stream: it is open, and of the message's variant
 --     may_follow          whether a line may stand behind these
 --     AllFollow           each of some lines may stand where it stands

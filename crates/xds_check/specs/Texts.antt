@@ -18,8 +18,10 @@
 --     IsLineOf                       a line of this form, of which this stands behind the first word
 --     IsRequestOf                    a request of the kind that a word tells, spelled by JSON
 --     IsResponseOf                   and so of a response
---     IsRequestWith, IsRequestOn     the line of such a request on a stream
---     IsResponseWith, IsResponseOn   and so of a response
+--     IsRequestWith                  the line of a request on a stream, whose kind and JSON are these texts
+--     IsRequestOn                    the line of a request on a stream, whose kind and JSON one text tells
+--     IsResponseWith                 the line of a response on a stream, whose kind and JSON are these texts
+--     IsResponseOn                   the line of a response on a stream, whose kind and JSON one text tells
 --     IsLineWith                     a line of the form that a word tells
 --     IsText                         a line that a text tells
 --     Says                           what a line's text says, which is UTF-8
@@ -31,7 +33,8 @@
 --     BeginsBadly                    the bytes from a line on begin with a bad one
 --     IsFirstBad                     the first bad line of some bytes has this number, from 1
 --     IsRefusedAt                    why the bytes of a trace are refused at a line
---     asking_json, answer_json       the JSON of a request, and of a response
+--     asking_json                    the JSON of a request
+--     answer_json                    the JSON of a response
 --     HasStream                      the stream of a line, if it has one, has a number that a stream may have
 --     spaced                         words, with a space between each two of them
 --     behind_text                    what is written behind the first word of a line

@@ -1,5 +1,6 @@
 -- What the checker tells of the lines of a trace. This project's own.
---     Found, found_of   what is told: a line by its number, and a rule
+--     Found             what is told: a line by its number, and a rule, or nothing
+--     found_of          what is told of a broken rule, if one is broken
 --     IsVerdict         the verdict on a trace
 --     TellsWell         a trace that keeps the rules is told to do so,
 --     TellsTheFirst     and of one that doesn't the first broken line is told, with the least rule there

@@ -1,7 +1,8 @@
 -- The words of a trace's line, with one space behind each. This project's own.
 --     space            a space
 --     cut              the text before the first space and the text behind it, where there is one
---     word_of, verbs   the first word of a line of each form
+--     word_of          the first word of a line of each form
+--     verbs            all forms of lines
 --     verb_of          the verb that is this word
 --     max_stream       the greatest number of a stream, 2 ^ 63 - 1
 --     IsStream         a stream's number

@@ -186,8 +186,8 @@ impl<T: ResourceType> Talk<T> {
         ensures { result ≡ is_stale self.now asking.now }
     {
         self.begun
-            && !asking.nonce().is_empty()
             && !self.unanswered.is_some()
+            && !asking.nonce().is_empty()
             && !self.is_last(asking.nonce())
     }
 

@@ -4,8 +4,11 @@
 --     Answer                           what a client is after a response, the response's nonce, whether it was refused
 --     answer_of                        an answer by its parts
 --     SotwAnswers                      the text spells a response, and this is what the client makes of it
---     SotwUnanswered, DeltaAnswers, DeltaUnanswered, AnswersText,
---     TextUnanswered                   the text is no JSON
+--     SotwUnanswered                   why a response of the state of the world isn't answered
+--     DeltaAnswers                     what a client answers a delta response
+--     DeltaUnanswered                  why a delta response isn't answered
+--     AnswersText                      what a client of either variant answers a text
+--     TextUnanswered                   why a client of either variant answers nothing
 --     Answers                          a frame of a response of the client's variant, and its answer
 --     IsUnanswered                     a frame of another kind, or one whose text isn't answered
 use Rattle.std.specs.Prelude.{◌≡◌, ◌⊎◌, ℕ, List, Bool, Ok, Err, is_some}

@@ -11,7 +11,8 @@
 --     IsNoConnection   why there is no connection
 --     IsUndialled  there is no connection, for this refusal, which is the answer, and nothing was printed
 --     unused       a device of which no call was made
---     RunsBetween, RunsOver  a client over this reader and this writer, which come back
+--     RunsBetween  a client over this reader and this writer, which come back
+--     RunsOver     the same by how it ended
 --     RunsBy       a client over what one call connected it to; or without a connection, for the refusal of this call
 use Rattle.std.specs.Prelude.{◌≡◌, ◌<◌, ◌≤◌, ◌+◌, ◌⊎◌, ℕ, List, [], ◌++◌, length, Option, Some, None, Result, Ok, Err}
 use Rattle.std.specs.Io.KnownBytes.{Consumes}

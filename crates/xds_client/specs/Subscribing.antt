@@ -1,13 +1,19 @@
 -- A client that subscribes to names of one type, and what it says first on a stream. The requests are those of discovery.proto; the rest
 -- is this project's own.
 --     node_id                          what a client of the program says of itself
---     names_of, request_kind, response_kind, sotw_text, delta_text  the names, as texts
+--     names_of                         the names, as texts
+--     request_kind                     the kind of a frame with a request of the variant
+--     response_kind                    the kind of a frame with a response of the variant
+--     sotw_text                        the text of a request of the state of the world
+--     delta_text                       the text of a delta request
 --     asking                           the frame of a request with this text
 --     Fits                             the text isn't longer than a frame's may be
 --     asked                            requests with these texts, one after another
 --     wanting                          a new client that wants the names, and has no stream
 --     begun                            that client on its stream
---     first_texts, first_client, opening_texts  the texts of its first requests
+--     first_texts                      the texts of a client's first requests
+--     first_client                     the client once it sent its first requests
+--     opening_texts                    the texts of the first requests of a subscription
 --     opening                          what it says first
 --     OpeningFits                      all of it fits into frames
 use Rattle.std.specs.Prelude.{ℕ, List, [], map, codes, string_bytes, All, false}

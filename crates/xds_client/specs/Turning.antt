@@ -1,5 +1,6 @@
 -- The turns by which a client's stream is served: each answers a response or reads a piece. This project's own.
---     variant_of, client_of   the variant of a client's stream, and the client
+--     variant_of              the variant of a client's stream
+--     client_of               the client on a stream of either variant
 --     devices                 the devices of a client's stream
 --     longest_piece           as many bytes as a piece has at most
 --     left_to_do              what is left to be done by a reader that was called so often

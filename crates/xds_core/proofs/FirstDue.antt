@@ -1,7 +1,8 @@
 -- Polls of one type, and of all.
-use Rattle.std.proofs.Common.{◌≡◌, ℕ, [], ◌∷◌, Option, Some, None, Result, Ok, refl, sym, ap, subst, ◌∙◌}
-use Rattle.std.specs.Prelude.{if◌then◌else◌, is_some, IfErr}
+use Rattle.std.proofs.Common.{◌≡◌, ℕ, ◌+◌, ◌<◌, ◌≤◌, List, [], ◌∷◌, drop, length, get_or, true, false, Option, Some, None, Result, Ok, Err, refl, sym, ap, subst, ◌∙◌}
+use Rattle.std.specs.Prelude.{if◌then◌else◌, is_some, IsSome, IfOk, IfErr}
 use Rattle.std.specs.Option.{option_map_or}
+use Rattle.std.proofs.lemmas.List.{drop_more, drop_all}
 use Rattle.xds_resource.specs.declared.types.TypeName.{TypeName}
 use Rattle.xds_resource.specs.declared.refusal.Refusal.{Refusal}
 use Rattle.xds_resource.specs.declared.refusal.Refusal.TheVariants.{OutOfMemory}
@@ -9,7 +10,7 @@ use Rattle.xds_resource.specs.Refusals.{Gives}
 use Rattle.xds_message.specs.declared.draft.Draft.{Draft}
 use Rattle.xds_ledger.specs.Offers.{Offer}
 use Rattle.xds_core.specs.Stores.{Store}
-use Rattle.xds_core.specs.Streams.{Stream, IsToRespond, opening, looked_at, to_send, responding, polled, polled_first}
+use Rattle.xds_core.specs.Streams.{Stream, IsToRespond, opening, looked_at, to_send, first_due, responding, polled, polled_first}
 
 alone : (replica : ℕ) (store : Store) (s : Stream) (t : TypeName) (q : Option Offer) → option_map_or (λ u. option_map_or (responding replica store s u) (to_send store s u) (Ok (None, s))) (if is_some q then Some t else None) (Ok (None, s)) ≡ (if is_some q then polled replica store s t else Ok (None, s))
 alone replica store s t None = refl
@@ -42,8 +43,74 @@ polled_by replica held kind r result left after before self is leaves begins giv
 pub polled_opening : (replica : ℕ) (held : Store) (kind : TypeName) (result : Result (Option Draft) Refusal) (left self : Stream) → result ≡ Ok None → left ≡ opening → opening ≡ self → Gives (λ o. (o, left)) result (polled replica held self kind)
 polled_opening replica held kind result left self is leaves begins = polled_by replica held kind (Ok None) result left opening opening self is leaves begins refl
 
+-- whether there is a response
+pub sent_by : {X : Type 0} (held : Store) (kind : TypeName) (r result : Result (Option X) Refusal) (before self : Stream) → result ≡ r → before ≡ self → IfOk r (λ o. is_some o ≡ is_some (to_send held before kind))
+    → IfOk result (λ o. is_some o ≡ is_some (to_send held self kind))
+sent_by held kind r result before self is begins sent =
+    subst (λ x. IfOk x (λ o. is_some o ≡ is_some (to_send held self kind))) (sym is) (subst (λ b. IfOk r (λ o. is_some o ≡ is_some (to_send held b kind))) begins sent)
+
 -- where memory ends
 pub short_by : {X : Type 0} (held : Store) (kind : TypeName) (r result : Result X Refusal) (before self : Stream) → result ≡ r → before ≡ self → IfErr r (λ e. e ≡ OutOfMemory → IsToRespond held before (kind ∷ []))
     → IfErr result (λ e. e ≡ OutOfMemory → IsToRespond held self (kind ∷ []))
 short_by held kind r result before self is begins short =
     subst (λ x. IfErr x (λ e. e ≡ OutOfMemory → IsToRespond held self (kind ∷ []))) (sym is) (subst (λ b. IfErr r (λ e. e ≡ OutOfMemory → IsToRespond held b (kind ∷ []))) begins short)
+
+-- ---- one type after another
+
+next_one : (ts : List TypeName) (i : ℕ) (t d : TypeName) → i < length ts → t ≡ get_or ts i d → drop i ts ≡ t ∷ drop (i + 1) ts
+next_one ts i t d within is = drop_more ts i d within ∙ ap (λ y. y ∷ drop (i + 1) ts) (sym is)
+
+module _ (store : Store) (s : Stream) (ts : List TypeName) (i : ℕ) (t d : TypeName) (end : Option TypeName) (within : i < length ts) (is : t ≡ get_or ts i d) (before : first_due store s (drop i ts) ≡ end) where
+  due_if : end ≡ (if is_some (to_send store s t) then Some t else first_due store s (drop (i + 1) ts))
+  due_if = sym before ∙ ap (first_due store s) (next_one ts i t d within is)
+
+  -- a type that has nothing to send is passed over
+  pub due_later : is_some (to_send store s t) ≡ false → first_due store s (drop (i + 1) ts) ≡ end
+  due_later none = sym (due_if ∙ ap (λ b. if b then Some t else first_due store s (drop (i + 1) ts)) none)
+
+  -- one that has something to send is the first
+  pub due_here : is_some (to_send store s t) ≡ true → end ≡ Some t
+  due_here due = due_if ∙ ap (λ b. if b then Some t else first_due store s (drop (i + 1) ts)) due
+
+-- no type has anything to send
+pub due_none : (store : Store) (s : Stream) (ts : List TypeName) (i : ℕ) (end : Option TypeName) → length ts ≤ i → first_due store s (drop i ts) ≡ end → end ≡ None
+due_none store s ts i end all before = sym before ∙ ap (first_due store s) (drop_all i ts all)
+
+-- what a poll of the first type that has something to send gives is what a poll of all does
+pub first_gives : (replica : ℕ) (store : Store) (s : Stream) (ts : List TypeName) (t : TypeName) → first_due store s ts ≡ Some t → polled_first replica store s ts ≡ polled replica store s t
+first_gives replica store s ts t is = ap (λ o. option_map_or (polled replica store s) o (Ok (None, s))) is
+
+pub none_gives : (replica : ℕ) (store : Store) (s : Stream) (ts : List TypeName) → first_due store s ts ≡ None → polled_first replica store s ts ≡ Ok (None, s)
+none_gives replica store s ts is = ap (λ o. option_map_or (polled replica store s) o (Ok (None, s))) is
+
+-- where nothing is to be sent, a poll leaves the stream
+
+abbrev left_or : Stream → Result (Option Draft × Stream) Refusal → Stream
+left_or k (Ok p) = p.1
+left_or k (Err e) = k
+
+silent_at : (replica : ℕ) (store : Store) (s : Stream) (t : TypeName) (o : Option Offer) (q : Option Draft) (left : Stream) → is_some o ≡ false → option_map_or (responding replica store s t) o (Ok (None, s)) ≡ Ok (q, left) → left ≡ s
+silent_at replica store s t None q left none is = sym (ap (left_or s) is)
+silent_at replica store s t (Some o) q left none is = absurd cc
+
+pub silent_left : (replica : ℕ) (store : Store) (s : Stream) (t : TypeName) (q : Option Draft) (left : Stream) → is_some (to_send store s t) ≡ false → polled replica store s t ≡ Ok (q, left) → left ≡ s
+silent_left replica store s t q left none is = silent_at replica store s t (to_send store s t) q left none is
+
+-- where a poll of a type is refused, the type has something to send
+
+refused_if : (replica : ℕ) (store : Store) (s : Stream) (t : TypeName) (e : Refusal) (q : Option Offer) → option_map_or (responding replica store s t) q (Ok (None, s)) ≡ Err e → is_some q ≡ true
+refused_if replica store s t e None is = absurd cc
+refused_if replica store s t e (Some o) is = refl
+
+pub refused_due : (replica : ℕ) (store : Store) (s : Stream) (t : TypeName) (e : Refusal) → polled replica store s t ≡ Err e → is_some (to_send store s t) ≡ true
+refused_due replica store s t e is = refused_if replica store s t e (to_send store s t) is
+
+short_if : (t : TypeName) (q : Option Offer) → IsSome (if is_some q then Some t else None) → is_some q ≡ true
+short_if t None due = due
+short_if t (Some o) due = refl
+
+pub short_due : (store : Store) (s : Stream) (t : TypeName) → IsToRespond store s (t ∷ []) → is_some (to_send store s t) ≡ true
+short_due store s t short = short_if t (to_send store s t) short.0
+
+pub short_first : (store : Store) (s : Stream) (ts : List TypeName) (t : TypeName) → first_due store s ts ≡ Some t → IsToRespond store s (t ∷ []) → IsToRespond store s ts
+short_first store s ts t is short = (subst IsSome (sym is) refl, short.1)

@@ -4,7 +4,6 @@ pub mod Polling
 pub mod FirstDue
 pub mod StreamsFitting
 mod Sides
-pub mod Twice
 pub mod StreamSteps
 pub mod StepLaws
 pub mod Twins

@@ -14,9 +14,28 @@ use Rattle.xds_ledger.specs.Offers.{Offer, offer}
 use Rattle.xds_catalogue.specs.Holdings.{Holdings}
 use Rattle.xds_ledger.specs.Lists.{Kept, SessionFits, StaysFit}
 use Rattle.xds_ledger.specs.Sessions.{unopened, send}
+use Rattle.xds_message.specs.declared.draft.Draft.{Draft}
+use Rattle.xds_ledger.proofs.Polling.{next_offer}
 use Rattle.xds_ledger.proofs.Keeping.{later_session_fits, new_kept_fits, sent_fits}
 use Rattle.xds_core.specs.Stores.{Store}
-use Rattle.xds_core.specs.Talks.{Spoken, Talk, Listing, begun, sent_at, kept_at, ListingFits, TalkStaysFit, Followed, followed_opening, followed_of, StreamFits, StreamStaysFit}
+use Rattle.xds_core.specs.declared.talk.Talk.TheInside as in_talk
+use Rattle.xds_core.specs.declared.catalogues.Catalogues.TheInside as in_catalogues
+use Rattle.xds_core.specs.Talks.{Spoken, Talk, Listing, begun, drafted, IsNextOf, sent_at, kept_at, ListingFits, TalkStaysFit, Followed, followed_opening, followed_of, StreamFits, StreamStaysFit}
+
+-- what a method sees within a stream, and within what is held
+
+abbrev pub listing_in : in_talk.Inside → Listing
+listing_in i = record {
+  talk = record { variant = i.variant; count = i.nonces; sessions = record { cluster = i.cluster.kept.session; endpoint = i.endpoint.kept.session; listener = i.listener.kept.session; route = i.route.kept.session; secret = i.secret.kept.session } };
+  lists = record { cluster = i.cluster.kept.listed; endpoint = i.endpoint.kept.listed; listener = i.listener.kept.listed; route = i.route.kept.listed; secret = i.secret.kept.listed };
+}
+
+abbrev pub store_in : in_catalogues.Inside → Store
+store_in i = record { cluster = i.cluster; endpoint = i.endpoint; listener = i.listener; route = i.route; secret = i.secret }
+
+-- with this session of a type
+abbrev pub with_kept : Listing → TypeName → Kept → Listing
+with_kept l t k = record { talk = record l.talk { sessions = with_at l.talk.sessions t k.session }; lists = with_at l.lists t k.listed }
 
 -- a session of a stream that suffices, as a method sees it
 pub fits_at : (store held : Store) (l now : Listing) (t : TypeName) (v : VariantName) → store ≡ held → l ≡ now → v ≡ l.talk.variant → ListingFits held now → SessionFits v t (at store t) (kept_at l t)
@@ -50,18 +69,16 @@ pub taken_fits : (l after : Listing) (t : TypeName) (k : Kept) → after.talk.va
 taken_fits l after t k speaks sessions lists stays store fits = placed_fits store l after t k speaks sessions lists (stays (at store t) (fits t)) fits
 
 -- what the call of one session leaves of a stream, as a method sees it
-pub arm_placed : (store held : Store) (l after now : Listing) (t : TypeName) (v : VariantName) (k : Kept) → store ≡ held → l ≡ now → v ≡ l.talk.variant → after.talk.variant ≡ l.talk.variant → after.talk.sessions ≡ with_at l.talk.sessions t k.session
-    → after.lists ≡ with_at l.lists t k.listed → SessionFits v t (at store t) k → ListingFits held now → ListingFits held after
-arm_placed store held l after now t v k holds begins speaks same sessions lists here there =
-    subst (λ h. ListingFits h after) holds
-    (placed_fits store l after t k same sessions lists (subst (λ w. SessionFits w t (at store t) k) speaks here)
+pub arm_placed : (store held : Store) (l now : Listing) (t : TypeName) (v : VariantName) (k : Kept) → store ≡ held → l ≡ now → v ≡ l.talk.variant → SessionFits v t (at store t) k → ListingFits held now → ListingFits held (with_kept l t k)
+arm_placed store held l now t v k holds begins speaks here there =
+    subst (λ h. ListingFits h (with_kept l t k)) holds
+    (placed_fits store l (with_kept l t k) t k refl refl refl (subst (λ w. SessionFits w t (at store t) k) speaks here)
     (subst (ListingFits store) (sym begins) (subst (λ h. ListingFits h now) (sym holds) there)))
 
-pub arm_taken : {X : Type 0} (l after now : Listing) (t : TypeName) (v : VariantName) (k : Kept) (r : Result X Refusal) → l ≡ now → v ≡ l.talk.variant → after.talk.variant ≡ l.talk.variant → after.talk.sessions ≡ with_at l.talk.sessions t k.session
-    → after.lists ≡ with_at l.lists t k.listed → OnOk r (StaysFit v t (kept_at l t) k) → OnOk r (TalkStaysFit now after)
-arm_taken l after now t v k (Ok x) begins speaks same sessions lists stays =
-    subst (λ (b : Listing). TalkStaysFit b after) begins (taken_fits l after t k same sessions lists (subst (λ w. StaysFit w t (kept_at l t) k) speaks stays))
-arm_taken l after now t v k (Err e) begins speaks same sessions lists stays = stays
+pub arm_taken : {X : Type 0} (l now : Listing) (t : TypeName) (v : VariantName) (k : Kept) (r : Result X Refusal) → l ≡ now → v ≡ l.talk.variant → OnOk r (StaysFit v t (kept_at l t) k) → OnOk r (TalkStaysFit now (with_kept l t k))
+arm_taken l now t v k (Ok x) begins speaks stays =
+    subst (λ (b : Listing). TalkStaysFit b (with_kept l t k)) begins (taken_fits l (with_kept l t k) t k refl refl refl (subst (λ w. StaysFit w t (kept_at l t) k) speaks stays))
+arm_taken l now t v k (Err e) begins speaks stays = stays
 
 sent_by : (store : Store) (v : VariantName) (l : Listing) (t : TypeName) (o : Offer) (n : ℕ) (s : TypeName) → o ≡ offer v t (kept_at l t).session.asked.interest (at store t).entries (kept_at l t).session.account.beliefs
     → ((u : TypeName) → SessionFits v u (at store u) (kept_at l u)) → ((s ≡ t) × (is_same_type s t ≡ true)) ⊎ ((s ≢ t) × (is_same_type s t ≡ false))
@@ -76,12 +93,14 @@ sent_by store v l t o n s is there (inr other) =
     subst (λ x. SessionFits v s (at store s) (record { session = x; listed = at (with_at l.lists t (with_sending (at l.lists t))) s })) (sym (at-with_at_other l.talk.sessions t (send (at l.talk.sessions t) o n) s other.0))
     (subst (λ x. SessionFits v s (at store s) (record { session = at l.talk.sessions s; listed = x })) (sym (at-with_at_other l.lists t (with_sending (at l.lists t)) s other.0)) (there s))
 
--- once a response of one type was sent that says what is to be said
-pub sent_listing_fits : (store : Store) (l after : Listing) (t : TypeName) (o : Offer) (n : ℕ) → after.talk ≡ sent_at l.talk t o n → after.lists ≡ with_at l.lists t (with_sending (at l.lists t))
-    → o ≡ offer l.talk.variant t (kept_at l t).session.asked.interest (at store t).entries (kept_at l t).session.account.beliefs → ListingFits store l → ListingFits store after
-sent_listing_fits store l after t o n sent lists is fits s =
+-- once a response of one type was sent that was to be sent
+pub sent_listing_fits : (replica : ℕ) (store : Store) (l after now : Listing) (t : TypeName) (o : Offer) (d : Draft) (n : ℕ) → l.talk ≡ now.talk → after.talk ≡ sent_at l.talk t o n → after.lists ≡ with_at l.lists t (with_sending (at l.lists t))
+    → IsNextOf replica store now.talk t (Some (o, d, n)) → ListingFits store l → ListingFits store after
+sent_listing_fits replica store l after now t o d n same sent lists is fits s =
+    let next : IsNextOf replica store l.talk t (Some (o, d, n)) = subst (λ (x : Talk). IsNextOf replica store x t (Some (o, d, n))) (sym same) is in
+    let offers = next_offer l.talk.variant t (at store t).entries (drafted replica t (at store t) (at l.talk.sessions t).asked.interest l.talk.variant) (at l.talk.sessions t) l.talk.count o d n next in
     subst (λ (x : Talk). SessionFits x.variant s (at store s) (record { session = at x.sessions s; listed = at after.lists s })) (sym sent)
-    (subst (λ x. SessionFits l.talk.variant s (at store s) (record { session = at (with_at l.talk.sessions t (send (at l.talk.sessions t) o n)) s; listed = at x s })) (sym lists) (sent_by store l.talk.variant l t o n s is fits (same_type s t)))
+    (subst (λ x. SessionFits l.talk.variant s (at store s) (record { session = at (with_at l.talk.sessions t (send (at l.talk.sessions t) o n)) s; listed = at x s })) (sym lists) (sent_by store l.talk.variant l t o n s offers fits (same_type s t)))
 
 -- before the first request of each type
 pub begun_fits : (store : Store) (v : VariantName) (cluster : List ℕ) → ListingFits store (record { talk = begun v cluster; lists = each unlisted })

@@ -19,25 +19,45 @@ use Rattle.xds_core.specs.Twice.{is_light, poll_in, IsShortBeside}
 
 -- ---- from the first of two replies
 
-pub first_gives : {Y : Type 0} (view : declared.Reply → Y) (r : Result (declared.Reply × declared.Reply) Refusal) (answer : Result Y Refusal) → Gives view (if_done (λ p. p.0) r) answer → Gives (λ p. view p.0) r answer
+pub first_gives : {Y T : Type 0} (view : declared.Reply → Y) (r : Result (declared.Reply × T) Refusal) (answer : Result Y Refusal) → Gives view (if_done (λ p. p.0) r) answer → Gives (λ p. view p.0) r answer
 first_gives view (Ok p) answer gives = gives
 first_gives view (Err e) answer gives = gives
 
-pub first_short : (P : Refusal → Type 0) (r : Result (declared.Reply × declared.Reply) Refusal) → IfErr (if_done (λ p. p.0) r) P → IfErr r P
+pub first_short : {T : Type 0} (P : Refusal → Type 0) (r : Result (declared.Reply × T) Refusal) → IfErr (if_done (λ p. p.0) r) P → IfErr r P
 first_short P (Ok p) short = tt
 first_short P (Err e) short = short
 
-pub first_kept : (P : Type 0) (r : Result (declared.Reply × declared.Reply) Refusal) → OnErr (if_done (λ p. p.0) r) P → OnErr r P
+pub first_kept : {T : Type 0} (P : Type 0) (r : Result (declared.Reply × T) Refusal) → OnErr (if_done (λ p. p.0) r) P → OnErr r P
 first_kept P (Ok p) kept = tt
 first_kept P (Err e) kept = kept
 
-pub firsts_short : {D : Type 0} (P : Refusal → Type 0) (r : Result (Option (D × D)) Refusal) → IfErr r P → IfErr (firsts r) P
+pub firsts_short : {D T : Type 0} (P : Refusal → Type 0) (r : Result (Option (D × T)) Refusal) → IfErr r P → IfErr (firsts r) P
 firsts_short P (Ok o) short = tt
 firsts_short P (Err e) short = short
 
-pub firsts_kept : {D : Type 0} (P : Type 0) (r : Result (Option (D × D)) Refusal) → OnErr r P → OnErr (firsts r) P
+pub firsts_kept : {D T : Type 0} (P : Type 0) (r : Result (Option (D × T)) Refusal) → OnErr r P → OnErr (firsts r) P
 firsts_kept P (Ok o) kept = tt
 firsts_kept P (Err e) kept = kept
+
+-- what holds of drafts holds of the reply
+
+pub done_short : {D T Y : Type 0} (reply : Option D → Y) (P : Refusal → Type 0) (r : Result (Option (D × T)) Refusal) → IfErr r P → IfErr (if_done reply (firsts r)) P
+done_short reply P (Ok o) short = tt
+done_short reply P (Err e) short = short
+
+pub done_kept : {D T Y : Type 0} (reply : Option D → Y) (P : Type 0) (r : Result (Option (D × T)) Refusal) → OnErr r P → OnErr (if_done reply (firsts r)) P
+done_kept reply P (Ok o) kept = tt
+done_kept reply P (Err e) kept = kept
+
+-- and the other way
+
+pub undone_short : {D T Y : Type 0} (reply : Option D → Y) (P : Refusal → Type 0) (r : Result (Option (D × T)) Refusal) → IfErr (if_done reply (firsts r)) P → IfErr r P
+undone_short reply P (Ok o) short = tt
+undone_short reply P (Err e) short = short
+
+pub undone_kept : {D T Y : Type 0} (reply : Option D → Y) (P : Type 0) (r : Result (Option (D × T)) Refusal) → OnErr (if_done reply (firsts r)) P → OnErr r P
+undone_kept reply P (Ok o) kept = tt
+undone_kept reply P (Err e) kept = kept
 
 -- ---- an event that is a poll
 

@@ -1,5 +1,6 @@
 -- What happens at a replica, and what it answers. This project's own.
---     Event, Reply   streams go by their numbers; a poll or a look at what is owed is of one type, or of all
+--     Event                    what may happen at a replica; a poll or a look at what is owed is of one type, or of all
+--     Reply                    what an event is answered
 use Rattle.std.specs.Prelude.{ℕ, List, Bool, Option}
 use Rattle.xds_resource.specs.declared.types.TypeName.{TypeName}
 use Rattle.xds_resource.specs.PerType.{PerType}

@@ -9,7 +9,8 @@
 --     OnlyWritesChangeTheStore         only Put, Delete and Merge change what is held
 --     NumberStays                      a replica keeps its number
 --     CountersNeverFall                the greatest counter that is held of a type never falls
---     OwnCountersRise, OwnDeletionsRise  the counter of an own write is above all that are held of its type
+--     OwnCountersRise                  the counter of an own put is above all that are held of its type
+--     OwnDeletionsRise                 the counter of an own deletion is above all that are held of its type
 use Rattle.std.specs.Prelude.{◌≡◌, ◌≢◌, ℕ, ◌+◌, ◌≤◌, List, ◌++◌, map, Bool, true, false, Option, Some, None, Ok, Err}
 use Rattle.std.specs.FinMap as finmap
 use Rattle.xds_resource.specs.declared.types.TypeName.{TypeName}

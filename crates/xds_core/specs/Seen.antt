@@ -1,5 +1,7 @@
 -- How the values of the program are seen as events, replies and records. This project's own.
---     event_of, reply_of, answer_of   an event, a reply and an answer, as the definitions have them
+--     event_of                        an event, as the definitions have it
+--     reply_of                        a reply, as the definitions have it
+--     answer_of                       an answer, as the definitions have it
 --     record_of                       a record, as the definitions have it
 use Rattle.std.specs.Prelude.{map, string_bytes, Result, Ok, Err}
 use Rattle.xds_resource.specs.Any.{resource_type, named_body}

@@ -1,7 +1,7 @@
 -- How a session of the program is seen, in either variant. This project's own.
 --     spoken_of   a session, with its variant
 --     firsts      the first of two, where there are two
---     tagged      a response of one variant as one of either
+--     tagged      a response of one variant, with what stands beside it, as one of either
 use Rattle.std.specs.Prelude.{Option, option_map, Result, Ok, Err}
 use Rattle.xds_message.specs.declared.draft.Draft.{Draft}
 use Rattle.xds_ledger.specs.declared.variant.VariantName.TheVariants as variants
@@ -14,11 +14,11 @@ spoken_of (sides.Sotw session) = record { variant = variants.StateOfTheWorld; ke
 spoken_of (sides.Delta session) = record { variant = variants.Delta; kept = session }
 
 -- the first of two, where there are two
-abbrev pub firsts : {D E : Type 0} → Result (Option (D × D)) E → Result (Option D) E
+abbrev pub firsts : {D T E : Type 0} → Result (Option (D × T)) E → Result (Option D) E
 firsts (Ok o) = Ok (option_map (λ p. p.0) o)
 firsts (Err e) = Err e
 
--- a response of one variant as one of either
-abbrev pub tagged : {D E : Type 0} → (D → Draft) → Result (Option D) E → Result (Option Draft) E
-tagged tag (Ok d) = Ok (option_map tag d)
+-- a response of one variant, with what stands beside it, as one of either
+abbrev pub tagged : {A B D E : Type 0} → (D → Draft) → Result (Option (A × D × B)) E → Result (Option (A × Draft × B)) E
+tagged tag (Ok d) = Ok (option_map (λ p. (p.0, tag p.1, p.2)) d)
 tagged tag (Err e) = Err e

@@ -6,9 +6,12 @@
 --     with_stream               with what a stream is then
 --     on_stream                 what f makes of an open stream
 --     opening_step              a stream opens: it answers the stream's number, and what is left
---     stream_step, close_step   what a stream answers, and what is left
---     write_step, merge_step    a write of this replica
---     rested, step              what a client is answered that polls without a stream
+--     stream_step               the step of an event that changes one stream
+--     close_step                the step that closes a stream
+--     write_step                the step of an own write
+--     merge_step                the step that merges a batch
+--     rested                    what a client is answered that polls without a stream
+--     step                      what an event is answered and leaves, or why it is refused
 use Rattle.std.specs.Prelude.{ℕ, ◌+◌, ◌==◌, List, [], ◌∷◌, Option, Result, Ok, Err, refl}
 use Rattle.std.specs.Coded.{Coded, code_by, coded×, coded_ℕ}
 use Rattle.std.specs.Ordering.{nat_cmp}

@@ -1,11 +1,18 @@
 -- What a replica keeps of a stream: its variant, once the first request decided it, how many responses were sent on it, and a
 -- session of each type. A type that wasn't asked for has a session before its first request. The protocol is that of
 -- Envoy's "xDS REST and gRPC protocol"; the variant of a stream, and its cluster text, are this project's own.
---     Stream, variant_flag, flagged_variant, flagged_again,
---     variant_code, stream_code        a stream: its variant
+--     Stream                           a stream: its variant, the count of its responses, a session of each type
+--     variant_flag                     a variant as a flag
+--     flagged_variant                  the variant of a flag
+--     flagged_again, variant_code      a variant is that of its flag
+--     stream_code                      a stream: its variant
 --     opening                          before the first request
---     Message, variant_of, url_of, nonce_of  a request of either variant
---     cluster_in, cluster_of           the cluster text of the node in a request, if there is one
+--     Message                          a request of either variant
+--     variant_of                       the variant of a request
+--     url_of                           the type URL of a request
+--     nonce_of                         the nonce of a request
+--     cluster_in                       the cluster text of a node, empty where there is none
+--     cluster_of                       the cluster text of the node in a request, empty where there is none
 --     is_same_variant                  whether two variants are the same
 --     is_foreign                       whether a request isn't of the stream's variant
 --     session_after                    the session of a type after a request

@@ -3,7 +3,8 @@
 --     drafted                          a response of the variant with this offer, to a client of this interest
 --     Talk, talk_code                  a stream whose variant is decided
 --     begun                            before the first request of a type is taken, in a variant
---     offer_at                         what a response of a type would offer now, be one to be sent or not
+--     IsNextOf                         what a poll of a type has to send, with its offer and its number
+--     IsHeldUp                         why a poll of a type is refused
 --     sent_at                          once a response of a type with this offer was sent, as the one of this number
 --     with_session                     with this session of a type
 --     stream_in                        the stream whose variant is decided
@@ -12,25 +13,31 @@
 --     kept_at                          a session of such a stream, with its list
 --     ListingFits                      each list suffices, by what a replica holds
 --     TalkStaysFit                     wherever the lists sufficed, they suffice
---     Followed, followed_code, followed_opening, followed_of  a stream, be it decided or not, with a list of each type
+--     Followed                         a stream, be its variant decided or not, with a list of each type
+--     followed_code                    the code of such a stream
+--     followed_opening                 a stream before its first request, with empty lists
+--     followed_of                      such a stream, from its listing if its variant is decided
 --     StreamFits                       once the variant is decided, the list of each type suffices
 --     StreamStaysFit                   wherever the lists of a stream sufficed, they suffice
-use Rattle.std.specs.Prelude.{◌≡◌, ℕ, List, Option, Some, None, refl}
+use Rattle.std.specs.Prelude.{◌≡◌, ◌⊎◌, ◌<◌, ℕ, List, Option, Some, None, IsSome, refl}
 use Rattle.std.specs.Coded.{Coded, code_by, coded×, coded_ℕ}
 use Rattle.xds_resource.specs.declared.types.TypeName.{TypeName}
+use Rattle.xds_resource.specs.declared.refusal.Refusal.{Refusal}
+use Rattle.xds_resource.specs.declared.refusal.Refusal.TheVariants.{NonceSpent, OutOfMemory}
+use Rattle.xds_resource.specs.Stamps.{max_counter}
 use Rattle.xds_resource.specs.PerType.{PerType, per_type_code, at, each, with_at}
 use Rattle.xds_interest.specs.Interests.{Selection}
 use Rattle.xds_catalogue.specs.Holdings.{Holdings}
 use Rattle.xds_message.specs.declared.draft.Draft.{Draft}
 use Rattle.xds_message.specs.declared.draft.Draft.TheVariants as drafts
-use Rattle.xds_ledger.specs.Offers.{Offer, offer}
+use Rattle.xds_ledger.specs.Offers.{Offer}
 use Rattle.xds_ledger.specs.declared.variant.VariantName.{VariantName}
 use Rattle.xds_ledger.specs.declared.variant.VariantName.TheVariants as variants
 use Rattle.xds_sessions.specs.SotwPolls as sotw
 use Rattle.xds_sessions.specs.DeltaPolls as delta
 use Rattle.xds_ledger.specs.Listed.{Listed, listed_code, unlisted}
 use Rattle.xds_ledger.specs.Lists.{Kept, kept_code, SessionFits}
-use Rattle.xds_ledger.specs.Sessions.{Session, session_code, unopened, send}
+use Rattle.xds_ledger.specs.Sessions.{Session, session_code, unopened, send, sending, IsNext}
 use Rattle.xds_core.specs.Stores.{Store}
 use Rattle.xds_core.specs.Streams.{Stream, stream_code, variant_code, opening}
 
@@ -62,9 +69,15 @@ talk_code =
 abbrev pub begun : VariantName → List ℕ → Talk
 begun v cluster = record { variant = v; count = 0; sessions = each (unopened cluster) }
 
--- what a response of a type would offer now, be one to be sent or not
-abbrev pub offer_at : Store → Talk → TypeName → Offer
-offer_at store t kind = offer t.variant kind (at t.sessions kind).asked.interest (at store kind).entries (at t.sessions kind).account.beliefs
+-- what a poll of a type has to send, with its offer and its number, if there is a response to send
+abbrev pub IsNextOf : ℕ → Store → Talk → TypeName → Option (Offer × Draft × ℕ) → Type 0
+IsNextOf replica store t kind next =
+    IsNext t.variant kind (at store kind).entries (drafted replica kind (at store kind) (at t.sessions kind).asked.interest t.variant) (at t.sessions kind) t.count next
+
+-- Why a poll of a type is refused: it has a response to send, and the stream has no number left, or else there is no memory.
+abbrev pub IsHeldUp : Store → Talk → TypeName → Refusal → Type 0
+IsHeldUp store t kind e =
+    IsSome (sending t.variant kind (at t.sessions kind) (at store kind).entries) × (((e ≡ NonceSpent) × (t.count ≡ max_counter)) ⊎ ((e ≡ OutOfMemory) × (t.count < max_counter)))
 
 -- once a response of a type with this offer was sent, as the one of this number
 abbrev pub sent_at : Talk → TypeName → Offer → ℕ → Talk

@@ -1,5 +1,5 @@
 // A replica's state, and its one step.
-ghost use Rattle.std.specs.Prelude.{◌≡◌, ◌≤◌, ℕ, [], map, string_bytes, Some, None, is_some, option_map, Ok, Err, All, IsOk, IfSome, IfOk, IfErr, OnErr};
+ghost use Rattle.std.specs.Prelude.{◌≡◌, ◌≤◌, ℕ, [], map, string_bytes, if◌then◌else◌, Some, None, is_some, option_map, Ok, Err, All, IsOk, IfSome, IfOk, IfErr, OnErr};
 ghost use Rattle.std.specs.FinMap as finmap;
 ghost use Rattle.xds_resource.specs.Any.{resource_type, named_body, write_type, stamped_write};
 ghost use Rattle.xds_resource.specs.PerType.{at, each, with_at};
@@ -181,39 +181,6 @@ impl Core {
         self.merge(batch)
     }
 
-    fn poll_twice(
-        &mut self,
-        number: u64,
-        which: Option<TypeName>,
-    ) -> Result<(Reply, Reply), Refusal>
-        ensures steps { Gives (λ p. (reply_of p.0, self.new)) result (step self.old (events.Poll number which)) }
-        ensures twin { IfOk result (λ p. reply_of p.1 ≡ reply_of p.0) }
-        ensures memory { IfErr result (λ e. e ≡ OutOfMemory → IsShort self.old (events.Poll number which)) }
-        ensures err { OnErr result (self.new ≡ self.old) }
-    {
-        self.share(number);
-        self.poll_shared_twice(number, which)
-    }
-
-    // The same once what clients share was made.
-    fn poll_shared_twice(
-        &mut self,
-        number: u64,
-        which: Option<TypeName>,
-    ) -> Result<(Reply, Reply), Refusal>
-        ensures steps { Gives (λ p. (reply_of p.0, self.new)) result (step self.old (events.Poll number which)) }
-        ensures twin { IfOk result (λ p. reply_of p.1 ≡ reply_of p.0) }
-        ensures memory { IfErr result (λ e. e ≡ OutOfMemory → IsShort self.old (events.Poll number which)) }
-        ensures err { OnErr result (self.new ≡ self.old) }
-    {
-        let Some(mut stream) = self.streams.replace(number, Stream::opening()) else {
-            return Err(Refusal::NoStream);
-        };
-        let drafts = stream.poll_twice(self.alloc, self.replica, &self.held, which);
-        self.streams.set(number, stream);
-        polled_twice(drafts)
-    }
-
     fn open(&mut self) -> Result<Reply, Refusal>
         ensures steps { Gives (λ r. (reply_of r, self.new)) result (step self.old events.Open) }
         ensures memory { IfErr result (λ e. e ≡ OutOfMemory → IsShort self.old events.Open) }
@@ -256,22 +223,58 @@ impl Core {
         ensures memory { IfErr result (λ e. e ≡ OutOfMemory → IsShort self.old (events.Poll number which)) }
         ensures err { OnErr result (self.new ≡ self.old) }
     {
+        let drafts = self.poll_stream(number, which, false);
+        polled(drafts)
+    }
+
+    fn poll_twice(
+        &mut self,
+        number: u64,
+        which: Option<TypeName>,
+    ) -> Result<(Reply, Reply), Refusal>
+        ensures steps { Gives (λ p. (reply_of p.0, self.new)) result (step self.old (events.Poll number which)) }
+        ensures twin { IfOk result (λ p. reply_of p.1 ≡ reply_of p.0) }
+        ensures memory { IfErr result (λ e. e ≡ OutOfMemory → IsShort self.old (events.Poll number which)) }
+        ensures err { OnErr result (self.new ≡ self.old) }
+    {
+        let drafts = self.poll_stream(number, which, true);
+        polled_twice(drafts)
+    }
+
+    // The response that a poll is answered, and, where it is asked for twice, an equal one beside it.
+    fn poll_stream(
+        &mut self,
+        number: u64,
+        which: Option<TypeName>,
+        twice: bool,
+    ) -> Result<Option<(Draft, Option<Draft>)>, Refusal>
+        ensures steps { Gives (λ r. (reply_of r, self.new)) (if_done replies.Polled (firsts result)) (step self.old (events.Poll number which)) }
+        ensures twin { IfOk result (λ o. IfSome o (λ p. p.1 ≡ (if twice then Some p.0 else None))) }
+        ensures memory { IfErr result (λ e. e ≡ OutOfMemory → IsShort self.old (events.Poll number which)) }
+        ensures err { OnErr result (self.new ≡ self.old) }
+    {
         self.share(number);
-        self.poll_shared(number, which)
+        self.poll_shared(number, which, twice)
     }
 
     // The same once what clients share was made.
-    fn poll_shared(&mut self, number: u64, which: Option<TypeName>) -> Result<Reply, Refusal>
-        ensures steps { Gives (λ r. (reply_of r, self.new)) result (step self.old (events.Poll number which)) }
+    fn poll_shared(
+        &mut self,
+        number: u64,
+        which: Option<TypeName>,
+        twice: bool,
+    ) -> Result<Option<(Draft, Option<Draft>)>, Refusal>
+        ensures steps { Gives (λ r. (reply_of r, self.new)) (if_done replies.Polled (firsts result)) (step self.old (events.Poll number which)) }
+        ensures twin { IfOk result (λ o. IfSome o (λ p. p.1 ≡ (if twice then Some p.0 else None))) }
         ensures memory { IfErr result (λ e. e ≡ OutOfMemory → IsShort self.old (events.Poll number which)) }
         ensures err { OnErr result (self.new ≡ self.old) }
     {
         let Some(mut stream) = self.streams.replace(number, Stream::opening()) else {
             return Err(Refusal::NoStream);
         };
-        let draft = stream.poll(self.alloc, self.replica, &self.held, which);
+        let drafts = stream.poll(self.alloc, self.replica, &self.held, which, twice);
         self.streams.set(number, stream);
-        polled(draft)
+        drafts
     }
 
     fn look(&self, number: u64, which: Option<TypeName>) -> Result<Reply, Refusal>
@@ -504,22 +507,33 @@ fn answered(outcome: Result<Outcome, Refusal>) -> Result<Reply, Refusal>
     }
 }
 
-fn polled(draft: Result<Option<Draft>, Refusal>) -> Result<Reply, Refusal>
-    ensures { result ≡ if_done replies.Polled draft }
+// What a poll is answered, once.
+fn polled(drafts: Result<Option<(Draft, Option<Draft>)>, Refusal>) -> Result<Reply, Refusal>
+    ensures { result ≡ if_done replies.Polled (firsts drafts) }
 {
-    match draft {
-        Ok(draft) => Ok(Reply::Polled(draft)),
+    match drafts {
+        Ok(Some((draft, twin))) => {
+            drop(twin);
+            Ok(Reply::Polled(Some(draft)))
+        }
+        Ok(None) => Ok(Reply::Polled(None)),
         Err(refusal) => Err(refusal),
     }
 }
 
-fn polled_twice(drafts: Result<Option<(Draft, Draft)>, Refusal>) -> Result<(Reply, Reply), Refusal>
-    requires { IfOk drafts (λ o. IfSome o (λ p. p.1 ≡ p.0)) }
+// What a poll is answered, twice.
+fn polled_twice(
+    drafts: Result<Option<(Draft, Option<Draft>)>, Refusal>,
+) -> Result<(Reply, Reply), Refusal>
+    requires { IfOk drafts (λ o. IfSome o (λ p. p.1 ≡ Some p.0)) }
     ensures first { if_done (λ p. p.0) result ≡ if_done replies.Polled (firsts drafts) }
     ensures twin { IfOk result (λ p. reply_of p.1 ≡ reply_of p.0) }
 {
     match drafts {
-        Ok(Some((draft, twin))) => Ok((Reply::Polled(Some(draft)), Reply::Polled(Some(twin)))),
+        Ok(Some((draft, twin))) => match twin {
+            Some(twin) => Ok((Reply::Polled(Some(draft)), Reply::Polled(Some(twin)))),
+            None => unreachable!(),
+        },
         Ok(None) => Ok((Reply::Polled(None), Reply::Polled(None))),
         Err(refusal) => Err(refusal),
     }

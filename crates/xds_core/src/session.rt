@@ -2,10 +2,9 @@
 ghost use Rattle.std.specs.Prelude.{◌≡◌, ◌<◌, ◌≤◌, ◌⊎◌, is_some, IsSome, IfSome, IfOk, IfErr, OnOk, OnErr};
 ghost use Rattle.xds_resource.specs.Stamps.{max_counter};
 ghost use Rattle.xds_resource.specs.declared.refusal.Refusal.TheVariants.{OutOfMemory, NonceSpent};
-ghost use Rattle.xds_ledger.specs.Offers.{offer};
 ghost use Rattle.xds_message.specs.declared.draft.Draft.TheVariants as drafts;
 ghost use Rattle.xds_ledger.specs.Sessions as sessions;
-ghost use Rattle.xds_ledger.specs.Sessions.{outcome, HasPolled};
+ghost use Rattle.xds_ledger.specs.Sessions.{outcome, IsNext};
 ghost use Rattle.xds_ledger.specs.Lists.{SessionFits, StaysFit, new_kept, sent_kept};
 ghost use Rattle.xds_core.specs.StreamsSeen.{message_of};
 ghost use Rattle.xds_core.specs.States.{tagged};
@@ -115,65 +114,27 @@ impl<T: ResourceType> Session<T> {
         }
     }
 
-    /// Looks at what changed since, and lets the names go that are owed nothing, as far as there is memory for it.
-    pub(crate) fn tidy(&mut self, alloc: Global, catalogue: &Published<T>)
-        requires { SessionFits self.old.variant T.TYPE catalogue.now self.old.kept }
-        ensures variant { self.new.variant ≡ self.old.variant }
-        ensures same { self.new.kept.session ≡ self.old.kept.session }
-        ensures fits { SessionFits self.old.variant T.TYPE catalogue.now self.new.kept }
-    {
-        match &mut self.side {
-            Side::Sotw(session) => session.tidy(alloc, catalogue),
-            Side::Delta(session) => session.tidy(alloc, catalogue),
-        }
-    }
-
-    /// The next response, if one is to be sent. Refused only where one is: by `NonceSpent` where the stream has no
-    /// number left, and else by `OutOfMemory`.
-    pub(crate) fn poll(
+    /// What a poll has to send, if there is a response to send: its offer, the response, and the numbers of the stream once its
+    /// own is drawn. Refused only where there is one: by `NonceSpent` where the stream has no number left, and else by
+    /// `OutOfMemory`.
+    pub(crate) fn next(
         &mut self,
         alloc: Global,
         replica: u16,
         catalogue: &Published<T>,
-        nonces: &mut Nonces,
-    ) -> Result<Option<Draft>, Refusal>
+        nonces: Nonces,
+    ) -> Result<Option<(SharedMap<Due>, Draft, Nonces)>, Refusal>
         requires { SessionFits self.old.variant T.TYPE catalogue.now self.old.kept }
-        ensures ok { IfOk result (λ answer. HasPolled self.old.variant T.TYPE catalogue.now.entries (drafted replica T.TYPE catalogue.now self.old.kept.session.asked.interest self.old.variant) self.old.kept.session nonces.old answer self.new.kept.session nonces.new) }
-        ensures bound { IfOk result (λ answer. IfSome answer (λ _. nonces.new ≤ max_counter)) }
+        ensures ok { IfOk result (λ next. IsNext self.old.variant T.TYPE catalogue.now.entries (drafted replica T.TYPE catalogue.now self.old.kept.session.asked.interest self.old.variant) self.old.kept.session nonces next) }
+        ensures bound { IfOk result (λ next. IfSome next (λ p. p.2 ≤ max_counter)) }
         ensures variant { self.new.variant ≡ self.old.variant }
+        ensures same { self.new.kept.session ≡ self.old.kept.session }
         ensures fits { SessionFits self.old.variant T.TYPE catalogue.now self.new.kept }
-        ensures err { OnErr result ((self.new.kept.session ≡ self.old.kept.session) × (nonces.new ≡ nonces.old)) }
-        ensures refused { IfErr result (λ e. IsSome (sessions.sending self.old.variant T.TYPE self.old.kept.session catalogue.now.entries) × (((e ≡ NonceSpent) × (nonces.old ≡ max_counter)) ⊎ ((e ≡ OutOfMemory) × (nonces.old < max_counter)))) }
+        ensures refused { IfErr result (λ e. IsSome (sessions.sending self.old.variant T.TYPE self.old.kept.session catalogue.now.entries) × (((e ≡ NonceSpent) × (nonces ≡ max_counter)) ⊎ ((e ≡ OutOfMemory) × (nonces < max_counter)))) }
     {
         match &mut self.side {
-            Side::Sotw(session) => sotw_draft(session.poll(alloc, replica, catalogue, nonces)),
-            Side::Delta(session) => delta_draft(session.poll(alloc, replica, catalogue, nonces)),
-        }
-    }
-
-    /// What a response says now, and that response as the one of this number, be one to be sent or not. Refused only by
-    /// `OutOfMemory`.
-    pub(crate) fn respond(
-        &self,
-        alloc: Global,
-        replica: u16,
-        catalogue: &Published<T>,
-        number: u64,
-    ) -> Result<(SharedMap<Due>, Draft), Refusal>
-        requires { SessionFits self.now.variant T.TYPE catalogue.now self.now.kept }
-        ensures offer { IfOk result (λ p. p.0 ≡ offer self.now.variant T.TYPE self.now.kept.session.asked.interest catalogue.now.entries self.now.kept.session.account.beliefs) }
-        ensures draft { IfOk result (λ p. p.1 ≡ drafted replica T.TYPE catalogue.now self.now.kept.session.asked.interest self.now.variant p.0 number) }
-        ensures refused { IfErr result (λ e. e ≡ OutOfMemory) }
-    {
-        match &self.side {
-            Side::Sotw(session) => {
-                let (offer, draft) = session.respond(alloc, replica, catalogue, number)?;
-                Ok((offer, Draft::Sotw(draft)))
-            }
-            Side::Delta(session) => {
-                let (offer, draft) = session.respond(alloc, replica, catalogue, number)?;
-                Ok((offer, Draft::Delta(draft)))
-            }
+            Side::Sotw(session) => sotw_draft(session.next(alloc, replica, catalogue, nonces)),
+            Side::Delta(session) => delta_draft(session.next(alloc, replica, catalogue, nonces)),
         }
     }
 
@@ -211,23 +172,27 @@ impl<T: ResourceType> Session<T> {
     }
 }
 
-// A state-of-the-world response as one of either variant.
-fn sotw_draft(polled: Result<Option<SotwDraft>, Refusal>) -> Result<Option<Draft>, Refusal>
-    ensures { result ≡ tagged drafts.Sotw polled }
+// A state-of-the-world response, with what stands beside it, as one of either variant.
+fn sotw_draft(
+    next: Result<Option<(SharedMap<Due>, SotwDraft, Nonces)>, Refusal>,
+) -> Result<Option<(SharedMap<Due>, Draft, Nonces)>, Refusal>
+    ensures { result ≡ tagged drafts.Sotw next }
 {
-    match polled {
-        Ok(Some(draft)) => Ok(Some(Draft::Sotw(draft))),
+    match next {
+        Ok(Some((offer, draft, drawn))) => Ok(Some((offer, Draft::Sotw(draft), drawn))),
         Ok(None) => Ok(None),
         Err(refusal) => Err(refusal),
     }
 }
 
-// An incremental response as one of either variant.
-fn delta_draft(polled: Result<Option<DeltaDraft>, Refusal>) -> Result<Option<Draft>, Refusal>
-    ensures { result ≡ tagged drafts.Delta polled }
+// An incremental response, with what stands beside it, as one of either variant.
+fn delta_draft(
+    next: Result<Option<(SharedMap<Due>, DeltaDraft, Nonces)>, Refusal>,
+) -> Result<Option<(SharedMap<Due>, Draft, Nonces)>, Refusal>
+    ensures { result ≡ tagged drafts.Delta next }
 {
-    match polled {
-        Ok(Some(draft)) => Ok(Some(Draft::Delta(draft))),
+    match next {
+        Ok(Some((offer, draft, drawn))) => Ok(Some((offer, Draft::Delta(draft), drawn))),
         Ok(None) => Ok(None),
         Err(refusal) => Err(refusal),
     }

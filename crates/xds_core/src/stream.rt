@@ -1,5 +1,5 @@
 // A stream, before its first request and after it.
-ghost use Rattle.std.specs.Prelude.{◌≡◌, false, ◌==◌, [], ◌∷◌, length, is_some, IfSome, IsOk, IfOk, IfErr, OnOk, OnErr};
+ghost use Rattle.std.specs.Prelude.{◌≡◌, false, ◌==◌, [], ◌∷◌, length, if◌then◌else◌, Some, None, is_some, IfSome, IsOk, IfOk, IfErr, OnOk, OnErr};
 ghost use Rattle.xds_resource.specs.Refusals.{Gives};
 ghost use Rattle.xds_resource.specs.Types.{types};
 ghost use Rattle.xds_resource.specs.declared.refusal.Refusal.TheVariants.{OutOfMemory};
@@ -161,115 +161,72 @@ impl Stream {
     }
 
     // rule: type-order
-    /// The next response: of a type, or of the first in the order of the types that has one. Refused only where one is to
-    /// be sent: by `NonceSpent` where the stream has no number left, and else by `OutOfMemory`.
+    /// The next response, of a type, or of the first in the order of the types that has one, and, where it is asked for twice, an
+    /// equal one beside it. Refused only where one is to be sent: by `NonceSpent` where the stream has no number left, and else by
+    /// `OutOfMemory`, also where there is no memory for the second; then nothing is sent.
     pub fn poll(
         &mut self,
         alloc: Global,
         replica: u16,
         held: &Catalogues,
         which: Option<TypeName>,
-    ) -> Result<Option<Draft>, Refusal>
-        requires { StreamFits held.now self.old }
-        ensures fits { StreamFits held.now self.new }
-        ensures polls { Gives (λ o. (o, self.new.stream)) result (polled_first replica held.now self.old.stream (looked_at which)) }
-        ensures memory { IfErr result (λ e. e ≡ OutOfMemory → IsToRespond held.now self.old.stream (looked_at which)) }
-        ensures err { OnErr result (self.new.stream ≡ self.old.stream) }
-    {
-        match which {
-            Some(kind) => self.poll_type(alloc, replica, held, kind),
-            None => self.poll_any(alloc, replica, held),
-        }
-    }
-
-    /// The next response, as `poll` gives it, and an equal one beside it. It is refused as `poll` is, also where there is no
-    /// memory for the second; then nothing is sent.
-    pub fn poll_twice(
-        &mut self,
-        alloc: Global,
-        replica: u16,
-        held: &Catalogues,
-        which: Option<TypeName>,
-    ) -> Result<Option<(Draft, Draft)>, Refusal>
+        twice: bool,
+    ) -> Result<Option<(Draft, Option<Draft>)>, Refusal>
         requires { StreamFits held.now self.old }
         ensures fits { StreamFits held.now self.new }
         ensures polls { Gives (λ o. (o, self.new.stream)) (firsts result) (polled_first replica held.now self.old.stream (looked_at which)) }
-        ensures twin { IfOk result (λ o. IfSome o (λ p. p.1 ≡ p.0)) }
+        ensures twin { IfOk result (λ o. IfSome o (λ p. p.1 ≡ (if twice then Some p.0 else None))) }
         ensures memory { IfErr result (λ e. e ≡ OutOfMemory → IsToRespond held.now self.old.stream (looked_at which)) }
         ensures err { OnErr result (self.new.stream ≡ self.old.stream) }
     {
         match which {
-            Some(kind) => self.poll_type_twice(alloc, replica, held, kind),
-            None => self.poll_any_twice(alloc, replica, held),
+            Some(kind) => self.poll_type(alloc, replica, held, kind, twice),
+            None => self.poll_any(alloc, replica, held, twice),
         }
     }
 
-    // Looks at what changed since, and lets the names go that are owed nothing, as far as there is memory for it.
-    fn tidy(&mut self, alloc: Global, held: &Catalogues)
-        requires { StreamFits held.now self.old }
-        ensures same { self.new.stream ≡ self.old.stream }
-        ensures fits { StreamFits held.now self.new }
-    {
-        let Some(talk) = &mut self.talk else {
-            return;
-        };
-        talk.tidy_all(alloc, held);
-    }
-
-    // The next response of the first type that has one, twice.
-    fn poll_any_twice(
+    // rule: type-order
+    // The next response of the first type that has one: each type is asked in turn.
+    fn poll_any(
         &mut self,
         alloc: Global,
         replica: u16,
         held: &Catalogues,
-    ) -> Result<Option<(Draft, Draft)>, Refusal>
+        twice: bool,
+    ) -> Result<Option<(Draft, Option<Draft>)>, Refusal>
         requires { StreamFits held.now self.old }
         ensures fits { StreamFits held.now self.new }
         ensures polls { Gives (λ o. (o, self.new.stream)) (firsts result) (polled_first replica held.now self.old.stream types) }
-        ensures twin { IfOk result (λ o. IfSome o (λ p. p.1 ≡ p.0)) }
+        ensures twin { IfOk result (λ o. IfSome o (λ p. p.1 ≡ (if twice then Some p.0 else None))) }
         ensures memory { IfErr result (λ e. e ≡ OutOfMemory → IsToRespond held.now self.old.stream types) }
         ensures err { OnErr result (self.new.stream ≡ self.old.stream) }
     {
-        self.tidy(alloc, held);
-        self.poll_any_twice_tidied(alloc, replica, held)
-    }
-
-    // The same from the lists as they are.
-    fn poll_any_twice_tidied(
-        &mut self,
-        alloc: Global,
-        replica: u16,
-        held: &Catalogues,
-    ) -> Result<Option<(Draft, Draft)>, Refusal>
-        requires { StreamFits held.now self.old }
-        ensures fits { StreamFits held.now self.new }
-        ensures polls { Gives (λ o. (o, self.new.stream)) (firsts result) (polled_first replica held.now self.old.stream types) }
-        ensures twin { IfOk result (λ o. IfSome o (λ p. p.1 ≡ p.0)) }
-        ensures memory { IfErr result (λ e. e ≡ OutOfMemory → IsToRespond held.now self.old.stream types) }
-        ensures err { OnErr result (self.new.stream ≡ self.old.stream) }
-    {
-        match self.first_due(held) {
-            Some(kind) => self.poll_type_twice(alloc, replica, held, kind),
-            None => Ok(None),
+        for kind in TypeName::ALL {
+            if let Some(drafts) = self.poll_type(alloc, replica, held, kind, twice)? {
+                return Ok(Some(drafts));
+            }
         }
+        Ok(None)
     }
 
-    fn poll_type_twice(
+    fn poll_type(
         &mut self,
         alloc: Global,
         replica: u16,
         held: &Catalogues,
         kind: TypeName,
-    ) -> Result<Option<(Draft, Draft)>, Refusal>
+        twice: bool,
+    ) -> Result<Option<(Draft, Option<Draft>)>, Refusal>
         requires { StreamFits held.now self.old }
         ensures fits { StreamFits held.now self.new }
         ensures polls { Gives (λ o. (o, self.new.stream)) (firsts result) (polled replica held.now self.old.stream kind) }
-        ensures twin { IfOk result (λ o. IfSome o (λ p. p.1 ≡ p.0)) }
+        ensures sent { IfOk result (λ o. is_some o ≡ is_some (to_send held.now self.old.stream kind)) }
+        ensures twin { IfOk result (λ o. IfSome o (λ p. p.1 ≡ (if twice then Some p.0 else None))) }
         ensures memory { IfErr result (λ e. e ≡ OutOfMemory → IsToRespond held.now self.old.stream (kind ∷ [])) }
         ensures err { OnErr result (self.new.stream ≡ self.old.stream) }
     {
         match &mut self.talk {
-            Some(talk) => talk.poll_twice(alloc, replica, held, kind),
+            Some(talk) => talk.poll(alloc, replica, held, kind, twice),
             None => Ok(None),
         }
     }
@@ -311,61 +268,6 @@ impl Stream {
         match &self.talk {
             Some(talk) => talk.sends(held, kind),
             None => false,
-        }
-    }
-
-    // The next response of the first type that has one.
-    fn poll_any(
-        &mut self,
-        alloc: Global,
-        replica: u16,
-        held: &Catalogues,
-    ) -> Result<Option<Draft>, Refusal>
-        requires { StreamFits held.now self.old }
-        ensures fits { StreamFits held.now self.new }
-        ensures polls { Gives (λ o. (o, self.new.stream)) result (polled_first replica held.now self.old.stream types) }
-        ensures memory { IfErr result (λ e. e ≡ OutOfMemory → IsToRespond held.now self.old.stream types) }
-        ensures err { OnErr result (self.new.stream ≡ self.old.stream) }
-    {
-        self.tidy(alloc, held);
-        self.poll_any_tidied(alloc, replica, held)
-    }
-
-    // The same from the lists as they are.
-    fn poll_any_tidied(
-        &mut self,
-        alloc: Global,
-        replica: u16,
-        held: &Catalogues,
-    ) -> Result<Option<Draft>, Refusal>
-        requires { StreamFits held.now self.old }
-        ensures fits { StreamFits held.now self.new }
-        ensures polls { Gives (λ o. (o, self.new.stream)) result (polled_first replica held.now self.old.stream types) }
-        ensures memory { IfErr result (λ e. e ≡ OutOfMemory → IsToRespond held.now self.old.stream types) }
-        ensures err { OnErr result (self.new.stream ≡ self.old.stream) }
-    {
-        match self.first_due(held) {
-            Some(kind) => self.poll_type(alloc, replica, held, kind),
-            None => Ok(None),
-        }
-    }
-
-    fn poll_type(
-        &mut self,
-        alloc: Global,
-        replica: u16,
-        held: &Catalogues,
-        kind: TypeName,
-    ) -> Result<Option<Draft>, Refusal>
-        requires { StreamFits held.now self.old }
-        ensures fits { StreamFits held.now self.new }
-        ensures polls { Gives (λ o. (o, self.new.stream)) result (polled replica held.now self.old.stream kind) }
-        ensures memory { IfErr result (λ e. e ≡ OutOfMemory → IsToRespond held.now self.old.stream (kind ∷ [])) }
-        ensures err { OnErr result (self.new.stream ≡ self.old.stream) }
-    {
-        match &mut self.talk {
-            Some(talk) => talk.poll(alloc, replica, held, kind),
-            None => Ok(None),
         }
     }
 

@@ -1,15 +1,16 @@
 // A stream whose variant is decided.
-ghost use Rattle.std.specs.Prelude.{◌≡◌, [], ◌∷◌, is_some, IfSome, IfOk, IfErr, OnOk, OnErr};
+ghost use Rattle.std.specs.Prelude.{◌≡◌, ◌≤◌, [], ◌∷◌, if◌then◌else◌, Some, None, is_some, IfSome, IfOk, IfErr, OnOk, OnErr};
 ghost use Rattle.xds_resource.specs.PerType.{at, each, with_at};
 ghost use Rattle.xds_ledger.specs.Listed.{unlisted, with_sending};
 ghost use Rattle.xds_resource.specs.Refusals.{Gives};
+ghost use Rattle.xds_resource.specs.Stamps.{max_counter};
 ghost use Rattle.xds_resource.specs.declared.refusal.Refusal.TheVariants.{OutOfMemory};
 ghost use Rattle.xds_resource.specs.Types.{type_of_url};
 ghost use Rattle.xds_ledger.specs.Sessions.{outcome};
 ghost use Rattle.xds_core.specs.StreamsSeen.{message_of};
 ghost use Rattle.xds_core.specs.Streams.{IsToRespond, variant_of, nonce_of, url_of, session_after, answered_by, owes_of, to_send, polled};
 ghost use Rattle.xds_core.specs.States.{firsts};
-ghost use Rattle.xds_core.specs.Talks.{begun, drafted, stream_in, offer_at, sent_at, with_session, ListingFits, TalkStaysFit};
+ghost use Rattle.xds_core.specs.Talks.{begun, stream_in, IsNextOf, IsHeldUp, sent_at, with_session, ListingFits, TalkStaysFit};
 
 use crate::catalogues::Catalogues;
 use crate::parts::five;
@@ -156,34 +157,6 @@ impl Talk {
         }
     }
 
-    /// Looks at what changed of the type since, and lets the names go that are owed nothing, as far as there is memory.
-    pub(crate) fn tidy(&mut self, alloc: Global, held: &Catalogues, kind: TypeName)
-        requires { ListingFits held.now self.old }
-        ensures same { self.new.talk ≡ self.old.talk }
-        ensures fits { ListingFits held.now self.new }
-    {
-        match kind {
-            TypeName::Cluster => self.cluster.tidy(alloc, &held.cluster),
-            TypeName::Endpoint => self.endpoint.tidy(alloc, &held.endpoint),
-            TypeName::Listener => self.listener.tidy(alloc, &held.listener),
-            TypeName::Route => self.route.tidy(alloc, &held.route),
-            TypeName::Secret => self.secret.tidy(alloc, &held.secret),
-        }
-    }
-
-    /// The same of all types.
-    pub(crate) fn tidy_all(&mut self, alloc: Global, held: &Catalogues)
-        requires { ListingFits held.now self.old }
-        ensures same { self.new.talk ≡ self.old.talk }
-        ensures fits { ListingFits held.now self.new }
-    {
-        self.tidy(alloc, held, TypeName::Cluster);
-        self.tidy(alloc, held, TypeName::Endpoint);
-        self.tidy(alloc, held, TypeName::Listener);
-        self.tidy(alloc, held, TypeName::Route);
-        self.tidy(alloc, held, TypeName::Secret);
-    }
-
     /// Has what clients share of a type made, where the next response of the type shares it: as far as there is memory for it. It
     /// changes nothing that is seen.
     pub(crate) fn share(&self, alloc: Global, held: &mut Catalogues, kind: TypeName)
@@ -198,79 +171,39 @@ impl Talk {
         }
     }
 
-    // rule: new-nonce, rule: nonce-numbers
-    /// The next response of the type, if one is to be sent. Refused only where one is: by `NonceSpent` where the stream
-    /// has no number left, and else by `OutOfMemory`.
-    pub(crate) fn poll(
+    // What a poll of the type has to send, if there is a response to send: its offer, the response, and the numbers once its own is
+    // drawn.
+    fn next(
         &mut self,
         alloc: Global,
         replica: u16,
         held: &Catalogues,
         kind: TypeName,
-    ) -> Result<Option<Draft>, Refusal>
+    ) -> Result<Option<(SharedMap<Due>, Draft, Nonces)>, Refusal>
         requires { ListingFits held.now self.old }
+        ensures ok { IfOk result (λ next. IsNextOf replica held.now self.old.talk kind next) }
+        ensures bound { IfOk result (λ next. IfSome next (λ p. p.2 ≤ max_counter)) }
+        ensures same { self.new.talk ≡ self.old.talk }
         ensures fits { ListingFits held.now self.new }
-        ensures polls { Gives (λ o. (o, stream_in self.new.talk)) result (polled replica held.now (stream_in self.old.talk) kind) }
-        ensures memory { IfErr result (λ e. e ≡ OutOfMemory → IsToRespond held.now (stream_in self.old.talk) (kind ∷ [])) }
-        ensures err { OnErr result (self.new.talk ≡ self.old.talk) }
+        ensures refused { IfErr result (IsHeldUp held.now self.old.talk kind) }
     {
-        let nonces = &mut self.nonces;
+        let nonces = self.nonces;
         match kind {
-            TypeName::Cluster => self.cluster.poll(alloc, replica, &held.cluster, nonces),
-            TypeName::Endpoint => self.endpoint.poll(alloc, replica, &held.endpoint, nonces),
-            TypeName::Listener => self.listener.poll(alloc, replica, &held.listener, nonces),
-            TypeName::Route => self.route.poll(alloc, replica, &held.route, nonces),
-            TypeName::Secret => self.secret.poll(alloc, replica, &held.secret, nonces),
-        }
-    }
-
-    fn nonces(&self) -> Nonces
-        ensures { result ≡ self.now.talk.count }
-    {
-        self.nonces
-    }
-
-    // What a response of a type says now, and that response as the one of this number.
-    fn respond(
-        &self,
-        alloc: Global,
-        replica: u16,
-        held: &Catalogues,
-        kind: TypeName,
-        number: u64,
-    ) -> Result<(SharedMap<Due>, Draft), Refusal>
-        requires { ListingFits held.now self.now }
-        ensures offer { IfOk result (λ p. p.0 ≡ offer_at held.now self.now.talk kind) }
-        ensures draft { IfOk result (λ p. p.1 ≡ drafted replica kind (at held.now kind) (at self.now.talk.sessions kind).asked.interest self.now.talk.variant p.0 number) }
-        ensures refused { IfErr result (λ e. e ≡ OutOfMemory) }
-    {
-        match kind {
-            TypeName::Cluster => self.cluster.respond(alloc, replica, &held.cluster, number),
-            TypeName::Endpoint => self
-                .endpoint
-                .respond(alloc, replica, &held.endpoint, number),
-            TypeName::Listener => self
-                .listener
-                .respond(alloc, replica, &held.listener, number),
-            TypeName::Route => self.route.respond(alloc, replica, &held.route, number),
-            TypeName::Secret => self.secret.respond(alloc, replica, &held.secret, number),
+            TypeName::Cluster => self.cluster.next(alloc, replica, &held.cluster, nonces),
+            TypeName::Endpoint => self.endpoint.next(alloc, replica, &held.endpoint, nonces),
+            TypeName::Listener => self.listener.next(alloc, replica, &held.listener, nonces),
+            TypeName::Route => self.route.next(alloc, replica, &held.route, nonces),
+            TypeName::Secret => self.secret.next(alloc, replica, &held.secret, nonces),
         }
     }
 
     // Notes that a response of a type with this offer was sent, as the one of the last of these numbers.
-    fn send(
-        &mut self,
-        alloc: Global,
-        kind: TypeName,
-        offer: SharedMap<Due>,
-        drawn: Nonces,
-        number: u64,
-    )
-        requires { number ≡ drawn }
-        ensures sent { self.new.talk ≡ sent_at self.old.talk kind offer number }
+    fn send(&mut self, alloc: Global, kind: TypeName, offer: SharedMap<Due>, drawn: Nonces)
+        ensures sent { self.new.talk ≡ sent_at self.old.talk kind offer drawn }
         ensures lists { self.new.lists ≡ with_at self.old.lists kind (with_sending (at self.old.lists kind)) }
     {
         self.nonces = drawn;
+        let number = drawn.last();
         match kind {
             TypeName::Cluster => self.cluster.send(alloc, offer, number),
             TypeName::Endpoint => self.endpoint.send(alloc, offer, number),
@@ -280,50 +213,31 @@ impl Talk {
         }
     }
 
-    /// The next response of the type, if one is to be sent, and an equal one beside it. It is refused as `poll` is, also
-    /// where there is no memory for the second; then nothing is sent.
-    pub(crate) fn poll_twice(
+    // rule: new-nonce, rule: one-unanswered, rule: nonce-numbers, rule: refused-event
+    /// The next response of the type, if one is to be sent, and, where it is asked for twice, an equal one beside it. Refused
+    /// only where one is to be sent: by `NonceSpent` where the stream has no number left, and else by `OutOfMemory`, also where
+    /// there is no memory for the second; then nothing is sent.
+    pub(crate) fn poll(
         &mut self,
         alloc: Global,
         replica: u16,
         held: &Catalogues,
         kind: TypeName,
-    ) -> Result<Option<(Draft, Draft)>, Refusal>
+        twice: bool,
+    ) -> Result<Option<(Draft, Option<Draft>)>, Refusal>
         requires { ListingFits held.now self.old }
         ensures fits { ListingFits held.now self.new }
         ensures polls { Gives (λ o. (o, stream_in self.new.talk)) (firsts result) (polled replica held.now (stream_in self.old.talk) kind) }
-        ensures twin { IfOk result (λ o. IfSome o (λ p. p.1 ≡ p.0)) }
+        ensures sent { IfOk result (λ o. is_some o ≡ is_some (to_send held.now (stream_in self.old.talk) kind)) }
+        ensures twin { IfOk result (λ o. IfSome o (λ p. p.1 ≡ (if twice then Some p.0 else None))) }
         ensures memory { IfErr result (λ e. e ≡ OutOfMemory → IsToRespond held.now (stream_in self.old.talk) (kind ∷ [])) }
         ensures err { OnErr result (self.new.talk ≡ self.old.talk) }
     {
-        self.tidy(alloc, held, kind);
-        self.poll_twice_tidied(alloc, replica, held, kind)
-    }
-
-    // rule: one-unanswered, rule: nonce-numbers, rule: refused-event
-    // The next response and an equal one, from the lists as they are.
-    fn poll_twice_tidied(
-        &mut self,
-        alloc: Global,
-        replica: u16,
-        held: &Catalogues,
-        kind: TypeName,
-    ) -> Result<Option<(Draft, Draft)>, Refusal>
-        requires { ListingFits held.now self.old }
-        ensures fits { ListingFits held.now self.new }
-        ensures polls { Gives (λ o. (o, stream_in self.new.talk)) (firsts result) (polled replica held.now (stream_in self.old.talk) kind) }
-        ensures twin { IfOk result (λ o. IfSome o (λ p. p.1 ≡ p.0)) }
-        ensures memory { IfErr result (λ e. e ≡ OutOfMemory → IsToRespond held.now (stream_in self.old.talk) (kind ∷ [])) }
-        ensures err { OnErr result (self.new.talk ≡ self.old.talk) }
-    {
-        if !self.sends(held, kind) {
+        let Some((offer, draft, drawn)) = self.next(alloc, replica, held, kind)? else {
             return Ok(None);
-        }
-        let mut drawn = self.nonces();
-        let number = drawn.next()?;
-        let (offer, draft) = self.respond(alloc, replica, held, kind, number)?;
-        let twin = draft.try_copy(alloc)?;
-        self.send(alloc, kind, offer, drawn, number);
+        };
+        let twin = twin_of(alloc, &draft, twice)?;
+        self.send(alloc, kind, offer, drawn);
         Ok(Some((draft, twin)))
     }
 
@@ -349,4 +263,15 @@ impl Talk {
             secret,
         })
     }
+}
+
+// A copy of a response, where it is asked for twice.
+fn twin_of(alloc: Global, draft: &Draft, twice: bool) -> Result<Option<Draft>, Refusal>
+    ensures ok { IfOk result (λ o. o ≡ (if twice then Some draft.now else None)) }
+    ensures refused { IfErr result (λ e. e ≡ OutOfMemory) }
+{
+    if !twice {
+        return Ok(None);
+    }
+    Ok(Some(draft.try_copy(alloc)?))
 }

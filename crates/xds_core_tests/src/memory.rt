@@ -1,4 +1,4 @@
-// Events for which no memory is found. With ample memory each is taken at once; `bench/refused.py`
+// Events for which no memory is found. With ample memory each is taken at once; `bench/hand/refused.py`
 // refuses one allocation after another. An event that was refused has changed nothing, and is taken
 // when it comes again.
 use crate::script::{Actor, parted, play_line, play_on};

@@ -1,4 +1,4 @@
-// A stream that finds no memory. `bench/fail_each.py` runs this test with each allocation failing
+// A stream that finds no memory. `bench/hand/fail_each.py` runs this test with each allocation failing
 // in turn: where one fails while the stream is served, a beginning of the responses was written,
 // and the stream is closed.
 use crate::ran::{Ends, Ran, serve, written_bytes};

@@ -1,8 +1,11 @@
 -- The rule over a channel from one thread to another: what was put is what was taken, and then what the channel holds. One pass at
 -- most may put, and it has the list of what was put; the same goes for what was taken. This project's own.
 --     log                     what was told of the two ends of a channel
---     item_of, items_of       a message is an item, or the mark of the end, which is none
---     Fits, AllFit, Relayed   what holds of a pass: who may put is the one, and knows all that was put
+--     item_of                 a message as a list: its item, or nothing where it is the mark of the end
+--     items_of                the items of some messages
+--     Fits                    a pass knows what its end put or took
+--     AllFit                  each pass of a channel knows so
+--     Relayed                 what was put on a channel is what was taken, and then the messages under way
 use Rattle.std.specs.Prelude.{◌≡◌, ℕ, Bool, true, List, [], ◌∷◌, ◌++◌, Option, Some, None}
 use Rattle.std.specs.List.{flat_map}
 use mathlib.Core.Option.{some}

@@ -97,7 +97,7 @@ pub fn round(alloc: Global, from: &Core, to: &mut Core, peer: &mut Peer) -> Resu
     exchange(alloc, from, to, peer)
 }
 
-// The same, whatever was known.
+// One round, whatever was known.
 // rule: marks
 fn exchange(alloc: Global, from: &Core, to: &mut Core, peer: &mut Peer) -> Result<Round, Refusal>
     ensures sent { IfOk result (λ r. r.sent ≡ length (told from.now.store peer.old)) }

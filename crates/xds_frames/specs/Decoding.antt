@@ -1,5 +1,6 @@
 -- What a decoder does to the bytes that it was fed and hasn't given yet. This project's own.
---     framed, IsSound   a frame by its bytes
+--     framed            a frame by its bytes
+--     IsSound           no frame that begins with these bytes is at fault so far
 --     IsFed             a piece is added behind what is left, or nothing is, behind a fault
 --     GivesNext         what is left begins with the frame that is given, with less than one where none is
 --     Finishes          nothing is left, or there is a fault, or else something is left

@@ -6,7 +6,8 @@
 --     MoreFailed        more calls have failed, or as many as can be counted
 --     CountsFailure     a call that fails is counted as failed, and no other
 --     Device            the bytes that a reader has left, or that a writer holds, and how many of its calls have failed
---     seen, HasFailed   the device before and after, where `bytes` are those that it has left or holds
+--     seen              the device before and after, where `bytes` are those that it has left or holds
+--     HasFailed         a call of the device failed meanwhile
 --     Stays             the device is as it was
 --     Wrote             these bytes were written, and no more
 --     WrotePart         a beginning of these bytes was written, and then a call failed

@@ -1,11 +1,17 @@
 -- Frames, by which messages follow one another on a stream, and bytes that are none. This project's own.
---     number_of, IsKind                what a message is, as a byte
+--     number_of                        the byte of a kind of message
+--     IsKind                           a number is that of a kind
 --     Framed                           a frame: the kind of its message, and the bytes of the message's text
---     longest, IsLength                the most that a length may count
+--     longest                          the most that a length may count
+--     IsLength                         a length is at least 1 and at most that
 --     after_length                     four bytes of length, most significant first, and what follows them
 --     AreBytes                         what a list of numbers has to be for a stream to have it
---     frame_bytes, IsFrame             the length counts the kind and the text
---     IsEmpty, IsTooLong, IsOfNoKind, IsFault  what begins so is no frame, whatever follows
+--     frame_bytes                      the bytes of a frame: the length, which counts kind and text, the kind, the text
+--     IsFrame                          the frame's length is one that may be
+--     IsEmpty                          bytes whose length counts nothing
+--     IsTooLong                        bytes whose length counts too much
+--     IsOfNoKind                       bytes whose kind is none
+--     IsFault                          bytes that begin no frame, by the refusal that says why
 --     MayFollow                        what a frame may have behind its length
 --     IsPartial                        less than a frame, and no fault: the rest of it may come
 use Rattle.std.specs.Prelude.{◌≡◌, ◌+◌, ◌<◌, ◌≤◌, ◌^◌, ◌⊎◌, ℕ, List, [], ◌∷◌, ◌++◌, length, slice_index, ⊤}

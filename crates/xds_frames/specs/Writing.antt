@@ -1,6 +1,7 @@
 -- What is written of a frame, or why it is refused. This project's own.
 --     length_conditions             why a text is too long for a frame
---     head_written, frame_written   what stands before a text of this length
+--     head_written                  the bytes before a text of this length, or `FrameTooLong`
+--     frame_written                 the bytes of a frame with this text, or `FrameTooLong`
 --     frame_added                   the same behind other bytes
 use Rattle.std.specs.Prelude.{ℕ, ◌+◌, List, [], ◌∷◌, ◌++◌, length, Bool, Result, nat_lt}
 use Rattle.xds_resource.specs.declared.refusal.Refusal.{Refusal}

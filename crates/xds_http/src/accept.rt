@@ -237,7 +237,7 @@ impl<S: Serves> Tasks<S> {
         None
     }
 
-    // The same for the connection that waits for another which gives way.
+    // Takes the connection that waits for another which gives way.
     fn take_held(&mut self, socket: TcpStream) -> Option<Task<S::Conn>>
         ensures { IfSome result (λ t. S.Conn.can_poll t.conn) }
     {

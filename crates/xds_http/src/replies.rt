@@ -28,7 +28,7 @@ pub trait Replies {
         ensures { replies seat.old seat.new path.now body.now result };
 }
 
-/// The same, with a seat for each post. Who has `Replies` alone can't make one, and so asks by the seat that it is lent.
+/// Whoever replies, and makes a seat for each post. Who has `Replies` alone can't make one, and so asks by the seat that it is lent.
 pub trait Seats: Replies {
     ghost use Rattle.std.specs.Prelude.{IfOk};
 

@@ -1,8 +1,14 @@
 -- Interests worked out by hand after each request of some streams. The streams are this project's own.
---     a, nothing, star_alone, a_alone, star_and_a  the name and the interests of the examples
+--     a                                the name of the examples
+--     nothing                          the interest in nothing
+--     star_alone                       the interest of the star
+--     a_alone                          the interest in the one name
+--     star_and_a                       the interest of the star and in the name
 --     SotwClusters                     Clusters, state of the world: nothing, then `*` and A, then A, then nothing
 --     SotwRoutes                       Routes, state of the world: an empty list is nothing, and `*` is a name
---     SotwTwice, adds, drops           a name that comes twice counts once
+--     SotwTwice                        a name that comes twice counts once
+--     adds                             a delta request that subscribes these names
+--     drops                            a delta request that unsubscribes these names
 --     DeltaClusters                    Clusters, delta: an empty request, then A comes, `*` goes, A goes
 --     DeltaRoutes                      Routes, delta: an empty request is nothing, `*` is a name
 use Rattle.std.specs.Prelude.{◌≡◌, ℕ, List, [], ◌∷◌, true, false, codes}

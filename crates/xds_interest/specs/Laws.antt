@@ -15,11 +15,13 @@
 --     DeltaIsKept                      and so it is with delta requests
 --     WideningIsUndone                 with more explicit names, and without those that came, all is as before
 --     NarrowingIsTheRest               with the explicit names that a delta request subscribes
---     SotwTouchIsASet, DeltaTouchIsASet  the touched names, as a set
+--     SotwTouchIsASet                  the touched names of the state of the world, as a set
+--     DeltaTouchIsASet                 the touched names of a delta request, as a set
 --     KeptStarIsOfComplete             only a complete type's star stands in what is kept
 --     UntouchedKeepsReachOfKept        a name that a list does not touch stays reached, or not reached, by what is kept
 --     UntouchedKeepsReachOfKeptInDelta  and so does one that a delta request after the first does not touch
---     UntouchedKeepsCoverOfKept, UntouchedKeepsCoverOfKeptInDelta  such names stay covered
+--     UntouchedKeepsCoverOfKept        after a list, untouched names stay covered, or not
+--     UntouchedKeepsCoverOfKeptInDelta  after a delta request, untouched names stay covered, or not
 use Rattle.std.specs.Prelude.{◌≡◌, ◌≢◌, ℕ, List, [], ◌∷◌, ◌++◌, true, false, ◌&&◌, ◌||◌, if◌then◌else◌, Contains}
 use Rattle.std.specs.FinSet as set
 use Rattle.xds_resource.specs.declared.types.TypeName.{TypeName}

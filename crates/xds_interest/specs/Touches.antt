@@ -1,5 +1,6 @@
 -- The names that a request touches, as a set: each of some names, or every name. This project's own.
---     Touch, touch_code, touches   whether every name is touched, and those that are touched in any case
+--     Touch, touch_code            whether every name is touched, and those that are touched in any case
+--     touches                      whether a name is touched
 --     sotw_touch                   from an old interest to a new one of the state of the world
 --     delta_touch                  by a delta request
 use Rattle.std.specs.Prelude.{ℕ, List, ◌++◌, Bool, ◌&&◌, ◌||◌, refl}

@@ -1,7 +1,8 @@
 -- The parts that requests of both variants have in Envoy's `discovery.proto`, and which JSON values spell them.
 --     Identity                        who asks: of Envoy's Node its id and its cluster
 --     Failure                         why a client rejects a response: of google.rpc.Status its code and its message
---     SpellsIdentity, SpellsFailure   which values spell it
+--     SpellsIdentity                  a value spells a node
+--     SpellsFailure                   a value spells an error
 use Rattle.std.specs.Prelude.{ℕ, ℤ, List, codes}
 use Rattle.serde_json.specs.Data.{Data}
 use Rattle.xds_resource.specs.Fields.{field}

@@ -1,5 +1,7 @@
 -- What tokens read as, in order, whatever more depth the grammar allows. For private clauses.
---     ReadsTo, ItemsReadTo, MembersReadTo  tokens read as a value, as items, as members, and leave the rest
+--     ReadsTo                  tokens read as this value, and leave the rest
+--     ItemsReadTo              tokens read as these items, and leave the rest
+--     MembersReadTo            tokens read as these members, and leave the rest
 use Rattle.std.specs.Prelude.{◌≡◌, ◌≤◌, ℕ, List, length, Some}
 use Rattle.json.specs.Token.{Token}
 use Rattle.json.specs.Json.{items, members, value}

@@ -1,6 +1,7 @@
 -- What the fields of a message's JSON object hold, as the proto3 JSON mapping spells them. The code of an error may also
 -- be a text, as that mapping allows for a whole number.
---     IsJson, IsObject   bytes that are a JSON text of this value
+--     IsJson             bytes that are a JSON text of this value
+--     IsObject           a value that is an object
 --     without_minus      the text without a minus before it
 --     value_of_digits    the number that decimal digits write, below zero after a minus
 --     IsNumeralOf        decimal digits, one or more, with or without a minus before them

@@ -4,7 +4,8 @@
 --     pairs_of                       the bytes of names and versions
 --     text_members                   the members of an object that has a text for each name
 --     IsVersions                     an object whose values are texts
---     pairs_data, versions_data      what pairs are written as, and nothing where there are none
+--     pairs_data                     the object of some pairs, and nothing where there are none
+--     versions_data                  the object of a map of versions, and nothing where it is empty
 use Rattle.std.specs.Prelude.{◌≡◌, ℕ, List, [], ◌∷◌, map, String, string_bytes, Option, Some, None}
 use Rattle.std.specs.Coded.{Coded, coded_ℕ, coded_list}
 use Rattle.std.specs.FinMap as finmap

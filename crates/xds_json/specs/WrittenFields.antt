@@ -1,8 +1,12 @@
 -- What a field is written as in the proto3 JSON mapping, where one that holds its default is left out; and the objects of the
 -- parts that requests of both variants have.
---     text_data, list_data, code_data  what a text, a list, a code is written as: nothing where it is the default
+--     text_data                        the value of a text, and nothing where it is empty
+--     list_data                        the value of a list, and nothing where it is empty
+--     code_data                        the value of a code, and nothing where it is 0
 --     Fields                           names, each with the value that is set there
---     put_set, members_set, object_set  the members, with a value at a key where there is one
+--     put_set                          members with a value at a key, where there is one
+--     members_set                      the members of those fields that have a value
+--     object_set                       the object of these members
 --     identity_fields                  the fields that are written for it
 --     identity_object                  the object that is written for it
 --     failure_fields                   the fields that are written for it

@@ -23,16 +23,9 @@ use Rattle.xds_ledger.specs.Accepting.{is_named_since, change_since}
 use Rattle.xds_ledger.specs.Ledgers.{Account, Names, answered, beliefs_after, taken}
 use Rattle.xds_ledger.proofs.BeliefsByName.{accepted_by_name}
 use Rattle.xds_ledger.proofs.Overlaying.{believed_at}
+use Rattle.xds_ledger.proofs.Choosing.{first_false, second_false}
 
 -- ---- touched names
-
-not_first : (a b : Bool) → (a || b) ≡ false → a ≡ false
-not_first true b e = absurd cc
-not_first false b e = refl
-
-not_second : (a b : Bool) → (a || b) ≡ false → b ≡ false
-not_second true b e = absurd cc
-not_second false b e = e
 
 first_of : (a b : Bool) → a ≡ false → (a || b) ≡ b
 first_of true b e = absurd cc
@@ -42,8 +35,8 @@ first_of false b e = refl
 pub named_if_touched : (ts : List Touch) (q : List ℕ) → list_any (λ t. t.all) ts ≡ false → list_any (λ t. touches t q) ts ≡ list_any (λ t. set.contains t.names q) ts
 named_if_touched [] q none = refl
 named_if_touched (t ∷ ts) q none =
-    let first = not_first t.all (list_any (λ t. t.all) ts) none in
-    let later = not_second t.all (list_any (λ t. t.all) ts) none in
+    let first = first_false t.all (list_any (λ t. t.all) ts) none in
+    let later = second_false t.all (list_any (λ t. t.all) ts) none in
     (λ i. first_of t.all (set.contains t.names q) first i || named_if_touched ts q later i)
 
 -- once f was put at each of some names

@@ -20,9 +20,7 @@ use Rattle.xds_ledger.specs.Listed.{Listed, is_listed, is_since, IsPast, Fits, K
 use Rattle.xds_ledger.specs.ListLaws.{NewListFits, WiderListFits, RefreshedListFits, PrunedListFits, OwedIsListed, LaterHoldingsFit}
 use Rattle.xds_ledger.proofs.ByName.{owed_absent}
 use Rattle.xds_ledger.proofs.Later.{past_more}
-
-from_zero : (n : ℕ) → 0 ≤ n
-from_zero n = omega arith
+use Rattle.xds_ledger.proofs.Choosing.{first_false, le-itself, le-onward, le-zero, second_false}
 
 no_number : (o : Option ℕ) → IsSomeAnd o (λ k. (1 ≤ k) × (k ≤ 0)) → ⊥
 no_number None there = there
@@ -47,22 +45,19 @@ same_owed v t s next h later b after name held there = λ i. option_map_or (is_t
 
 pub new_list_fits : NewListFits
 new_list_fits v t s h = record {
-  counted = from_zero h.changes;
+  counted = le-zero h.changes;
   others = λ name out past. unowed v t s h finmap.empty name (finmap.get-empty text_cmp name) (none_at_first h name past);
 }
 
-to_end : (a b c : ℕ) → a ≤ b → b ≤ c → a ≤ c
-to_end a b c first second = omega arith
-
 pub wider_list_fits : WiderListFits
 wider_list_fits v t s h b l wide wider fits = record {
-  counted = to_end wide.mark l.mark h.changes wider.mark fits.counted;
+  counted = le-onward wide.mark l.mark h.changes wider.mark fits.counted;
   others = λ name out past. fits.others name (wider.names name out) (past_more h wide.mark l.mark name wider.mark past);
 }
 
 pub later_holdings_fit : LaterHoldingsFit
 later_holdings_fit v t s h later b l is fits = record {
-  counted = to_end l.mark h.changes later.changes fits.counted is.grows;
+  counted = le-onward l.mark h.changes later.changes fits.counted is.grows;
   others = λ name out past.
       let entry = is.same name (past_more later l.mark h.changes name fits.counted past) in
       same_owed v t s s h later b b name refl (ap (option_and_then (version_shown s name)) entry) ∙ fits.others name out (is.past name l.mark fits.counted past);
@@ -119,28 +114,17 @@ pub refreshed_has : (h : Holdings) (l : Listed) (name : List ℕ) → is_listed 
 refreshed_has h l name =
     ap is_some (get-refreshed h l name) ∙ either (finmap.get l.names name) _ ∙ ap (λ b. is_listed l name || b) (some_since l.mark (finmap.get h.latest name))
 
-not_first : (a b : Bool) → (a || b) ≡ false → a ≡ false
-not_first true b e = absurd cc
-not_first false b e = refl
-
-not_second : (a b : Bool) → (a || b) ≡ false → b ≡ false
-not_second true b e = absurd cc
-not_second false b e = e
-
 -- a name that is neither listed nor changed since is owed nothing
 pub unowed_else : (v : VariantName) (t : TypeName) (s : Selection) (h : Holdings) (b : Beliefs) (l : Listed) (name : List ℕ) → IsNumbered h → Fits v t s h b l → is_listed l name ≡ false → is_since h l.mark name ≡ false
     → is_owed v t s h.entries b name ≡ false
 unowed_else v t s h b l name numbered fits out unchanged = fits.others name out (past_if h l.mark name numbered unchanged)
 
-at_end : (n : ℕ) → n ≤ n
-at_end n = omega arith
-
 pub refreshed_list_fits : RefreshedListFits
 refreshed_list_fits v t s h b l numbered fits = record {
-  counted = at_end h.changes;
+  counted = le-itself h.changes;
   others = λ name out past.
       let neither : (is_listed l name || is_since h l.mark name) ≡ false = sym (refreshed_has h l name) ∙ out in
-      unowed_else v t s h b l name numbered fits (not_first (is_listed l name) (is_since h l.mark name) neither) (not_second (is_listed l name) (is_since h l.mark name) neither);
+      unowed_else v t s h b l name numbered fits (first_false (is_listed l name) (is_since h l.mark name) neither) (second_false (is_listed l name) (is_since h l.mark name) neither);
 }
 
 -- the same of a list as a call leaves it
@@ -196,7 +180,7 @@ tidied_fits {X} {Y} v t s h b old middle new looked left stays same gone kept fi
     after (Err e) gone kept = subst (Fits v t s h b) (sym kept) (mid looked stays same)
 
 pub keeps_itself : (old new : Listed) → new ≡ old → KeepsSending old new
-keeps_itself old new same = record { sent_mark = ap (λ (l : Listed). l.sent_mark) same; mark = subst (λ (l : Listed). old.mark ≤ l.mark) (sym same) (at_end old.mark) }
+keeps_itself old new same = record { sent_mark = ap (λ (l : Listed). l.sent_mark) same; mark = subst (λ (l : Listed). old.mark ≤ l.mark) (sym same) (le-itself old.mark) }
 
 -- and it keeps the mark of the sending
 pub tidied_keeps_sending : {X Y : Type 0} (v : VariantName) (t : TypeName) (s : Selection) (h : Holdings) (b : Beliefs) (old middle new : Listed) (looked : Result X Refusal) (left : Result Y Refusal) → OnOk looked (StaysSufficient h old middle)

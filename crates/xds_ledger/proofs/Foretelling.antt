@@ -27,6 +27,7 @@ use Rattle.xds_ledger.proofs.BeliefsByName.{accepted_by_name, untouched_keeps_be
 use Rattle.xds_ledger.proofs.Made.{resumed_by_name}
 use Rattle.xds_ledger.proofs.Later.{past_more}
 use Rattle.xds_ledger.proofs.Fitting.{later_holdings_fit, refreshed_list_fits, pruned_list_fits}
+use Rattle.xds_ledger.proofs.Choosing.{first_false, le-itself, le-onward, second_false}
 
 -- ---- two that may be
 
@@ -100,16 +101,10 @@ present_list_fits v t s h b l low tells = record {
 
 -- ---- what stays known
 
-itself : (n : ℕ) → n ≤ n
-itself n = omega arith
-
-up_to : (a b c : ℕ) → a ≤ b → b ≤ c → a ≤ c
-up_to a b c first second = omega arith
-
 -- once an offer of these holdings was sent
 pub sent_foretells : (v : VariantName) (t : TypeName) (s : Selection) (h : Holdings) (a : Account) (l : Listed) (o : Offer) (nonce : ℕ) → o ≡ offer v t s h.entries a.beliefs → Foretells v t s h (send a o nonce) (lists.with_sending l)
 sent_foretells v t s h a l o nonce is = λ tells. record {
-  below = itself l.mark;
+  below = le-itself l.mark;
   present = λ name untouched past.
       ap (λ (x : Offer). believed_accepted (is_whole v t) false (finmap.get x name) (finmap.get a.beliefs name)) is ∙ offer_foretells v t s h.entries a.beliefs name tells;
 }
@@ -120,7 +115,7 @@ later_foretells v t s h later a l is counted known = λ tells.
     both_hold (IsForetold v t s later a.beliefs l.mark) a.sent l.sent_mark
     (λ sent m here there.
     let told = both_at (IsForetold v t s h a.beliefs l.mark) a.sent l.sent_mark sent m here there (known tells) in
-    let low : m ≤ h.changes = up_to m l.mark h.changes told.below counted in
+    let low : m ≤ h.changes = le-onward m l.mark h.changes told.below counted in
     record {
       below = told.below;
       present = λ name untouched past.
@@ -134,17 +129,9 @@ looked_foretells v t s h a l new keeps known = λ tells.
     both_hold (IsForetold v t s h a.beliefs new.mark) a.sent new.sent_mark
     (λ sent m here there.
     let told = both_at (IsForetold v t s h a.beliefs l.mark) a.sent l.sent_mark sent m here (sym keeps.sent_mark ∙ there) (known tells) in
-    record { below = up_to m l.mark new.mark told.below keeps.mark; present = told.present })
+    record { below = le-onward m l.mark new.mark told.below keeps.mark; present = told.present })
 
 -- ---- a request that doesn't answer
-
-not_first : (a b : Bool) → (a || b) ≡ false → a ≡ false
-not_first true b e = absurd cc
-not_first false b e = refl
-
-not_second : (a b : Bool) → (a || b) ≡ false → b ≡ false
-not_second true b e = absurd cc
-not_second false b e = e
 
 or_false : (b : Bool) → (b || false) ≡ b
 or_false true = refl
@@ -155,7 +142,7 @@ touched_neither : (sent : Sent) (touch : Touch) (name : List ℕ) → was_touche
 touched_neither sent touch name e =
     let both : (was_touched sent name || touches touch name) ≡ false =
     ap (λ b. was_touched sent name || b) (sym (or_false (touches touch name))) ∙ sym (list_any-append (λ t. touches t name) sent.touched (touch ∷ [])) ∙ e in
-    (not_first (was_touched sent name) (touches touch name) both, not_second (was_touched sent name) (touches touch name) both)
+    (first_false (was_touched sent name) (touches touch name) both, second_false (was_touched sent name) (touches touch name) both)
 
 unsaid : (o : Option (List ℕ)) (e : Option Entry) → o ≡ None → option_or (option_map Told o) e ≡ e
 unsaid o e is = ap (λ x. option_or (option_map Told x) e) is
@@ -179,7 +166,7 @@ module _ (v : VariantName) (t : TypeName) (s next : Selection) (h : Holdings) (a
   touched_is_foretold : (sent : Sent) (m : ℕ) → (l.mark ≤ wide.mark) → ((name : List ℕ) → finmap.get names.versions name ≡ None) → StaysPresent s next h l.mark names.touched → IsForetold v t s h a.beliefs l.mark sent m
       → IsForetold v t next h (beliefs_after names a.beliefs) wide.mark (touched_since sent names.touched) m
   touched_is_foretold sent m high none stays told = record {
-    below = up_to m l.mark wide.mark told.below high;
+    below = le-onward m l.mark wide.mark told.below high;
     present = λ name untouched past.
         let parts = touched_neither sent names.touched name untouched in
         ap (believed_accepted (is_whole v t) false (finmap.get sent.offer name)) (left_alone names a.beliefs name parts.1 (none name)) ∙ told.present name parts.0 past
@@ -233,7 +220,7 @@ module _ (v : VariantName) (t : TypeName) (old : Books) (l : Listed) (nonce : Li
 
     accepted_fits : Fits v t next h (record { account = after; listed = l })
     accepted_fits = record {
-      list = present_list_fits v t next h after.beliefs l (up_to l.mark old.listed.mark h.changes known.below fits.list.counted)
+      list = present_list_fits v t next h after.beliefs l (le-onward l.mark old.listed.mark h.changes known.below fits.list.counted)
           (λ name out past.
           left_alone names (beliefs_accepted (is_whole v t) sent old.account.beliefs) name (touched.untouched name out) (touched.unsaid name out)
           ∙ accepted_by_name (is_whole v t) sent old.account.beliefs name
@@ -284,5 +271,5 @@ refreshed_books_fit v t s h b numbered fits = record {
 pub pruned_books_fit : PrunedBooksFit
 pruned_books_fit v t s h b fits = record {
   list = pruned_list_fits v t s h b.account.beliefs b.listed fits.list;
-  foretold = looked_foretells v t s h b.account b.listed (pruned v t s h b.account.beliefs b.listed) (record { sent_mark = refl; mark = itself b.listed.mark }) fits.foretold;
+  foretold = looked_foretells v t s h b.account b.listed (pruned v t s h b.account.beliefs b.listed) (record { sent_mark = refl; mark = le-itself b.listed.mark }) fits.foretold;
 }

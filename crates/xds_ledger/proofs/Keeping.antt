@@ -23,6 +23,8 @@ use Rattle.xds_ledger.proofs.Foretelling.{sent_foretells, later_foretells, looke
 use Rattle.xds_ledger.specs.Ledgers.{Account}
 use Rattle.xds_ledger.specs.Offers.{Offer, offer}
 use Rattle.xds_ledger.specs.Lists.{Books, Kept, Fits, Foretells, new_kept, sent_books, sent_kept, FitsNext, StaysPresent, SessionFits, StaysFit}
+use Rattle.xds_ledger.specs.Sessions.{Session, IsNext}
+use Rattle.xds_ledger.proofs.Polling.{next_offer}
 use Rattle.xds_ledger.specs.BookLaws.{SentSessionFits}
 
 -- before the first request every list suffices
@@ -135,9 +137,8 @@ suffices_or h old new (Ok x) stays same = stays
 suffices_or h old new (Err e) stays same = record { fits = λ v t s b fits. subst (lists.Fits v t s h b) (sym same) fits; sending = λ low. keeps_itself old new same }
 
 -- and once an offer of these holdings was sent
-pub sent_session_fits : (v : VariantName) (t : TypeName) (h : Holdings) (asked : Asked) (b new : Books) (now : Kept) (o : Offer) (n : ℕ) → ◌≡◌ {A = Kept} (record { session = record { asked = asked; account = b.account }; listed = b.listed }) now
-    → new ≡ sent_books b o n → o ≡ offer v t now.session.asked.interest h.entries now.session.account.beliefs → SessionFits v t h now → SessionFits v t h (record { session = record { asked = asked; account = new.account }; listed = new.listed })
-sent_session_fits v t h asked b new now o n same is made fits =
-    let before : Kept = record { session = record { asked = asked; account = b.account }; listed = b.listed } in
-    subst (λ (x : Books). SessionFits v t h (record { session = record { asked = asked; account = x.account }; listed = x.listed })) (sym is)
-    (sent_fits v t h before o n (made ∙ ap (λ (k : Kept). offer v t k.session.asked.interest h.entries k.session.account.beliefs) (sym same)) (subst (SessionFits v t h) (sym same) fits))
+pub next_fits : {R : Type 0} (v : VariantName) (t : TypeName) (h : Holdings) (respond : Offer → ℕ → R) (k now after : Kept) (count : ℕ) (o : Offer) (d : R) (n : ℕ) → IsNext v t h.entries respond now.session count (Some (o, d, n))
+    → k.session ≡ now.session → after ≡ sent_kept k o n → SessionFits v t h k → SessionFits v t h after
+next_fits v t h respond k now after count o d n is same leaves fits =
+    subst (SessionFits v t h) (sym leaves)
+    (sent_fits v t h k o n (next_offer v t h.entries respond now.session count o d n is ∙ ap (λ (s : Session). offer v t s.asked.interest h.entries s.account.beliefs) (sym same)) fits)

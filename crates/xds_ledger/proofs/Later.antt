@@ -14,6 +14,7 @@ use Rattle.xds_catalogue.proofs.Lookups.{get-inserted}
 use Rattle.xds_catalogue.proofs.OneWrite.{changed, joined-news, joined-old, joined-none}
 use Rattle.xds_ledger.specs.Listed.{IsPast, IsLater}
 use Rattle.xds_ledger.specs.ListLaws.{JoinedIsLater}
+use Rattle.xds_ledger.proofs.Choosing.{le-itself, le-onward}
 
 some_within : (o : Option ℕ) (m n : ℕ) → m ≤ n → IsSomeAnd o (λ k. (1 ≤ k) × (k ≤ m)) → IsSomeAnd o (λ k. (1 ≤ k) × (k ≤ n))
 some_within None m n low there = absurd there
@@ -24,19 +25,13 @@ pub past_more : (h : Holdings) (m n : ℕ) (name : List ℕ) → m ≤ n → IsP
 past_more h m n name low (inl absent) = inl absent
 past_more h m n name low (inr there) = inr (some_within (finmap.get h.latest name) m n low there)
 
-itself : (n : ℕ) → n ≤ n
-itself n = omega arith
-
-and_on : (a b c : ℕ) → a ≤ b → b ≤ c → a ≤ c
-and_on a b c first second = omega arith
-
 pub later_itself : (h : Holdings) → IsLater h h
-later_itself h = record { grows = itself h.changes; past = λ name mark low past. past; same = λ name past. refl }
+later_itself h = record { grows = le-itself h.changes; past = λ name mark low past. past; same = λ name past. refl }
 
 pub later_on : (a b c : Holdings) → IsLater a b → IsLater b c → IsLater a c
 later_on a b c first second = record {
-  grows = and_on a.changes b.changes c.changes first.grows second.grows;
-  past = λ name mark low past. first.past name mark low (second.past name mark (and_on mark a.changes b.changes low first.grows) past);
+  grows = le-onward a.changes b.changes c.changes first.grows second.grows;
+  past = λ name mark low past. first.past name mark low (second.past name mark (le-onward mark a.changes b.changes low first.grows) past);
   same = λ name past.
       second.same name (past_more c a.changes b.changes name first.grows past) ∙ first.same name (second.past name a.changes first.grows past);
 }
@@ -85,7 +80,7 @@ later_changed : (h : Holdings) (w : StampedWrite) → IsLater h (changed h w)
 later_changed h w = record {
   grows = one_more h.changes;
   past = λ name mark low past. past_at h w mark name (other_past h w mark name low past) past;
-  same = λ name past. entry_stays h w name (other_past h w h.changes name (itself h.changes) past);
+  same = λ name past. entry_stays h w name (other_past h w h.changes name (le-itself h.changes) past);
 }
 
 -- ---- any writes

@@ -31,22 +31,9 @@ use Rattle.xds_ledger.specs.Laws.{RequestKeepsFitting}
 use Rattle.xds_ledger.specs.Lists.{Books, Fits, FitsNext, IsForetold, Foretells, accepts, StaysPresent, IsPassedOver, ListsRequest, ListsNames, ListsNext, with_names, with_said, with_offer, with_all, with_changes, listed_after}
 use Rattle.xds_ledger.proofs.Foretelling.{taken_is_foretold, accepted_books_fit, looked_foretells}
 use Rattle.xds_ledger.proofs.Versions.{versions_of_none}
-
-from_zero : (n : ℕ) → 0 ≤ n
-from_zero n = omega arith
-
-itself : (n : ℕ) → n ≤ n
-itself n = omega arith
+use Rattle.xds_ledger.proofs.Choosing.{first_false, le-itself, le-zero, second_false}
 
 -- ---- what is listed
-
-not_first : (a b : Bool) → (a || b) ≡ false → a ≡ false
-not_first true b e = absurd cc
-not_first false b e = refl
-
-not_second : (a b : Bool) → (a || b) ≡ false → b ≡ false
-not_second true b e = absurd cc
-not_second false b e = e
 
 put_there : (b : Bool) (o : Option ℕ) → is_some (cond b (Some 0) o) ≡ (b || is_some o)
 put_there true o = refl
@@ -70,7 +57,7 @@ listed_with l (n ∷ ns) q = listed_with (with_name l n) ns q ∙ ap (λ b. has_
 out_of : (l : Listed) (ns : List (List ℕ)) (q : List ℕ) → is_listed (with_names l ns) q ≡ false → (has_text ns q ≡ false) × (is_listed l q ≡ false)
 out_of l ns q out =
     let neither : (has_text ns q || is_listed l q) ≡ false = sym (listed_with l ns q) ∙ out in
-    (not_first (has_text ns q) (is_listed l q) neither, not_second (has_text ns q) (is_listed l q) neither)
+    (first_false (has_text ns q) (is_listed l q) neither, second_false (has_text ns q) (is_listed l q) neither)
 
 pub mark_with : (l : Listed) (ns : List (List ℕ)) → (with_names l ns).mark ≡ l.mark
 mark_with l [] = refl
@@ -85,7 +72,7 @@ listed_said l (n ∷ ns) q = listed_said (without_sending (with_name l n)) ns q 
 pub out_of_said : (l : Listed) (ns : List (List ℕ)) (q : List ℕ) → is_listed (with_said l ns) q ≡ false → (has_text ns q ≡ false) × (is_listed l q ≡ false)
 out_of_said l ns q out =
     let neither : (has_text ns q || is_listed l q) ≡ false = sym (listed_said l ns q) ∙ out in
-    (not_first (has_text ns q) (is_listed l q) neither, not_second (has_text ns q) (is_listed l q) neither)
+    (first_false (has_text ns q) (is_listed l q) neither, second_false (has_text ns q) (is_listed l q) neither)
 
 pub mark_said : (l : Listed) (ns : List (List ℕ)) → (with_said l ns).mark ≡ l.mark
 mark_said l [] = refl
@@ -126,7 +113,7 @@ kept_if true said l last mark is = tt
 kept_if false said l last mark is = subst (λ o. IfSome o (λ m. (l.sent_mark ≡ Some m) × (l.mark ≤ last.mark))) (sym is) (at said l.sent_mark refl)
   where
     low : l.mark ≤ last.mark
-    low = subst (λ n. l.mark ≤ n) (sym mark) (itself l.mark)
+    low = subst (λ n. l.mark ≤ n) (sym mark) (le-itself l.mark)
 
     at : (ns : List (List ℕ)) (o : Option ℕ) → l.sent_mark ≡ o → IfSome (unless_said ns o) (λ m. (l.sent_mark ≡ Some m) × (l.mark ≤ last.mark))
     at [] None there = tt
@@ -177,8 +164,8 @@ out_of_changes true l q out = out
 out_of_changes false l q out = out
 
 mark_changes : (all : Bool) (l : Listed) (n : ℕ) → l.mark ≡ n → (with_changes all l).mark ≤ n
-mark_changes true l n is = from_zero n
-mark_changes false l n is = subst (λ m. m ≤ n) (sym is) (itself n)
+mark_changes true l n is = le-zero n
+mark_changes false l n is = subst (λ m. m ≤ n) (sym is) (le-itself n)
 
 no_mark : (all : Bool) (l : Listed) → all ≡ true → (with_changes all l).mark ≡ 0
 no_mark true l is = refl
@@ -186,8 +173,8 @@ no_mark false l is = absurd cc
 
 unsaid_at : (pairs : List (List ℕ × List ℕ)) (q : List ℕ) (b : Bool) (k : List ℕ) (x : List ℕ) (rest : Option (List ℕ)) → eq_by_cmp text_cmp q k ≡ b → (bytes_eq q k || has_text (map (λ p. p.0) pairs) q) ≡ false
     → (has_text (map (λ p. p.0) pairs) q ≡ false → rest ≡ None) → cond b (Some x) rest ≡ None
-unsaid_at pairs q true k x rest is out later = let never : true ≡ false = sym is ∙ is_eq-slice_cmp q k ∙ not_first (bytes_eq q k) _ out in absurd cc
-unsaid_at pairs q false k x rest is out later = later (not_second (bytes_eq q k) (has_text (map (λ p. p.0) pairs) q) out)
+unsaid_at pairs q true k x rest is out later = let never : true ≡ false = sym is ∙ is_eq-slice_cmp q k ∙ first_false (bytes_eq q k) _ out in absurd cc
+unsaid_at pairs q false k x rest is out later = later (second_false (bytes_eq q k) (has_text (map (λ p. p.0) pairs) q) out)
 
 not_found : (pairs : List (List ℕ × List ℕ)) (q : List ℕ) → has_text (map (λ p. p.0) pairs) q ≡ false → finmap.find text_cmp q pairs ≡ None
 not_found [] q out = refl

@@ -11,6 +11,7 @@ use Rattle.xds_resource.proofs.NameMaps.{get-put_some, bytes_eq_same, bytes_eq_t
 use Rattle.xds_catalogue.specs.Holdings.{Holdings, IsNumbered}
 use Rattle.xds_catalogue.specs.Next.{NoneAfter, IsNextChange}
 use Rattle.xds_ledger.specs.Listed.{is_since}
+use Rattle.xds_ledger.proofs.Choosing.{le-itself}
 
 -- What is found at a name, by the number of its latest change: what is to be there, once the walk came by that number, and what
 -- was there before.
@@ -22,9 +23,6 @@ Found mark last here old wanted (Some k) = (k ≤ mark → here ≡ old) × (las
 pub record IsWalkedTo {X : Type 0} (h : Holdings) (mark last : ℕ) (f : List ℕ → Option X) (before m : finmap.FinMap text_cmp X) : Type 0 where
   pub onward : mark ≤ last
   pub found : (q : List ℕ) → Found mark last (finmap.get m q) (finmap.get before q) (option_or (f q) (finmap.get before q)) (finmap.get h.latest q)
-
-itself : (k : ℕ) → k ≤ k
-itself k = omega arith
 
 never_both : (mark k : ℕ) → mark < k → k ≤ mark → ⊥
 never_both mark k above below = omega arith
@@ -74,7 +72,7 @@ module _ {X : Type 0} (h : Holdings) (mark : ℕ) (f : List ℕ → Option X) (b
   Walked last m = IsWalkedTo h mark last f before m
 
   pub walk_begins : Walked mark before
-  walk_begins = record { onward = itself mark; found = λ q. none_yet mark (finmap.get before q) (option_or (f q) (finmap.get before q)) (finmap.get h.latest q) }
+  walk_begins = record { onward = le-itself mark; found = λ q. none_yet mark (finmap.get before q) (option_or (f q) (finmap.get before q)) (finmap.get h.latest q) }
 
   -- what is at a name that the walk comes by only now
   old_here : (last number : ℕ) (w : StampedWrite) (m : finmap.FinMap text_cmp X) → IsNextChange h last number w → Walked last m → finmap.get m w.name ≡ finmap.get before w.name

@@ -4,9 +4,11 @@
 --     last_touch_forgotten             the same without the touch that was noted last
 --     was_touched                      whether a request touched the name since the response was sent
 --     once_told                        what is believed of a name that was told
---     believed_accepted, beliefs_accepted  what is believed of a name once the response is accepted
+--     believed_accepted                the belief about a name once the response is accepted
+--     beliefs_accepted                 all beliefs once the response is accepted
 --     believed_touched                 what is believed of a name that a request touches
---     believed_taken, beliefs_taken    the same of any name: one that isn't touched keeps what is believed of it
+--     believed_taken                   the belief about a name once a request's names are taken
+--     beliefs_taken                    all beliefs once a request's names are taken
 --     AreInOrder                       names with versions, as a client says that it holds them: their names ascend
 --     versions_of                      the version of each of them
 --     beliefs_resumed                  what is believed once a client said which versions it holds: it was told these

@@ -1,8 +1,10 @@
 -- What keeps the books of a ledger sufficient, and those of a session: the list, and what is known of the response that is
 -- unanswered. This project's own.
---     SentBooksFit, SentSessionFits      once an offer was sent that was made of these holdings
+--     SentBooksFit                       once an offer of these holdings is sent, the books still fit
+--     SentSessionFits                    so does the session
 --     LaterBooksFit                      at a catalogue to which writes came
---     RefreshedBooksFit, PrunedBooksFit  once the list was refreshed, and once it was pruned
+--     RefreshedBooksFit                  books fit once their list is refreshed
+--     PrunedBooksFit                     books fit once their list is pruned
 --     AcceptanceKeepsFitting             once the response is accepted, with the touched names alone listed
 use Rattle.std.specs.Prelude.{ℕ, List, Bool}
 use Rattle.xds_resource.specs.declared.types.TypeName.{TypeName}

@@ -2,19 +2,21 @@
 --     Account, account_code   what is believed of a client, the unanswered response, the refused offer
 --     untold                  before the first request
 --     is_due                  whether a response is due
---     owes, is_refused        whether the client is owed something: an answer of its own is out, or a response is due
+--     owes                    whether the client is owed something: an answer of its own is out, or a response is due
+--     is_refused              whether this offer is the one that the client refused last
 --     sending                 the offer that is sent now, if one is
 --     send                    once a response of this number was sent
 --     nonce_text              the nonce of the response of this number, and none before the first
 --     answers                 whether a request with this nonce answers the unanswered response
---     is_stale                whether a request with this nonce is out of date
+--     is_stale                whether a request with this nonce is stale, where it isn't the first
 --     accept                  the client accepts the response
 --     reject                  the client rejects the response
 --     answered                the client accepts or rejects the response
 --     settled                 once the unanswered response was settled by a request with this nonce
 --     noted                   what a request touched is noted with the unanswered response, if there is one
 --     forgotten               the same without what was noted last
---     touch, resume           once a request's names are taken
+--     touch                   the account once a request's names are taken: its interest, the touched and the mentioned names
+--     resume                  the account once the client said which versions it holds
 --     taken                   once all that a request says of names is taken
 use Rattle.std.specs.Prelude.{ℕ, zero, suc, List, [], Bool, true, false, ◌&&◌, ◌||◌, not, if◌then◌else◌, Option, Some, None, bytes_eq, is_some, is_none, option_map, decimal, refl}
 use Rattle.std.specs.Option.{option_map_or}
@@ -33,6 +35,7 @@ pub use Rattle.xds_ledger.specs.Believing.{Sent, sent_code, touched_since, last_
 use Rattle.xds_ledger.specs.Variants.{is_whole}
 use Rattle.xds_ledger.specs.Owed.{entry_code, something_owed}
 use Rattle.xds_ledger.specs.Offers.{Offer, due_code, offer, same_offer}
+use Rattle.xds_ledger.specs.Stale as stale
 
 pub record Account : Type 0 where
   -- what the client is believed to hold
@@ -95,9 +98,9 @@ abbrev pub answers : Account → List ℕ → Bool
 answers a nonce = is_some a.sent && bytes_eq nonce (nonce_text a.nonce)
 
 -- rule: stale-nonce
--- Whether a request with this nonce is out of date: nothing is unanswered, and it names another response than the last.
+-- whether a request with this nonce is stale, where it isn't the first
 abbrev pub is_stale : Account → List ℕ → Bool
-is_stale a nonce = is_none a.sent && not (bytes_eq nonce []) && not (bytes_eq nonce (nonce_text a.nonce))
+is_stale a nonce = stale.is_stale true (is_none a.sent) (Some (nonce_text a.nonce)) nonce
 
 -- ---- answers
 

@@ -1,5 +1,6 @@
 pub mod Variants
 pub mod Owed
+pub mod Stale
 pub mod Offers
 pub mod OfferParts
 pub mod Repeats

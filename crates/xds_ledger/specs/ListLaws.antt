@@ -1,9 +1,11 @@
 -- What keeps a list sufficient, and what it then has. This project's own.
 --     NewListFits                      a new list suffices where nothing is believed held, whatever the interest
 --     WiderListFits                    a wider list suffices, too
---     RefreshedListFits, PrunedListFits  and so does the list once it was refreshed, and once it was pruned
+--     RefreshedListFits                a list that suffices does so once it is refreshed
+--     PrunedListFits                   a list that suffices does so once it is pruned
 --     OwedIsListed                     once a list was refreshed, all that is owed is listed
---     LaterHoldingsFit, JoinedIsLater  a list that suffices at a catalogue suffices at it once writes came
+--     LaterHoldingsFit                 a list that suffices at a catalogue suffices at a later one
+--     JoinedIsLater                    a catalogue with more writes is a later one
 use Rattle.std.specs.Prelude.{◌≡◌, ℕ, List, true}
 use Rattle.std.specs.FinMap as finmap
 use Rattle.xds_resource.specs.declared.types.TypeName.{TypeName}

@@ -1,7 +1,8 @@
 -- The list of what a client may be owed: some names, and a mark up to which the catalogue's changes were looked at, so that a
 -- look goes through these names and the changes above the mark, and through nothing else. This project's own.
 --     Listed, listed_code   each listed name has a number
---     unlisted, is_listed   no name, and every change is to be looked at
+--     unlisted              no name, and every change is to be looked at
+--     is_listed             whether a name is listed
 --     from_mark             no name, and every change above a mark
 --     is_since              whether the latest change of a name's entry is above a mark
 --     IsPast                the name has no entry in the catalogue, or its latest change has a number

@@ -1,7 +1,10 @@
 -- What a response says: of each of its names the version that is stated, or that it is removed. This project's own.
---     Offer, stated_version, due_stated, due_stated_again,
---     due_code                         what a response says, name by name
---     offered, offer                   what an offer says of a name
+--     Offer                            what a response says, name by name
+--     stated_version                   the version that is stated, if one is
+--     due_stated                       a version is stated, or the name is removed
+--     due_stated_again, due_code       the two undo one another
+--     offered                          what an offer says of a name
+--     offer                            what a response says of each name
 --     same_due                         whether two say the same of a name
 --     is_within                        whether the first says nothing that the second doesn't say
 --     same_offer                       whether two offers are equal

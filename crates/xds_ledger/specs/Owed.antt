@@ -1,10 +1,11 @@
 -- What a client is owed of each name, from what it was told and what the catalogue holds. This project's own.
 --     Beliefs                          what the server believes that a client holds
---     told_version, entry_told, entry_told_again,
---     entry_code                       the version that a client was told, or that it is unsure
+--     told_version                     the version that a client was told, if it isn't unsure
+--     entry_told                       a version was told, or the entry is unsure
+--     entry_told_again, entry_code     the two undo one another
 --     live_version                     the version of a live write
 --     version_shown                    the version at which a write of a name is shown
---     present                          the version at which a name is present
+--     present_as, present              the version at which a name is present
 --     owed_after                       what is due to a client that was told this version, where this one is present
 --     owed_unsure                      what is due to a client of whom it is not known what it holds
 --     owed                             what is owed of a name, from its entry and the version that is present
@@ -59,9 +60,15 @@ abbrev pub version_shown : Selection → List ℕ → StampedWrite → Option (L
 version_shown s name w = if covers s name w.groups then live_version w else None
 
 -- rule: owed, rule: covered-only
--- The version at which a name is present: the catalogue has a live write of it, which the interest covers.
+-- The version at which a name is present to a client of this interest, by the write that stands under it, if there is one: the write
+-- is live, and the interest covers it.
+abbrev pub present_as : Selection → List ℕ → Option StampedWrite → Option (List ℕ)
+present_as s name standing = option_and_then (version_shown s name) standing
+
+-- rule: owed, rule: covered-only
+-- the same by what a catalogue has
 abbrev pub present : Selection → Entries → List ℕ → Option (List ℕ)
-present s m name = option_and_then (version_shown s name) (finmap.get m name)
+present s m name = present_as s name (finmap.get m name)
 
 -- rule: owed
 -- what is due to a client that was told this version, where this one is present

@@ -13,8 +13,9 @@
 --     owes                    whether the client is owed something, by a replica that holds these entries
 --     sending                 the offer that a poll sends, if it sends one
 --     send                    once that was sent as the response of this number
+--     IsNext                  what a poll has to send: an offer, its response, and the number of that
 --     HasPolled               what a poll answers and leaves, of the session and of the stream's count of responses
-use Rattle.std.specs.Prelude.{◌≡◌, ℕ, ◌+◌, List, Bool, ◌&&◌, not, if◌then◌else◌, Option, Some, None, MatchOption, refl}
+use Rattle.std.specs.Prelude.{◌≡◌, ℕ, ◌+◌, List, Bool, ◌&&◌, not, if◌then◌else◌, Option, Some, None, is_none, MatchOption, refl}
 use Rattle.std.specs.FinMap as finmap
 use Rattle.std.specs.FinSet as set
 use Rattle.std.specs.Coded.{Coded, code_by, coded×}
@@ -29,7 +30,8 @@ use Rattle.xds_ledger.specs.declared.outcome.Outcome.{Outcome}
 use Rattle.xds_ledger.specs.declared.outcome.Outcome.TheVariants.{Taken, Ignored}
 use Rattle.xds_ledger.specs.Offers.{Offer}
 use Rattle.xds_ledger.specs.Ledgers as ledgers
-use Rattle.xds_ledger.specs.Ledgers.{Account, account_code, untold, settled, touch, resume}
+use Rattle.xds_ledger.specs.Ledgers.{Account, account_code, untold, nonce_text, settled, touch, resume}
+use Rattle.xds_ledger.specs.Stale as stale
 
 pub record Session : Type 0 where
   pub asked : Asked
@@ -74,7 +76,7 @@ delta_names t before m versions =
 -- rule: stale-nonce
 -- whether a request with this nonce is stale, so that it is ignored: the first request never is
 abbrev pub is_stale : Session → List ℕ → Bool
-is_stale s nonce = s.asked.begun && ledgers.is_stale s.account nonce
+is_stale s nonce = stale.is_stale s.asked.begun (is_none s.account.sent) (Some (nonce_text s.account.nonce)) nonce
 
 -- after a request that is taken: it settles the response that it answers, and then its names are taken
 abbrev pub taken : VariantName → TypeName → Session → Answer → Names → Session
@@ -105,6 +107,12 @@ sending v t s m = if s.asked.begun then ledgers.sending v t s.asked.interest m s
 -- once that was sent as the response of this number
 abbrev pub send : Session → Offer → ℕ → Session
 send s offer nonce = record s { account = ledgers.send s.account offer nonce }
+
+-- rule: nonce-numbers
+-- What a poll has to send, by the stream's count of responses: where an offer is to be sent, that offer, its response as the next
+-- one, and the number of that; else nothing. `respond` is the response of an offer, as the one of a number.
+abbrev pub IsNext : {R : Type 0} → VariantName → TypeName → Entries → (Offer → ℕ → R) → Session → ℕ → Option (Offer × R × ℕ) → Type 0
+IsNext v t m respond s count next = MatchOption (sending v t s m) (next ≡ None) (λ o. next ≡ Some (o, respond o (count + 1), count + 1))
 
 -- rule: nonce-numbers
 -- What a poll answers and leaves, of the session and of the stream's count of responses: where an offer is to be sent, it is

@@ -51,6 +51,14 @@ impl Nonces {
     }
 
     // rule: nonce-numbers
+    /// The number that was drawn last, 0 before the first.
+    pub fn last(&self) -> u64
+        ensures { result ≡ self.now }
+    {
+        self.last
+    }
+
+    // rule: nonce-numbers
     /// Whether the greatest number was drawn.
     pub fn are_spent(&self) -> bool
         ensures { IsTrue result ↔ (self.now ≡ max_counter) }

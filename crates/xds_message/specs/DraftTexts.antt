@@ -1,5 +1,7 @@
 -- Responses of either variant, before they are written. This project's own.
---     text_of, nonce_of, kind_of   the text that a draft is written as
+--     text_of                      the text that a draft is written as
+--     nonce_of                     the nonce of a draft
+--     kind_of                      the type of a draft
 --     IsMessageOf                  the response is the message of the draft
 --     HoldsBodyTexts               what a draft holds of a resource is the compact text of the resource's object
 use Rattle.std.specs.Prelude.{◌≡◌, ℕ, List, All}

@@ -1,11 +1,16 @@
 -- Responses before they are written: what they tell, with the resources as the compact texts that are stored. This project's own.
 --     IsBodyText                       the compact text of a resource's object
 --     body_text                        the compact text of the object that a stored text says: the same text again
---     Drafted, message_of              a DiscoveryResponse before it is written
---     AreSound, IsSoundResponse, IsSoundDelta  the resources are shallow, whole objects
+--     Drafted                          a DiscoveryResponse before it is written
+--     message_of                       its message
+--     AreSound                         values that are shallow objects with whole numbers
+--     IsSoundResponse                  a response whose resources are such
+--     IsSoundDelta                     a delta response whose resources are such
 --     with_text                        texts with one more behind them, if there is a body
---     DraftedResource, drafted_resource  a resource of a DeltaDiscoveryResponse before it is written
---     DraftedDelta, delta_message_of   a DeltaDiscoveryResponse before it is written
+--     DraftedResource                  a resource of a DeltaDiscoveryResponse before it is written
+--     drafted_resource                 its message
+--     DraftedDelta                     a DeltaDiscoveryResponse before it is written
+--     delta_message_of                 its message
 --     with_resource                    resources with the one that a write puts behind them, if it puts one
 use Rattle.std.specs.Prelude.{◌≡◌, ◌≤◌, ℕ, List, [], ◌∷◌, ◌++◌, map, false, Option, Some, None, All}
 use Rattle.serde_json.specs.Data.{Data, depth}

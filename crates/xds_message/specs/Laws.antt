@@ -1,10 +1,14 @@
 -- What holds of every message: a value spells one at most, and the object that is written for a message spells it.
---     SpellsOneRequest, SpellsOneResponse  which values spell it
---     HasCodeInRange, IsSpelledByItsObject,
---     IsRequestSpelledByItsObject      a request whose error code, if it has one
---     SpellsOneDeltaRequest, SpellsOneDeltaResponse,
---     HasDeltaCodeInRange, IsDeltaRequestSpelledByItsObject,
---     IsDeltaResponseSpelledByItsObject  which values spell it
+--     SpellsOneRequest                 a value spells one request at most
+--     SpellsOneResponse                a value spells one response at most
+--     HasCodeInRange                   a request whose error code, if it has one, is a number of 32 bits
+--     IsSpelledByItsObject             the object of a response of objects spells it
+--     IsRequestSpelledByItsObject      the object of such a request spells it
+--     SpellsOneDeltaRequest            a value spells one delta request at most
+--     SpellsOneDeltaResponse           a value spells one delta response at most
+--     HasDeltaCodeInRange              a delta request whose error code, if it has one, is a number of 32 bits
+--     IsDeltaRequestSpelledByItsObject  the object of such a delta request spells it
+--     IsDeltaResponseSpelledByItsObject  the object of a delta response of objects spells it
 use Rattle.std.specs.Prelude.{◌≡◌, All, MatchOption, FitsSigned, ⊤}
 use Rattle.std.specs.Int.{w32}
 use Rattle.serde_json.specs.Data.{Data}

@@ -2,7 +2,8 @@
 -- mapping, of the fields that a control plane reads.
 --     Request                         a DiscoveryRequest
 --     Response                        a DiscoveryResponse, its resources as JSON values
---     SpellsRequest, SpellsResponse   which values spell it
+--     SpellsRequest                   a value spells a request
+--     SpellsResponse                  a value spells a response
 use Rattle.std.specs.Prelude.{ℕ, List, Option, codes}
 use Rattle.serde_json.specs.Data.{Data}
 use Rattle.xds_resource.specs.Fields.{field}

@@ -1,5 +1,7 @@
 -- What the responses of the program are, as messages. This project's own.
---     response_of, resource_of, delta_response_of  a response, and a resource of one, as the definitions have them
+--     response_of              a response, as the definitions have it
+--     resource_of              a resource of a delta response, as the definitions have it
+--     delta_response_of        a delta response, as the definitions have it
 use Rattle.std.specs.Prelude.{map, string_bytes}
 use Rattle.serde_json.specs.View.{view}
 use Rattle.xds_message.specs.declared.response.DiscoveryResponse.{DiscoveryResponse}

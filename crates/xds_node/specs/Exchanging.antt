@@ -8,7 +8,8 @@
 --     IsToldAgain            no receipt was taken, and all is told again
 --     IsGivenUp              the batch was given up: all is told again. A beginning of it was put.
 --     IsCutOff               since the other end is gone: the batch was told, and a beginning of it was put
---     IsGivenUpFor, IsTurn   or for this refusal: it was refused or left no record, or there was no memory to put it
+--     IsGivenUpFor           a turn that was given up for this refusal: refused, without a record, or without memory to put it
+--     IsTurn                 a turn, whole or given up
 --     Follows                each turn begins with the marks that the one before left
 --     AreTurns               these are the turns, from a peer that knows nothing
 --     IsLastTurn             what the last turn was

@@ -2,10 +2,12 @@
 -- cut. This project's own.
 --     keeper                   the one token that knows all records
 --     seat_holding             one seat, what it was told, and what it was refused
---     share_holding, nothing   a share of what was cut, and what was cut before it
+--     share_holding            a share of what was cut, and what was cut before it
+--     nothing                  a token that holds nothing
 --     recorded                 all that was recorded, as far as a token knows: what was cut, and the journal
 --     past_of                  what was cut before the share that a token has
---     kept_part, lent_part     what a keeper knows and a seat was refused, and what is lent without it
+--     kept_part                what a keeper knows, and what a seat was refused
+--     lent_part                what is lent without it: seats with what they were told, and shares
 --     both                     the first, with what the second was lent
 --     with_entry               an entry more, in the journal and of what the seats were told
 --     with_refused             a call more that was refused

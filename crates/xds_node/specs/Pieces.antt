@@ -1,7 +1,8 @@
 -- What a node hands out: segments of its records, and at its end its history. This project's own.
 --     Piece                           records that were cut
 --     piece_of                        what is cut of a node
---     piece_entries, pieces_entries   its records, with their numbers
+--     piece_entries                   the records of a piece, with their numbers
+--     pieces_entries                  the records of some pieces, with their numbers
 --     piece_before                    what was cut before it
 --     GoesOn                          it goes on where what was cut before it ends
 --     IsPiece                         each answer in it is the core's, it goes on where what was cut before it ends

@@ -1,7 +1,11 @@
 -- What the reading thread of a stream does: it reads frames, and asks the replica for each the request that it spells. This project's
 -- own; the requests are those of discovery.proto.
---     Asking, IsAsking                 a frame, the request that it spells, what the seat was told of that
---     IsTaken, bytes_of, told_of, tried_of  the request was taken or ignored, and not refused
+--     Asking                           a frame, the request that it spells, what the seat was told of that, and the tries before
+--     IsAsking                         these belong together
+--     IsTaken                          the request was taken or ignored, and not refused
+--     bytes_of                         the bytes of all frames that were asked
+--     told_of                          the records that the seat was told
+--     tried_of                         the tries that left no record
 --     IsRead                           these frames were read, and their requests were taken
 --     IsRequestRefused                 a request is refused, and this was told; or it left no record
 --     IsStop                           why the reading stops where these bytes are left of those that were read

@@ -1,7 +1,8 @@
 -- The events of a stream's messages, with their answers. This project's own.
 --     asked                the stream took a request
 --     gave                 a poll of all types gave a response
---     gave_none, refused   and one gave none
+--     gave_none            the record of a poll that gave no response
+--     refused              the record of an event that was refused
 --     polled_out           polls that gave these responses, and the one after them, which gave none
 --     answered             a request that was taken, and polls until one gave none
 --     Refuses              the replica refuses the event, or finds no memory for it where no other refusal applies

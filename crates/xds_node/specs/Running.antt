@@ -2,7 +2,8 @@
 -- This project's own; the responses are those of Envoy's "xDS REST and gRPC protocol".
 --     Serves         the messages of an open stream are answered one after another, until it ends
 --     IsUnopened     the stream wasn't opened, and nothing happened
---     HasRun, Runs   the stream opens, its messages are served, and it closes, however that ended
+--     HasRun         the stream opens, its messages are served, and it closes, however that ended
+--     Runs           a stream has run, or it couldn't be opened
 use Rattle.std.specs.Prelude.{◌≡◌, ◌⊎◌, ℕ, List, [], ◌++◌, All, Result, Ok, Err}
 use Rattle.std.specs.Io.KnownBytes.{Consumes}
 use Rattle.xds_resource.specs.declared.refusal.Refusal.{Refusal}

@@ -1,5 +1,6 @@
 -- Messages that were answered whole, and what a replica and a writer are then. This project's own.
---     Served, IsServed   a message that was answered
+--     Served             a message that was answered, with its responses
+--     IsServed           these belong together
 --     frames_of          the bytes of their frames
 --     events_of          their events: for each its request, and polls until one gave none
 --     sent_by            the bytes of their responses

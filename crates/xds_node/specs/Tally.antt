@@ -5,8 +5,15 @@
 --     BeginsIn                         some token knows that this was cut first
 --     Balanced                         there is one keeper, each seat made is a seat of some token
 --     IsPartOf                         what the keeper knows of one of its lists, and of what was given of it
---     Known, Rule, AppendsSaid, Appends, NotesSaid, Notes, Sits,
---     Cuts, Looks                      what the keeper knows of all tokens
+--     Known                            what the keeper knows of all tokens
+--     Rule                             the tokens of a node are balanced
+--     AppendsSaid                      how a token is left that tells an entry, where one is said
+--     Appends                          the step that tells an entry
+--     NotesSaid                        how a token is left that notes a refusal, where one is said
+--     Notes                            the step that notes a refusal
+--     Sits                             the step that makes a seat
+--     Cuts                             the step that cuts the journal
+--     Looks                            the step that changes nothing and learns what the keeper knows
 use Rattle.std.specs.Prelude.{◌≡◌, ℕ, ◌≤◌, List, [], length, All, Contains}
 use mathlib.Core.Option.{Option, none, some}
 use lib.ListN.{get_elem?}

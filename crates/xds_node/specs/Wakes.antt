@@ -4,7 +4,8 @@
 --     wakes_by    the same by what the event was answered: where nothing changed it wakes nobody
 --     due_at      whether a poll of a stream would give a response, or be refused for want of a number
 --     wait_ends   what a wait ends by: it ends once something is due, or the stream isn't open
---     if_due, narrowed  a writer whose stream is owed nothing isn't woken
+--     if_due      a wake-up, but nobody's where nothing is due
+--     narrowed    whom an event wakes, but for a writer whose stream is owed nothing
 use Rattle.std.specs.Prelude.{ℕ, ◌==◌, Bool, true, false, if◌then◌else◌, Option, Some, None, is_some}
 use Rattle.std.specs.Option.{option_map}
 use Rattle.std.specs.FinMap as finmap

@@ -3,7 +3,8 @@
 --     listed            a response, if there is one
 --     response_in       the response in an answer
 --     responses_of      the responses that were told, in order
---     poll_of, IsPoll   a poll of a stream, for all types
+--     poll_of           a poll of a stream, for all types
+--     IsPoll            an entry that records such a poll
 --     AreTries          of so many polls each was tried at most once before it was recorded, where the journal was full
 --     IsWritten         responses were told, and each was written as a frame
 --     IsLastPoll        the last poll: the stream isn't open

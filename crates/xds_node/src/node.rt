@@ -157,7 +157,7 @@ impl<N: NodeName> Node<N> {
     }
 
     // rule: cuts
-    /// The same where the journal is full, and none where it isn't, as where another thread has cut it meanwhile. Refused only by
+    /// Cuts the journal where it is full, as `cut` does, else answers none, as where another thread has cut it. Refused only by
     /// `OutOfMemory`; then nothing changes. It may wait for the lock.
     pub fn cut_full<R: Wait>(&self, rt: &R) -> Result<Option<Segment<N>>, Refusal>
         ensures refused { IfErr result (λ e. e ≡ OutOfMemory) }

@@ -1,4 +1,4 @@
-// A node that finds no memory. `bench/refused.py` runs this test with each allocation failing in
+// A node that finds no memory. `bench/hand/refused.py` runs this test with each allocation failing in
 // turn: a call that was refused left no record and gives its event back, and a cut that was refused
 // has cut nothing.
 ghost use Rattle.std.specs.Prelude.{◌≡◌};

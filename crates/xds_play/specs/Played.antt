@@ -1,5 +1,6 @@
 -- What playing a script does and prints, command by command. This project's own.
---     Played, nothing_played   how far a script is played: what happened, and what was printed
+--     Played                   how far a script is played: what happened, and what was printed
+--     nothing_played           before the first command
 --     happening                something more happened
 --     printing                 something more is printed
 --     Plays                    what a command does. An event happens, though it may change nothing

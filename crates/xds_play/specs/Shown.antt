@@ -1,10 +1,15 @@
 -- What is printed of a client's view and of a replica's content. This project's own.
 --     none_text                        what is printed of a client or a replica that isn't there
 --     holding_line                     a resource that a client holds, with its version where the client was told one
---     holding_lines, view_head, view_text  what a client holds, in the order of names
+--     holding_lines                    the lines of what a client holds, in the order of names
+--     view_head                        the first line of a view
+--     view_text                        a view with its lines
 --     state_of                         the word for whether a client polls, or is up, and settled of a type
 --     state_word                       how a client stands to a type
---     view_shown, write_line, write_lines, content_head  what is printed of a client's view of a type
+--     view_shown                       what is printed of a client's view of a type
+--     write_line                       the line of a write in a content
+--     write_lines                      the lines of a content
+--     content_head                     the first line of a content
 --     content_text                     the live ones of these writes
 --     content_shown                    what is printed of a replica's content of a type
 use Rattle.std.specs.Prelude.{ℕ, List, [], ◌++◌, length, Bool, if◌then◌else◌, codes, decimal, unwrap_or, filter}

@@ -1,6 +1,8 @@
 -- What a post over HTTP comes to before its body is read, and what a reply to it is: the paths of Envoy's "xDS REST and gRPC
 -- protocol". The bound on a body, the order of the checks and the reply where none can be made are this project's own.
---     HttpReply, without_body, with_body  a reply: its status, and its body, if it has one
+--     HttpReply                        a reply: its status, and its body, if it has one
+--     without_body                     a reply with a status alone
+--     with_body                        a reply with a status and a body
 --     unavailable                      where no reply can be made
 --     without_query                    the path up to its query, if it has one
 --     type_of_path                     the type that is polled at a path

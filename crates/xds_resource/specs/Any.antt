@@ -1,5 +1,8 @@
 -- A resource or a write of any type, as its type and what it is there. This project's own.
---     resource_type, named_body, write_type, stamped_write  the type of a resource or a write of any type
+--     resource_type                                          the type of a resource of any type
+--     named_body                                             its name and body
+--     write_type                                             the type of a write of any type
+--     stamped_write                                          the write itself
 --     any_write                                              a write of a type, as one of any
 use Rattle.xds_resource.specs.declared.types.TypeName.{TypeName}
 use Rattle.xds_resource.specs.declared.types.TypeName.TheVariants as types

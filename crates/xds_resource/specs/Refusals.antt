@@ -1,5 +1,6 @@
 -- The numbered refusals, and what a call answers that may also find no memory. This project's own.
---     number_of, name_of   the number and the name of a refusal
+--     number_of            the number of a refusal
+--     name_of              the name of a refusal
 --     unless_refused       a value, unless a condition holds: then the refusal of the first that does
 --     Gives                the call answers this, its value seen by view, unless it found no memory
 use Rattle.std.specs.Prelude.{◌≡◌, ◌≢◌, ℕ, List, [], ◌∷◌, Bool, if◌then◌else◌, Result, Ok, Err, codes}

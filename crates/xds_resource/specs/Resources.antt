@@ -7,9 +7,11 @@
 --     value_of                     the value that a text reads as, and `null` for one that is no JSON
 --     is_valid_name                a name that a resource may have
 --     name_text                    the text of a name field, empty where it is absent or `null`
---     type_text, has_type          what the value's `@type` says
+--     type_text                    the text at `@type` of a value, if there is one
+--     has_type                     whether that is the URL of a type
 --     resource_name                the name of the resource that a value is of a type
---     is_resource, name_or_empty   an object of the type, whose name field is a text
+--     is_resource                  whether a value is an object of the type, whose name field is a text
+--     name_or_empty                the name of a value, empty where it has none
 --     resource_of                  the resource that a value is
 --     object_conditions            what the object of a resource has to be like
 --     from_object                  what a shallow, whole value is as a resource of the type

@@ -1,5 +1,6 @@
 -- The table of resource types of Envoy's "xDS REST and gRPC protocol": one row a type. A further type is one row more.
---     Row, row       what is known of a type
+--     Row            what is known of a type
+--     row            the row of each type
 --     types          the types, in the order in which a server answers them
 --     type_of_url    the type of the table that has this URL
 --     type_of_word   the type that the programs call by this word

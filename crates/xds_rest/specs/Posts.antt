@@ -3,9 +3,12 @@
 --     is_own                          a message names the type of the path, or none
 --     IsPoll                          a body that asks for something of a type: JSON that spells the request
 --     RefusesBody                     why a body is refused
---     refusal_object, refused_reply   a refusal, as a JSON object
+--     refusal_object                  a refusal, as a JSON object
+--     refused_reply                   the reply 400 with that object
 --     poll_of                         what a replica is asked
---     Asked, IsReadAs, IsAskedBy      a request either is finished with a reply, or asks a replica
+--     Asked                           a request is finished with a reply, or asks a replica
+--     IsReadAs                        what a body of a poll of this type comes to
+--     IsAskedBy                       what a path, a method and a body come to
 --     IsAsked                         what a request of this method, path and body comes to
 use Rattle.std.specs.Prelude.{◌≡◌, ◌⊎◌, ℕ, List, [], ◌++◌, Bool, true, false, ◌||◌, Result, Ok, Err, bytes_eq, codes, decimal}
 use Rattle.serde_json.specs.Data.{Data}

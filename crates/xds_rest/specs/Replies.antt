@@ -3,7 +3,10 @@
 --     http_of                          what is written of a replica's answer to a poll
 --     reply_to                         the same of any answer of a replica
 --     IfPoll                           what is said of an event that is a poll, by its type, names
---     poll_reply, IsPollReply, IsRefusal, IsReplyBy  the reply to a poll of a type at a replica
+--     poll_reply                       the reply to a poll of a type at a replica
+--     IsPollReply                      the reply to the poll that a body spells
+--     IsRefusal                        the reply to a body that spells none
+--     IsReplyBy                        the reply to a path, a method and a body
 --     IsReply                          the reply of a replica to a request of this method, path and body
 use Rattle.std.specs.Prelude.{◌≡◌, ◌⊎◌, ⊤, ℕ, List, Option, Some, None, Result, Ok, Err}
 use Rattle.serde_json.specs.Written.{compact_text}

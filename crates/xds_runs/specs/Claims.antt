@@ -1,5 +1,6 @@
 -- What holds of runs one after another. This project's own.
---     PutsAResourceThen, PutResourcesThen  what is put is a resource of its type, for groups that a write may list
+--     PutsAResourceThen                    what a moment puts is a resource of its type, for groups that a write may list
+--     PutResourcesThen                     so it is at each of some moments
 --     held                                 what a replica holds of a type, as a list of writes
 --     IsPartOf                             a world whose replicas are replicas of a whole, and whose clients are all clients there
 --     AreOneWorld                          runs are one list of happenings, of which the headline holds

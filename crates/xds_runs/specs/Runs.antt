@@ -1,12 +1,17 @@
 -- Runs of servers one after another over one store. Each run has a world of its own: replicas with numbers that no run had, each of
 -- which begins with the merge of what is stored, and the clients, who go on with what they believe. This project's own.
 --     Moment                          what may happen over runs
---     Runs, no_run                    the numbers that are taken, what is stored, and the world of the run that is under way
---     is_number, are_new, with_taken  numbers that no run took
+--     Runs                            the numbers that are taken, what is stored, and the world of the run that is under way
+--     no_run                          before the first run
+--     is_number                       whether a replica may have this number
+--     are_new                         whether these are numbers of replicas, each its own, that aren't taken
+--     with_taken                      the numbers that are taken once these are
 --     arrivals                        what happens first at each replica of a run
---     ground, begun                   the run that begins
+--     ground                          a world without replicas, with the clients as they are, and with what is stored as its one batch
+--     begun                           a run that begins with replicas of these numbers
 --     stored_by                       with what the store has then
---     missed_on, missed               a client finds that the replica of its stream is of an ended run
+--     missed_on                       a client that is up finds that, where its replica is none of the run's
+--     missed                          a client finds that the replica of its stream is gone
 --     brings_a_replica                replicas come where a run begins, and at no other time
 --     in_run                          with what the world of the run is then
 --     occurs                          what is so after a moment; none where that isn't possible or is refused

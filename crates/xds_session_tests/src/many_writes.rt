@@ -246,7 +246,7 @@ fn is_refused(alloc: Global, verb: &str) -> Result<bool, Refusal> {
 }
 
 // rule: refused-event
-// With ample memory each change is made at once; `bench/refused.py` refuses one allocation after
+// With ample memory each change is made at once; `bench/hand/refused.py` refuses one allocation after
 // another.
 #[test]
 fn each_change_without_memory(rt: HostRuntime) -> Result<(), Fail> {

@@ -3,11 +3,15 @@
 --     mention                          the two lists of a request
 --     answer_in                        the nonce of a request, which rejects where it has an error
 --     take                             the session after a request
---     sending, owes, is_statement, is_removal  the offer of a poll, if it gives a response
+--     sending                          the offer of a poll, if it gives a response
+--     owes                             whether the client is owed something
+--     is_statement                     whether an offer states a name
+--     is_removal                       whether an offer removes a name
 --     names_where                      the names of which an offer says such a thing, in ascending order
 --     resource_of                      the resource that a write puts, under its name and with its version
 --     resource_at                      the live resource of a name
---     Said, said_by                    what a response says, by its offer
+--     Said                             what a response says: stated resources, and names that are gone
+--     said_by                          what a response with this offer says
 --     response                         the response with this offer, as the response of this number on its stream
 --     HasPolled                        what a poll answers and leaves
 use Rattle.std.specs.Prelude.{ℕ, List, map, Bool, true, false, Option, is_some, option_map, decimal}

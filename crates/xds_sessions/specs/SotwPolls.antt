@@ -2,7 +2,8 @@
 -- version is this project's own.
 --     take_list       the session after a request with this nonce, with or without an error
 --     take            the session after a request, which rejects where it has an error
---     sending, owes   the offer of a poll, if it gives a response
+--     sending         the offer of a poll, if it gives a response
+--     owes            whether the client is owed something
 --     stated_writes   the live writes that the interest covers and the offer speaks of, in ascending order of names
 --     stated_bodies   their texts
 --     response        the response with this offer, as the response of this number on its stream

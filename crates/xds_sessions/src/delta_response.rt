@@ -42,7 +42,7 @@ impl Model for Said {
     ghost view = { λ s. record { resources = arc_slice_items s.resources; removed = map string_bytes s.removed.items } };
 }
 
-// The same while it is gathered.
+// What a response says, while it is gathered.
 struct Gathered {
     resources: Vec<DraftResource>,
     removed: Vec<String>,

@@ -5,7 +5,7 @@ ghost use Rattle.xds_resource.specs.Stamps.{max_counter};
 ghost use Rattle.xds_resource.specs.declared.refusal.Refusal.TheVariants.{OutOfMemory, NonceSpent};
 ghost use Rattle.xds_ledger.specs.Offers.{offer};
 ghost use Rattle.xds_ledger.specs.Sessions as sessions;
-ghost use Rattle.xds_ledger.specs.Sessions.{HasPolled, is_stale, sending};
+ghost use Rattle.xds_ledger.specs.Sessions.{IsNext, HasPolled, is_stale, sending};
 ghost use Rattle.xds_ledger.specs.Lists.{SessionFits, new_kept, sent_kept};
 ghost use Rattle.xds_catalogue.specs.Holdings.{Holdings};
 ghost use Rattle.xds_ledger.specs.Listed.{changed_since};
@@ -240,35 +240,56 @@ impl<T: ResourceType, V: Speaks<T>> Session<T, V> {
         ensures err { OnErr result ((self.new.session ≡ self.old.session) × (nonces.new ≡ nonces.old)) }
         ensures refused { IfErr result (λ e. IsSome (sending V.NAME T.TYPE self.old.session catalogue.now.entries) × (((e ≡ NonceSpent) × (nonces.old ≡ max_counter)) ⊎ ((e ≡ OutOfMemory) × (nonces.old < max_counter)))) }
     {
-        self.tidy(alloc, catalogue);
-        self.poll_tidied(alloc, replica, catalogue, nonces)
+        let Some((offer, draft, drawn)) = self.next(alloc, replica, catalogue, *nonces)? else {
+            return Ok(None);
+        };
+        *nonces = drawn;
+        self.send(alloc, offer, drawn.last());
+        Ok(Some(draft))
     }
 
-    // rule: one-unanswered, rule: nonce-numbers
-    // The next response, from the list as it is.
-    fn poll_tidied(
+    // rule: nonce-numbers
+    /// What `poll` has to send, if there is a response to send: its offer, the response, and the numbers of the stream once its
+    /// own is drawn. It isn't sent before `send`. Refused as `poll` is.
+    pub fn next(
         &mut self,
         alloc: Global,
         replica: u16,
         catalogue: &Published<T>,
-        nonces: &mut Nonces,
-    ) -> Result<Option<V::Draft>, Refusal>
+        nonces: Nonces,
+    ) -> Result<Option<(SharedMap<Due>, V::Draft, Nonces)>, Refusal>
         requires { SessionFits V.NAME T.TYPE catalogue.now self.old }
-        ensures ok { IfOk result (λ answer. HasPolled V.NAME T.TYPE catalogue.now.entries (V.response replica T.TYPE catalogue.now self.old.session.asked.interest) self.old.session nonces.old answer self.new.session nonces.new) }
-        ensures bound { IfOk result (λ answer. IfSome answer (λ _. nonces.new ≤ max_counter)) }
+        ensures ok { IfOk result (λ next. IsNext V.NAME T.TYPE catalogue.now.entries (V.response replica T.TYPE catalogue.now self.old.session.asked.interest) self.old.session nonces next) }
+        ensures bound { IfOk result (λ next. IfSome next (λ p. p.2 ≤ max_counter)) }
+        ensures same { self.new.session ≡ self.old.session }
         ensures fits { SessionFits V.NAME T.TYPE catalogue.now self.new }
-        ensures err { OnErr result ((self.new.session ≡ self.old.session) × (nonces.new ≡ nonces.old)) }
-        ensures refused { IfErr result (λ e. IsSome (sending V.NAME T.TYPE self.old.session catalogue.now.entries) × (((e ≡ NonceSpent) × (nonces.old ≡ max_counter)) ⊎ ((e ≡ OutOfMemory) × (nonces.old < max_counter)))) }
+        ensures refused { IfErr result (λ e. IsSome (sending V.NAME T.TYPE self.old.session catalogue.now.entries) × (((e ≡ NonceSpent) × (nonces ≡ max_counter)) ⊎ ((e ≡ OutOfMemory) × (nonces < max_counter)))) }
+    {
+        self.tidy(alloc, catalogue);
+        self.next_tidied(alloc, replica, catalogue, nonces)
+    }
+
+    // rule: one-unanswered, rule: nonce-numbers
+    // The same from the list as it is.
+    fn next_tidied(
+        &self,
+        alloc: Global,
+        replica: u16,
+        catalogue: &Published<T>,
+        nonces: Nonces,
+    ) -> Result<Option<(SharedMap<Due>, V::Draft, Nonces)>, Refusal>
+        requires { SessionFits V.NAME T.TYPE catalogue.now self.now }
+        ensures ok { IfOk result (λ next. IsNext V.NAME T.TYPE catalogue.now.entries (V.response replica T.TYPE catalogue.now self.now.session.asked.interest) self.now.session nonces next) }
+        ensures bound { IfOk result (λ next. IfSome next (λ p. p.2 ≤ max_counter)) }
+        ensures refused { IfErr result (λ e. IsSome (sending V.NAME T.TYPE self.now.session catalogue.now.entries) × (((e ≡ NonceSpent) × (nonces ≡ max_counter)) ⊎ ((e ≡ OutOfMemory) × (nonces < max_counter)))) }
     {
         if !self.sends(catalogue) {
             return Ok(None);
         }
-        let mut drawn = *nonces;
+        let mut drawn = nonces;
         let number = drawn.next()?;
         let (offer, draft) = self.respond(alloc, replica, catalogue, number)?;
-        *nonces = drawn;
-        self.ledger.send(alloc, offer, number);
-        Ok(Some(draft))
+        Ok(Some((offer, draft, drawn)))
     }
 
     // rule: one-unanswered, rule: nonce-numbers

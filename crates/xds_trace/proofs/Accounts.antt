@@ -51,11 +51,10 @@ is_none_not (Some x) = refl
 
 -- rule: stale-nonce
 stale_by : (begun empty waiting : Bool) (n : List ℕ) (last : Option (List ℕ)) (text : List ℕ) → bytes_eq n [] ≡ empty → unwrap_or last [] ≡ text
-    → (begun && not empty && not waiting && not (option_map_or (bytes_eq n) last false)) ≡ (begun && (not waiting && not empty && not (bytes_eq n text)))
+    → (begun && (not waiting && not empty && not (option_map_or (bytes_eq n) last false))) ≡ (begun && (not waiting && not empty && not (bytes_eq n text)))
 stale_by false empty waiting n last text is same = refl
-stale_by true true true n last text is same = refl
+stale_by true empty true n last text is same = refl
 stale_by true true false n last text is same = refl
-stale_by true false true n last text is same = refl
 stale_by true false false n None text is same = ap not (sym is ∙ ap (bytes_eq n) same)
 stale_by true false false n (Some z) text is same = ap (λ x. not (bytes_eq n x)) same
 

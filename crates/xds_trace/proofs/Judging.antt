@@ -15,7 +15,7 @@ use Rattle.xds_ledger.specs.declared.variant.VariantName.{VariantName}
 use Rattle.xds_ledger.specs.declared.entry.Due.{Due}
 use Rattle.xds_ledger.specs.declared.entry.Due.TheVariants.{Stated, Removed}
 use Rattle.xds_ledger.specs.Variants.{is_whole}
-use Rattle.xds_ledger.specs.Owed.{Beliefs, present, owed_of, is_owed}
+use Rattle.xds_ledger.specs.Owed.{Beliefs, present_as, present, owed_of, is_owed}
 use Rattle.xds_ledger.specs.Offers.{Offer, offer}
 use Rattle.xds_ledger.proofs.ByName.{offer_says_it}
 use Rattle.xds_ledger.proofs.Stored.{or_true}
@@ -27,7 +27,7 @@ use Rattle.xds_check.specs.Lines as said
 use Rattle.xds_check.specs.Lines.{standing, is_used, interest, is_covered, is_shown, sent, is_waiting, refused_offer, offer_at, tells}
 use Rattle.xds_check.specs.Rules.{is_best, is_put_by, is_label_of, KeepsRules}
 use Rattle.xds_trace.proofs.Answering.{IsRight, AllRight}
-use Rattle.xds_trace.proofs.Offering.{removed_is_absent, live_and_covered}
+use Rattle.xds_trace.proofs.Offering.{removed_is_absent, present_of}
 
 -- what is known of a response when it is sent: of what its offer was made, and what it says
 pub record IsSent (n : ℕ) (ls : List Line) (v : VariantName) (s : Selection) (m : Entries) (b : Beliefs) (a : Answer) : Type 0 where
@@ -104,8 +104,7 @@ module _ (n : ℕ) (ls : List Line) (v : VariantName) (s : Selection) (m : Entri
   -- P4 and P5
 
   shown_there : (q : List ℕ) → is_shown n a.kind ls q ≡ true → (w : StampedWrite) × (present s m q ≡ Some (version_of w))
-  shown_there q is = live_and_covered s q (finmap.get m q)
-      ((λ i. is_some (option_and_then if_live (known.held q i)) && option_map_or (λ w. covers (sym known.wanted i) q w.groups) (known.held q i) false) ∙ is)
+  shown_there q is = present_of s q (finmap.get m q) ((λ i. is_some (present_as (sym known.wanted i) q (known.held q i))) ∙ is)
 
   told_of : (q : List ℕ) (stated gone : Bool) → has_name a.removed q ≡ gone → (stated || gone) ≡ true → stated ≡ false → finmap.get this q ≡ Some Removed
   told_of q true gone is or none = absurd cc

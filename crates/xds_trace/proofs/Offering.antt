@@ -8,7 +8,7 @@ use Rattle.xds_resource.specs.Types.{row}
 use Rattle.xds_resource.specs.Writes.{StampedWrite, version_of}
 use Rattle.xds_interest.specs.Interests.{Selection, covers}
 use Rattle.xds_catalogue.specs.Holdings.{Entries}
-use Rattle.xds_catalogue.specs.Content.{is_live, if_live}
+use Rattle.xds_catalogue.specs.Content.{is_live}
 use Rattle.xds_ledger.specs.declared.variant.VariantName.{VariantName}
 use Rattle.xds_ledger.specs.declared.variant.VariantName.TheVariants.{StateOfTheWorld}
 use Rattle.xds_ledger.specs.declared.entry.Entry.{Entry}
@@ -16,7 +16,7 @@ use Rattle.xds_ledger.specs.declared.entry.Entry.TheVariants.{Told, Unsure}
 use Rattle.xds_ledger.specs.declared.entry.Due.{Due}
 use Rattle.xds_ledger.specs.declared.entry.Due.TheVariants.{Stated, Removed}
 use Rattle.xds_ledger.specs.Variants.{is_whole, is_told}
-use Rattle.xds_ledger.specs.Owed.{Beliefs, live_version, version_shown, present, owed}
+use Rattle.xds_ledger.specs.Owed.{Beliefs, live_version, version_shown, present_as, present, owed}
 use Rattle.xds_ledger.specs.Offers.{Offer, offer}
 use Rattle.xds_ledger.proofs.ByName.{offer_says_it}
 
@@ -150,17 +150,12 @@ both_on false covered u l c = absurd cc
 pub present_by : (s : Selection) (m : Entries) (q : List ℕ) (w : StampedWrite) → finmap.get m q ≡ Some w → is_live w ≡ true → covers s q w.groups ≡ true → present s m q ≡ Some (version_of w)
 present_by s m q w found live covered = ap (option_and_then (version_shown s q)) found ∙ both_on (is_live w) (covers s q w.groups) (version_of w) live covered
 
-if_live_some : (w : StampedWrite) (live : Bool) → is_some (if live then Some w else None) ≡ live
-if_live_some w true = refl
-if_live_some w false = refl
-
--- a name that is live and covered is present
-pub live_and_covered : (s : Selection) (q : List ℕ) (o : Option StampedWrite) → (is_some (option_and_then if_live o) && option_map_or (λ w. covers s q w.groups) o false) ≡ true
-    → (w : StampedWrite) × (option_and_then (version_shown s q) o ≡ Some (version_of w))
-live_and_covered s q None is = absurd cc
-live_and_covered s q (Some w) is = (w, both_of (is_live w) (covers s q w.groups) (ap (λ b. b && covers s q w.groups) (sym (if_live_some w (is_live w))) ∙ is))
+-- a name that is present is so at the version of the write that stands under it
+pub present_of : (s : Selection) (q : List ℕ) (o : Option StampedWrite) → is_some (present_as s q o) ≡ true → (w : StampedWrite) × (present_as s q o ≡ Some (version_of w))
+present_of s q None is = absurd cc
+present_of s q (Some w) is = (w, at_its (is_live w) (covers s q w.groups) is)
   where
-    both_of : (live covered : Bool) → (live && covered) ≡ true → (if covered then (if live then Some (version_of w) else None) else None) ≡ Some (version_of w)
-    both_of true true both = refl
-    both_of true false both = absurd cc
-    both_of false covered both = absurd cc
+    at_its : (live covered : Bool) → is_some (if covered then (if live then Some (version_of w) else None) else None) ≡ true → (if covered then (if live then Some (version_of w) else None) else None) ≡ Some (version_of w)
+    at_its true true is = refl
+    at_its false true is = absurd cc
+    at_its live false is = absurd cc

@@ -1,5 +1,6 @@
 -- What every replica holds, whatever happened to it, and that its records can be told from there. This project's own.
---     IsTellable, AreTellable        the name may be a resource's
+--     IsTellable                     a write whose name and body may be a resource's
+--     AreTellable                    entries that each are
 --     HoldsTellable                  each entry that is held stands under its name and is such a write
 --     EveryRecordIsToldFromItsBase   from a replica that holds such writes, whatever its streams are
 use Rattle.std.specs.Prelude.{◌≡◌, ℕ, List, true, IfSome, All}

@@ -2,7 +2,8 @@
 --     EveryLegalTraceKeepsTheRules     the trace of every legal list of records from a fresh replica
 --     IsQuiet                          a stream that is open and a type of which it is owed nothing
 --     SoDoIdleEnds                     lines at the end that truly say that nothing is owed break no rule
---     EveryTraceKeepsTheRules, SoDoesOneWithIdleEnds  so it is with what the calls of a replica take
+--     EveryTraceKeepsTheRules          the trace of whatever a replica did breaks no rule, where resources go by their own names
+--     SoDoesOneWithIdleEnds            nor does one with idle lines behind it, where nothing is owed
 --     EveryLegalTraceIsInOrder         the lines of such a trace stand in an order that a trace may have
 --     EveryStreamHasANumber            and its streams have numbers that a stream may have
 use Rattle.std.specs.Prelude.{◌≡◌, ℕ, List, ◌++◌, map, false, All, IsSomeAnd}

@@ -10,11 +10,17 @@
 --     asking_of                        a request
 --     statement_of                     a resource of a response of the state of the world
 --     labelled_of                      a resource of a delta response
---     answer_of, write_line            a response
---     batch_lines, open_lines, put_lines, delete_lines,
---     sent_lines, response_lines       the writes of a batch
+--     answer_of                        the response of a draft
+--     write_line                       the line of a write
+--     batch_lines                      the lines of a batch
+--     open_lines                       the line of an opened stream
+--     put_lines                        the line of a put
+--     delete_lines                     the line of a deletion
+--     sent_lines                       the line of a response, if one was sent
+--     response_lines                   the line of what a poll gave
 --     idle_lines                       that nothing is owed of a type; what is said of all types at once makes no line
---     answered_lines, lines_by         the lines of an event that was answered so
+--     answered_lines                   the lines of an event that was answered so
+--     lines_by                         the lines of an event by its answer; a refused one has none
 --     lines_of                         the lines of a record
 --     trace_by                         the trace of some records
 --     trace_of                         the same, where bodies go by their own names

@@ -1,7 +1,11 @@
 -- Which records a trace can tell, and what a call that makes lines of them answers. This project's own.
 --     IsResource                       a body that is the text of a resource of a type
---     HoldsResources, IsToldDeletion, IsToldSent, IsToldResponse,
---     IsToldAnswer, IsToldBy           a response whose resources are of its type
+--     HoldsResources                   a response whose resources are of its type
+--     IsToldDeletion                   a deletion whose name may be a resource's
+--     IsToldSent                       a poll's response, if there is one, that can be told
+--     IsToldResponse                   a reply to a poll that can be told
+--     IsToldAnswer                     a reply to an event that can be told
+--     IsToldBy                         an answer to an event that can be told
 --     IsTold                           a record that a trace can tell
 --     IsSoundRecord                    what the replica took could be read
 --     UnlessShort                      the call found no memory, or this holds

@@ -7,7 +7,8 @@
 --     of_any                       what is given, and a client of any kind with what is made of it
 --     changing                     what a client of any kind gives to send
 --     receiving_any                the same after a response
---     answering, answering_any     a client of this kind after an answer to its poll of a type, if it is one that polls
+--     answering                    a client of this kind after an answer to its poll of a type, if it is one that polls
+--     answering_any                the same of a client of any kind
 --     linked_any                   a client on a new stream
 --     unlinked_any                 a client once its stream is lost
 --     fresh_any                    a client that wants nothing and has no stream

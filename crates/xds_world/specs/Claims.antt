@@ -1,7 +1,8 @@
 -- What the headline says: when a client is settled, and that it shows then exactly what its replica knows. This project's own.
 --     asks_for                      whether a request is of the type
 --     is_quiet                      whether nothing of the type is under way, either way
---     owes_nothing, is_settled_on   whether a replica owes nothing of the type on a stream
+--     owes_nothing                  whether a replica owes nothing of the type on a stream
+--     is_settled_on                 whether a client is settled of a type on its link
 --     is_settled                    whether a client is settled of a type
 --     holding_of                    what is held of a write that puts a resource
 --     shown_of                      what is held of a write of a name
@@ -12,12 +13,14 @@
 --     Agrees                        a view shows what is covered of what is live, and nothing that isn't wanted
 --     Shows                         what a client shows that learns of what is gone by a whole answer alone
 --     TakesAll                      a client's test takes what the client is to show of these writes
---     PutsAResource, PutResources   what is put is a resource of its type, for groups that a write may list
+--     PutsAResource                 what a happening puts is a resource of its type, for groups that a write may list
+--     PutResources                  so it is of each of some happenings
 --     HoldsWhatItKnows              the replicas' half: what a replica holds are the best writes of what it knows
 --     SettledIsExact                the clients' half, for delta clients
 --     SettledAgrees                 and for clients of the state of the world
 --     IsPoll                        a poll among what happened
---     is_rejected, is_rejected_by   whether an outcome says why an answer is rejected
+--     is_rejected                   whether an outcome says why an answer is rejected
+--     is_rejected_by                whether a client rejects the answer that a replica gave
 --     rejects                       whether a client rejects what a replica answers to its poll of a type
 --     PolledIsExact                 after a poll whose answer came and wasn't rejected
 --     PolledIsTaken                 what is polled is rejected only where the client's test refuses something of it

@@ -1,19 +1,34 @@
 -- Codes of what happens at a replica, and of the parts of a world: each as the tuple of its fields, a choice as a sum. This
 -- project's own.
---     outcome_flag, flagged_outcome, outcome_again, outcome_code,
---     later_refusal, numbered_refusal, refusal_again,
---     refusal_code, batch_code,
---     AtStream                         an outcome as a flag
+--     outcome_flag                     an outcome as a flag
+--     flagged_outcome                  the outcome of a flag
+--     outcome_again                    an outcome is that of its flag
+--     outcome_code                     the code of an outcome
+--     later_refusal                    the refusal of a number from 9 on
+--     numbered_refusal                 the refusal of a number
+--     refusal_again                    a refusal is that of its number
+--     refusal_code                     the code of a refusal
+--     batch_code                       the code of a batch
+--     AtStream                         the parts of an event of a stream
 --     OfStore                          the parts of an event at the catalogues: a put, a deletion, a merge
 --     Looks                            a look at what is held: a poll without a stream, or marks
---     EventParts, event_parts, event_of_parts, event_again,
---     which_code, looks_code,
---     event_code                       an event of a stream or of the store
+--     EventParts                       the parts of an event of a stream, of the store, or of a look
+--     event_parts                      an event as its parts
+--     event_of_parts                   the event of some parts
+--     event_again                      an event is that of its parts
+--     which_code                       the code of one type, or of all
+--     looks_code                       the code of a look
+--     event_code                       the code of an event
 --     Numbers                          a number, by whether it is a stream's, a count of changes
 --     Looked                           what was looked at: the answer to a poll without a stream, or what changed
---     ReplyParts, reply_parts, reply_of_parts, reply_again,
---     reply_code, record_code, site_code,
---     world_code                       and what became of a request
+--     ReplyParts                       the parts of a reply
+--     reply_parts                      a reply as its parts
+--     reply_of_parts                   the reply of some parts
+--     reply_again                      a reply is that of its parts
+--     reply_code                       the code of a reply
+--     record_code                      the code of a record
+--     site_code                        the code of a replica with its journal
+--     world_code                       the code of a world
 use Rattle.std.specs.Prelude.{◌≡◌, ◌⊎◌, ℕ, ◌==◌, List, Bool, true, false, if◌then◌else◌, Option, Some, None, Result, refl}
 use Rattle.std.proofs.Common.{inl, inr}
 use Rattle.std.specs.Coded.{Coded, code_by, coded×, coded⊎, coded_ℕ, coded_bool, coded_list, coded_option, coded_result}

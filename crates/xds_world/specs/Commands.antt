@@ -1,23 +1,32 @@
 -- The commands of scripts: one line each, the first word of which is its verb. This project's own.
---     word_of, verbs                   the word of a verb
+--     word_of                          the word of a verb
+--     verbs                            all verbs
 --     verb_of                          the verb that is this word
---     only_replica, only_client        a replica or a client alone
+--     only_replica                     a replica's number alone
+--     only_client                      a client's number alone
 --     read_two                         two words, each read in its own way
---     read_first, kind_of_word, client_and_type  the first word, and then the words behind it, each read in its own way
+--     read_first                       the first word, and then the words behind it, each read in its own way
+--     kind_of_word                     the kind of client that a word names
+--     client_and_type                  a client's number and a type
 --     client_and_poll                  a client, and what it polls: a replica, and a type
 --     name_in                          a name is any word that isn't empty, and so is a cluster
---     cluster_if_any, kind_and_cluster, is_name  a client's cluster, if a word stands there
+--     cluster_if_any                   a client's cluster, if a word stands there
+--     kind_and_cluster                 a client's kind, and its cluster, if a word stands there
+--     is_name                          whether a word may be a name
 --     names_in                         names, perhaps none
 --     name_behind                      the name behind a mark
 --     subscribed_in                    `+NAME`, a name to subscribe
---     unsubscribed_in, is_edit         `-NAME`, a name to unsubscribe
+--     unsubscribed_in                  `-NAME`, a name to unsubscribe
+--     is_edit                          whether a word subscribes or unsubscribes a name
 --     edits_in                         names to subscribe and to unsubscribe, one at least
 --     type_if_any                      a type, if a word stands there
---     resource_in, resource_behind     the resource that a text is, and its type
+--     resource_in                      the resource that a text is, and its type
+--     resource_behind                  the resource that the words behind make as a text, and its type
 --     comma                            a comma
 --     groups_in                        the groups that a word lists, with a comma between each two of them
 --     groups_and_resource              groups, and a resource that is for them
---     Said, said_of                    what a line of a script says
+--     Said                             what a line of a script says
+--     said_of                          what a command says
 --     says                             what a verb says with the words behind it
 --     says_words                       what the words of a line say, of which the first is the verb
 use Rattle.std.specs.Prelude.{ℕ, List, [], ◌∷◌, Bool, not, ◌&&◌, ◌||◌, ◌==◌, if◌then◌else◌, bytes_eq, Option, Some, None, is_some, option_map, codes, find}

@@ -1,16 +1,21 @@
 -- What each replica knows, from the list of happenings alone: the writes made there, and of each batch merged there what its sender
 -- knew when it was taken. What each client wants, and of which cluster it is. This project's own.
---     Knowledge, nothing_known        what is known at each replica, and what was known when each batch was taken
+--     Knowledge                       what is known at each replica, and what was known when each batch was taken
+--     nothing_known                   before anything happened
 --     learning                        with these writes known at a replica, too
 --     made                            the write that a reply tells of, if it tells of one
 --     learned                         what is known after something happened that was possible, in the world before it
 --     known_after                     what is known after a list of happenings, from a world and what is known there
 --     knows                           what a replica knows
---     wished, wishing, wanted_after   what a client wants of a type after a change of its own
+--     wished                          what a client wants of a type after a change of its own
+--     wishing                         the same after a happening, which may be no change of this client
+--     wanted_after                    the same after a list of happenings
 --     wants                           what a client wants of a type
---     placing, cluster_after          the cluster that a client says it is of: what it was told when it came
+--     placing                         the cluster of a client after a happening
+--     cluster_after                   the cluster of a client after a list of happenings
 --     cluster                         the text of a client's cluster, empty where it has none
---     linking, linked_after           the replica that a client is linked to
+--     linking                         the replica that a client is linked to after a happening
+--     linked_after                    the same after a list of happenings
 --     link                            the replica of a client's last connect, if its stream wasn't lost since
 --     made_now                        the write that is made where something happens, if one is
 --     made_after                      all writes made until then and by a list of happenings

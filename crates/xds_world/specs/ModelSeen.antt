@@ -1,5 +1,6 @@
 -- How the events of the program are seen as happenings. This project's own.
---     wish_of, happening_of   what a client wishes and what happens, as the definitions have them
+--     wish_of                  what a client wishes, as the definitions have it
+--     happening_of             what happens, as the definitions have it
 use Rattle.std.specs.Prelude.{map, string_bytes}
 use Rattle.xds_resource.specs.Any.{resource_type, named_body}
 use Rattle.xds_world.specs.declared.event.Wish.{Wish}

@@ -1,9 +1,14 @@
 -- What the parts of a world do, one by one: the answers of the functions that do it. This project's own.
---     fresh_site, if_answered          a replica at which nothing happened
+--     fresh_site                       a replica at which nothing happened
+--     if_answered                      an answer, and the replica that recorded it, unless the event was refused
 --     answered                         what a replica answers to an event, and the replica then
 --     blank                            a client that nothing is known of
 --     peer_event                       what f makes of a client, in its world
---     leads, draft_in, stream_in, batch_in, rested_in  where the stream of a client leads, and its number there
+--     leads                            where the stream of a client leads, and its number there
+--     draft_in                         the response in a reply to a poll
+--     stream_in                        the number in a reply to an opening
+--     batch_in                         the batch in a reply to a snapshot
+--     rested_in                        the answer in a reply to a poll without a stream
 use Rattle.std.specs.Prelude.{ℕ, [], Option, Some, None, option_map, Ok, Err}
 use Rattle.xds_message.specs.declared.draft.Draft.{Draft}
 use Rattle.xds_message.specs.Drafts.{Drafted}

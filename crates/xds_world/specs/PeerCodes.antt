@@ -1,10 +1,26 @@
 -- Codes of messages, of streams and of clients on them: each as the tuple of its fields, a choice as a sum. This project's own.
---     text_code, type_number, numbered_type, type_again,
---     type_code, kind_number, numbered_kind, kind_again,
---     kind_code, request_code, message_parts, message_of_parts,
---     message_again, message_code, drafted_code,
---     drafted_resource_code, drafted_delta_code, draft_parts,
---     draft_of_parts, draft_again, draft_code, link_code,
+--     text_code                        the code of a text
+--     type_number                      a type as a number
+--     numbered_type                    the type of a number
+--     type_again                       a type is that of its number
+--     type_code                        the code of a type
+--     kind_number                      a kind of client as a number
+--     numbered_kind                    the kind of a number
+--     kind_again                       a kind is that of its number
+--     kind_code                        the code of a kind of client
+--     request_code                     the code of a request
+--     message_parts                    a request by its variant
+--     message_of_parts                 the request of such parts
+--     message_again                    a request is that of its parts
+--     message_code                     the code of a request of either variant
+--     drafted_code                     the code of a draft of the state of the world
+--     drafted_resource_code            the code of a resource of a delta draft
+--     drafted_delta_code               the code of a delta draft
+--     draft_parts                      a draft by its variant
+--     draft_of_parts                   the draft of such parts
+--     draft_again                      a draft is that of its parts
+--     draft_code                       the code of a draft of either variant
+--     link_code                        the code of a link
 --     peer_code                        how such a record is coded
 use Rattle.std.specs.Prelude.{◌≡◌, ◌⊎◌, ℕ, ◌==◌, List, if◌then◌else◌, Option, refl}
 use Rattle.std.proofs.Common.{inl, inr}

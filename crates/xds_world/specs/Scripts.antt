@@ -1,7 +1,8 @@
 -- What a script says, line by line, or which of its lines says nothing that is known. This project's own.
 --     is_skipped          empty lines are skipped, and those that begin with `#`, whatever follows it
 --     text_says           what a line says that isn't skipped, which has to be UTF-8; none where that is no command
---     line_says, is_bad   what a line says, if anything; none where it is bad
+--     line_says           what a line says, if anything; none where it is bad
+--     is_bad              whether a line is bad
 --     first_bad           the number of the first line that is bad, counted from 1
 --     said_in             what a line says, where it isn't bad
 --     IsScript            the script says this, and no line of it is bad

@@ -1,10 +1,12 @@
 -- Settling a client of a type: its replica takes what the client asked for, answers until it owes nothing of the type, and the
 -- client takes the answers. This project's own.
---     brings, polls_unless      whether a response of the type is under way
+--     brings                    whether a response of the type is under way
+--     polls_unless              the client takes what comes, where a response is under way, and else is polled for
 --     next_on                   while a request is under way, the replica takes it
 --     link_in                   the stream of a client that has one
 --     next_to_settle            what is done next to settle a client of a type
---     gave_nothing, Then        whether a poll was the last that happened, and gave no response
+--     gave_nothing              whether a poll was the last that happened, and gave no response
+--     Then                      there is a value, and this holds of it
 --     Done                      that these are done, one after the other
 --     IsAtEnd                   where settling ends: a poll gave nothing, or nothing is to be done
 --     says_of_stream            what f says of the stream of a client, beside what its replica holds
@@ -15,7 +17,8 @@
 --     IsStopped                 that these are done to settle a client of a type
 --     IsAddedToSettle           what a line of a script that settles a client of a type adds to what happened
 --     would_repeat              whether what a replica would send on a stream is what the client refused last
---     is_held_back, takes_one   whether the next response of the type to a client is held back
+--     is_held_back              whether the next response of the type to a client is held back
+--     takes_one                 how many responses of the type a client takes from the front of a queue
 --     taken_now                 responses of the type that the client takes in what happens
 --     responses_taken           responses of the type that a client takes while it is being settled
 --     HasSettled                what settling a client of a type leaves, in words of what happened

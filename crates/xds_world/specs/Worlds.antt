@@ -1,27 +1,45 @@
 -- A world: replicas with their journals, clients with their streams and all that is under way on them, and the batches that were
 -- taken. What happens in it is one function; what isn't possible, or is refused, changes nothing. This project's own.
 --     Site                             a replica, and what happened at it, with the answers
---     Link, Peer, World, empty_world   a stream from a client to a replica
---     recorded, answered_at            the replica once it answered an event
+--     Link                             a stream from a client to a replica
+--     Peer                             a client, its kind and its link
+--     World                            replicas, clients and batches, with all that is under way
+--     empty_world                      before anything happened
+--     recorded                         the replica once it answered an event
+--     answered_at                      an answer and the world after it, unless the event was refused
 --     at_site                          what a replica answers to an event, and the world then
 --     happened_at                      the world after an event of a replica, whatever it answers
---     placed, pooled, with_peer, new_peer  the place in a list, from 1
+--     placed                           the element at a place in a list, from 1
+--     pooled                           the world with one batch more
+--     with_peer                        the world with another client under a number
+--     new_peer                         a client that comes, of a kind and a cluster
 --     opening_requests                 the requests at the start of a stream
 --     has_streams                      whether a client of this kind has a stream: one that polls never has
 --     is_to_connect                    whether a client may open a stream: it is of such a kind, and has none
---     connected_to, opened             the client on a new stream
+--     connected_to                     the client on a new stream
+--     opened                           the world once the client has this stream
 --     with_request                     one more request under way
---     changed_by, wish_of, wish_taken, changed  the client after a change, and the request that it sends, if any
+--     changed_by                       the client after a change, and the request that it sends, if any
+--     wish_of                          the same by the kind of client and of wish; none where they don't fit
+--     wish_taken                       the same of a client of any kind
+--     changed                          the client with what it sends behind its queue
 --     received_by                      the client after a response, and its answer
---     received_in, received            a response of the other variant isn't taken
+--     received_in                      a client after a response, with its answer; none of the other variant
+--     received                         the same of a client of any kind
 --     taken_down                       once the oldest response was taken, with these under way behind it
---     asked_by, poll_of                what a client that polls asks for in a poll of a type
+--     asked_by                         what a client of a kind asks for in a poll of a type, if it polls
+--     poll_of                          the same of a client of any kind
 --     poll_event                       the event that such a poll is at a replica
 --     client_in                        the client that a call leaves, if it isn't refused
---     answer_taken, rested, rest_polled  the client after an answer, which has no body where nothing changed
+--     answer_taken                     the client after an answer, which has no body where nothing changed
+--     rested                           the world after an answer to a poll without a stream
+--     rest_polled                      the world after such a poll, with its answer
 --     on_peer                          what f makes of a client that is there
---     on_link, up_taken                what f makes of a client that is up, and its link
---     under_way, polled, down_taken    a response under way, if there is one
+--     on_link                          what f makes of a client that is up, and its link
+--     up_taken                         the world once a replica took the oldest request of a client
+--     under_way                        a response under way, if there is one
+--     polled                           the world once a replica was polled for a client
+--     down_taken                       the world once a client took the oldest response under way
 --     is_free                          whether a replica may come under this number
 --     happens                          the world after something happened; none where that isn't possible or is refused
 --     after                            the world after a list of happenings

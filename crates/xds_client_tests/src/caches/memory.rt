@@ -1,4 +1,4 @@
-// Clients that find no memory. `bench/fail_each.py` runs these tests with each allocation failing
+// Clients that find no memory. `bench/hand/fail_each.py` runs these tests with each allocation failing
 // in turn: where one fails in `receive`, what is held stays, the client is of no use until its
 // stream is lost, and then it goes on. One that polls goes on at once, and so does each where an
 // allocation fails in `connect`, from which the client that is down comes back, or in `change`.

@@ -1,4 +1,4 @@
-// A round that finds no memory, and an outbox. `bench/fail_each.py` runs these tests with each
+// A round that finds no memory, and an outbox. `bench/hand/fail_each.py` runs these tests with each
 // allocation failing in turn: where a round is refused, the next one tells everything, and an
 // outbox that was refused has what it had.
 use crate::exchanges::parts::{Wanted, batch_of, size_of};

@@ -1,4 +1,4 @@
-// A decoder that finds no memory, and a frame. `bench/fail_each.py` runs these tests with each
+// A decoder that finds no memory, and a frame. `bench/hand/fail_each.py` runs these tests with each
 // allocation failing in turn: a piece that was refused was not fed, and a buffer to which a frame
 // was not added is as it was.
 use std::alloc::Global;

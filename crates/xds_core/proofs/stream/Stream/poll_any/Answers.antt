@@ -1,18 +1,20 @@
-use Rattle.std.proofs.Common.{◌≡◌, subst}
-use Rattle.std.specs.Prelude.{IfErr, OnErr}
-use Rattle.xds_resource.specs.Refusals.{Gives}
+use Rattle.std.proofs.Common.{get_or, refl, sym, ap, ◌∙◌}
+use Rattle.std.specs.Prelude.{is_some, option_map}
+use Rattle.xds_resource.specs.declared.types.TypeName.TheVariants.{Cluster}
 use Rattle.xds_resource.specs.Types.{types}
-use Rattle.xds_resource.specs.declared.refusal.Refusal.TheVariants.{OutOfMemory}
-use Rattle.xds_core.specs.Streams.{Stream, IsToRespond, polled_first}
+use Rattle.xds_core.specs.Streams.{first_due, to_send}
+use Rattle.xds_core.proofs.FirstDue.{due_later, silent_left}
 use Rattle.xds_core.proofs.stream.Stream.poll_any.Goals as goal
 
--- the stream is the same once its lists were tidied
-pub returns-clause-polls : goal.returns-clause-polls
-returns-clause-polls c =
-    subst (λ (s : Stream). Gives (λ o. (o, c.poll_any_tidied.new.self.stream)) c.poll_any_tidied.result (polled_first c.args.replica c.args.held.now s types)) c.tidy.ensures.same c.poll_any_tidied.ensures.polls
-
-pub returns-clause-memory : goal.returns-clause-memory
-returns-clause-memory c = subst (λ (s : Stream). IfErr c.poll_any_tidied.result (λ e. e ≡ OutOfMemory → IsToRespond c.args.held.now s types)) c.tidy.ensures.same c.poll_any_tidied.ensures.memory
-
-pub returns-clause-err : goal.returns-clause-err
-returns-clause-err c = subst (λ (s : Stream). OnErr c.poll_any_tidied.result (c.poll_any_tidied.new.self.stream ≡ s)) c.tidy.ensures.same c.poll_any_tidied.ensures.err
+pub loop-kind-preserved : goal.loop-kind-preserved
+loop-kind-preserved c =
+    let held = c.args.held.now in
+    let now = c.loop-kind.self.stream in
+    let kind = get_or types c.loop-kind.kind-index Cluster in
+    let none = sym c.in_ok-drafts.ensures.sent ∙ ap is_some c.in_default.is in
+    record {
+      same = silent_left c.args.replica held now kind _ c.poll_type.new.self.stream none c.in_ok-drafts.ensures.polls ∙ c.loop-kind.invariant.same;
+      fits = c.poll_type.ensures.fits;
+      due = due_later held c.args.self.now.stream types c.loop-kind.kind-index kind Cluster (first_due held c.args.self.now.stream types) c.loop-kind-test.true refl c.loop-kind.invariant.due
+          (ap (λ s. is_some (to_send held s kind)) (sym c.loop-kind.invariant.same) ∙ none);
+    }

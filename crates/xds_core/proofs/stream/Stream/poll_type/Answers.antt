@@ -1,7 +1,9 @@
-use Rattle.std.proofs.Common.{None, Ok, sym, ap, subst, ◌∙◌}
+use Rattle.std.proofs.Common.{Some, None, Ok, refl, sym, ap, subst, ◌∙◌}
+use Rattle.std.specs.Prelude.{◌≡◌, if◌then◌else◌, IfOk, IfSome}
+use Rattle.xds_core.specs.States.{firsts}
 use Rattle.xds_core.specs.Streams.{opening}
 use Rattle.xds_core.specs.Talks.{Followed, stream_in, followed_of}
-use Rattle.xds_core.proofs.FirstDue.{polled_by, polled_opening, short_by}
+use Rattle.xds_core.proofs.FirstDue.{polled_by, polled_opening, sent_by, short_by}
 use Rattle.xds_core.specs.Talks.{StreamFits}
 use Rattle.xds_core.proofs.StreamsFitting.{talk_inside, talk_outside, opening_fits}
 use Rattle.xds_core.proofs.stream.Stream.poll_type.Goals as goal
@@ -11,11 +13,25 @@ pub returns-clause-polls : goal.returns-clause-polls
 returns-clause-polls c =
     elim c.match-self.branch [
       | in-Some w ↦
-          polled_by c.args.replica c.args.held.now c.args.kind w.poll.result c.match-self.result (followed_of c.match-self.self-inside.talk).stream (stream_in w.poll.new.self.talk) (stream_in w.in-Some.talk.talk) c.args.self.now.stream w.result-is
-          (ap (λ s. (followed_of s.talk).stream) w.self-inside-is) (ap (λ (f : Followed). f.stream) (sym (ap followed_of w.in-Some.is) ∙ c.self.view_is)) w.poll.ensures.polls
+          polled_by c.args.replica c.args.held.now c.args.kind (firsts w.poll.result) (firsts c.match-self.result) (followed_of c.match-self.self-inside.talk).stream (stream_in w.poll.new.self.talk) (stream_in w.in-Some.talk.talk) c.args.self.now.stream
+          (ap firsts w.result-is) (ap (λ s. (followed_of s.talk).stream) w.self-inside-is) (ap (λ (f : Followed). f.stream) (sym (ap followed_of w.in-Some.is) ∙ c.self.view_is)) w.poll.ensures.polls
       | in-None w ↦
-          polled_opening c.args.replica c.args.held.now c.args.kind c.match-self.result (followed_of c.match-self.self-inside.talk).stream c.args.self.now.stream w.result-is
+          polled_opening c.args.replica c.args.held.now c.args.kind (firsts c.match-self.result) (followed_of c.match-self.self-inside.talk).stream c.args.self.now.stream (ap firsts w.result-is)
           (ap (λ f. f.stream) (ap (λ s. followed_of s.talk) w.self-inside-is ∙ ap followed_of w.in-None.is)) (ap (λ (f : Followed). f.stream) (sym (ap followed_of w.in-None.is) ∙ c.self.view_is))
+    ]
+
+pub returns-clause-twin : goal.returns-clause-twin
+returns-clause-twin c =
+    elim c.match-self.branch [
+      | in-Some w ↦ subst (λ r. IfOk r (λ o. IfSome o (λ p. p.1 ≡ (if c.args.twice then Some p.0 else None)))) (sym w.result-is) w.poll.ensures.twin
+      | in-None w ↦ subst (λ r. IfOk r (λ o. IfSome o (λ p. p.1 ≡ (if c.args.twice then Some p.0 else None)))) (sym w.result-is) tt
+    ]
+
+pub returns-clause-sent : goal.returns-clause-sent
+returns-clause-sent c =
+    elim c.match-self.branch [
+      | in-Some w ↦ sent_by c.args.held.now c.args.kind w.poll.result c.match-self.result (stream_in w.in-Some.talk.talk) c.args.self.now.stream w.result-is (ap (λ (f : Followed). f.stream) (sym (ap followed_of w.in-Some.is) ∙ c.self.view_is)) w.poll.ensures.sent
+      | in-None w ↦ sent_by c.args.held.now c.args.kind (Ok None) c.match-self.result opening c.args.self.now.stream w.result-is (ap (λ (f : Followed). f.stream) (sym (ap followed_of w.in-None.is) ∙ c.self.view_is)) refl
     ]
 
 pub returns-clause-memory : goal.returns-clause-memory

@@ -1,40 +1,18 @@
 use Rattle.xds_resource.specs.declared.types.TypeName.TheVariants.{Cluster, Endpoint, Listener, Route, Secret}
-use Rattle.xds_core.specs.Talks.{Listing}
-use Rattle.xds_core.specs.Stores.{Store}
-use Rattle.xds_core.proofs.StreamsFitting.{fits_at}
+use Rattle.xds_core.proofs.StreamsFitting.{fits_at, listing_in, store_in}
 use Rattle.xds_core.proofs.talk.Talk.sends.Goals as goal
 
 pub sends-requires : goal.sends-requires
-sends-requires c =
-    let i = c.self.inside in
-    let store : Store = record { cluster = c.held.inside.cluster; endpoint = c.held.inside.endpoint; listener = c.held.inside.listener; route = c.held.inside.route; secret = c.held.inside.secret } in
-    let before : Listing = record { talk = record { variant = i.variant; count = i.nonces; sessions = record { cluster = i.cluster.kept.session; endpoint = i.endpoint.kept.session; listener = i.listener.kept.session; route = i.route.kept.session; secret = i.secret.kept.session } }; lists = record { cluster = i.cluster.kept.listed; endpoint = i.endpoint.kept.listed; listener = i.listener.kept.listed; route = i.route.kept.listed; secret = i.secret.kept.listed } } in
-    fits_at store c.args.held.now before c.args.self.now Cluster i.cluster.variant c.held.view_is c.self.view_is c.self.invariant.cluster c.requires
+sends-requires c = fits_at (store_in c.held.inside) c.args.held.now (listing_in c.self.inside) c.args.self.now Cluster c.self.inside.cluster.variant c.held.view_is c.self.view_is c.self.invariant.cluster c.requires
 
 pub sends-requires-in-Endpoint : goal.sends-requires-in-Endpoint
-sends-requires-in-Endpoint c =
-    let i = c.self.inside in
-    let store : Store = record { cluster = c.held.inside.cluster; endpoint = c.held.inside.endpoint; listener = c.held.inside.listener; route = c.held.inside.route; secret = c.held.inside.secret } in
-    let before : Listing = record { talk = record { variant = i.variant; count = i.nonces; sessions = record { cluster = i.cluster.kept.session; endpoint = i.endpoint.kept.session; listener = i.listener.kept.session; route = i.route.kept.session; secret = i.secret.kept.session } }; lists = record { cluster = i.cluster.kept.listed; endpoint = i.endpoint.kept.listed; listener = i.listener.kept.listed; route = i.route.kept.listed; secret = i.secret.kept.listed } } in
-    fits_at store c.args.held.now before c.args.self.now Endpoint i.endpoint.variant c.held.view_is c.self.view_is c.self.invariant.endpoint c.requires
+sends-requires-in-Endpoint c = fits_at (store_in c.held.inside) c.args.held.now (listing_in c.self.inside) c.args.self.now Endpoint c.self.inside.endpoint.variant c.held.view_is c.self.view_is c.self.invariant.endpoint c.requires
 
 pub sends-requires-in-Listener : goal.sends-requires-in-Listener
-sends-requires-in-Listener c =
-    let i = c.self.inside in
-    let store : Store = record { cluster = c.held.inside.cluster; endpoint = c.held.inside.endpoint; listener = c.held.inside.listener; route = c.held.inside.route; secret = c.held.inside.secret } in
-    let before : Listing = record { talk = record { variant = i.variant; count = i.nonces; sessions = record { cluster = i.cluster.kept.session; endpoint = i.endpoint.kept.session; listener = i.listener.kept.session; route = i.route.kept.session; secret = i.secret.kept.session } }; lists = record { cluster = i.cluster.kept.listed; endpoint = i.endpoint.kept.listed; listener = i.listener.kept.listed; route = i.route.kept.listed; secret = i.secret.kept.listed } } in
-    fits_at store c.args.held.now before c.args.self.now Listener i.listener.variant c.held.view_is c.self.view_is c.self.invariant.listener c.requires
+sends-requires-in-Listener c = fits_at (store_in c.held.inside) c.args.held.now (listing_in c.self.inside) c.args.self.now Listener c.self.inside.listener.variant c.held.view_is c.self.view_is c.self.invariant.listener c.requires
 
 pub sends-requires-in-Route : goal.sends-requires-in-Route
-sends-requires-in-Route c =
-    let i = c.self.inside in
-    let store : Store = record { cluster = c.held.inside.cluster; endpoint = c.held.inside.endpoint; listener = c.held.inside.listener; route = c.held.inside.route; secret = c.held.inside.secret } in
-    let before : Listing = record { talk = record { variant = i.variant; count = i.nonces; sessions = record { cluster = i.cluster.kept.session; endpoint = i.endpoint.kept.session; listener = i.listener.kept.session; route = i.route.kept.session; secret = i.secret.kept.session } }; lists = record { cluster = i.cluster.kept.listed; endpoint = i.endpoint.kept.listed; listener = i.listener.kept.listed; route = i.route.kept.listed; secret = i.secret.kept.listed } } in
-    fits_at store c.args.held.now before c.args.self.now Route i.route.variant c.held.view_is c.self.view_is c.self.invariant.route c.requires
+sends-requires-in-Route c = fits_at (store_in c.held.inside) c.args.held.now (listing_in c.self.inside) c.args.self.now Route c.self.inside.route.variant c.held.view_is c.self.view_is c.self.invariant.route c.requires
 
 pub sends-requires-in-Secret : goal.sends-requires-in-Secret
-sends-requires-in-Secret c =
-    let i = c.self.inside in
-    let store : Store = record { cluster = c.held.inside.cluster; endpoint = c.held.inside.endpoint; listener = c.held.inside.listener; route = c.held.inside.route; secret = c.held.inside.secret } in
-    let before : Listing = record { talk = record { variant = i.variant; count = i.nonces; sessions = record { cluster = i.cluster.kept.session; endpoint = i.endpoint.kept.session; listener = i.listener.kept.session; route = i.route.kept.session; secret = i.secret.kept.session } }; lists = record { cluster = i.cluster.kept.listed; endpoint = i.endpoint.kept.listed; listener = i.listener.kept.listed; route = i.route.kept.listed; secret = i.secret.kept.listed } } in
-    fits_at store c.args.held.now before c.args.self.now Secret i.secret.variant c.held.view_is c.self.view_is c.self.invariant.secret c.requires
+sends-requires-in-Secret c = fits_at (store_in c.held.inside) c.args.held.now (listing_in c.self.inside) c.args.self.now Secret c.self.inside.secret.variant c.held.view_is c.self.view_is c.self.invariant.secret c.requires

@@ -1,0 +1,28 @@
+use Rattle.std.proofs.Common.{◌≡◌, sym, subst}
+use Rattle.std.specs.Prelude.{IfErr, OnErr}
+use Rattle.xds_resource.specs.Refusals.{Gives}
+use Rattle.xds_resource.specs.declared.refusal.Refusal.TheVariants.{OutOfMemory}
+use Rattle.xds_core.specs.Events as events
+use Rattle.xds_core.specs.Legal.{IsShort}
+use Rattle.xds_core.specs.Seen.{reply_of}
+use Rattle.xds_core.specs.Steps.{step}
+use Rattle.xds_core.specs.declared.event.Reply.TheVariants as replies
+use Rattle.xds_core.proofs.Twins.{first_gives, first_short, first_kept, done_short, done_kept}
+use Rattle.xds_core.proofs.replica.Core.poll_twice.Goals as goal
+
+pub returns-clause-steps : goal.returns-clause-steps
+returns-clause-steps c =
+    first_gives (λ r. (reply_of r, c.poll_stream-drafts.new.self)) c.polled_twice.result (step c.args.self.now (events.Poll c.args.number c.args.which))
+    (subst (λ x. Gives (λ r. (reply_of r, c.poll_stream-drafts.new.self)) x (step c.args.self.now (events.Poll c.args.number c.args.which))) (sym c.polled_twice.ensures.first) c.poll_stream-drafts.ensures.steps)
+
+pub returns-clause-memory : goal.returns-clause-memory
+returns-clause-memory c =
+    first_short (λ e. e ≡ OutOfMemory → IsShort c.args.self.now (events.Poll c.args.number c.args.which)) c.polled_twice.result
+    (subst (λ x. IfErr x (λ e. e ≡ OutOfMemory → IsShort c.args.self.now (events.Poll c.args.number c.args.which))) (sym c.polled_twice.ensures.first)
+    (done_short replies.Polled (λ e. e ≡ OutOfMemory → IsShort c.args.self.now (events.Poll c.args.number c.args.which)) c.poll_stream-drafts.result c.poll_stream-drafts.ensures.memory))
+
+pub returns-clause-err : goal.returns-clause-err
+returns-clause-err c =
+    first_kept (c.poll_stream-drafts.new.self ≡ c.args.self.now) c.polled_twice.result
+    (subst (λ x. OnErr x (c.poll_stream-drafts.new.self ≡ c.args.self.now)) (sym c.polled_twice.ensures.first)
+    (done_kept replies.Polled (c.poll_stream-drafts.new.self ≡ c.args.self.now) c.poll_stream-drafts.result c.poll_stream-drafts.ensures.err))
