@@ -6,15 +6,18 @@
 Starts servers of the program and compares every number of /metrics with its own count: under a load of answers from several streams
 at once (50,000, or as many as are said), after requests that were refused or are out of date, after polls over HTTP that are more
 than a journal holds, and at a server of which each number is known. Reads /status as JSON where the cluster texts of clients are
-hostile. Prints a line for each, and the status is 1 where one isn't as it is to be, and 2 where it can't be tried, since the program
+hostile. Where Prometheus' promtool is there (Debian's `prometheus`), its `check metrics` has nothing to say. Prints a line for each, and the status is 1 where one isn't as it is to be, and 2 where it can't be tried, since the program
 isn't there.
 """
 import json
 import os
 import re
+import shutil
 import socket
+import subprocess
 import sys
 import threading
+import time
 
 import operate
 from operate import Server, Stream, comes
@@ -41,7 +44,16 @@ def put(kind, name):
 def numbers(server):
     """All numbers of /metrics, by their names with labels."""
     text = server.get("/metrics")
-    return {line.rpartition(" ")[0]: int(line.rpartition(" ")[2]) for line in text.splitlines() if not line.startswith("#")}
+    found = {line.rpartition(" ")[0]: line.rpartition(" ")[2] for line in text.splitlines() if not line.startswith("#")}
+    return {name: float(value) if "." in value or "e" in value else int(value) for name, value in found.items()}
+
+
+def linted(server):
+    """What Prometheus' own checker says of the numbers; nothing, where it isn't there."""
+    if not shutil.which("promtool"):
+        return ""
+    run = subprocess.run(["promtool", "check", "metrics"], input=server.get("/metrics"), capture_output=True, text=True, check=False)
+    return run.stdout + run.stderr + ("" if run.returncode == 0 else f"status {run.returncode}")
 
 
 def of_type(name, kind):
@@ -50,6 +62,10 @@ def of_type(name, kind):
 
 def of_replica(name):
     return f'xds_{name}{{replica="1"}}'
+
+
+def waits(found, name="count"):
+    return found[f'xds_put_to_accept_seconds_{name}{{replica="1"}}']
 
 
 def streams_of(server):
@@ -106,7 +122,79 @@ def under_load():
             own = sum(getattr(client, of) for client in clients if client.kind == kind)
             counted = found[of_type(name, kind)]
             tell(f"{own} under load are xds_{name} of {kind}", counted == own, counted)
+    tell("where nothing was put meanwhile, nothing waited for a put", waits(found) == 0, waits(found))
     server.stop()
+
+
+def put_to_accept():
+    """Each response that tells a put first counts once it is accepted, and how long that took is in the least bucket that has it."""
+    server = Server(text=put("route", "old"))
+    clients = [Client(server.port, "route", at % 2 == 1, ["a", "old"]) for at in range(4)]
+    names = {"typeUrl": KINDS["route"]}
+    for client in clients:
+        client.send({**names, "responseNonce": client.last["nonce"], **({"resourceNamesSubscribe": ["a"]} if client.is_delta else {"resourceNames": ["a"]})}, 3 if client.is_delta else 1)
+    # An incremental client is told that the name isn't there.
+    for client in clients[1::2]:
+        gone = client.take()
+        client.send({**names, "responseNonce": gone["nonce"]}, 3)
+    # All have accepted what was there before they asked, and wait for a put.
+    comes(lambda: numbers(server)[of_type("acks_total", "route")] == 6)
+    tell("what was put before a stream asked isn't waited for", waits(numbers(server)) == 0)
+    server.post("/changes", put("route", "a"))
+    taken = [client.take() for client in clients]
+    for client, response, rejects in zip(clients, taken, (False, False, True, True)):
+        if client is clients[1]:
+            time.sleep(2.5)
+        answer = {**names, "responseNonce": response["nonce"], **({} if client.is_delta else {"resourceNames": ["a"]})}
+        client.send({**answer, **({"errorDetail": {"message": "no"}} if rejects else {})}, 3 if client.is_delta else 1)
+    comes(lambda: (found := numbers(server))[of_type("nacks_total", "route")] == 2 and found[of_type("acks_total", "route")] == 8)
+    found = numbers(server)
+    tell("two of four streams accepted a put, and two rejected it", waits(found) == 2, waits(found))
+    buckets = {name.partition('le="')[2][:-2]: count for name, count in found.items() if name.startswith("xds_put_to_accept_seconds_bucket")}
+    tell("how long it took is counted in the buckets that have it", (buckets["2"], buckets["60"], buckets["+Inf"]) == (1, 2, 2), buckets)
+    tell("and added up", 2.5 < waits(found, "sum") < 60, waits(found, "sum"))
+    server.post("/changes", put("route", "other"))
+    clients[0].send({**names, "resourceNames": ["a", "old"], "responseNonce": taken[0]["nonce"]})
+    more = clients[0].take()
+    clients[0].send({**names, "resourceNames": ["a", "old"], "responseNonce": more["nonce"]})
+    comes(lambda: numbers(server)[of_type("acks_total", "route")] == 9)
+    tell("a response to a request tells no put first", waits(numbers(server)) == 2, waits(numbers(server)))
+    for client in clients:
+        client.socket.close()
+    puts_under_load(server)
+    server.stop()
+
+
+def puts_under_load(server):
+    """Puts beside streams that answer at once: as many responses count as were told a put first, whatever comes between."""
+    server.post("/changes", put("route", "hot"))
+    clients = [Client(server.port, "route", True, ["none", "hot"]) for _ in range(4)]
+    for client in clients:
+        client.send({"typeUrl": KINDS["route"], "responseNonce": client.last["nonce"]}, 3)
+    comes(lambda: numbers(server)[of_type("acks_total", "route")] == 13)
+    before = waits(numbers(server))
+    own = []
+
+    def run(client):
+        count = 0
+        # The last put has a body of its own.
+        while "last" not in json.dumps(client.last):
+            client.last = client.take()
+            client.send({"typeUrl": KINDS["route"], "responseNonce": client.last["nonce"]}, 3)
+            count += 1
+        own.append(count)
+
+    threads = [threading.Thread(target=run, args=(client,)) for client in clients]
+    for thread in threads:
+        thread.start()
+    for at in range(300):
+        server.post("/changes", put("route", "hot"))
+    server.post("/changes", f'put 1 {json.dumps({"@type": KINDS["route"], "name": "hot", "last": True})}\n')
+    for thread in threads:
+        thread.join()
+    comes(lambda: waits(numbers(server)) - before == sum(own))
+    counted = waits(numbers(server)) - before
+    tell(f"{sum(own)} responses under load told a put first and were accepted", counted == sum(own), counted)
 
 
 # rule: stale-nonce, rule: first-variant
@@ -258,12 +346,22 @@ def every_number():
             wanted[of_type(f"{name}_total", client.kind)] = count
     for variant in ("sotw", "delta", "none"):
         wanted[f'xds_streams{{replica="1",variant="{variant}"}}'] = 1
-    for name, count in (("streams_turned_away", 6), ("cuts", 0), ("cuts_failed", 0), ("exchange_parts", 0), ("exchange_lost", 0), ("changes_refused", 4), ("recordings_ended", 0)):
+    tell("Prometheus' checker has nothing to say", linted(server) == "", linted(server))
+    for name, count in (("streams_opened", 3), ("streams_turned_away", 6), ("cuts", 0), ("cuts_failed", 0), ("exchange_parts", 0), ("exchange_lost", 0), ("changes_refused", 4), ("recordings_ended", 0)):
         wanted[of_replica(f"{name}_total")] = count
     for status in ("200", "304", "400", "503", "other"):
         wanted[f'xds_rest_replies_total{{replica="1",status="{status}"}}'] = 0
+    wanted[of_replica("recording")] = 0
+    wanted['xds_build_info{version="0.1.0"}'] = 1
+    process = {name: found.pop(name) for name in list(found) if name.startswith("process_")}
+    tell("what the process takes is told", abs(process["process_start_time_seconds"] - time.time()) < 600 and process["process_resident_memory_bytes"] > 1_000_000
+         and process["process_virtual_memory_bytes"] > process["process_resident_memory_bytes"] and process["process_threads"] > 5
+         and 0 < process["process_cpu_seconds_total"] < 600, process)
+    for name in list(found):
+        if name.startswith("xds_put_to_accept_seconds"):
+            tell(f"{name} is 0", found.pop(name) == 0)
     # Three streams were opened, each request and each poll left a record, and so did the look at these numbers.
-    lag, records = of_replica("put_to_last_poll_milliseconds"), of_replica("records_total")
+    lag, records = of_replica("put_to_last_response_seconds"), of_replica("records_total")
     taken = sum(client.taken for client in clients[:2])
     least = before[records] + 3 + 2 * taken + 1
     tell("the time from a put to the last poll is told", found.pop(lag, 0) > 0)
@@ -282,6 +380,7 @@ def main():
     without_effect()
     every_number()
     polls()
+    put_to_accept()
     under_load()
     end()
 

@@ -162,19 +162,19 @@ def many(server):
 
 def late(server):
     half_poll = Ended(server.link(), post(b"{", 2))
-    half_changes = Ended(server.link(server.admin_port), b"POST /changes HTTP/1.1\r\nhost: a\r\ncontent-length: 2\r\n\r\n#")
+    half_changes = Ended(server.link(server.admin_port), b"POST /changes HTTP/1.1\r\nhost: localhost\r\ncontent-length: 2\r\n\r\n#")
     for what, half in (("a poll", half_poll), ("changes", half_changes)):
         half.join()
         yield told(f"half a body of {what}", in_time(half) and half.found.startswith(b"HTTP/1.1 408"), f"{half.found[:12]} after {half.seconds:.1f} s")
 
 
 def in_use(server):
-    for port, asked, wanted in ((server.rest_port, post(b'{"resourceNames":["c0"]}'), b"HTTP/1.1 200"), (server.admin_port, b"GET /healthz HTTP/1.1\r\nhost: a\r\n\r\n", b"HTTP/1.1 200")):
+    for port, asked, wanted in ((server.rest_port, post(b'{"resourceNames":["c0"]}'), b"HTTP/1.1 200"), (server.admin_port, b"GET /healthz HTTP/1.1\r\nhost: localhost\r\n\r\n", b"HTTP/1.1 200")):
         used, begun = server.link(port), server.link(port)
         used.sendall(asked)
         first = used.recv(1 << 16)
         # Its head has come, and the last byte of its body not.
-        begun.sendall(asked[:-1] if asked.startswith(b"POST") else b"POST /changes HTTP/1.1\r\nhost: a\r\ncontent-length: 1\r\n\r\n")
+        begun.sendall(asked[:-1] if asked.startswith(b"POST") else b"POST /changes HTTP/1.1\r\nhost: localhost\r\ncontent-length: 1\r\n\r\n")
         time.sleep(0.5)
         links = [server.link(port) for _ in range(MOST + 20)]
         # Of all of them 22 are too many. Those that gave way are the first of these, also where the two gave way before.

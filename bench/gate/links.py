@@ -26,8 +26,8 @@ import sys
 
 TOP = os.path.dirname(os.path.dirname(os.path.dirname(os.path.abspath(__file__))))
 PROMISES = "docs/GUARANTEES.md"
-PAGES = ["README.md", "docs/*.md", "bench/README.md", "bridge/README.md", "attack/by_test/*.md"]
-FOLDERS = ("docs", "bench", "crates", "examples", "attack", "bridge", ".ci")
+PAGES = ["README.md", "docs/*.md", "bench/README.md", "bridge/README.md", "fleet/README.md", "attack/by_test/*.md"]
+FOLDERS = ("docs", "bench", "crates", "examples", "attack", "bridge", "fleet", ".ci")
 
 # What looks like a crate of this repository and is none, with the reason.
 NO_CRATES = {
@@ -38,6 +38,7 @@ NOT_KEPT = {
     "crates/xds/out": "what a build leaves",
     "bench/load/plain/target": "what cargo leaves",
     "bridge/out": "what bridge/build leaves",
+    "fleet/out": "what fleet/build leaves",
 }
 # Names that stand for what isn't of this repository, with the reason.
 ELSEWHERE = {
@@ -48,7 +49,7 @@ ELSEWHERE = {
     "Abort": "a bound of the toolchain",
 }
 # Files that hold code or text whose words a page may name.
-WRITTEN = ["xds", "attack/*", "attack/*/*.edit", "attack/by_test/*", "bench/**/*.py", "bench/**/*.rs", "bridge/**/*", "examples/**/*", "crates.txt"]
+WRITTEN = ["xds", "attack/*", "attack/*/*.edit", "attack/by_test/*", "bench/**/*.py", "bench/**/*.rs", "bridge/**/*", "fleet/**/*", "examples/**/*", "crates.txt"]
 MISSING = []
 
 
@@ -229,7 +230,7 @@ def check_link(target, page):
 @functools.cache
 def numbers():
     """The names of the numbers that a server or the bridge shows."""
-    files = ("xds_monitor/src/pages", "xds_monitor/src/tapes", "xds_commands/src/admin")
+    files = ("xds_stats/src/pages", "xds_monitor/src/tapes", "xds_commands/src/admin", "xds_commands/src/meter")
     texts = [open(f"{TOP}/crates/{file}.rt").read() for file in files]
     texts += [open(file).read() for file in glob.glob(f"{TOP}/bridge/src/*.go")]
     return set(re.findall(r'(?:["`]|# TYPE )(xds_\w+)\b', "".join(texts)))

@@ -42,7 +42,7 @@ class Server:
         self.run.stdin.flush()
         if not open_input:
             self.run.stdin.close()
-        for _ in range(200):
+        for _ in range(1_200):
             try:
                 if self.get("/ready") == "ready\n":
                     return
@@ -60,7 +60,16 @@ class Server:
         return self.ask(path)
 
     def post(self, path, text=""):
-        return self.ask(path, text.encode())
+        return self.answer(path, text.encode())[1]
+
+    def answer(self, path, data=None, **headers):
+        """The status and the body of what is answered, whatever the status is."""
+        request = urllib.request.Request(f"http://127.0.0.1:{self.admin_port}{path}", data=data, headers=headers)
+        try:
+            with urllib.request.urlopen(request, timeout=120) as reply:
+                return reply.status, reply.read().decode()
+        except urllib.error.HTTPError as error:
+            return error.code, error.read().decode()
 
     def stop(self):
         """How it ended: its status, its error output, and how many seconds that took."""
@@ -111,8 +120,8 @@ def comes(holds):
 
 
 def number(text, name, labels):
-    found = re.search(rf"^{name}\{{{re.escape(labels)}\}} (\d+)$", text, re.M)
-    return int(found[1]) if found else None
+    found = re.search(rf"^{name}\{{{re.escape(labels)}\}} (\d[\d.e-]*)$", text, re.M)
+    return None if not found else int(found[1]) if found[1].isdigit() else float(found[1])
 
 
 def lines_and_changes():

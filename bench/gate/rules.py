@@ -89,7 +89,8 @@ def lines_of(path):
 
 def files(*patterns):
     found = {os.path.relpath(path, TOP) for pattern in patterns for path in glob.glob(f"{TOP}/{pattern}", recursive=True)}
-    return sorted(path for path in found if os.path.isfile(f"{TOP}/{path}"))
+    # What a build leaves holds copies of sources.
+    return sorted(path for path in found if os.path.isfile(f"{TOP}/{path}") and "/out/" not in path)
 
 
 def tagged(path, lines):
@@ -203,7 +204,7 @@ def places():
     crates = [line.split()[0].rstrip(":") for line in lines_of("crates.txt") if ":" in line and not line.startswith("#")]
     own = [path for crate in crates for path in files(f"crates/{crate}/specs/**/*.antt", f"crates/{crate}/src/**/*.rt", f"crates/{crate}/proofs/**/*.antt")]
     bodies = [path for crate in crates for path in files(f"attack/{crate}/*.edit", f"crates/{crate}/must-fail/*.edit")] + files("attack/by_test/*.body")
-    scripts = [path for path in files("bench/**/*.py", "bridge/**/*.py", "bridge/**/*.go") if path != "bench/gate/rules.py"]
+    scripts = [path for path in files("bench/**/*.py", "bridge/**/*.py", "bridge/**/*.go", "fleet/**/*.py", "fleet/**/*.go") if path != "bench/gate/rules.py"]
     for path in [*own, *bodies, *scripts]:
         lines = lines_of(path)
         for place, words, above, at in tagged(path, lines):

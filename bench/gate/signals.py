@@ -54,13 +54,15 @@ def package(folder, program):
 class Server:
     """A server that was started by some words, in a session of its own."""
 
-    def __init__(self, start, folder=None, with_port=True, is_held=False):
+    def __init__(self, start, folder=None, with_port=True, is_held=False, token=None):
+        self.said = {"authorization": f"Bearer {open(token, encoding='utf-8').readline().strip()}"} if token else {}
         self.port = free_ports(5, 23000, 50)
         self.admin = self.port + 4
         words = ["serve", "--replicas", "1", "--port", str(self.port), "--rest-port", str(self.port + 2)]
         words += ["--admin-port", str(self.admin)] if with_port else []
         words += ["--record", folder] if folder else []
         words += ["--keep-going", "--log"] if is_held else []
+        words += ["--admin-token", token] if token else []
         self.run = subprocess.Popen([*start, *words], stdin=subprocess.PIPE, stdout=subprocess.DEVNULL, stderr=subprocess.PIPE, start_new_session=True)
         try:
             self.run.stdin.write(LINE)
@@ -74,7 +76,8 @@ class Server:
         while time.time() < until and self.run.poll() is None:
             try:
                 if with_port:
-                    with urllib.request.urlopen(f"http://127.0.0.1:{self.admin}/metrics", timeout=10) as reply:
+                    asked = urllib.request.Request(f"http://127.0.0.1:{self.admin}/metrics", headers=self.said)
+                    with urllib.request.urlopen(asked, timeout=10) as reply:
                         if b'xds_resources{replica="1",type="cluster"} 1' in reply.read():
                             return True
                 else:
@@ -136,6 +139,18 @@ def killed(name, start):
     tell(f"{name}: a second signal kills it", status in (137, -9), (status, took))
 
 
+def with_token(name, start):
+    """A server whose port asks for a token is stopped by it."""
+    with tempfile.TemporaryDirectory() as folder:
+        file = f"{folder}/a token"
+        with open(file, "w", encoding="utf-8") as it:
+            it.write("it's $a \\ \"token\"\n")
+        server = Server(start, token=file)
+        os.kill(server.run.pid, signal.SIGTERM)
+        status = server.ends()
+        tell(f"{name}: a server that asks for a token is stopped", server.is_up and status == 0, (server.is_up, status))
+
+
 def unported(name, start):
     """Without an operator's port a signal ends the server as it ends any program."""
     server = Server(start, with_port=False)
@@ -161,6 +176,7 @@ def main():
             stopped_by(name, start, program, signal.SIGINT, True)
             killed(name, start)
             unported(name, start)
+            with_token(name, start)
     end()
 
 

@@ -217,7 +217,7 @@ def held_replica():
         tell(f"{path} is answered beside a replica that waits", status == wanted and took < ANSWERS, (status, text[:80], took))
     status, text, took = server.ask("/changes", put("a") + b"view\n" + put("b"), 2 * ANSWERS)
     wanted = "line 1: 19 Device\nline 2: 21 BadScript: unknown command\nline 3: 19 Device\n"
-    tell("a change that isn't made in time is told as such", (status, text) == (200, wanted) and took < 2 * ANSWERS, (status, text, took))
+    tell("a change that isn't made in time is told as such", (status, text) == (422, wanted) and took < 2 * ANSWERS, (status, text, took))
     for _ in range(20):
         server.ask("/ready", seconds=ANSWERS)
     server.reader.start()
@@ -238,7 +238,7 @@ def many_changes():
     server = Server()
     status, text, alone = server.ask("/changes", b"delete 1 route none\n" * 2_000, 120)
     lines = text.splitlines()
-    good = status == 200 and len(lines) == 2_000 and lines[0] == "line 1: 9 NotFound" and lines[-1] == "line 2000: 9 NotFound"
+    good = status == 422 and len(lines) == 2_000 and lines[0] == "line 1: 9 NotFound" and lines[-1] == "line 2000: 9 NotFound"
     tell("each line of a list of changes is answered", good, (status, len(lines), lines[:1], lines[-1:]))
     # Three lists of 200,000 take 300 times as long; who waited for all of them would wait for much more than a sixth of that.
     most = min(max(ANSWERS, alone * 300 / 6), 30)

@@ -8,4 +8,6 @@ mod Joining
 mod Wired
 mod LoadSteps
 mod Watchings
+pub mod Pieces
 pub mod Numbering
+pub mod LineReading

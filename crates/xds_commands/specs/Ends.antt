@@ -38,7 +38,7 @@ use Rattle.xds_client.specs.Running.{IsUndialled, Runs, RunsBy}
 use Rattle.xds_client.specs.declared.connecting.Ended.{Ended}
 use Rattle.xds_client.specs.Subscribing.{names_of}
 use Rattle.xds_program.specs.declared.run.Ran.{Ran}
-use Rattle.xds_program.specs.declared.run.Ran.TheVariants.{Done, Serve, Client, Poll, Writes}
+use Rattle.xds_program.specs.declared.run.Ran.TheVariants.{Done, Serve, Client, Poll, Writes, Status}
 use Rattle.xds_program.specs.declared.tasks.StreamVariant.{StreamVariant}
 use Rattle.xds_program.specs.declared.tasks.StreamVariant.TheVariants.{Sotw, Delta}
 use Rattle.xds_program.specs.Outcomes.{Prints, refusal_line}
@@ -136,3 +136,4 @@ GoesOn (Serve task) status output errors = (status ≤ 1) × Stays output
 GoesOn (Client task) status output errors = EndsClient task status output errors
 GoesOn (Poll task) status output errors = EndsPoll (λ _ _ _ _. ⊤) task status output errors
 GoesOn (Writes task) status output errors = status ≤ 1
+GoesOn (Status task) status output errors = status ≤ 1

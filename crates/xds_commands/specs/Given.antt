@@ -1,12 +1,16 @@
 -- The stamped writes that a server begins with, and the numbers that its replicas may have then. This project's own.
---     AreBelow       each of these writes was made by a replica of a lower number
---     AllBelow       so was each of a batch
---     IsNumberOver   the first replica's number: the one that was asked for, if one was; above those of the given writes
---     MergesSome     what is held once a batch was merged, if there is one
---     IsHeldFirst    what is held of what is stored, and over it of the given writes
---     IsAllOver      all that is held, and over it what a file's changes come to, if there is one
---     IsWorldOver    what each replica of a server merges before anybody is answered
-use Rattle.std.specs.Prelude.{◌≡◌, ◌<◌, ◌≤◌, ◌+◌, ℕ, Bool, true, false, List, All, Option, None, Some, IfSome, Ok}
+--     AreBelow         each of these writes was made by a replica of a lower number
+--     AllBelow         so was each of a batch
+--     IsOver           a number above those of the replicas that made the given writes
+--     IsLeastOver      the least of these
+--     IsNumberOver     the first replica's number: the one that was asked for, if one was; above those of the given writes
+--     IsLeastOrAsked   the least number that will do, where none was asked for
+--     HasNoNumber      no number will do
+--     MergesSome       what is held once a batch was merged, if there is one
+--     IsHeldFirst      what is held of what is stored, and over it of the given writes
+--     IsAllOver        all that is held, and over it what a file's changes come to, if there is one
+--     IsWorldOver      what each replica of a server merges before anybody is answered
+use Rattle.std.specs.Prelude.{◌≡◌, ◌<◌, ◌≤◌, ◌+◌, ℕ, ⊤, Bool, true, false, List, All, Option, None, Some, IfSome, Ok}
 use Rattle.xds_resource.specs.declared.types.TypeName.{TypeName}
 use Rattle.xds_resource.specs.Writes.{StampedWrite}
 use Rattle.xds_resource.specs.PerType.{at, each}
@@ -25,13 +29,34 @@ abbrev pub AllBelow : ℕ → Batch → Type 0
 AllBelow number batch = (t : TypeName) → AreBelow number (at batch t)
 
 -- rule: new-numbers
+-- a number, from 1, above those of the replicas that made the given writes
+abbrev pub IsOver : Option Batch → ℕ → Type 0
+IsOver given number = (1 ≤ number) × IfSome given (AllBelow number)
+
+-- rule: new-numbers
+-- the least of these
+pub record IsLeastOver (given : Option Batch) (number : ℕ) : Type 0 where
+  pub is_over : IsOver given number
+  pub is_least : (other : ℕ) → IsOver given other → number ≤ other
+
+-- rule: new-numbers
 -- The number of the first of so many replicas: the one that was asked for, if one was; all of them have numbers above those of the replicas
 -- that made the given writes, and none above 65,535.
 pub record IsNumberOver (asked : Option ℕ) (replicas : ℕ) (given : Option Batch) (first : ℕ) : Type 0 where
   pub is_asked : IfSome asked (λ n. first ≡ n)
-  pub is_positive : 1 ≤ first
-  pub is_above : IfSome given (AllBelow first)
+  pub is_over : IsOver given first
   pub has_room : first + replicas ≤ 65536
+
+-- rule: new-numbers
+-- the least number above those of the given writes, where none was asked for
+abbrev pub IsLeastOrAsked : Option ℕ → Option Batch → ℕ → Type 0
+IsLeastOrAsked None given first = IsLeastOver given first
+IsLeastOrAsked (Some asked) given first = ⊤
+
+-- rule: new-numbers
+-- no number that a replica may have will do
+abbrev pub HasNoNumber : Option ℕ → ℕ → Option Batch → Type 0
+HasNoNumber asked replicas given = (first : ℕ) → first ≤ 65535 → IsNumberOver asked replicas given first → ⊥
 
 -- rule: loaded-first
 -- what is held once a batch was merged, if there is one

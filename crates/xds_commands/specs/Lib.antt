@@ -1,10 +1,13 @@
 pub mod Changes
+pub mod Contents
+pub mod Doors
 pub mod Handing
 pub mod Inputs
 pub mod HeldLines
 pub mod Keeping
 pub mod Limits
 pub mod Messages
+pub mod Meters
 pub mod Routes
 pub mod Ends
 pub mod Servings
@@ -12,4 +15,9 @@ pub mod Wiring
 pub mod Channels
 pub mod Loads
 pub mod Stored
+pub mod Together
+pub mod MarkTexts
+pub mod Moved
+pub mod Queries
+pub mod WriteLines
 pub mod Given

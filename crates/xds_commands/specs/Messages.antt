@@ -7,12 +7,13 @@
 --     old_numbers_line   what is told where replicas would have numbers that are not above those of the writes of a file
 --     file_fault_text  what is told of why a file can't be opened
 --     file_line        the line of a file that can't be opened
+--     no_token_line    the line of a file that has no token
 --     unloaded_line    the line of a file that isn't loaded, by one of its lines or by what else was refused
 --     refusal_in       the refusal that an answer is, of which there may be a record or none
 use Rattle.std.specs.Prelude.{ℕ, List, ◌++◌, Option, Some, None, Result, Ok, Err, codes, decimal}
 use Rattle.xds_resource.specs.declared.refusal.Refusal.{Refusal}
 use Rattle.xds_resource.specs.Refusals.{number_of, name_of}
-use Rattle.xds_monitor.specs.Logging.{number_text}
+use Rattle.xds_stats.specs.Logging.{number_text}
 use Rattle.xds_commands.specs.declared.serve_telling.FileFault.{FileFault}
 use Rattle.xds_commands.specs.declared.serve_telling.FileFault.TheVariants.{NoFile, Forbidden, Unknown}
 use Rattle.xds_commands.specs.declared.serve_telling.PortFault.{PortFault}
@@ -57,6 +58,10 @@ file_fault_text Unknown = codes ""
 -- the line of a file that can't be opened
 abbrev pub file_line : List ℕ → FileFault → List ℕ
 file_line file fault = file ++ (codes ": 19 Device" ++ (file_fault_text fault ++ codes "\n"))
+
+-- the line of a file that has no token
+abbrev pub no_token_line : List ℕ → List ℕ
+no_token_line file = file ++ codes ": its first line is to be a token\n"
 
 -- rule: loaded-first
 -- the line of a file that isn't loaded, by one of its lines or by what else was refused

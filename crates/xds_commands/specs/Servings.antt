@@ -1,14 +1,14 @@
 -- What a server is asked for. This project's own.
---     serving_of   what the words ask of a server that waits with its answers or doesn't, where its error output is a terminal or isn't
+--     serving_of   what the words ask of a server, where its error output is a terminal or isn't
 --     limits_of    what the streams of a replica may be then
-use Rattle.std.specs.Prelude.{ℕ, Bool, Option}
+use Rattle.std.specs.Prelude.{ℕ, Bool, ◌||◌, Option}
 use Rattle.xds_program.specs.declared.tasks.ServeTask.{ServeTask}
 use Rattle.xds_monitor.specs.declared.lookout.Limits.{Limits}
 use Rattle.xds_commands.specs.declared.server.Serving.{Serving}
 
--- what the words ask of a server that waits with its answers or doesn't, where its error output is a terminal or isn't
-abbrev pub serving_of : ServeTask → Option ℕ → Bool → Bool → Serving
-serving_of task first_number hold is_terminal = record {
+-- what the words ask of a server that waits with its answers or doesn't, and logs as JSON or doesn't, where its error output is a terminal or isn't
+abbrev pub serving_of : ServeTask → Option ℕ → Bool → Bool → Bool → Serving
+serving_of task first_number hold log_json is_terminal = record {
   first_number = first_number;
   replicas = task.replicas;
   port = task.port;
@@ -16,7 +16,8 @@ serving_of task first_number hold is_terminal = record {
   streams = task.streams;
   keep_going = task.keep_going;
   tells = is_terminal;
-  logs = task.log;
+  logs = task.log || log_json;
+  logs_json = log_json;
   max_streams = task.max_streams;
   idle_seconds = task.idle_seconds;
   admin_port = task.admin_port;

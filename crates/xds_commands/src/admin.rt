@@ -2,39 +2,59 @@
 // the server tells.
 ghost use Rattle.std.specs.Prelude.{◌≡◌, option_map, string_bytes, is_some, IfOk};
 ghost use Rattle.xds_commands.specs.Stored.{stored_text};
-ghost use Rattle.xds_commands.specs.Routes.{found_at, routed};
+ghost use Rattle.xds_commands.specs.Routes.{also_at, found_at, routed, routed_among};
+ghost use Rattle.xds_commands.specs.Together.{without_return};
 
 use crate::change::Change;
+use crate::choice::{Choice, Unchosen, choice_in};
+use crate::contents::push_content;
+use crate::door::refused_at;
+use crate::joint::{AllMade, Joint, Step, unstored_line};
 use crate::kept::{Kept, Said};
-use crate::order::Order;
+use crate::meter::{Meter, build_text};
+use crate::moves::Moves;
+use crate::order::{Answers, Order};
+use crate::page::{counts_html, head_html, replica_html, streams_html, tail_html};
+use crate::sharing::{Listing, Merging, PLAIN, plain};
 use crate::storing::{Progress, Reached as Reach, Told, owned};
 use crate::timed::Deadline;
-use crossbeam_channel::{Receiver, RecvTimeoutError, Sender, TryRecvError, unbounded};
+use crate::together::{Made, changes_status};
+use crate::wanting::{Wanted, read_wanted};
+use crossbeam_channel::{RecvTimeoutError, Sender, TryRecvError, unbounded};
 use std::alloc::Global;
 use std::mem;
 use std::sync::{Arc, Mutex, Wait};
 use std::time::{Clock, Duration};
 use xds_core::Marks;
-use xds_http::{Page, Pages};
-use xds_monitor::{
-    Cause, End, Ending, Fault, Look, Lookout, Shown, Tape, numbers_text, recorded_text,
-    recordings_text, refused_line, stamp_line,
-};
+use xds_http::{Head, Page, Pages, Part};
+use xds_message::Batch;
+use xds_monitor::{Cause, End, Ending, Fault, Lookout, Tape, recorded_text, recordings_text, refused_line, running_text, stamp_line};
+use xds_stats::{LogEvent, Look, Shown, millis_now, numbers_text, utc_text};
+use xds_program::VERSION;
 use xds_resource::{Refusal, Stamp};
 use xds_world::lines::split_line;
 
 // The kinds of what is answered.
-const PLAIN: &str = "text/plain; charset=utf-8";
-
 const NUMBERS: &str = "text/plain; version=0.0.4";
 
 const JSON: &str = "application/json";
+
+const HTML: &str = "text/html; charset=utf-8";
 
 // As many milliseconds as are waited for what replicas' threads answer to one request, or to one line of many.
 const MOST_MILLISECONDS: u64 = 1_000;
 
 // As many milliseconds as are waited for what was changed to be stored.
 const STORE_MILLISECONDS: u64 = 30_000;
+
+// As many seconds as a replica's thread has for changes that it makes together. Other requests are answered meanwhile.
+const JOINT_SECONDS: u64 = 600;
+
+// The status of changes that are made, and aren't stored.
+const UNSTORED: u16 = 507;
+
+// What is answered to changes of several replicas that are to be made together.
+const MIXED: &str = "all-or-nothing makes changes of one replica\n";
 
 // As many milliseconds as lines of changes are made in before other requests may be looked at. The loop that answers them looks for what
 // has come after 64 of these.
@@ -52,7 +72,17 @@ pub enum Route {
     Metrics,
     Status,
     Changes,
+    /// The writes that a replica holds, or that changed there.
+    Writes,
+    /// Writes, to be merged.
+    Merge,
     Stop,
+    /// What replicas hold.
+    Resources,
+    /// A page for a browser.
+    Page,
+    /// The streams, as lines of a plain text.
+    Lines,
 }
 
 // What is found at a path, and by which method.
@@ -65,8 +95,39 @@ fn at_path(path: &str) -> Option<(Route, &'static str)>
         "/metrics" => Some((Route::Metrics, "GET")),
         "/status" => Some((Route::Status, "GET")),
         "/changes" => Some((Route::Changes, "POST")),
+        "/writes" => Some((Route::Writes, "GET")),
         "/stop" => Some((Route::Stop, "POST")),
+        "/resources" => Some((Route::Resources, "GET")),
+        "/" => Some((Route::Page, "GET")),
+        "/status.txt" => Some((Route::Lines, "GET")),
         _ => None,
+    }
+}
+
+// What else is found at a path, and by which method.
+fn also_at_path(path: &str) -> Option<(Route, &'static str)>
+    ensures { option_map (λ p. (p.0, p.1.now)) result ≡ also_at path.now }
+{
+    match path {
+        "/ready" => Some((Route::Open, "POST")),
+        "/writes" => Some((Route::Merge, "POST")),
+        _ => None,
+    }
+}
+
+// What a request of this method asks for by what else is found at a path, or 405.
+fn routed_else(method: &str, path: &str) -> Result<Route, u16>
+    ensures { result ≡ routed_among method.now (also_at path.now) }
+{
+    match also_at_path(path) {
+        Some((route, wanted)) => {
+            if method == wanted {
+                Ok(route)
+            } else {
+                Err(405)
+            }
+        }
+        None => Err(405),
     }
 }
 
@@ -75,23 +136,17 @@ fn at_path(path: &str) -> Option<(Route, &'static str)>
 pub fn routed(method: &str, path: &str) -> Result<Route, u16>
     ensures { result ≡ routed method.now path.now }
 {
-    if path == "/ready" && method == "POST" {
-        return Ok(Route::Open);
-    }
     match at_path(path) {
         Some((route, wanted)) => {
             if method == wanted {
                 Ok(route)
             } else {
-                Err(405)
+                routed_else(method, path)
             }
         }
         None => Err(404),
     }
 }
-
-// What a replica's thread answers to a question.
-type Answers<T> = Receiver<Result<T, Refusal>>;
 
 /// A replica, as an operator's port reaches it.
 pub(crate) struct Reached {
@@ -120,7 +175,13 @@ pub(crate) struct Admin {
     pub replicas: Vec<Reached>,
     /// How far writes are stored, if they are.
     pub store: Option<Arc<Progress>>,
+    /// How far the replicas have changed.
+    pub moves: Arc<Moves>,
     pub ending: Arc<Ending>,
+    /// What tells what this process takes.
+    pub meter: Meter,
+    /// What requests say, where they have to.
+    pub bearer: Option<String>,
 }
 
 // Written out: docs/PROVING.md, "Drops".
@@ -129,7 +190,10 @@ impl Drop for Admin {
         let Admin {
             replicas: _,
             store: _,
+            moves: _,
             ending: _,
+            meter: _,
+            bearer: _,
         } = self;
     }
 }
@@ -145,6 +209,11 @@ pub(crate) struct Changing {
     unstored: String,
     // Whether a replica didn't answer in time. Then no line more is tried.
     is_stuck: bool,
+    // How many changes were made, and how many lines refused.
+    made: u64,
+    refused: u64,
+    // The changes, where they are looked at alone, or made together.
+    joint: Option<Joint>,
     // Once all were made, until when they are to be stored, and the counts of changes of each replica then.
     storing: Option<(Deadline, Vec<Marks>)>,
 }
@@ -159,24 +228,37 @@ impl Drop for Changing {
             text: _,
             unstored: _,
             is_stuck: _,
+            made: _,
+            refused: _,
+            joint: _,
             storing: _,
         } = self;
     }
 }
 
+/// What is left to do for an answer.
+#[derive(Drop)]
+pub(crate) enum Doing {
+    Changes(Changing),
+    Writes(Listing),
+    Merge(Merging),
+}
+
 impl Pages for Admin {
-    type Work = Changing;
+    type Work = Doing;
 
     fn page<R: Wait + Clock>(
         &self,
         rt: &R,
         alloc: Global,
-        method: &str,
-        path: &str,
+        head: &Head,
         body: &[u8],
-    ) -> Result<Page, Changing> {
-        match routed(method, path) {
-            Ok(route) => match self.answer(rt, alloc, route, body) {
+    ) -> Result<Page, Doing> {
+        if let Some(status) = refused_at(head, &self.bearer) {
+            return Ok(bare(alloc, status));
+        }
+        match routed(head.method.as_str(), head.path.as_str()) {
+            Ok(route) => match self.answer(rt, alloc, route, head, body) {
                 Ok(answer) => answer,
                 Err(_) => Ok(bare(alloc, 503)),
             },
@@ -184,10 +266,15 @@ impl Pages for Admin {
         }
     }
 
-    fn go_on<R: Wait + Clock>(&self, rt: &R, alloc: Global, work: &mut Changing) -> Option<Page> {
-        match self.go_on_changing(rt, alloc, work) {
-            Ok(page) => page,
-            Err(_) => Some(bare(alloc, 503)),
+    fn go_on<R: Wait + Clock>(&self, rt: &R, alloc: Global, work: &mut Doing) -> Part {
+        let part = match work {
+            Doing::Changes(changing) => self.go_on_changing(rt, alloc, changing),
+            Doing::Writes(listing) => self.go_on_listing(rt, alloc, listing),
+            Doing::Merge(merging) => merging.go_on(rt, alloc),
+        };
+        match part {
+            Ok(part) => part,
+            Err(_) => Part::Done(bare(alloc, 503)),
         }
     }
 }
@@ -208,17 +295,13 @@ fn stored_text(alloc: Global, told: Told) -> Result<String, Refusal>
     let failures = told.failures;
     let failing = u64::from(told.failing.is_some());
     Ok(format!(in alloc;
-        "# TYPE xds_store_commits_total counter\nxds_store_commits_total {commits}\n# TYPE xds_store_failures_total counter\nxds_store_failures_total {failures}\n# TYPE xds_store_failing gauge\nxds_store_failing {failing}\n"
+        "# HELP xds_store_commits_total Commits of the store.\n# TYPE xds_store_commits_total counter\nxds_store_commits_total {commits}\n# HELP xds_store_failures_total Tries to store something that failed.\n# TYPE xds_store_failures_total counter\nxds_store_failures_total {failures}\n# HELP xds_store_failing Whether the last try to store something failed.\n# TYPE xds_store_failing gauge\nxds_store_failing {failing}\n"
     )?)
 }
 
 // A status alone.
 fn bare(alloc: Global, status: u16) -> Page {
-    Page {
-        status,
-        kind: PLAIN,
-        text: String::new(alloc),
-    }
+    plain(status, String::new(alloc))
 }
 
 // A text that is there.
@@ -227,6 +310,7 @@ fn found(kind: &'static str, text: String) -> Page {
         status: 200,
         kind,
         text,
+        field: None,
     }
 }
 
@@ -239,8 +323,17 @@ fn changes_in(alloc: Global, body: &[u8]) -> Result<Changing, Refusal> {
         text: String::new(alloc),
         unstored: String::new(alloc),
         is_stuck: false,
+        made: 0,
+        refused: 0,
+        joint: None,
         storing: None,
     })
+}
+
+// A status with a text.
+fn told(alloc: Global, status: u16, text: &str) -> Page {
+    let text = String::from_str(alloc, text).unwrap_or(String::new(alloc));
+    plain(status, text)
 }
 
 impl Admin {
@@ -250,8 +343,9 @@ impl Admin {
         rt: &R,
         alloc: Global,
         route: Route,
+        head: &Head,
         body: &[u8],
-    ) -> Result<Result<Page, Changing>, Refusal> {
+    ) -> Result<Result<Page, Doing>, Refusal> {
         match route {
             Route::Health => Ok(Ok(found(PLAIN, String::from_str(alloc, "ok\n")?))),
             Route::Ready => Ok(Ok(self.ready(rt, alloc)?)),
@@ -263,12 +357,121 @@ impl Admin {
             }
             Route::Metrics => Ok(Ok(found(NUMBERS, self.numbers(rt, alloc)?))),
             Route::Status => Ok(Ok(found(JSON, self.status(rt, alloc)?))),
-            Route::Changes => Ok(Err(changes_in(alloc, body)?)),
+            Route::Changes => self.begin_changes(alloc, head, body),
+            Route::Resources => Ok(Ok(self.chosen(rt, alloc, head)?)),
+            Route::Page => Ok(Ok(found(HTML, self.html(rt, alloc)?))),
+            Route::Lines => Ok(Ok(found(PLAIN, self.lines(rt, alloc)?))),
+            Route::Writes | Route::Merge => match self.wanted(head.query.as_str()) {
+                Ok((wanted, replica)) => share_writes(rt, alloc, route, wanted, replica, body),
+                Err(status) => Ok(Ok(bare(alloc, status))),
+            },
             Route::Stop => {
                 let page = found(PLAIN, String::from_str(alloc, "stopping\n")?);
+                self.ending.log(rt, millis_now(rt), LogEvent::Stopping);
                 self.ending.end(rt, End::Stopped);
                 Ok(Ok(page))
             }
+        }
+    }
+
+    // The changes of a body, as the words behind the question mark say.
+    fn begin_changes(
+        &self,
+        alloc: Global,
+        head: &Head,
+        body: &[u8],
+    ) -> Result<Result<Page, Doing>, Refusal> {
+        let choice = match choice_in(alloc, head.query.as_str()) {
+            Ok(choice) => choice,
+            Err(unchosen) => return Ok(Ok(told(alloc, 400, unchosen.text()))),
+        };
+        if choice.is_of_resources() {
+            return Ok(Ok(told(alloc, 400, Unchosen::UnknownWord.text())));
+        }
+        let mut changing = changes_in(alloc, body)?;
+        if choice.is_of_changes() {
+            let joint = Joint::new(alloc, self.replicas.len(), choice.is_tried)?;
+            changing.joint = Some(joint);
+        }
+        Ok(Err(Doing::Changes(changing)))
+    }
+
+    // What replicas hold, as the words behind the question mark say: 404 where there is no such replica, or nothing of the name.
+    fn chosen<R: Wait + Clock>(&self, rt: &R, alloc: Global, head: &Head) -> Result<Page, Refusal> {
+        let choice = match choice_in(alloc, head.query.as_str()) {
+            Ok(choice) => choice,
+            Err(unchosen) => return Ok(told(alloc, 400, unchosen.text())),
+        };
+        if choice.is_of_changes() {
+            return Ok(told(alloc, 400, Unchosen::UnknownWord.text()));
+        }
+        if !self.has_replica(&choice) {
+            return Ok(told(alloc, 404, "no such replica\n"));
+        }
+        match self.resources(rt, alloc, &choice)? {
+            Some(text) if text.as_str().is_empty() && choice.name.is_some() => {
+                Ok(told(alloc, 404, "9 NotFound\n"))
+            }
+            Some(text) => Ok(found(PLAIN, text)),
+            None => Ok(bare(alloc, 503)),
+        }
+    }
+
+    // Whether a replica is chosen that is there.
+    fn has_replica(&self, choice: &Choice) -> bool {
+        for replica in &self.replicas {
+            if choice.has_replica(replica.lookout.replica()) {
+                return true;
+            }
+        }
+        false
+    }
+
+    // What replicas hold, where each answers in time.
+    fn resources<R: Wait + Clock>(
+        &self,
+        rt: &R,
+        alloc: Global,
+        choice: &Choice,
+    ) -> Result<Option<String>, Refusal> {
+        let deadline = Deadline::within(rt, Duration::from_millis(MOST_MILLISECONDS));
+        let mut text = String::new(alloc);
+        for replica in &self.replicas {
+            let place = replica.lookout.replica();
+            if choice.has_replica(place) {
+                let Some(held) = replica.content(rt, alloc, deadline) else {
+                    return Ok(None);
+                };
+                push_content(alloc, &mut text, place, &held, choice)?;
+            }
+        }
+        Ok(Some(text))
+    }
+
+    // What a query of writes asks for, and of which replica; or the status that refuses it: 400 where it is none, and 404 where no such
+    // replica is there.
+    fn wanted(&self, query: &str) -> Result<(Wanted, &Reached), u16> {
+        let Some(wanted) = read_wanted(query) else {
+            return Err(400);
+        };
+        let place = usize::from(wanted.replica).wrapping_sub(1);
+        let Some(replica) = self.replicas.get(place) else {
+            return Err(404);
+        };
+        Ok((wanted, replica))
+    }
+
+    // Goes on to list the writes of a replica for a moment.
+    fn go_on_listing<R: Wait + Clock>(
+        &self,
+        rt: &R,
+        alloc: Global,
+        listing: &mut Listing,
+    ) -> Result<Part, Refusal> {
+        let place = usize::from(listing.replica()).wrapping_sub(1);
+        match self.replicas.get(place) {
+            Some(replica) => listing.go_on(rt, alloc, &replica.orders, &self.moves),
+            None => Ok(Part::Done(bare(alloc, 404))),
         }
     }
 
@@ -316,20 +519,55 @@ impl Admin {
             let stored = stored_text(alloc, store.told(rt))?;
             text.push_str(stored.as_str())?;
         }
+        text.push_str(build_text(alloc, VERSION)?.as_str())?;
+        text.push_str(self.meter.text(alloc)?.as_str())?;
         Ok(text)
     }
 
-    // How many recordings ended by a refusal, of each replica.
+    // The open streams of all replicas, as lines of a plain text.
+    fn lines<R: Wait>(&self, rt: &R, alloc: Global) -> Result<String, Refusal> {
+        let mut text = String::new(alloc);
+        for replica in &self.replicas {
+            let one = replica.lookout.lines(rt, alloc)?;
+            text.push_str(one.as_str())?;
+        }
+        if text.as_str().is_empty() {
+            text.push_str("no stream is open\n")?;
+        }
+        Ok(text)
+    }
+
+    // The page for a browser.
+    fn html<R: Wait + Clock>(&self, rt: &R, alloc: Global) -> Result<String, Refusal> {
+        let looks = self.looks(rt, alloc)?;
+        let millis = millis_now(rt);
+        let now = utc_text(alloc, millis)?;
+        let mut text = head_html(alloc, now.as_str(), self.replicas.len())?;
+        for (replica, look) in self.replicas.iter().zip(looks) {
+            let one = replica.html(rt, alloc, look, millis)?;
+            text.push_str(one.as_str())?;
+        }
+        let refused = self.ending.refused_text(rt, alloc)?;
+        text.push_str(tail_html(alloc, refused.as_str())?.as_str())?;
+        Ok(text)
+    }
+
+    // How many recordings ended by a refusal, of each replica, and whether there is one that goes on.
     fn recordings<R: Wait>(&self, rt: &R, alloc: Global) -> Result<String, Refusal> {
         let mut ended = Vec::new(alloc);
+        let mut running = Vec::new(alloc);
         for replica in &self.replicas {
+            let place = replica.lookout.replica();
             let refusal = match &replica.tape {
                 Some(tape) => tape.ended(rt),
                 None => None,
             };
-            ended.push((replica.lookout.replica(), refusal.is_some()))?;
+            ended.push((place, refusal.is_some()))?;
+            running.push((place, replica.tape.is_some() && refusal.is_none()))?;
         }
-        recordings_text(alloc, ended.as_slice())
+        let mut text = recordings_text(alloc, ended.as_slice())?;
+        text.push_str(running_text(alloc, running.as_slice())?.as_str())?;
+        Ok(text)
     }
 
     fn status<R: Wait>(&self, rt: &R, alloc: Global) -> Result<String, Refusal> {
@@ -362,40 +600,38 @@ impl Admin {
         rt: &R,
         alloc: Global,
         work: &mut Changing,
-    ) -> Result<Option<Page>, Refusal> {
+    ) -> Result<Part, Refusal> {
         if work.storing.is_none() {
-            if !self.change_on(rt, alloc, work)? {
-                return Ok(None);
+            if !self.change_on(rt, alloc, work)? || !self.join_on(rt, alloc, work)? {
+                return Ok(Part::More);
+            }
+            if let Some(page) = work.unmade(alloc)? {
+                return Ok(Part::Done(page));
             }
             let Some(_) = &self.store else {
-                return Ok(Some(work.answered(alloc, true)));
+                return Ok(Part::Done(work.answered(alloc, true)));
             };
             match self.marks(rt, alloc)? {
                 Some(marks) => {
                     let time = Duration::from_millis(STORE_MILLISECONDS);
                     work.storing = Some((Deadline::within(rt, time), marks));
                 }
-                None => return Ok(Some(work.answered(alloc, false))),
+                None => return Ok(Part::Done(work.answered(alloc, false))),
             }
         }
         Ok(self.store_on(rt, alloc, work))
     }
 
     // Waits for a while until all changes are stored. Answers what the lines are answered, once they are, or the store has failed.
-    fn store_on<R: Wait + Clock>(
-        &self,
-        rt: &R,
-        alloc: Global,
-        work: &mut Changing,
-    ) -> Option<Page> {
+    fn store_on<R: Wait + Clock>(&self, rt: &R, alloc: Global, work: &mut Changing) -> Part {
         match self.reached(rt, &work.storing) {
-            Reach::Stored => Some(work.answered(alloc, true)),
-            Reach::Failing => Some(work.answered(alloc, false)),
+            Reach::Stored => Part::Done(work.answered(alloc, true)),
+            Reach::Failing => Part::Done(work.answered(alloc, false)),
             Reach::Waiting => {
                 if let Some(store) = &self.store {
                     store.pause(rt, Duration::from_millis(PART_MILLISECONDS));
                 }
-                None
+                Part::More
             }
         }
     }
@@ -442,8 +678,15 @@ impl Admin {
     ) -> Result<bool, Refusal> {
         let deadline = Deadline::within(rt, Duration::from_millis(PART_MILLISECONDS));
         for _ in 0..u64::MAX {
+            if work.is_read() {
+                return Ok(true);
+            }
             let (line, is_last) = work.next(alloc);
-            self.answer_line(rt, alloc, line, work)?;
+            if work.joint.is_some() {
+                work.join(line, is_last)?;
+            } else {
+                self.answer_line(rt, alloc, line, work)?;
+            }
             if is_last {
                 return Ok(true);
             }
@@ -452,6 +695,62 @@ impl Admin {
             }
         }
         Ok(false)
+    }
+
+    // Hands changes that are made together to their replicas, and waits for what becomes of them, for a moment at a time. Answers whether all
+    // is known.
+    fn join_on<R: Wait + Clock>(
+        &self,
+        rt: &R,
+        alloc: Global,
+        work: &mut Changing,
+    ) -> Result<bool, Refusal> {
+        let Some(joint) = &mut work.joint else {
+            return Ok(true);
+        };
+        if !joint.is_tried && joint.are_mixed() {
+            return Ok(true);
+        }
+        match joint.step(rt, alloc, Duration::from_millis(PART_MILLISECONDS))? {
+            Step::Done => Ok(true),
+            Step::Wait => Ok(false),
+            Step::Hand(place, changes) => {
+                let is_tried = joint.is_tried;
+                match self.hand(rt, alloc, place, changes, is_tried) {
+                    Some(from) => {
+                        let time = Duration::from_secs(JOINT_SECONDS);
+                        joint.wait_for(from, Deadline::within(rt, time));
+                    }
+                    None => joint.all_are(alloc, Made::Refused(Refusal::Device))?,
+                }
+                Ok(false)
+            }
+        }
+    }
+
+    // Hands changes to a replica's thread, if it takes them in time. Answers where it answers.
+    fn hand<R: Wait + Clock>(
+        &self,
+        rt: &R,
+        alloc: Global,
+        place: usize,
+        changes: Vec<Change>,
+        is_tried: bool,
+    ) -> Option<AllMade> {
+        let Some(replica) = self.replicas.get(place) else {
+            drop(changes);
+            return None;
+        };
+        let Ok((to, from)) = unbounded(alloc) else {
+            drop(changes);
+            return None;
+        };
+        let order = Order::All(changes, is_tried, to);
+        let time = Duration::from_millis(MOST_MILLISECONDS);
+        match replica.orders.send_timeout(rt, order, time) {
+            Ok(()) => Some(from),
+            Err(_) => None,
+        }
     }
 
     // Adds what a line is answered: nothing, where it says nothing.
@@ -470,12 +769,15 @@ impl Admin {
         };
         match made {
             Ok(stamp) => {
+                work.made = work.made.saturating_add(1);
                 work.text
                     .push_str(stamp_line(alloc, line, stamp)?.as_str())?;
                 let unstored = unstored_line(alloc, line, stamp)?;
                 work.unstored.push_str(unstored.as_str())?;
             }
             Err(fault) => {
+                work.refused = work.refused.saturating_add(1);
+                self.ending.remember(rt, line, fault);
                 let refused = refused_line(alloc, line, fault)?;
                 work.text.push_str(refused.as_str())?;
                 work.unstored.push_str(refused.as_str())?;
@@ -512,11 +814,34 @@ impl Admin {
     }
 }
 
-// The line of a line that was made a write, which has this stamp, and isn't stored.
-fn unstored_line(alloc: Global, line: u64, stamp: Stamp) -> Result<String, Refusal> {
-    let counter = stamp.counter;
-    let writer = stamp.writer;
-    Ok(format!(in alloc; "line {line}: {counter}-{writer}, not stored\n")?)
+// Begins to list the writes of a replica, or to merge those of a body there.
+fn share_writes<R: Wait + Clock>(
+    rt: &R,
+    alloc: Global,
+    route: Route,
+    wanted: Wanted,
+    replica: &Reached,
+    body: &[u8],
+) -> Result<Result<Page, Doing>, Refusal> {
+    if route == Route::Writes {
+        return Ok(Err(Doing::Writes(Listing::new(rt, wanted))));
+    }
+    match Merging::begin(rt, alloc, &replica.orders, body)? {
+        Ok(page) => Ok(Ok(page)),
+        Err(merging) => Ok(Err(Doing::Merge(merging))),
+    }
+}
+
+// A line without a carriage return at its end.
+fn without_return(line: &[u8]) -> &[u8]
+    ensures { result.now ≡ without_return line.now }
+{
+    let count = line.len();
+    if count > 0 && line[count - 1] == b'\r' {
+        &line[..count - 1]
+    } else {
+        line
+    }
 }
 
 impl Changing {
@@ -524,7 +849,61 @@ impl Changing {
     fn answered(&mut self, alloc: Global, are_stored: bool) -> Page {
         let text = mem::replace(&mut self.text, String::new(alloc));
         let unstored = mem::replace(&mut self.unstored, String::new(alloc));
-        found(PLAIN, if are_stored { text } else { unstored })
+        let status = match are_stored {
+            true => changes_status(self.made, self.refused),
+            false => UNSTORED,
+        };
+        plain(status, if are_stored { text } else { unstored })
+    }
+
+    // Takes what a line says that is made together with others.
+    fn join(&mut self, said: Said, is_last: bool) -> Result<(), Refusal> {
+        match &mut self.joint {
+            Some(joint) => {
+                joint.is_read = is_last;
+                joint.take(said)
+            }
+            None => {
+                drop(said);
+                Ok(())
+            }
+        }
+    }
+
+    // Whether all lines are read.
+    fn is_read(&self) -> bool {
+        match &self.joint {
+            Some(joint) => joint.is_read,
+            None => false,
+        }
+    }
+
+    // What is answered where no change was made: none was said, they were looked at alone, or all are of one replica that shall be made
+    // together, and aren't. Else what became of each is kept for where they are stored, and where they aren't.
+    fn unmade(&mut self, alloc: Global) -> Result<Option<Page>, Refusal> {
+        let Some(joint) = &self.joint else {
+            if self.made == 0 && self.refused == 0 {
+                return Ok(Some(told(alloc, 200, "no changes\n")));
+            }
+            return Ok(None);
+        };
+        if joint.is_empty() {
+            return Ok(Some(told(alloc, 200, "no changes\n")));
+        }
+        if !joint.is_tried && joint.are_mixed() {
+            return Ok(Some(told(alloc, 400, MIXED)));
+        }
+        let (status, text) = joint.text(alloc)?;
+        if joint.is_tried || status == 422 {
+            return Ok(Some(plain(status, text)));
+        }
+        let unstored = joint.unstored(alloc)?;
+        let (made, refused) = joint.counts(alloc)?;
+        self.unstored = unstored;
+        self.made = made;
+        self.refused = refused;
+        self.text = text;
+        Ok(None)
     }
 
     // What the next line says, and whether it is the last.
@@ -533,12 +912,12 @@ impl Changing {
         let rest = &body[self.at.min(body.len())..];
         match split_line(rest) {
             Some((part, following)) => {
-                self.kept.hold(part);
+                self.kept.hold(without_return(part));
                 self.at = body.len().saturating_sub(following.len());
                 (self.kept.end(alloc), false)
             }
             None => {
-                self.kept.hold(rest);
+                self.kept.hold(without_return(rest));
                 self.at = body.len();
                 (self.kept.end(alloc), true)
             }
@@ -627,6 +1006,25 @@ impl Reached {
         from.recv_timeout(rt, deadline.rest(rt)).ok()
     }
 
+    // All that is held. None where its thread doesn't answer in time.
+    fn content<R: Wait + Clock>(&self, rt: &R, alloc: Global, deadline: Deadline) -> Option<Batch> {
+        let Ok((to, from)) = unbounded(alloc) else {
+            return None;
+        };
+        let order = Order::Entries(to);
+        if self
+            .orders
+            .send_timeout(rt, order, deadline.rest(rt))
+            .is_err()
+        {
+            return None;
+        }
+        match from.recv_timeout(rt, deadline.rest(rt)) {
+            Ok(Ok(held)) => Some(held),
+            _ => None,
+        }
+    }
+
     // Its counts of changes. None where its thread doesn't answer in time.
     fn marks<R: Wait + Clock>(&self, rt: &R, alloc: Global) -> Option<Marks> {
         let Ok((to, from)) = unbounded(alloc) else {
@@ -645,6 +1043,24 @@ impl Reached {
             Ok(Ok(marks)) => Some(marks),
             _ => None,
         }
+    }
+
+    // What a browser shows of it: what it holds, where that is known, what was counted, and its streams.
+    fn html<R: Wait>(
+        &self,
+        rt: &R,
+        alloc: Global,
+        look: Option<Look>,
+        millis: u64,
+    ) -> Result<String, Refusal> {
+        let lookout = &self.lookout;
+        let mut text = replica_html(alloc, lookout.replica(), lookout.number())?;
+        let numbers = lookout.numbers(rt);
+        text.push_str(counts_html(alloc, look, &numbers)?.as_str())?;
+        text.push_str(lookout.picture(rt, alloc, millis)?.as_str())?;
+        let rows = lookout.rows(rt, alloc)?;
+        text.push_str(streams_html(alloc, rows.as_str())?.as_str())?;
+        Ok(text)
     }
 
     // What is shown of it: its recording, where there is one, and its streams.

@@ -5,27 +5,33 @@ ghost use Rattle.xds_core.specs.Stores.{all_entries};
 ghost use Rattle.xds_commands.specs.Loads.{IsLoaded};
 ghost use Rattle.xds_commands.specs.Given.{IsWorldOver, MergesSome};
 
+use crate::door::bearer;
 use crate::given::number_over;
 use crate::loading::load;
 use crate::machine::Runtime;
 use crate::serve_telling::{
-    FileFault, tell, tell_file, tell_old_numbers, tell_store, tell_unloaded,
+    FileFault, tell, tell_file, tell_no_token, tell_old_numbers, tell_store, tell_unloaded,
 };
 use crate::server::Serving;
 use crate::storing::{FileStore, Progress, Storage};
 use crate::workers::share;
 use std::alloc::Global;
-use std::fs::File;
-use std::io::Write;
+use std::fs::{File, OpenOptions};
+use std::io::{Read, Write};
+use std::os::unix::fs::OpenOptionsExt;
 use std::rt::Files;
 use std::sync::Arc;
+use std::{fs, str};
 use xds_core::Catalogues;
 use xds_frames::{Counted, read_whole};
 use xds_message::Batch;
-use xds_monitor::End;
+use xds_monitor::{End, PRIVATE};
 use xds_program::read_writes;
 use xds_resource::Refusal;
 use xds_store::StoreRefusal;
+
+// As many bytes of the file of a token as are looked at.
+const MOST_TOKEN: usize = 4_096;
 
 /// The files of a server by their names, as far as it has such.
 #[derive(Clone, Copy)]
@@ -38,6 +44,8 @@ pub struct ServeFiles<'a> {
     pub store: Option<&'a str>,
     /// The file of the stamped writes that it begins with.
     pub writes: Option<&'a str>,
+    /// The file of the token that requests at the operator's port say.
+    pub token: Option<&'a str>,
 }
 
 /// What a server begins with.
@@ -49,6 +57,8 @@ pub(crate) struct Begun {
     pub world: Option<Batch>,
     /// Where writes are stored, if they are.
     pub storage: Option<Arc<Storage>>,
+    /// What requests at the operator's port say, where they say something.
+    pub bearer: Option<String>,
 }
 
 // Written out: docs/PROVING.md, "Drops".
@@ -59,11 +69,30 @@ impl Drop for Begun {
             is_new: _,
             world: _,
             storage: _,
+            bearer: _,
         } = self;
     }
 }
 
 impl Begun {
+    // The same, where requests at the operator's port say this.
+    fn with_bearer(self, bearer: Option<String>) -> Begun {
+        let Begun {
+            serving,
+            is_new,
+            world,
+            storage,
+            bearer: _,
+        } = self;
+        Begun {
+            serving,
+            is_new,
+            world,
+            storage,
+            bearer,
+        }
+    }
+
     /// How far writes are stored, if they are.
     pub(crate) fn progress(&self) -> Result<Option<Arc<Progress>>, Refusal> {
         match &self.storage {
@@ -87,6 +116,10 @@ pub(crate) enum Unwritten {
 /// Why a server doesn't begin.
 #[derive(Clone, Copy)]
 pub(crate) enum Unbegun {
+    /// The file of the token can't be opened.
+    Token(FileFault),
+    /// It has none.
+    NoToken,
     /// The stamped writes aren't taken.
     Writes(Unwritten),
     /// The file that is to be loaded can't be opened.
@@ -111,13 +144,21 @@ pub(crate) fn begin_with<R>(
 where
     R: Runtime + Files<File = File>,
 {
+    let bearer = match files.token {
+        Some(file) => Some(bearer_in(rt, alloc, file)?),
+        None => None,
+    };
     let given = match files.writes {
         Some(file) => Some(writes_in(rt, alloc, file)?),
         None => None,
     };
-    match files.store {
+    let begun = match files.store {
         Some(path) => begun_stored(rt, alloc, serving, path, given, files.load),
         None => begun_anew(rt, alloc, serving, given, files.load),
+    };
+    match begun {
+        Ok(begun) => Ok(begun.with_bearer(bearer)),
+        Err(fault) => Err(fault),
     }
 }
 
@@ -147,6 +188,62 @@ fn writes_in<R: Files<File = File>>(rt: &R, alloc: Global, file: &str) -> Result
     }
 }
 
+/// What requests at the operator's port say: the token that is the first line of a file.
+pub(crate) fn bearer_in<R>(rt: &R, alloc: Global, file: &str) -> Result<String, Unbegun>
+where
+    R: Files<File = File>,
+{
+    let mut opened = match File::open(rt, file) {
+        Ok(opened) => opened,
+        Err(error) => return Err(Unbegun::Token(FileFault::of(error.kind()))),
+    };
+    let mut bytes = [0; MOST_TOKEN];
+    let count = match opened.read(&mut bytes) {
+        Ok(count) => count,
+        Err(error) => return Err(Unbegun::Token(FileFault::of(error.kind()))),
+    };
+    let Some(token) = token_in(&bytes[..count.min(MOST_TOKEN)]) else {
+        return Err(Unbegun::NoToken);
+    };
+    match bearer(alloc, token) {
+        Ok(bearer) => Ok(bearer),
+        Err(refusal) => Err(Unbegun::Refused(refusal)),
+    }
+}
+
+// Makes the file of a store that isn't there, so that only who runs the server may read it; its log has the mode of the file. Answers
+// whether it did.
+fn make_private<R: Files<File = File>>(rt: &R, path: &str) -> bool {
+    OpenOptions::new()
+        .write(true)
+        .create_new(true)
+        .mode(PRIVATE)
+        .open(rt, path)
+        .is_ok()
+}
+
+// Removes the file that was made for a store, where what lies beside it lets nobody make one there.
+fn unmake<R: Files<File = File>>(rt: &R, path: &str, refusal: StoreRefusal) {
+    match refusal {
+        StoreRefusal::Gone | StoreRefusal::HotJournal => {
+            let _ = fs::remove_file(rt, path);
+        }
+        _ => {}
+    }
+}
+
+// The first line of a text, without what ends it, where it isn't empty, and is whole in the bytes that are looked at.
+fn token_in(bytes: &[u8]) -> Option<&str> {
+    let text = str::from_utf8(bytes).ok()?;
+    let line = match text.split_once('\n') {
+        Some((line, _)) => line,
+        None if bytes.len() < MOST_TOKEN => text,
+        None => return None,
+    };
+    let token = line.trim();
+    if token.is_empty() { None } else { Some(token) }
+}
+
 // Without a store.
 fn begun_anew<R>(
     rt: &R,
@@ -174,6 +271,7 @@ where
         is_new,
         world,
         storage: None,
+        bearer: None,
     })
 }
 
@@ -190,10 +288,14 @@ where
     R: Runtime + Files<File = File>,
 {
     let had_log = rt.has_log(path);
+    let is_made = make_private(rt, path);
     let mut store = match rt.open_store(path) {
         Ok(store) => store,
         Err(refusal) => {
             drop(given);
+            if is_made {
+                unmake(rt, path, refusal);
+            }
             return Err(Unbegun::Store(refusal));
         }
     };
@@ -212,6 +314,7 @@ where
             is_new: true,
             world: Some(world),
             storage: Some(storage),
+            bearer: None,
         }),
         Err(refusal) => {
             drop(world);
@@ -401,6 +504,8 @@ pub(crate) fn tell_unbegun<E: Write>(
 {
     let file = named(files.load);
     match fault {
+        Unbegun::Token(fault) => tell_file(alloc, errors, named(files.token), fault),
+        Unbegun::NoToken => tell_no_token(alloc, errors, named(files.token)),
         Unbegun::Writes(fault) => tell_unwritten(alloc, errors, named(files.writes), fault),
         Unbegun::File(fault) => tell_file(alloc, errors, file, fault),
         Unbegun::Load(End::Line(line, refusal)) => {

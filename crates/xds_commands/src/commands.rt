@@ -4,6 +4,7 @@ ghost use Rattle.xds_frames.specs.Devices.{seen};
 ghost use Rattle.xds_commands.specs.Ends.{GoesOn};
 ghost use Rattle.xds_commands.specs.Servings.{serving_of};
 
+use crate::asking::print_status;
 use crate::beginning::ServeFiles;
 use crate::machine::{Machine, Runtime};
 use crate::polling::poll_once;
@@ -72,6 +73,7 @@ where
         Ran::Poll(task) => poll_once(rt, &Connects, task, output, errors),
         Ran::Client(task) => watch(rt, &task, output, errors),
         Ran::Writes(task) => print_writes(rt, &task, output, errors),
+        Ran::Status(task) => print_status(rt, &task, output, errors),
         Ran::Serve(words) => serve_words(rt, words, input, errors, teller, is_terminal),
     }
 }
@@ -92,7 +94,13 @@ where
     T: Write + Drop + Send + 'static,
     ensures { result ≤ 1 }
 {
-    let serving = serving_of(words.task, words.first_number, words.hold, is_terminal);
+    let serving = serving_of(
+        words.task,
+        words.first_number,
+        words.hold,
+        words.log_json,
+        is_terminal,
+    );
     serve(rt, input, errors, teller, serving, files_in(&words))
 }
 
@@ -102,12 +110,14 @@ fn files_in(words: &ServeWords) -> ServeFiles<'_>
     ensures load { option_map (λ f. f.now) result.load ≡ words.now.load }
     ensures store { option_map (λ f. f.now) result.store ≡ words.now.store }
     ensures writes { option_map (λ f. f.now) result.writes ≡ words.now.writes }
+    ensures token { option_map (λ f. f.now) result.token ≡ words.now.admin_token }
 {
     ServeFiles {
         record: text_in(&words.folder),
         load: text_in(&words.load),
         store: text_in(&words.store),
         writes: text_in(&words.writes),
+        token: text_in(&words.admin_token),
     }
 }
 
@@ -122,8 +132,14 @@ fn text_in(text: &Option<String>) -> Option<&str>
 }
 
 // What the server is asked for. At a terminal it tells refused changes.
-fn serving_of(task: ServeTask, first_number: Option<u16>, hold: bool, is_terminal: bool) -> Serving
-    ensures { result ≡ serving_of task first_number hold is_terminal }
+fn serving_of(
+    task: ServeTask,
+    first_number: Option<u16>,
+    hold: bool,
+    log_json: bool,
+    is_terminal: bool,
+) -> Serving
+    ensures { result ≡ serving_of task first_number hold log_json is_terminal }
 {
     Serving {
         first_number,
@@ -133,7 +149,8 @@ fn serving_of(task: ServeTask, first_number: Option<u16>, hold: bool, is_termina
         streams: task.streams,
         keep_going: task.keep_going,
         tells: is_terminal,
-        logs: task.log,
+        logs: task.log || log_json,
+        logs_json: log_json,
         max_streams: task.max_streams,
         idle_seconds: task.idle_seconds,
         admin_port: task.admin_port,

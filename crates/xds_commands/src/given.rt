@@ -1,16 +1,20 @@
 // The numbers of the replicas of a server that begins with stamped writes of a file.
-ghost use Rattle.std.specs.Prelude.{◌≡◌, ◌≤◌, All, IfSome};
+ghost use Rattle.std.specs.Prelude.{◌≡◌, ◌≤◌, ℕ, All, IfSome, None};
 ghost use Rattle.xds_resource.specs.PerType.{at};
-ghost use Rattle.xds_commands.specs.Given.{AreBelow, AllBelow, IsNumberOver};
+ghost use Rattle.xds_commands.specs.Given.{
+    AreBelow, AllBelow, HasNoNumber, IsLeastOrAsked, IsLeastOver, IsNumberOver, IsOver
+};
 
 use xds_message::Batch;
 use xds_resource::{ResourceType, Write};
 
 // rule: new-numbers
 /// The number of the first of so many replicas: the one that is asked for, or else the least one above those of the replicas that made the
-/// given writes. None where that which is asked for isn't above these, or where the last replica's would be above 65,535.
+/// given writes. None where no number would do: that which is asked for isn't above these, or the last replica's would be above 65,535.
 pub fn number_over(asked: Option<u16>, replicas: u16, given: &Option<Batch>) -> Option<u16>
-    ensures { IfSome result (λ first. IsNumberOver asked replicas given.now first) }
+    ensures some { IfSome result (λ first. IsNumberOver asked replicas given.now first) }
+    ensures least { IfSome result (λ first. IsLeastOrAsked asked given.now first) }
+    ensures none { result ≡ None → HasNoNumber asked replicas given.now }
 {
     let least = least_number(given);
     let first = match asked {
@@ -29,8 +33,7 @@ pub fn number_over(asked: Option<u16>, replicas: u16, given: &Option<Batch>) -> 
 // rule: new-numbers
 // The least number, from 1, above those of the replicas that made the given writes.
 fn least_number(given: &Option<Batch>) -> u32
-    ensures positive { 1 ≤ result }
-    ensures above { IfSome given.now (AllBelow result) }
+    ensures { IsLeastOver given.now result }
 {
     match given {
         Some(batch) => number_above(batch),
@@ -39,10 +42,11 @@ fn least_number(given: &Option<Batch>) -> u32
 }
 
 // rule: new-numbers
-// A number, from 1, above those of the replicas that made the writes of a batch.
+// The least number, from 1, above those of the replicas that made the writes of a batch.
 fn number_above(batch: &Batch) -> u32
     ensures positive { 1 ≤ result }
     ensures above { AllBelow result batch.now }
+    ensures least { (other : ℕ) → 1 ≤ other → AllBelow other batch.now → result ≤ other }
 {
     let number = above_all(&batch.cluster, 1);
     let number = above_all(&batch.endpoint, number);
@@ -51,10 +55,11 @@ fn number_above(batch: &Batch) -> u32
     above_all(&batch.secret, number)
 }
 
-// A number that is no less than this one, and above those of the replicas that made these writes.
+// The least number that is no less than this one, and above those of the replicas that made these writes.
 fn above_all<T: ResourceType>(writes: &Vec<Write<T>>, least: u32) -> u32
-    ensures least { least ≤ result }
+    ensures no_less { least ≤ result }
     ensures above { AreBelow result writes.now.items }
+    ensures least { (other : ℕ) → least ≤ other → AreBelow other writes.now.items → result ≤ other }
 {
     let mut number = least;
     for write in writes {

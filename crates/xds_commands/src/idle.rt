@@ -14,6 +14,7 @@ pub(crate) struct IdleReader<'a, C> {
     socket: &'a TcpStream,
     deadline: Deadline,
     first: FirstFrame,
+    is_late: bool,
 }
 
 impl<'a, C: Clock> IdleReader<'a, C> {
@@ -28,7 +29,13 @@ impl<'a, C: Clock> IdleReader<'a, C> {
             socket,
             deadline: Deadline::after(clock, seconds),
             first: FirstFrame::new(),
+            is_late: false,
         }
+    }
+
+    /// Whether the first frame didn't come in time.
+    pub(crate) fn is_late(&self) -> bool {
+        self.is_late
     }
 
     // Lets the next read wait as long as is left.
@@ -37,6 +44,7 @@ impl<'a, C: Clock> IdleReader<'a, C> {
             None => Ok(()),
             Some(left) => {
                 if left.is_zero() {
+                    self.is_late = true;
                     return Err(ErrorKind::TimedOut.into());
                 }
                 self.socket.set_read_timeout(Some(left))
@@ -62,8 +70,23 @@ impl<'a, C: Clock> Read for IdleReader<'a, C> {
             return from.read(buf);
         }
         self.limit()?;
-        let count = from.read(buf)?;
-        self.note(&buf[..count])?;
-        Ok(count)
+        match from.read(buf) {
+            Ok(count) => {
+                self.note(&buf[..count])?;
+                Ok(count)
+            }
+            Err(error) => {
+                self.is_late = is_time(error.kind());
+                Err(error)
+            }
+        }
+    }
+}
+
+// Whether a read failed since its time was over.
+fn is_time(kind: ErrorKind) -> bool {
+    match kind {
+        ErrorKind::TimedOut | ErrorKind::WouldBlock => true,
+        _ => false,
     }
 }

@@ -75,7 +75,8 @@ fn merged_at<R: Wait>(
     };
     let _ = replica.send(rt, Order::Merge(batch, to));
     match from.recv(rt) {
-        Ok(merged) => merged,
+        Ok(Ok(_)) => Ok(()),
+        Ok(Err(refusal)) => Err(refusal),
         Err(_) => Err(Refusal::Device),
     }
 }

@@ -1,9 +1,10 @@
 // What a replica's thread is asked to do.
 use crate::change::Change;
-use crossbeam_channel::Sender;
+use crate::together::Made;
+use crossbeam_channel::{Receiver, Sender};
 use xds_core::{Marks, Reply};
 use xds_message::Batch;
-use xds_monitor::Look;
+use xds_stats::Look;
 use xds_resource::{Refusal, Stamp};
 
 /// What a replica's thread is asked to do.
@@ -17,10 +18,25 @@ pub enum Order {
     Look(Sender<Result<Look, Refusal>>),
     /// To answer its counts of changes.
     Marks(Sender<Result<Marks, Refusal>>),
+    /// To answer what changed after these counts of changes, and the counts now.
+    Since(Marks, Sender<Result<(Batch, Marks), Refusal>>),
     /// To answer all that it holds.
     Entries(Sender<Result<Batch, Refusal>>),
-    /// To merge what another holds.
-    Merge(Batch, Sender<Result<(), Refusal>>),
+    /// To merge what another holds, and answer how many names grew.
+    Merge(Batch, Sender<Result<u128, Refusal>>),
+    /// To make changes, all of them or none, or to look alone at what would become of them, and to answer that of each.
+    All(Vec<Change>, bool, Sender<Result<Vec<Made>, Refusal>>),
+}
+
+/// What a replica's thread answers to a question.
+pub(crate) type Answers<T> = Receiver<Result<T, Refusal>>;
+
+/// How many names grew, as a reply says, if it is of a merge.
+pub(crate) fn grown_in(reply: &Reply) -> Result<u128, Refusal> {
+    match reply {
+        Reply::Merged(grown) => Ok(*grown),
+        _ => Err(Refusal::OutOfMemory),
+    }
 }
 
 /// The stamp that a reply says, if it is of a write.

@@ -5,22 +5,25 @@ ghost use Rattle.xds_commands.specs.Messages.{refusal_in};
 
 use crate::gate::NoGate;
 use crate::machine::{Machine, Runtime};
-use crate::order::{Order, stamp_in};
+use crate::moves::{HearsMoves, Moves};
+use crate::order::{Order, grown_in, stamp_in};
 use crate::starting::DRAIN_SECONDS;
-use crate::storing::{Follows, Storage, marks_now};
+use crate::storing::{Follows, Storage, changed_since, marks_now};
 use crate::streams::serve_streams;
+use crate::together::{Made, make_all};
 use crate::wires::{Bound, both};
 use crate::workers::{Shared, place, share, shares, start_worker};
 use crossbeam_channel::Receiver;
 use std::alloc::Global;
 use std::net::TcpListener;
 use std::sync::{Arc, Wait};
-use std::time::Duration;
+use std::time::{Clock, Duration};
 use xds_core::{Event, Marks, Reply};
 use xds_exchange::{Incoming, Outgoing};
 use xds_http::{Replies, Seats, serve_on};
 use xds_message::Batch;
-use xds_monitor::{Fault, Look, Lookout, Served, look_in};
+use xds_monitor::{Fault, Lookout, Served};
+use xds_stats::{Look, Maker, look_in, millis_now};
 use xds_node::{Host, Parcel, Receipt, called, exchange_in, exchange_out};
 use xds_resource::{Refusal, Stamp};
 
@@ -38,6 +41,8 @@ pub struct SocketsOver<S> {
     pub world: Option<Batch>,
     /// Where writes are stored, if they are.
     pub storage: Option<Arc<S>>,
+    /// Where it is told how far it has changed, if it is.
+    pub moves: Option<Arc<Moves>>,
 }
 
 /// The same, where what changes is stored in a file that threads share, if it is stored.
@@ -79,11 +84,16 @@ where
         polls,
         world,
         storage,
+        moves,
     } = sockets;
     let begun = match begin(rt, &**node, world) {
-        Ok(()) => start_storing(rt, node, storage, lookout),
+        Ok(()) => both(
+            start_moving(rt, node, moves, lookout),
+            start_storing(rt, node, storage, lookout),
+        ),
         Err(refusal) => {
             drop(storage);
+            drop(moves);
             Err(refusal)
         }
     };
@@ -97,7 +107,7 @@ where
         }
     };
     let ended = match both(exchanging, serving) {
-        Ok(()) => take_orders(rt, &**node, &changes, lookout),
+        Ok(()) => take_orders(rt, alloc, &**node, &changes, lookout),
         Err(refusal) => Err(refusal),
     };
     drop(changes);
@@ -143,6 +153,61 @@ where
     storage.begin(rt, lookout.replica(), marks);
     let finishing = start_finishing(rt, node, &storage, lookout);
     both(finishing, start_following(rt, node, &storage, lookout))
+}
+
+// The thread that tells how far a replica has changed, where that is told.
+fn start_moving<R, A>(
+    rt: &R,
+    node: &Arc<A>,
+    moves: Option<Arc<Moves>>,
+    lookout: &Arc<Lookout>,
+) -> Result<(), Refusal>
+where
+    R: Runtime,
+    A: Shared,
+    A::Seat: 'static,
+{
+    match moves {
+        Some(moves) => start_telling(rt, node, moves, lookout),
+        None => Ok(()),
+    }
+}
+
+// The same where it is told. A parameter is found fit for another thread, where a lock in a share of it isn't.
+fn start_telling<R, A, M>(
+    rt: &R,
+    node: &Arc<A>,
+    moves: Arc<M>,
+    lookout: &Arc<Lookout>,
+) -> Result<(), Refusal>
+where
+    R: Runtime,
+    A: Shared,
+    A::Seat: 'static,
+    M: HearsMoves + Drop + Send + Sync + 'static,
+{
+    let marks = first_marks(rt, node)?;
+    let replica = lookout.replica();
+    start_worker(rt, share(node), move |rt, node| {
+        follow_moves(rt, &*node, &*moves, replica, marks);
+    })
+}
+
+fn follow_moves<R: Runtime, A: Served, M: HearsMoves>(
+    rt: &R,
+    node: &A,
+    moves: &M,
+    replica: u16,
+    marks: Marks,
+) {
+    moves.follow(rt, node, replica, marks);
+}
+
+// How far a replica has changed at its beginning.
+fn first_marks<R: Wait, A: Served + Drop>(rt: &R, node: &Arc<A>) -> Result<Marks, Refusal> {
+    let (seat, node) = place(rt, node)?;
+    let mut seat = seat;
+    marks_now(rt, &*node, &mut seat)
 }
 
 // A thread that stores what changes at a replica.
@@ -336,19 +401,20 @@ const MOST_AT_ONCE: usize = 64;
 // told of changes that come together once all of them are made.
 fn take_orders<R, A>(
     rt: &R,
+    alloc: Global,
     node: &A,
     orders: &Receiver<Order>,
     lookout: &Lookout,
 ) -> Result<(), Refusal>
 where
-    R: Wait,
+    R: Wait + Clock,
     A: Served,
 {
     let mut seat = node.seat(rt)?;
     for order in orders.iter(rt) {
         node.hold(rt);
-        do_order(rt, node, &mut seat, order, lookout);
-        do_waiting(rt, node, &mut seat, orders, lookout);
+        do_order(rt, alloc, node, &mut seat, order, lookout);
+        do_waiting(rt, alloc, node, &mut seat, orders, lookout);
         node.release(rt);
     }
     Ok(())
@@ -357,26 +423,28 @@ where
 // Does the orders that wait already.
 fn do_waiting<R, A>(
     rt: &R,
+    alloc: Global,
     node: &A,
     seat: &mut A::Seat,
     orders: &Receiver<Order>,
     lookout: &Lookout,
 )
 where
-    R: Wait,
+    R: Wait + Clock,
     A: Served,
 {
     for _ in 1..MOST_AT_ONCE {
         match orders.try_recv(rt) {
-            Ok(order) => do_order(rt, node, seat, order, lookout),
+            Ok(order) => do_order(rt, alloc, node, seat, order, lookout),
             Err(_) => return,
         }
     }
 }
 
 // Does one order. Writers go on while a refusal is told, which may wait for who reads the error output.
-fn do_order<R: Wait, A: Served>(
+fn do_order<R: Wait + Clock, A: Served>(
     rt: &R,
+    alloc: Global,
     node: &A,
     seat: &mut A::Seat,
     order: Order,
@@ -385,7 +453,9 @@ fn do_order<R: Wait, A: Served>(
     match order {
         Order::Change(change) => {
             let line = change.line;
-            if let Err(refusal) = make_change(rt, node, seat, change.event) {
+            let made = make_change(rt, node, seat, change.event);
+            tell_made(rt, made, Maker::Input, lookout);
+            if let Err(refusal) = made {
                 lookout.refused(rt);
                 node.release(rt);
                 lookout.ending().refuse(rt, line, Fault::of(refusal));
@@ -397,6 +467,7 @@ fn do_order<R: Wait, A: Served>(
             if made.is_err() {
                 lookout.refused(rt);
             }
+            tell_made(rt, made, Maker::Port, lookout);
             let _ = reply.send(rt, made);
         }
         Order::Look(reply) => {
@@ -405,17 +476,57 @@ fn do_order<R: Wait, A: Served>(
         Order::Marks(reply) => {
             let _ = reply.send(rt, marks_now(rt, node, seat));
         }
+        Order::Since(marks, reply) => {
+            let _ = reply.send(rt, changed_since(rt, node, seat, marks));
+        }
         Order::Entries(reply) => {
             let _ = reply.send(rt, entries(rt, node, seat));
         }
         Order::Merge(batch, reply) => {
             let _ = reply.send(rt, merge(rt, node, seat, batch));
         }
+        Order::All(changes, is_tried, reply) => {
+            let made = make_all(rt, alloc, node, seat, changes, is_tried);
+            if !is_tried {
+                count_refused(rt, &made, lookout);
+            }
+            let _ = reply.send(rt, made);
+        }
     }
 }
 
-// All that a replica holds.
-fn entries<R: Wait, A: Served>(rt: &R, node: &A, seat: &mut A::Seat) -> Result<Batch, Refusal> {
+// Counts the changes that were refused when they were made, and tells those that were made, where such is told.
+fn count_refused<R: Wait + Clock>(rt: &R, made: &Result<Vec<Made>, Refusal>, lookout: &Lookout) {
+    let Ok(made) = made else {
+        return;
+    };
+    for one in made {
+        match one {
+            Made::Refused(_) => lookout.refused(rt),
+            Made::Written(stamp) => tell_made(rt, Ok(*stamp), Maker::Port, lookout),
+            Made::Would | Made::Left => {}
+        }
+    }
+}
+
+// Tells a change that was made, and by whom, where such is told.
+fn tell_made<R: Wait + Clock>(
+    rt: &R,
+    made: Result<Stamp, Refusal>,
+    maker: Maker,
+    lookout: &Lookout,
+) {
+    if let Ok(stamp) = made {
+        lookout.changed(rt, maker, stamp, millis_now(rt));
+    }
+}
+
+/// All that a replica holds.
+pub(crate) fn entries<R: Wait, A: Served>(
+    rt: &R,
+    node: &A,
+    seat: &mut A::Seat,
+) -> Result<Batch, Refusal> {
     match called(rt, node, &NoGate, seat, Event::Snapshot) {
         Ok(Ok(Reply::Entries(batch))) => Ok(batch),
         Ok(Ok(reply)) => {
@@ -427,24 +538,8 @@ fn entries<R: Wait, A: Served>(rt: &R, node: &A, seat: &mut A::Seat) -> Result<B
     }
 }
 
-// Lets a replica merge a batch.
-fn merge<R: Wait, A: Served>(
-    rt: &R,
-    node: &A,
-    seat: &mut A::Seat,
-    batch: Batch,
-) -> Result<(), Refusal> {
-    let answer = called(rt, node, &NoGate, seat, Event::Merge(batch));
-    let merged = match reply_in(&answer) {
-        Ok(_) => Ok(()),
-        Err(refusal) => Err(refusal),
-    };
-    drop(answer);
-    merged
-}
-
-// Makes a change. Answers its stamp.
-fn make_change<R: Wait, A: Served>(
+/// Makes a change. Answers its stamp.
+pub(crate) fn make_change<R: Wait, A: Served>(
     rt: &R,
     node: &A,
     seat: &mut A::Seat,
@@ -459,16 +554,34 @@ fn make_change<R: Wait, A: Served>(
     stamp
 }
 
+// Merges writes. Answers how many names grew.
+fn merge<R: Wait, A: Served>(
+    rt: &R,
+    node: &A,
+    seat: &mut A::Seat,
+    batch: Batch,
+) -> Result<u128, Refusal> {
+    let answer = called(rt, node, &NoGate, seat, Event::Merge(batch));
+    let grown = match reply_in(&answer) {
+        Ok(reply) => grown_in(reply),
+        Err(refusal) => Err(refusal),
+    };
+    drop(answer);
+    grown
+}
+
+// The counts of changes of a replica at which nothing happened.
+const NOTHING: Marks = Marks {
+    cluster: 0,
+    endpoint: 0,
+    listener: 0,
+    route: 0,
+    secret: 0,
+};
+
 // Looks at all that is held, by one event.
 fn look<R: Wait, A: Served>(rt: &R, node: &A, seat: &mut A::Seat) -> Result<Look, Refusal> {
-    let nothing = Marks {
-        cluster: 0,
-        endpoint: 0,
-        listener: 0,
-        route: 0,
-        secret: 0,
-    };
-    let answer = called(rt, node, &NoGate, seat, Event::Since(nothing));
+    let answer = called(rt, node, &NoGate, seat, Event::Since(NOTHING));
     let look = match reply_in(&answer) {
         Ok(reply) => look_in(reply),
         Err(refusal) => Err(refusal),

@@ -1,16 +1,18 @@
 // What a server tells on its error output.
 ghost use Rattle.std.specs.Prelude.{◌≡◌, string_bytes, IfOk, Ok};
 ghost use Rattle.xds_monitor.specs.Endings.{fault_line, refusal_line, status_of, TellsEnd, TellsLine, TellsText};
-ghost use Rattle.xds_commands.specs.Messages.{admin_line, file_fault_text, file_line, old_numbers_line, port_fault_text, port_line, replica_line, same_numbers_line, unloaded_line};
+ghost use Rattle.xds_commands.specs.Messages.{admin_line, file_fault_text, file_line, no_token_line, old_numbers_line, port_fault_text, port_line, replica_line, same_numbers_line, unloaded_line};
 ghost use Rattle.xds_frames.specs.Devices.{seen};
 ghost use Rattle.xds_monitor.specs.Recordings.{tape_line};
 
 use crate::loading::number_at;
 use std::alloc::Global;
 use std::io::{ErrorKind, Write};
+use std::net::SocketAddrV4;
 use std::sync::Wait;
 use xds_frames::{Counted, write_whole};
-use xds_monitor::{End, Ending, Next, TapeFault, fault_line, number_text, tape_line};
+use xds_monitor::{End, Ending, Next, TapeFault, fault_line, tape_line};
+use xds_stats::number_text;
 use xds_program::run;
 use xds_resource::Refusal;
 use xds_store::StoreRefusal;
@@ -124,6 +126,57 @@ fn file_line(alloc: Global, file: &str, fault: FileFault) -> Result<String, Refu
 {
     let why = fault.text();
     Ok(format!(in alloc; "{file}: 19 Device{why}\n")?)
+}
+
+// The line of a file that has no token.
+fn no_token_line(alloc: Global, file: &str) -> Result<String, Refusal>
+    ensures { IfOk result (λ t. string_bytes t ≡ no_token_line file.now) }
+{
+    Ok(format!(in alloc; "{file}: its first line is to be a token\n")?)
+}
+
+/// Tells a file that has no token, and answers the status.
+pub(crate) fn tell_no_token<E: Write>(alloc: Global, errors: &mut Counted<E>, file: &str) -> u8
+    ensures told { TellsLine (no_token_line file.now) (seen E.contents errors.old errors.new) }
+    ensures status { result ≡ 1 }
+{
+    put(errors, no_token_line(alloc, file));
+    REFUSED
+}
+
+// The line of a server that can't be reached, or breaks off.
+fn device_line(alloc: Global, addr: SocketAddrV4) -> Result<String, Refusal> {
+    Ok(format!(in alloc; "{addr}: 19 Device: nobody answers there\n")?)
+}
+
+/// Tells that a server can't be reached, or breaks off, and answers the status.
+pub(crate) fn tell_device<E: Write>(
+    alloc: Global,
+    errors: &mut Counted<E>,
+    addr: SocketAddrV4,
+) -> u8
+    ensures { result ≡ 1 }
+{
+    put(errors, device_line(alloc, addr));
+    REFUSED
+}
+
+// The line of a status of HTTP by which a question is refused.
+fn refused_by_line(alloc: Global, status: &str) -> Result<String, Refusal> {
+    let why = match status {
+        "401" => ": --admin-token FILE says the token",
+        "404" => ": no operator's port of this version is there",
+        _ => "",
+    };
+    Ok(format!(in alloc; "the server answers {status}{why}\n")?)
+}
+
+/// Tells the status of HTTP by which a question is refused, and answers the status of the program.
+pub(crate) fn tell_refused_by<E: Write>(alloc: Global, errors: &mut Counted<E>, status: &str) -> u8
+    ensures { result ≡ 1 }
+{
+    put(errors, refused_by_line(alloc, status));
+    REFUSED
 }
 
 // The line of a file that isn't loaded, by one of its lines or by what else was refused.

@@ -1,11 +1,13 @@
 // A server of some replicas, from its first line to its end.
-ghost use Rattle.std.specs.Prelude.{◌≡◌, ◌≤◌, IfOk};
+ghost use Rattle.std.specs.Prelude.{◌≡◌, ◌≤◌, IfOk, option_map, string_bytes};
 ghost use Rattle.xds_commands.specs.Servings.{limits_of};
 
 use crate::admin::{Admin, Reached};
 use crate::beginning::{Begun, ServeFiles, begin_with, first_number, tell_unbegun};
 use crate::loading::number_at;
 use crate::machine::{Machine, Runtime};
+use crate::meter::Meter;
+use crate::moves::Moves;
 use crate::order::Order;
 use crate::replica::{Sends, Sockets, SocketsOver, Takes};
 use crate::serve_telling::{
@@ -15,7 +17,7 @@ use crate::serve_telling::{
 use crate::starting::{
     DRAIN_SECONDS, shared_tape, start_admin, start_input, start_opener, start_replica, start_teller,
 };
-use crate::storing::{Progress, Storage, owned};
+use crate::storing::{Progress, owned};
 use crate::timed::Deadline;
 use crate::wires::{Links, Wires, both, crossed, wired};
 use crate::workers::share;
@@ -31,9 +33,8 @@ use std::time::{Clock, Duration};
 use xds_exchange::link;
 use xds_frames::Counted;
 use xds_message::Batch;
-use xds_monitor::{
-    End, Ending, Limits, LogEvent, Lookout, Note, Tape, Telling, Unrecordable, tapes_in,
-};
+use xds_monitor::{End, Ending, Limits, Lookout, Note, Tape, Telling, Unrecordable, tapes_in};
+use xds_stats::{LogEvent, millis_now};
 use xds_resource::Refusal;
 
 /// What a server is asked for.
@@ -54,8 +55,9 @@ pub struct Serving {
     pub keep_going: bool,
     /// Whether changes that are refused are told. A server that keeps going, or logs, tells them in any case.
     pub tells: bool,
-    /// Whether what an operator cares for is told, a line each.
+    /// Whether what an operator cares for is told, a line each, and as JSON.
     pub logs: bool,
+    pub logs_json: bool,
     /// How many streams a replica has at a time, at most; any number, where none is said.
     pub max_streams: Option<u16>,
     /// Within how many seconds the first frame of a stream comes; at any time, where none is said.
@@ -229,12 +231,16 @@ fn tell_unrecordable<E: Write>(
     }
 }
 
+// An operator's port that is bound: its socket, how far the replicas have changed, what tells what this process takes, and what requests
+// there say, if they say something.
+type BoundAdmin = (TcpListener, Arc<Moves>, Meter, Option<String>);
+
 // The sockets of a server, and what is known of its store.
 struct Bindings {
     // Of each replica, with what it begins with.
     sockets: Vec<Sockets>,
     // Of an operator's port, if there is one.
-    admin: Option<TcpListener>,
+    admin: Option<BoundAdmin>,
     // How far writes are stored, if they are.
     progress: Option<Arc<Progress>>,
 }
@@ -251,7 +257,7 @@ impl Drop for Bindings {
 }
 
 impl Bindings {
-    fn into_parts(self) -> (Vec<Sockets>, Option<TcpListener>, Option<Arc<Progress>>) {
+    fn into_parts(self) -> (Vec<Sockets>, Option<BoundAdmin>, Option<Arc<Progress>>) {
         let Bindings {
             sockets,
             admin,
@@ -269,7 +275,12 @@ enum Unbound {
 }
 
 // All sockets, replica by replica, each with what is there from the start.
-fn bound<R>(rt: &R, alloc: Global, begun: &Begun) -> Result<Vec<Sockets>, Unbound>
+fn bound<R>(
+    rt: &R,
+    alloc: Global,
+    begun: &Begun,
+    moves: &Option<Arc<Moves>>,
+) -> Result<Vec<Sockets>, Unbound>
 where
     R: Net<Listener = TcpListener, Stream = TcpStream>,
 {
@@ -279,12 +290,14 @@ where
         let streams = bind(rt, serving.port, index)?;
         let polls = bind(rt, serving.rest_port, index)?;
         let world = copied(alloc, &begun.world)?;
-        let storage = shared_storage(&begun.storage)?;
+        let storage = shared_if_any(&begun.storage)?;
+        let moves = shared_if_any(moves)?;
         let one = SocketsOver {
             streams,
             polls,
             world,
             storage,
+            moves,
         };
         match sockets.push(one) {
             Ok(()) => {}
@@ -294,15 +307,23 @@ where
     Ok(sockets)
 }
 
-// A share of where writes are stored, if they are.
-fn shared_storage(storage: &Option<Arc<Storage>>) -> Result<Option<Arc<Storage>>, Unbound> {
-    match storage {
-        Some(storage) => match share(storage) {
-            Ok(storage) => Ok(Some(storage)),
+// A share of something, if it is there.
+fn shared_if_any<T: Drop>(it: &Option<Arc<T>>) -> Result<Option<Arc<T>>, Unbound> {
+    match it {
+        Some(it) => match share(it) {
+            Ok(it) => Ok(Some(it)),
             Err(refusal) => Err(Unbound::Refused(refusal)),
         },
         None => Ok(None),
     }
+}
+
+// How far the replicas of a server have changed, where there is an operator's port.
+fn moves_of(alloc: Global, serving: Serving) -> Result<Option<Arc<Moves>>, Refusal> {
+    if serving.admin_port.is_none() {
+        return Ok(None);
+    }
+    Ok(Some(Arc::new(alloc, Moves::new(alloc, serving.replicas)?)?))
 }
 
 // A copy of what is there from the start, if there is something. No text is copied.
@@ -321,12 +342,16 @@ fn copied(alloc: Global, world: &Option<Batch>) -> Result<Option<Batch>, Unbound
 // The sockets of all replicas, and that of an operator's port, where there is one.
 fn all_bound<R>(rt: &R, alloc: Global, begun: &Begun) -> Result<Bindings, Unbound>
 where
-    R: Net<Listener = TcpListener, Stream = TcpStream>,
+    R: Machine + Files<File = File>,
 {
-    let sockets = bound(rt, alloc, begun)?;
-    let admin = match begun.serving.admin_port {
-        Some(port) => Some(bind(rt, port, 0)?),
-        None => None,
+    let moves = match moves_of(alloc, begun.serving) {
+        Ok(moves) => moves,
+        Err(refusal) => return Err(Unbound::Refused(refusal)),
+    };
+    let sockets = bound(rt, alloc, begun, &moves)?;
+    let admin = match (begun.serving.admin_port, moves) {
+        (Some(port), Some(moves)) => Some(bound_admin(rt, alloc, begun, port, moves)?),
+        _ => None,
     };
     match begun.progress() {
         Ok(progress) => Ok(Bindings {
@@ -335,6 +360,43 @@ where
             progress,
         }),
         Err(refusal) => Err(Unbound::Refused(refusal)),
+    }
+}
+
+// An operator's port at this port of the machine.
+fn bound_admin<R>(
+    rt: &R,
+    alloc: Global,
+    begun: &Begun,
+    port: u16,
+    moves: Arc<Moves>,
+) -> Result<BoundAdmin, Unbound>
+where
+    R: Machine + Files<File = File>,
+{
+    let bearer = match copied_text(alloc, &begun.bearer) {
+        Ok(bearer) => bearer,
+        Err(refusal) => {
+            drop(moves);
+            return Err(Unbound::Refused(refusal));
+        }
+    };
+    match bind(rt, port, 0) {
+        Ok(listener) => Ok((listener, moves, Meter::new(rt, millis_now(rt)), bearer)),
+        Err(unbound) => {
+            drop(moves);
+            Err(unbound)
+        }
+    }
+}
+
+// A copy of a text, if there is one.
+fn copied_text(alloc: Global, text: &Option<String>) -> Result<Option<String>, Refusal>
+    ensures { IfOk result (λ o. option_map string_bytes o ≡ option_map string_bytes text.now) }
+{
+    match text {
+        Some(text) => Ok(Some(String::from_str(alloc, text.as_str())?)),
+        None => Ok(None),
     }
 }
 
@@ -467,6 +529,7 @@ fn ending_of(alloc: Global, serving: Serving) -> Ending {
     let telling = Telling {
         changes: serving.keep_going || serving.tells || serving.logs,
         events: serving.logs,
+        json: serving.logs_json,
     };
     Ending::after(alloc, serving.streams, telling)
 }
@@ -482,13 +545,17 @@ fn limits_of(serving: Serving) -> Limits
 }
 
 // Tells which replica listens where, where such is told.
-fn log_replicas<R: Wait>(rt: &R, ending: &Ending, serving: Serving) {
+fn log_replicas<R: Wait + Clock>(rt: &R, ending: &Ending, serving: Serving) {
     for index in 0..serving.replicas {
         let place = index.wrapping_add(1);
         let number = number_at(first_number(serving), place);
         let port = serving.port.wrapping_add(index);
         let rest_port = serving.rest_port.wrapping_add(index);
-        ending.log(rt, LogEvent::Listening(place, number, port, rest_port));
+        ending.log(
+            rt,
+            millis_now(rt),
+            LogEvent::Listening(place, number, port, rest_port),
+        );
     }
 }
 
@@ -498,7 +565,7 @@ fn start<R, I>(
     alloc: Global,
     input: I,
     wires: Wiring,
-    admin: Option<TcpListener>,
+    admin: Option<BoundAdmin>,
     serving: Serving,
     lookouts: &Vec<Arc<Lookout>>,
     tapes: &Vec<Arc<Tape>>,
@@ -511,8 +578,18 @@ where
 {
     let (senders, replicas) = wires.apart();
     let mut done = match admin {
-        Some(listener) => {
-            let desk = desk_of(alloc, senders.as_slice(), lookouts, tapes, progress, ending);
+        Some((listener, moves, meter, bearer)) => {
+            let desk = desk_of(
+                alloc,
+                senders.as_slice(),
+                lookouts,
+                tapes,
+                progress,
+                ending,
+                moves,
+                meter,
+                bearer,
+            );
             start_admin(rt, alloc, listener, desk)
         }
         None => Ok(()),
@@ -544,15 +621,13 @@ where
     done
 }
 
-// What an operator's port answers by.
-fn desk_of(
+// The replicas, as an operator's port reaches them.
+fn reached_by(
     alloc: Global,
     senders: &[Sender<Order>],
     lookouts: &Vec<Arc<Lookout>>,
     tapes: &Vec<Arc<Tape>>,
-    progress: &Option<Arc<Progress>>,
-    ending: &Arc<Ending>,
-) -> Result<Admin, Refusal> {
+) -> Result<Vec<Reached>, Refusal> {
     let mut replicas = Vec::new(alloc);
     let mut tapes = tapes.iter();
     for (sender, lookout) in senders.iter().zip(lookouts.iter()) {
@@ -566,6 +641,22 @@ fn desk_of(
             late: Mutex::new(None),
         })?;
     }
+    Ok(replicas)
+}
+
+// What an operator's port answers by.
+fn desk_of(
+    alloc: Global,
+    senders: &[Sender<Order>],
+    lookouts: &Vec<Arc<Lookout>>,
+    tapes: &Vec<Arc<Tape>>,
+    progress: &Option<Arc<Progress>>,
+    ending: &Arc<Ending>,
+    moves: Arc<Moves>,
+    meter: Meter,
+    bearer: Option<String>,
+) -> Result<Admin, Refusal> {
+    let replicas = reached_by(alloc, senders, lookouts, tapes)?;
     let store = match progress {
         Some(progress) => Some(share(progress)?),
         None => None,
@@ -573,7 +664,10 @@ fn desk_of(
     Ok(Admin {
         replicas,
         store,
+        moves,
         ending: share(ending)?,
+        meter,
+        bearer,
     })
 }
 

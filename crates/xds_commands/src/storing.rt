@@ -1,4 +1,7 @@
 // A store while a server runs: it is told what changes at each replica, as one more peer of all of them.
+ghost use Rattle.std.specs.Prelude.{◌≡◌};
+ghost use Rattle.xds_commands.specs.Moved.{has_all};
+
 use crate::gate::NoGate;
 use std::alloc::Global;
 use std::sync::{Arc, Condvar, Mutex, Wait};
@@ -321,13 +324,15 @@ pub(crate) fn everything() -> Marks {
     }
 }
 
-// Whether all changes that are counted by the one are counted by the other.
-fn has_all(stored: Marks, wanted: Marks) -> bool {
-    stored.cluster >= wanted.cluster
-        && stored.endpoint >= wanted.endpoint
-        && stored.listener >= wanted.listener
-        && stored.route >= wanted.route
-        && stored.secret >= wanted.secret
+/// Whether all changes that are counted by the second are counted by the first.
+pub(crate) fn has_all(known: Marks, wanted: Marks) -> bool
+    ensures { result ≡ has_all known wanted }
+{
+    known.cluster >= wanted.cluster
+        && known.endpoint >= wanted.endpoint
+        && known.listener >= wanted.listener
+        && known.route >= wanted.route
+        && known.secret >= wanted.secret
 }
 
 /// A store that threads share, by its path, and how far the writes of the replicas are stored in it. `S` is the store: a proof finds that it
@@ -539,6 +544,20 @@ fn changed<R: Wait, A: Host>(
         }
         Ok(Err(refusal)) => Err(Unstored::Replica(refusal)),
         Err(refusal) => Err(Unstored::Replica(refusal)),
+    }
+}
+
+/// What changed at a replica after these counts of changes, and the counts now.
+pub(crate) fn changed_since<R: Wait, A: Host>(
+    rt: &R,
+    node: &A,
+    seat: &mut A::Seat,
+    marks: Marks,
+) -> Result<(Batch, Marks), Refusal> {
+    match changed(rt, node, seat, marks) {
+        Ok(changed) => Ok(changed),
+        Err(Unstored::Replica(refusal)) => Err(refusal),
+        Err(Unstored::Store(_)) => Err(Refusal::Device),
     }
 }
 

@@ -11,6 +11,7 @@ use std::time::{Clock, Duration};
 use xds_core::{Event, Reply};
 use xds_frames::Counted;
 use xds_monitor::{Ending, Lookout, Served};
+use xds_stats::Moment;
 use xds_node::{called, serve_reader, serve_writer};
 use xds_resource::Refusal;
 
@@ -52,7 +53,7 @@ where
     R: Wait + Threads + Clock + Copy + Drop + Send + Sync + 'static,
     A: Shared,
 {
-    if !lookout.admit(&rt) {
+    if !lookout.admit(&rt, Moment::now(&rt)) {
         drop(socket);
         return;
     }
@@ -90,8 +91,7 @@ where
     let Some(stream) = opened(rt, node, &mut reading) else {
         return;
     };
-    lookout.opened(rt, stream, peer_text(alloc, socket));
-    let seconds = lookout.idle_seconds();
+    lookout.opened(rt, stream, peer_text(alloc, socket), Moment::now(rt));
     let ending = lookout.ending();
     let ended = Mutex::new(Ok(()));
     let shared = &ended;
@@ -101,14 +101,14 @@ where
             note_end(rt, shared, written);
         });
         if writer.is_ok() {
-            let read = read_all(rt, alloc, socket, seconds, node, &mut reading, stream);
+            let read = read_all(rt, alloc, socket, lookout, node, &mut reading, stream);
             note_end(rt, shared, read);
         } else {
             close(rt, node, &mut reading, stream);
             note_end(rt, shared, Err(Refusal::OutOfMemory));
         }
     });
-    lookout.ended(rt, stream, ended.into_inner().err());
+    lookout.ended(rt, stream, ended.into_inner().err(), Moment::now(rt));
 }
 
 // The address of the other end of a connection; empty where it isn't known.
@@ -146,18 +146,26 @@ fn write_all<R: Wait, A: Served>(
     written
 }
 
-// Reads what a stream is asked until it is over. Its first frame has to come within so many seconds, where that is said.
+// Reads what a stream is asked until it is over. Its first frame has to come within so many seconds, where that is said; that it didn't is
+// told.
 fn read_all<R: Wait + Clock, A: Served>(
     rt: &R,
     alloc: Global,
     socket: &TcpStream,
-    seconds: Option<u16>,
+    lookout: &Lookout,
     node: &A,
     seat: &mut A::Seat,
     stream: u64,
 ) -> Result<(), Refusal> {
+    let seconds = lookout.idle_seconds();
     let mut from = Counted::new(IdleReader::new(rt, socket, seconds));
-    serve_reader(rt, alloc, node, seat, stream, &mut from, &NoGate)
+    let read = serve_reader(rt, alloc, node, seat, stream, &mut from, &NoGate);
+    if let Some(seconds) = seconds {
+        if from.inner.is_late() {
+            lookout.idle(rt, stream, seconds, Moment::now(rt));
+        }
+    }
+    read
 }
 
 fn close<R: Wait, A: Served>(rt: &R, node: &A, seat: &mut A::Seat, stream: u64) {

@@ -1,16 +1,15 @@
 // The writes of a store, printed.
-ghost use Rattle.std.specs.Prelude.{◌<◌, ◌≤◌, length};
-ghost use Rattle.xds_resource.specs.PerType.{at};
+ghost use Rattle.std.specs.Prelude.{◌≤◌};
 
 use crate::machine::Runtime;
 use crate::serve_telling::{FileFault, tell, tell_file, tell_store};
-use crate::storing::FileStore;
+use crate::write_lines::line_at;
 use std::alloc::Global;
 use std::fs::File;
 use std::io::Write;
 use std::rt::Files;
 use xds_frames::{Counted, write_whole};
-use xds_message::{Batch, write_object};
+use xds_message::Batch;
 use xds_program::WritesTask;
 use xds_program::run::DONE;
 use xds_resource::{Refusal, TypeName};
@@ -70,24 +69,8 @@ fn print_type<O: Write>(
     output: &mut Counted<O>,
 ) -> Result<(), Refusal> {
     for index in 0..batch.len_of(kind) {
-        print_write(alloc, batch, kind, index, output)?;
+        let line = line_at(alloc, batch, kind, index)?;
+        write_whole(output, line.as_bytes())?;
     }
     Ok(())
-}
-
-// Prints a write of a type in a line.
-fn print_write<O: Write>(
-    alloc: Global,
-    batch: &Batch,
-    kind: TypeName,
-    index: usize,
-    output: &mut Counted<O>,
-) -> Result<(), Refusal>
-    requires { index < length (at batch.now kind) }
-{
-    let write = batch.write_at(alloc, kind, index)?;
-    let value = write_object(alloc, &write)?;
-    let mut text = value.to_string(alloc)?;
-    text.push_str("\n")?;
-    write_whole(output, text.as_bytes())
 }

@@ -12,7 +12,7 @@ pub mod service;
 pub mod site;
 pub mod told;
 
-pub use pages::{Page, Pages};
+pub use pages::{Head, Page, Pages, Part};
 pub use polling::{Connects, Posts, poll, poll_by};
 pub use question::Question;
 pub use replies::{Replies, Seats};

@@ -1,15 +1,21 @@
 // The server of pages over HTTP: the service of one connection, and the connections of a listener.
-ghost use Rattle.std.specs.Prelude.{IfSome};
+ghost use Rattle.std.specs.Prelude.{◌≡◌, ◌↔◌, [], codes, string_bytes, unwrap_or, IfOk, IfSome, IsTrue};
+ghost use Rattle.http.specs.Request.{head_of};
+ghost use Rattle.http_header.specs.HeaderMap.{ContainsKey};
+ghost use Rattle.http_uri.specs.Uri.{uri_path, uri_query};
 
 use crate::accept::{Asked, Serves, Tasks};
-use crate::pages::{Page, Pages};
+use crate::pages::{Head, Page, Pages, Part};
 use crate::response::bare;
 use crate::serve::{MAX_CONNECTIONS, pause_of, permits, run_tasks};
 use crate::service::{BODY_SECONDS, Body, Come};
 use bytes::Bytes;
 use futures::task::{Context, Poll};
 use futures::{Future, ready};
-use http::header::{CONTENT_TYPE, HeaderValue};
+use http::HeaderMap;
+use http::header::{
+    AUTHORIZATION, CONTENT_TYPE, HOST, HeaderName, HeaderValue, ORIGIN, WWW_AUTHENTICATE,
+};
 use http_body_util::{BodyExt, Full, Limited, LimitedError};
 use hyper::body::Incoming;
 use hyper::rt::TokioTimer;
@@ -28,6 +34,9 @@ use tokio::runtime::LocalRuntime;
 use tokio::time::{Handle, Sleep};
 use xds_polls::MAX_BODY;
 use xds_resource::Refusal;
+
+// As many milliseconds as pass before work that waits is looked at again.
+const LOOK_MILLISECONDS: u64 = 2;
 
 /// The service of a connection.
 pub struct Site<R, A> {
@@ -57,22 +66,29 @@ pub enum Paging<R, A: Pages, F> {
     /// The body is still to come.
     Collecting {
         rt: R,
+        timers: Handle,
         shared: Arc<A>,
-        method: String,
-        path: String,
+        head: Head,
         body: F,
     },
-    /// There is work to do for it.
+    /// There is work to do for it, perhaps after a pause.
     Working {
         rt: R,
+        timers: Handle,
         shared: Arc<A>,
         work: A::Work,
+        pause: Option<Sleep>,
     },
 }
 
 // A page as a response, where there is memory for it.
 fn made(alloc: Global, page: Page) -> Result<Response<Full<Bytes>>, Refusal> {
-    let Page { status, kind, text } = page;
+    let Page {
+        status,
+        kind,
+        text,
+        field,
+    } = page;
     let status = StatusCode::from_u16(status).unwrap_or(StatusCode::INTERNAL_SERVER_ERROR);
     let mut response = Response::new(alloc, Full::new(Bytes::from_string(text)?));
     *response.status_mut() = status;
@@ -81,7 +97,43 @@ fn made(alloc: Global, page: Page) -> Result<Response<Full<Bytes>>, Refusal> {
         .headers_mut()
         .insert(CONTENT_TYPE, kind)
         .map_err(|_| Refusal::OutOfMemory)?;
+    if response.status() == StatusCode::UNAUTHORIZED {
+        add_scheme(alloc, response.headers_mut())?;
+    }
+    if let Some((name, value)) = field {
+        add_field(alloc, response.headers_mut(), name, value)?;
+    }
     Ok(response)
+}
+
+// Says in a head by which scheme a request is to say who asks.
+fn add_scheme(alloc: Global, headers: &mut HeaderMap) -> Result<(), Refusal> {
+    let scheme = HeaderValue::from_str(alloc, "Bearer").map_err(|_| Refusal::OutOfMemory)?;
+    headers
+        .insert(WWW_AUTHENTICATE, scheme)
+        .map_err(|_| Refusal::OutOfMemory)?;
+    Ok(())
+}
+
+// Adds a field to a head, where there is memory for it and it may stand in a head.
+fn add_field(
+    alloc: Global,
+    headers: &mut HeaderMap,
+    name: &str,
+    value: String,
+) -> Result<(), Refusal> {
+    let name = match HeaderName::from_bytes(alloc, name.as_bytes()) {
+        Ok(name) => name,
+        Err(_) => {
+            drop(value);
+            return Err(Refusal::OutOfMemory);
+        }
+    };
+    let value = HeaderValue::from_string(value).map_err(|_| Refusal::OutOfMemory)?;
+    headers
+        .insert(name, value)
+        .map_err(|_| Refusal::OutOfMemory)?;
+    Ok(())
 }
 
 // The page that answers a request, as a response; 503 where there is no memory for it.
@@ -100,14 +152,13 @@ type Answer = Result<Response<Full<Bytes>>, hyper::Error>;
 fn response_to<R: Wait + Clock + AllocGlobal, A: Pages>(
     rt: &R,
     pages: &A,
-    method: &str,
-    path: &str,
+    head: &Head,
     body: Come,
 ) -> Result<Answer, A::Work> {
     let alloc = rt.alloc();
     match body {
         Ok(Ok(body)) => match body.to_bytes() {
-            Ok(body) => match pages.page(rt, alloc, method, path, body.as_slice()) {
+            Ok(body) => match pages.page(rt, alloc, head, body.as_slice()) {
                 Ok(page) => Ok(Ok(response_of(alloc, page))),
                 Err(work) => Err(work),
             },
@@ -123,11 +174,10 @@ fn response_to<R: Wait + Clock + AllocGlobal, A: Pages>(
 fn response_or_work<R: Wait + Clock + AllocGlobal, A: Pages + Drop>(
     rt: &R,
     pages: &Arc<A>,
-    method: &str,
-    path: &str,
+    head: &Head,
     body: Come,
 ) -> Result<Answer, (Arc<A>, A::Work)> {
-    let work = match response_to(rt, &**pages, method, path, body) {
+    let work = match response_to(rt, &**pages, head, body) {
         Ok(answer) => return Ok(answer),
         Err(work) => work,
     };
@@ -140,16 +190,22 @@ fn response_or_work<R: Wait + Clock + AllocGlobal, A: Pages + Drop>(
     }
 }
 
-// The response that a part more of the work makes, if it is done.
+// The response that a part more of the work makes, if it is done; else how long to pause, if at all.
 fn response_by<R: Wait + Clock + AllocGlobal, A: Pages>(
     rt: &R,
+    timers: &Handle,
     pages: &A,
     work: &mut A::Work,
-) -> Option<Answer> {
+) -> Result<Answer, Option<Sleep>> {
     let alloc = rt.alloc();
     match pages.go_on(rt, alloc, work) {
-        Some(page) => Some(Ok(response_of(alloc, page))),
-        None => None,
+        Part::Done(page) => Ok(Ok(response_of(alloc, page))),
+        Part::More => Err(None),
+        Part::Waits => Err(
+            timers
+                .sleep(rt, Duration::from_millis(LOOK_MILLISECONDS))
+                .ok(),
+        ),
     }
 }
 
@@ -159,14 +215,16 @@ where
     A: Pages + Drop,
     F: Future<Output = Come>,
 {
-    ghost use Rattle.std.specs.Prelude.{⊤};
+    ghost use Rattle.std.specs.Prelude.{◌≡◌, ⊤, IfSome};
+    ghost use Rattle.tokio.specs.Timers.{sleep_source};
     ghost use Rattle.xds_http.specs.declared.site.Paging.TheVariants.{Unavailable, Collecting, Working};
 
     type Output = Answer;
 
-    ghost can_poll = { elim [ Unavailable _ ↦ ⊤ | Collecting _ _ _ _ body ↦ F.can_poll body | Working _ _ _ ↦ ⊤ ] };
+    ghost can_poll = { elim [ Unavailable _ ↦ ⊤ | Collecting _ _ _ _ body ↦ F.can_poll body | Working _ _ _ _ _ ↦ ⊤ ] };
 
-    ghost needs = { λ a s. elim a [ Unavailable _ ↦ ⊥ | Collecting _ _ _ _ body ↦ F.needs body s | Working _ _ _ ↦ ⊥ ] };
+    // Work without a pause is to be polled again, whatever happens.
+    ghost needs = { λ a s. elim a [ Unavailable _ ↦ ⊥ | Collecting _ _ _ _ body ↦ F.needs body s | Working _ _ _ _ pause ↦ IfSome pause (λ sleep. s ≡ sleep_source sleep) ] };
 
     fn poll(&mut self, cx: &mut Context<'_>) -> Poll<Self::Output> {
         let working = match self {
@@ -175,32 +233,91 @@ where
             }
             Paging::Collecting {
                 rt,
+                timers,
                 shared,
-                method,
-                path,
+                head,
                 body,
             } => {
                 let come = ready!(body.poll(cx));
-                let method = method.as_str();
-                match response_or_work(rt, shared, method, path.as_str(), come) {
+                let timers = match timers.clone() {
+                    Ok(timers) => timers,
+                    Err(_) => {
+                        drop(come);
+                        return Poll::Ready(Ok(bare(rt.alloc(), StatusCode::SERVICE_UNAVAILABLE)));
+                    }
+                };
+                match response_or_work(rt, shared, head, come) {
                     Ok(answer) => return Poll::Ready(answer),
                     Err((shared, work)) => Paging::Working {
                         rt: *rt,
+                        timers,
                         shared,
                         work,
+                        pause: None,
                     },
                 }
             }
-            Paging::Working { rt, shared, work } => {
-                return match response_by(rt, &**shared, work) {
-                    Some(answer) => Poll::Ready(answer),
-                    None => cx.yield_now(),
+            Paging::Working {
+                rt,
+                timers,
+                shared,
+                work,
+                pause,
+            } => {
+                if let Some(sleep) = pause {
+                    let _woken = ready!(sleep.poll(cx));
+                }
+                return match response_by(rt, timers, &**shared, work) {
+                    Ok(answer) => Poll::Ready(answer),
+                    Err(next) => {
+                        drop(mem::replace(pause, next));
+                        cx.yield_now()
+                    }
                 };
             }
         };
         drop(mem::replace(self, working));
         cx.yield_now()
     }
+}
+
+// The values of a field, with commas between; empty where there is none, or one is no text.
+fn values_of(alloc: Global, headers: &HeaderMap, name: HeaderName) -> Result<String, Refusal> {
+    let mut text = String::new(alloc);
+    let mut is_first = true;
+    for value in headers.get_all(name) {
+        let Ok(value) = value.to_str() else {
+            return Ok(String::new(alloc));
+        };
+        if !is_first {
+            text.push_str(",")?;
+        }
+        is_first = false;
+        text.push_str(value)?;
+    }
+    Ok(text)
+}
+
+// What is taken of a request's head.
+fn head_in<I>(alloc: Global, request: &Request<Incoming<I>>) -> Result<Head, Refusal>
+    ensures method { IfOk result (λ h. string_bytes h.method ≡ (head_of request.now).method) }
+    ensures path { IfOk result (λ h. string_bytes h.path ≡ uri_path (head_of request.now).uri) }
+    ensures query { IfOk result (λ h. string_bytes h.query ≡ unwrap_or (uri_query (head_of request.now).uri) []) }
+    ensures origin { IfOk result (λ h. IsTrue h.has_origin ↔ ContainsKey (head_of request.now).headers (codes "origin")) }
+{
+    let headers = request.headers();
+    let query = match request.uri().query() {
+        Some(query) => query,
+        None => "",
+    };
+    Ok(Head {
+        method: String::from_str(alloc, request.method().as_str())?,
+        path: String::from_str(alloc, request.uri().path())?,
+        query: String::from_str(alloc, query)?,
+        host: values_of(alloc, headers, HOST)?,
+        has_origin: headers.contains_key(ORIGIN),
+        authorization: values_of(alloc, headers, AUTHORIZATION)?,
+    })
 }
 
 impl<R, A, I> Service<Request<Incoming<I>>> for Site<R, A>
@@ -218,10 +335,10 @@ where
     fn call(&self, request: Request<Incoming<I>>) -> Self::Future {
         self.asked.note();
         let alloc = self.rt.alloc();
-        let Ok(method) = String::from_str(alloc, request.method().as_str()) else {
+        let Ok(head) = head_in(alloc, &request) else {
             return Paging::Unavailable(alloc);
         };
-        let Ok(path) = String::from_str(alloc, request.uri().path()) else {
+        let Ok(timers) = self.timers.clone() else {
             return Paging::Unavailable(alloc);
         };
         let Ok(shared) = Arc::try_clone(&self.shared) else {
@@ -234,9 +351,9 @@ where
         };
         Paging::Collecting {
             rt: self.rt,
+            timers,
             shared,
-            method,
-            path,
+            head,
             body,
         }
     }

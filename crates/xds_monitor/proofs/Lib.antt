@@ -1,5 +1,3 @@
 pub mod Pieces
 mod Causing
-mod Counting
-mod Paging
 mod Responding

@@ -27,7 +27,7 @@ use Rattle.xds_monitor.specs.declared.ending.End.TheVariants.{Streams, Stopped, 
 use Rattle.xds_monitor.specs.declared.ending.Next.{Next}
 use Rattle.xds_monitor.specs.declared.note.Note.{Note}
 use Rattle.xds_monitor.specs.declared.note.Note.TheVariants.{Missed}
-use Rattle.xds_monitor.specs.Boards.{more}
+use Rattle.xds_stats.specs.Boards.{more}
 
 -- the line of a refusal
 abbrev pub refusal_line : Refusal → List ℕ

@@ -1,12 +1,5 @@
-pub mod Boards
 pub mod Causes
-pub mod Doorways
 pub mod Endings
-pub mod Logging
-pub mod Looks
-pub mod Metrics
 pub mod Notes
-pub mod Pages
 pub mod Recordings
 pub mod Responses
-pub mod Statuses

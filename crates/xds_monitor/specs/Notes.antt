@@ -11,9 +11,9 @@ use Rattle.xds_resource.specs.Refusals.{number_of, name_of}
 use Rattle.xds_monitor.specs.declared.cause.Cause.{Cause}
 use Rattle.xds_monitor.specs.declared.fault.Fault.{Fault}
 use Rattle.xds_monitor.specs.declared.note.Note.{Note}
-use Rattle.xds_monitor.specs.declared.note.Note.TheVariants.{Refused, Event, Missed, RecordingEnded, Store}
+use Rattle.xds_monitor.specs.declared.note.Note.TheVariants.{Refused, Event, Json, Missed, RecordingEnded, Store}
 use Rattle.xds_monitor.specs.Causes.{cause_text}
-use Rattle.xds_monitor.specs.Logging.{event_line}
+use Rattle.xds_stats.specs.Logging.{event_line, json_line}
 use Rattle.xds_monitor.specs.Endings.{fault_line}
 use Rattle.xds_monitor.specs.Recordings.{recording_line}
 
@@ -37,7 +37,8 @@ store_line text = codes "the store " ++ (text ++ codes "\n")
 -- the line of a note
 abbrev pub note_line : Note → List ℕ
 note_line (Refused line fault) = refused_line line fault
-note_line (Event event) = event_line event
+note_line (Event time event) = event_line (string_bytes time) event
+note_line (Json time event) = json_line (string_bytes time) event
 note_line (Missed count) = decimal count ++ codes " lines are left out\n"
 note_line (RecordingEnded replica refusal) = recording_line replica refusal
 note_line (Store text) = store_line (string_bytes text)

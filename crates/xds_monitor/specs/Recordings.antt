@@ -7,13 +7,15 @@
 --     recording_line   the line of a recording that ended by a refusal
 --     recorded_text    what is shown of a recording: that it goes on, or the refusal by which it ended
 --     ended_sample     the line of whether a replica's recording ended by a refusal
---     recordings_text  the same of each of some replicas, and what that number does
+--     recordings_text  that line of each of some replicas, and what the number is and does
+--     running_sample   the line of whether the trace of a replica is being recorded
+--     running_text     that line of each of some replicas, behind what the number is and does
 use Rattle.std.specs.Prelude.{ℕ, Bool, if◌then◌else◌, ◌+◌, ◌-◌, ◌^◌, List, ◌++◌, Option, Some, None, codes, decimal, min}
 use Rattle.std.specs.List.{flat_map}
 use Rattle.xds_resource.specs.declared.refusal.Refusal.{Refusal}
 use Rattle.xds_resource.specs.Refusals.{number_of, name_of}
-use Rattle.xds_monitor.specs.declared.metrics.Kind.TheVariants.{Counter}
-use Rattle.xds_monitor.specs.Metrics.{help_line, sample_line}
+use Rattle.xds_stats.specs.declared.metrics.Kind.TheVariants.{Counter, Gauge}
+use Rattle.xds_stats.specs.Metrics.{help_line, sample_line}
 use Rattle.xds_monitor.specs.declared.tapes.TapeFault.{TapeFault}
 use Rattle.xds_monitor.specs.declared.tapes.TapeFault.TheVariants.{NoFolder, NotAllowed, IsThere, Other}
 
@@ -58,6 +60,14 @@ abbrev pub ended_sample : ℕ × Bool → List ℕ
 ended_sample shown =
     sample_line (codes "xds_recordings_ended_total") (codes "replica=\"" ++ (decimal shown.0 ++ codes "\"")) (if shown.1 then 1 else 0)
 
--- the same of each of some replicas, behind what that number does
+-- the same of each of some replicas, behind what that number is and does
 abbrev pub recordings_text : List (ℕ × Bool) → List ℕ
-recordings_text shown = help_line (codes "xds_recordings_ended_total") Counter ++ flat_map ended_sample shown
+recordings_text shown = help_line (codes "xds_recordings_ended_total") (codes "Recordings that ended by a refusal.") Counter ++ flat_map ended_sample shown
+
+-- the line of whether the trace of a replica of this number is being recorded
+abbrev pub running_sample : ℕ × Bool → List ℕ
+running_sample shown = sample_line (codes "xds_recording") (codes "replica=\"" ++ (decimal shown.0 ++ codes "\"")) (if shown.1 then 1 else 0)
+
+-- the same of each of some replicas, behind what that number is and does
+abbrev pub running_text : List (ℕ × Bool) → List ℕ
+running_text shown = help_line (codes "xds_recording") (codes "Whether the trace of the replica is being recorded.") Gauge ++ flat_map running_sample shown

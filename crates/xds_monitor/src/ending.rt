@@ -2,13 +2,15 @@
 ghost use Rattle.std.specs.Prelude.{◌≡◌};
 
 use crate::fault::Fault;
-use crate::log_event::LogEvent;
 use crate::note::Note;
+use crate::recent::Recent;
 use std::alloc::Global;
 use std::collections::VecDeque;
 use std::sync::{Condvar, Mutex, MutexGuard, Wait};
 use std::time::{Clock, Duration, Instant};
 use xds_resource::Refusal;
+use xds_stats::log_event::LogEvent;
+use xds_stats::moment::utc_text;
 
 /// Why a server ends.
 #[derive(Clone, Copy, Debug, PartialEq, Eq)]
@@ -30,6 +32,8 @@ pub struct Telling {
     pub changes: bool,
     /// Whether what an operator cares for is told.
     pub events: bool,
+    /// Whether that is told as JSON.
+    pub json: bool,
 }
 
 /// As many notes as wait to be told, at most.
@@ -189,6 +193,7 @@ impl State {
 
 /// What threads tell of a server, up to its end.
 pub struct Ending {
+    alloc: Global,
     state: Mutex<State>,
     // Something was told, or the server ends.
     told: Condvar,
@@ -198,6 +203,8 @@ pub struct Ending {
     quiet: Condvar,
     // The server ends, nothing more is to be told, all was told, or clients may be answered.
     over: Condvar,
+    // The changes that were refused last.
+    recent: Mutex<Recent>,
     telling: Telling,
 }
 
@@ -205,11 +212,13 @@ pub struct Ending {
 impl Drop for Ending {
     fn drop(self) {
         let Ending {
+            alloc: _,
             state: _,
             told: _,
             room: _,
             quiet: _,
             over: _,
+            recent: _,
             telling: _,
         } = self;
     }
@@ -221,6 +230,7 @@ impl Ending {
         ensures { result.telling ≡ telling }
     {
         Ending {
+            alloc,
             state: Mutex::new(State {
                 left: streams,
                 end: None,
@@ -236,6 +246,7 @@ impl Ending {
             room: Condvar::new(),
             quiet: Condvar::new(),
             over: Condvar::new(),
+            recent: Mutex::new(Recent::new(alloc)),
             telling,
         }
     }
@@ -266,9 +277,20 @@ impl Ending {
     /// Tells that a line of the input, or the change that it says, is refused, where such are told. It waits until there is room
     /// for a note more, unless the server ends: then it counts as left out.
     pub fn refuse<R: Wait>(&self, rt: &R, line: u64, fault: Fault) {
+        self.remember(rt, line, fault);
         if self.telling.changes {
             self.note(rt, Note::Refused(line, fault));
         }
+    }
+
+    /// A line of changes is refused, which is told in another way.
+    pub fn remember<R: Wait>(&self, rt: &R, line: u64, fault: Fault) {
+        self.recent.lock(rt).add(line, fault);
+    }
+
+    /// The lines of changes that were refused last, the last one first.
+    pub fn refused_text<R: Wait>(&self, rt: &R, alloc: Global) -> Result<String, Refusal> {
+        self.recent.lock(rt).text(alloc)
     }
 
     /// Whether what an operator cares for is told.
@@ -278,15 +300,31 @@ impl Ending {
         self.telling.events
     }
 
-    /// Tells something that an operator cares for, where such is told. Where there is no room, and once the server ends, it counts as
-    /// left out.
-    pub fn log<R: Wait>(&self, rt: &R, event: LogEvent) {
+    // An event as it is told.
+    fn noted(&self, time: String, event: LogEvent) -> Note {
+        if self.telling.json {
+            Note::Json(time, event)
+        } else {
+            Note::Event(time, event)
+        }
+    }
+
+    /// Tells something that an operator cares for, at this moment of the wall clock, where such is told. Where there is no room, and once
+    /// the server ends, it counts as left out.
+    pub fn log<R: Wait>(&self, rt: &R, millis: u64, event: LogEvent) {
         if !self.telling.events {
             drop(event);
             return;
         }
+        let note = match utc_text(self.alloc, millis) {
+            Ok(time) => self.noted(time, event),
+            Err(_) => {
+                drop(event);
+                return;
+            }
+        };
         let mut state = self.state.lock(rt);
-        state.take(Note::Event(event));
+        state.take(note);
         drop(state);
         self.told.notify_all();
     }

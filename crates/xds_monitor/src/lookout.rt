@@ -1,20 +1,22 @@
 // What is known of a replica for those who look: threads note it, and it is told or shown.
 ghost use Rattle.std.specs.Prelude.{◌≡◌};
 
-use crate::board::Board;
 use crate::ending::Ending;
-use crate::log_event::{FirstRequest, LogEvent, Place, Rejection};
 use crate::note::Note;
-use crate::numbers::Numbers;
-use crate::sight::{Heard, Sight};
-use crate::status_text::streams_text;
 use std::alloc::Global;
 use std::sync::{Arc, Mutex, Wait};
-use std::time::Instant;
 use xds_core::Reply;
 use xds_ledger::{Outcome, VariantName};
 use xds_message::Draft;
-use xds_resource::Refusal;
+use xds_resource::{Refusal, Stamp};
+use xds_stats::board::Board;
+use xds_stats::html::rows_html;
+use xds_stats::log_event::{FirstRequest, LogEvent, Maker, Place, Rejection};
+use xds_stats::moment::Moment;
+use xds_stats::numbers::Numbers;
+use xds_stats::plain_status::plain_text;
+use xds_stats::sight::{Heard, Sight};
+use xds_stats::status_text::streams_text;
 
 /// What a replica's streams may be.
 #[derive(Clone, Copy, Debug, PartialEq, Eq)]
@@ -84,11 +86,11 @@ impl Lookout {
     }
 
     /// A connection came: whether it is served as a stream. If so, it leaves once it ends. None is once the server ends.
-    pub fn admit<R: Wait>(&self, rt: &R) -> bool {
+    pub fn admit<R: Wait>(&self, rt: &R, now: Moment) -> bool {
         let has_ended = self.ending.has_come(rt);
         let is_served = self.board.lock(rt).admit(has_ended, self.limits.streams);
         if !is_served && !has_ended && self.ending.logs() {
-            self.log(rt, Ok(LogEvent::TurnedAway(self.replica)));
+            self.log(rt, now, Ok(LogEvent::TurnedAway(self.replica)));
         }
         is_served
     }
@@ -106,27 +108,27 @@ impl Lookout {
     }
 
     // Tells an event, where events are told, and there was memory for it.
-    fn log<R: Wait>(&self, rt: &R, event: Result<LogEvent, Refusal>) {
+    fn log<R: Wait>(&self, rt: &R, now: Moment, event: Result<LogEvent, Refusal>) {
         if let Ok(event) = event {
-            self.ending.log(rt, event);
+            self.ending.log(rt, now.millis, event);
         }
     }
 
     /// A stream was opened for a client at this address.
-    pub fn opened<R: Wait>(&self, rt: &R, stream: u64, peer: String) {
+    pub fn opened<R: Wait>(&self, rt: &R, stream: u64, peer: String, now: Moment) {
         if self.ending.logs() {
             let event = connected(self.alloc, self.place(stream), peer.as_str());
-            self.log(rt, event);
+            self.log(rt, now, event);
         }
         let mut board = self.board.lock(rt);
-        let _ = board.open(stream, peer);
+        let _ = board.open(stream, peer, now.millis);
     }
 
     /// A stream ended, by a refusal or without one.
-    pub fn ended<R: Wait>(&self, rt: &R, stream: u64, refusal: Option<Refusal>) {
+    pub fn ended<R: Wait>(&self, rt: &R, stream: u64, refusal: Option<Refusal>, now: Moment) {
         self.board.lock(rt).close(stream);
         if self.ending.logs() {
-            self.log(rt, Ok(LogEvent::Ended(self.place(stream), refusal)));
+            self.log(rt, now, Ok(LogEvent::Ended(self.place(stream), refusal)));
         }
     }
 
@@ -154,16 +156,31 @@ impl Lookout {
         streams_text(alloc, &self.board.lock(rt))
     }
 
+    /// What is known of the open streams, as rows of a table of HTML.
+    pub fn rows<R: Wait>(&self, rt: &R, alloc: Global) -> Result<String, Refusal> {
+        rows_html(alloc, &self.board.lock(rt))
+    }
+
+    /// What is known of the open streams, as lines of a plain text.
+    pub fn lines<R: Wait>(&self, rt: &R, alloc: Global) -> Result<String, Refusal> {
+        plain_text(alloc, self.replica, &self.board.lock(rt))
+    }
+
+    /// A picture of the changes and the responses of the last minutes up to this moment of the wall clock, as SVG.
+    pub fn picture<R: Wait>(&self, rt: &R, alloc: Global, millis: u64) -> Result<String, Refusal> {
+        self.board.lock(rt).trend.svg(alloc, millis)
+    }
+
     /// The journal was cut.
     pub fn cut<R: Wait>(&self, rt: &R) {
         self.board.lock(rt).journal.cut(true);
     }
 
     /// The journal couldn't be cut.
-    pub fn cut_failed<R: Wait>(&self, rt: &R, refusal: Refusal) {
+    pub fn cut_failed<R: Wait>(&self, rt: &R, refusal: Refusal, now: Moment) {
         self.board.lock(rt).journal.cut(false);
         if self.ending.logs() {
-            self.log(rt, Ok(LogEvent::CutFailed(self.replica, refusal)));
+            self.log(rt, now, Ok(LogEvent::CutFailed(self.replica, refusal)));
         }
     }
 
@@ -172,6 +189,21 @@ impl Lookout {
         if let Err(refusal) = ended {
             self.ending
                 .announce(rt, Note::RecordingEnded(self.replica, refusal));
+        }
+    }
+
+    /// The first frame of a stream didn't come within so many seconds.
+    pub fn idle<R: Wait>(&self, rt: &R, stream: u64, seconds: u16, now: Moment) {
+        if self.ending.logs() {
+            self.log(rt, now, Ok(LogEvent::Idle(self.place(stream), seconds)));
+        }
+    }
+
+    /// A change is made here, as a write of this stamp.
+    pub fn changed<R: Wait>(&self, rt: &R, maker: Maker, stamp: Stamp, millis: u64) {
+        if self.ending.logs() {
+            let event = LogEvent::Changed(self.replica, maker, stamp);
+            self.ending.log(rt, millis, event);
         }
     }
 
@@ -197,40 +229,48 @@ impl Lookout {
         rt: &R,
         sight: &Sight,
         answer: &Result<Reply, Refusal>,
-        now: Option<Instant>,
+        now: Moment,
     ) {
         self.board.lock(rt).journal.count(is_part(sight), true);
         match (sight, answer) {
             (Sight::Request(stream, heard), Ok(Reply::Answered(outcome))) => {
-                self.heard(rt, *stream, heard, *outcome);
+                self.heard(rt, *stream, heard, *outcome, now);
             }
             (Sight::Poll(stream), Ok(Reply::Polled(Some(draft)))) => {
                 self.responded(rt, *stream, draft, now);
             }
-            (Sight::Change, Ok(_)) => self.board.lock(rt).change(now),
+            (Sight::Change(kind), Ok(_)) => self.board.lock(rt).change(*kind, now),
             _ => {}
         }
     }
 
-    fn responded<R: Wait>(&self, rt: &R, stream: u64, draft: &Draft, now: Option<Instant>) {
+    fn responded<R: Wait>(&self, rt: &R, stream: u64, draft: &Draft, now: Moment) {
         let mut board = self.board.lock(rt);
         board.polled(now);
-        board.respond(stream, draft);
+        board.respond(stream, draft, now);
     }
 
-    fn heard<R: Wait>(&self, rt: &R, stream: u64, heard: &Heard, outcome: Outcome) {
-        let news = self.board.lock(rt).hear(stream, heard, outcome);
+    fn heard<R: Wait>(&self, rt: &R, stream: u64, heard: &Heard, outcome: Outcome, now: Moment) {
+        let news = self.board.lock(rt).hear(stream, heard, outcome, now);
         if !self.ending.logs() {
             return;
         }
         let place = self.place(stream);
         if news.is_first {
-            self.log(rt, first_request(self.alloc, place, heard));
+            self.log(rt, now, first_request(self.alloc, place, heard));
         }
         if news.is_rejected {
-            self.log(rt, rejected(self.alloc, place, heard));
+            self.log(rt, now, rejected(self.alloc, place, heard));
+        }
+        if heard.kind.is_none() {
+            self.log(rt, now, unknown(self.alloc, place, heard));
         }
     }
+}
+
+fn unknown(alloc: Global, place: Place, heard: &Heard) -> Result<LogEvent, Refusal> {
+    let type_url = String::from_str(alloc, heard.type_url.as_str())?;
+    Ok(LogEvent::UnknownType(place, type_url))
 }
 
 fn connected(alloc: Global, place: Place, peer: &str) -> Result<LogEvent, Refusal> {

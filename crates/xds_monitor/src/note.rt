@@ -6,17 +6,19 @@ ghost use Rattle.xds_monitor.specs.Recordings.{recording_line};
 
 use crate::cause::Cause;
 use crate::fault::Fault;
-use crate::log_event::LogEvent;
 use std::alloc::Global;
 use xds_resource::{Refusal, Stamp};
+use xds_stats::log_event::LogEvent;
 
 /// Something that is told on the error output, a line each.
 #[derive(Drop)]
 pub enum Note {
     /// A line of the input, counted from 1, or the change that it says, is refused.
     Refused(u64, Fault),
-    /// Something that an operator cares for.
-    Event(LogEvent),
+    /// Something that an operator cares for, and when it was.
+    Event(String, LogEvent),
+    /// The same, to be told as an object of JSON.
+    Json(String, LogEvent),
     /// So many notes had no room, and aren't told.
     Missed(u64),
     /// The recording of a replica's trace ended by a refusal.
@@ -32,7 +34,8 @@ impl Note {
     {
         match self {
             Note::Refused(line, fault) => refused_line(alloc, *line, *fault),
-            Note::Event(event) => event.line(alloc),
+            Note::Event(time, event) => event.line(alloc, time.as_str()),
+            Note::Json(time, event) => event.json(alloc, time.as_str()),
             Note::Missed(count) => missed_line(alloc, *count),
             Note::RecordingEnded(replica, refusal) => recording_line(alloc, *replica, *refusal),
             Note::Store(text) => store_line(alloc, text.as_str()),

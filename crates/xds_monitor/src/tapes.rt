@@ -1,17 +1,21 @@
 // The files that the traces of a server's replicas are recorded in.
 ghost use Rattle.std.specs.Prelude.{◌≡◌, ◌++◌, string_bytes, IfOk, OnOk};
-ghost use Rattle.xds_monitor.specs.Recordings.{ended_sample, recorded_text, recordings_text, tape_fault_text, tape_line, tape_path};
+ghost use Rattle.xds_monitor.specs.Recordings.{ended_sample, recorded_text, recordings_text, running_sample, running_text, tape_fault_text, tape_line, tape_path};
 
-use crate::metrics::{Kind, Metrics};
 use crate::recorder::{Recorder, Tape};
 use crate::reel::Reel;
 use std::alloc::Global;
 use std::fs::{File, OpenOptions};
 use std::io::ErrorKind;
+use std::os::unix::fs::OpenOptionsExt;
 use std::rt::Files;
 use std::sync::Arc;
 use std::{fs, io};
 use xds_resource::Refusal;
+use xds_stats::metrics::{Kind, Metrics};
+
+/// The mode of files that hold what is put, private keys among it: who runs the server may read and write them, and nobody else.
+pub const PRIVATE: u32 = 0o600;
 
 /// Why the file of a trace can't be made.
 #[derive(Clone, Copy, Debug, PartialEq, Eq)]
@@ -101,7 +105,7 @@ pub fn recordings_text(alloc: Global, ended: &[(u16, bool)]) -> Result<String, R
     ensures { IfOk result (λ t. string_bytes t ≡ recordings_text ended.now) }
 {
     let mut metrics = Metrics::new(alloc);
-    metrics.about(ENDED, Kind::Counter)?;
+    metrics.about(ENDED, "Recordings that ended by a refusal.", Kind::Counter)?;
     for shown in ended {
         add_recording(alloc, &mut metrics, shown.0, shown.1)?;
     }
@@ -119,6 +123,38 @@ fn add_recording(
 {
     let labels = format!(in alloc; "replica=\"{replica}\"")?;
     metrics.add(ENDED, labels.as_str(), u64::from(has_ended))
+}
+
+// The name of the number of traces that are being recorded.
+const RUNNING: &str = "xds_recording";
+
+/// Whether the trace of each of these replicas is being recorded, in the text format of Prometheus.
+pub fn running_text(alloc: Global, running: &[(u16, bool)]) -> Result<String, Refusal>
+    ensures { IfOk result (λ t. string_bytes t ≡ running_text running.now) }
+{
+    let mut metrics = Metrics::new(alloc);
+    metrics.about(
+        RUNNING,
+        "Whether the trace of the replica is being recorded.",
+        Kind::Gauge,
+    )?;
+    for shown in running {
+        add_running(alloc, &mut metrics, shown.0, shown.1)?;
+    }
+    Ok(metrics.finish())
+}
+
+// Adds the number of a replica.
+fn add_running(
+    alloc: Global,
+    metrics: &mut Metrics,
+    replica: u16,
+    is_running: bool,
+) -> Result<(), Refusal>
+    ensures { OnOk result (string_bytes metrics.new.text ≡ string_bytes metrics.old.text ++ running_sample (replica, is_running)) }
+{
+    let labels = format!(in alloc; "replica=\"{replica}\"")?;
+    metrics.add(RUNNING, labels.as_str(), u64::from(is_running))
 }
 
 /// The tapes of so many replicas, in new files of a folder. Where one can't be made, those before it are taken away again.
@@ -183,6 +219,7 @@ fn new_file<R: Files<File = File>>(rt: &R, path: &str) -> io::Result<Reel<File>>
     let file = OpenOptions::new()
         .write(true)
         .create_new(true)
+        .mode(PRIVATE)
         .open(rt, path)?;
     let begun = Reel::begun(file);
     if begun.is_err() {

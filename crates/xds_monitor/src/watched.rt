@@ -1,27 +1,31 @@
 // A replica whose events are noted for those who look.
 ghost use Rattle.std.specs.Prelude.{◌≡◌};
-ghost use Rattle.xds_monitor.specs.Boards.{stream_of};
+ghost use Rattle.xds_stats.specs.Boards.{stream_of};
 
 use crate::lookout::Lookout;
 use crate::served::Served;
-use crate::sight::{Sight, sight_of};
 use crate::turns::Turns;
 use std::alloc::Global;
-use std::sync::{Arc, MutexGuard, Wait};
-use std::time::{Clock, Instant};
+use std::sync::{Arc, Mutex, MutexGuard, Wait};
+use std::time::Clock;
 use xds_core::{Event, Marks, Reply};
 use xds_node::{Due, Host, Unrecorded};
 use xds_resource::Refusal;
 use xds_rest::Posts;
+use xds_stats::moment::Moment;
+use xds_stats::sight::{Sight, sight_of};
 
 /// A replica of which each event is noted, once it was answered, outside of the node's lock. The requests and the polls of a stream are
-/// noted in the order in which the node answers them: each call of a stream waits until the one before is noted.
+/// noted in the order in which the node answers them: each call of a stream waits until the one before is noted. So are the changes that
+/// are made here and the polls of all streams: each of these waits until the one before of that replica is noted.
 pub struct Watched<A, C> {
     node: A,
     alloc: Global,
     clock: C,
     lookout: Arc<Lookout>,
     turns: Turns,
+    // Who makes a change, or polls.
+    order: Mutex<()>,
 }
 
 // Written out: docs/PROVING.md, "Drops".
@@ -33,6 +37,7 @@ impl<A: Drop, C: Drop> Drop for Watched<A, C> {
             clock: _,
             lookout: _,
             turns: _,
+            order: _,
         } = self;
     }
 }
@@ -52,6 +57,7 @@ impl<A: Served, C: Clock> Watched<A, C> {
             clock,
             lookout,
             turns,
+            order: Mutex::new(()),
         }
     }
 
@@ -59,6 +65,15 @@ impl<A: Served, C: Clock> Watched<A, C> {
     fn turn<R: Wait>(&self, rt: &R, sight: &Sight) -> Option<MutexGuard<'_, ()>> {
         let stream = stream_of(sight)?;
         self.turns.take(rt, stream)
+    }
+
+    // The turn of a change that is made here, or of a poll.
+    fn order<R: Wait>(&self, rt: &R, sight: &Sight) -> Option<MutexGuard<'_, ()>> {
+        if is_ordered(sight) {
+            Some(self.order.lock(rt))
+        } else {
+            None
+        }
     }
 
     fn note<R: Wait>(
@@ -69,7 +84,7 @@ impl<A: Served, C: Clock> Watched<A, C> {
     ) {
         match answer {
             Ok(answer) => {
-                let now = Instant::now(&self.clock).ok();
+                let now = Moment::now(&self.clock);
                 self.lookout.answered(rt, sight, answer, now);
             }
             Err(_) => self.lookout.unrecorded(rt, sight),
@@ -84,7 +99,15 @@ fn stream_of(sight: &Sight) -> Option<u64>
     match sight {
         Sight::Request(stream, _) => Some(*stream),
         Sight::Poll(stream) => Some(*stream),
-        Sight::Change | Sight::Part | Sight::Other => None,
+        Sight::Change(_) | Sight::Part | Sight::Other => None,
+    }
+}
+
+// Whether an event is one of which the order is noted over all streams: a change that is made here, or a poll.
+fn is_ordered(sight: &Sight) -> bool {
+    match sight {
+        Sight::Poll(_) | Sight::Change(_) => true,
+        Sight::Request(_, _) | Sight::Part | Sight::Other => false,
     }
 }
 
@@ -105,8 +128,10 @@ impl<A: Served, C: Clock> Host for Watched<A, C> {
     ) -> Result<Result<Reply, Refusal>, Unrecorded> {
         let sight = sight_of(self.alloc, &event);
         let turn = self.turn(rt, &sight);
+        let order = self.order(rt, &sight);
         let answer = self.node.call(rt, seat, event);
         self.note(rt, &sight, &answer);
+        drop(order);
         drop(turn);
         drop(sight);
         answer
@@ -119,7 +144,8 @@ impl<A: Served, C: Clock> Host for Watched<A, C> {
                 Ok(segment)
             }
             Err(refusal) => {
-                self.lookout.cut_failed(rt, refusal);
+                self.lookout
+                    .cut_failed(rt, refusal, Moment::now(&self.clock));
                 Err(refusal)
             }
         }
@@ -133,7 +159,8 @@ impl<A: Served, C: Clock> Host for Watched<A, C> {
             }
             Ok(None) => Ok(None),
             Err(refusal) => {
-                self.lookout.cut_failed(rt, refusal);
+                self.lookout
+                    .cut_failed(rt, refusal, Moment::now(&self.clock));
                 Err(refusal)
             }
         }

@@ -5,12 +5,12 @@ use Rattle.std.specs.Net.Grammar.{IsSocketV4Text}
 use Rattle.std.proofs.NetLemmas.Theorems.{IsSocketV4Text_unique}
 use Rattle.clap.specs.Words.{Row, Text, one_of}
 use Rattle.xds_program.specs.declared.tasks.Task.{Task}
-use Rattle.xds_program.specs.declared.tasks.Task.TheVariants.{Answer, Play, Check, Serve, Client, Poll, Writes}
+use Rattle.xds_program.specs.declared.tasks.Task.TheVariants.{Answer, Play, Check, Serve, Client, Poll, Writes, Status}
 use Rattle.xds_program.specs.declared.tasks.ServeTask.{ServeTask}
-use Rattle.xds_program.specs.Tasks.{Look, Reads, Serves, Watch}
+use Rattle.xds_program.specs.Tasks.{Look, Reads, Sees, Serves, Watch}
 use Rattle.xds_program.specs.CommandLine.{named_in}
-use Rattle.xds_program.specs.Words.{Asks, AsksBy, AsksClient, AsksIn, AsksPoll, AsksServe, AsksServed, AsksWrites, Finds, IsAddress, IsNumber}
-use Rattle.xds_program.proofs.Values.{one_number, only_answer, only_check, only_client, only_play, only_poll, only_serve, only_writes, same_some}
+use Rattle.xds_program.specs.Words.{Asks, AsksBy, AsksClient, AsksIn, AsksPoll, AsksServe, AsksServed, AsksStatus, AsksWrites, Finds, IsAddress, IsNumber}
+use Rattle.xds_program.proofs.Values.{one_number, only_answer, only_check, only_client, only_play, only_poll, only_serve, only_status, only_writes, same_some}
 
 -- what fits one thing at most is found once
 pub one_found : {X : Type 0} (Fits : X → Type 0) → ((x y : X) → Fits x → Fits y → x ≡ y) → (o p : Option X) → Finds Fits o → Finds Fits p → o ≡ p
@@ -49,7 +49,9 @@ one_served rows s t h k =
     let store = sym h.store ∙ k.store in
     let writes = sym h.writes ∙ k.writes in
     let hold = sym h.hold ∙ k.hold in
-    λ i. record { task = task i; first_number = first_number i; folder = folder i; load = load i; store = store i; writes = writes i; hold = hold i }
+    let admin_token = sym h.admin_token ∙ k.admin_token in
+    let log_json = sym h.log_json ∙ k.log_json in
+    λ i. record { task = task i; first_number = first_number i; folder = folder i; load = load i; store = store i; writes = writes i; hold = hold i; admin_token = admin_token i; log_json = log_json i }
 
 one_client : (rows : List Row) (c d : Watch) → AsksClient rows c → AsksClient rows d → c ≡ d
 one_client rows c d h k =
@@ -77,6 +79,12 @@ one_writes rows v w h k =
     let store = same_value _ v.store w.store h.store k.store in
     λ i. record { store = store i }
 
+one_status : (rows : List Row) (s t : Sees) → AsksStatus rows s → AsksStatus rows t → s ≡ t
+one_status rows s t h k =
+    let addr = one_address rows s.addr t.addr h.addr k.addr in
+    let token = sym h.token ∙ k.token in
+    λ i. record { addr = addr i; token = token i }
+
 -- the command is that of the task
 named : (command name : Text) (rows : List Row) (task : Task) → command ≡ name → AsksBy command rows task → AsksBy name rows task
 named command name rows task is h = subst (λ (c : Text). AsksBy c rows task) is h
@@ -101,6 +109,9 @@ one_by command rows (Poll p) other h k =
 one_by command rows (Writes w) other h k =
     let only = only_writes rows other (named command _ rows other h.0 k) in
     ap Writes (one_writes rows w only.0 h.1 only.2) ∙ sym only.1
+one_by command rows (Status s) other h k =
+    let only = only_status rows other (named command _ rows other h.0 k) in
+    ap Status (one_status rows s only.0 h.1 only.2) ∙ sym only.1
 
 one_in : (found : Option (Text × List Row)) (one other : Task) → AsksIn found one → AsksIn found other → one ≡ other
 one_in None one other h k = absurd h

@@ -13,9 +13,9 @@ use Rattle.clap.specs.declared.parser.matches.ArgMatches.{ArgMatches}
 use Rattle.clap.specs.declared.parser.matches.Found.{Found}
 use Rattle.clap.proofs.WalkLemmas.{one_text-rows, raw_values-rows}
 use Rattle.xds_program.specs.declared.tasks.Task.{Task}
-use Rattle.xds_program.specs.declared.tasks.Task.TheVariants.{Answer, Play, Check, Serve, Client, Poll, Writes}
-use Rattle.xds_program.specs.Tasks.{Look, Reads, Serves, Watch}
-use Rattle.xds_program.specs.Words.{AsksBy, AsksClient, AsksIn, AsksPoll, AsksServed, AsksWrites, Finds, IsAddress, IsNumber, IsNumberText, names_in}
+use Rattle.xds_program.specs.declared.tasks.Task.TheVariants.{Answer, Play, Check, Serve, Client, Poll, Writes, Status}
+use Rattle.xds_program.specs.Tasks.{Look, Reads, Sees, Serves, Watch}
+use Rattle.xds_program.specs.Words.{AsksBy, AsksClient, AsksIn, AsksPoll, AsksServed, AsksStatus, AsksWrites, Finds, IsAddress, IsNumber, IsNumberText, names_in}
 
 -- ---- one value
 
@@ -99,6 +99,7 @@ only_answer rows (Serve s) h = absurd (apart _ _ refl h.0)
 only_answer rows (Client c) h = absurd (apart _ _ refl h.0)
 only_answer rows (Poll p) h = absurd (apart _ _ refl h.0)
 only_answer rows (Writes w) h = absurd (apart _ _ refl h.0)
+only_answer rows (Status s) h = absurd (apart _ _ refl h.0)
 
 -- `play` asks for nothing else
 pub only_play : (rows : List Row) (task : Task) → AsksBy (codes "play") rows task → (x : Option ℕ) × (task ≡ Play x) × Finds (IsNumber rows (codes "trace")) x
@@ -109,6 +110,7 @@ only_play rows (Serve s) h = absurd (apart _ _ refl h.0)
 only_play rows (Client c) h = absurd (apart _ _ refl h.0)
 only_play rows (Poll p) h = absurd (apart _ _ refl h.0)
 only_play rows (Writes w) h = absurd (apart _ _ refl h.0)
+only_play rows (Status s) h = absurd (apart _ _ refl h.0)
 
 -- `serve` asks for nothing else
 pub only_serve : (rows : List Row) (task : Task) → AsksBy (codes "serve") rows task → (x : Serves) × (task ≡ Serve x) × AsksServed rows x
@@ -119,6 +121,7 @@ only_serve rows (Serve s) h = (s, refl, h.1)
 only_serve rows (Client c) h = absurd (apart _ _ refl h.0)
 only_serve rows (Poll p) h = absurd (apart _ _ refl h.0)
 only_serve rows (Writes w) h = absurd (apart _ _ refl h.0)
+only_serve rows (Status s) h = absurd (apart _ _ refl h.0)
 
 -- `client` asks for nothing else
 pub only_client : (rows : List Row) (task : Task) → AsksBy (codes "client") rows task → (x : Watch) × (task ≡ Client x) × AsksClient rows x
@@ -129,6 +132,7 @@ only_client rows (Serve s) h = absurd (apart _ _ refl h.0)
 only_client rows (Client c) h = (c, refl, h.1)
 only_client rows (Poll p) h = absurd (apart _ _ refl h.0)
 only_client rows (Writes w) h = absurd (apart _ _ refl h.0)
+only_client rows (Status s) h = absurd (apart _ _ refl h.0)
 
 -- `poll` asks for nothing else
 pub only_poll : (rows : List Row) (task : Task) → AsksBy (codes "poll") rows task → (x : Look) × (task ≡ Poll x) × AsksPoll rows x
@@ -139,6 +143,7 @@ only_poll rows (Serve s) h = absurd (apart _ _ refl h.0)
 only_poll rows (Client c) h = absurd (apart _ _ refl h.0)
 only_poll rows (Poll p) h = (p, refl, h.1)
 only_poll rows (Writes w) h = absurd (apart _ _ refl h.0)
+only_poll rows (Status s) h = absurd (apart _ _ refl h.0)
 
 -- `writes` asks for nothing else
 pub only_writes : (rows : List Row) (task : Task) → AsksBy (codes "writes") rows task → (x : Reads) × (task ≡ Writes x) × AsksWrites rows x
@@ -149,6 +154,18 @@ only_writes rows (Serve s) h = absurd (apart _ _ refl h.0)
 only_writes rows (Client c) h = absurd (apart _ _ refl h.0)
 only_writes rows (Poll p) h = absurd (apart _ _ refl h.0)
 only_writes rows (Writes w) h = (w, refl, h.1)
+only_writes rows (Status s) h = absurd (apart _ _ refl h.0)
+
+-- `status` asks for nothing else
+pub only_status : (rows : List Row) (task : Task) → AsksBy (codes "status") rows task → (x : Sees) × (task ≡ Status x) × AsksStatus rows x
+only_status rows (Answer n) h = absurd (apart _ _ refl h.0)
+only_status rows (Play trace) h = absurd (apart _ _ refl h.0)
+only_status rows Check h = absurd (apart _ _ refl h)
+only_status rows (Serve s) h = absurd (apart _ _ refl h.0)
+only_status rows (Client c) h = absurd (apart _ _ refl h.0)
+only_status rows (Poll p) h = absurd (apart _ _ refl h.0)
+only_status rows (Writes w) h = absurd (apart _ _ refl h.0)
+only_status rows (Status s) h = (s, refl, h.1)
 
 pub only_check : (rows : List Row) (task : Task) → AsksBy (codes "check") rows task → task ≡ Check
 only_check rows (Answer n) h = absurd (apart _ _ refl h.0)
@@ -158,6 +175,7 @@ only_check rows (Serve s) h = absurd (apart _ _ refl h.0)
 only_check rows (Client c) h = absurd (apart _ _ refl h.0)
 only_check rows (Poll p) h = absurd (apart _ _ refl h.0)
 only_check rows (Writes w) h = absurd (apart _ _ refl h.0)
+only_check rows (Status s) h = absurd (apart _ _ refl h.0)
 
 -- where nothing fits, no task does
 pub no_answer : (rows : List Row) → ((n : ℕ) → IsNumber rows (codes "replica") n → ⊥) → (task : Task) → AsksBy (codes "answer") rows task → ⊥
@@ -183,6 +201,11 @@ no_poll rows none task h =
 pub no_writes : (rows : List Row) → ((x : Reads) → AsksWrites rows x → ⊥) → (task : Task) → AsksBy (codes "writes") rows task → ⊥
 no_writes rows none task h =
     let only = only_writes rows task h in
+    none only.0 only.2
+
+pub no_status : (rows : List Row) → ((x : Sees) → AsksStatus rows x → ⊥) → (task : Task) → AsksBy (codes "status") rows task → ⊥
+no_status rows none task h =
+    let only = only_status rows task h in
     none only.0 only.2
 
 -- ---- the command that was named
@@ -225,6 +248,7 @@ command_of (Serve s) = codes "serve"
 command_of (Client c) = codes "client"
 command_of (Poll p) = codes "poll"
 command_of (Writes w) = codes "writes"
+command_of (Status s) = codes "status"
 
 asked_by : (command : Text) (rows : List Row) (task : Task) → AsksBy command rows task → command ≡ command_of task
 asked_by command rows (Answer n) h = h.0
@@ -234,6 +258,7 @@ asked_by command rows (Serve s) h = h.0
 asked_by command rows (Client c) h = h.0
 asked_by command rows (Poll p) h = h.0
 asked_by command rows (Writes w) h = h.0
+asked_by command rows (Status s) h = h.0
 
 -- a task is asked for by its command
 pub command_is : (found : Option (Text × List Row)) (task : Task) → AsksIn found task → option_map (λ p. p.0) found ≡ Some (command_of task)
@@ -243,8 +268,9 @@ command_is (Some p) task h = ap Some (asked_by p.0 p.1 task h)
 -- where no command is named, no task is asked for
 pub no_command : (m : ArgMatches) → (subcommand_name_of m ≡ Some (codes "answer") → ⊥) → (subcommand_name_of m ≡ Some (codes "play") → ⊥) → (subcommand_name_of m ≡ Some (codes "check") → ⊥)
     → (subcommand_name_of m ≡ Some (codes "serve") → ⊥) → (subcommand_name_of m ≡ Some (codes "client") → ⊥) → (subcommand_name_of m ≡ Some (codes "poll") → ⊥)
-    → (subcommand_name_of m ≡ Some (codes "writes") → ⊥) → (task : Task) → AsksIn (subcommand_rows_of m) task → ⊥
-no_command m answer play check serve client poll writes task h = go task (name_found m ∙ command_is (subcommand_rows_of m) task h)
+    → (subcommand_name_of m ≡ Some (codes "writes") → ⊥) → (subcommand_name_of m ≡ Some (codes "status") → ⊥)
+    → (task : Task) → AsksIn (subcommand_rows_of m) task → ⊥
+no_command m answer play check serve client poll writes status task h = go task (name_found m ∙ command_is (subcommand_rows_of m) task h)
   where
     go : (task : Task) → subcommand_name_of m ≡ Some (command_of task) → ⊥
     go (Answer n) e = answer e
@@ -254,3 +280,4 @@ no_command m answer play check serve client poll writes task h = go task (name_f
     go (Client c) e = client e
     go (Poll p) e = poll e
     go (Writes w) e = writes e
+    go (Status s) e = status e

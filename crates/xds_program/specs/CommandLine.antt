@@ -15,8 +15,9 @@
 --     serve_start                      `xds serve`, with the options that say what is served where, and for how long
 --     serve_command                    `xds serve [--replicas N] [--port P] [--rest-port Q] [--streams S] [--keep-going] [--log]
 --                                      [--max-streams N] [--idle-seconds T] [--admin-port A] [--record DIR]
---                                      [--first-number F] [--load FILE] [--store FILE] [--writes FILE] [--hold]`
+--                                      [--first-number F] [--load FILE] [--store FILE] [--writes FILE] [--hold] [--admin-token FILE] [--log-json]`
 --     writes_command                   `xds writes --store FILE`
+--     status_command                   `xds status --addr A [--admin-token FILE]`
 --     client_start                     `xds client`, with the options that say where it asks, how, and for what
 --     client_command                   `xds client`, with its options and names
 --     poll_start                       `xds poll`, with the options that say where it asks, and for what
@@ -98,10 +99,10 @@ serve_start =
     rest_port_option)
     (number_option (codes "streams"))
 
--- `xds serve [--replicas N] [--port P] [--rest-port Q] [--streams S] [--keep-going] [--log] [--max-streams N] [--idle-seconds T] [--admin-port A] [--record DIR] [--first-number F] [--load FILE] [--store FILE] [--writes FILE] [--hold]`
+-- `xds serve [--replicas N] [--port P] [--rest-port Q] [--streams S] [--keep-going] [--log] [--max-streams N] [--idle-seconds T] [--admin-port A] [--record DIR] [--first-number F] [--load FILE] [--store FILE] [--writes FILE] [--hold] [--admin-token FILE] [--log-json]`
 abbrev pub serve_command : App
 serve_command =
-    with_rule (with_rule (with_rule (with_rule (with_rule (with_rule (with_rule (with_rule (with_rule (with_rule (with_rule serve_start (flag_option (codes "keep-going")))
+    with_rule (with_rule (with_rule (with_rule (with_rule (with_rule (with_rule (with_rule (with_rule (with_rule (with_rule (with_rule (with_rule serve_start (flag_option (codes "keep-going")))
     (flag_option (codes "log")))
     (number_option (codes "max-streams")))
     (number_option (codes "idle-seconds")))
@@ -111,7 +112,9 @@ serve_command =
     (text_option (codes "load")))
     (text_option (codes "store")))
     (text_option (codes "writes")))
-    (flag_option (codes "hold"))
+    (flag_option (codes "hold")))
+    (text_option (codes "admin-token")))
+    (flag_option (codes "log-json"))
 
 -- `xds client`, with the options that say where it asks, how, and for what
 abbrev pub client_start : App
@@ -141,6 +144,10 @@ poll_command =
 abbrev pub writes_command : App
 writes_command = with_rule (new_app (codes "writes")) (required (text_option (codes "store")))
 
+-- `xds status --addr A [--admin-token FILE]`
+abbrev pub status_command : App
+status_command = with_rule (with_rule (new_app (codes "status")) (required (text_option (codes "addr")))) (text_option (codes "admin-token"))
+
 -- `xds`, which wants a command, and says its version
 abbrev pub wanting_command : App
 wanting_command = on_top (λ s. record s { has_version = true; subcommand_required = true }) (new_app (codes "xds"))
@@ -156,8 +163,8 @@ first_commands =
 -- `xds`, with all of them
 abbrev pub command_line : App
 command_line =
-    with_subcommand (with_subcommand (with_subcommand (with_subcommand first_commands serve_command.top) client_command.top) poll_command.top)
-    writes_command.top
+    with_subcommand (with_subcommand (with_subcommand (with_subcommand (with_subcommand first_commands serve_command.top) client_command.top) poll_command.top)
+    writes_command.top) status_command.top
 
 -- ---- commands and options of `clap`
 

@@ -42,7 +42,7 @@ use Rattle.xds_check.specs.Texts.{IsFirstBad}
 use Rattle.xds_play.specs.Traced.{IsTraced}
 use Rattle.xds_program.specs.Judged.{TellsVerdict}
 use Rattle.xds_program.specs.declared.tasks.Task.{Task}
-use Rattle.xds_program.specs.declared.tasks.Task.TheVariants.{Answer, Play, Check, Serve, Client, Poll, Writes}
+use Rattle.xds_program.specs.declared.tasks.Task.TheVariants.{Answer, Play, Check, Serve, Client, Poll, Writes, Status}
 use Rattle.xds_program.specs.declared.run.Ran.{Ran}
 use Rattle.xds_program.specs.declared.run.Ran.TheVariants.{Done}
 use Rattle.xds_program.specs.declared.run.Ran.TheVariants as rans
@@ -161,6 +161,7 @@ Runs (Serve task) ran s = IsHanded (rans.Serve task) ran s
 Runs (Client task) ran s = IsHanded (rans.Client task) ran s
 Runs (Poll task) ran s = IsHanded (rans.Poll task) ran s
 Runs (Writes task) ran s = IsHanded (rans.Writes task) ran s
+Runs (Status task) ran s = IsHanded (rans.Status task) ran s
 
 -- the words call for help, or for the version
 abbrev pub IsCall : ErrorKind → Type 0

@@ -1,9 +1,10 @@
 -- What the program may be asked for, as contracts see it: texts as their bytes. This project's own.
 --     variant_of_word   the variant that the programs call by this word
---     Serves            `xds serve`: what is served, the number of the first replica, the folder of the traces, the file that is loaded, those of the store and of writes, and whether it waits
+--     Serves            `xds serve`: what is served, the number of the first replica, the folder of the traces, the file that is loaded, those of the store and of writes, whether it waits, the file of the token, and whether it logs as JSON
 --     Watch             `xds client`: a client that subscribes on a stream
 --     Look              `xds poll`: one look at a replica, over REST
 --     Reads             `xds writes`: the file of the store that is read
+--     Sees              `xds status`: where a server is asked, and the file of the token that is said
 use Rattle.std.specs.Prelude.{ℕ, Bool, List, codes, Option, Some, None, if◌then◌else◌}
 use Rattle.std.specs.Str.{bytes_eq}
 use Rattle.std.specs.declared.net.socket_addr.SocketAddrV4.{SocketAddrV4}
@@ -17,7 +18,7 @@ abbrev pub variant_of_word : List ℕ → Option StreamVariant
 variant_of_word word =
     if bytes_eq word (codes "sotw") then Some Sotw else if bytes_eq word (codes "delta") then Some Delta else None
 
--- `xds serve`: what is served, the number of the first replica, the folder of the traces, the file that is loaded, that of the store and that of writes, if there are such, and whether nobody is answered until it is told to
+-- `xds serve`: what is served, the number of the first replica, the folder of the traces, the file that is loaded, that of the store and that of writes, if there are such, whether nobody is answered until it is told to, the file of the token, if there is one, and whether it logs as JSON
 pub record Serves : Type 0 where
   pub task : ServeTask
   pub first_number : Option ℕ
@@ -26,6 +27,8 @@ pub record Serves : Type 0 where
   pub store : Option (List ℕ)
   pub writes : Option (List ℕ)
   pub hold : Bool
+  pub admin_token : Option (List ℕ)
+  pub log_json : Bool
 
 -- `xds client`: a client that subscribes on a stream
 pub record Watch : Type 0 where
@@ -49,3 +52,8 @@ pub record Look : Type 0 where
 -- `xds writes`: the file of the store that is read
 pub record Reads : Type 0 where
   pub store : List ℕ
+
+-- `xds status`: where a server is asked, and the file of the token that is said, if there is one
+pub record Sees : Type 0 where
+  pub addr : SocketAddrV4
+  pub token : Option (List ℕ)

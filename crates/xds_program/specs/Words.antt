@@ -15,6 +15,7 @@
 --     AsksClient     `xds client`
 --     AsksPoll       `xds poll`
 --     AsksWrites     `xds writes`
+--     AsksStatus     `xds status`
 --     AsksBy         the command of this name, with these values, asks for the task
 --     AsksIn         the command that was named, if one was, asks for the task
 --     Asks           the words ask for the task
@@ -31,9 +32,9 @@ use Rattle.clap.specs.declared.error.kind.ErrorKind.TheVariants.{OutOfMemory, Va
 use Rattle.clap.specs.Words.{IsAmong, Row, Text, all_of, first_of, one_of}
 use Rattle.xds_resource.specs.Types.{type_of_word}
 use Rattle.xds_program.specs.declared.tasks.Task.{Task}
-use Rattle.xds_program.specs.declared.tasks.Task.TheVariants.{Answer, Play, Check, Serve, Client, Poll, Writes}
+use Rattle.xds_program.specs.declared.tasks.Task.TheVariants.{Answer, Play, Check, Serve, Client, Poll, Writes, Status}
 use Rattle.xds_program.specs.declared.tasks.ServeTask.{ServeTask}
-use Rattle.xds_program.specs.Tasks.{Look, Reads, Serves, Watch, variant_of_word}
+use Rattle.xds_program.specs.Tasks.{Look, Reads, Sees, Serves, Watch, variant_of_word}
 use Rattle.xds_program.specs.CommandLine.{faults, named_in}
 
 -- ---- the values of a command's options
@@ -106,7 +107,7 @@ abbrev pub has_numbers : Option ℕ → ℕ → Bool
 has_numbers None replicas = true
 has_numbers (Some first) replicas = nat_le (first + replicas) 65536
 
--- the same, with the number of the first replica, the folder of the traces, the file that is loaded, that of the store and that of writes, and whether it waits: no replica's number is above 65,535
+-- the same, with the number of the first replica, the folder of the traces, the file that is loaded, that of the store and that of writes, whether it waits, the file of the token, and whether it logs as JSON: no replica's number is above 65,535
 pub record AsksServed (rows : List Row) (serves : Serves) : Type 0 where
   pub task : AsksServe rows serves.task
   pub first_number : Finds (IsNumber rows (codes "first-number")) serves.first_number
@@ -116,6 +117,8 @@ pub record AsksServed (rows : List Row) (serves : Serves) : Type 0 where
   pub store : first_of (codes "store") rows ≡ serves.store
   pub writes : first_of (codes "writes") rows ≡ serves.writes
   pub hold : is_given (codes "hold") rows ≡ serves.hold
+  pub admin_token : first_of (codes "admin-token") rows ≡ serves.admin_token
+  pub log_json : is_given (codes "log-json") rows ≡ serves.log_json
 
 -- `xds client`
 pub record AsksClient (rows : List Row) (task : Watch) : Type 0 where
@@ -140,6 +143,11 @@ pub record AsksPoll (rows : List Row) (task : Look) : Type 0 where
 pub record AsksWrites (rows : List Row) (task : Reads) : Type 0 where
   pub store : first_of (codes "store") rows ≡ Some task.store
 
+-- `xds status`
+pub record AsksStatus (rows : List Row) (task : Sees) : Type 0 where
+  pub addr : IsAddress rows task.addr
+  pub token : first_of (codes "admin-token") rows ≡ task.token
+
 -- the command of this name, with these values, asks for the task
 abbrev pub AsksBy : Text → List Row → Task → Type 0
 AsksBy command rows (Answer replica) = (command ≡ codes "answer") × IsNumber rows (codes "replica") replica
@@ -149,6 +157,7 @@ AsksBy command rows (Serve task) = (command ≡ codes "serve") × AsksServed row
 AsksBy command rows (Client task) = (command ≡ codes "client") × AsksClient rows task
 AsksBy command rows (Poll task) = (command ≡ codes "poll") × AsksPoll rows task
 AsksBy command rows (Writes task) = (command ≡ codes "writes") × AsksWrites rows task
+AsksBy command rows (Status task) = (command ≡ codes "status") × AsksStatus rows task
 
 -- the command that was named, if one was, asks for the task
 abbrev pub AsksIn : Option (Text × List Row) → Task → Type 0

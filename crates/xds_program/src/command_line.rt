@@ -5,7 +5,7 @@ ghost use Rattle.xds_program.specs.CommandLine.{IsCommand, IsLocal, IsOption, an
 ghost use Rattle.xds_program.specs.CommandLine.{client_start, flag_option, poll_start, port_option, rest_port_option, serve_start};
 ghost use Rattle.xds_program.specs.CommandLine.{command_line, first_commands, name_words, number_option, play_command};
 ghost use Rattle.xds_program.specs.CommandLine.{poll_command, replicas_option, required, serve_command, text_option};
-ghost use Rattle.xds_program.specs.CommandLine.{with_default, wanting_command, writes_command};
+ghost use Rattle.xds_program.specs.CommandLine.{status_command, with_default, wanting_command, writes_command};
 
 use crate::help;
 use clap::{Arg, ArgAction, Command, value_parser};
@@ -19,7 +19,8 @@ pub(crate) fn command_line<'a>(alloc: Global) -> Result<Command<'a>, AllocError>
     let xds = with_command(xds, serve_command(alloc))?;
     let xds = with_command(xds, client_command(alloc))?;
     let xds = with_command(xds, poll_command(alloc))?;
-    with_command(xds, writes_command(alloc))
+    let xds = with_command(xds, writes_command(alloc))?;
+    with_command(xds, status_command(alloc))
 }
 
 // `xds`, with the commands that use no device but the program's own.
@@ -103,7 +104,11 @@ fn serve_command<'a>(alloc: Global) -> Result<Command<'a>, AllocError>
     let help = "Begins with the stamped writes of this file";
     let serve = with_option(serve, text_option(alloc, "writes", "FILE", help))?;
     let help = "Answers nobody before a line ready or POST /ready";
-    with_option(serve, flag_option(alloc, "hold", help))
+    let serve = with_option(serve, flag_option(alloc, "hold", help))?;
+    let help = "The operator's port asks for the token in this file";
+    let serve = with_option(serve, text_option(alloc, "admin-token", "FILE", help))?;
+    let help = "Logs as JSON, an object a line";
+    with_option(serve, flag_option(alloc, "log-json", help))
 }
 
 // `xds serve`, with the options that say what is served where, and for how long.
@@ -137,7 +142,7 @@ fn replicas_option<'a>(alloc: Global) -> Arg<'a>
 fn port_option<'a>(alloc: Global) -> Arg<'a>
     ensures { IsOption port_option result }
 {
-    let help = "First port for streams, one a replica";
+    let help = "First stream port, one a replica";
     with_default(number_option(alloc, "port", "P", help), "18000")
 }
 
@@ -222,6 +227,16 @@ fn writes_command<'a>(alloc: Global) -> Result<Command<'a>, AllocError>
         named(alloc, "writes", about, help::WRITES),
         store_option(alloc),
     )
+}
+
+fn status_command<'a>(alloc: Global) -> Result<Command<'a>, AllocError>
+    ensures { IfOk result (IsCommand status_command) }
+{
+    let about = "Asks a server's operator's port how its streams stand";
+    let help = "Says the token in this file";
+    let status = named(alloc, "status", about, help::STATUS);
+    let status = with_option(status, addr_option(alloc))?;
+    with_option(status, text_option(alloc, "admin-token", "FILE", help))
 }
 
 // `--store FILE`, which has to be given.

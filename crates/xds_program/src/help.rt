@@ -2,7 +2,7 @@
 // No line is wider than 80 columns.
 
 /// What `xds --version` says behind the name of the program.
-pub(crate) const VERSION: &str = "0.1.0";
+pub const VERSION: &str = "0.1.0";
 
 /// At the end of `xds --help`.
 pub(crate) const PROGRAM: &str = "Example, in the repository's top folder, and what it prints:
@@ -70,8 +70,10 @@ Reads lines `put`, `putin` and `delete` of scripts, and applies each while it
 serves; at the end of the input it goes on, until it is stopped (Ctrl-C).
 With --keep-going a line that is refused is told, and the next is read; with
 --log what an operator cares for is told, a line an event. At --admin-port it
-answers /healthz, /ready, /metrics, /status, /changes and /stop over HTTP;
-the last ends it with status 0. With --record DIR what replica K does is
+answers /, /healthz, /ready, /metrics, /status, /resources, /changes and /stop
+over HTTP; the last ends it with status 0, the first is a page for a browser.
+With --admin-token FILE each request there says the token in FILE.
+With --record DIR what replica K does is
 written to DIR/replica-K.trace, which `xds check` reads once it has ended.
 With --load FILE all lines of the file are made before anybody is answered.
 With --store FILE all writes are kept in the file, and are there again in the
@@ -118,6 +120,20 @@ line. docs/SERVING.md has more, and the refusals.
 Statuses:
   0  a reply came, whatever its status is
   1  no reply came
+  2  the words are wrong; nothing was sent";
+
+/// At the end of `xds status --help`.
+pub(crate) const STATUS: &str = "Example, beside `./xds serve --admin-port 18200`:
+  ./xds status --addr 127.0.0.1:18200
+
+Asks the operator's port of a server, with the token in FILE where one is
+given. Prints each open stream with its node, and for each type what it was
+sent and accepted, and one word: SYNCED, PENDING, REJECTED or NEVER ASKED.
+docs/SERVING.md has more.
+
+Statuses:
+  0  the server answered
+  1  no server, or it refused to answer
   2  the words are wrong; nothing was sent";
 
 /// At the end of `xds writes --help`.

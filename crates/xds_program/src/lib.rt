@@ -17,7 +17,10 @@ pub mod wrong_values;
 
 pub use answer::{answer_lines, draft_answer};
 pub use gathering::LineFault;
+pub use help::VERSION;
 pub use stamped::read_writes;
-pub use tasks::{ClientTask, PollTask, ServeTask, ServeWords, StreamVariant, Task, WritesTask};
+pub use tasks::{
+    ClientTask, PollTask, ServeTask, ServeWords, StatusTask, StreamVariant, Task, WritesTask,
+};
 pub use words::task_of;
 pub use wrong_values::WrongValue;

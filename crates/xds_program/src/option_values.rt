@@ -7,7 +7,9 @@ ghost use Rattle.xds_program.specs.Tasks.{variant_of_word};
 ghost use Rattle.xds_program.specs.Words.{AsksBy, AsksClient, AsksIn, AsksPoll, AsksServe, AsksServed, Finds, IsAddress, IsNumber};
 ghost use Rattle.xds_program.specs.Words.{are_apart, has_numbers, is_alone, is_given, is_outside, names_in, text_in};
 
-use crate::tasks::{ClientTask, PollTask, ServeTask, ServeWords, StreamVariant, Task, WritesTask};
+use crate::tasks::{
+    ClientTask, PollTask, ServeTask, ServeWords, StatusTask, StreamVariant, Task, WritesTask,
+};
 use clap::ArgMatches;
 use std::alloc::{AllocError, Global};
 use std::net::SocketAddrV4;
@@ -35,8 +37,11 @@ pub(crate) fn task_in(alloc: Global, matches: &ArgMatches) -> Result<Option<Task
     if let Some(given) = matches.subcommand_matches("poll") {
         return poll_in(alloc, given);
     }
-    match matches.subcommand_matches("writes") {
-        Some(given) => writes_in(alloc, given),
+    if let Some(given) = matches.subcommand_matches("writes") {
+        return writes_in(alloc, given);
+    }
+    match matches.subcommand_matches("status") {
+        Some(given) => status_in(alloc, given),
         None => Ok(None),
     }
 }
@@ -92,6 +97,18 @@ fn writes_in(alloc: Global, given: &ArgMatches) -> Result<Option<Task>, AllocErr
     }
 }
 
+fn status_in(alloc: Global, given: &ArgMatches) -> Result<Option<Task>, AllocError>
+    ensures { IfOk result (Finds (AsksBy (codes "status") (rows_of (found_of given.now)))) }
+{
+    match address(given) {
+        Some(addr) => {
+            let token = text_given(alloc, given, "admin-token")?;
+            Ok(Some(Task::Status(StatusTask { addr, token })))
+        }
+        None => Ok(None),
+    }
+}
+
 fn served(alloc: Global, given: &ArgMatches) -> Result<Option<ServeWords>, AllocError>
     ensures { IfOk result (Finds (AsksServed (rows_of (found_of given.now)))) }
 {
@@ -102,6 +119,8 @@ fn served(alloc: Global, given: &ArgMatches) -> Result<Option<ServeWords>, Alloc
             let store = text_given(alloc, given, "store")?;
             let writes = text_given(alloc, given, "writes")?;
             let hold = is_given(given, "hold");
+            let admin_token = text_given(alloc, given, "admin-token")?;
+            let log_json = is_given(given, "log-json");
             Ok(Some(ServeWords {
                 task,
                 first_number,
@@ -110,6 +129,8 @@ fn served(alloc: Global, given: &ArgMatches) -> Result<Option<ServeWords>, Alloc
                 store,
                 writes,
                 hold,
+                admin_token,
+                log_json,
             }))
         }
         None => Ok(None),

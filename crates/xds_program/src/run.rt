@@ -9,7 +9,7 @@ use crate::answer::draft_answer;
 use crate::gathering::LineFault;
 use crate::judge::{NoVerdict, Unjudged, judge_input};
 use crate::output::write_answer;
-use crate::tasks::{ClientTask, PollTask, ServeWords, Task, WritesTask};
+use crate::tasks::{ClientTask, PollTask, ServeWords, StatusTask, Task, WritesTask};
 use crate::words::task_of;
 use clap::error::ErrorKind;
 use std::alloc::Global;
@@ -40,6 +40,8 @@ pub enum Ran {
     Poll(PollTask),
     /// It is up to the caller to print the writes of a store. Nothing was read or written.
     Writes(WritesTask),
+    /// `xds status`, which needs a network.
+    Status(StatusTask),
 }
 
 /// Runs the program with these words, the first of which is its name. The words are looked at before any input. It does
@@ -85,6 +87,7 @@ fn run_task<I: Read, O: Write, E: Write>(
         Task::Client(client) => Ran::Client(client),
         Task::Poll(poll) => Ran::Poll(poll),
         Task::Writes(writes) => Ran::Writes(writes),
+        Task::Status(status) => Ran::Status(status),
     }
 }
 

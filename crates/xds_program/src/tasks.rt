@@ -20,6 +20,8 @@ pub enum Task {
     Poll(PollTask),
     /// `xds writes`.
     Writes(WritesTask),
+    /// `xds status`.
+    Status(StatusTask),
 }
 
 /// What a server is asked for.
@@ -62,6 +64,10 @@ pub struct ServeWords {
     pub writes: Option<String>,
     /// Whether nobody is answered until it is told to.
     pub hold: bool,
+    /// The file of the token that requests at the operator's port say; none, where there is none.
+    pub admin_token: Option<String>,
+    /// Whether what an operator cares for is told as JSON.
+    pub log_json: bool,
 }
 
 impl Model for ServeWords {
@@ -78,6 +84,8 @@ impl Model for ServeWords {
       store = option_map string_bytes s.store;
       writes = option_map string_bytes s.writes;
       hold = s.hold;
+      admin_token = option_map string_bytes s.admin_token;
+      log_json = s.log_json;
     } };
 }
 
@@ -204,4 +212,22 @@ impl Model for WritesTask {
     ghost Value = { Reads };
 
     ghost view = { λ w. record { store = string_bytes w.store } };
+}
+
+/// What `xds status` is asked for.
+#[derive(Debug, Drop)]
+pub struct StatusTask {
+    /// Where a server has its operator's port.
+    pub addr: SocketAddrV4,
+    /// The file of the token that it says there; none, where there is none.
+    pub token: Option<String>,
+}
+
+impl Model for StatusTask {
+    ghost use Rattle.std.specs.Prelude.{option_map, string_bytes};
+    ghost use Rattle.xds_program.specs.Tasks.{Sees};
+
+    ghost Value = { Sees };
+
+    ghost view = { λ s. record { addr = s.addr; token = option_map string_bytes s.token } };
 }

@@ -61,8 +61,11 @@ pub(crate) fn wrong_value(matches: &ArgMatches) -> WrongValue
     if let Some(given) = matches.subcommand_matches("client") {
         return wrong_of_client(given);
     }
-    match matches.subcommand_matches("poll") {
-        Some(given) => wrong_of_poll(given),
+    if let Some(given) = matches.subcommand_matches("poll") {
+        return wrong_of_poll(given);
+    }
+    match matches.subcommand_matches("status") {
+        Some(given) => wrong_of_status(given),
         None => WrongValue::Other,
     }
 }
@@ -129,6 +132,15 @@ fn wrong_of_poll(given: &ArgMatches) -> WrongValue
 {
     match address(given) {
         Some(_) => wrong_type(given),
+        None => WrongValue::Addr,
+    }
+}
+
+fn wrong_of_status(given: &ArgMatches) -> WrongValue
+    ensures { Blames (rows_of (found_of given.now)) result }
+{
+    match address(given) {
+        Some(_) => WrongValue::Other,
         None => WrongValue::Addr,
     }
 }

@@ -24,6 +24,7 @@ fn end_of(alloc: Global, ran: &Ran) -> Result<String, Fail> {
         Ran::Client(_) => "client",
         Ran::Poll(_) => "poll",
         Ran::Writes(_) => "writes",
+        Ran::Status(_) => "status",
     };
     Ok(String::from_str(alloc, task)?)
 }

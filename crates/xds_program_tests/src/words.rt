@@ -3,7 +3,9 @@ use crate::program::{told as told_by_run, words};
 use std::alloc::Global;
 use std::test::Fail;
 use xds_cases::cases::{Outcome, hold};
-use xds_program::{ClientTask, PollTask, ServeTask, ServeWords, Task, WritesTask, task_of};
+use xds_program::{
+    ClientTask, PollTask, ServeTask, ServeWords, StatusTask, Task, WritesTask, task_of,
+};
 
 // What words ask for, told in words; `help`, or `wrong`.
 struct Asked;
@@ -35,7 +37,18 @@ fn told(alloc: Global, task: &Task) -> Result<String, Fail> {
         Task::Client(client) => told_client(alloc, client),
         Task::Poll(poll) => told_poll(alloc, poll),
         Task::Writes(writes) => told_writes(alloc, writes),
+        Task::Status(status) => told_status(alloc, status),
     }
+}
+
+fn told_status(alloc: Global, status: &StatusTask) -> Result<String, Fail> {
+    let addr = status.addr;
+    let mut text = format!(in alloc; "status {addr}")?;
+    if let Some(file) = &status.token {
+        text.push_str(" token ")?;
+        text.push_str(file.as_str())?;
+    }
+    Ok(text)
 }
 
 fn told_writes(alloc: Global, writes: &WritesTask) -> Result<String, Fail> {
@@ -75,6 +88,13 @@ fn told_recorded(alloc: Global, serve: &ServeWords) -> Result<String, Fail> {
     }
     if serve.hold {
         text.push_str(" hold")?;
+    }
+    if serve.log_json {
+        text.push_str(" log-json")?;
+    }
+    if let Some(file) = &serve.admin_token {
+        text.push_str(" token ")?;
+        text.push_str(file.as_str())?;
     }
     Ok(text)
 }
@@ -255,6 +275,16 @@ serve --store mesh.db --load a => serve 2 18000 18100 None load a store mesh.db
 serve --store => wrong
 serve --hold --writes old.lines --store new.db => serve 2 18000 18100 None store new.db writes old.lines hold
 serve --writes a --writes b => wrong
+serve --hold --admin-token it --admin-port 1 => serve 2 18000 18100 None admin 1 hold token it
+serve --log-json --hold => serve 2 18000 18100 None hold log-json
+serve --log-json yes => wrong
+serve --admin-token => wrong
+serve --admin-token a --admin-token b => wrong
+status --addr 127.0.0.1:18200 => status 127.0.0.1:18200
+status --addr 127.0.0.1:18200 --admin-token it => status 127.0.0.1:18200 token it
+status --addr localhost:18200 => wrong
+status => wrong
+status --addr 127.0.0.1:18200 more => wrong
 serve --hold --hold => wrong
 serve --hold yes => wrong
 writes --store mesh.db => writes mesh.db

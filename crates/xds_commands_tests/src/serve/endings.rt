@@ -1,60 +1,12 @@
-// How a server ends, and why it doesn't begin.
-use crate::serve::clients::connected;
-use crate::serve::servers::{comes_to, ends_well, serving, started};
-use std::net::{Ipv4Addr, SocketAddrV4, TcpListener};
-use std::test::Fail;
+// What ends a server.
 use xds_monitor::{End, Ending, Telling};
 use xds_resource::Refusal;
-
-#[test]
-fn a_port_in_use_is_told(rt: HostRuntime) -> Result<(), Fail> {
-    let held = TcpListener::bind(&rt, SocketAddrV4::new(Ipv4Addr::LOCALHOST, 18_401))?;
-    comes_to(
-        &rt,
-        b"" as &[u8],
-        serving(2, 18_400, None),
-        1,
-        "127.0.0.1:18401: 19 Device: in use\n",
-    )?;
-    drop(held);
-    Ok(())
-}
-
-#[test]
-fn a_port_of_rest_in_use_is_told(rt: HostRuntime) -> Result<(), Fail> {
-    let held = TcpListener::bind(&rt, SocketAddrV4::new(Ipv4Addr::LOCALHOST, 18_430))?;
-    comes_to(
-        &rt,
-        b"put\n" as &[u8],
-        serving(1, 18_420, None),
-        1,
-        "127.0.0.1:18430: 19 Device: in use\n",
-    )?;
-    drop(held);
-    Ok(())
-}
-
-#[test]
-fn it_ends_after_as_many_streams_as_are_asked_for(rt: HostRuntime) -> Result<(), Fail> {
-    let server = started(&rt, "", serving(1, 18_440, Some(3)))?;
-    let held = connected(&rt, 18_440)?;
-    for _ in 0..3 {
-        let ended = connected(&rt, 18_440)?;
-        drop(ended);
-    }
-    ends_well(
-        &rt,
-        server,
-        "replica 1: streams on 127.0.0.1:18440, REST on 127.0.0.1:18450\n",
-    )?;
-    drop(held);
-    Ok(())
-}
 
 // Neither changes nor events are told.
 const NOTHING: Telling = Telling {
     changes: false,
     events: false,
+    json: false,
 };
 
 #[test]

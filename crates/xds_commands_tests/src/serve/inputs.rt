@@ -1,47 +1,52 @@
-// Lines of the input that end a server.
-use crate::serve::servers::{comes_to, serving};
-use std::io;
+// Inputs of a server that are interrupted, or fail.
+use std::fs::File;
 use std::io::{ErrorKind, Read};
+use std::net::{Net, TcpListener, TcpStream};
+use std::rt::Files;
 use std::test::Fail;
-use xds_frames::Faulty;
+use std::{io, str};
+use xds_commands::{Runtime, ServeFiles, Serving, serve};
+use xds_frames::{Counted, Faulty};
 
-#[test]
-fn a_line_that_is_no_change_ends_it(rt: HostRuntime) -> Result<(), Fail> {
-    let input = "# a comment\n\n\
-         put 1 {\"@type\":\"type.googleapis.com/envoy.config.cluster.v3.Cluster\",\"name\":\"a\"}\n\
-         put 9 {\"@type\":\"type.googleapis.com/envoy.config.cluster.v3.Cluster\",\"name\":\"a\"}\n\
-         delete 1 cluster none\nview 1 cluster\nput\n";
-    comes_to(
-        &rt,
-        input.as_bytes(),
-        serving(1, 18_340, None),
-        1,
-        "replica 1: streams on 127.0.0.1:18340, REST on 127.0.0.1:18350\nline 6: 21 BadScript\n",
-    )
+// A server of one replica, of which streams stand at this port, and REST ten ports on.
+fn serving(port: u16) -> Serving {
+    Serving {
+        replicas: 1,
+        port,
+        rest_port: port.saturating_add(10),
+        streams: None,
+        keep_going: false,
+        tells: false,
+        logs: false,
+        logs_json: false,
+        first_number: Some(1),
+        max_streams: None,
+        idle_seconds: None,
+        admin_port: None,
+        hold: false,
+    }
 }
 
-#[test]
-fn a_put_of_no_resource_ends_it(rt: HostRuntime) -> Result<(), Fail> {
-    comes_to(
-        &rt,
-        b"put 1 {}" as &[u8],
-        serving(1, 18_360, None),
-        1,
-        "replica 1: streams on 127.0.0.1:18360, REST on 127.0.0.1:18370\nline 1: 21 BadScript\n",
-    )
-}
-
-#[test]
-fn a_put_in_a_bad_group_ends_it(rt: HostRuntime) -> Result<(), Fail> {
-    let input = "\nputin 1 a, {\"@type\":\"type.googleapis.com/envoy.config.cluster.v3.Cluster\",\
-         \"name\":\"a\"}\n";
-    comes_to(
-        &rt,
-        input.as_bytes(),
-        serving(1, 18_380, None),
-        1,
-        "replica 1: streams on 127.0.0.1:18380, REST on 127.0.0.1:18390\nline 2: 21 BadScript\n",
-    )
+// That a server of this input ends by a refusal, and tells this.
+fn ends_by<
+    I: Read + Drop + Send + 'static,
+    R: Runtime + Net<Listener = TcpListener, Stream = TcpStream> + Files<File = File, Dir: Send>,
+>(rt: &R, input: I, serving: Serving, wanted: &str) -> Result<(), Fail> {
+    let mut errors = Counted::new(Vec::new(rt.alloc()));
+    let teller: Option<Vec<u8>> = None;
+    let files = ServeFiles {
+        record: None,
+        load: None,
+        store: None,
+        writes: None,
+        token: None,
+    };
+    let status = serve(rt, input, &mut errors, teller, serving, files);
+    let told = str::from_utf8(errors.inner.as_slice()).unwrap_or("no text");
+    if status == 1 && told == wanted {
+        return Ok(());
+    }
+    Err(Fail::new(format_args!("{status}, {told}")))
 }
 
 // An input of which each read that brings a byte comes behind one that is interrupted.
@@ -73,11 +78,10 @@ fn lines_that_come_in_pieces_are_counted(rt: HostRuntime) -> Result<(), Fail> {
          settle 1 cluster",
         interrupted: false,
     };
-    comes_to(
+    ends_by(
         &rt,
         input,
-        serving(1, 18_500, None),
-        1,
+        serving(18_500),
         "replica 1: streams on 127.0.0.1:18500, REST on 127.0.0.1:18510\nline 4: 21 BadScript\n",
     )
 }
@@ -85,11 +89,10 @@ fn lines_that_come_in_pieces_are_counted(rt: HostRuntime) -> Result<(), Fail> {
 #[test]
 fn an_input_that_fails_ends_it(rt: HostRuntime) -> Result<(), Fail> {
     let input = Faulty::new(b"put" as &[u8], 2);
-    comes_to(
+    ends_by(
         &rt,
         input,
-        serving(1, 18_520, None),
-        1,
+        serving(18_520),
         "replica 1: streams on 127.0.0.1:18520, REST on 127.0.0.1:18530\n19 Device\n",
     )
 }

@@ -1,35 +1,18 @@
-// Servers that record what their replicas do, and the files that they leave.
+// Recordings of what a replica does, and the files that they leave.
 ghost use Rattle.std.specs.Prelude.{◌≡◌};
 
-use crate::running::{is_told, ran_on};
-use crate::serve::servers::{Came, came_to, ends_well, recorded, serving};
-use crate::serve::streams::hears;
 use std::alloc::{AllocGlobal, Global};
 use std::fs::File;
 use std::io::Write;
 use std::marker::Brand;
-use std::net::{Net, TcpListener, TcpStream};
-use std::rt::Files;
 use std::sync::Wait;
 use std::test::Fail;
-use std::thread::JoinHandle;
 use std::time::{SystemTime, UNIX_EPOCH};
-use std::{fs, io, thread};
-use xds_cases::cases::replaced;
-use xds_commands::Runtime;
+use std::{fs, io};
 use xds_core::Event;
 use xds_monitor::{Piece, Recording, Reel, Seals};
 use xds_node::{Host, Line, Node, NodeName, Opened, Segment};
 use xds_resource::{AnyResource, Groups, Refusal};
-
-const PUTS: &str =
-    "put 1 {\"@type\":\"type.googleapis.com/envoy.config.route.v3.RouteConfiguration\",\
-     \"name\":\"p\"}\n";
-
-const ASKS: &str = "{\"resourceNames\":[\"p\"],\
-     \"typeUrl\":\"type.googleapis.com/envoy.config.route.v3.RouteConfiguration\"}";
-
-const P: &str = "\"name\":\"p\"";
 
 // A new folder.
 fn new_folder(rt: &HostRuntime) -> Result<String, Fail> {
@@ -43,112 +26,6 @@ fn new_folder(rt: &HostRuntime) -> Result<String, Fail> {
 fn cleared(rt: &HostRuntime, folder: &str, came: Result<(), Fail>) -> Result<(), Fail> {
     let _ = fs::remove_dir_all(rt, folder);
     came
-}
-
-// Starts a server of one replica that records in a folder, and ends with its first stream.
-fn recording<
-    R: Runtime + Net<Listener = TcpListener, Stream = TcpStream> + Files<File = File, Dir: Send>,
->(rt: &R, port: u16, folder: &str) -> Result<JoinHandle<Came>, Fail> {
-    let host = *rt;
-    let folder = String::from_str(rt.alloc(), folder)?;
-    match thread::spawn(rt, move || {
-        let serving = serving(1, port, Some(1));
-        recorded(&host, PUTS.as_bytes(), serving, Some(folder.as_str()))
-    }) {
-        Ok(handle) => Ok(handle),
-        Err(_) => Err(Fail::new(format_args!("no thread"))),
-    }
-}
-
-// That this is said of the trace in a file.
-fn is_judged<
-    R: Runtime + Net<Listener = TcpListener, Stream = TcpStream> + Files<File = File, Dir: Send>,
->(rt: &R, path: &str, wanted: &str) -> Result<(), Fail> {
-    let told = ran_on(rt, "xds check", File::open(rt, path)?)?;
-    is_told(rt.alloc(), told.as_str(), wanted)
-}
-
-// That this is said of it once a word is another.
-fn is_judged_with<
-    R: Runtime + Net<Listener = TcpListener, Stream = TcpStream> + Files<File = File, Dir: Send>,
->(rt: &R, path: &str, word: &str, by: &str, wanted: &str) -> Result<(), Fail> {
-    let text = fs::read_to_string(rt, path)?;
-    let text = replaced(rt.alloc(), text.as_str(), word, by)?;
-    let copy = format!(in rt.alloc(); "{path}.copy")?;
-    fs::write(rt, copy.as_str(), text)?;
-    is_judged(rt, copy.as_str(), wanted)
-}
-
-// What is said of a server that ended, of its trace, and of copies that are spoilt.
-fn is_recorded<
-    R: Runtime + Net<Listener = TcpListener, Stream = TcpStream> + Files<File = File, Dir: Send>,
->(rt: &R, server: JoinHandle<Came>, folder: &str) -> Result<(), Fail> {
-    ends_well(
-        rt,
-        server,
-        "replica 1: streams on 127.0.0.1:18880, REST on 127.0.0.1:18890\n",
-    )?;
-    let path = format!(in rt.alloc(); "{folder}/replica-1.trace")?;
-    let path = path.as_str();
-    is_judged(rt, path, "0 ok~")?;
-    is_judged_with(
-        rt,
-        path,
-        "\"nonce\":\"1\"",
-        "\"nonce\":\"\"",
-        "1 broken 4 P1~",
-    )?;
-    is_judged_with(
-        rt,
-        path,
-        "response 1 2",
-        "response 1 4",
-        "1 line 4: 22 BadTrace~",
-    )
-}
-
-// rule: cuts
-#[test]
-fn a_recorded_run_is_checked(rt: HostRuntime) -> Result<(), Fail> {
-    let folder = new_folder(&rt)?;
-    let server = recording(&rt, 18_880, folder.as_str())?;
-    hears(&rt, 18_880, ASKS, P)?;
-    let recorded = is_recorded(&rt, server, folder.as_str());
-    cleared(&rt, folder.as_str(), recorded)
-}
-
-// What a server tells of a folder in which no file can be made.
-fn is_refused<
-    R: Runtime + Net<Listener = TcpListener, Stream = TcpStream> + Files<File = File, Dir: Send>,
->(rt: &R, folder: &str, file: &str, why: &str) -> Result<(), Fail> {
-    let wanted = format!(in rt.alloc(); "{folder}/{file}: 19 Device: {why}\n")?;
-    let came = recorded(
-        rt,
-        b"put\n" as &[u8],
-        serving(2, 18_900, None),
-        Some(folder),
-    );
-    came_to(&came, 1, wanted.as_str())
-}
-
-// What it tells of a folder with a file in it, in which it leaves no other, and of one that isn't
-// there.
-fn are_refused<
-    R: Runtime + Net<Listener = TcpListener, Stream = TcpStream> + Files<File = File, Dir: Send>,
->(rt: &R, folder: &str) -> Result<(), Fail> {
-    let path = format!(in rt.alloc(); "{folder}/replica-2.trace")?;
-    drop(File::create(rt, path.as_str())?);
-    is_refused(rt, folder, "replica-2.trace", "it is there already")?;
-    is_refused(rt, folder, "replica-2.trace", "it is there already")?;
-    let none = format!(in rt.alloc(); "{folder}/none")?;
-    is_refused(rt, none.as_str(), "replica-1.trace", "no such folder")
-}
-
-#[test]
-fn files_that_cannot_be_made_are_told(rt: HostRuntime) -> Result<(), Fail> {
-    let folder = new_folder(&rt)?;
-    let refused = are_refused(&rt, folder.as_str());
-    cleared(&rt, folder.as_str(), refused)
 }
 
 // That a file holds this.

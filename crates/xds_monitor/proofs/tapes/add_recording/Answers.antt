@@ -1,6 +1,6 @@
 use Rattle.std.proofs.Common.{◌≡◌, ◌++◌, ◌∙◌, ℕ, Bool, true, false, List, Result, Ok, Err, OnOk, codes, if◌then◌else◌, refl}
 use Rattle.std.specs.Int.{from_bool}
-use Rattle.xds_monitor.specs.Metrics.{sample_line}
+use Rattle.xds_stats.specs.Metrics.{sample_line}
 use Rattle.xds_monitor.proofs.tapes.add_recording.Goals as goal
 
 -- a line that was put behind a text is that of equal labels and an equal number

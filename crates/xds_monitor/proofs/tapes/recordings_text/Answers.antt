@@ -1,15 +1,15 @@
 use Rattle.std.proofs.Common.{◌++◌, ◌∙◌, ap, codes, string_bytes}
 use Rattle.std.specs.List.{flat_map}
-use Rattle.xds_monitor.specs.declared.metrics.Kind.TheVariants.{Counter}
-use Rattle.xds_monitor.specs.Metrics.{help_line}
+use Rattle.xds_stats.specs.declared.metrics.Kind.TheVariants.{Counter}
+use Rattle.xds_stats.specs.Metrics.{help_line}
 use Rattle.xds_monitor.specs.Recordings.{ended_sample}
-use Rattle.xds_monitor.proofs.Paging.{line_more, line_all}
+use Rattle.xds_stats.proofs.Paging.{line_more, line_all}
 use Rattle.xds_monitor.proofs.tapes.recordings_text.Goals as goal
 
 pub loop-shown-init : goal.loop-shown-init
 loop-shown-init c =
     ap (λ t. t ++ flat_map ended_sample c.args.ended.now)
-    (c.in_ok-about.ensures ∙ ap (λ t. t ++ help_line (codes "xds_recordings_ended_total") Counter) c.new-metrics.ensures)
+    (c.in_ok-about.ensures ∙ ap (λ t. t ++ help_line (codes "xds_recordings_ended_total") (codes "Recordings that ended by a refusal.") Counter) c.new-metrics.ensures)
 
 pub loop-shown-preserved : goal.loop-shown-preserved
 loop-shown-preserved c =

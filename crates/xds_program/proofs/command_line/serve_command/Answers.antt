@@ -15,4 +15,6 @@ returns c =
     let o7 = one_option _ (text_option (codes "load")) _ _ c.text_option-2.result o6 c.text_option-2.ensures c.in_ok-serve-9.ensures in
     let o8 = one_option _ (text_option (codes "store")) _ _ c.text_option-3.result o7 c.text_option-3.ensures c.in_ok-serve-10.ensures in
     let o9 = one_option _ (text_option (codes "writes")) _ _ c.text_option-4.result o8 c.text_option-4.ensures c.in_ok-serve-11.ensures in
-    one_option_or _ (flag_option (codes "hold")) _ c.flag_option-3.result _ o9 c.flag_option-3.ensures c.with_option-11.ensures
+    let o10 = one_option _ (flag_option (codes "hold")) _ _ c.flag_option-3.result o9 c.flag_option-3.ensures c.in_ok-serve-12.ensures in
+    let o11 = one_option _ (text_option (codes "admin-token")) _ _ c.text_option-5.result o10 c.text_option-5.ensures c.in_ok-serve-13.ensures in
+    one_option_or _ (flag_option (codes "log-json")) _ c.flag_option-4.result _ o11 c.flag_option-4.ensures c.with_option-13.ensures

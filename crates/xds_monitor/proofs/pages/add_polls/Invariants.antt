@@ -1,8 +1,0 @@
-use Rattle.std.proofs.Common.{◌≡◌, drop, string_bytes}
-use Rattle.xds_monitor.specs.Pages.{with_each, with_polls}
-use Rattle.xds_monitor.proofs.pages.add_polls.Given as goal
-
--- what is left of the replicas makes of the text what all of them make of the first
-abbrev pub invariant-loop-shown : goal.invariant-loop-shown
-invariant-loop-shown l =
-    with_each with_polls (string_bytes l.metrics.text) (drop l.shown-index l.replicas) ≡ with_each with_polls (string_bytes l.initial.metrics.text) l.replicas

@@ -1,0 +1,8 @@
+use Rattle.std.proofs.Common.{◌++◌, ◌∙◌, codes}
+use Rattle.xds_stats.proofs.log_event.connected_fields.Goals as goal
+
+pub returns : goal.returns
+returns c =
+    let placed = c.as_str-place.ensures.value ∙ c.in_ok-place.ensures in
+    let told = c.as_str-peer.ensures.value ∙ c.in_ok-peer.ensures in
+    c.in_ok-format.ensures.ok ∙ (λ i. placed i ++ (codes ",\"peer\":" ++ told i))

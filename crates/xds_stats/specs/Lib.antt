@@ -1,0 +1,11 @@
+pub mod Boards
+pub mod Doorways
+pub mod Html
+pub mod Latencies
+pub mod Logging
+pub mod Looks
+pub mod Metrics
+pub mod Pages
+pub mod PlainStatus
+pub mod States
+pub mod Statuses

@@ -1,0 +1,37 @@
+-- How much a replica holds. This project's own.
+--     counted_more   what is counted once one entry more is looked at: a resource that is live, or a deletion
+--     counted        what is counted of entries, from what was counted before
+--     held_of        what is held of a type, by all its entries, after so many changes
+--     held_at        what is held of a type
+use Rattle.std.specs.Prelude.{ℕ, List, [], ◌∷◌, Option, Some, None}
+use Rattle.xds_resource.specs.declared.types.TypeName.{TypeName}
+use Rattle.xds_resource.specs.declared.types.TypeName.TheVariants.{Cluster, Endpoint, Listener, Route, Secret}
+use Rattle.xds_resource.specs.Writes.{StampedWrite}
+use Rattle.xds_stats.specs.Boards.{more}
+use Rattle.xds_stats.specs.declared.look.Held.{Held}
+use Rattle.xds_stats.specs.declared.look.Look.{Look}
+
+abbrev counted_by : Option (List ℕ) → Held → Held
+counted_by None held = record held { tombstones = more held.tombstones }
+counted_by (Some body) held = record held { resources = more held.resources }
+
+-- what is counted once one entry more is looked at: a resource that is live, or a deletion
+abbrev pub counted_more : StampedWrite → Held → Held
+counted_more w held = counted_by w.body held
+
+-- what is counted of entries, from what was counted before
+abbrev pub counted : List StampedWrite → Held → Held
+counted [] held = held
+counted (w ∷ ws) held = counted ws (counted_more w held)
+
+-- what is held of a type, by all its entries, after so many changes
+abbrev pub held_of : ℕ → List StampedWrite → Held
+held_of changes ws = counted ws (record { changes = changes; resources = 0; tombstones = 0 })
+
+-- what is held of a type
+abbrev pub held_at : Look → TypeName → Held
+held_at look Cluster = look.cluster
+held_at look Endpoint = look.endpoint
+held_at look Listener = look.listener
+held_at look Route = look.route
+held_at look Secret = look.secret
