@@ -34,8 +34,8 @@ use xds_exchange::link;
 use xds_frames::Counted;
 use xds_message::Batch;
 use xds_monitor::{End, Ending, Limits, Lookout, Note, Tape, Telling, Unrecordable, tapes_in};
-use xds_stats::{LogEvent, millis_now};
 use xds_resource::Refusal;
+use xds_stats::{LogEvent, millis_now};
 
 /// What a server is asked for.
 #[derive(Clone, Copy, Debug, PartialEq, Eq)]

@@ -11,9 +11,9 @@ use std::time::{Clock, Duration};
 use xds_core::{Event, Reply};
 use xds_frames::Counted;
 use xds_monitor::{Ending, Lookout, Served};
-use xds_stats::Moment;
 use xds_node::{called, serve_reader, serve_writer};
 use xds_resource::Refusal;
+use xds_stats::Moment;
 
 /// Takes connections for as long as the process runs, each into a thread of its own. Where the system gives no connection,
 /// as where it has no descriptor left, it pauses for 10 milliseconds.

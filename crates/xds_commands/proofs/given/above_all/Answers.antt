@@ -11,9 +11,9 @@ loop-write-preserved g c =
       omega (arith, before.0, grown),
       below_more c.deref-write-items.result.now c.loop-write.write-index c.loop-write.number c.max-number.result c.write-item.result c.loop-write-test.true c.write-item.is grown above before.1,
       λ other from all.
-        let no_more = before.2 other from all in
-        let this : c.write-item.result.writer < other = below_at c.deref-write-items.result.now c.loop-write.write-index other c.write-item.result c.loop-write-test.true c.write-item.is all in
-        omega (arith, c.max-number.ensures, c.from.ensures, c.stamp.ensures.writer, no_more, this),
+          let no_more = before.2 other from all in
+          let this : c.write-item.result.writer < other = below_at c.deref-write-items.result.now c.loop-write.write-index other c.write-item.result c.loop-write-test.true c.write-item.is all in
+          omega (arith, c.max-number.ensures, c.from.ensures, c.stamp.ensures.writer, no_more, this),
     )
 
 pub returns-clause-above : goal.returns-clause-above
