@@ -354,9 +354,11 @@ def every_number():
     wanted[of_replica("recording")] = 0
     wanted['xds_build_info{version="0.1.0"}'] = 1
     process = {name: found.pop(name) for name in list(found) if name.startswith("process_")}
+    with open(f"/proc/{server.run.pid}/stat", encoding="utf-8") as file:
+        took = sum(map(int, file.read().rsplit(")", 1)[1].split()[11:13])) / os.sysconf("SC_CLK_TCK")
     tell("what the process takes is told", abs(process["process_start_time_seconds"] - time.time()) < 600 and process["process_resident_memory_bytes"] > 1_000_000
          and process["process_virtual_memory_bytes"] > process["process_resident_memory_bytes"] and process["process_threads"] > 5
-         and 0 < process["process_cpu_seconds_total"] < 600, process)
+         and took - 1 < process["process_cpu_seconds_total"] <= took, (process, took))
     for name in list(found):
         if name.startswith("xds_put_to_accept_seconds"):
             tell(f"{name} is 0", found.pop(name) == 0)

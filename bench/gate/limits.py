@@ -21,7 +21,7 @@ import os
 
 sys.path[:0] = [os.path.abspath(f"{__file__}/../../{folder}") for folder in ("load", "oracle")]
 from load import URL, Alone, framed
-from posts import free_ports
+from telling import free_ports
 
 PATH = "/v3/discovery:clusters"
 LIMIT = 30
@@ -36,9 +36,8 @@ def post(body, length=None):
 class Server:
     def __init__(self, program, descriptors=None, clusters=CLUSTERS):
         self.last = b'"name":"c%d"' % (clusters - 1)
-        self.port, self.rest_port = free_ports()
-        # The one behind them was free a moment ago, too.
-        self.admin_port = free_port({self.port, self.rest_port})
+        self.port = free_ports(3, int(os.environ.get("FIRST_PORT", "26000")))
+        self.rest_port, self.admin_port = self.port + 1, self.port + 2
         ports = ("--port", self.port, "--rest-port", self.rest_port, "--admin-port", self.admin_port)
         words = [program, "serve", "--replicas", "1", *map(str, ports)]
         bound = (lambda: resource.setrlimit(resource.RLIMIT_NOFILE, (descriptors, descriptors))) if descriptors else None
@@ -63,15 +62,6 @@ class Server:
                 return part in link.recv(1 << 20)
         except ConnectionError:
             return False
-
-
-def free_port(but):
-    """A free port beside these."""
-    while True:
-        with socket.socket() as it:
-            it.bind(("127.0.0.1", 0))
-            if it.getsockname()[1] not in but:
-                return it.getsockname()[1]
 
 
 def ended(link):

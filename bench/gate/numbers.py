@@ -17,9 +17,7 @@ import time
 import urllib.error
 import urllib.request
 
-sys.path.insert(0, os.path.abspath(f"{__file__}/../../oracle"))
-from posts import free_ports
-from telling import end, tell
+from telling import end, free_ports, tell
 
 URL = "type.googleapis.com/envoy.config.cluster.v3.Cluster"
 PATIENCE = 60
@@ -33,21 +31,14 @@ class Server:
     """A server of one replica, or of two, and what it says at the start."""
 
     def __init__(self, *words, text="", replicas=1):
-        # Another process may take a port that is free, before the server does.
-        for _ in range(3):
-            self.start(words, replicas)
-            if all("streams on" in line for line in self.said):
-                break
-            self.stop()
-        self.run.stdin.write(text)
-        self.run.stdin.flush()
-
-    def start(self, words, replicas):
-        self.port, self.rest_port = free_ports()
+        self.port = free_ports(2 * replicas, int(os.environ.get("FIRST_PORT", "25000")))
+        self.rest_port = self.port + replicas
         ports = ("--port", str(self.port), "--rest-port", str(self.rest_port), "--replicas", str(replicas))
         self.run = subprocess.Popen([sys.argv[1], "serve", *ports, *words], stdin=subprocess.PIPE, stdout=subprocess.DEVNULL,
                                     stderr=subprocess.PIPE, text=True)
         self.said = [self.run.stderr.readline() for _ in range(replicas)]
+        self.run.stdin.write(text)
+        self.run.stdin.flush()
 
     def poll(self, version="", replica=1):
         """The status and the body of a poll of all clusters at the replica of this place."""

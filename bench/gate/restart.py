@@ -314,8 +314,11 @@ class Writer(threading.Thread):
 
     def answered(self, made, status, answer):
         lines = answer.splitlines()
+        # A line that doesn't end with a stamp is refused, or its replica didn't answer in time.
+        refused = sum(not re.fullmatch(r"line \d+: \d+-\d+", it) for it in lines)
+        wanted = 200 if not refused else 422 if refused == len(lines) else 207
         with self.known.lock:
-            if status != 200 or len(lines) != len(made):
+            if status != wanted or len(lines) != len(made):
                 self.known.fault(f"{len(made)} changes are answered {status}: {answer!r}")
             for number, ((kind, name, body, groups, replica), _) in enumerate(made[: len(lines)]):
                 found = re.fullmatch(rf"line {number + 1}: (\d+)-(\d+)", lines[number])
