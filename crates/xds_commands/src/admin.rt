@@ -28,10 +28,13 @@ use std::time::{Clock, Duration};
 use xds_core::Marks;
 use xds_http::{Head, Page, Pages, Part};
 use xds_message::Batch;
-use xds_monitor::{Cause, End, Ending, Fault, Lookout, Tape, recorded_text, recordings_text, refused_line, running_text, stamp_line};
-use xds_stats::{LogEvent, Look, Shown, millis_now, numbers_text, utc_text};
+use xds_monitor::{
+    Cause, End, Ending, Fault, Lookout, Tape, recorded_text, recordings_text, refused_line,
+    running_text, stamp_line,
+};
 use xds_program::VERSION;
 use xds_resource::{Refusal, Stamp};
+use xds_stats::{LogEvent, Look, Shown, millis_now, numbers_text, utc_text};
 use xds_world::lines::split_line;
 
 // The kinds of what is answered.

@@ -2,7 +2,13 @@
 ghost use Rattle.std.specs.Prelude.{◌≡◌, ◌≤◌, ℕ, All, IfSome, None};
 ghost use Rattle.xds_resource.specs.PerType.{at};
 ghost use Rattle.xds_commands.specs.Given.{
-    AreBelow, AllBelow, HasNoNumber, IsLeastOrAsked, IsLeastOver, IsNumberOver, IsOver
+  AreBelow,
+  AllBelow,
+  HasNoNumber,
+  IsLeastOrAsked,
+  IsLeastOver,
+  IsNumberOver,
+  IsOver,
 };
 
 use xds_message::Batch;

@@ -7,8 +7,8 @@ use std::fs::File;
 use std::io::{Read, Seek, SeekFrom};
 use std::rt::Files;
 use std::str;
-use xds_stats::{Kind, Metrics, seconds_text};
 use xds_resource::Refusal;
+use xds_stats::{Kind, Metrics, seconds_text};
 
 // Where Linux tells what this process takes.
 const STATUS: &str = "/proc/self/stat";

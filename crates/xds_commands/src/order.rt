@@ -4,8 +4,8 @@ use crate::together::Made;
 use crossbeam_channel::{Receiver, Sender};
 use xds_core::{Marks, Reply};
 use xds_message::Batch;
-use xds_stats::Look;
 use xds_resource::{Refusal, Stamp};
+use xds_stats::Look;
 
 /// What a replica's thread is asked to do.
 #[derive(Drop)]

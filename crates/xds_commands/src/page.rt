@@ -1,8 +1,8 @@
 // The page of an operator's port for a browser: one text of HTML without scripts, which has itself loaded again.
 use std::alloc::Global;
-use xds_stats::{Look, Numbers, escaped};
 use xds_program::VERSION;
 use xds_resource::{Refusal, TypeName};
+use xds_stats::{Look, Numbers, escaped};
 
 // What stands before the replicas: after so many seconds a browser loads the page again.
 const HEAD: &str =

@@ -23,9 +23,9 @@ use xds_exchange::{Incoming, Outgoing};
 use xds_http::{Replies, Seats, serve_on};
 use xds_message::Batch;
 use xds_monitor::{Fault, Lookout, Served};
-use xds_stats::{Look, Maker, look_in, millis_now};
 use xds_node::{Host, Parcel, Receipt, called, exchange_in, exchange_out};
 use xds_resource::{Refusal, Stamp};
+use xds_stats::{Look, Maker, look_in, millis_now};
 
 /// Ends of the channels by which a replica tells another what changed: for what it tells, and for what becomes of it.
 pub type Sends = (Outgoing<Parcel>, Incoming<Receipt>);

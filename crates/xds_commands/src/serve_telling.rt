@@ -12,9 +12,9 @@ use std::net::SocketAddrV4;
 use std::sync::Wait;
 use xds_frames::{Counted, write_whole};
 use xds_monitor::{End, Ending, Next, TapeFault, fault_line, tape_line};
-use xds_stats::number_text;
 use xds_program::run;
 use xds_resource::Refusal;
+use xds_stats::number_text;
 use xds_store::StoreRefusal;
 
 /// The status of a server that ended by a refusal.
