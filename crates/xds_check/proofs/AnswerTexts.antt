@@ -20,13 +20,10 @@ use Rattle.xds_message.specs.DeltaWritten.{delta_response_object}
 use Rattle.xds_ledger.specs.declared.variant.VariantName.{VariantName}
 use Rattle.xds_ledger.specs.declared.variant.VariantName.TheVariants as variants
 use Rattle.xds_ledger.specs.Variants.{is_delta}
-use Rattle.xds_check.specs.Answers.{Label, Statement, Answer, IsStatement, IsAnswer, IsReadable, sotw_message, delta_message, labelled_resource, label_or_none}
+use Rattle.xds_check.specs.Answers.{Label, Statement, Answer, IsStatement, IsAnswer, sotw_message, delta_message, labelled_resource, label_or_none}
 use Rattle.xds_check.specs.Texts.{IsStated, IsLabelled, IsSotwAnswer, IsDeltaAnswer, SpellsAnswer, answer_json}
 
 -- ---- bodies
-
-pub all_readable : (a : Answer) → IsAnswer a → All IsReadable a.statements
-all_readable a is = All-weaker (IsStatement a.variant a.kind) IsReadable (λ x s. s.canonical.reads) a.statements is.statements
 
 pub all_whole : (a : Answer) → IsAnswer a → All (λ x. has_float (value_of x.body) ≡ false) a.statements
 all_whole a is = All-weaker (IsStatement a.variant a.kind) (λ x. has_float (value_of x.body) ≡ false) (λ x s. s.canonical.whole) a.statements is.statements

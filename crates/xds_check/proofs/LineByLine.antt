@@ -17,7 +17,6 @@ use Rattle.xds_check.specs.declared.rule.Rule.{Rule}
 use Rattle.xds_check.specs.Checkers.{most_lines, IsJudged, HasTaken}
 use Rattle.xds_check.specs.Judges.{JudgeKept, nothing_judged, without_stream, let_go_after, TellsOfAll, IsJudgeOf, AreJudgesOf, any_stream, is_left}
 use Rattle.xds_check.specs.Kept.{Talk, unheard}
-use Rattle.xds_check.specs.LiveNames.{AreLive}
 use Rattle.xds_check.specs.Orders.{OrderKept, IsOrderOf, nothing_kept, kept_after, may_follow_in}
 use Rattle.xds_check.specs.Rules.{Breaks, AllKeep, NoneBroken, FirstBroken}
 use Rattle.xds_check.specs.Streams.{open_on, is_open, may_follow}
@@ -63,9 +62,6 @@ turn_first trace judges is = record { kept = tt; are = all_first any_stream judg
 
 pub turn_room : (trace : List Line) (i : ℕ) (judges : PerType JudgeKept) → i < length trace → AreTakenOf trace i judges → (t : TypeName) → (at judges t).held.changes ≤ i
 turn_room trace i judges below r t = omega (arith, few_changes any_stream t (reverse (take i trace)) (at judges t) (r.are t), length-reverse (take i trace), length_taken trace i below)
-
-pub turn_live : (trace : List Line) (i : ℕ) (judges : PerType JudgeKept) → AreTakenOf trace i judges → (t : TypeName) → AreLive (at judges t).held.entries (at judges t).live_names
-turn_live trace i judges r t = (r.are t).live
 
 pub turn_more : (trace : List Line) (i : ℕ) (l : Line) (judges new : PerType JudgeKept) → i < length trace → l ≡ get_or trace i l → AreTakenOf trace i judges → TellsOfAll l judges new None
     → AreTakenOf trace (i + 1) new
@@ -215,9 +211,6 @@ judged_still trace l old new after o follows none judged told is =
 -- there are no more changes than lines
 pub judged_room : (trace : List Line) (judges : PerType JudgeKept) → IsJudged trace judges None → (t : TypeName) → (at judges t).held.changes ≤ length trace
 judged_room trace judges judged t = omega (arith, few_changes (is_left (reverse trace)) t (reverse trace) (at judges t) (judged.1 t), length-reverse trace)
-
-pub judged_live : (trace : List Line) (judges : PerType JudgeKept) → IsJudged trace judges None → (t : TypeName) → AreLive (at judges t).held.entries (at judges t).live_names
-judged_live trace judges judged t = (judged.1 t).live
 
 -- a checker that has taken one line more
 pub taken_more : (lines : List Line) (l : Line) (old new : Checker) → HasTaken lines old → old.taken < most_lines → new.taken ≡ old.taken + 1 → new.order ≡ kept_after old.order l

@@ -23,7 +23,7 @@ use Rattle.xds_check.specs.declared.line.Line.TheVariants as lines
 use Rattle.xds_check.specs.declared.words.Verb.{Verb}
 use Rattle.xds_check.specs.declared.words.Verb.TheVariants as verbs
 use Rattle.xds_check.specs.Answers.{Answer, sotw_message, delta_message}
-use Rattle.xds_check.specs.Words.{word_of, IsStream, IsStreamText}
+use Rattle.xds_check.specs.Words.{word_of, IsStream}
 use Rattle.xds_check.specs.Texts.{IsBehind, IsBehindStream, IsOneLine, SaysBehind, Says, SpellsAsking, SpellsAnswer, asking_json, answer_json, request_kind, response_kind, verb_in, spaced, behind_text, line_text, HasStream}
 use Rattle.xds_check.proofs.Cutting.{cut-joined}
 use Rattle.xds_check.proofs.OneLine.{joined_free, number_spaceless, number_feedless, compact_feedless}
@@ -51,9 +51,6 @@ pub response_said : (s : ℕ) (a : Answer) → IsStream s → SpellsAnswer a (an
 response_said s a is spelled =
     behind_number (IsBehind (response_kind a) (SpellsAnswer a)) s (spaced (response_kind a) (answer_json a)) is
     (answer_json a, cut-joined (response_kind a) (answer_json a) (response_kind_spaceless a.variant a refl), spelled)
-
-pub stream_said : (s : ℕ) → IsStream s → IsStreamText s (decimal s)
-stream_said s is = (is, refl)
 
 pub idle_said : (s : ℕ) (t : TypeName) → IsStream s → SaysBehind (lines.Idle s t) (behind_text (lines.Idle s t))
 idle_said s t is = behind_number (λ word. word ≡ (row t).word) s (row t).word is refl

@@ -7,7 +7,6 @@ use Rattle.std.specs.FinMap as finmap
 use Rattle.std.proofs.lemmas.List.{reverse-append}
 use Rattle.std.proofs.lemmas.List.Concat.{flat_map-cons}
 use Rattle.xds_resource.specs.declared.types.TypeName.{TypeName}
-use Rattle.xds_resource.specs.declared.types.TypeName.TheVariants.{Cluster, Endpoint, Listener, Route, Secret}
 use Rattle.xds_resource.specs.declared.refusal.Refusal.{Refusal}
 use Rattle.xds_resource.specs.declared.any.AnyWrite.{AnyWrite}
 use Rattle.xds_resource.specs.Any.{write_type, stamped_write}
@@ -27,7 +26,7 @@ use Rattle.xds_check.specs.declared.rule.Rule.{Rule}
 use Rattle.xds_check.specs.declared.rule.Rule.TheVariants.{FreshNonce, BestResources, CoveredResources, WholeResponse, RightRemovals, OneAtATime, NothingRefusedAgain, NothingPending}
 use Rattle.xds_check.specs.Answers.{Answer}
 use Rattle.xds_check.specs.Lines.{write_at, writes_in, standing, sent, is_waiting}
-use Rattle.xds_check.specs.Judges.{JudgeKept, nothing_judged, IsTakenIn, TellsLine, TellsOfAll, held_by, talk_by, IsJudgeOf, AreJudgesOf, any_stream}
+use Rattle.xds_check.specs.Judges.{JudgeKept, nothing_judged, IsTakenIn, TellsLine, held_by, talk_by, IsJudgeOf, AreJudgesOf, any_stream}
 use Rattle.xds_check.specs.LiveNames.{AreLive, no_names}
 use Rattle.xds_check.specs.Rules.{place, Breaks, BreaksAtResponse, BreaksAtIdle, KeepsRules, AllKeep, LeavesPending}
 use Rattle.xds_check.specs.Kept.{Talk, Talks, unheard, talk_at, broken_in, least, none_missed, held_after, heard, IsHeard}
@@ -250,27 +249,12 @@ judge_more Counts t e l old new of taken = record {
   live = taken.live;
 }
 
-of_each : (l : Line) (old new : PerType JudgeKept) → IsTakenIn Cluster l old.cluster new.cluster → IsTakenIn Endpoint l old.endpoint new.endpoint → IsTakenIn Listener l old.listener new.listener → IsTakenIn Route l old.route new.route
-    → IsTakenIn Secret l old.secret new.secret → (t : TypeName) → IsTakenIn t l (at old t) (at new t)
-of_each l old new clusters endpoints listeners routes secrets Cluster = clusters
-of_each l old new clusters endpoints listeners routes secrets Endpoint = endpoints
-of_each l old new clusters endpoints listeners routes secrets Listener = listeners
-of_each l old new clusters endpoints listeners routes secrets Route = routes
-of_each l old new clusters endpoints listeners routes secrets Secret = secrets
-
 -- what is told of a line, by what is told of each part
 pub tells : (t : TypeName) (l : Line) (old new : JudgeKept) (r : Result (Option Rule) Refusal) → IfOk r (λ o. o ≡ broken_in t old.held.entries old.talks l) → IfOk r (λ o. o ≡ None → IsHeard t old.held.entries l old.talks new.talks)
     → IfOk r (λ o. o ≡ None → new.held ≡ held_after t l old.held) → IfOk r (λ o. o ≡ None → AreLive new.held.entries new.live_names) → IfOk r (TellsLine t l old new)
 tells t l old new (Ok None) broken hears holds live = record { unbroken = sym broken; heard = hears refl; held = holds refl; live = live refl }
 tells t l old new (Ok (Some rule)) broken hears holds live = sym broken
 tells t l old new (Err e) broken hears holds live = tt
-
--- and what is told of it by the last of five types, where the others tell nothing
-pub tells_last : (l : Line) (old new : PerType JudgeKept) (r : Result (Option Rule) Refusal) → IsTakenIn Cluster l old.cluster new.cluster → IsTakenIn Endpoint l old.endpoint new.endpoint → IsTakenIn Listener l old.listener new.listener
-    → IsTakenIn Route l old.route new.route → IfOk r (TellsLine Secret l old.secret new.secret) → IfOk r (TellsOfAll l old new)
-tells_last l old new (Ok None) clusters endpoints listeners routes secrets = of_each l old new clusters endpoints listeners routes secrets
-tells_last l old new (Ok (Some rule)) clusters endpoints listeners routes secrets = (Secret, secrets)
-tells_last l old new (Err e) clusters endpoints listeners routes secrets = tt
 
 pub judge_first : (Counts : ℕ → Type 0) (t : TypeName) → IsJudgeOf Counts t [] nothing_judged
 judge_first Counts t = record {

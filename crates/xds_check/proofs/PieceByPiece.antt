@@ -119,9 +119,6 @@ pub record IsReadOf (piece rest : List ℕ) (old new : PiecewiseChecker) : Type 
   pub piece_is : piece ≡ front ++ rest
   pub goes_on : (bytes : List ℕ) → HasRead bytes old → HasRead (bytes ++ front) new
 
-pub piece_none : (piece : List ℕ) (c : PiecewiseChecker) → IsReadOf piece piece c c
-piece_none piece c = record { front = []; piece_is = refl; goes_on = λ bytes r. subst (λ (l : List ℕ). HasRead l c) (sym (append-nil bytes)) r }
-
 pub piece_some : (piece rest : List ℕ) (old new : PiecewiseChecker) → IsReadOf piece rest old new → ((bytes : List ℕ) × HasRead bytes old) → (bytes : List ℕ) × HasRead bytes new
 piece_some piece rest old new p some = (some.0 ++ p.front, p.goes_on some.0 some.1)
 

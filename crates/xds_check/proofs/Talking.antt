@@ -285,10 +285,6 @@ nonce_spoken t cluster begun requests responses pends uses k nonce s = record {
   used = λ q. ap is_some (get-insert k.used nonce true q) ∙ used_case (bytes_eq nonce q) (finmap.get k.used q) ∙ ap (λ b. bytes_eq nonce q || b) (s.used q);
 }
 
--- none stands unanswered
-quiet_now : (responses : List Sent) (unanswered refused : Option Offer) → StandsOpen responses unanswered refused → is_waiting responses ≡ false → (is_waiting responses ≡ false) × (refused ≡ refused_offer responses)
-quiet_now responses unanswered refused stands quiet = (quiet, stands_refused responses unanswered refused stands)
-
 -- a response of the type, where none before it is unanswered
 pub responded_spoken : (t : TypeName) (cluster : Option (List ℕ)) (begun : Bool) (requests : List Asking) (responses : List Sent) (pends uses : List ℕ → Bool) (k : Talk) (held : Entries) (offer : Offer) (a : Answer)
     → IsSpoken t cluster begun requests responses pends uses k → is_waiting responses ≡ false → offer ≡ offer_in held a

@@ -94,9 +94,6 @@ read_unended bytes rest number taken k r some one =
 
 -- ---- the first line feed
 
-is_feed : ℕ → Bool
-is_feed b = b == 10
-
 pub one_line-take : (bs : List ℕ) (i : ℕ) → ((k : ℕ) → k < i → get_or bs k 0 ≡ 10 → ⊥) → list_any (λ b. b == 10) (take i bs) ≡ false
 one_line-take [] zero none = refl
 one_line-take [] (suc i) none = refl

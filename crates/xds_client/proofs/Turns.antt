@@ -1,21 +1,19 @@
 -- What the turns of a client's stream come to, and its start.
-use Rattle.std.proofs.Common.{◌≡◌, ◌⊎◌, ℕ, List, [], ◌++◌, ◌+◌, Option, Some, None, Result, Ok, Err, inl, inr, refl, sym, ap, subst, ◌∙◌, append-nil, append_assoc}
+use Rattle.std.proofs.Common.{◌≡◌, ℕ, List, [], ◌++◌, ◌+◌, Option, Some, None, Result, Ok, Err, inl, inr, refl, sym, ap, subst, ◌∙◌, append-nil, append_assoc}
 use Rattle.std.specs.Prelude.{string_bytes, take}
 use Rattle.std.specs.Io.KnownBytes.{Appends}
 use Rattle.std.proofs.KnownBytes.{Appends-nil, Appends-trans, Consumes-nil, Keeps-refl}
 use Rattle.xds_resource.specs.declared.refusal.Refusal.{Refusal}
-use Rattle.xds_resource.specs.declared.refusal.Refusal.TheVariants.{OutOfMemory, FrameTooLong, Device as DeviceRefusal}
+use Rattle.xds_resource.specs.declared.refusal.Refusal.TheVariants.{Device as DeviceRefusal}
 use Rattle.xds_resource.specs.declared.types.TypeName.{TypeName}
 use Rattle.xds_frames.specs.Frames.{IsPartial}
 use Rattle.xds_frames.specs.Devices.{Wrote, WrotePart}
 use Rattle.xds_cache.specs.Clients.{Client}
 use Rattle.xds_client.specs.declared.subscription.StreamVariant.{StreamVariant}
-use Rattle.xds_client.specs.declared.subscription.Subscription.{Subscription}
 use Rattle.xds_client.specs.declared.answering.Reply.{Reply}
-use Rattle.xds_client.specs.Subscribing.{OpeningFits, first_client, opening}
 use Rattle.xds_client.specs.Exchanges.{answers}
-use Rattle.xds_client.specs.Ending.{Devices, EndsEarly}
-use Rattle.xds_client.specs.Running.{Ends, Runs, Serves, Starts}
+use Rattle.xds_client.specs.Ending.{EndsEarly}
+use Rattle.xds_client.specs.Running.{Ends, Serves, Starts}
 use Rattle.xds_client.specs.Turning.{Fills, GivesAnswer, ReadsOne, Stops, TakesOne}
 use Rattle.xds_client.proofs.Serving.{dev, devs}
 
@@ -136,19 +134,3 @@ starts_served v t c count said x r q s u w o p i j f g h a b n₀ n₁ wrote non
 pub starts_cut : {T : Type 0} (v : StreamVariant) (t : TypeName) (c : Client) (count : ℕ) (said : List ℕ) (r s u o : Option (List ℕ)) (i f g h n₀ n₁ : ℕ) (e : Refusal)
     → (e ≡ DeviceRefusal) × WrotePart (dev s u f g) said → Starts {T = T} v t c count said (Err e) (devs (dev r r i i) (dev s u f g) (dev o o h h) n₀ n₁)
 starts_cut v t c count said r s u o i f g h n₀ n₁ e (is, (failed, (k, wrote))) = inr (is, Keeps-refl r, refl, Keeps-refl o, refl, failed, (take k said, (k, refl), wrote))
-
--- a run that is opened
-pub runs_opened : {T : Type 0} (n : Subscription) (v : StreamVariant) (c : Client) (said : List ℕ) (x : Result T Refusal) (d : Devices)
-    → v ≡ n.variant → c ≡ first_client n → OpeningFits n × (said ≡ opening n) → Starts v n.kind c n.responses said x d → Runs n x d
-runs_opened n v c said x d same_variant same_client (fits, same) starts =
-    inl (
-      fits,
-      subst (λ (k : List ℕ). Starts n.variant n.kind (first_client n) n.responses k x d) same
-          (subst (λ (k : Client). Starts n.variant n.kind k n.responses said x d) same_client
-          (subst (λ (k : StreamVariant). Starts k n.kind c n.responses said x d) same_variant starts)),
-    )
-
--- one that isn't
-pub runs_unopened : {T : Type 0} (n : Subscription) (r s o : Option (List ℕ)) (i f h n₀ n₁ : ℕ) (e : Refusal) → (e ≡ OutOfMemory) ⊎ ((e ≡ FrameTooLong) × ¬ OpeningFits n)
-    → Runs {T = T} n (Err e) (devs (dev r r i i) (dev s s f f) (dev o o h h) n₀ n₁)
-runs_unopened n r s o i f h n₀ n₁ e why = inr (Keeps-refl r, refl, Keeps-refl o, refl, Keeps-refl s, refl, why)

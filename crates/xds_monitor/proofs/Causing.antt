@@ -2,7 +2,6 @@
 use Rattle.std.proofs.Common.{◌≡◌, ◌≢◌, ◌<◌, ◌^◌, ℕ, List, [], ◌∷◌, length, Bool, true, false, cond, inl, inr, Option, Some, None, Result, Ok, Err, IfOk, refl, ap, sym, ◌∙◌, Bor, arith, ne_eqb, subst, suc}
 use Rattle.std.specs.Prelude.{◌&&◌, ◌||◌, ◌==◌, nat_le, is_some, bytes_eq, decimal, codes}
 use Rattle.std.specs.Option.{option_map}
-use Rattle.std.specs.Result.{result_ok}
 use Rattle.std.specs.List.{onto_first}
 use Rattle.std.specs.Str.{IsUtf8}
 use Rattle.std.specs.Str.Parse.{digits_value}
@@ -10,13 +9,12 @@ use Rattle.std.proofs.lemmas.Fmt.{decimal_is_IsNumeral}
 use Rattle.xds_resource.specs.declared.refusal.Refusal.{Refusal}
 use Rattle.xds_resource.specs.declared.refusal.Refusal.TheVariants.{OutOfMemory, BadName, BadGroup}
 use Rattle.xds_resource.specs.Resources.{IsRefused, NamedBody, parsed}
-use Rattle.xds_resource.specs.Groups.{groups_of}
 use Rattle.xds_resource.specs.declared.types.TypeName.{TypeName}
 use Rattle.xds_resource.specs.Types.{type_of_word}
 use Rattle.xds_resource.proofs.NameMaps.{bytes_eq_same}
 use Rattle.xds_world.specs.Lines.{pieces}
 use Rattle.xds_world.specs.Words.{Text, space, split_first, words, words_in, replica_number}
-use Rattle.xds_world.specs.Commands.{comma, groups_in}
+use Rattle.xds_world.specs.Commands.{groups_in}
 use Rattle.xds_world.proofs.Named.{resource_in-parsed}
 use Rattle.xds_world.proofs.ShortNumbers.{number_in-none}
 use Rattle.xds_world.proofs.Wording.{text_of-words_in}
@@ -81,16 +79,6 @@ resource_refused line e (Ok c) refused is = text_cause line c (inl (e, refused i
 resource_refused line e (Err x) refused is = tt
 
 -- ---- groups
-
--- whether a word lists groups, by what they are refused as
-pub groups_some : (word : Text) (texts g : List Text) → texts ≡ pieces comma word → groups_of texts ≡ Ok g → true ≡ is_some (groups_in word)
-groups_some word texts g are given = sym (ap (λ (ts : List Text). is_some (result_ok (groups_of ts))) (sym are) ∙ ap (λ r. is_some (result_ok r)) given)
-
-pub groups_none : {E : Type 0} (word : Text) (texts : List Text) (e : Refusal) (r : Result Bool E) → texts ≡ pieces comma word → (e ≢ OutOfMemory → groups_of texts ≡ Err e)
-    → IfOk r (λ b. (e ≢ OutOfMemory) × (b ≡ false)) → IfOk r (λ b. b ≡ is_some (groups_in word))
-groups_none word texts e (Ok b) are given is =
-    is.1 ∙ sym (ap (λ (ts : List Text). is_some (result_ok (groups_of ts))) (sym are) ∙ ap (λ r. is_some (result_ok r)) (given is.0))
-groups_none word texts e (Err x) are given is = tt
 
 pub with_groups : {E : Type 0} (o : Option (Bor Text)) (text : Bor Text) (w : Text) (rest : List Text) (r : Result Cause E) → o ≡ Some text → split_first (words text.now) ≡ Some (w, rest)
     → true ≡ is_some (groups_in w) → IfOk r (IsResourceCause rest) → IfOk r (IsGroupsCause (words_of o))

@@ -24,9 +24,6 @@ pub reads_one : (old new : View) (row : Row) (w : AnyWrite) (b c : Batch) → Ad
 reads_one old new row w b c moved is e =
     (row, moved.0, moved.1, ap (λ v. v.cursors 0) moved.2, row_of_it row (typed_write w) is, e ∙ ap (λ x. with_at b x.0 (at b x.0 ++ x.1 ∷ [])) (sym (read_again row (typed_write w) is)))
 
-pub reads_none : (old new : View) (row : Row) (b : Batch) → Advances old new 0 row false → ReadsOn (old.cursors 0) (new.cursors 0) b b false
-reads_none old new row b ended = (ended.0, refl)
-
 -- each row is at or behind the empty key
 pub from_start : (rows : List Row) → from_key plain [] rows ≡ rows
 from_start [] = refl

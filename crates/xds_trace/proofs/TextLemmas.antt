@@ -19,8 +19,7 @@ use Rattle.xds_message.specs.DraftTexts.{text_of}
 use Rattle.serde_json.specs.Written.{compact_text}
 use Rattle.xds_frames.specs.Devices.{Device, HasFailed, Wrote, WrotePart}
 use Rattle.xds_frames.specs.Gathering.{Passes}
-use Rattle.xds_frames.proofs.Gatherings.{of_calls, part_of_more, passes_more, part_behind, passes_whole}
-use Rattle.std.specs.Io.KnownBytes.{Appends}
+use Rattle.xds_frames.proofs.Gatherings.{of_calls, part_of_more, passes_more, part_behind}
 use Rattle.xds_core.specs.Legal.{Record, IsLegal}
 use Rattle.xds_core.specs.Steps.{Core}
 use Rattle.xds_node.specs.Pieces.{Piece, Story}
@@ -145,10 +144,6 @@ pub last_unwritten : (b m a : Option (List ℕ)) (f g h : ℕ) (rs : List Record
 last_unwritten b m a f g h rs bytes middle e is p failed =
     let part = subst (WrotePart (of_calls b a f h)) is (part_after b m a f g h bytes middle p failed.1) in
     (part.1, inr (inl (failed.0, part.0)))
-
-pub all_written : (b m a : Option (List ℕ)) (f g : ℕ) (rs : List Record) (bytes middle : List ℕ) → bytes ≡ records_text rs → Passes (of_calls b m f g) [] bytes middle → Appends m a middle
-    → Appends b a (records_text rs)
-all_written b m a f g rs bytes middle is p wrote = subst (Appends b a) is (passes_whole b m a f g [] bytes middle p wrote)
 
 -- records of a base that holds what could be read can be told
 pub legal_unwritten : (d : Device) (base : Core) (rs : List Record) (e : Refusal) → HoldsTellable base.store → IsLegal base rs

@@ -1,7 +1,7 @@
 -- The trace of records is that of each, one after another; it keeps the rules; and what is refused isn't the beginning of what a replica did.
-use Rattle.std.proofs.Common.{◌≡◌, ◌≢◌, ◌<◌, ◌≤◌, ◌⊎◌, inl, inr, ℕ, ◌+◌, List, [], ◌∷◌, ◌++◌, map, length, take, drop, get_or, Result, Ok, Err, refl, sym, ap, subst, ◌∙◌, append-nil, append_assoc}
+use Rattle.std.proofs.Common.{◌≡◌, ◌≢◌, ◌<◌, ◌⊎◌, inl, inr, ℕ, ◌+◌, List, [], ◌∷◌, ◌++◌, map, length, take, drop, get_or, Result, Ok, Err, refl, sym, ap, subst, ◌∙◌, append-nil, append_assoc}
 use Rattle.std.specs.Prelude.{All, IfOk}
-use Rattle.std.proofs.lemmas.List.{map-append, take-append-drop, take_all}
+use Rattle.std.proofs.lemmas.List.{map-append, take-append-drop}
 use Rattle.std.proofs.lemmas.List.Concat.{flat_map-append}
 use Rattle.std.proofs.lemmas.List.Elements.{All-head, All-tail, All-push, All-more, All-weaker}
 use Rattle.xds_resource.specs.declared.types.TypeName.{TypeName}
@@ -47,9 +47,6 @@ writes_more t ws i write before old new below says kept joined =
 
 pub writable_more : (t : TypeName) (ws : List StampedWrite) (i : ℕ) (write : AnyWrite) → i < length ws → ((d : StampedWrite) → IsWritable t (get_or ws i d)) → All (IsWritable t) (take i ws) → All (IsWritable t) (take (i + 1) ws)
 writable_more t ws i write below writable before = All-more (IsWritable t) ws i (stamped_write write) below before (writable (stamped_write write))
-
-pub writes_all : (t : TypeName) (ws : List StampedWrite) (i : ℕ) (before new : List Line) → length ws ≤ i → new ≡ before ++ map (write_line t) (take i ws) → new ≡ before ++ map (write_line t) ws
-writes_all t ws i before new end is = is ∙ ap (λ (l : List StampedWrite). before ++ map (write_line t) l) (take_all i ws end)
 
 -- ---- one record more
 

@@ -49,10 +49,6 @@ module _ (w : World) (c : ℕ) (f : Peer → Option Peer) (p x left : Peer) (has
   pub put_peers : (r : Result Bool Refusal) (after : World) → after ≡ with_peers w back → IfOk r (λ b. Happened p b left (f p)) → IfOk r (λ b. Happened w b after (peer_event w c f))
   put_peers r after same is = subst (λ v. IfOk r (λ b. Happened w b v (peer_event w c f))) (sym same) (put_peers_at r is)
 
--- a client that isn't there
-pub no_peer : (w after : World) (c : ℕ) (f : Peer → Option Peer) → finmap.get w.peers c ≡ None → after ≡ w → Happened w false after (peer_event w c f)
-no_peer w after c f none same = (ap (option_and_then (λ p. option_map (with_peer w c) (f p))) none, same)
-
 -- ---- a replica
 
 answered_is : (w : World) (r : ℕ) (s : Site) (e : Event) (q : Step) (back : FinMap nat_cmp Site) (left : Site) (y : events.Reply) → if_answered s e q ≡ Some (y, left) → back ≡ finmap.insert w.sites r left → answered_at w r s e q ≡ Some (y, with_sites w back)
@@ -77,10 +73,6 @@ module _ (w : World) (r : ℕ) (e : Event) (s x left : Site) (has : finmap.get w
 
   pub put_sites : (q : Result (Option Reply) Refusal) (after : World) → after ≡ with_sites w back → IfOk q (λ o. Gave reply_of s o left (answered s e)) → IfOk q (λ o. Gave reply_of w o after (at_site w r e))
   put_sites q after same is = subst (λ v. IfOk q (λ o. Gave reply_of w o v (at_site w r e))) (sym same) (put_sites_at q is)
-
--- a replica that isn't there
-pub no_site : (w after : World) (r : ℕ) (e : Event) → finmap.get w.sites r ≡ None → after ≡ w → Gave {Y = events.Reply} reply_of w None after (at_site w r e)
-no_site w after r e none same = (ap (option_and_then (λ s. answered_at w r s e (step s.core e))) none, same)
 
 -- the same of a change that needs no memory
 pub put_one : (w : World) (c : ℕ) (f : Peer → Option Peer) (p x left : Peer) → finmap.get w.peers c ≡ Some p → (back : FinMap nat_cmp Peer) → back ≡ finmap.insert (finmap.insert w.peers c x) c left → (b : Bool) (after : World) → after ≡ with_peers w back

@@ -91,10 +91,6 @@ pub awaited : (all : List TypedWrite) (t : TypeName) (n : ℕ) (o : Option Sent)
 awaited all t n None w d is = absurd is
 awaited all t n (Some sent) w d is = (sent, refl, is)
 
-pub nothing_awaited : (all : List TypedWrite) (t : TypeName) (n : ℕ) (o : Option Sent) (w : Wants) → Awaits all t n o w None → o ≡ None
-nothing_awaited all t n None w is = refl
-nothing_awaited all t n (Some sent) w is = absurd is
-
 pub nothing_sent : (all : List TypedWrite) (t : TypeName) (n : ℕ) (o : Option Sent) (w : Wants) (d : Option DraftedDelta) → o ≡ None → Awaits all t n o w d → d ≡ None
 nothing_sent all t n None w None none is = refl
 nothing_sent all t n None w (Some d) none is = absurd is

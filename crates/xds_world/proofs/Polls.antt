@@ -1,5 +1,5 @@
 -- A poll without a stream: what a replica answers, and what the client makes of it.
-use Rattle.std.proofs.Common.{◌≡◌, ℕ, Bool, true, false, Option, Some, None, Result, Ok, Err, refl, sym, ap, ◌∙◌}
+use Rattle.std.proofs.Common.{◌≡◌, ℕ, Bool, true, Option, Some, None, Result, Ok, Err, refl, sym, ap, ◌∙◌}
 use Rattle.std.specs.Prelude.{IfOk, option_map}
 use Rattle.std.specs.Option.{option_and_then}
 use Rattle.std.specs.Ordering.{nat_cmp}
@@ -81,18 +81,3 @@ rest_lost test w w1 c r t q d asks gave =
     let at = asking t q (finmap.get w.peers c) asks in
     let has : finmap.get w1.peers c ≡ Some at.0 = ap (λ m. finmap.get m c) (peers_stay w r (poll_event t q) (events.Rested d) w1 gave) ∙ at.1 in
     rest_is test w c r t q Lost at ∙ ap (option_and_then (rested test Lost c t at.0)) gave ∙ (λ i. Some (record w1 { peers = put_there w1.peers c at.0 has i }))
-
--- a replica that isn't there
-pub rest_refused : (test : Test) (w w1 : World) (c r : ℕ) (t : TypeName) (fate : Answer) (q : Request) → Some q ≡ option_and_then (λ p. poll_of p t) (finmap.get w.peers c) → Gave {Y = Reply} events.Rested w None w1 (at_site w r (poll_event t q))
-    → Happened w false w1 (happens test w (happenings.RestPoll c r t fate))
-rest_refused test w w1 c r t fate q asks gave =
-    let at = asking t q (finmap.get w.peers c) asks in
-    (rest_is test w c r t q fate at ∙ ap (option_and_then (rested test fate c t at.0)) gave.0, gave.1)
-
--- and one who doesn't ask
-not_asking : (test : Test) (w : World) (c r : ℕ) (t : TypeName) (fate : Answer) (o : Option Peer) → None ≡ option_and_then (λ p. poll_of p t) o → option_and_then (λ p. rest_polled test w c r t fate p) o ≡ None
-not_asking test w c r t fate None is = refl
-not_asking test w c r t fate (Some p) is = ap (option_and_then (λ q. option_and_then (rested test fate c t p) (at_site w r (poll_event t q)))) (sym is)
-
-pub rest_unasked : (test : Test) (w : World) (c r : ℕ) (t : TypeName) (fate : Answer) → None ≡ option_and_then (λ p. poll_of p t) (finmap.get w.peers c) → Happened w false w (happens test w (happenings.RestPoll c r t fate))
-rest_unasked test w c r t fate is = (not_asking test w c r t fate (finmap.get w.peers c) is, refl)

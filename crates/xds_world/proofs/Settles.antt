@@ -38,9 +38,6 @@ pub record Settles (test : Test) (c : ℕ) (t : TypeName) (before now : List Hap
   pub put : PutResources before
   pub played : IsWorldOf test x now
 
-pub settles_start : (test : Test) (c : ℕ) (t : TypeName) (before : List Happening) (w : World) → IsWorldOf test w before → Settles test c t before before w 0
-settles_start test c t before w is = record { more = []; longer = sym (append-nil before); walked = sym is.world; counts = refl; put = is.put; played = is }
-
 -- what is put in a step of settling: nothing
 puts_nothing : (c : ℕ) (t : TypeName) (step : Step) → PutsAResource (event_for c t step)
 puts_nothing c t steps.Up = tt

@@ -248,9 +248,6 @@ abreast_changed cluster all t who w s down f asked lane =
 nothing_contained : (q : List ℕ) → set.contains {R = text_cmp} set.empty q ≡ false
 nothing_contained q = contains-from_texts [] q
 
-no_told : (touched reached mentioned : Bool) (e : Option Entry) (v : List ℕ) → e ≡ None → believed_after touched reached mentioned e ≡ Some (Told v) → ⊥
-no_told touched reached mentioned e v none is = never_told touched reached mentioned v (ap (believed_after touched reached mentioned) (sym none) ∙ is)
-
 all_true : (touched reached mentioned : Bool) (e : Option Entry) → touched ≡ true → reached ≡ true → mentioned ≡ true → believed_after touched reached mentioned e ≡ None → ⊥
 all_true touched reached mentioned e t c m is = let unsure : Some Unsure ≡ None = sym (λ i. believed_after (t i) (c i) (m i) e) ∙ is in absurd cc
 

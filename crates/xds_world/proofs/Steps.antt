@@ -14,7 +14,6 @@ use Rattle.xds_core.specs.Events as events
 use Rattle.xds_core.specs.Events.{Event, Reply}
 use Rattle.xds_core.specs.Steps.{Core, with_stream}
 use Rattle.xds_cache.specs.Faults.{Test}
-use Rattle.xds_cache.specs.Clients.{unlinked}
 use Rattle.xds_world.specs.Happenings as happenings
 use Rattle.xds_world.specs.Worlds.{Peer, Link, World, at_site, happened_at, happens, with_peer, on_link, connected_to, opened, polled, under_way, up_taken, down_taken, taken_down, received, changed, wish_taken, is_to_connect}
 use Rattle.xds_world.specs.Settling.{link_in}
@@ -22,7 +21,7 @@ use Rattle.xds_world.proofs.Replicas.{answered, some_is, ok_is}
 use Rattle.xds_world.specs.Calls.{Gave, Happened}
 use Rattle.xds_world.specs.Journal.{oldest}
 use Rattle.xds_world.specs.Links.{link_up}
-use Rattle.xds_world.specs.Peers.{peer_up, peer_polled, peer_lost, peer_connected, peer_down, peer_changed, link_down}
+use Rattle.xds_world.specs.Peers.{peer_up, peer_polled, peer_connected, peer_down, peer_changed, link_down}
 use Rattle.xds_world.specs.Parts.{peer_event, leads, draft_in, stream_in, batch_in}
 
 -- ---- replies
@@ -133,18 +132,6 @@ found w c r n is = found_peer w c r n (finmap.get w.peers c) refl is
 on_found : (w : World) (c r n : ℕ) (at : Found w c r n) (f : Peer → Link → Option World) → on_link w c f ≡ f at.0 at.1
 on_found w c r n at f = ap (option_and_then (λ p. option_and_then (f p) p.link)) at.2 ∙ ap (option_and_then (f at.0)) at.3
 
--- nothing happens on the stream of a client that has none
-no_link_of : (w : World) (c : ℕ) (f : Peer → Link → Option World) (o : Option Peer) → link_of o ≡ None → option_and_then (λ p. option_and_then (f p) p.link) o ≡ None
-no_link_of w c f None is = refl
-no_link_of w c f (Some p) is = ap (option_and_then (f p)) is
-
-none_led : (o : Option Link) → None ≡ option_map leads o → o ≡ None
-none_led None is = refl
-none_led (Some l) is = absurd cc
-
-pub no_link : (w : World) (c : ℕ) (f : Peer → Link → Option World) → None ≡ option_map leads (link_in w c) → Happened w false w (on_link w c f)
-no_link w c f is = (no_link_of w c f (finmap.get w.peers c) (none_led (link_in w c) is), refl)
-
 -- ---- up
 
 -- the replica takes the oldest request
@@ -156,10 +143,6 @@ up_rest w l m (x ∷ rest) is old = (rest, is ∙ ap (λ z. z ∷ rest) (sym (so
 happened_is : (o : Option (Reply × World)) (w1 : World) → option_map (λ p. p.1) o ≡ Some w1 → (y : Reply) × (o ≡ Some (y, w1))
 happened_is None w1 is = absurd cc
 happened_is (Some p) w1 is = (p.0, ap (λ v. Some (p.0, v)) (some_is p.1 w1 is))
-
-none_mapped : {X Y : Type 0} (f : X → Y) (o : Option X) → option_map f o ≡ None → o ≡ None
-none_mapped f None is = refl
-none_mapped f (Some x) is = absurd cc
 
 -- the oldest request of a client that is up
 old_at : (w : World) (c r n : ℕ) (at : Found w c r n) (o : Option Message) → o ≡ option_and_then (λ l. oldest l.up) (link_in w c) → o ≡ oldest at.1.up
@@ -181,22 +164,6 @@ up_done test w w1 w2 c r n m b led old done dropped =
     (ap (option_and_then (λ l. option_map (λ k. record at.0 { link = Some k }) (link_up l l.up))) at.3 ∙ ap (λ up. option_map (λ k. record at.0 { link = Some k }) (link_up at.1 up)) rest.1)
     says.1 dropped (up_taken_is test w c r n at m rest.0 rest.1 ∙ ap (option_map (λ q. with_peer q.1 c (record at.0 { link = Some (record at.1 { up = rest.0 }) }))) says.1)
 
-pub up_refused : (test : Test) (w w1 : World) (c r n : ℕ) (m : Message) → Some (r, n) ≡ option_map leads (link_in w c) → Some m ≡ option_and_then (λ l. oldest l.up) (link_in w c)
-    → Happened w false w1 (happened_at w r (events.Request n m)) → Happened w false w1 (happens test w (happenings.Up c))
-up_refused test w w1 c r n m led old done =
-    let at = found w c r n led in
-    let rest = up_rest w at.1 m at.1.up refl (old_at w c r n at (Some m) old) in
-    (up_taken_is test w c r n at m rest.0 rest.1 ∙ ap (option_map (λ q. with_peer q.1 c (record at.0 { link = Some (record at.1 { up = rest.0 }) }))) (none_mapped (λ p. p.1) (at_site w r (events.Request n m)) done.0), done.1)
-
-none_oldest : (w : World) (c : ℕ) (p : Peer) (l : Link) (up : List Message) → None ≡ oldest up → up_taken w c p l up ≡ None
-none_oldest w c p l [] is = refl
-none_oldest w c p l (m ∷ rest) is = absurd cc
-
-pub up_empty : (test : Test) (w : World) (c r n : ℕ) → Some (r, n) ≡ option_map leads (link_in w c) → None ≡ option_and_then (λ l. oldest l.up) (link_in w c) → Happened w false w (happens test w (happenings.Up c))
-up_empty test w c r n led old =
-    let at = found w c r n led in
-    (on_found w c r n at (λ p l. up_taken w c p l l.up) ∙ none_oldest w c at.0 at.1 at.1.up (old_at w c r n at None old), refl)
-
 -- ---- poll
 
 poll_is : (test : Test) (w : World) (c r n : ℕ) (at : Found w c r n) (which : Option TypeName) → happens test w (happenings.Poll c which) ≡ option_and_then (polled c at.0 at.1) (at_site w r (events.Poll n which))
@@ -212,32 +179,7 @@ poll_done test w w1 w2 c r n which o b led gave responded =
     (ap (option_and_then (λ l. Some (record at.0 { link = Some (record l { down = l.down ++ under_way o }) }))) at.3)
     gave responded (poll_is test w c r n at which ∙ ap (option_and_then (polled c at.0 at.1)) gave)
 
-pub poll_refused : (test : Test) (w w1 : World) (c r n : ℕ) (which : Option TypeName) → Some (r, n) ≡ option_map leads (link_in w c) → Gave {Y = Reply} events.Polled w None w1 (at_site w r (events.Poll n which))
-    → Happened w false w1 (happens test w (happenings.Poll c which))
-poll_refused test w w1 c r n which led gave =
-    let at = found w c r n led in
-    (poll_is test w c r n at which ∙ ap (option_and_then (polled c at.0 at.1)) gave.0, gave.1)
-
 -- ---- lose
-
-lose_is : (test : Test) (w : World) (c r n : ℕ) (at : Found w c r n) → happens test w (happenings.Lose c) ≡ option_map (λ q. with_peer q.1 c (record at.0 { client = unlinked at.0.client; link = None })) (at_site w r (events.Close n))
-lose_is test w c r n at =
-    on_found w c r n at (λ p l. option_map (λ q. with_peer q.1 c (record p { client = unlinked p.client; link = None })) (at_site w l.replica (events.Close l.stream)))
-    ∙ (λ i. option_map (λ q. with_peer q.1 c (record at.0 { client = unlinked at.0.client; link = None })) (at_site w (at.4 i) (events.Close (at.5 i))))
-
-pub lose_done : (test : Test) (w w1 w2 : World) (c r n : ℕ) (b : Bool) → Some (r, n) ≡ option_map leads (link_in w c) → Happened w true w1 (happened_at w r (events.Close n)) → Happened w1 b w2 (peer_event w1 c peer_lost)
-    → Happened w b w2 (happens test w (happenings.Lose c))
-lose_done test w w1 w2 c r n b led done lost =
-    let at = found w c r n led in
-    let says = happened_is (at_site w r (events.Close n)) w1 done in
-    edited w w1 w2 c r (events.Close n) says.0 at.0 (record at.0 { client = unlinked at.0.client; link = None }) peer_lost b (happens test w (happenings.Lose c)) at.2
-    (ap (option_map (λ l. record at.0 { client = unlinked at.0.client; link = None })) at.3) says.1 lost
-    (lose_is test w c r n at ∙ ap (option_map (λ q. with_peer q.1 c (record at.0 { client = unlinked at.0.client; link = None }))) says.1)
-
-pub lose_refused : (test : Test) (w w1 : World) (c r n : ℕ) → Some (r, n) ≡ option_map leads (link_in w c) → Happened w false w1 (happened_at w r (events.Close n)) → Happened w false w1 (happens test w (happenings.Lose c))
-lose_refused test w w1 c r n led done =
-    let at = found w c r n led in
-    (lose_is test w c r n at ∙ ap (option_map (λ q. with_peer q.1 c (record at.0 { client = unlinked at.0.client; link = None }))) (none_mapped (λ p. p.1) (at_site w r (events.Close n)) done.0), done.1)
 
 -- ---- connect
 
@@ -258,18 +200,6 @@ connect_done test w w1 w2 c r n b idle gave connected =
     let at = idle_peer (finmap.get w.peers c) idle in
     edited w w1 w2 c r events.Open (events.Opened n) at.0 (connected_to at.0 r n) (peer_connected r n) b (happens test w (happenings.Connect c r)) at.1
     (ap (λ b. if b then Some (connected_to at.0 r n) else None) (sym at.2)) gave connected (connect_is test w c r at.0 at.1 at.2 ∙ ap (option_and_then (opened c r at.0)) gave)
-
-pub connect_refused : (test : Test) (w w1 : World) (c r : ℕ) → true ≡ is_idle (finmap.get w.peers c) → Gave {Y = Reply} events.Opened w None w1 (at_site w r events.Open) → Happened w false w1 (happens test w (happenings.Connect c r))
-connect_refused test w w1 c r idle gave =
-    let at = idle_peer (finmap.get w.peers c) idle in
-    (connect_is test w c r at.0 at.1 at.2 ∙ ap (option_and_then (opened c r at.0)) gave.0, gave.1)
-
-not_idle : (w : World) (c r : ℕ) (o : Option Peer) → false ≡ is_idle o → option_and_then (λ p. if is_to_connect p then option_and_then (opened c r p) (at_site w r events.Open) else None) o ≡ None
-not_idle w c r None is = refl
-not_idle w c r (Some p) is = ap (λ b. if b then option_and_then (opened c r p) (at_site w r events.Open) else None) (sym is)
-
-pub connect_busy : (test : Test) (w : World) (c r : ℕ) → false ≡ is_idle (finmap.get w.peers c) → Happened w false w (happens test w (happenings.Connect c r))
-connect_busy test w c r busy = (not_idle w c r (finmap.get w.peers c) busy, refl)
 
 -- ---- down
 
