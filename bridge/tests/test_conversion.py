@@ -9,11 +9,17 @@ from parts import CLUSTER, ENDPOINT, LISTENER, MANAGER, PREFIX, ROUTE, ROUTER, S
 
 for it in ("config.cluster.v3.cluster", "config.endpoint.v3.endpoint", "config.listener.v3.listener", "config.route.v3.route",
            "extensions.transport_sockets.tls.v3.tls", "extensions.upstreams.http.v3.http_protocol_options",
-           "extensions.filters.network.http_connection_manager.v3.http_connection_manager", "extensions.filters.http.router.v3.router"):
+           "extensions.filters.network.http_connection_manager.v3.http_connection_manager", "extensions.filters.http.router.v3.router",
+           "extensions.filters.network.tcp_proxy.v3.tcp_proxy", "extensions.filters.listener.tls_inspector.v3.tls_inspector",
+           "extensions.access_loggers.file.v3.file", "extensions.access_loggers.stream.v3.stream", "extensions.filters.http.cors.v3.cors",
+           "extensions.filters.http.fault.v3.fault", "extensions.filters.http.rbac.v3.rbac", "config.trace.v3.zipkin"):
     importlib.import_module(f"envoy.{it}_pb2")
 
 OPTIONS = PREFIX + "extensions.upstreams.http.v3.HttpProtocolOptions"
 TLS = PREFIX + "extensions.transport_sockets.tls.v3.UpstreamTlsContext"
+FILTERS = PREFIX + "extensions.filters."
+LOG = {"name": "log", "typedConfig": {"@type": PREFIX + "extensions.access_loggers.file.v3.FileAccessLog", "path": "/dev/stdout",
+                                      "logFormat": {"jsonFormat": {"status": "%RESPONSE_CODE%"}}}}
 STRUCT = {"a": {"b": [1, True, None, "x", {}], "c": -9007199254740991}, "": "", "ü\u2028\"": "\\\n\u0000"}
 
 GOOD = [
@@ -44,6 +50,27 @@ GOOD = [
         "d": {"@type": "type.googleapis.com/google.protobuf.Duration", "value": "1s"},
         "s": {"@type": "type.googleapis.com/google.protobuf.Struct", "value": STRUCT},
         "a": {"@type": "type.googleapis.com/google.protobuf.Any", "value": {"@type": ROUTER}}, "e": {}}}}),
+    (LISTENER, {"address": {"socketAddress": {"address": "0.0.0.0", "portValue": 5432}}, "accessLog": [LOG], "listenerFilters": [
+        {"name": "tls", "typedConfig": {"@type": FILTERS + "listener.tls_inspector.v3.TlsInspector", "enableJa3Fingerprinting": True}}],
+        "filterChains": [{"filters": [{"name": "tcp", "typedConfig": {
+            "@type": FILTERS + "network.tcp_proxy.v3.TcpProxy", "statPrefix": "db", "weightedClusters": {"clusters": [
+                {"name": "a", "weight": 1}]}, "idleTimeout": "3600s", "accessLog": [LOG], "maxConnectAttempts": 3}}]}]}),
+    (LISTENER, {"filterChains": [{"filters": [{"name": "h", "typedConfig": {
+        "@type": MANAGER, "statPrefix": "s", "rds": {"routeConfigName": "r", "configSource": {"ads": {}}},
+        "accessLog": [{"name": "out", "filter": {"statusCodeFilter": {"comparison": {"op": "GE", "value": {"defaultValue": 500,
+                                                                                                          "runtimeKey": "k"}}}},
+                       "typedConfig": {"@type": PREFIX + "extensions.access_loggers.stream.v3.StdoutAccessLog"}}],
+        "tracing": {"randomSampling": {"value": 1}, "provider": {"name": "zipkin", "typedConfig": {
+            "@type": PREFIX + "config.trace.v3.ZipkinConfig", "collectorCluster": "z", "collectorEndpoint": "/v2", "sharedSpanContext": False}}},
+        "httpFilters": [
+            {"name": "cors", "typedConfig": {"@type": FILTERS + "http.cors.v3.Cors"}},
+            {"name": "fault", "typedConfig": {"@type": FILTERS + "http.fault.v3.HTTPFault", "maxActiveFaults": 7,
+                                              "abort": {"httpStatus": 503, "percentage": {"numerator": 5}}}},
+            {"name": "rbac", "typedConfig": {"@type": FILTERS + "http.rbac.v3.RBAC", "rules": {"action": "DENY", "policies": {"p": {
+                "permissions": [{"urlPath": {"path": {"prefix": "/admin"}}}], "principals": [{"any": True}]}}}}},
+            {"name": "router", "typedConfig": {"@type": ROUTER}}]}}]}]}),
+    (CLUSTER, {"preconnectPolicy": {"predictivePreconnectRatio": 2}, "lrsServer": {"self": {}}, "upstreamBindConfig": {
+        "sourceAddress": {"address": "127.0.0.1", "portValue": 0}}}),
     (ROUTE, {"virtualHosts": [{"name": "v", "domains": ["*", "a.b"], "routes": [
         {"match": {"prefix": ""}, "route": {"cluster": "c", "timeout": "0s"}},
         {"match": {"safeRegex": {"regex": ".*"}, "caseSensitive": False, "headers": [
