@@ -4,7 +4,8 @@
 #
 #     examples/mesh.sh [--unproved] [WORD ..]     words for the bridge, as --skip-bad or --metrics 127.0.0.1:18201
 #
-# With --unproved the program that isn't proved is compiled and runs. XDS is another program; PORT and REST are the server's
+# It stands in a package, too (`./xds --pack`, where the bridge was built), and starts what lies there. With --unproved the program that
+# isn't proved is compiled and runs. XDS is another program; PORT and REST are the server's
 # ports (18000, 18100), GRPC is the bridge's address (127.0.0.1:18200).
 set -eu
 top="$(cd "$(dirname "$0")/.." && pwd)"
@@ -14,7 +15,12 @@ if [ "${1:-}" = --unproved ]; then
     unproved=--unproved
     shift
 fi
-[ -x "$top/bridge/out/bridge" ] || "$top/bridge/build"
+# (a package has it beside the program)
+runs="$top/bin/bridge"
+if [ ! -x "$runs" ]; then
+    runs="$top/bridge/out/bridge"
+    [ -x "$runs" ] || "$top/bridge/build"
+fi
 
 server="" bridge=""
 finish() {
@@ -35,7 +41,7 @@ else
     ( exec "$top/xds" $unproved serve --port "$port" --rest-port "$rest" < "$top/examples/mesh.serve" ) &
 fi
 server=$!
-"$top/bridge/out/bridge" --listen "$grpc" --server "127.0.0.1:$port" "$@" &
+"$runs" --listen "$grpc" --server "127.0.0.1:$port" --client-addresses "$@" &
 bridge=$!
 while kill -0 "$server" 2>/dev/null && kill -0 "$bridge" 2>/dev/null; do
     sleep 0.5

@@ -2,15 +2,17 @@
 import glob
 import json
 import os
+import shutil
 import signal
 import socket
+import tempfile
 import unittest
 
 import envoy_set
 import grpc
 import yaml
 from google.protobuf import descriptor_pb2, descriptor_pool, json_format, message_factory
-from parts import (CLUSTER, ENDPOINT, LISTENER, OUT, PATIENCE, ROUTE, TOP, XDS, Bridge, Control, Process, delta, free_ports)
+from parts import (BRIDGE, CLUSTER, ENDPOINT, LISTENER, OUT, PATIENCE, ROUTE, TOP, XDS, Bridge, Control, Process, delta, free_ports)
 
 EXAMPLE = os.path.join(TOP, "examples", "envoy-ads.yaml")
 OPTIONS = "envoy/extensions/upstreams/http/v3/http_protocol_options.proto"
@@ -59,8 +61,10 @@ class Example(unittest.TestCase):
 
         for how in (signal.SIGTERM, signal.SIGINT, None):
             port, rest, at = pair(), pair(), free_ports(1)[0]
-            words = ["env", f"PORT={port}", f"REST={rest}", f"GRPC=127.0.0.1:{at}", f"XDS={XDS}", os.path.join(TOP, "examples", "mesh.sh")]
-            mesh = Process([*words, "--identifier", "mesh"])
+            # (the last time as it stands in a package)
+            top = self.package() if how is None else TOP
+            words = ["env", f"PORT={port}", f"REST={rest}", f"GRPC=127.0.0.1:{at}", f"XDS={'' if how is None else XDS}"]
+            mesh = Process([*words, os.path.join(top, "examples", "mesh.sh"), "--identifier", "mesh"])
             self.addCleanup(mesh.end)
             mesh.wait_for("replica 2: streams on")
             mesh.wait_for("listening on")
@@ -85,6 +89,20 @@ class Example(unittest.TestCase):
                 mesh.process.send_signal(how)
                 self.assertEqual(mesh.process.wait(PATIENCE), 0)
             self.assertFalse([it for it in (port, port + 1, rest, at) if is_open(it)])
+
+    def package(self):
+        """A folder that has what starts the mesh where a package has it."""
+        folder = tempfile.TemporaryDirectory()
+        self.addCleanup(folder.cleanup)
+        for it in ("examples", "bin"):
+            os.mkdir(os.path.join(folder.name, it))
+        for it in ("mesh.sh", "mesh.serve"):
+            shutil.copy(os.path.join(TOP, "examples", it), os.path.join(folder.name, "examples"))
+        shutil.copy(BRIDGE, os.path.join(folder.name, "bin"))
+        with open(os.path.join(folder.name, "xds"), "w", encoding="utf-8") as file:
+            file.write(f'#!/bin/sh\nexec {XDS} "$@"\n')
+        os.chmod(file.name, 0o755)
+        return folder.name
 
     def children(self, parent):
         """The processes that a process started, with their words."""
