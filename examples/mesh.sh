@@ -41,7 +41,7 @@ else
     ( exec "$top/xds" $unproved serve --port "$port" --rest-port "$rest" < "$top/examples/mesh.serve" ) &
 fi
 server=$!
-"$runs" --listen "$grpc" --server "127.0.0.1:$port" --client-addresses "$@" &
+"$runs" --listen "$grpc" --server "127.0.0.1:$port" "$@" &
 bridge=$!
 while kill -0 "$server" 2>/dev/null && kill -0 "$bridge" 2>/dev/null; do
     sleep 0.5
