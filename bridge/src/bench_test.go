@@ -10,9 +10,11 @@ import (
 	"net/http"
 	"os"
 	"os/exec"
+	"path/filepath"
 	"sort"
 	"strconv"
 	"strings"
+	"sync"
 	"testing"
 	"time"
 
@@ -21,28 +23,48 @@ import (
 	"google.golang.org/protobuf/proto"
 )
 
-// What bridge/bench runs: how long a put takes until each of many streams was told it, framed and by gRPC. The control
-// plane is the program that BRIDGE_BENCH names, or where it is "stand-in" one that costs next to nothing, so that the
-// ratio is of the ways alone. With BRIDGE_BENCH_NAMED the streams ask for the one cluster that is put, and not for all;
-// BRIDGE_BENCH_STREAMS is how many they are (100).
+// What bridge/bench runs: how long a put takes until each of many streams was told it, framed, by gRPC through the bridge, and by
+// the peer (bridge/peer), an xDS server in Go over gRPC; and the processor time of a put and stream that the bridge and the peer
+// take. The control plane is the program that BRIDGE_BENCH names, or where it is "stand-in" one that costs next to nothing, so
+// that the ratio is of the ways alone. With BRIDGE_BENCH_NAMED the streams ask for the one cluster that is put, and not for all.
+// BRIDGE_BENCH_STREAMS are how many they are ("100 1000"), over BRIDGE_BENCH_CONNECTIONS (4), BRIDGE_BENCH_PUTS is how many puts
+// there are in a round (200), and BRIDGE_BENCH_ROUNDS how many rounds of each (5), which alternate.
 const (
 	benchClusters = 1000
 	benchBytes    = 600
-	benchPuts     = 20
-	benchRounds   = 3
 	benchPatience = 60 * time.Second
 )
 
-// A bench has a control plane and a bridge before it.
+// A bench has a control plane, a bridge before it, and a peer.
 type bench struct {
 	*testing.T
-	input           io.Writer
-	framed, bridged string // addresses
-	streams         int
-	versions        map[string]string // of all clusters
-	puts            int
-	told            chan string // a version, for each stream that it was told on
-	lost            chan error
+	input       io.Writer
+	framed      string // the control plane's address
+	connections int
+	streams     int
+	rounds      int
+	each        int               // puts of a round
+	versions    map[string]string // of all clusters
+	puts        int
+	told        chan string // a version, for each stream that it was told on
+	lost        chan error
+}
+
+// A way is one of those that a put goes to streams.
+type way struct {
+	at    string // its address
+	put   func() string
+	pid   int // or 0
+	grpc  bool
+	took  []time.Duration // each put
+	costs []float64       // each round: microseconds of processor time a put and stream
+}
+
+func numberOf(word string, left int) int {
+	if n, err := strconv.Atoi(os.Getenv(word)); err == nil {
+		return n
+	}
+	return left
 }
 
 func TestBench(t *testing.T) {
@@ -50,11 +72,8 @@ func TestBench(t *testing.T) {
 	if program == "" {
 		t.Skip("bridge/bench runs it")
 	}
-	streams, err := strconv.Atoi(os.Getenv("BRIDGE_BENCH_STREAMS"))
-	if err != nil {
-		streams = 100
-	}
-	b := &bench{T: t, streams: streams, versions: map[string]string{}, told: make(chan string, streams), lost: make(chan error, streams)}
+	b := &bench{T: t, versions: map[string]string{}, connections: numberOf("BRIDGE_BENCH_CONNECTIONS", 4),
+		rounds: numberOf("BRIDGE_BENCH_ROUNDS", 5), each: numberOf("BRIDGE_BENCH_PUTS", 200)}
 	port, rest := freePort(t), freePort(t)
 	b.framed = "127.0.0.1:" + port
 	if program == "stand-in" {
@@ -70,17 +89,61 @@ func TestBench(t *testing.T) {
 	if program != "stand-in" {
 		b.settle("http://127.0.0.1:" + rest + "/v3/discovery:clusters")
 	}
-	line := b.starts(exec.Command("../bridge", "--listen", "127.0.0.1:0", "--server", b.framed), "listening on")
-	b.bridged = strings.Fields(line)[3]
-	var framed, bridged []time.Duration
-	for round := 0; round < benchRounds; round++ {
-		framed = append(framed, b.round(b.follow)...)
-		bridged = append(bridged, b.round(b.followBridged)...)
+	bridge, peer := exec.Command("../bridge", "--listen", "127.0.0.1:0", "--server", b.framed), exec.Command("../peer")
+	input, _ := peer.StdinPipe()
+	bridged := strings.Fields(b.starts(bridge, "listening on"))[3]
+	alone := strings.Fields(b.starts(peer, "listening on"))[2]
+	told := 0
+	put := func() string { return b.put("c0500") }
+	tells := func() string {
+		told++
+		fmt.Fprintln(input, told)
+		return strconv.Itoa(told)
 	}
-	plain, through := median(framed), median(bridged)
-	fmt.Printf("a put among %d clusters of %d bytes reached the last of %d delta streams, median of %d puts:\n", benchClusters, benchBytes,
-		streams, len(framed))
-	fmt.Printf("framed %.1f ms, by gRPC through the bridge %.1f ms, ratio %.2f\n", ms(plain), ms(through), float64(through)/float64(plain))
+	counts := os.Getenv("BRIDGE_BENCH_STREAMS")
+	if counts == "" {
+		counts = "100 1000"
+	}
+	fmt.Printf("a put among %d clusters of %d bytes, told to delta streams, over %d connections where by gRPC; medians of %d rounds of %d puts\n",
+		benchClusters, benchBytes, b.connections, b.rounds, b.each)
+	for _, it := range strings.Fields(counts) {
+		b.streams, _ = strconv.Atoi(it)
+		b.told, b.lost = make(chan string, b.streams), make(chan error, b.streams)
+		ways := []*way{{at: b.framed, put: put}, {at: bridged, put: put, pid: bridge.Process.Pid, grpc: true},
+			{at: alone, put: tells, pid: peer.Process.Pid, grpc: true}}
+		for round := 0; round < b.rounds; round++ {
+			for _, it := range ways {
+				b.round(it)
+			}
+		}
+		plain, through, by := median(ways[0].took), median(ways[1].took), median(ways[2].took)
+		fmt.Printf("%d streams, until the last was told: framed %.1f ms, through the bridge %.1f ms, ratio %.2f; by the peer %.1f ms, ratio %.2f\n",
+			b.streams, ms(plain), ms(through), float64(through)/float64(plain), ms(by), float64(through)/float64(by))
+		ours, theirs := middle(ways[1].costs), middle(ways[2].costs)
+		var ratios []float64
+		for i := range ways[1].costs {
+			ratios = append(ratios, ways[1].costs[i]/ways[2].costs[i])
+		}
+		fmt.Printf("%d streams, processor time of a put and stream: the bridge %.1f us, the peer %.1f us, ratio %.2f (of rounds: %.2f, from %.2f to %.2f)\n",
+			b.streams, ours, theirs, ours/theirs, middle(ratios), ratios[0], ratios[len(ratios)-1])
+	}
+}
+
+// costOf is how much processor time a process has had, in microseconds.
+func (b *bench) costOf(pid int) (cost float64) {
+	tasks, err := filepath.Glob(fmt.Sprintf("/proc/%d/task/*/schedstat", pid))
+	if err != nil || len(tasks) == 0 {
+		b.Fatalf("no times of %d: %v", pid, err)
+	}
+	for _, it := range tasks {
+		text, err := os.ReadFile(it)
+		if err != nil {
+			b.Fatal(err)
+		}
+		ns, _ := strconv.ParseFloat(strings.Fields(string(text))[0], 64)
+		cost += ns / 1000
+	}
+	return cost
 }
 
 func freePort(t *testing.T) string {
@@ -109,7 +172,7 @@ func (b *bench) starts(command *exec.Cmd, part string) string {
 	lines := bufio.NewScanner(pipe)
 	for lines.Scan() {
 		if strings.Contains(lines.Text(), part) {
-			go func() { _, _ = io.Copy(io.Discard, pipe) }()
+			go func() { _, _ = io.Copy(os.Stderr, pipe) }()
 			return lines.Text()
 		}
 	}
@@ -147,10 +210,12 @@ func (b *bench) settle(at string) {
 	b.Fatalf("%d puts weren't applied", b.puts)
 }
 
-// round opens streams of clients that hold all that there is, puts a cluster some times, and answers how long each put
-// took to be told on all.
-func (b *bench) round(follow func(context.Context, []byte)) (took []time.Duration) {
+// round opens streams of clients that hold all that there is, puts a cluster some times, and notes how long each put took to be
+// told on all, and what it cost.
+func (b *bench) round(by *way) {
 	ctx, cancel := context.WithCancel(context.Background())
+	var open sync.WaitGroup
+	defer open.Wait()
 	defer cancel()
 	names, held := []string{"*"}, b.versions
 	if os.Getenv("BRIDGE_BENCH_NAMED") != "" {
@@ -161,17 +226,32 @@ func (b *bench) round(follow func(context.Context, []byte)) (took []time.Duratio
 	if err != nil {
 		b.Fatal(err)
 	}
+	follow := b.follow
+	if by.grpc {
+		follow = b.followers(ctx, by.at, &first)
+	}
+	open.Add(b.streams)
 	for i := 0; i < b.streams; i++ {
-		go follow(ctx, first)
+		go func(i int) {
+			defer open.Done()
+			follow(ctx, i, first)
+		}(i)
 	}
-	for i := 0; i <= benchPuts; i++ {
+	b.wait(by.put())
+	b.wait(by.put()) // (those that are before these wait for the streams to open)
+	before := 0.0
+	if by.pid != 0 {
+		before = b.costOf(by.pid)
+	}
+	for i := 0; i < b.each; i++ {
 		begun := time.Now()
-		b.wait(b.put("c0500"))
-		if i > 0 { // (the first put waits for the streams to open)
-			took = append(took, time.Since(begun))
-		}
+		b.wait(by.put())
+		by.took = append(by.took, time.Since(begun))
 	}
-	return took
+	if by.pid != 0 {
+		time.Sleep(50 * time.Millisecond) // (the last answers)
+		by.costs = append(by.costs, (b.costOf(by.pid)-before)/float64(b.each*b.streams))
+	}
 }
 
 // wait waits until each stream was told a version.
@@ -192,7 +272,7 @@ func (b *bench) wait(version string) {
 }
 
 // follow follows all clusters on a framed stream.
-func (b *bench) follow(ctx context.Context, request []byte) {
+func (b *bench) follow(ctx context.Context, _ int, request []byte) {
 	conn, err := net.Dial("tcp", b.framed)
 	if err != nil {
 		b.lost <- err
@@ -225,41 +305,57 @@ func (b *bench) follow(ctx context.Context, request []byte) {
 	}
 }
 
-// followBridged follows all clusters on a stream of gRPC, on a connection of its own.
-func (b *bench) followBridged(ctx context.Context, text []byte) {
-	conn, err := grpc.Dial(b.bridged, grpc.WithInsecure(), grpc.WithCodec(codec{}))
+// followers follow all clusters on streams of gRPC, over a few connections. The first request becomes its bytes.
+func (b *bench) followers(ctx context.Context, at string, first *[]byte) func(context.Context, int, []byte) {
+	found, _ := testTypes.known.FindMessageByName(deltaRequestName)
+	made := found.New().Interface()
+	err := protojson.Unmarshal(*first, made)
 	if err != nil {
-		b.lost <- err
-		return
+		b.Fatal(err)
 	}
-	defer conn.Close()
+	*first, _ = proto.Marshal(made)
+	conns := make([]*grpc.ClientConn, b.connections)
+	for i := range conns {
+		if conns[i], err = grpc.Dial(at, grpc.WithInsecure(), grpc.WithCodec(codec{})); err != nil {
+			b.Fatal(err)
+		}
+		conn := conns[i]
+		go func() {
+			<-ctx.Done()
+			conn.Close()
+		}()
+	}
+	return func(ctx context.Context, i int, request []byte) {
+		err := b.followBridged(ctx, conns[i%len(conns)], request)
+		if err != nil && ctx.Err() == nil {
+			b.lost <- err
+		}
+	}
+}
+
+// followBridged follows all clusters on a stream of gRPC.
+func (b *bench) followBridged(ctx context.Context, conn *grpc.ClientConn, request []byte) error {
 	stream, err := conn.NewStream(ctx, &grpc.StreamDesc{ServerStreams: true, ClientStreams: true}, adsMethod+"DeltaAggregatedResources")
 	if err != nil {
-		b.lost <- err
-		return
+		return err
 	}
-	first, _ := testTypes.known.FindMessageByName(deltaRequestName)
-	made := first.New().Interface()
-	if err := protojson.Unmarshal(text, made); err != nil {
-		b.lost <- err
-		return
-	}
-	request, _ := proto.Marshal(made)
 	for {
 		var in message
 		if err := stream.SendMsg(&message{request}); err != nil {
-			return
+			return err
 		}
 		if err := stream.RecvMsg(&in); err != nil {
-			if ctx.Err() == nil {
-				b.lost <- err
-			}
-			return
+			return err
 		}
 		r := readWire(in.wire)
 		b.told <- r.resources[0].version
 		request = appendText(appendText(nil, 2, clusterURL), 6, r.nonce)
 	}
+}
+
+func middle(of []float64) float64 {
+	sort.Float64s(of)
+	return of[len(of)/2]
 }
 
 func median(of []time.Duration) time.Duration {

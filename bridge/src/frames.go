@@ -18,6 +18,13 @@ const (
 	kindDeltaResponse = 4
 )
 
+const (
+	// frameHead is how many bytes stand before a text: four of length, one of kind.
+	frameHead = 5
+	// shortText is how many bytes a text has at most that is copied to be written in one piece with what stands before it.
+	shortText = 1 << 10
+)
+
 // maxText is the length of the longest text that a frame has room for.
 const maxText = 1<<24 - 1
 
@@ -36,17 +43,32 @@ func writeFrame(conn net.Conn, kind byte, text []byte) error {
 	if len(text) > maxText {
 		return errTooLong
 	}
-	head := make([]byte, 5)
-	binary.BigEndian.PutUint32(head, uint32(len(text)+1))
-	head[4] = kind
-	parts := net.Buffers{head, text}
+	var head [frameHead]byte
+	putHead(head[:], kind, len(text))
+	if len(text) <= shortText {
+		whole := shortFrames.Get().(*[frameHead + shortText]byte)
+		defer shortFrames.Put(whole)
+		_, err := conn.Write(whole[:copy(whole[:], head[:])+copy(whole[frameHead:], text)])
+		return err
+	}
+	parts := net.Buffers{head[:], text}
 	_, err := parts.WriteTo(conn)
 	return err
 }
 
+// putHead puts what stands before a text.
+func putHead(head []byte, kind byte, length int) {
+	binary.BigEndian.PutUint32(head, uint32(length+1))
+	head[4] = kind
+}
+
+// shortFrames are buffers for frames with short texts, which are written as one piece.
+var shortFrames = sync.Pool{New: func() interface{} { return new([frameHead + shortText]byte) }}
+
 // frameReader reads one frame after another.
 type frameReader struct {
 	from  *bufio.Reader
+	head  [frameHead]byte
 	text  []byte
 	rooms *rooms // in which long texts have a place, or nil
 	place *place
@@ -97,7 +119,7 @@ func (r *frameReader) begin(length int) bool {
 // next gives the kind and the text of the next frame; the text is good until the next call, or until done. At the end of the input
 // it gives io.EOF, within a frame io.ErrUnexpectedEOF, for what is no frame an errBadFrame, and errOver where the stream has ended.
 func (r *frameReader) next() (byte, []byte, error) {
-	var head [5]byte
+	head := r.head[:]
 	r.leave()
 	if _, err := io.ReadFull(r.from, head[:4]); err != nil {
 		return 0, nil, err

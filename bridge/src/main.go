@@ -43,6 +43,7 @@ type options struct {
 	metrics, checks           string
 	identity                  string
 	identifier                string
+	addresses                 bool
 	maxAge, ageGrace          time.Duration
 }
 
@@ -82,6 +83,7 @@ func readOptions(words []string, help io.Writer) (*options, error) {
 	f.StringVar(&o.clientCA, "client-ca", "", "a `FILE` of certificates (PEM), by one of which a client's has to be signed")
 	f.StringVar(&o.identity, "identity", identityNone,
 		"`WHAT` of a client's certificate its node's cluster has to be: san (a DNS name or URI), cn (the common name), none")
+	f.BoolVar(&o.addresses, "client-addresses", false, "tell the control plane each client's address, by a line PROXY before its stream")
 	f.StringVar(&o.identifier, "identifier", "", "the `TEXT` by which responses name the control plane; left out: xds at the address of --server")
 	f.DurationVar(&o.maxAge, "max-connection-age", 0, "how `LONG` a connection lives until its client is told to open another, as 30m; 0: for good")
 	f.DurationVar(&o.ageGrace, "max-connection-age-grace", 30*time.Second, "how `LONG` its streams may go on then")
@@ -212,7 +214,7 @@ func run(o *options, tell *teller) error {
 
 // serving makes the gRPC server.
 func (b *bridge) serving(o *options, more ...grpc.ServerOption) *grpc.Server {
-	b.skipBad, b.identity, b.identifier = o.skipBad, o.identity, o.identifier
+	b.skipBad, b.identity, b.identifier, b.addresses = o.skipBad, o.identity, o.identifier, o.addresses
 	b.maxMessage, b.maxStreams = o.maxMessage, o.maxStreams
 	alive := keepalive.ServerParameters{Time: time.Minute, Timeout: 20 * time.Second}
 	if o.maxAge > 0 {

@@ -48,22 +48,38 @@ func (p *partsOf) join(r *request) (nothing bool) {
 	if open {
 		p.open[nonce] = false
 		p.left--
-		if field := r.fields.ByName("error_detail"); !p.rejected.IsValid() && r.message.Has(field) {
-			p.rejected = r.message.Get(field)
+		if !p.rejected.IsValid() {
+			p.rejected = r.rejection()
 		}
 	}
 	if !open || p.left > 0 {
 		return r.noAnswer()
 	}
-	r.setText("response_nonce", p.nonce)
 	if p.rejected.IsValid() {
+		r.lengthen()
 		r.message.Set(r.fields.ByName("error_detail"), p.rejected)
 	}
+	r.setText("response_nonce", p.nonce)
 	return false
+}
+
+// rejection is what a request rejects a response with, or nothing.
+func (r *request) rejection() (it protoreflect.Value) {
+	if r.short != nil {
+		return it
+	}
+	if field := r.fields.ByName("error_detail"); r.message.Has(field) {
+		it = r.message.Get(field)
+	}
+	return it
 }
 
 // noAnswer takes from a request what makes it an answer, and tells whether nothing is left of it.
 func (r *request) noAnswer() (nothing bool) {
+	if r.short != nil { // (of the incremental variant: it says no names)
+		r.nonce = ""
+		return true
+	}
 	r.message.Clear(r.fields.ByName("response_nonce"))
 	r.message.Clear(r.fields.ByName("error_detail"))
 	nothing = true

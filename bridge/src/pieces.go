@@ -67,37 +67,42 @@ func (p *pieces) with(tail []byte) []byte {
 // length of a whole message, and none before the pieces that follow, a message is sent in pieces, each when the client
 // has taken those before it but for gRPC's 64 KiB. These fields are the package's own. Where a version has others, each stream has a copy.
 
-// preparedHead and preparedPayload are these fields, or -1, and canCut tells whether they are there.
+// preparedHead and preparedPayload are where these fields are, and canCut tells whether they are there.
 var (
-	preparedHead, preparedPayload = preparedField("hdr"), preparedField("payload")
-	canCut                        = preparedHead >= 0 && preparedPayload >= 0
+	preparedHead, hasHead       = preparedField("hdr")
+	preparedPayload, hasPayload = preparedField("payload")
+	canCut                      = hasHead && hasPayload
 )
 
-func preparedField(name string) int {
+func preparedField(name string) (offset uintptr, ok bool) {
 	field, ok := reflect.TypeOf(grpc.PreparedMsg{}).FieldByName(name)
 	if !ok || field.Type != reflect.TypeOf([]byte(nil)) || len(field.Index) != 1 {
-		return -1
+		return 0, false
 	}
-	return field.Index[0]
+	return field.Offset, true
 }
 
-// aPiece is a message of gRPC's that sends a head and a piece.
-func aPiece(head, piece []byte) *grpc.PreparedMsg {
-	made := new(grpc.PreparedMsg)
-	fields := reflect.ValueOf(made).Elem()
-	*(*[]byte)(unsafe.Pointer(fields.Field(preparedHead).UnsafeAddr())) = head
-	*(*[]byte)(unsafe.Pointer(fields.Field(preparedPayload).UnsafeAddr())) = piece
-	return made
+// sendPiece sends a head and a piece, as they are.
+func (s *stream) sendPiece(head, piece []byte) error {
+	*(*[]byte)(unsafe.Add(unsafe.Pointer(&s.piece), preparedHead)) = head
+	*(*[]byte)(unsafe.Add(unsafe.Pointer(&s.piece), preparedPayload)) = piece
+	err := s.client.SendMsg(&s.piece)
+	s.piece = grpc.PreparedMsg{}
+	return err
 }
 
 // headOf is what gRPC puts before a message of so many bytes.
 func headOf(size int, compressed bool) []byte {
 	head := make([]byte, headSize)
+	putSize(head, size, compressed)
+	return head
+}
+
+func putSize(head []byte, size int, compressed bool) {
 	if compressed {
 		head[0] = 1
 	}
 	binary.BigEndian.PutUint32(head[1:], uint32(size))
-	return head
 }
 
 // compressorOf is how gRPC compresses messages to a client, by what those of the client say, or nil. It answers false where
@@ -115,12 +120,19 @@ func compressorOf(client grpc.ServerStream) (by encoding.Compressor, inPieces bo
 	return by, by != nil
 }
 
-// send sends one of the messages that a place is for, with its tail.
-func (s *stream) send(number int, tail []byte) error {
+// send sends one of the messages that a place is for, with its nonce.
+func (s *stream) send(number int, nonce string) error {
 	body := s.place.body(number)
 	if body == nil {
 		return errSlow
 	}
+	if s.inPieces && s.compressor == nil && len(body.all) == 1 {
+		// (the order of a message's fields is any: so the nonce is in a stream's own bytes, before those that streams share)
+		own := appendText(make([]byte, headSize, headSize+sizeText(responseNonce, nonce)), responseNonce, nonce)
+		putSize(own, len(own)-headSize+body.size, false)
+		return s.sendPiece(own, body.all[0])
+	}
+	tail := appendText(nil, responseNonce, nonce)
 	size := body.size + len(tail)
 	if size <= pieceSize || !s.inPieces {
 		return s.client.SendMsg(&message{body.with(tail)})
@@ -147,7 +159,7 @@ func (s *stream) sendPieces(number int, head, tail []byte) error {
 		if piece == nil {
 			break
 		}
-		if err := s.client.SendMsg(aPiece(head, piece)); err != nil {
+		if err := s.sendPiece(head, piece); err != nil {
 			return err
 		}
 		head = nil
@@ -157,7 +169,7 @@ func (s *stream) sendPieces(number int, head, tail []byte) error {
 		if n > pieceSize {
 			n = pieceSize
 		}
-		if err := s.client.SendMsg(aPiece(head, tail[:n:n])); err != nil {
+		if err := s.sendPiece(head, tail[:n:n]); err != nil {
 			return err
 		}
 		head, tail = nil, tail[n:]

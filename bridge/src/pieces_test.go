@@ -67,7 +67,7 @@ func (w *weights) HandleRPC(_ context.Context, it stats.RPCStats) {
 // Messages are the same whether they go in pieces or not, and compressed where the client's are.
 func TestMessagesInPiecesAreTheSame(t *testing.T) {
 	w := newWorld(t, "--max-message", "40000000", "--identifier", "me")
-	if !w.bridge.inPieces || preparedField("none") != -1 {
+	if _, ok := preparedField("none"); ok || !w.bridge.inPieces {
 		t.Fatal("this version of gRPC takes no pieces")
 	}
 	of := new(weights)
@@ -99,6 +99,9 @@ func TestMessagesInPiecesAreTheSame(t *testing.T) {
 						}
 						var in message
 						want := made.bodies[0].with(appendText(nil, responseNonce, nonce))
+						if inPieces && how == nil && len(made.bodies[0].all) == 1 { // (what streams share comes behind their nonces)
+							want = append(appendText(nil, responseNonce, nonce), made.bodies[0].all[0]...)
+						}
 						if err := k.client.RecvMsg(&in); err != nil || !bytes.Equal(in.wire, want) {
 							t.Fatal(inPieces, v.delta, count, len(nonce), err, len(in.wire), len(want))
 						}

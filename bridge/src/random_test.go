@@ -27,7 +27,7 @@ func TestNoRequestEndsTheProgram(t *testing.T) {
 		for n := random.Intn(3); n >= 0; n-- {
 			bad[random.Intn(len(bad))] = byte(random.Intn(256))
 		}
-		if r, err := readRequest(of, bad); err == nil {
+		if r, err := readLong(of, bad); err == nil {
 			if text, err := r.json(testTypes); err != nil || !json.Valid(text) {
 				t.Fatalf("%q: %s, %v", bad, text, err)
 			}

@@ -9,31 +9,60 @@ import (
 
 // A request is a DiscoveryRequest or a DeltaDiscoveryRequest of a client.
 type request struct {
+	*short  // where it is a short one, else nil, and then:
+	of      protoreflect.MessageType
 	message protoreflect.Message
 	fields  protoreflect.FieldDescriptors
 }
 
-func readRequest(of protoreflect.MessageType, wire []byte) (r *request, err error) {
+func readRequest(of protoreflect.MessageType, delta bool, wire []byte) (*request, error) {
+	if it := readShort(wire, delta); it != nil {
+		return &request{short: it, of: of}, nil
+	}
+	return readLong(of, wire)
+}
+
+// readLong reads any request.
+func readLong(of protoreflect.MessageType, wire []byte) (r *request, err error) {
 	defer asError(&err)
 	message := of.New()
 	if err := proto.Unmarshal(wire, message.Interface()); err != nil {
 		return nil, err
 	}
-	return &request{message, of.Descriptor().Fields()}, nil
+	return &request{nil, of, message, of.Descriptor().Fields()}, nil
+}
+
+// lengthen makes a short request of the incremental variant one to which all can be added.
+func (r *request) lengthen() {
+	if it := r.short; it != nil {
+		r.short, r.message, r.fields = nil, r.of.New(), r.of.Descriptor().Fields()
+		r.setText("type_url", it.typeURL)
+		r.setText("response_nonce", it.nonce)
+	}
 }
 
 // text is a field that is a text.
 func (r *request) text(field protoreflect.Name) string {
+	if r.short != nil {
+		return *r.short.text(field)
+	}
 	return r.message.Get(r.fields.ByName(field)).String()
 }
 
 func (r *request) setText(field protoreflect.Name, text string) {
+	if r.short != nil {
+		*r.short.text(field) = text
+		return
+	}
 	r.message.Set(r.fields.ByName(field), protoreflect.ValueOfString(text))
 }
 
-// texts is a field that is a list of texts.
-func (r *request) texts(field protoreflect.Name) []string {
-	list := r.message.Get(r.fields.ByName(field)).List()
+// names are the names that a request of the state of the world asks for.
+func (r *request) names() []string {
+	if r.short != nil {
+		return r.short.names
+	}
+	list := r.message.Get(r.fields.ByName("resource_names")).List()
 	made := make([]string, list.Len())
 	for i := range made {
 		made[i] = list.Get(i).String()
@@ -43,6 +72,9 @@ func (r *request) texts(field protoreflect.Name) []string {
 
 // node is the id and the cluster of the request's node, if it says one.
 func (r *request) node() (id, cluster string, ok bool) {
+	if r.short != nil {
+		return "", "", false
+	}
 	node := r.message.Get(r.fields.ByName("node")).Message()
 	fields := node.Descriptor().Fields()
 	return node.Get(fields.ByName("id")).String(), node.Get(fields.ByName("cluster")).String(), r.message.Has(r.fields.ByName("node"))
@@ -52,6 +84,9 @@ func (r *request) node() (id, cluster string, ok bool) {
 // metadata, or details of an error whose type isn't known, it says of the node its id and cluster alone, and of the
 // error its code and message: these are what a server looks at.
 func (r *request) json(known *types) ([]byte, error) {
+	if r.short != nil {
+		return r.short.appendJSON(make([]byte, 0, 256)), nil
+	}
 	text, err := known.jsonOf(r.message.Interface())
 	if err == nil {
 		return text, nil

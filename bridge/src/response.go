@@ -11,6 +11,7 @@ import (
 // A response is a DiscoveryResponse or a DeltaDiscoveryResponse, cut into its parts.
 type response struct {
 	version, typeURL, nonce string
+	nonces                  int // how many it says
 	removed                 []string
 	resources               []resource
 }
@@ -45,6 +46,7 @@ func readResponse(text []byte, delta bool) (*response, error) {
 		switch {
 		case key == "nonce":
 			r.nonce, err = textOf(value)
+			r.nonces++
 		case key == "typeUrl":
 			r.typeURL, err = textOf(value)
 		case key == "versionInfo" && !delta, key == "systemVersionInfo" && delta:
@@ -151,7 +153,7 @@ func (b *bridge) assemble(text []byte, delta bool) (*assembled, string, error) {
 	nonceBytes := nonceRoom(r.nonce)
 	most := b.maxMessage - nonceBytes - len(r.version) - len(r.typeURL) - len(b.identifier) - 48
 	bad := r.convert(b.bodies.of, most, delta, b.maxMessage, b.skipBad)
-	a := &assembled{typeURL: r.typeURL, bad: bad}
+	a := &assembled{typeURL: r.typeURL, nonces: r.nonces, bad: bad}
 	if len(bad) > 0 && !b.skipBad {
 		a.why = bad[0].Error()
 		a.refusal = "the gRPC bridge can't convert " + a.why
@@ -244,10 +246,21 @@ func (r *response) body(delta bool, identifier string, resources []resource, rem
 	return made
 }
 
-// assembledOf is what clients are sent of a response's text, which is shared where it is long, and its nonce.
+// assembledOf is what clients are sent of a response's text, which streams share, and its nonce.
 func (b *bridge) assembledOf(text []byte, delta bool) (*assembled, string, error) {
 	if len(text) < sharedFrom {
-		return b.assemble(text, delta)
+		cut, ok := b.alikes.cut(text, delta)
+		if !ok {
+			return b.assemble(text, delta)
+		}
+		if made := cut.made(); made != nil {
+			return made, string(cut.nonce), nil
+		}
+		made, nonce, err := b.assemble(text, delta)
+		if err == nil {
+			cut.keep(made)
+		}
+		return made, nonce, err
 	}
 	key, nonce, err := keyOf(text, delta)
 	if err != nil {

@@ -28,11 +28,13 @@ type bridge struct {
 	counters *counters
 	reach    *reach
 	shared   *assemblies
+	alikes   *alikes
 	rooms    *rooms
 	inPieces bool // long messages are sent piece by piece
 	limits   *limits
 	files    []*protoregistry.Files // for reflection
 
+	addresses  bool   // the control plane is told the address of each client
 	identifier string // what responses say of the control plane
 	maxMessage int    // how many bytes a message to a client may have
 	maxStreams int    // how many there may be at a time, or 0
@@ -55,6 +57,7 @@ func newBridge(server string, known, small *types, cacheBytes int, tell *teller)
 		reach:    &reach{server: server},
 		files:    []*protoregistry.Files{known.files, small.files},
 		shared:   newAssemblies(cacheBytes),
+		alikes:   newAlikes(),
 		rooms:    newRooms(),
 		inPieces: canCut,
 	}

@@ -23,6 +23,7 @@ func nonceRoom(nonce string) int {
 type assembled struct {
 	entry   *assembly // where streams share it, or nil
 	typeURL string
+	nonces  int       // how many the response says
 	why     string    // the response is refused in the client's place, or empty
 	refusal string    // what the server is told then
 	bad     []*fault  // what can't be converted

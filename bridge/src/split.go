@@ -166,9 +166,11 @@ func textOf(value []byte) (string, error) {
 // plain tells whether a string's inside spells itself.
 func plain(inside []byte) bool {
 	for _, b := range inside {
-		if b < ' ' || b > '~' || b == '"' || b == '\\' {
+		if !isPlain(b) {
 			return false
 		}
 	}
 	return true
 }
+
+func isPlain(b byte) bool { return b >= ' ' && b <= '~' && b != '"' && b != '\\' }

@@ -50,6 +50,7 @@ type stream struct {
 
 	inPieces   bool // long messages are sent piece by piece
 	compressor encoding.Compressor
+	piece      grpc.PreparedMsg // what is being sent, of who is sending
 	place      *place
 	sending    chan struct{} // has one in it while a message is sent, and once the stream is over
 	over       chan struct{} // closed once the stream is over
@@ -58,9 +59,11 @@ type stream struct {
 
 	mutex  sync.Mutex // held for moments, of what stands below; taken after the one above
 	asked  map[string]*asked
-	names  int  // how many bytes the names in asked have
-	closed bool // the client said that it asks for nothing more
-	left   bool // the stream has ended
+	lastOf string // the type that was looked for last in asked
+	last   *asked // what was found, or nil
+	names  int    // how many bytes the names in asked have
+	closed bool   // the client said that it asks for nothing more
+	left   bool   // the stream has ended
 }
 
 // asked is what a refusal in the client's place has to know of a type: what the client's last request said, and which
@@ -117,6 +120,9 @@ func (s *stream) carry() error {
 	b.counters.add(numStreams, 1, "variant", s.name())
 	defer b.counters.add(numStreams, -1, "variant", s.name())
 	s.server = server
+	if err := b.sayClient(client.Context(), server); err != nil {
+		return broken(err)
+	}
 	defer s.leave()
 	requests, responses := make(chan error, 1), make(chan error, 1)
 	go func() { requests <- s.takeRequests() }()
@@ -168,14 +174,13 @@ func broken(err error) error {
 
 // takeRequests carries requests, one at a time. It answers nil once the client has no more.
 func (s *stream) takeRequests() error {
-	for {
-		var in message
-		if err := s.client.RecvMsg(&in); errors.Is(err, io.EOF) {
+	for in := new(message); ; {
+		if err := s.client.RecvMsg(in); errors.Is(err, io.EOF) {
 			return s.half()
 		} else if err != nil {
 			return err
 		}
-		r, err := readRequest(s.message, in.wire)
+		r, err := readRequest(s.message, s.delta, in.wire)
 		if err != nil {
 			return status.Errorf(codes.InvalidArgument, "the request is no %s: %s", s.message.Descriptor().Name(), plainError(err))
 		}
@@ -241,17 +246,17 @@ func (s *stream) note(r *request) (nothing bool, err error) {
 	s.mutex.Lock()
 	defer s.mutex.Unlock()
 	of := r.text("type_url")
-	it := s.asked[of]
+	it := s.askedOf(of)
 	if it == nil {
 		if len(s.asked) == mostTypes {
 			return false, status.Errorf(codes.ResourceExhausted, "a stream asks for more than %d types", mostTypes)
 		}
 		it = new(asked)
-		s.asked[of] = it
+		s.asked[of], s.lastOf, s.last = it, of, it
 	}
 	if !s.delta {
 		s.names -= sizeOf(it.names)
-		it.version, it.names = r.text("version_info"), r.texts("resource_names")
+		it.version, it.names = r.text("version_info"), r.names()
 		if s.names += sizeOf(it.names); s.names > mostNames {
 			return false, status.Errorf(codes.ResourceExhausted, "a stream asks for names of more than %d bytes", mostNames)
 		}
@@ -272,6 +277,14 @@ func (s *stream) note(r *request) (nothing bool, err error) {
 		it.answered = true
 	}
 	return false, nil
+}
+
+// askedOf is what is kept of a type, or nil, with the mutex held.
+func (s *stream) askedOf(typeURL string) *asked {
+	if s.last == nil || s.lastOf != typeURL {
+		s.lastOf, s.last = typeURL, s.asked[typeURL]
+	}
+	return s.last
 }
 
 func sizeOf(names []string) (size int) {
@@ -338,11 +351,15 @@ func (s *stream) takeResponses() error {
 func (s *stream) sendAll(count int, nonce string) error {
 	for i := 0; i < count; i++ {
 		select {
-		case s.sending <- struct{}{}:
-		case <-s.over:
-			return errOver
+		case s.sending <- struct{}{}: // (nearly always)
+		default:
+			select {
+			case s.sending <- struct{}{}:
+			case <-s.over:
+				return errOver
+			}
 		}
-		err := s.send(i, appendText(nil, responseNonce, partNonce(nonce, i, count)))
+		err := s.send(i, partNonce(nonce, i, count))
 		<-s.sending
 		if err != nil {
 			return err
@@ -355,7 +372,7 @@ func (s *stream) sendAll(count int, nonce string) error {
 func (s *stream) isWhole(typeURL string) bool {
 	s.mutex.Lock()
 	defer s.mutex.Unlock()
-	it := s.asked[typeURL]
+	it := s.askedOf(typeURL)
 	return !s.delta || (it != nil && it.told == "" && it.refused == "")
 }
 
@@ -363,7 +380,7 @@ func (s *stream) isWhole(typeURL string) bool {
 func (s *stream) passes(a *assembled, nonce string) {
 	s.mutex.Lock()
 	defer s.mutex.Unlock()
-	it := s.asked[a.typeURL]
+	it := s.askedOf(a.typeURL)
 	if it == nil {
 		return
 	}
@@ -404,7 +421,7 @@ func (s *stream) refuse(a *assembled, nonce string) error {
 	s.writing.Lock()
 	defer s.writing.Unlock()
 	s.mutex.Lock()
-	closed, it := s.closed, s.asked[a.typeURL]
+	closed, it := s.closed, s.askedOf(a.typeURL)
 	if it == nil {
 		it = new(asked)
 	} else if !s.left {

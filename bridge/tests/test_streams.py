@@ -1,5 +1,6 @@
 """Streams by raw stubs, over a control plane that runs."""
 import fcntl
+import json
 import os
 import signal
 import socket
@@ -8,6 +9,7 @@ import sys
 import threading
 import time
 import unittest
+import urllib.request
 
 import grpc
 from envoy.config.cluster.v3 import cluster_pb2
@@ -395,6 +397,36 @@ class Ports(Streams):
                     code, details = stream.status()
                     self.assertEqual(code, grpc.StatusCode.INVALID_ARGUMENT)
                     self.assertIn("type_url", details)
+
+    def test_addresses_of_clients(self):
+        port = free_ports(1)[0]
+        control = self.has(Control(None, "--admin-port", str(port)))
+        control.put(CLUSTER, name="a")
+        control.settle()
+        bridge = self.has(Bridge(control.port, "--client-addresses"))
+
+        def shown():
+            with urllib.request.urlopen(f"http://127.0.0.1:{port}/status", timeout=PATIENCE) as reply:
+                return {it["peer"] for it in json.load(reply)["replicas"][0]["streams"]}
+
+        def mine():
+            """The address of this process' connection to the bridge."""
+            at, found = f":{int(bridge.address.rsplit(':', 1)[1]):04X}", set()
+            for table in ("tcp", "tcp6"):
+                with open(f"/proc/self/net/{table}", encoding="utf-8") as file:
+                    for line in file:
+                        words = line.split()
+                        if words[2].endswith(at) and words[3] == "01":
+                            found.add("127.0.0.1:%d" % int(words[1].split(":")[1], 16))
+            return found
+
+        with grpc.insecure_channel(bridge.address) as channel:
+            for make in (sotw, delta):
+                stream = self.has(make(channel))
+                stream.ask(type_url=CLUSTER, **{"resource_names_subscribe" if stream.delta else "resource_names": ["*"]})
+                stream.take()
+            self.assertEqual(len(mine()), 1)
+            self.assertEqual(shown(), mine())
 
     def test_old_connections(self):
         self.put("a")
