@@ -4,9 +4,10 @@
 #
 #     examples/mesh.sh [--unproved] [WORD ..]     words for the bridge, as --skip-bad or --metrics 127.0.0.1:18201
 #
-# It stands in a package, too (`./xds --pack`, where the bridge was built), and starts what lies there. With --unproved the program that
-# isn't proved is compiled and runs. XDS is another program; PORT and REST are the server's
-# ports (18000, 18100), GRPC is the bridge's address (127.0.0.1:18200).
+# It stands in a package, too (`./xds --pack`, where the bridge was built), and starts what lies there. With FROM=FOLDER, as
+# examples/mesh, the server holds what that folder's files say, and follows them. With --unproved the program that isn't proved is
+# compiled and runs. XDS is another program; PORT and REST are the server's ports (18000, 18100), GRPC is the bridge's address
+# (127.0.0.1:18200).
 set -eu
 top="$(cd "$(dirname "$0")/.." && pwd)"
 port="${PORT:-18000}" rest="${REST:-18100}" grpc="${GRPC:-127.0.0.1:18200}"
@@ -35,13 +36,19 @@ finish() {
 trap 'finish; exit 0' INT TERM
 
 # (exec, so that the process id is the program's own)
+serve() {
+    if [ -n "${FROM:-}" ]; then
+        exec "$@" serve --port "$port" --rest-port "$rest" --from "$FROM" --lint < /dev/null
+    fi
+    exec "$@" serve --port "$port" --rest-port "$rest" < "$top/examples/mesh.serve"
+}
 if [ -n "${XDS:-}" ]; then
-    ( exec "$XDS" serve --port "$port" --rest-port "$rest" < "$top/examples/mesh.serve" ) &
+    ( serve "$XDS" ) &
 else
-    ( exec "$top/xds" $unproved serve --port "$port" --rest-port "$rest" < "$top/examples/mesh.serve" ) &
+    ( serve "$top/xds" $unproved ) &
 fi
 server=$!
-"$runs" --listen "$grpc" --server "127.0.0.1:$port" "$@" &
+"$runs" --listen "$grpc" --server "127.0.0.1:$port" --client-addresses "$@" &
 bridge=$!
 while kill -0 "$server" 2>/dev/null && kill -0 "$bridge" 2>/dev/null; do
     sleep 0.5

@@ -24,11 +24,14 @@ FIRST_PORT, PORTS = 28_000, 200
 LANES = (
     # README's commands, over a program that is compiled for it.
     ("bench/gate/readme.py",),
-    # The bridge's tests, and those of several servers over etcd.
-    ("bridge/test", "fleet/test"),
+    # The bridge's tests; a server that shows each resource to a checker first, which the bridge is; a package with the bridge, its script
+    # that starts both, and an image of it; and the tests of several servers over etcd.
+    ("bridge/test", "bench/gate/validate.py PROGRAM", "bench/gate/packed.py PROGRAM", "fleet/test"),
     # A server that starts again, over a store and without one; killed at some moments under changes and clients.
     ("bench/gate/restart.py PROGRAM --kills 200 --stops 20",),
     ("bench/gate/serve.py PROGRAM",),
+    # What clients are answered that send no more.
+    ("bench/gate/halfclosed.py PROGRAM",),
     # Recorded runs, which are checked.
     ("bench/gate/record.py PROGRAM",),
     # Slow peers, and many: the limits of docs/SERVING.md.
@@ -51,13 +54,17 @@ LANES = (
     ("bench/gate/page.py PROGRAM",),
     # What replicas hold, as lines, and changes that are tried, or made together.
     ("bench/gate/resources.py PROGRAM",),
+    # A folder that resources come from, and references that lead nowhere.
+    ("bench/gate/sources.py PROGRAM",),
+    # What the commands that ask an operator's port say there, and print.
+    ("bench/gate/asking.py PROGRAM",),
     # What it logs, for people and as JSON.
     ("bench/gate/log.py PROGRAM",),
     # Whom its operator's port answers, and who may read its files.
     ("bench/gate/door.py PROGRAM",),
 )
 # The status of some commands where they can't be tried here: there is no curl, no browser, or what they need can't be installed.
-SKIPPED, MAY_BE_SKIPPED = 2, ("bench/gate/readme.py", "bridge/test", "fleet/test", "bench/gate/page.py")
+SKIPPED, MAY_BE_SKIPPED = 2, ("bench/gate/readme.py", "bridge/test", "fleet/test", "bench/gate/page.py", "bench/gate/packed.py")
 printing = threading.Lock()
 
 

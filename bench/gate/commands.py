@@ -227,11 +227,18 @@ def posted(port, path, body=""):
 
 def what_needs_no_network_is_done():
     for line, text, *wanted in (
-        ("answer", "{}~", 1, "", "line 1: 7 BadMessage~"),
+        ("answer", "{}~", 1, "", 'line 1: 7 BadMessage~line 1: there is no "typeUrl": the type of the resources that are asked for~'),
+        ("answer", '{"typeUrl":"CDSr"}~', 0, "", '~typeUrl "CDSr" is none that is known; did you mean "CDS"?~'),
         ("play", "content 1 route~", 0, "none~"),
         ("play --trace 1", "replica 1~", 0),
         ("check", "open 1~", 0, "ok~"),
-        ("check", "open 1~open 1~", 1, "", "line 2: 22 BadTrace~"),
+        ("play", "replicas 1~", 1, "", 'line 1: 21 BadScript~line 1: "replicas" is no command of a script~'),
+        ("check", "open 1~open 1~", 1, "", "line 2: 22 BadTrace~line 2: stream 1 was opened before~"),
+        ("check", "", 0, "ok~", "~the trace has no lines~"),
+        ("check", "open 1~close", 1, "", "line 2: 22 BadTrace~the trace ends within line 2; --so-far judges the lines before it~"),
+        ("check --so-far", "open 1~close", 0, "ok~", "judged 1 lines; line 2 isn't whole~"),
+        ("check --so-far", "open 1~close 2~", 0, "ok~", "judged 1 lines; line 2 isn't whole~"),
+        ("check --so-far", "open 1~close 2~close 1~", 1, "", "line 2: 22 BadTrace~line 2: stream 2 isn't open~"),
     ):
         tells(f"{line} of {text.count('~')} lines is done", Run(line, written(text)).came(), *wanted)
 
@@ -526,6 +533,8 @@ def long_lines():
     server.ends("a line as long as a line may be is taken", 1, "line 2: 21 BadScript~")
 
 
+OTHER_VARIANT = '''line 4: 22 BadTrace~line 4: "resources" has one that isn't an object with a "resource" of its "typeUrl"~'''
+
 WRONG_LINES = '''# a comment~view 1 cluster~put x {}~put 1 {}~put 1 nojson~put 1~delete 1 clusters a~delete 1 cluster a b~\
 put 9 {"@type":"RDS","name":"r"}~~put 1 {"@type":"RDS","name":"r"}~'''
 WRONG_LINES_TOLD = """line 2: 21 BadScript: unknown command
@@ -652,7 +661,7 @@ def a_recorded_run_is_checked():
     for what, word, by, *wanted in (
         ("is ok", "", "", 0, "ok~"),
         ("without a nonce breaks a rule", '"nonce":"1"', '"nonce":""', 1, "broken 4 P1~"),
-        ("with a response of another variant is none", "response 1 2", "response 1 4", 1, "", "line 4: 22 BadTrace~"),
+        ("with a response of another variant is none", "response 1 2", "response 1 4", 1, "", OTHER_VARIANT),
     ):
         tells(f"a recorded trace {what}", Run("check", trace.replace(word, by) if word else trace).came(), *wanted)
 
@@ -670,6 +679,29 @@ def files_that_cannot_be_made_are_told():
             tells(what, server.came(), 1, "", f"{where}: 19 Device: {why}~")
         found = os.listdir(folder)
         tell("no file is left behind", found == ["replica-2.trace"], found)
+
+
+def pictures_are_written():
+    with tempfile.TemporaryDirectory(prefix="xds-pictures-") as folder:
+        new, old = f"{folder}/new.svg", f"{folder}/old.svg"
+        with open(old, "w", encoding="utf-8") as file:
+            file.write("x" * 100_000)
+        for what, line, text, status, output in (
+            ("a trace is drawn", f"check --picture {new}", "open 1~close 1~", 0, "ok~"),
+            ("a broken trace is drawn over an older file", f"check --picture {old}", "open 1~idle 1 cluster~", 0, "ok~"),
+            ("a script is drawn", f"play --picture {new}", "content 1 route~", 0, "none~"),
+        ):
+            tells(what, Run(line, written(text)).came(), status, output)
+            with open(old if "old" in line else new, encoding="utf-8") as file:
+                image = file.read()
+            tell(f"{what} as an image", image.startswith("<svg ") and image.rstrip().endswith("</svg>"), image[-200:])
+        mode = os.stat(new).st_mode & 0o777
+        tell("a new picture is for who runs the program alone", mode == 0o600, oct(mode))
+        lost = f"{folder}/none/a.svg"
+        found = Run(f"check --picture {lost}", written("open 1~")).came()
+        tells("a picture that can't be written is told behind the verdict", found, 1, "ok~", f"{lost}: 19 Device: no such file~")
+        found = Run(f"check --picture {new}", written("opened 1~")).came()
+        tell("of no trace no picture is drawn", found[0] == 1 and not found[1], found)
 
 
 def what_is_put_at_one_replica_reaches_a_client_at_another():
@@ -729,6 +761,7 @@ CASES = (
     a_stream_without_a_first_frame_is_ended,
     what_happens_on_a_stream_is_told,
     a_recorded_run_is_checked,
+    pictures_are_written,
     files_that_cannot_be_made_are_told,
     what_is_put_at_one_replica_reaches_a_client_at_another,
     what_is_deleted_is_gone_and_a_group_keeps_its_own,

@@ -217,7 +217,7 @@ def checked(program, path):
 
 
 def is_no_trace(said):
-    return said[0] == "" and re.fullmatch(r"line \d+: 22 BadTrace", said[1])
+    return said[0] == "" and re.fullmatch(r"line \d+: 22 BadTrace", said[1].partition("\n")[0])
 
 
 def place_of(pick, lines, fits):

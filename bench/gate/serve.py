@@ -163,8 +163,8 @@ def records(server):
     time.sleep(0.2)
     fourth, fifth = look(), look()
     each = second - first
-    # Its opening, request, response, acceptance and close, and that its writer learns of the close.
-    tell("a stream leaves a record for each event", fourth - third == 6 + (fifth - fourth), (third, fourth, fifth, each))
+    # Its opening, request, response, acceptance, the look whether more is due at its end, its close, and that its writer learns of that.
+    tell("a stream leaves a record for each event", fourth - third == 7 + (fifth - fourth), (third, fourth, fifth, each))
 
 
 def polls(server):
@@ -265,6 +265,34 @@ def ended_streams():
         it.socket.close()
     tell("in the end there is none", comes(lambda: shown(server) == []), shown(server))
     tell("and none is counted", count() == [0, 0, 0], count())
+    server.stop()
+
+
+def addresses():
+    """A stream has the address that a line PROXY says before its frames; what the line says besides changes nothing."""
+    server = Server(text=put("a"))
+    own = lambda stream: "127.0.0.1:%d" % stream.socket.getsockname()[1]
+    line4, line6 = b"PROXY TCP4 10.1.2.3 127.0.0.1 40112 18200\r\n", b"PROXY TCP6 2001:db8::1 :: 7 0\r\n"
+    cases = (
+        ("a line", (line4,), "10.1.2.3:40112"), ("a line of IPv6", (line6,), "[2001:db8::1]:7"), ("a line in parts", (line4[:3], line4[3:20], line4[20:]), "10.1.2.3:40112"),
+        ("no line", (), None), ("a line of no address", (b"PROXY UNKNOWN\r\n",), None), ("a line with another text", (b'PROXY TCP4 <b> 127.0.0.1 1 2\r\n',), None),
+    )
+    for what, parts, wanted in cases:
+        stream = Stream(server.port)
+        for part in parts:
+            stream.socket.sendall(part)
+            time.sleep(0.1 if len(parts) > 1 else 0)
+        stream.send({"typeUrl": ROUTE, "resourceNames": ["a"]})
+        response = stream.take()
+        found = [it["peer"] for it in shown(server)]
+        tell(f"a stream that begins with {what} is answered", response and response["nonce"] == "1", response)
+        tell(f"and with {what} it has the address of its client", found == [wanted or own(stream)], found)
+        stream.socket.close()
+        comes(lambda: shown(server) == [])
+    for what, text in (("has no end", b"PROXY TCP4 " + b"1" * 120), ("is cut off", b"PROXY TCP4 10.")):
+        stream = Stream(server.port)
+        stream.socket.sendall(text)
+        tell(f"a stream whose line {what} is closed", is_closed(stream))
     server.stop()
 
 
@@ -618,7 +646,7 @@ def gives_up():
     tell("a client that can't write gives up in time", status == 1 and told == "19 Device: gave up after 1 s\n", (status, took, told))
 
 
-CASES = (stamps, behind_refused, numbers, cuts_and_parts, ended_streams, places, no_threads, slow_readers, left_out, ready, many_streams, bodies, gives_up)
+CASES = (stamps, behind_refused, numbers, cuts_and_parts, ended_streams, addresses, places, no_threads, slow_readers, left_out, ready, many_streams, bodies, gives_up)
 
 
 def tried(case):

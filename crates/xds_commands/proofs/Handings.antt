@@ -17,7 +17,7 @@ use Rattle.xds_monitor.specs.declared.ending.End.TheVariants.{Line, Refused}
 use Rattle.xds_commands.specs.Changes.{Written, change_of, change_in}
 use Rattle.xds_commands.specs.Handing.{AllHanded, line_after, behind, HandsLast, TakesAll, TakesUpTo, StopsInput, TakesInput}
 use Rattle.xds_commands.specs.Inputs.{brings, is_wrong, AreTaken, AreRefused, AreEnded, Takes}
-use Rattle.xds_monitor.proofs.Pieces.{first_piece}
+use Rattle.xds_causes.proofs.Pieces.{first_piece}
 use Rattle.xds_commands.proofs.Changing.{good_line}
 use Rattle.xds_commands.proofs.Takings.{line_more, why_of}
 

@@ -8,6 +8,7 @@ mod Joining
 mod Wired
 mod LoadSteps
 mod Watchings
+mod Checkings
 pub mod Pieces
 pub mod Numbering
 pub mod LineReading

@@ -38,7 +38,7 @@ use Rattle.xds_client.specs.Running.{IsUndialled, Runs, RunsBy}
 use Rattle.xds_client.specs.declared.connecting.Ended.{Ended}
 use Rattle.xds_client.specs.Subscribing.{names_of}
 use Rattle.xds_program.specs.declared.run.Ran.{Ran}
-use Rattle.xds_program.specs.declared.run.Ran.TheVariants.{Done, Serve, Client, Poll, Writes, Status}
+use Rattle.xds_program.specs.declared.run.Ran.TheVariants.{Done, Serve, Client, Poll, Writes, Status, Get, Put, Delete, Drawn}
 use Rattle.xds_program.specs.declared.tasks.StreamVariant.{StreamVariant}
 use Rattle.xds_program.specs.declared.tasks.StreamVariant.TheVariants.{Sotw, Delta}
 use Rattle.xds_program.specs.Outcomes.{Prints, refusal_line}
@@ -137,3 +137,7 @@ GoesOn (Client task) status output errors = EndsClient task status output errors
 GoesOn (Poll task) status output errors = EndsPoll (λ _ _ _ _. ⊤) task status output errors
 GoesOn (Writes task) status output errors = status ≤ 1
 GoesOn (Status task) status output errors = status ≤ 1
+GoesOn (Get task) status output errors = status ≤ 1
+GoesOn (Put task) status output errors = status ≤ 1
+GoesOn (Delete task) status output errors = status ≤ 1
+GoesOn (Drawn task) status output errors = ((status ≡ task.status) × Stays errors) ⊎ (status ≡ 1)

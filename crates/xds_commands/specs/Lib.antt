@@ -1,4 +1,6 @@
+pub mod Asked
 pub mod Changes
+pub mod Checked
 pub mod Contents
 pub mod Doors
 pub mod Handing

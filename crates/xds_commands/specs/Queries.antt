@@ -13,7 +13,6 @@
 --     wanted_in     what a query asks for, if it asks for anything
 use Rattle.std.specs.Prelude.{ℕ, List, [], ◌∷◌, ◌==◌, length, Option, Some, None, codes, bytes_eq, if◌then◌else◌}
 use Rattle.std.specs.Option.{option_map, option_and_then}
-use Rattle.xds_core.specs.declared.catalogues.Marks.{Marks}
 use Rattle.xds_world.specs.Lines.{pieces}
 use Rattle.xds_world.specs.Words.{number_in, is_empty}
 use Rattle.xds_commands.specs.declared.wanting.Wanted.{Wanted}

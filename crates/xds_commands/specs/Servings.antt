@@ -6,9 +6,9 @@ use Rattle.xds_program.specs.declared.tasks.ServeTask.{ServeTask}
 use Rattle.xds_monitor.specs.declared.lookout.Limits.{Limits}
 use Rattle.xds_commands.specs.declared.server.Serving.{Serving}
 
--- what the words ask of a server that waits with its answers or doesn't, and logs as JSON or doesn't, where its error output is a terminal or isn't
-abbrev pub serving_of : ServeTask → Option ℕ → Bool → Bool → Bool → Serving
-serving_of task first_number hold log_json is_terminal = record {
+-- what the words ask of a server that waits with its answers or doesn't, logs as JSON or doesn't, and tells references that lead nowhere or doesn't, where its error output is a terminal or isn't
+abbrev pub serving_of : ServeTask → Option ℕ → Bool → Bool → Bool → Bool → Serving
+serving_of task first_number hold log_json lint is_terminal = record {
   first_number = first_number;
   replicas = task.replicas;
   port = task.port;
@@ -22,6 +22,7 @@ serving_of task first_number hold log_json is_terminal = record {
   idle_seconds = task.idle_seconds;
   admin_port = task.admin_port;
   hold = hold;
+  lint = lint;
 }
 
 -- what the streams of a replica may be then

@@ -6,6 +6,8 @@ ghost use Rattle.xds_commands.specs.Routes.{also_at, found_at, routed, routed_am
 ghost use Rattle.xds_commands.specs.Together.{without_return};
 
 use crate::change::Change;
+use crate::checked_changes::{Asking, NextLine, Whys, begin_asking, told_line};
+use crate::checker::Asks;
 use crate::choice::{Choice, Unchosen, choice_in};
 use crate::contents::push_content;
 use crate::door::refused_at;
@@ -16,6 +18,7 @@ use crate::moves::Moves;
 use crate::order::{Answers, Order};
 use crate::page::{counts_html, head_html, replica_html, streams_html, tail_html};
 use crate::sharing::{Listing, Merging, PLAIN, plain};
+use crate::sourcing::Source;
 use crate::storing::{Progress, Reached as Reach, Told, owned};
 use crate::timed::Deadline;
 use crate::together::{Made, changes_status};
@@ -29,8 +32,8 @@ use xds_core::Marks;
 use xds_http::{Head, Page, Pages, Part};
 use xds_message::Batch;
 use xds_monitor::{
-    Cause, End, Ending, Fault, Lookout, Tape, recorded_text, recordings_text, refused_line,
-    running_text, stamp_line,
+    Cause, End, Ending, Fault, Lookout, Tape, recorded_text, recordings_text, running_text,
+    stamp_line,
 };
 use xds_program::VERSION;
 use xds_resource::{Refusal, Stamp};
@@ -178,6 +181,8 @@ pub(crate) struct Admin {
     pub replicas: Vec<Reached>,
     /// How far writes are stored, if they are.
     pub store: Option<Arc<Progress>>,
+    /// The folder that resources come from, if there is one.
+    pub source: Option<Arc<Source>>,
     /// How far the replicas have changed.
     pub moves: Arc<Moves>,
     pub ending: Arc<Ending>,
@@ -185,6 +190,8 @@ pub(crate) struct Admin {
     pub meter: Meter,
     /// What requests say, where they have to.
     pub bearer: Option<String>,
+    /// What a checker of resources is asked by, if there is one.
+    pub asks: Option<Arc<Asks>>,
 }
 
 // Written out: docs/PROVING.md, "Drops".
@@ -193,10 +200,12 @@ impl Drop for Admin {
         let Admin {
             replicas: _,
             store: _,
+            source: _,
             moves: _,
             ending: _,
             meter: _,
             bearer: _,
+            asks: _,
         } = self;
     }
 }
@@ -217,6 +226,9 @@ pub(crate) struct Changing {
     refused: u64,
     // The changes, where they are looked at alone, or made together.
     joint: Option<Joint>,
+    // The line of whose resource a checker is asked, if there is one, and what it told of others.
+    asking: Option<Asking>,
+    whys: Whys,
     // Once all were made, until when they are to be stored, and the counts of changes of each replica then.
     storing: Option<(Deadline, Vec<Marks>)>,
 }
@@ -234,6 +246,8 @@ impl Drop for Changing {
             made: _,
             refused: _,
             joint: _,
+            asking: _,
+            whys: _,
             storing: _,
         } = self;
     }
@@ -329,6 +343,8 @@ fn changes_in(alloc: Global, body: &[u8]) -> Result<Changing, Refusal> {
         made: 0,
         refused: 0,
         joint: None,
+        asking: None,
+        whys: Vec::new(alloc),
         storing: None,
     })
 }
@@ -412,7 +428,7 @@ impl Admin {
             return Ok(told(alloc, 404, "no such replica\n"));
         }
         match self.resources(rt, alloc, &choice)? {
-            Some(text) if text.as_str().is_empty() && choice.name.is_some() => {
+            Some(text) if text.as_str().is_empty() && !choice.names.is_empty() => {
                 Ok(told(alloc, 404, "9 NotFound\n"))
             }
             Some(text) => Ok(found(PLAIN, text)),
@@ -522,6 +538,12 @@ impl Admin {
             let stored = stored_text(alloc, store.told(rt))?;
             text.push_str(stored.as_str())?;
         }
+        if let Some(source) = &self.source {
+            text.push_str(source.numbers(rt, alloc)?.as_str())?;
+        }
+        if let Some(asks) = &self.asks {
+            text.push_str(asks.numbers(rt, alloc)?.as_str())?;
+        }
         text.push_str(build_text(alloc, VERSION)?.as_str())?;
         text.push_str(self.meter.text(alloc)?.as_str())?;
         Ok(text)
@@ -590,6 +612,10 @@ impl Admin {
             let state = state.as_str();
             let state = format!(in alloc; ",\"store\":\"{state}\"")?;
             text.push_str(state.as_str())?;
+        }
+        if let Some(source) = &self.source {
+            text.push_str(",\"source\":")?;
+            text.push_str(source.status(rt, alloc)?.as_str())?;
         }
         text.push_str("}\n")?;
         Ok(text)
@@ -684,9 +710,11 @@ impl Admin {
             if work.is_read() {
                 return Ok(true);
             }
-            let (line, is_last) = work.next(alloc);
+            let Some((line, is_last)) = self.next_line(rt, alloc, work) else {
+                return Ok(false);
+            };
             if work.joint.is_some() {
-                work.join(line, is_last)?;
+                work.join(alloc, line, is_last)?;
             } else {
                 self.answer_line(rt, alloc, line, work)?;
             }
@@ -698,6 +726,35 @@ impl Admin {
             }
         }
         Ok(false)
+    }
+
+    // The next line of changes, once a checker has seen its resource, where there is one. None where it hasn't answered yet.
+    fn next_line<R: Wait + Clock>(
+        &self,
+        rt: &R,
+        alloc: Global,
+        work: &mut Changing,
+    ) -> Option<NextLine> {
+        let Some(asks) = &self.asks else {
+            return Some(work.next(alloc));
+        };
+        let asking = match mem::replace(&mut work.asking, None) {
+            Some(asking) => asking,
+            None => match begin_asking(rt, alloc, asks, work.next(alloc)) {
+                Ok(next) => return Some(next),
+                Err(asking) => asking,
+            },
+        };
+        match asking.go_on(rt, alloc, asks, work.whys()) {
+            Ok(next) => {
+                asks.tell(rt, alloc, &self.ending);
+                Some(next)
+            }
+            Err(asking) => {
+                work.asking = Some(asking);
+                None
+            }
+        }
     }
 
     // Hands changes that are made together to their replicas, and waits for what becomes of them, for a moment at a time. Answers whether all
@@ -715,7 +772,10 @@ impl Admin {
             return Ok(true);
         }
         match joint.step(rt, alloc, Duration::from_millis(PART_MILLISECONDS))? {
-            Step::Done => Ok(true),
+            Step::Done => {
+                self.warn(rt, alloc, work)?;
+                Ok(true)
+            }
             Step::Wait => Ok(false),
             Step::Hand(place, changes) => {
                 let is_tried = joint.is_tried;
@@ -729,6 +789,29 @@ impl Admin {
                 Ok(false)
             }
         }
+    }
+
+    // Adds to the answer of changes that are looked at alone the references that would lead nowhere by them, at the first replica.
+    fn warn<R: Wait + Clock>(
+        &self,
+        rt: &R,
+        alloc: Global,
+        work: &mut Changing,
+    ) -> Result<(), Refusal> {
+        let (Some(joint), Some(replica)) = (&mut work.joint, self.replicas.as_slice().first())
+        else {
+            return Ok(());
+        };
+        if !joint.is_tried {
+            return Ok(());
+        }
+        let deadline = Deadline::within(rt, Duration::from_millis(MOST_MILLISECONDS));
+        let Some(held) = replica.content(rt, alloc, deadline) else {
+            return Ok(());
+        };
+        let lines = joint.warn(alloc, &held);
+        drop(held);
+        lines
     }
 
     // Hands changes to a replica's thread, if it takes them in time. Answers where it answers.
@@ -781,7 +864,7 @@ impl Admin {
             Err(fault) => {
                 work.refused = work.refused.saturating_add(1);
                 self.ending.remember(rt, line, fault);
-                let refused = refused_line(alloc, line, fault)?;
+                let refused = told_line(alloc, &work.whys, line, fault)?;
                 work.text.push_str(refused.as_str())?;
                 work.unstored.push_str(refused.as_str())?;
             }
@@ -859,12 +942,20 @@ impl Changing {
         plain(status, if are_stored { text } else { unstored })
     }
 
+    // What a checker told of the lines.
+    fn whys(&mut self) -> &mut Whys {
+        match &mut self.joint {
+            Some(joint) => &mut joint.whys,
+            None => &mut self.whys,
+        }
+    }
+
     // Takes what a line says that is made together with others.
-    fn join(&mut self, said: Said, is_last: bool) -> Result<(), Refusal> {
+    fn join(&mut self, alloc: Global, said: Said, is_last: bool) -> Result<(), Refusal> {
         match &mut self.joint {
             Some(joint) => {
                 joint.is_read = is_last;
-                joint.take(said)
+                joint.take(alloc, said)
             }
             None => {
                 drop(said);

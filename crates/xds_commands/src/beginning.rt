@@ -5,19 +5,24 @@ ghost use Rattle.xds_core.specs.Stores.{all_entries};
 ghost use Rattle.xds_commands.specs.Loads.{IsLoaded};
 ghost use Rattle.xds_commands.specs.Given.{IsWorldOver, MergesSome};
 
+use crate::checker::Asks;
 use crate::door::bearer;
 use crate::given::number_over;
 use crate::loading::load;
 use crate::machine::Runtime;
 use crate::serve_telling::{
-    FileFault, tell, tell_file, tell_no_token, tell_old_numbers, tell_store, tell_unloaded,
+    FileFault, tell, tell_file, tell_no_token, tell_old_numbers, tell_store, tell_text,
+    tell_unloaded,
 };
 use crate::server::Serving;
+use crate::sourcing::{Said as FolderSaid, Source, made_over, said_by};
 use crate::storing::{FileStore, Progress, Storage};
+use crate::validating::first_refused;
 use crate::workers::share;
 use std::alloc::Global;
 use std::fs::{File, OpenOptions};
 use std::io::{Read, Write};
+use std::net::SocketAddrV4;
 use std::os::unix::fs::OpenOptionsExt;
 use std::rt::Files;
 use std::sync::Arc;
@@ -44,8 +49,19 @@ pub struct ServeFiles<'a> {
     pub store: Option<&'a str>,
     /// The file of the stamped writes that it begins with.
     pub writes: Option<&'a str>,
+    /// The folder whose resources are all that shall be held of what comes from it.
+    pub from: Option<&'a str>,
     /// The file of the token that requests at the operator's port say.
     pub token: Option<&'a str>,
+    /// The address of the checker that resources are shown before they are taken, if there is one, and whether they are taken where it is away.
+    pub checker: Option<(SocketAddrV4, bool)>,
+}
+
+/// A file of lines that are made before anybody is answered, and what a checker of their resources is asked by, if there is one.
+#[derive(Clone, Copy)]
+struct Loaded<'a> {
+    file: &'a str,
+    asks: Option<&'a Asks>,
 }
 
 /// What a server begins with.
@@ -59,6 +75,8 @@ pub(crate) struct Begun {
     pub storage: Option<Arc<Storage>>,
     /// What requests at the operator's port say, where they say something.
     pub bearer: Option<String>,
+    /// The folder that resources come from, if there is one.
+    pub source: Option<Arc<Source>>,
 }
 
 // Written out: docs/PROVING.md, "Drops".
@@ -70,19 +88,21 @@ impl Drop for Begun {
             world: _,
             storage: _,
             bearer: _,
+            source: _,
         } = self;
     }
 }
 
 impl Begun {
-    // The same, where requests at the operator's port say this.
-    fn with_bearer(self, bearer: Option<String>) -> Begun {
+    // The same, where requests at the operator's port say this, and resources come from this folder.
+    fn with(self, bearer: Option<String>, source: Option<Arc<Source>>) -> Begun {
         let Begun {
             serving,
             is_new,
             world,
             storage,
             bearer: _,
+            source: _,
         } = self;
         Begun {
             serving,
@@ -90,6 +110,7 @@ impl Begun {
             world,
             storage,
             bearer,
+            source,
         }
     }
 
@@ -114,7 +135,7 @@ pub(crate) enum Unwritten {
 }
 
 /// Why a server doesn't begin.
-#[derive(Clone, Copy)]
+#[derive(Drop)]
 pub(crate) enum Unbegun {
     /// The file of the token can't be opened.
     Token(FileFault),
@@ -128,6 +149,10 @@ pub(crate) enum Unbegun {
     Load(End),
     /// The store is refused.
     Store(StoreRefusal),
+    /// What a folder says isn't taken, as this line tells.
+    Source(String),
+    /// What a checker says of a file, as this line tells.
+    Checked(String),
     /// There is no memory.
     Refused(Refusal),
 }
@@ -140,6 +165,7 @@ pub(crate) fn begin_with<R>(
     alloc: Global,
     serving: Serving,
     files: ServeFiles<'_>,
+    asks: Option<&Asks>,
 ) -> Result<Begun, Unbegun>
 where
     R: Runtime + Files<File = File>,
@@ -152,13 +178,78 @@ where
         Some(file) => Some(writes_in(rt, alloc, file)?),
         None => None,
     };
-    let begun = match files.store {
-        Some(path) => begun_stored(rt, alloc, serving, path, given, files.load),
-        None => begun_anew(rt, alloc, serving, given, files.load),
+    let said = match files.from {
+        Some(path) => match folder_in(rt, alloc, path) {
+            Ok(said) => Some(said),
+            Err(fault) => {
+                drop(given);
+                return Err(fault);
+            }
+        },
+        None => None,
     };
-    match begun {
-        Ok(begun) => Ok(begun.with_bearer(bearer)),
-        Err(fault) => Err(fault),
+    let load = match files.load {
+        Some(file) => Some(Loaded { file, asks }),
+        None => None,
+    };
+    let begun = match files.store {
+        Some(path) => begun_stored(rt, alloc, serving, path, given, load, &said),
+        None => begun_anew(rt, alloc, serving, given, load, &said),
+    };
+    match (begun, source_of(alloc, files.from, said)) {
+        (Ok(begun), Ok(source)) => Ok(begun.with(bearer, source)),
+        (Err(fault), _) => Err(fault),
+        (Ok(begun), Err(refusal)) => {
+            drop(begun);
+            Err(Unbegun::Refused(refusal))
+        }
+    }
+}
+
+// What a folder says.
+fn folder_in<R: Runtime>(rt: &R, alloc: Global, path: &str) -> Result<FolderSaid, Unbegun> {
+    match said_by(rt, alloc, path) {
+        Ok(Ok(said)) => Ok(said),
+        Ok(Err(text)) => {
+            let mut line = text;
+            match line.push_str("\n") {
+                Ok(()) => Err(Unbegun::Source(line)),
+                Err(_) => Err(Unbegun::Refused(Refusal::OutOfMemory)),
+            }
+        }
+        Err(refusal) => Err(Unbegun::Refused(refusal)),
+    }
+}
+
+// A folder of which what it says is made, if there is one.
+fn source_of(
+    alloc: Global,
+    path: Option<&str>,
+    said: Option<FolderSaid>,
+) -> Result<Option<Arc<Source>>, Refusal> {
+    match (path, said) {
+        (Some(path), Some(said)) => {
+            let source = Source::new(alloc, path, said)?;
+            Ok(Some(Arc::new(alloc, source)?))
+        }
+        _ => Ok(None),
+    }
+}
+
+// rule: loaded-first
+// What is there from the start, once what a folder says is made over it by the first replica, if there is one.
+fn with_folder(
+    alloc: Global,
+    serving: Serving,
+    world: Batch,
+    said: &Option<FolderSaid>,
+) -> Result<Batch, Unbegun> {
+    match said {
+        Some(said) => match made_over(alloc, world, said, first_number(serving)) {
+            Ok(world) => Ok(world),
+            Err(refusal) => Err(Unbegun::Refused(refusal)),
+        },
+        None => Ok(world),
     }
 }
 
@@ -250,7 +341,8 @@ fn begun_anew<R>(
     alloc: Global,
     serving: Serving,
     given: Option<Batch>,
-    load: Option<&str>,
+    load: Option<Loaded<'_>>,
+    said: &Option<FolderSaid>,
 ) -> Result<Begun, Unbegun>
 where
     R: Runtime + Files<File = File>,
@@ -262,9 +354,13 @@ where
     let is_new = serving.first_number.is_some();
     let mut serving = serving;
     serving.first_number = Some(first);
-    let world = match (given, load) {
-        (None, None) => None,
-        (given, load) => Some(world_over(rt, alloc, serving, None, given, load)?),
+    let is_any = given.is_some() || load.is_some() || said.is_some();
+    let world = if is_any {
+        let world = world_over(rt, alloc, serving, None, given, load)?;
+        Some(with_folder(alloc, serving, world, said)?)
+    } else {
+        drop(given);
+        None
     };
     Ok(Begun {
         serving,
@@ -272,6 +368,7 @@ where
         world,
         storage: None,
         bearer: None,
+        source: None,
     })
 }
 
@@ -282,7 +379,8 @@ fn begun_stored<R>(
     serving: Serving,
     path: &str,
     given: Option<Batch>,
-    load: Option<&str>,
+    load: Option<Loaded<'_>>,
+    said: &Option<FolderSaid>,
 ) -> Result<Begun, Unbegun>
 where
     R: Runtime + Files<File = File>,
@@ -299,7 +397,7 @@ where
             return Err(Unbegun::Store(refusal));
         }
     };
-    let (world, first) = match stored_world(rt, alloc, &mut store, serving, given, load) {
+    let (world, first) = match stored_world(rt, alloc, &mut store, serving, given, load, said) {
         Ok(world) => world,
         Err(fault) => {
             rt.leave_store(path, store, had_log);
@@ -315,6 +413,7 @@ where
             world: Some(world),
             storage: Some(storage),
             bearer: None,
+            source: None,
         }),
         Err(refusal) => {
             drop(world);
@@ -331,12 +430,13 @@ fn stored_world<R>(
     store: &mut FileStore,
     serving: Serving,
     given: Option<Batch>,
-    load: Option<&str>,
+    load: Option<Loaded<'_>>,
+    said: &Option<FolderSaid>,
 ) -> Result<(Batch, u16), Unbegun>
 where
     R: Runtime + Files<File = File>,
 {
-    let is_more = given.is_some() || load.is_some();
+    let is_more = given.is_some() || load.is_some() || said.is_some();
     let stored = match store.read_all() {
         Ok(stored) => stored,
         Err(refusal) => {
@@ -355,6 +455,7 @@ where
     let mut serving = serving;
     serving.first_number = Some(first);
     let world = world_over(rt, alloc, serving, Some(stored), given, load)?;
+    let world = with_folder(alloc, serving, world, said)?;
     if !is_more {
         return Ok((world, first));
     }
@@ -397,7 +498,7 @@ fn world_over<R>(
     serving: Serving,
     stored: Option<Batch>,
     given: Option<Batch>,
-    load: Option<&str>,
+    load: Option<Loaded<'_>>,
 ) -> Result<Batch, Unbegun>
 where
     R: Runtime + Files<File = File>,
@@ -414,7 +515,7 @@ where
         return Err(Unbegun::Refused(refusal));
     }
     match load {
-        Some(file) => world_in(rt, alloc, file, serving, held),
+        Some(loaded) => world_in(rt, alloc, loaded, serving, held),
         None => all_of(alloc, held),
     }
 }
@@ -460,7 +561,7 @@ fn storage_of(
 fn world_in<R>(
     rt: &R,
     alloc: Global,
-    file: &str,
+    loaded: Loaded<'_>,
     serving: Serving,
     held: Catalogues,
 ) -> Result<Batch, Unbegun>
@@ -468,17 +569,75 @@ where
     R: Runtime + Files<File = File>,
     ensures { IfOk result (λ b. (before : Maybe (List ℕ)) × (after : Maybe (List ℕ)) × IsLoaded (unwrap_or serving.first_number 1) serving.replicas held before after b) }
 {
-    let mut opened = match File::open(rt, file) {
+    let mut opened = match File::open(rt, loaded.file) {
         Ok(opened) => opened,
         Err(error) => {
             drop(held);
             return Err(Unbegun::File(FileFault::of(error.kind())));
         }
     };
+    match loaded.asks {
+        Some(asks) => {
+            let bytes = match seen_bytes(rt, alloc, opened, loaded.file, asks) {
+                Ok(bytes) => bytes,
+                Err(fault) => {
+                    drop(held);
+                    return Err(fault);
+                }
+            };
+            world_of(rt, alloc, &mut bytes.as_slice(), serving, held)
+        }
+        None => world_of(rt, alloc, &mut opened, serving, held),
+    }
+}
+
+// All that the lines of a text come to, over what is held.
+fn world_of<R, I>(
+    rt: &R,
+    alloc: Global,
+    input: &mut I,
+    serving: Serving,
+    held: Catalogues,
+) -> Result<Batch, Unbegun>
+where
+    R: Runtime,
+    I: Read,
+    ensures { IfOk result (λ b. (before : Maybe (List ℕ)) × (after : Maybe (List ℕ)) × IsLoaded (unwrap_or serving.first_number 1) serving.replicas held before after b) }
+{
     let first = first_number(serving);
-    match load(rt, alloc, &mut opened, held, first, serving.replicas) {
+    match load(rt, alloc, input, held, first, serving.replicas) {
         Ok(world) => Ok(world),
         Err(end) => Err(Unbegun::Load(end)),
+    }
+}
+
+// All of a file, of whose resources a checker takes each. It is read once, so what was seen is what is made.
+fn seen_bytes<R>(
+    rt: &R,
+    alloc: Global,
+    opened: File,
+    file: &str,
+    asks: &Asks,
+) -> Result<Vec<u8>, Unbegun>
+where
+    R: Runtime + Files<File = File>,
+{
+    let bytes = match read_whole(alloc, &mut Counted::new(opened)) {
+        Ok(bytes) => bytes,
+        Err(refusal) => return Err(Unbegun::Load(End::Refused(refusal))),
+    };
+    match first_refused(rt, alloc, &mut bytes.as_slice(), asks) {
+        Ok(None) => Ok(bytes),
+        Ok(Some(line)) => Err(checked_line(alloc, file, line.as_str())),
+        Err(refusal) => Err(Unbegun::Refused(refusal)),
+    }
+}
+
+// That a checker doesn't take a line of a file.
+fn checked_line(alloc: Global, file: &str, line: &str) -> Unbegun {
+    match format!(in alloc; "{file}: {line}\n") {
+        Ok(text) => Unbegun::Checked(text),
+        Err(_) => Unbegun::Refused(Refusal::OutOfMemory),
     }
 }
 
@@ -515,7 +674,9 @@ pub(crate) fn tell_unbegun<E: Write>(
         Unbegun::Load(End::Streams | End::Stopped) => {
             tell_unloaded(alloc, errors, file, None, Refusal::Device)
         }
+        Unbegun::Source(text) => tell_text(errors, text),
         Unbegun::Store(refusal) => tell_store(alloc, errors, named(files.store), refusal),
+        Unbegun::Checked(text) => tell_text(errors, text),
         Unbegun::Refused(refusal) => tell(alloc, errors, refusal),
     }
 }

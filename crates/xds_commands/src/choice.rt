@@ -1,5 +1,5 @@
 // What the words behind the question mark of a request choose.
-ghost use Rattle.std.specs.Prelude.{◌≡◌, ◌||◌, is_some};
+ghost use Rattle.std.specs.Prelude.{◌≡◌, ◌||◌, is_some, length, nat_lt};
 
 use crate::wanting::replica_in;
 use form_urlencoded::parse;
@@ -13,8 +13,8 @@ pub struct Choice {
     pub replica: Option<u16>,
     /// One type; all, where there is none.
     pub kind: Option<TypeName>,
-    /// One name; all, where there is none.
-    pub name: Option<String>,
+    /// Some names; all, where there are none.
+    pub names: Vec<String>,
     /// Whether changes are looked at alone.
     pub is_tried: bool,
     /// Whether changes are made where all of them can be, or none is.
@@ -50,11 +50,11 @@ impl Unchosen {
 
 impl Choice {
     /// All is chosen.
-    pub fn all() -> Choice {
+    pub fn all(alloc: Global) -> Choice {
         Choice {
             replica: None,
             kind: None,
-            name: None,
+            names: Vec::new(alloc),
             is_tried: false,
             is_whole: false,
         }
@@ -70,10 +70,12 @@ impl Choice {
 
     /// Whether a name is chosen.
     pub fn has_name(&self, name: &str) -> bool {
-        match &self.name {
-            Some(chosen) => chosen.as_str() == name,
-            None => true,
+        for chosen in &self.names {
+            if chosen.as_str() == name {
+                return true;
+            }
         }
+        self.names.is_empty()
     }
 
     /// Whether a replica is chosen.
@@ -86,9 +88,9 @@ impl Choice {
 
     /// Whether something is chosen of what replicas hold.
     pub fn is_of_resources(&self) -> bool
-        ensures { result ≡ (is_some self.now.replica || is_some self.now.kind || is_some self.now.name) }
+        ensures { result ≡ (is_some self.now.replica || is_some self.now.kind || nat_lt 0 (length self.now.names.items)) }
     {
-        self.replica.is_some() || self.kind.is_some() || self.name.is_some()
+        self.replica.is_some() || self.kind.is_some() || !self.names.is_empty()
     }
 
     /// Whether it is said how changes are made.
@@ -96,6 +98,17 @@ impl Choice {
         ensures { result ≡ (self.now.is_tried || self.now.is_whole) }
     {
         self.is_tried || self.is_whole
+    }
+
+    // One name more.
+    fn add_name(&mut self, alloc: Global, name: &str) -> Result<(), Unchosen> {
+        let Ok(name) = String::from_str(alloc, name) else {
+            return Err(Unchosen::NoMemory);
+        };
+        match self.names.push(name) {
+            Ok(()) => Ok(()),
+            Err(_) => Err(Unchosen::NoMemory),
+        }
     }
 
     // One word more, with its value.
@@ -109,10 +122,7 @@ impl Choice {
                 Some(kind) => self.kind = Some(kind),
                 None => return Err(Unchosen::UnknownType),
             },
-            "name" => match String::from_str(alloc, value) {
-                Ok(name) => self.name = Some(name),
-                Err(_) => return Err(Unchosen::NoMemory),
-            },
+            "name" => return self.add_name(alloc, value),
             "dry-run" => self.is_tried = true,
             "all-or-nothing" => self.is_whole = true,
             _ => return Err(Unchosen::UnknownWord),
@@ -123,7 +133,7 @@ impl Choice {
 
 /// What the text behind a question mark chooses.
 pub fn choice_in(alloc: Global, query: &str) -> Result<Choice, Unchosen> {
-    let mut choice = Choice::all();
+    let mut choice = Choice::all(alloc);
     for pair in parse(alloc, query.as_bytes()) {
         let Ok((word, value)) = pair else {
             return Err(Unchosen::NoMemory);

@@ -4,8 +4,9 @@ ghost use Rattle.xds_frames.specs.Devices.{seen};
 ghost use Rattle.xds_commands.specs.Ends.{GoesOn};
 ghost use Rattle.xds_commands.specs.Servings.{serving_of};
 
-use crate::asking::print_status;
+use crate::asking::{delete_names, print_resources, print_status, put_changes};
 use crate::beginning::ServeFiles;
+use crate::drawing::draw;
 use crate::machine::{Machine, Runtime};
 use crate::polling::poll_once;
 use crate::progress::ProgressReader;
@@ -14,7 +15,7 @@ use crate::watching::watch;
 use crate::writes::print_writes;
 use std::fs::File;
 use std::io::{Read, Write};
-use std::net::{Net, TcpListener, TcpStream};
+use std::net::{Net, SocketAddrV4, TcpListener, TcpStream};
 use std::rt::Files;
 use xds_frames::Counted;
 use xds_http::Connects;
@@ -74,6 +75,10 @@ where
         Ran::Client(task) => watch(rt, &task, output, errors),
         Ran::Writes(task) => print_writes(rt, &task, output, errors),
         Ran::Status(task) => print_status(rt, &task, output, errors),
+        Ran::Get(task) => print_resources(rt, &task, output, errors),
+        Ran::Put(task) => put_changes(rt, &task, input, output, errors),
+        Ran::Delete(task) => delete_names(rt, &task, output, errors),
+        Ran::Drawn(drawing) => draw(rt, rt.alloc(), &drawing, errors),
         Ran::Serve(words) => serve_words(rt, words, input, errors, teller, is_terminal),
     }
 }
@@ -99,6 +104,7 @@ where
         words.first_number,
         words.hold,
         words.log_json,
+        words.lint,
         is_terminal,
     );
     serve(rt, input, errors, teller, serving, files_in(&words))
@@ -110,14 +116,28 @@ fn files_in(words: &ServeWords) -> ServeFiles<'_>
     ensures load { option_map (λ f. f.now) result.load ≡ words.now.load }
     ensures store { option_map (λ f. f.now) result.store ≡ words.now.store }
     ensures writes { option_map (λ f. f.now) result.writes ≡ words.now.writes }
+    ensures from { option_map (λ f. f.now) result.from ≡ words.now.from_folder }
     ensures token { option_map (λ f. f.now) result.token ≡ words.now.admin_token }
+    ensures checker { result.checker ≡ option_map (λ a. (a, words.now.pass_unvalidated)) words.now.validate }
 {
     ServeFiles {
         record: text_in(&words.folder),
         load: text_in(&words.load),
         store: text_in(&words.store),
         writes: text_in(&words.writes),
+        from: text_in(&words.from_folder),
         token: text_in(&words.admin_token),
+        checker: checker_in(words.validate, words.pass_unvalidated),
+    }
+}
+
+// The address of a checker, if there is one, and whether resources are taken where it is away.
+fn checker_in(addr: Option<SocketAddrV4>, passes: bool) -> Option<(SocketAddrV4, bool)>
+    ensures { result ≡ option_map (λ a. (a, passes)) addr }
+{
+    match addr {
+        Some(addr) => Some((addr, passes)),
+        None => None,
     }
 }
 
@@ -137,9 +157,10 @@ fn serving_of(
     first_number: Option<u16>,
     hold: bool,
     log_json: bool,
+    lint: bool,
     is_terminal: bool,
 ) -> Serving
-    ensures { result ≡ serving_of task first_number hold log_json is_terminal }
+    ensures { result ≡ serving_of task first_number hold log_json lint is_terminal }
 {
     Serving {
         first_number,
@@ -155,5 +176,6 @@ fn serving_of(
         idle_seconds: task.idle_seconds,
         admin_port: task.admin_port,
         hold,
+        lint,
     }
 }

@@ -1,5 +1,6 @@
 // The server's gates: one holds nobody up, and one keeps new frames from being begun once the server ends. They keep no segment: what is
 // cut of a replica that is recorded is written as it is cut.
+use crate::parting::Parting;
 use std::sync::Wait;
 use std::sync::atomic::{AtomicBool, Ordering};
 use xds_core::{Event, Marks, Reply};
@@ -42,6 +43,13 @@ impl<'a> WriterGate<'a> {
         }
     }
 
+    /// A frame is begun; what was begun before is written. Once the server ends it waits for ever.
+    pub(crate) fn begin<R: Wait>(&self, rt: &R) {
+        self.finish(rt);
+        self.ending.begin_frame(rt);
+        self.is_writing.store(true, Ordering::SeqCst);
+    }
+
     /// What was begun is written, or given up.
     pub(crate) fn finish<R: Wait>(&self, rt: &R) {
         if self.is_writing.swap(false, Ordering::SeqCst) {
@@ -53,25 +61,29 @@ impl<'a> WriterGate<'a> {
 impl<'a, S: Drop> Gate<S> for WriterGate<'a> {
     fn pass<R: Wait>(&self, rt: &R, place: Place, _stream: u64) {
         if place == Place::BeforeWrite {
-            self.finish(rt);
-            self.ending.begin_frame(rt);
-            self.is_writing.store(true, Ordering::SeqCst);
+            self.begin(rt);
         }
     }
 
     fn keep<R: Wait>(&self, _rt: &R, _segment: S) {}
 }
 
-/// A node, as a stream's writer calls it: once it waits for what is due, what it wrote before is written.
+/// A node, as a stream's writer calls it: once it waits for what is due, what it wrote before is written. It polls by turns with who
+/// ends the stream.
 pub(crate) struct Gated<'a, A> {
     pub node: &'a A,
     pub gate: &'a WriterGate<'a>,
+    pub parting: &'a Parting,
 }
 
 // Written out: docs/PROVING.md, "Drops".
 impl<'a, A> Drop for Gated<'a, A> {
     fn drop(self) {
-        let Gated { node: _, gate: _ } = self;
+        let Gated {
+            node: _,
+            gate: _,
+            parting: _,
+        } = self;
     }
 }
 
@@ -90,7 +102,10 @@ impl<'a, A: Served> Host for Gated<'a, A> {
         seat: &mut A::Seat,
         event: Event,
     ) -> Result<Result<Reply, Refusal>, Unrecorded> {
-        self.node.call(rt, seat, event)
+        let turn = self.parting.turn(rt);
+        let answer = self.node.call(rt, seat, event);
+        drop(turn);
+        answer
     }
 
     fn cut<R: Wait>(&self, rt: &R) -> Result<A::Segment, Refusal> {

@@ -1,11 +1,16 @@
 // A stream's connection, of which the first frame has to come within a time.
 
 use crate::first_frame::FirstFrame;
+use crate::proxied::{Beginning, MOST_LINE, address_in, beginning_of};
 use crate::timed::Deadline;
-use std::io;
+use std::alloc::Global;
 use std::io::{ErrorKind, Read};
 use std::net::TcpStream;
-use std::time::Clock;
+use std::time::{Clock, Duration};
+use std::{io, thread};
+
+// How often a line that says who connected is looked for that hasn't come whole, at most: once a millisecond.
+const MOST_LOOKS: u16 = 1_000;
 
 /// A connection that is read: up to the end of its first frame until a deadline, and from then on for as long as it takes.
 #[derive(Drop)]
@@ -18,6 +23,8 @@ pub(crate) struct IdleReader<'a, C> {
 }
 
 impl<'a, C: Clock> IdleReader<'a, C> {
+    ghost use Rattle.std.specs.Io.{ReadsAtMost};
+
     /// By the clock, where the first frame has to come within so many seconds, if it has to.
     pub(crate) fn new(
         clock: &'a C,
@@ -31,6 +38,54 @@ impl<'a, C: Clock> IdleReader<'a, C> {
             first: FirstFrame::new(),
             is_late: false,
         }
+    }
+
+    /// The address that the line says with which the connection begins, where it begins with one. What stands behind the line is left to
+    /// be read, and so is all of what isn't a whole line within a second.
+    pub(crate) fn address(&mut self, alloc: Global) -> Option<String> {
+        let mut bytes = [0; MOST_LINE];
+        for _ in 0..MOST_LOOKS {
+            let Ok(count) = self.peek(&mut bytes) else {
+                return None;
+            };
+            match beginning_of(&bytes[..count]) {
+                Beginning::Frames => return None,
+                Beginning::Line => return self.said(alloc),
+                Beginning::Part => if count == 0 {
+                    return None;
+                },
+            }
+            thread::sleep(self.clock, Duration::from_millis(1));
+        }
+        None
+    }
+
+    // What has come, which is left to be read. It waits until something has.
+    fn peek(&mut self, bytes: &mut [u8]) -> io::Result<usize>
+        ensures { ReadsAtMost result bytes.new }
+    {
+        if self.deadline.is_set() {
+            self.limit()?;
+        }
+        self.socket.peek(bytes)
+    }
+
+    // The address that a line says, which has come, and is read.
+    fn said(&mut self, alloc: Global) -> Option<String> {
+        let mut line = Vec::new(alloc);
+        let mut from = self.socket;
+        for _ in 0..MOST_LINE {
+            let mut byte = [0; 1];
+            let read = from.read(&mut byte);
+            if !is_one(&read) {
+                return None;
+            }
+            line.push(byte[0]).ok()?;
+            if byte[0] == b'\n' {
+                return address_in(alloc, line.as_slice()).ok()?;
+            }
+        }
+        None
     }
 
     /// Whether the first frame didn't come in time.
@@ -80,6 +135,14 @@ impl<'a, C: Clock> Read for IdleReader<'a, C> {
                 Err(error)
             }
         }
+    }
+}
+
+// Whether a read gave a byte.
+fn is_one(read: &io::Result<usize>) -> bool {
+    match read {
+        Ok(count) => *count == 1,
+        Err(_) => false,
     }
 }
 

@@ -1,6 +1,8 @@
 // A body of changes that are looked at alone, or made together, at an operator's port.
 use crate::change::Change;
+use crate::checked_changes::{Whys, told_line};
 use crate::kept::Said;
+use crate::linting::{copy_of, lines_after};
 use crate::order::Answers;
 use crate::timed::Deadline;
 use crate::together::{Made, changes_status, made_line};
@@ -9,7 +11,9 @@ use std::alloc::Global;
 use std::mem;
 use std::sync::Wait;
 use std::time::{Clock, Duration};
-use xds_monitor::{Cause, Fault, refused_line};
+use xds_core::Event;
+use xds_message::Batch;
+use xds_monitor::{Cause, Fault};
 use xds_resource::{Refusal, Stamp};
 
 /// What a replica's thread answers of changes.
@@ -30,6 +34,11 @@ pub(crate) struct Joint {
     waiting: Option<(AllMade, Deadline)>,
     /// Whether all lines are read.
     pub is_read: bool,
+    // Copies of changes that are looked at alone, and the references that would lead nowhere by them, a line each.
+    looked: Vec<Event>,
+    warnings: String,
+    /// What a checker told of the lines.
+    pub whys: Whys,
 }
 
 // Written out: docs/PROVING.md, "Drops".
@@ -43,6 +52,9 @@ impl Drop for Joint {
             made: _,
             waiting: _,
             is_read: _,
+            looked: _,
+            warnings: _,
+            whys: _,
         } = self;
     }
 }
@@ -72,17 +84,46 @@ impl Joint {
             made: Vec::new(alloc),
             waiting: None,
             is_read: false,
+            looked: Vec::new(alloc),
+            warnings: String::new(alloc),
+            whys: Vec::new(alloc),
         })
     }
 
     /// Takes what a line says.
-    pub(crate) fn take(&mut self, said: Said) -> Result<(), Refusal> {
+    pub(crate) fn take(&mut self, alloc: Global, said: Said) -> Result<(), Refusal> {
         let Said { line, what } = said;
         match what {
             Ok(None) => Ok(()),
-            Ok(Some(change)) => self.add(line, change),
+            Ok(Some(change)) => {
+                if let Err(refusal) = self.copy(alloc, &change) {
+                    drop(change);
+                    return Err(refusal);
+                }
+                self.add(line, change)
+            }
             Err(fault) => Ok(self.lines.push((line, Err(fault)))?),
         }
+    }
+
+    // Keeps a copy of a change that is looked at alone.
+    fn copy(&mut self, alloc: Global, change: &Change) -> Result<(), Refusal> {
+        if !self.is_tried {
+            return Ok(());
+        }
+        let Some(copy) = copy_of(alloc, &change.event)? else {
+            return Ok(());
+        };
+        match self.looked.push(copy) {
+            Ok(()) => Ok(()),
+            Err(_) => Err(Refusal::OutOfMemory),
+        }
+    }
+
+    /// Keeps the lines of the references that would lead nowhere by changes that are looked at alone, over what is held.
+    pub(crate) fn warn(&mut self, alloc: Global, held: &Batch) -> Result<(), Refusal> {
+        self.warnings = lines_after(alloc, held, &self.looked)?;
+        Ok(())
     }
 
     fn add(&mut self, line: u64, change: Change) -> Result<(), Refusal> {
@@ -228,11 +269,12 @@ impl Joint {
                 }
                 Err(fault) => {
                     bad = bad.saturating_add(1);
-                    refused_line(alloc, *line, *fault)?
+                    told_line(alloc, &self.whys, *line, *fault)?
                 }
             };
             text.push_str(one.as_str())?;
         }
+        text.push_str(self.warnings.as_str())?;
         Ok((good, bad, text))
     }
 

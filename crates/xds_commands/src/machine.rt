@@ -1,4 +1,5 @@
 // What the commands take of a runtime.
+use crate::folder::ReadsFolders;
 use crate::storing::OpensStores;
 use std::alloc::AllocGlobal;
 use std::net::{Net, TcpListener, TcpStream};
@@ -14,6 +15,7 @@ pub trait Runtime: Wait
     + RandomSource
     + AllocGlobal
     + OpensStores
+    + ReadsFolders
     + Copy
     + Drop
     + Send
@@ -28,6 +30,7 @@ where
         + RandomSource
         + AllocGlobal
         + OpensStores
+        + ReadsFolders
         + Copy
         + Drop
         + Send

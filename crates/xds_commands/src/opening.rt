@@ -48,8 +48,12 @@ fn spread<R: Wait>(
     done
 }
 
-// All that a replica holds, once it has done what it was asked before.
-fn entries_of<R: Wait>(rt: &R, alloc: Global, replica: &Sender<Order>) -> Result<Batch, Refusal> {
+/// All that a replica holds, once it has done what it was asked before.
+pub(crate) fn entries_of<R: Wait>(
+    rt: &R,
+    alloc: Global,
+    replica: &Sender<Order>,
+) -> Result<Batch, Refusal> {
     let (to, from) = unbounded(alloc)?;
     let _ = replica.send(rt, Order::Entries(to));
     match from.recv(rt) {

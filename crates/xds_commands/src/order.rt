@@ -26,6 +26,8 @@ pub enum Order {
     Merge(Batch, Sender<Result<u128, Refusal>>),
     /// To make changes, all of them or none, or to look alone at what would become of them, and to answer that of each.
     All(Vec<Change>, bool, Sender<Result<Vec<Made>, Refusal>>),
+    /// To make changes that a folder says, all of them or none, and to answer what became of each.
+    Sourced(Vec<Change>, Sender<Result<Vec<Made>, Refusal>>),
 }
 
 /// What a replica's thread answers to a question.

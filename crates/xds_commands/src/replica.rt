@@ -488,22 +488,32 @@ fn do_order<R: Wait + Clock, A: Served>(
         Order::All(changes, is_tried, reply) => {
             let made = make_all(rt, alloc, node, seat, changes, is_tried);
             if !is_tried {
-                count_refused(rt, &made, lookout);
+                count_refused(rt, &made, Maker::Port, lookout);
             }
+            let _ = reply.send(rt, made);
+        }
+        Order::Sourced(changes, reply) => {
+            let made = make_all(rt, alloc, node, seat, changes, false);
+            count_refused(rt, &made, Maker::Folder, lookout);
             let _ = reply.send(rt, made);
         }
     }
 }
 
 // Counts the changes that were refused when they were made, and tells those that were made, where such is told.
-fn count_refused<R: Wait + Clock>(rt: &R, made: &Result<Vec<Made>, Refusal>, lookout: &Lookout) {
+fn count_refused<R: Wait + Clock>(
+    rt: &R,
+    made: &Result<Vec<Made>, Refusal>,
+    maker: Maker,
+    lookout: &Lookout,
+) {
     let Ok(made) = made else {
         return;
     };
     for one in made {
         match one {
             Made::Refused(_) => lookout.refused(rt),
-            Made::Written(stamp) => tell_made(rt, Ok(*stamp), Maker::Port, lookout),
+            Made::Written(stamp) => tell_made(rt, Ok(*stamp), maker, lookout),
             Made::Would | Made::Left => {}
         }
     }

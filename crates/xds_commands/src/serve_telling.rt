@@ -109,7 +109,7 @@ impl FileFault {
     }
 
     // What is told of it behind the refusal.
-    fn text(self) -> &'static str
+    pub(crate) fn text(self) -> &'static str
         ensures { result.now ≡ file_fault_text self }
     {
         match self {
@@ -144,38 +144,65 @@ pub(crate) fn tell_no_token<E: Write>(alloc: Global, errors: &mut Counted<E>, fi
     REFUSED
 }
 
-// The line of a server that can't be reached, or breaks off.
-fn device_line(alloc: Global, addr: SocketAddrV4) -> Result<String, Refusal> {
-    Ok(format!(in alloc; "{addr}: 19 Device: nobody answers there\n")?)
+// The line of a server that doesn't answer.
+fn device_line(alloc: Global, addr: SocketAddrV4, why: &str) -> Result<String, Refusal> {
+    Ok(format!(in alloc; "{addr}: 19 Device: {why}\n")?)
 }
 
-/// Tells that a server can't be reached, or breaks off, and answers the status.
+/// Tells that a server doesn't answer, and why, and answers the status.
 pub(crate) fn tell_device<E: Write>(
     alloc: Global,
     errors: &mut Counted<E>,
     addr: SocketAddrV4,
+    why: &str,
 ) -> u8
     ensures { result ≡ 1 }
 {
-    put(errors, device_line(alloc, addr));
+    put(errors, device_line(alloc, addr, why));
     REFUSED
 }
 
-// The line of a status of HTTP by which a question is refused.
-fn refused_by_line(alloc: Global, status: &str) -> Result<String, Refusal> {
+// The line of a status of HTTP by which a question is refused, with what is said of it, if something is.
+fn refused_by_line(alloc: Global, status: u16, said: &str) -> Result<String, Refusal> {
     let why = match status {
-        "401" => ": --admin-token FILE says the token",
-        "404" => ": no operator's port of this version is there",
-        _ => "",
+        401 => "--admin-token FILE says the token",
+        404 if said.is_empty() => "no operator's port of this version is there",
+        413 => "more than 4,194,304 bytes of changes",
+        414 | 431 => "the names are too long for one request",
+        _ => said,
     };
-    Ok(format!(in alloc; "the server answers {status}{why}\n")?)
+    if why.is_empty() {
+        return Ok(format!(in alloc; "the server answers {status}\n")?);
+    }
+    Ok(format!(in alloc; "the server answers {status}: {why}\n")?)
 }
 
-/// Tells the status of HTTP by which a question is refused, and answers the status of the program.
-pub(crate) fn tell_refused_by<E: Write>(alloc: Global, errors: &mut Counted<E>, status: &str) -> u8
+/// Tells the status of HTTP by which a question is refused, with what is said of it, and answers the status of the program.
+pub(crate) fn tell_refused_by<E: Write>(
+    alloc: Global,
+    errors: &mut Counted<E>,
+    status: u16,
+    said: &str,
+) -> u8
     ensures { result ≡ 1 }
 {
-    put(errors, refused_by_line(alloc, status));
+    put(errors, refused_by_line(alloc, status, said));
+    REFUSED
+}
+
+// The line of a name that can't be said in a line of changes.
+fn unsayable_line(alloc: Global) -> Result<String, Refusal> {
+    Ok(String::from_str(
+        alloc,
+        "5 BadName: a name that is empty, or has a space or the end of a line in it, can't stand in a line of changes\n",
+    )?)
+}
+
+/// Tells that a name can't be said in a line of changes, and answers the status.
+pub(crate) fn tell_unsayable<E: Write>(alloc: Global, errors: &mut Counted<E>) -> u8
+    ensures { result ≡ 1 }
+{
+    put(errors, unsayable_line(alloc));
     REFUSED
 }
 
@@ -235,6 +262,14 @@ pub(crate) fn tell_store<E: Write>(
     ensures { result ≡ 1 }
 {
     put(errors, store_line(alloc, file, refusal));
+    REFUSED
+}
+
+/// Tells a text, and answers the status.
+pub(crate) fn tell_text<E: Write>(errors: &mut Counted<E>, text: String) -> u8
+    ensures { result ≡ 1 }
+{
+    put(errors, Ok(text));
     REFUSED
 }
 

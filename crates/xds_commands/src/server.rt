@@ -4,6 +4,8 @@ ghost use Rattle.xds_commands.specs.Servings.{limits_of};
 
 use crate::admin::{Admin, Reached};
 use crate::beginning::{Begun, ServeFiles, begin_with, first_number, tell_unbegun};
+use crate::checker::{Asks, start_checker};
+use crate::linting::start_linting;
 use crate::loading::number_at;
 use crate::machine::{Machine, Runtime};
 use crate::meter::Meter;
@@ -14,8 +16,10 @@ use crate::serve_telling::{
     PortFault, status_of, tell, tell_admin, tell_end, tell_port, tell_replicas, tell_same_numbers,
     tell_tape, tell_until_end,
 };
+use crate::sourcing::{Source, start_sourcing};
 use crate::starting::{
-    DRAIN_SECONDS, shared_tape, start_admin, start_input, start_opener, start_replica, start_teller,
+    DRAIN_SECONDS, shared_asks, shared_tape, start_admin, start_input, start_opener, start_replica,
+    start_teller,
 };
 use crate::storing::{Progress, owned};
 use crate::timed::Deadline;
@@ -66,6 +70,8 @@ pub struct Serving {
     pub admin_port: Option<u16>,
     /// Whether nobody is answered before the input has a line `ready`, or an operator says so.
     pub hold: bool,
+    /// Whether references that lead nowhere are told.
+    pub lint: bool,
 }
 
 // As many milliseconds as who stopped the server has to take the answer.
@@ -118,8 +124,55 @@ where
     ensures { result ≤ 1 }
 {
     let alloc = rt.alloc();
-    match begin_with(rt, alloc, serving, files) {
-        Ok(begun) => serve_world(rt, alloc, input, errors, teller, begun, files.record),
+    match checker_of(rt, alloc, files.checker) {
+        Ok(asks) => serve_checked(rt, alloc, input, errors, teller, serving, files, &asks),
+        Err(refusal) => {
+            drop(input);
+            drop(teller);
+            tell(alloc, errors, refusal)
+        }
+    }
+}
+
+// What a checker of resources is asked by, if there is one.
+fn checker_of<R: Machine>(
+    rt: &R,
+    alloc: Global,
+    checker: Option<(SocketAddrV4, bool)>,
+) -> Result<Option<Arc<Asks>>, Refusal> {
+    match checker {
+        Some((addr, passes)) => {
+            let asks = start_checker(rt, alloc, addr, passes)?;
+            Ok(Some(Arc::new(alloc, asks)?))
+        }
+        None => Ok(None),
+    }
+}
+
+// Serves what a checker takes, if there is one.
+fn serve_checked<R, I, E, T>(
+    rt: &R,
+    alloc: Global,
+    input: I,
+    errors: &mut Counted<E>,
+    teller: Option<T>,
+    serving: Serving,
+    files: ServeFiles<'_>,
+    asks: &Option<Arc<Asks>>,
+) -> u8
+where
+    R: Machine + Files<File = File>,
+    I: Read + Drop + Send + 'static,
+    E: Write,
+    T: Write + Drop + Send + 'static,
+    ensures { result ≤ 1 }
+{
+    let asked = match asks {
+        Some(asks) => Some(&**asks),
+        None => None,
+    };
+    match begin_with(rt, alloc, serving, files, asked) {
+        Ok(begun) => serve_world(rt, alloc, input, errors, teller, begun, files.record, asks),
         Err(fault) => {
             drop(input);
             drop(teller);
@@ -137,6 +190,7 @@ fn serve_world<R, I, E, T>(
     teller: Option<T>,
     begun: Begun,
     folder: Option<&str>,
+    asks: &Option<Arc<Asks>>,
 ) -> u8
 where
     R: Machine + Files<File = File>,
@@ -151,7 +205,7 @@ where
     drop(begun);
     match bound {
         Ok(doors) => serve_recorded(
-            rt, alloc, input, errors, teller, doors, serving, is_new, folder,
+            rt, alloc, input, errors, teller, doors, serving, is_new, folder, asks,
         ),
         Err(Unbound::Port(port, fault)) => {
             drop(input);
@@ -177,6 +231,7 @@ fn serve_recorded<R, I, E, T>(
     serving: Serving,
     is_new: bool,
     folder: Option<&str>,
+    asks: &Option<Arc<Asks>>,
 ) -> u8
 where
     R: Machine + Files<File = File>,
@@ -210,7 +265,9 @@ where
     if !is_new {
         tell_same_numbers(alloc, errors, first_number(serving));
     }
-    match run(rt, alloc, input, errors, teller, doors, &tapes, serving) {
+    match run(
+        rt, alloc, input, errors, teller, doors, &tapes, serving, asks,
+    ) {
         Ok(status) => status,
         Err(refusal) => tell_end(alloc, errors, Err(refusal)),
     }
@@ -243,6 +300,8 @@ struct Bindings {
     admin: Option<BoundAdmin>,
     // How far writes are stored, if they are.
     progress: Option<Arc<Progress>>,
+    // What is beside the replicas.
+    beside: Beside,
 }
 
 // Written out: docs/PROVING.md, "Drops".
@@ -252,19 +311,58 @@ impl Drop for Bindings {
             sockets: _,
             admin: _,
             progress: _,
+            beside: _,
         } = self;
     }
 }
 
 impl Bindings {
-    fn into_parts(self) -> (Vec<Sockets>, Option<BoundAdmin>, Option<Arc<Progress>>) {
+    fn into_parts(
+        self,
+    ) -> (
+        Vec<Sockets>,
+        Option<BoundAdmin>,
+        Option<Arc<Progress>>,
+        Beside,
+    ) {
         let Bindings {
             sockets,
             admin,
             progress,
+            beside,
         } = self;
-        (sockets, admin, progress)
+        (sockets, admin, progress, beside)
     }
+}
+
+// What works beside the replicas of a server: the folder that resources come from, if there is one, and how far the replicas have changed,
+// where references are told that lead nowhere.
+struct Beside {
+    source: Option<Arc<Source>>,
+    moves: Option<Arc<Moves>>,
+}
+
+// Written out: docs/PROVING.md, "Drops".
+impl Drop for Beside {
+    fn drop(self) {
+        let Beside {
+            source: _,
+            moves: _,
+        } = self;
+    }
+}
+
+// What works beside the replicas.
+fn beside_of(begun: &Begun, moves: &Option<Arc<Moves>>) -> Result<Beside, Unbound> {
+    let source = shared_if_any(&begun.source)?;
+    if begun.serving.lint {
+        let moves = shared_if_any(moves)?;
+        return Ok(Beside { source, moves });
+    }
+    Ok(Beside {
+        source,
+        moves: None,
+    })
 }
 
 // Why the ports aren't bound.
@@ -318,9 +416,9 @@ fn shared_if_any<T: Drop>(it: &Option<Arc<T>>) -> Result<Option<Arc<T>>, Unbound
     }
 }
 
-// How far the replicas of a server have changed, where there is an operator's port.
+// How far the replicas of a server have changed, where there is an operator's port, or references are told that lead nowhere.
 fn moves_of(alloc: Global, serving: Serving) -> Result<Option<Arc<Moves>>, Refusal> {
-    if serving.admin_port.is_none() {
+    if serving.admin_port.is_none() && !serving.lint {
         return Ok(None);
     }
     Ok(Some(Arc::new(alloc, Moves::new(alloc, serving.replicas)?)?))
@@ -349,6 +447,7 @@ where
         Err(refusal) => return Err(Unbound::Refused(refusal)),
     };
     let sockets = bound(rt, alloc, begun, &moves)?;
+    let beside = beside_of(begun, &moves)?;
     let admin = match (begun.serving.admin_port, moves) {
         (Some(port), Some(moves)) => Some(bound_admin(rt, alloc, begun, port, moves)?),
         _ => None,
@@ -358,6 +457,7 @@ where
             sockets,
             admin,
             progress,
+            beside,
         }),
         Err(refusal) => Err(Unbound::Refused(refusal)),
     }
@@ -421,6 +521,7 @@ fn run<R, I, E, T>(
     doors: Bindings,
     tapes: &Vec<Arc<Tape>>,
     serving: Serving,
+    asks: &Option<Arc<Asks>>,
 ) -> Result<u8, Refusal>
 where
     R: Machine,
@@ -429,7 +530,7 @@ where
     T: Write + Drop + Send + 'static,
     ensures { IfOk result (λ status. status ≤ 1) }
 {
-    let (sockets, admin, progress) = doors.into_parts();
+    let (sockets, admin, progress, beside) = doors.into_parts();
     let wires = wired(alloc, sockets, &Channels { alloc })?;
     let ending = Arc::new(alloc, ending_of(alloc, serving))?;
     if serving.hold {
@@ -439,7 +540,8 @@ where
     log_replicas(rt, &ending, serving);
     let is_told_beside = start_teller(rt, alloc, teller, &ending)?;
     start(
-        rt, alloc, input, wires, admin, serving, &lookouts, tapes, &progress, &ending,
+        rt, alloc, input, wires, admin, serving, &lookouts, tapes, &progress, &beside, &ending,
+        asks,
     )?;
     if is_told_beside {
         return Ok(end_beside(rt, alloc, tapes, &progress, &ending));
@@ -570,12 +672,17 @@ fn start<R, I>(
     lookouts: &Vec<Arc<Lookout>>,
     tapes: &Vec<Arc<Tape>>,
     progress: &Option<Arc<Progress>>,
+    beside: &Beside,
     ending: &Arc<Ending>,
+    asks: &Option<Arc<Asks>>,
 ) -> Result<(), Refusal>
 where
     R: Machine,
     I: Read + Drop + Send + 'static,
 {
+    if let Some(asks) = asks {
+        asks.tell(rt, alloc, ending);
+    }
     let (senders, replicas) = wires.apart();
     let mut done = match admin {
         Some((listener, moves, meter, bearer)) => {
@@ -585,10 +692,12 @@ where
                 lookouts,
                 tapes,
                 progress,
+                &beside.source,
                 ending,
                 moves,
                 meter,
                 bearer,
+                asks,
             );
             start_admin(rt, alloc, listener, desk)
         }
@@ -599,6 +708,10 @@ where
     }
     done = both(
         done,
+        start_beside(rt, alloc, beside, senders.as_slice(), ending),
+    );
+    done = both(
+        done,
         start_input(
             rt,
             alloc,
@@ -607,6 +720,7 @@ where
             serving.keep_going,
             serving.hold,
             ending,
+            asks,
         ),
     );
     let mut lookouts = lookouts.iter();
@@ -619,6 +733,19 @@ where
         }
     }
     done
+}
+
+// Starts what works beside the replicas.
+fn start_beside<R: Machine>(
+    rt: &R,
+    alloc: Global,
+    beside: &Beside,
+    senders: &[Sender<Order>],
+    ending: &Arc<Ending>,
+) -> Result<(), Refusal> {
+    let sourcing = start_sourcing(rt, alloc, &beside.source, senders, ending);
+    let linting = start_linting(rt, alloc, &beside.moves, senders, ending);
+    both(sourcing, linting)
 }
 
 // The replicas, as an operator's port reaches them.
@@ -651,23 +778,31 @@ fn desk_of(
     lookouts: &Vec<Arc<Lookout>>,
     tapes: &Vec<Arc<Tape>>,
     progress: &Option<Arc<Progress>>,
+    source: &Option<Arc<Source>>,
     ending: &Arc<Ending>,
     moves: Arc<Moves>,
     meter: Meter,
     bearer: Option<String>,
+    asks: &Option<Arc<Asks>>,
 ) -> Result<Admin, Refusal> {
     let replicas = reached_by(alloc, senders, lookouts, tapes)?;
     let store = match progress {
         Some(progress) => Some(share(progress)?),
         None => None,
     };
+    let source = match source {
+        Some(source) => Some(share(source)?),
+        None => None,
+    };
     Ok(Admin {
         replicas,
         store,
+        source,
         moves,
         ending: share(ending)?,
         meter,
         bearer,
+        asks: shared_asks(asks)?,
     })
 }
 

@@ -2,7 +2,8 @@
 ghost use Rattle.std.specs.Prelude.{◌≡◌, ◌≤◌};
 
 use crate::admin::Admin;
-use crate::input::take_input;
+use crate::checker::Asks;
+use crate::input::{Replicas, take_input};
 use crate::keeping::keep_input;
 use crate::machine::{Machine, Runtime};
 use crate::opening::open_when_asked;
@@ -11,6 +12,7 @@ use crate::ready_line::ReadyReader;
 use crate::replica::{ReplicaOver, run_replica};
 use crate::serve_telling::tell_all;
 use crate::storing::Follows;
+use crate::validating::take_checked;
 use crate::wires::{both, started};
 use crate::workers::{share, shares, start_worker};
 use crossbeam_channel::Sender;
@@ -315,12 +317,17 @@ pub(crate) fn start_input<R, I>(
     keep_going: bool,
     hold: bool,
     ending: &Arc<Ending>,
+    asks: &Option<Arc<Asks>>,
 ) -> Result<(), Refusal>
 where
     R: Runtime,
     I: Read + Drop + Send + 'static,
 {
-    start_worker(rt, share(ending), move |rt, ending| {
+    let owned = match (share(ending), shared_asks(asks)) {
+        (Ok(ending), Ok(asks)) => Ok((ending, asks)),
+        _ => Err(Refusal::OutOfMemory),
+    };
+    start_worker(rt, owned, move |rt, (ending, asks)| {
         let mut input = input;
         if hold {
             let mut input = ReadyReader::new(rt, &ending, input);
@@ -331,6 +338,7 @@ where
                 senders.as_slice(),
                 keep_going,
                 &ending,
+                &asks,
             );
         } else {
             read_input(
@@ -340,6 +348,7 @@ where
                 senders.as_slice(),
                 keep_going,
                 &ending,
+                &asks,
             );
         }
     })
@@ -364,6 +373,14 @@ where
     })
 }
 
+// A share of what a checker is asked by, if there is one.
+pub(crate) fn shared_asks(asks: &Option<Arc<Asks>>) -> Result<Option<Arc<Asks>>, Refusal> {
+    match asks {
+        Some(asks) => Ok(Some(share(asks)?)),
+        None => Ok(None),
+    }
+}
+
 // Shares of what changes are sent by.
 fn copies(alloc: Global, senders: &[Sender<Order>]) -> Result<Vec<Sender<Order>>, Refusal> {
     let mut copies = Vec::new(alloc);
@@ -381,11 +398,17 @@ fn read_input<R, I>(
     senders: &[Sender<Order>],
     keep_going: bool,
     ending: &Ending,
+    asks: &Option<Arc<Asks>>,
 )
 where
     R: Wait,
     I: Read,
 {
+    if let Some(asks) = asks {
+        let replicas = Replicas { senders, ending };
+        take_checked(rt, alloc, input, replicas, keep_going, ending, asks);
+        return;
+    }
     if keep_going {
         keep_input(rt, alloc, input, senders, ending);
     } else {

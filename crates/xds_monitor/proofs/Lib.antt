@@ -1,3 +1,1 @@
-pub mod Pieces
-mod Causing
 mod Responding

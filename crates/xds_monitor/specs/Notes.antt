@@ -3,16 +3,17 @@
 --     refused_by     the same, or without that, where there is none
 --     refused_line   the same, or without that, where it isn't known
 --     store_line     the line of what is so of the store
+--     said_line      a line of this text
 --     note_line      the line of a note
 --     stamp_line     the line of a line that was made a write, which has this stamp
 use Rattle.std.specs.Prelude.{ℕ, List, ◌++◌, Option, Some, None, codes, decimal, string_bytes}
 use Rattle.xds_resource.specs.declared.refusal.Refusal.{Refusal}
 use Rattle.xds_resource.specs.Refusals.{number_of, name_of}
-use Rattle.xds_monitor.specs.declared.cause.Cause.{Cause}
+use Rattle.xds_causes.specs.declared.cause.Cause.{Cause}
 use Rattle.xds_monitor.specs.declared.fault.Fault.{Fault}
 use Rattle.xds_monitor.specs.declared.note.Note.{Note}
-use Rattle.xds_monitor.specs.declared.note.Note.TheVariants.{Refused, Event, Json, Missed, RecordingEnded, Store}
-use Rattle.xds_monitor.specs.Causes.{cause_text}
+use Rattle.xds_monitor.specs.declared.note.Note.TheVariants.{Refused, Event, Json, Missed, RecordingEnded, Store, Said}
+use Rattle.xds_causes.specs.Causes.{cause_text}
 use Rattle.xds_stats.specs.Logging.{event_line, json_line}
 use Rattle.xds_monitor.specs.Endings.{fault_line}
 use Rattle.xds_monitor.specs.Recordings.{recording_line}
@@ -34,6 +35,10 @@ refused_line line fault = refused_by line fault.refusal fault.cause
 abbrev pub store_line : List ℕ → List ℕ
 store_line text = codes "the store " ++ (text ++ codes "\n")
 
+-- a line of this text
+abbrev pub said_line : List ℕ → List ℕ
+said_line text = text ++ codes "\n"
+
 -- the line of a note
 abbrev pub note_line : Note → List ℕ
 note_line (Refused line fault) = refused_line line fault
@@ -42,6 +47,7 @@ note_line (Json time event) = json_line (string_bytes time) event
 note_line (Missed count) = decimal count ++ codes " lines are left out\n"
 note_line (RecordingEnded replica refusal) = recording_line replica refusal
 note_line (Store text) = store_line (string_bytes text)
+note_line (Said text) = said_line (string_bytes text)
 
 -- the line of a line that was made a write, which has this stamp
 abbrev pub stamp_line : ℕ → ℕ → ℕ → List ℕ

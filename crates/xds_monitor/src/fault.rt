@@ -1,5 +1,5 @@
 // How a line of the input is refused.
-use crate::cause::Cause;
+use xds_causes::Cause;
 use xds_resource::Refusal;
 
 /// Why a line of the input, or the change that it says, is refused.

@@ -2,7 +2,6 @@
 // around a node that see to it; and how a server ends.
 #![tactic(auto)]
 
-pub mod cause;
 pub mod ending;
 pub mod fault;
 pub mod lookout;
@@ -20,7 +19,6 @@ pub mod watched;
 pub mod weighed;
 mod weights;
 
-pub use cause::{Cause, cause_of};
 pub use ending::{End, Ending, Next, Telling};
 pub use fault::Fault;
 pub use lookout::{Limits, Lookout};
@@ -38,3 +36,4 @@ pub use tapes::{
 pub use turns::Turns;
 pub use watched::Watched;
 pub use weighed::{MOST_BYTES, Weighed};
+pub use xds_causes::{Cause, cause_of};

@@ -1,12 +1,12 @@
 // What a server tells on its error output while it serves.
 ghost use Rattle.std.specs.Prelude.{◌≡◌, string_bytes, IfOk};
-ghost use Rattle.xds_monitor.specs.Notes.{note_line, refused_line, caused_line, stamp_line, store_line};
+ghost use Rattle.xds_monitor.specs.Notes.{note_line, refused_line, caused_line, said_line, stamp_line, store_line};
 ghost use Rattle.xds_monitor.specs.Endings.{fault_line};
 ghost use Rattle.xds_monitor.specs.Recordings.{recording_line};
 
-use crate::cause::Cause;
 use crate::fault::Fault;
 use std::alloc::Global;
+use xds_causes::Cause;
 use xds_resource::{Refusal, Stamp};
 use xds_stats::log_event::LogEvent;
 
@@ -25,6 +25,8 @@ pub enum Note {
     RecordingEnded(u16, Refusal),
     /// What is so of the store, behind a word for it.
     Store(String),
+    /// A line without its end.
+    Said(String),
 }
 
 impl Note {
@@ -39,6 +41,7 @@ impl Note {
             Note::Missed(count) => missed_line(alloc, *count),
             Note::RecordingEnded(replica, refusal) => recording_line(alloc, *replica, *refusal),
             Note::Store(text) => store_line(alloc, text.as_str()),
+            Note::Said(text) => said_line(alloc, text.as_str()),
         }
     }
 }
@@ -47,6 +50,12 @@ fn store_line(alloc: Global, text: &str) -> Result<String, Refusal>
     ensures { IfOk result (λ t. string_bytes t ≡ store_line text.now) }
 {
     Ok(format!(in alloc; "the store {text}\n")?)
+}
+
+fn said_line(alloc: Global, text: &str) -> Result<String, Refusal>
+    ensures { IfOk result (λ t. string_bytes t ≡ said_line text.now) }
+{
+    Ok(format!(in alloc; "{text}\n")?)
 }
 
 fn missed_line(alloc: Global, count: u64) -> Result<String, Refusal>

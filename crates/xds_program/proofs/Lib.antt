@@ -6,6 +6,9 @@ pub mod Reading
 pub mod Writing
 pub mod Telling
 pub mod Judging
+pub mod LastLines
+pub mod CutShort
+pub mod Behind
 pub mod JudgedInput
 pub mod CommandLine
 pub mod Values

@@ -1,16 +1,18 @@
 -- Words ask for one task at most.
-use Rattle.std.proofs.Common.{◌≡◌, ◌∙◌, List, codes, refl, sym, ap, subst, Option, Some, None}
+use Rattle.std.proofs.Common.{◌≡◌, ◌∙◌, List, codes, refl, sym, ap, subst, Option, Some, None, option_map}
 use Rattle.std.specs.declared.net.socket_addr.SocketAddrV4.{SocketAddrV4}
 use Rattle.std.specs.Net.Grammar.{IsSocketV4Text}
 use Rattle.std.proofs.NetLemmas.Theorems.{IsSocketV4Text_unique}
 use Rattle.clap.specs.Words.{Row, Text, one_of}
 use Rattle.xds_program.specs.declared.tasks.Task.{Task}
-use Rattle.xds_program.specs.declared.tasks.Task.TheVariants.{Answer, Play, Check, Serve, Client, Poll, Writes, Status}
+use Rattle.xds_program.specs.declared.tasks.Task.TheVariants.{Answer, Play, Check, Serve, Client, Poll, Writes, Status, Get, Put, Delete}
 use Rattle.xds_program.specs.declared.tasks.ServeTask.{ServeTask}
-use Rattle.xds_program.specs.Tasks.{Look, Reads, Sees, Serves, Watch}
+use Rattle.xds_resource.specs.declared.types.TypeName.{TypeName}
+use Rattle.xds_resource.specs.Types.{type_of_word}
+use Rattle.xds_program.specs.Tasks.{Checks, Deletes, Gets, Look, Plays, Puts, Reads, Sees, Serves, Watch}
 use Rattle.xds_program.specs.CommandLine.{named_in}
-use Rattle.xds_program.specs.Words.{Asks, AsksBy, AsksClient, AsksIn, AsksPoll, AsksServe, AsksServed, AsksStatus, AsksWrites, Finds, IsAddress, IsNumber}
-use Rattle.xds_program.proofs.Values.{one_number, only_answer, only_check, only_client, only_play, only_poll, only_serve, only_status, only_writes, same_some}
+use Rattle.xds_program.specs.Words.{Asks, AsksBy, AsksChecked, AsksClient, AsksDelete, AsksGet, AsksIn, AsksPlayed, AsksPoll, AsksPut, AsksServe, AsksServed, AsksStatus, AsksWrites, Finds, IsAddress, IsAddressAt, IsAddressGiven, IsNumber}
+use Rattle.xds_program.proofs.Values.{one_not_none, one_number, only_answer, only_check, only_client, only_delete, only_get, only_play, only_poll, only_put, only_serve, only_status, only_writes, same_some}
 
 -- what fits one thing at most is found once
 pub one_found : {X : Type 0} (Fits : X → Type 0) → ((x y : X) → Fits x → Fits y → x ≡ y) → (o p : Option X) → Finds Fits o → Finds Fits p → o ≡ p
@@ -19,9 +21,19 @@ one_found Fits one (Some x) None h k = absurd (k x h)
 one_found Fits one None (Some y) h k = absurd (h y k)
 one_found Fits one None None h k = refl
 
+one_address_at : (option : Text) (rows : List Row) (a b : SocketAddrV4) → IsAddressAt option rows a → IsAddressAt option rows b → a ≡ b
+one_address_at option rows a b h k =
+    IsSocketV4Text_unique k.0 a b (subst (λ (x : Text). IsSocketV4Text x a) (same_some (one_of option rows) h.0 k.0 h.1 k.1) h.2) k.2
+
 one_address : (rows : List Row) (a b : SocketAddrV4) → IsAddress rows a → IsAddress rows b → a ≡ b
-one_address rows a b h k =
-    IsSocketV4Text_unique k.0 a b (subst (λ (x : Text). IsSocketV4Text x a) (same_some (one_of (codes "addr") rows) h.0 k.0 h.1 k.1) h.2) k.2
+one_address rows a b h k = one_address_at (codes "addr") rows a b h k
+
+-- an address that is given or isn't
+one_address_given : (option : Text) (rows : List Row) (a b : Option SocketAddrV4) → IsAddressGiven option rows a → IsAddressGiven option rows b → a ≡ b
+one_address_given option rows None None h k = refl
+one_address_given option rows None (Some b) h k = absurd (one_not_none option rows k.0 k.1 h)
+one_address_given option rows (Some a) None h k = absurd (one_not_none option rows h.0 h.1 k)
+one_address_given option rows (Some a) (Some b) h k = ap Some (one_address_at option rows a b h k)
 
 -- two values of one thing are the same
 same_value : {X : Type 0} (o : Option X) (x y : X) → o ≡ Some x → o ≡ Some y → x ≡ y
@@ -51,7 +63,11 @@ one_served rows s t h k =
     let hold = sym h.hold ∙ k.hold in
     let admin_token = sym h.admin_token ∙ k.admin_token in
     let log_json = sym h.log_json ∙ k.log_json in
-    λ i. record { task = task i; first_number = first_number i; folder = folder i; load = load i; store = store i; writes = writes i; hold = hold i; admin_token = admin_token i; log_json = log_json i }
+    let from_folder = sym h.from_folder ∙ k.from_folder in
+    let lint = sym h.lint ∙ k.lint in
+    let validate = one_address_given (codes "validate") rows s.validate t.validate h.validate k.validate in
+    let pass_unvalidated = sym h.pass_unvalidated ∙ k.pass_unvalidated in
+    λ i. record { task = task i; first_number = first_number i; folder = folder i; load = load i; store = store i; writes = writes i; hold = hold i; admin_token = admin_token i; log_json = log_json i; from_folder = from_folder i; lint = lint i; validate = validate i; pass_unvalidated = pass_unvalidated i }
 
 one_client : (rows : List Row) (c d : Watch) → AsksClient rows c → AsksClient rows d → c ≡ d
 one_client rows c d h k =
@@ -85,6 +101,53 @@ one_status rows s t h k =
     let token = sym h.token ∙ k.token in
     λ i. record { addr = addr i; token = token i }
 
+-- what is mapped to a type that is given is one type
+same_given : (o : Option Text) (f : Text → Option TypeName) (k l : Option TypeName) → option_map f o ≡ option_map Some k → option_map f o ≡ option_map Some l → k ≡ l
+same_given o f None None h m = refl
+same_given o f None (Some l) h m = absurd (cc)
+same_given o f (Some k) None h m = absurd (cc)
+same_given o f (Some k) (Some l) h m = cc
+
+one_played : (rows : List Row) (s t : Plays) → AsksPlayed rows s → AsksPlayed rows t → s ≡ t
+one_played rows s t h k =
+    let trace = one_found (IsNumber rows (codes "trace")) (one_number rows (codes "trace")) s.trace t.trace h.trace k.trace in
+    let picture = sym h.picture ∙ k.picture in
+    λ i. record { trace = trace i; picture = picture i }
+
+one_checked : (rows : List Row) (s t : Checks) → AsksChecked rows s → AsksChecked rows t → s ≡ t
+one_checked rows s t h k =
+    let so_far = sym h.so_far ∙ k.so_far in
+    let explain = sym h.explain ∙ k.explain in
+    let picture = sym h.picture ∙ k.picture in
+    λ i. record { so_far = so_far i; explain = explain i; picture = picture i }
+
+one_get : (rows : List Row) (s t : Gets) → AsksGet rows s → AsksGet rows t → s ≡ t
+one_get rows s t h k =
+    let addr = one_address rows s.addr t.addr h.addr k.addr in
+    let token = sym h.token ∙ k.token in
+    let replica = one_found (IsNumber rows (codes "replica")) (one_number rows (codes "replica")) s.replica t.replica h.replica k.replica in
+    let kind = same_given _ type_of_word s.kind t.kind h.kind k.kind in
+    let names = sym h.names ∙ k.names in
+    λ i. record { addr = addr i; token = token i; replica = replica i; kind = kind i; names = names i }
+
+one_put : (rows : List Row) (s t : Puts) → AsksPut rows s → AsksPut rows t → s ≡ t
+one_put rows s t h k =
+    let addr = one_address rows s.addr t.addr h.addr k.addr in
+    let token = sym h.token ∙ k.token in
+    let dry_run = sym h.dry_run ∙ k.dry_run in
+    let all_or_nothing = sym h.all_or_nothing ∙ k.all_or_nothing in
+    λ i. record { addr = addr i; token = token i; dry_run = dry_run i; all_or_nothing = all_or_nothing i }
+
+one_delete : (rows : List Row) (s t : Deletes) → AsksDelete rows s → AsksDelete rows t → s ≡ t
+one_delete rows s t h k =
+    let addr = one_address rows s.addr t.addr h.addr k.addr in
+    let token = sym h.token ∙ k.token in
+    let replica = one_number rows (codes "replica") s.replica t.replica h.replica k.replica in
+    let kind = same_value _ s.kind t.kind h.kind k.kind in
+    let dry_run = sym h.dry_run ∙ k.dry_run in
+    let names = sym h.names ∙ k.names in
+    λ i. record { addr = addr i; token = token i; replica = replica i; kind = kind i; dry_run = dry_run i; names = names i }
+
 -- the command is that of the task
 named : (command name : Text) (rows : List Row) (task : Task) → command ≡ name → AsksBy command rows task → AsksBy name rows task
 named command name rows task is h = subst (λ (c : Text). AsksBy c rows task) is h
@@ -93,25 +156,36 @@ one_by : (command : Text) (rows : List Row) (one other : Task) → AsksBy comman
 one_by command rows (Answer n) other h k =
     let only = only_answer rows other (named command _ rows other h.0 k) in
     ap Answer (one_number rows (codes "replica") n only.0 h.1 only.2) ∙ sym only.1
-one_by command rows (Play trace) other h k =
+one_by command rows (Play x) other h k =
     let only = only_play rows other (named command _ rows other h.0 k) in
-    ap Play (one_found (IsNumber rows (codes "trace")) (one_number rows (codes "trace")) trace only.0 h.1 only.2) ∙ sym only.1
-one_by command rows Check other h k = sym (only_check rows other (named command _ rows other h k))
-one_by command rows (Serve s) other h k =
+    ap Play (one_played rows x only.0 h.1 only.2) ∙ sym only.1
+one_by command rows (Check x) other h k =
+    let only = only_check rows other (named command _ rows other h.0 k) in
+    ap Check (one_checked rows x only.0 h.1 only.2) ∙ sym only.1
+one_by command rows (Serve x) other h k =
     let only = only_serve rows other (named command _ rows other h.0 k) in
-    ap Serve (one_served rows s only.0 h.1 only.2) ∙ sym only.1
-one_by command rows (Client c) other h k =
+    ap Serve (one_served rows x only.0 h.1 only.2) ∙ sym only.1
+one_by command rows (Client x) other h k =
     let only = only_client rows other (named command _ rows other h.0 k) in
-    ap Client (one_client rows c only.0 h.1 only.2) ∙ sym only.1
-one_by command rows (Poll p) other h k =
+    ap Client (one_client rows x only.0 h.1 only.2) ∙ sym only.1
+one_by command rows (Poll x) other h k =
     let only = only_poll rows other (named command _ rows other h.0 k) in
-    ap Poll (one_poll rows p only.0 h.1 only.2) ∙ sym only.1
-one_by command rows (Writes w) other h k =
+    ap Poll (one_poll rows x only.0 h.1 only.2) ∙ sym only.1
+one_by command rows (Writes x) other h k =
     let only = only_writes rows other (named command _ rows other h.0 k) in
-    ap Writes (one_writes rows w only.0 h.1 only.2) ∙ sym only.1
-one_by command rows (Status s) other h k =
+    ap Writes (one_writes rows x only.0 h.1 only.2) ∙ sym only.1
+one_by command rows (Status x) other h k =
     let only = only_status rows other (named command _ rows other h.0 k) in
-    ap Status (one_status rows s only.0 h.1 only.2) ∙ sym only.1
+    ap Status (one_status rows x only.0 h.1 only.2) ∙ sym only.1
+one_by command rows (Get x) other h k =
+    let only = only_get rows other (named command _ rows other h.0 k) in
+    ap Get (one_get rows x only.0 h.1 only.2) ∙ sym only.1
+one_by command rows (Put x) other h k =
+    let only = only_put rows other (named command _ rows other h.0 k) in
+    ap Put (one_put rows x only.0 h.1 only.2) ∙ sym only.1
+one_by command rows (Delete x) other h k =
+    let only = only_delete rows other (named command _ rows other h.0 k) in
+    ap Delete (one_delete rows x only.0 h.1 only.2) ∙ sym only.1
 
 one_in : (found : Option (Text × List Row)) (one other : Task) → AsksIn found one → AsksIn found other → one ≡ other
 one_in None one other h k = absurd h

@@ -1,5 +1,5 @@
--- Only plain words are taken as words of `answer`, of `play` and of `check`.
-use Rattle.std.proofs.Common.{◌≡◌, ◌⊎◌, ◌||◌, ◌==◌, ◌∙◌, ℕ, List, [], ◌∷◌, ◌++◌, codes, Bool, true, false, cond, drop, fold}
+-- Only plain words are taken as words of `answer`.
+use Rattle.std.proofs.Common.{◌≡◌, ◌⊎◌, ◌||◌, ◌==◌, ◌∙◌, ℕ, List, [], ◌∷◌, ◌++◌, codes, Bool, true, false, cond, fold}
 use Rattle.std.proofs.Common.{refl, sym, ap, subst, inl, inr, ⊎_elim, Option, Some, None, option_map, append-nil, append_assoc}
 use Rattle.std.specs.Prelude.{find, if◌then◌else◌}
 use Rattle.std.specs.List.{list_all, list_any}
@@ -18,7 +18,7 @@ use Rattle.clap.proofs.OnLiterals.{clap_on_literals}
 use Rattle.clap.specs.Simple.{entered, label_of, rows_at}
 use Rattle.clap.proofs.SimpleLemmas.{is_nil}
 use Rattle.clap.proofs.WalkLemmas.{both}
-use Rattle.xds_program.specs.PlainWords.{AreWords, AsksAnswer, AsksCheck, AsksPlay}
+use Rattle.xds_program.specs.PlainWords.{AreWords, AsksAnswer}
 use Rattle.xds_program.specs.CommandLine.{command_line, faults}
 use Rattle.xds_program.proofs.CommandLine.{name_read}
 use Rattle.xds_program.proofs.OneOption.{AreGiven, EndsOptions, Fine, FlagsFail, Numbered, holding, kinds_by, long_kinds_by, option_words, or_else-none, second_kind, short_plain, some_kind, standing}
@@ -30,17 +30,11 @@ abbrev first_shape : List Shape → Shape
 first_shape [] = new_shape []
 first_shape (s ∷ ss) = s
 
--- `answer`, `play` and `check`, as a parse reads them
+-- `answer`, as a parse reads it
 abbrev answer_read : Numbered
 answer_read = record { shape = first_shape (built command_line).subs; id = codes "replica"; defaults = codes "1" ∷ [] }
 
-abbrev play_read : Numbered
-play_read = record { shape = first_shape (drop 1 (built command_line).subs); id = codes "trace"; defaults = [] }
-
-abbrev check_shape : Shape
-check_shape = first_shape (drop 2 (built command_line).subs)
-
--- ---- commands with no option
+-- ---- the program, whose options ask for help and for its version
 
 -- what a parse reads of the program, and the names of its subcommands
 abbrev top_shape : Shape
@@ -49,41 +43,10 @@ top_shape = (built command_line).top
 abbrev top_names : Names
 top_names = names_of (built command_line)
 
--- what a parse reads of a command whose only rule is the flag that asks for help
-abbrev only_help : Shape → Bool → Shape
-only_help s leaf = record s { rules = filled help_rule ∷ []; is_leaf = leaf; args_override_self = false }
-
--- its one flag of one letter asks for help
-help_flags_fail : (rows : List Row) (pending : Option (Text × List Text)) → FlagsFail (filled help_rule ∷ []) (holding rows pending)
-help_flags_fail rows pending x rest next e = go (104 == x) e
-  where
-    go : (t : Bool) → short_fault (filled help_rule ∷ []) false (cond (t || false) (Some (filled help_rule)) None) rest (holding rows pending) next ≡ [] → ⊥
-    go true f = second_kind _ _ _ (or_else-none _ _ f).0
-    go false f = some_kind _ _ f
-
 -- a word that nothing takes is a fault
 stray_some : (leaf : Bool) → (if leaf then kind.UnknownArgument ∷ [] else kind.UnknownArgument ∷ kind.InvalidSubcommand ∷ []) ≡ [] → ⊥
 stray_some true none = some_kind _ _ none
 stray_some false none = some_kind _ _ none
-
-module _ (s : Shape) (leaf : Bool) (word : Text) where
-  -- a long word is a fault
-  help_long : (v : Option Text) (is_help : Bool)
-      → long_kinds_by (only_help s leaf) idle word (holding [] None) (cond (is_help || false) (Some (filled help_rule)) None) v ≡ [] → ⊥
-  help_long None true none = some_kind _ _ none
-  help_long (Some v) true none = some_kind _ _ none
-  help_long v false none = some_kind _ _ none
-
-  -- and so is any other that names no subcommand, but for `--`
-  help_other : (dashes : Bool) (long : Option (Text × Option Text)) → kinds_by (only_help s leaf) idle (holding [] None) word dashes long ≡ [] → dashes ≡ true
-  help_other true long none = refl
-  help_other false (Some p) none = absurd (help_long p.1 (bytes_eq (codes "help") p.0) none)
-  help_other false None none =
-      let parts = or_else-none _ _ none in
-      let as_plain = short_plain (filled help_rule ∷ []) [] None (help_flags_fail [] None) idle word (short_of word) parts.0 in
-      absurd (stray_some leaf (ap (λ (met : Held × Step). step_fault (only_help s leaf) 1 met.0 met.1) (sym as_plain) ∙ parts.1))
-
--- ---- the program, whose options ask for help and for its version
 
 -- what a parse reads of it
 abbrev help_and_version : Shape → Shape
@@ -118,29 +81,6 @@ module _ (s : Shape) (word : Text) where
       let parts = or_else-none _ _ none in
       let as_plain = short_plain (filled help_rule ∷ filled version_rule ∷ []) [] None (both_flags_fail [] None) idle word (short_of word) parts.0 in
       absurd (stray_some false (ap (λ (met : Held × Step). step_fault (help_and_version s) 1 met.0 met.1) (sym as_plain) ∙ parts.1))
-
--- ---- the words of a command with no option
-
-module _ (s : Shape) where
-  -- its first word without a fault is `--`
-  bare_turn : (word : Text) → turn_fault (only_help s true) [] (standing (holding [] None) idle false) word ≡ [] → word ≡ codes "--"
-  bare_turn word none = (bytes_eq-Decides word (codes "--")).0 (help_other s true word (bytes_eq word (codes "--")) (long_of word) none)
-
-  -- after which none comes
-  bare_end : (words : List Text) → walk_fault (only_help s true) [] (standing (holding [] None) idle true) words ≡ [] → words ≡ []
-  unfolding walk_fault
-  bare_end [] none = refl
-  bare_end (word ∷ rest) none = absurd (some_kind _ _ none)
-
-  -- only these words of it are without a fault
-  bare_words : (words : List Text) → walk_fault (only_help s true) [] (standing (holding [] None) idle false) words ≡ [] → (words ≡ []) ⊎ (words ≡ codes "--" ∷ [])
-  unfolding walk_fault walked
-  bare_words [] none = inl refl
-  bare_words (word ∷ rest) none =
-      let parts = or_else-none _ _ none in
-      let is = bare_turn word parts.0 in
-      let ends = bare_end rest (subst (λ (w : Text). walk_fault (only_help s true) [] (walked (only_help s true).rules [] (standing (holding [] None) idle false) w) rest ≡ []) is parts.1) in
-      inr (λ i. is i ∷ ends i)
 
 -- ---- the first word
 
@@ -253,25 +193,6 @@ after_answer p rest e =
     let parts = or_else-none _ _ level in
     (parts.0, (or_else-none _ _ parts.1).0)
 
--- and so after `play`
-after_play : (p : Text) (rest : List Text) → faults (p ∷ codes "play" ∷ rest) ≡ [] → Fine play_read (standing (holding [] None) idle false) rest
-unfolding walked
-after_play p rest e =
-    let below = (or_else-none _ _ (or_else-none _ _ e).1).0 in
-    let stop = stopped_walk top_shape.rules top_names (standing (holding [] None) idle false) (codes "play") [] rest in
-    let level : entered_fault (built command_line) (Some (codes "play", rest)) ≡ [] = ap (entered_fault (built command_line)) (sym stop) ∙ below in
-    let parts = or_else-none _ _ level in
-    (parts.0, (or_else-none _ _ parts.1).0)
-
--- and so after `check`
-after_check : (p : Text) (rest : List Text) → faults (p ∷ codes "check" ∷ rest) ≡ [] → walk_fault check_shape [] (standing (holding [] None) idle false) rest ≡ []
-unfolding walked
-after_check p rest e =
-    let below = (or_else-none _ _ (or_else-none _ _ e).1).0 in
-    let stop = stopped_walk top_shape.rules top_names (standing (holding [] None) idle false) (codes "check") [] rest in
-    let level : entered_fault (built command_line) (Some (codes "check", rest)) ≡ [] = ap (entered_fault (built command_line)) (sym stop) ∙ below in
-    (or_else-none _ _ level).0
-
 -- where the walk stopped, by what the first word names
 abbrev stop_by : Text → List Text → Option Text → Option (Text × List Text)
 stop_by word rest o =
@@ -308,33 +229,8 @@ asks_answer p word rest is e = go (option_words answer_read rest (after_answer p
     go (options, inl none, ends) = (1, (options, inl (none, refl), words_of (codes "answer") p word options rest is ends))
     go (options, inr given, ends) = (given.0, (options, inr given.1, words_of (codes "answer") p word options rest is ends))
 
--- the words that ask for a script to be played
-asks_play : (p word : Text) (rest : List Text) → word ≡ codes "play" → faults (p ∷ word ∷ rest) ≡ [] → (trace : Option ℕ) × AsksPlay (p ∷ word ∷ rest) trace
-asks_play p word rest is e = go (option_words play_read rest (after_play p rest (subst (λ w. faults (p ∷ w ∷ rest) ≡ []) is e)))
-  where
-    go : (options : List Text) × AreGiven play_read options × EndsOptions options rest → (trace : Option ℕ) × AsksPlay (p ∷ word ∷ rest) trace
-    go (options, inl none, ends) = (None, (options, none, words_of (codes "play") p word options rest is ends))
-    go (options, inr given, ends) = (Some given.0, (options, given.1, words_of (codes "play") p word options rest is ends))
-
--- the words that ask for a trace to be checked
-asks_check : (p word : Text) (rest : List Text) → word ≡ codes "check" → faults (p ∷ word ∷ rest) ≡ [] → AsksCheck (p ∷ word ∷ rest)
-asks_check p word rest is e =
-    words_of (codes "check") p word [] rest is (bare_words check_shape rest (after_check p rest (subst (λ w. faults (p ∷ w ∷ rest) ≡ []) is e)))
-
 -- only plain words are taken as words of `answer`
 pub only_answer_words : (words : List Text) → faults words ≡ [] → name_read words ≡ Some (codes "answer") → (n : ℕ) × AsksAnswer words n
 only_answer_words [] e named = absurd (no_word e)
 only_answer_words (p ∷ []) e named = absurd (name_alone p e)
 only_answer_words (p ∷ word ∷ rest) e named = asks_answer p word rest (first_is p word rest (codes "answer") e named) e
-
--- of `play`
-pub only_play_words : (words : List Text) → faults words ≡ [] → name_read words ≡ Some (codes "play") → (trace : Option ℕ) × AsksPlay words trace
-only_play_words [] e named = absurd (no_word e)
-only_play_words (p ∷ []) e named = absurd (name_alone p e)
-only_play_words (p ∷ word ∷ rest) e named = asks_play p word rest (first_is p word rest (codes "play") e named) e
-
--- and of `check`
-pub only_check_words : (words : List Text) → faults words ≡ [] → name_read words ≡ Some (codes "check") → AsksCheck words
-only_check_words [] e named = absurd (no_word e)
-only_check_words (p ∷ []) e named = absurd (name_alone p e)
-only_check_words (p ∷ word ∷ rest) e named = asks_check p word rest (first_is p word rest (codes "check") e named) e

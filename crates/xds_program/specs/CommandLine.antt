@@ -7,23 +7,31 @@
 --     required                         an option, or a word at least, that has to be given
 --     name_words                       words that are no options: the names of resources
 --     answer_command                   `xds answer [--replica N]`
---     play_command                     `xds play [--trace N]`
---     check_command                    `xds check`, which has no options
+--     play_command                     `xds play [--trace N] [--picture FILE]`
+--     check_command                    `xds check [--so-far] [--explain] [--picture FILE]`
 --     replicas_option                  `--replicas`, 2 if left out
 --     port_option                      `--port`, 18000 if left out
 --     rest_port_option                 `--rest-port`, 18100 if left out
 --     serve_start                      `xds serve`, with the options that say what is served where, and for how long
+--     serve_told                       and what it tells, and to whom
+--     serve_begun                      and what it begins with
 --     serve_command                    `xds serve [--replicas N] [--port P] [--rest-port Q] [--streams S] [--keep-going] [--log]
 --                                      [--max-streams N] [--idle-seconds T] [--admin-port A] [--record DIR]
---                                      [--first-number F] [--load FILE] [--store FILE] [--writes FILE] [--hold] [--admin-token FILE] [--log-json]`
+--                                      [--first-number F] [--load FILE] [--store FILE] [--writes FILE] [--hold] [--admin-token FILE] [--log-json]
+--                                      [--from DIR] [--lint] [--validate ADDRESS] [--pass-unvalidated]`
 --     writes_command                   `xds writes --store FILE`
+--     asking_command                   a command that asks a server's operator's port: `--addr A [--admin-token FILE]`
 --     status_command                   `xds status --addr A [--admin-token FILE]`
+--     get_command                      `xds get --addr A [--admin-token FILE] [--replica N] [--type TYPE] [NAME..]`
+--     put_command                      `xds put --addr A [--admin-token FILE] [--dry-run] [--all-or-nothing]`
+--     delete_command                   `xds delete --addr A --type TYPE [--admin-token FILE] [--replica N] [--dry-run] NAME..`
 --     client_start                     `xds client`, with the options that say where it asks, how, and for what
 --     client_command                   `xds client`, with its options and names
 --     poll_start                       `xds poll`, with the options that say where it asks, and for what
 --     poll_command                     `xds poll --addr A --type TYPE [--version V] [--seconds T] [--cluster TEXT] [NAME..]`
 --     wanting_command                  `xds`, which wants a command, and says its version
 --     first_commands                   and with the first three of them
+--     serving_commands                 and with those that serve, and that ask a replica
 --     command_line                     `xds`, with all of them
 --     IsLocal                          the options of the command are its own
 --     IsCommand                        the command is as described
@@ -74,13 +82,16 @@ name_words = record (new_rule (codes "name")) { value_names = 1; action = Some A
 abbrev pub answer_command : App
 answer_command = with_rule (new_app (codes "answer")) (with_default (codes "1") (number_option (codes "replica")))
 
--- `xds play [--trace N]`
+-- `xds play [--trace N] [--picture FILE]`
 abbrev pub play_command : App
-play_command = with_rule (new_app (codes "play")) (number_option (codes "trace"))
+play_command = with_rule (with_rule (new_app (codes "play")) (number_option (codes "trace"))) (text_option (codes "picture"))
 
--- `xds check`, which has no options
+-- `xds check [--so-far] [--explain] [--picture FILE]`
 abbrev pub check_command : App
-check_command = new_app (codes "check")
+check_command =
+    with_rule (with_rule (with_rule (new_app (codes "check")) (flag_option (codes "so-far")))
+    (flag_option (codes "explain")))
+    (text_option (codes "picture"))
 
 abbrev pub replicas_option : Rule
 replicas_option = with_default (codes "2") (number_up_to 16 (codes "replicas"))
@@ -99,22 +110,34 @@ serve_start =
     rest_port_option)
     (number_option (codes "streams"))
 
--- `xds serve [--replicas N] [--port P] [--rest-port Q] [--streams S] [--keep-going] [--log] [--max-streams N] [--idle-seconds T] [--admin-port A] [--record DIR] [--first-number F] [--load FILE] [--store FILE] [--writes FILE] [--hold] [--admin-token FILE] [--log-json]`
-abbrev pub serve_command : App
-serve_command =
-    with_rule (with_rule (with_rule (with_rule (with_rule (with_rule (with_rule (with_rule (with_rule (with_rule (with_rule (with_rule (with_rule serve_start (flag_option (codes "keep-going")))
+-- and what it tells, and to whom
+abbrev pub serve_told : App
+serve_told =
+    with_rule (with_rule (with_rule (with_rule (with_rule (with_rule serve_start (flag_option (codes "keep-going")))
     (flag_option (codes "log")))
     (number_option (codes "max-streams")))
     (number_option (codes "idle-seconds")))
     (number_option (codes "admin-port")))
-    (text_option (codes "record")))
-    (number_option (codes "first-number")))
+    (text_option (codes "record"))
+
+-- and what it begins with
+abbrev pub serve_begun : App
+serve_begun =
+    with_rule (with_rule (with_rule (with_rule (with_rule serve_told (number_option (codes "first-number")))
     (text_option (codes "load")))
     (text_option (codes "store")))
     (text_option (codes "writes")))
-    (flag_option (codes "hold")))
-    (text_option (codes "admin-token")))
-    (flag_option (codes "log-json"))
+    (flag_option (codes "hold"))
+
+-- `xds serve`, with all its options
+abbrev pub serve_command : App
+serve_command =
+    with_rule (with_rule (with_rule (with_rule (with_rule (with_rule serve_begun (text_option (codes "admin-token")))
+    (flag_option (codes "log-json")))
+    (text_option (codes "from")))
+    (flag_option (codes "lint")))
+    (text_option (codes "validate")))
+    (flag_option (codes "pass-unvalidated"))
 
 -- `xds client`, with the options that say where it asks, how, and for what
 abbrev pub client_start : App
@@ -144,9 +167,30 @@ poll_command =
 abbrev pub writes_command : App
 writes_command = with_rule (new_app (codes "writes")) (required (text_option (codes "store")))
 
+-- a command that asks a server's operator's port: `--addr A [--admin-token FILE]`
+abbrev pub asking_command : Text → App
+asking_command name = with_rule (with_rule (new_app name) (required (text_option (codes "addr")))) (text_option (codes "admin-token"))
+
 -- `xds status --addr A [--admin-token FILE]`
 abbrev pub status_command : App
-status_command = with_rule (with_rule (new_app (codes "status")) (required (text_option (codes "addr")))) (text_option (codes "admin-token"))
+status_command = asking_command (codes "status")
+
+-- `xds get --addr A [--admin-token FILE] [--replica N] [--type TYPE] [NAME..]`
+abbrev pub get_command : App
+get_command =
+    with_rule (with_rule (with_rule (asking_command (codes "get")) (number_option (codes "replica"))) (text_option (codes "type"))) name_words
+
+-- `xds put --addr A [--admin-token FILE] [--dry-run] [--all-or-nothing]`
+abbrev pub put_command : App
+put_command = with_rule (with_rule (asking_command (codes "put")) (flag_option (codes "dry-run"))) (flag_option (codes "all-or-nothing"))
+
+-- `xds delete --addr A --type TYPE [--admin-token FILE] [--replica N] [--dry-run] NAME..`
+abbrev pub delete_command : App
+delete_command =
+    with_rule (with_rule (with_rule (with_rule (asking_command (codes "delete")) (with_default (codes "1") (number_option (codes "replica"))))
+    (required (text_option (codes "type"))))
+    (flag_option (codes "dry-run")))
+    (required name_words)
 
 -- `xds`, which wants a command, and says its version
 abbrev pub wanting_command : App
@@ -160,11 +204,16 @@ first_commands =
     play_command.top)
     check_command.top
 
+-- and with those that serve, and that ask a replica
+abbrev pub serving_commands : App
+serving_commands =
+    with_subcommand (with_subcommand (with_subcommand first_commands serve_command.top) client_command.top) poll_command.top
+
 -- `xds`, with all of them
 abbrev pub command_line : App
 command_line =
-    with_subcommand (with_subcommand (with_subcommand (with_subcommand (with_subcommand first_commands serve_command.top) client_command.top) poll_command.top)
-    writes_command.top) status_command.top
+    with_subcommand (with_subcommand (with_subcommand (with_subcommand (with_subcommand serving_commands writes_command.top) status_command.top)
+    get_command.top) put_command.top) delete_command.top
 
 -- ---- commands and options of `clap`
 

@@ -4,10 +4,10 @@
 --     NamesPlainly        the words name a command that uses no device but the program's own
 --     FaultlessWordsAsk   `clap` finds nothing wrong exactly with those of these words that ask for a task
 --     AnswerWordsAsk      which words ask for an answer, in plain words
---     PlayWordsAsk        which words ask for a script to be played
---     CheckWordsAsk       which words ask for a trace to be checked
+--     PlayWordsAsk        these words ask for a script to be played, and for no picture
+--     CheckWordsAsk       these words ask for a trace to be checked, as it comes
 --     AnswersAreFirstPolls  the answer to a request is what a session's first poll gives, once it took the request
-use Rattle.std.specs.Prelude.{◌≡◌, ◌⊎◌, ◌↔◌, ℕ, List, [], codes, Option, Some, option_map}
+use Rattle.std.specs.Prelude.{◌≡◌, ◌⊎◌, ◌↔◌, ℕ, List, [], codes, false, Option, Some, None, option_map}
 use Rattle.clap.specs.Words.{Text}
 use Rattle.xds_resource.specs.declared.types.TypeName.{TypeName}
 use Rattle.xds_catalogue.specs.Holdings.{Holdings, IsCatalogue}
@@ -43,13 +43,13 @@ FaultlessWordsAsk = (words : List Text) → NamesPlainly words → faults words 
 abbrev pub AnswerWordsAsk : Type 0
 AnswerWordsAsk = (words : List Text) (replica : ℕ) → Asks words (Answer replica) ↔ AsksAnswer words replica
 
--- which words ask for a script to be played
+-- these words ask for a script to be played
 abbrev pub PlayWordsAsk : Type 0
-PlayWordsAsk = (words : List Text) (trace : Option ℕ) → Asks words (Play trace) ↔ AsksPlay words trace
+PlayWordsAsk = (words : List Text) (trace : Option ℕ) → AsksPlay words trace → Asks words (Play (record { trace = trace; picture = None }))
 
--- which words ask for a trace to be checked
+-- these words ask for a trace to be checked
 abbrev pub CheckWordsAsk : Type 0
-CheckWordsAsk = (words : List Text) → Asks words Check ↔ AsksCheck words
+CheckWordsAsk = (words : List Text) → AsksCheck words → Asks words (Check (record { so_far = false; explain = false; picture = None }))
 
 -- The answer to a request, by what is held of its type, is what a session's first poll gives, once it took the request: it draws
 -- the first nonce.

@@ -9,4 +9,6 @@ pub mod WrongValues
 pub mod PlainWords
 pub mod Laws
 pub mod Judged
+pub mod SoFar
 pub mod Outcomes
+pub mod Drawings

@@ -5,6 +5,7 @@
 --     IsPrinted        a text that is called for is written, and no more
 --     TellsFault       the line that is refused is told
 --     Prints           a text is written with this status
+--     PrintsSo         the same, where a cause is left as it is
 --     HasOutcome       status 0 comes with the text that the input calls for
 --     IsCause          there was no memory, or a device failed: the refusal says which
 --     IsUnable         the run can't go on, and tells why
@@ -17,6 +18,18 @@
 --     MayTell          a verdict of the input may be printed, with one status or the other
 --     HasVerdict       a verdict is printed, with its status
 --     RunsCheck        `xds check`: the verdict on a trace, or its first bad line
+--     MayTellSoFar     a verdict of an input that may be cut short may be printed
+--     HasVerdictSoFar  a verdict is printed, with its status, on a trace that may be cut short
+--     RunsSoFar        `xds check` of a trace that is read whole, and what is told of it beside that
+--     RunsBy           one of two ways to run
+--     RunsWanted       `xds check` of a trace that is read whole, or as it comes
+--     RunsChecked      that, as the task has it
+--     AreJoined        a device goes through one state between two others
+--     cause_line       the line of a cause, or of a note on what is no fault
+--     TellsCause       a cause is told in one line, if there is one
+--     TellsBehind      what is told of a run, and behind it what is wrong in words
+--     IsDrawn          a run is done but for its picture, which is for this file
+--     Draws            a run is done, or done but for its picture
 --     IsSame           the device is as it was, and none of its calls failed
 --     IsUntouched      nothing is read, and nothing is written
 --     IsDone           the task is done, with this status, and has its outcome
@@ -27,7 +40,7 @@
 --     AsksNone         no task is asked for
 --     IsAside          the words ask for no task: they call for help, or they are wrong. The input isn't read.
 --     HasRun           a run whose words ask for a task does it, or tells the line that is refused
-use Rattle.std.specs.Prelude.{◌≡◌, ◌⊎◌, ℕ, List, ◌++◌, IfSome, Option, None, Some, codes, decimal}
+use Rattle.std.specs.Prelude.{◌≡◌, ◌⊎◌, ◌||◌, is_some, if◌then◌else◌, ℕ, Bool, true, false, List, [], ◌∷◌, ◌++◌, IfSome, Option, None, Some, codes, decimal}
 use Rattle.clap.specs.declared.error.kind.ErrorKind.{ErrorKind}
 use Rattle.clap.specs.declared.error.kind.ErrorKind.TheVariants.{DisplayHelp, DisplayVersion}
 use Rattle.clap.specs.Words.{Text}
@@ -42,11 +55,14 @@ use Rattle.xds_check.specs.Texts.{IsFirstBad}
 use Rattle.xds_play.specs.Traced.{IsTraced}
 use Rattle.xds_program.specs.Judged.{TellsVerdict}
 use Rattle.xds_program.specs.declared.tasks.Task.{Task}
-use Rattle.xds_program.specs.declared.tasks.Task.TheVariants.{Answer, Play, Check, Serve, Client, Poll, Writes, Status}
+use Rattle.xds_program.specs.declared.tasks.Task.TheVariants.{Answer, Play, Check, Serve, Client, Poll, Writes, Status, Get, Put, Delete}
 use Rattle.xds_program.specs.declared.run.Ran.{Ran}
 use Rattle.xds_program.specs.declared.run.Ran.TheVariants.{Done}
 use Rattle.xds_program.specs.declared.run.Ran.TheVariants as rans
 use Rattle.xds_program.specs.Words.{Asks, IsFaultOf}
+use Rattle.xds_program.specs.SoFar.{TellsSoFar}
+use Rattle.xds_program.specs.Tasks.{Checks, Draws as Drawing}
+use Rattle.xds_causes.specs.PlainLines.{plain_line}
 
 -- how a refusal is told
 abbrev pub refusal_line : Refusal → List ℕ
@@ -79,6 +95,12 @@ pub record TellsFault (Refuses : ℕ → Refusal → Type 0) (errors : Device) :
 abbrev pub Prints : List ℕ → ℕ → ℕ → Device → Device → Type 0
 Prints text wanted status output errors =
     ((status ≡ wanted) × Wrote output text × Stays errors) ⊎ ((status ≡ 1) × WrotePart output text × Tells errors (refusal_line DeviceRefusal))
+
+-- The same, where a cause is left as it is unless the output fails.
+abbrev pub PrintsSo : List ℕ → List ℕ → List ℕ → ℕ → ℕ → Device → Device → Type 0
+PrintsSo text before after wanted status output errors =
+    ((status ≡ wanted) × (after ≡ before) × Wrote output text × Stays errors)
+    ⊎ ((status ≡ 1) × WrotePart output text × Tells errors (refusal_line DeviceRefusal))
 
 -- Status 0 comes with the text that the input calls for, and status 1 with the line that is refused and no output.
 abbrev pub HasOutcome : (List ℕ → List ℕ → Type 0) → (List ℕ → ℕ → Refusal → Type 0) → ℕ → Streams → Type 0
@@ -135,6 +157,61 @@ HasVerdict status s = IfSome s.input.before (λ input.
 abbrev pub RunsCheck : ℕ → Streams → Type 0
 RunsCheck status s = HasVerdict status s ⊎ IsUnable (MayTell s.input) status s
 
+-- a verdict of an input that may be cut short may be printed
+abbrev pub MayTellSoFar : Bool → Bool → Device → List ℕ → Type 0
+MayTellSoFar so_far explains input text = IfSome input.before (λ bytes. (cause : List ℕ) × (status : ℕ) × TellsSoFar so_far explains bytes cause status text)
+
+-- A verdict is printed, with its status, on a trace that may be cut short, and the cause is which line isn't whole; or the first bad line
+-- is told, with status 1 and no output.
+abbrev pub HasVerdictSoFar : Bool → Bool → List ℕ → ℕ → Streams → Type 0
+HasVerdictSoFar so_far explains cause status s = IfSome s.input.before (λ input.
+    (IsPrinted (TellsSoFar so_far explains input cause status) s.output × Stays s.errors) ⊎ ((status ≡ 1) × TellsFault (IsBadTraceLine input) s.errors × Stays s.output))
+
+-- `xds check` of a trace that is read whole
+abbrev pub RunsSoFar : Bool → Bool → List ℕ → ℕ → Streams → Type 0
+RunsSoFar so_far explains cause status s =
+    HasVerdictSoFar so_far explains cause status s ⊎ IsUnable (MayTellSoFar so_far explains s.input) status s
+
+-- one of two ways to run
+abbrev pub RunsBy : Bool → (ℕ → Streams → Type 0) → (ℕ → Streams → Type 0) → ℕ → Streams → Type 0
+RunsBy true First Second status s = First status s
+RunsBy false First Second status s = Second status s
+
+-- `xds check` of a trace that is read whole, where it may be cut short, or is explained or drawn; and else as it comes
+abbrev pub RunsWanted : Bool → Bool → Bool → List ℕ → ℕ → Streams → Type 0
+RunsWanted so_far explains draws cause status s = RunsBy (so_far || explains || draws) (RunsSoFar so_far explains cause) RunsCheck status s
+
+abbrev pub RunsChecked : Checks → List ℕ → ℕ → Streams → Type 0
+RunsChecked task cause status s = RunsWanted task.so_far task.explain (is_some task.picture) cause status s
+
+-- a device goes through one state between two others
+pub record AreJoined (first last whole : Device) : Type 0 where
+  pub before : first.before ≡ whole.before
+  pub between : first.after ≡ last.before
+  pub after : last.after ≡ whole.after
+  pub failed_before : first.failed_before ≡ whole.failed_before
+  pub failed_between : first.failed_after ≡ last.failed_before
+  pub failed_after : last.failed_after ≡ whole.failed_after
+
+-- the line of a cause: behind an empty one, where it is a note on what is no fault
+abbrev pub cause_line : Bool → List ℕ → List ℕ
+cause_line is_note cause = if is_note then 10 ∷ plain_line cause else plain_line cause
+
+-- a cause is told in one line, if there is one, and memory for it
+abbrev pub TellsCause : Bool → List ℕ → Device → Type 0
+TellsCause is_note [] errors = Stays errors
+TellsCause is_note (b ∷ bs) errors = Stays errors ⊎ Tells errors (cause_line is_note (b ∷ bs))
+
+-- What is told of a run, and behind it what is wrong in words, in one line at most.
+pub record TellsBehind (Ends : List ℕ → ℕ → Streams → Type 0) (status : ℕ) (s : Streams) : Type 0 where
+  pub cause : List ℕ
+  pub first : Device
+  pub last : Device
+  pub joined : AreJoined first last s.errors
+  pub ends : Ends cause status (record { input = s.input; output = s.output; errors = first })
+  pub is_note : Bool
+  pub told : TellsCause is_note cause last
+
 -- the device is as it was, and none of its calls failed
 abbrev pub IsSame : Device → Type 0
 IsSame d = (d.after ≡ d.before) × (d.failed_after ≡ d.failed_before)
@@ -147,6 +224,14 @@ IsUntouched s = IsSame s.input × IsSame s.output × IsSame s.errors
 abbrev pub IsDone : (ℕ → Streams → Type 0) → Ran → Streams → Type 0
 IsDone Ends ran s = (status : ℕ) × (ran ≡ Done status) × Ends status s
 
+-- a run is done but for its picture, which is for this file
+abbrev pub IsDrawn : Option (List ℕ) → (ℕ → Streams → Type 0) → Ran → Streams → Type 0
+IsDrawn file Ends ran s = (d : Drawing) × (ran ≡ rans.Drawn d) × (file ≡ Some d.file) × Ends d.status s
+
+-- a run is done, or done but for its picture
+abbrev pub Draws : Option (List ℕ) → (ℕ → Streams → Type 0) → Ran → Streams → Type 0
+Draws file Ends ran s = IsDone Ends ran s ⊎ IsDrawn file Ends ran s
+
 -- a task is handed to the caller, untouched
 abbrev pub IsHanded : Ran → Ran → Streams → Type 0
 IsHanded handed ran s = (ran ≡ handed) × IsUntouched s
@@ -154,14 +239,17 @@ IsHanded handed ran s = (ran ≡ handed) × IsUntouched s
 -- what becomes of a task: `xds answer`, `xds play` and `xds check` are done; one that needs a network or a file is
 -- handed to the caller
 abbrev pub Runs : Task → Ran → Streams → Type 0
-Runs (Answer replica) ran s = IsDone (RunsAnswer replica) ran s
-Runs (Play trace) ran s = IsDone (RunsPlay trace) ran s
-Runs Check ran s = IsDone RunsCheck ran s
+Runs (Answer replica) ran s = IsDone (TellsBehind (λ cause. RunsAnswer replica)) ran s
+Runs (Play task) ran s = Draws task.picture (TellsBehind (λ cause. RunsPlay task.trace)) ran s
+Runs (Check task) ran s = Draws task.picture (TellsBehind (RunsChecked task)) ran s
 Runs (Serve task) ran s = IsHanded (rans.Serve task) ran s
 Runs (Client task) ran s = IsHanded (rans.Client task) ran s
 Runs (Poll task) ran s = IsHanded (rans.Poll task) ran s
 Runs (Writes task) ran s = IsHanded (rans.Writes task) ran s
 Runs (Status task) ran s = IsHanded (rans.Status task) ran s
+Runs (Get task) ran s = IsHanded (rans.Get task) ran s
+Runs (Put task) ran s = IsHanded (rans.Put task) ran s
+Runs (Delete task) ran s = IsHanded (rans.Delete task) ran s
 
 -- the words call for help, or for the version
 abbrev pub IsCall : ErrorKind → Type 0

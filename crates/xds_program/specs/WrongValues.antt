@@ -10,9 +10,9 @@ use Rattle.clap.specs.Words.{Row, Text, first_of}
 use Rattle.xds_resource.specs.Types.{type_of_word}
 use Rattle.xds_program.specs.declared.tasks.Task.{Task}
 use Rattle.xds_program.specs.declared.wrong_values.WrongValue.{WrongValue}
-use Rattle.xds_program.specs.declared.wrong_values.WrongValue.TheVariants.{Addr, Variant, Kind, Port, Meeting, Admin, Number, Other}
+use Rattle.xds_program.specs.declared.wrong_values.WrongValue.TheVariants.{Addr, Variant, Kind, Port, Meeting, Admin, Number, Validate, Other}
 use Rattle.xds_program.specs.Tasks.{variant_of_word}
-use Rattle.xds_program.specs.Words.{AsksIn, Finds, IsAddress, IsNumber, are_apart, has_numbers, is_alone}
+use Rattle.xds_program.specs.Words.{AsksIn, Finds, IsAddress, IsAddressGiven, IsNumber, are_apart, has_numbers, is_alone}
 
 -- this value is wrong, among the values of a command's options
 abbrev pub Blames : List Row → WrongValue → Type 0
@@ -30,6 +30,7 @@ Blames rows Admin =
     × IsNumber rows (codes "rest-port") rest_port × Finds (IsNumber rows (codes "admin-port")) admin × (is_alone admin port rest_port replicas ≡ false)
 Blames rows Number =
     (replicas : ℕ) × (first : Option ℕ) × IsNumber rows (codes "replicas") replicas × Finds (IsNumber rows (codes "first-number")) first × (has_numbers first replicas ≡ false)
+Blames rows Validate = (a : Option SocketAddrV4) → IsAddressGiven (codes "validate") rows a → ⊥
 Blames rows Other = ⊤
 
 -- so it is among those of the command that was named, if one was
@@ -51,4 +52,5 @@ told_of Port = codes "--port, --rest-port: the port of the last replica is above
 told_of Meeting = codes "--port, --rest-port: the ports of streams and those of REST meet"
 told_of Admin = codes "--admin-port: it is a port of streams or of REST"
 told_of Number = codes "--first-number: the number of the last replica is above 65535"
+told_of Validate = codes "--validate: an address of IPv4 and a port, as 127.0.0.1:18300; for localhost write 127.0.0.1"
 told_of Other = codes "a value is none of those that the help names"

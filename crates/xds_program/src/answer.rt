@@ -8,7 +8,7 @@ ghost use Rattle.xds_core.specs.Streams.{cluster_in};
 ghost use Rattle.xds_program.specs.Answers.{response_to, response_by, response_with, answer_text};
 ghost use Rattle.xds_program.specs.Faults.{IsAnswer, IsFault};
 
-use crate::gathering::{Gathered, LineFault, gather, gather_freeing};
+use crate::gathering::{Gathered, LineFault, Looked, gather, gather_freeing};
 use std::alloc::Global;
 use xds_core::Catalogues;
 use xds_interest::{ClusterText, Interest};
@@ -34,16 +34,17 @@ pub fn answer_lines(alloc: Global, replica: u16, input: &[u8]) -> Result<Vec<u8>
 }
 
 /// The same before it is written, of an input that is let go of as it is read: once half of what is left was read, that half
-/// takes no memory any more. Of an answer that is nothing there is no draft.
+/// takes no memory any more. Of an answer that is nothing there is no draft. The line that was looked at last is kept.
 pub fn draft_answer(
     alloc: Global,
     replica: u16,
     input: Vec<u8>,
+    looked: &mut Looked,
 ) -> Result<Option<SotwDraft>, LineFault>
     ensures answered { IfOk result (λ draft. IsAnswer replica input.items (answer_text (option_map message_of draft))) }
     ensures refused { IfErr result (λ fault. IsFault input.items fault.line fault.refusal) }
 {
-    match gather_freeing(alloc, input) {
+    match gather_freeing(alloc, input, looked) {
         Ok(gathered) => draft_gathered(alloc, replica, &gathered),
         Err(fault) => Err(fault),
     }

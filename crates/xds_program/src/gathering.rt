@@ -22,6 +22,51 @@ pub struct LineFault {
     pub refusal: Refusal,
 }
 
+/// The line of an input that was looked at last, kept for who tells why it is refused. Nothing rests on it but what is told.
+pub struct Looked {
+    line: Vec<u8>,
+    is_last: bool,
+}
+
+// Written out: docs/PROVING.md, "Drops".
+impl Drop for Looked {
+    fn drop(self) {
+        let Looked {
+            line: _,
+            is_last: _,
+        } = self;
+    }
+}
+
+impl Looked {
+    /// Of an input of which no line was looked at.
+    pub fn new(alloc: Global) -> Looked {
+        Looked {
+            line: Vec::new(alloc),
+            is_last: false,
+        }
+    }
+
+    // Keeps a line, the last of the input or one before it.
+    fn keep(&mut self, line: &[u8], is_last: bool) {
+        self.line.clear();
+        if self.line.extend_from_slice(line).is_err() {
+            self.line.clear();
+        }
+        self.is_last = is_last;
+    }
+
+    /// The line; empty, where there was no memory for it.
+    pub fn line(&self) -> &[u8] {
+        self.line.as_slice()
+    }
+
+    /// Whether it is the last line of the input.
+    pub fn is_last(&self) -> bool {
+        self.is_last
+    }
+}
+
 /// What the lines of an input say: what their writes leave, and the request, which is on this line.
 #[derive(Drop)]
 pub(crate) struct Gathered {
@@ -45,21 +90,26 @@ pub(crate) fn gather(alloc: Global, input: &[u8]) -> Result<Gathered, LineFault>
 {
     let rest = without_last_feed(input);
     let mut reading = begin(alloc);
-    match take_lines(alloc, &mut reading, rest, rest.len() + 1) {
-        Ok(taken) => finish(alloc, reading, &rest[taken..]),
+    let mut looked = Looked::new(alloc);
+    match take_lines(alloc, &mut reading, &mut looked, rest, rest.len() + 1) {
+        Ok(taken) => finish(alloc, reading, &mut looked, &rest[taken..]),
         Err(fault) => Err(fault),
     }
 }
 
 /// The same, of an input that is let go of as it is read.
-pub(crate) fn gather_freeing(alloc: Global, input: Vec<u8>) -> Result<Gathered, LineFault>
+pub(crate) fn gather_freeing(
+    alloc: Global,
+    input: Vec<u8>,
+    looked: &mut Looked,
+) -> Result<Gathered, LineFault>
     ensures gathered { IfOk result (λ g. IsGathered input.items g.line (at g.catalogues) g.request) }
     ensures refused { IfErr result (λ fault. IsFault input.items fault.line fault.refusal) }
 {
     let mut rest = input;
     let length = without_last_feed(rest.as_slice()).len();
     rest.truncate(length);
-    gather_rest(alloc, begin(alloc), rest)
+    gather_rest(alloc, begin(alloc), looked, rest)
 }
 
 // Nothing was read.
@@ -74,19 +124,24 @@ pub(crate) fn begin(alloc: Global) -> Reading
 }
 
 // Reads the rest of an input. Each half of what is left is let go of once it was read.
-fn gather_rest(alloc: Global, reading: Reading, rest: Vec<u8>) -> Result<Gathered, LineFault>
+fn gather_rest(
+    alloc: Global,
+    reading: Reading,
+    looked: &mut Looked,
+    rest: Vec<u8>,
+) -> Result<Gathered, LineFault>
     requires room { reading.line + length rest.items ≤ 18446744073709551615 }
     ensures gathered { IfOk result (λ g. WhereReadTo rest.items reading.line (at reading.catalogues) (λ input. IsGathered input g.line (at g.catalogues) g.request)) }
     ensures refused { IfErr result (λ fault. WhereReadTo rest.items reading.line (at reading.catalogues) (λ input. IsFault input fault.line fault.refusal)) }
 {
     let mut reading = reading;
     let enough = rest.len() / 2 + 1;
-    match take_lines(alloc, &mut reading, rest.as_slice(), enough) {
+    match take_lines(alloc, &mut reading, looked, rest.as_slice(), enough) {
         Ok(taken) => {
             if taken < enough {
-                return finish(alloc, reading, &rest.as_slice()[taken..]);
+                return finish(alloc, reading, looked, &rest.as_slice()[taken..]);
             }
-            gather_rest(alloc, reading, without_front(rest, taken))
+            gather_rest(alloc, reading, looked, without_front(rest, taken))
         }
         Err(fault) => Err(fault),
     }
@@ -109,6 +164,7 @@ fn without_front(bytes: Vec<u8>, taken: usize) -> Vec<u8>
 fn take_lines(
     alloc: Global,
     reading: &mut Reading,
+    looked: &mut Looked,
     rest: &[u8],
     enough: usize,
 ) -> Result<usize, LineFault>
@@ -127,6 +183,7 @@ fn take_lines(
             &mut reading.catalogues,
             bytes,
         ) {
+            looked.keep(bytes, false);
             let line = reading.line;
             return Err(LineFault { line, refusal });
         }
@@ -140,7 +197,12 @@ fn take_lines(
 }
 
 // Reads the last line.
-fn finish(alloc: Global, reading: Reading, last: &[u8]) -> Result<Gathered, LineFault>
+fn finish(
+    alloc: Global,
+    reading: Reading,
+    looked: &mut Looked,
+    last: &[u8],
+) -> Result<Gathered, LineFault>
     requires { pieces feed last.now ≡ last.now ∷ [] }
     ensures gathered { IfOk result (λ g. WhereReadTo last.now reading.line (at reading.catalogues) (λ input. IsGathered input g.line (at g.catalogues) g.request)) }
     ensures refused { IfErr result (λ fault. WhereReadTo last.now reading.line (at reading.catalogues) (λ input. IsFault input fault.line fault.refusal)) }
@@ -151,6 +213,7 @@ fn finish(alloc: Global, reading: Reading, last: &[u8]) -> Result<Gathered, Line
         line,
     } = reading;
     drop(reader);
+    looked.keep(last, true);
     match read_request(alloc, last) {
         Ok(request) => Ok(Gathered {
             catalogues,

@@ -40,6 +40,7 @@ pub(crate) const PLAY: &str = "Examples:
 
 Reads a script, a command a line, as in `view 2 cluster`.
 Prints what the lines `view` and `content` show, or the trace of a replica.
+With --picture FILE it writes into FILE what went between clients and replicas.
 The formats are in docs/FORMATS.md, the refusals in docs/SERVING.md.
 
 Statuses:
@@ -54,8 +55,10 @@ pub(crate) const CHECK: &str = "Example, and what it prints:
 
 Reads a trace, a line an event, as `xds play --trace N` prints it.
 Prints `ok`, or `broken LINE RULE`: the first line that breaks a rule, and the
-least rule that it breaks. Traces and rules are in docs/FORMATS.md, the
-refusals in docs/SERVING.md.
+least rule that it breaks. With --explain it prints why, in the lines behind.
+With --so-far a trace that is cut short is judged up to its last whole line.
+With --picture FILE it writes into FILE what went over the broken stream.
+Traces and rules are in docs/FORMATS.md, the refusals in docs/SERVING.md.
 
 Statuses:
   0  ok
@@ -80,7 +83,10 @@ With --store FILE all writes are kept in the file, and are there again in the
 next run over it, whose replicas have numbers that none before had. With
 --writes FILE it begins with the writes that `xds writes` printed, stamps kept.
 With --hold polls have 503, and streams wait, until the input has a line
-`ready` or POST /ready comes.
+`ready` or POST /ready comes. With --from DIR it holds what the files in DIR
+say, and follows them. With --lint it tells references that lead nowhere. With
+--validate ADDRESS a checker there is asked before a resource is taken;
+with --pass-unvalidated a resource is taken, too, where the checker is away.
 Writes are stamped by the numbers of their replicas, F and the next ones with
 --first-number F: give each run new ones, so that no version means two bodies.
 Prints nothing; the error output has a line a replica, which says what is
@@ -148,3 +154,42 @@ Statuses:
   0  ok
   1  the file is no store, or it can't be read
   2  the words are wrong; nothing was read";
+
+/// At the end of `xds get --help`.
+pub(crate) const GET: &str = "Example, beside `./xds serve --admin-port 18200`:
+  ./xds get --addr 127.0.0.1:18200 --type cluster checkout
+
+Asks the operator's port of a server for what its replicas hold, with the token
+in FILE where one is given, and prints it. docs/SERVING.md has more.
+
+Statuses:
+  0  the server answered
+  1  no server, or it refused to answer
+  2  the words are wrong; nothing was sent";
+
+/// At the end of `xds put --help`.
+pub(crate) const PUT: &str = "Example, beside `./xds serve --admin-port 18200`:
+  ./xds put --addr 127.0.0.1:18200 < examples/mesh.serve
+
+Reads lines of changes, as a server takes them on its input, and gives them to
+its operator's port, with the token in FILE where one is given. With --dry-run
+the server tells what it would make, and makes nothing; with --all-or-nothing it
+makes no change where one is refused. docs/SERVING.md has more.
+
+Statuses:
+  0  all changes were made
+  1  a change was refused, or the server didn't answer
+  2  the words are wrong; nothing was read or sent";
+
+/// At the end of `xds delete --help`.
+pub(crate) const DELETE: &str = "Example, beside `./xds serve --admin-port 18200`:
+  ./xds delete --addr 127.0.0.1:18200 --type cluster checkout
+
+Deletes resources of a type at a replica, by the operator's port of its server,
+with the token in FILE where one is given. With --dry-run the server tells what
+it would delete, and deletes nothing. docs/SERVING.md has more.
+
+Statuses:
+  0  all were deleted
+  1  one was refused, or the server didn't answer
+  2  the words are wrong; nothing was sent";

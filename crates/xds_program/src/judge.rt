@@ -1,14 +1,18 @@
 // `xds check`: the bytes of a trace in, a verdict on it out.
-ghost use Rattle.std.specs.Prelude.{◌≡◌, ◌⊎◌, ◌<◌, ◌≤◌, ℕ, List, Option, [], length, take, true, false, IfOk, IfErr, IfSome, IfNone, OnOk, string_bytes};
+ghost use Rattle.std.specs.Prelude.{◌≡◌, ◌⊎◌, ◌<◌, ◌≤◌, ◌++◌, ℕ, List, Option, [], length, take, true, false, IfOk, IfErr, IfSome, IfNone, OnOk, string_bytes};
 ghost use Rattle.std.specs.Io.KnownBytes.{Consumes, IsAtEnd, prepend_known};
 ghost use Rattle.xds_resource.specs.declared.refusal.Refusal.TheVariants.{OutOfMemory};
 ghost use Rattle.xds_frames.specs.Devices.{most_calls, MoreFailed};
 ghost use Rattle.xds_check.specs.Checkers.{HasRead};
 ghost use Rattle.xds_check.specs.Texts.{IsRefusedAt};
 ghost use Rattle.xds_program.specs.Judged.{IsJudged, IsUnjudged, IsUnread, ReadsOn, IsReadWhole, TellsVerdict, broken_text, verdict_text, verdict_status};
+ghost use Rattle.xds_program.specs.SoFar.{IsJudgedSoFar, IsLastLine, IsLeftUnjudged};
 
+use crate::last_line::split_last;
+use crate::tail::Tail;
 use std::alloc::Global;
 use std::io::{ErrorKind, Read};
+use xds_check::laws::bytes_are_one_trace;
 use xds_check::{Broken, PiecewiseChecker, TraceFault};
 use xds_frames::Counted;
 use xds_frames::counted::MOST_CALLS;
@@ -60,14 +64,18 @@ pub fn judge(alloc: Global, bytes: &[u8]) -> Result<Verdict, Unjudged>
 }
 
 /// Reads the trace that an input is to its end, and checks it as it comes: a line is held until it was read, and then what the
-/// rules need of it. Told is what [`judge`] tells of all bytes. An input with a bad line is read to its end, too.
-pub fn judge_input<I: Read>(alloc: Global, input: &mut Counted<I>) -> Result<Verdict, NoVerdict>
+/// rules need of it. Told is what [`judge`] tells of all bytes. An input with a bad line is read to its end, too; the line is kept.
+pub fn judge_input<I: Read>(
+    alloc: Global,
+    input: &mut Counted<I>,
+    tail: &mut Tail,
+) -> Result<Verdict, NoVerdict>
     ensures judged { IfOk result (λ v. IfSome (I.remaining input.old.inner) (λ bytes. TellsVerdict bytes v.status (string_bytes v.text))) }
     ensures unjudged { IfErr result (λ e. IsUnread (I.remaining input.old.inner) input.old.failed input.new.failed e) }
 {
     let mut checker = PiecewiseChecker::new(alloc);
     let before = input.failed;
-    let read = read_all(alloc, input, &mut checker, before);
+    let read = read_all(alloc, input, &mut checker, tail, before);
     match read {
         Ok(()) => {
             let told = verdict_of(alloc, &checker);
@@ -82,6 +90,75 @@ pub fn judge_input<I: Read>(alloc: Global, input: &mut Counted<I>) -> Result<Ver
             Err(read_behind(input, before, why))
         }
     }
+}
+
+/// What is known of a trace that may be cut short.
+#[derive(Clone, Copy, Debug, PartialEq, Eq)]
+pub struct SoFar {
+    /// The first line at which a rule is broken, if there is one.
+    pub broken: Option<Broken>,
+    /// The number of the last line, from 1, if that isn't whole, and those before it alone are judged.
+    pub cut: Option<usize>,
+}
+
+/// Reads a trace, and checks it as far as it is whole: where its first bad line is its last line, whether a line feed ends that or
+/// not, the lines before it are judged. Any other bad line is told.
+pub fn judge_so_far(alloc: Global, bytes: &[u8]) -> Result<SoFar, Unjudged>
+    ensures judged { IfOk result (λ s. IsJudgedSoFar bytes.now s.broken s.cut) }
+    ensures unjudged { IfErr result (λ e. IsLeftUnjudged bytes.now e) }
+{
+    bytes_are_one_trace();
+    let (front, last) = split_last(bytes);
+    let mut checker = PiecewiseChecker::new(alloc);
+    if let Err(fault) = checker.read(alloc, front) {
+        return Err(why_not(fault));
+    }
+    match broken_by(&checker) {
+        Ok(before) => judge_last(alloc, &mut checker, before, last),
+        Err(why) => Err(why),
+    }
+}
+
+// Checks the last line, behind lines on which this is the verdict.
+fn judge_last(
+    alloc: Global,
+    checker: &mut PiecewiseChecker,
+    before: Option<Broken>,
+    last: &[u8],
+) -> Result<SoFar, Unjudged>
+    requires read { (front : List ℕ) × HasRead front checker.old }
+    requires before { (front : List ℕ) → HasRead front checker.old → IsJudged front before }
+    requires last { IsLastLine last.now }
+    ensures judged { IfOk result (λ s. (front : List ℕ) → HasRead front checker.old → IsJudgedSoFar (front ++ last.now) s.broken s.cut) }
+    ensures unjudged { IfErr result (λ e. e ≡ Unjudged.OutOfMemory) }
+{
+    if let Err(fault) = checker.read(alloc, last) {
+        return cut_at(before, why_not(fault));
+    }
+    match broken_by(checker) {
+        Ok(broken) => Ok(SoFar { broken, cut: None }),
+        Err(why) => cut_at(before, why),
+    }
+}
+
+// What is known where the last line is refused.
+fn cut_at(before: Option<Broken>, why: Unjudged) -> Result<SoFar, Unjudged>
+    ensures cut { IfOk result (λ s. (s.broken ≡ before) × IfSome s.cut (λ line. why ≡ Unjudged.BadTrace line)) }
+    ensures some { IfOk result (λ s. IfNone s.cut ⊥) }
+    ensures unjudged { IfErr result (λ e. e ≡ Unjudged.OutOfMemory) }
+{
+    match why {
+        Unjudged::BadTrace(line) => Ok(SoFar {
+            broken: before,
+            cut: Some(line),
+        }),
+        Unjudged::OutOfMemory => Err(Unjudged::OutOfMemory),
+    }
+}
+
+/// Some bytes, without their last line where that isn't whole.
+pub(crate) fn whole_lines(bytes: &[u8], is_cut: bool) -> &[u8] {
+    if is_cut { split_last(bytes).0 } else { bytes }
 }
 
 // The first line at which a rule is broken, if there is one.
@@ -118,8 +195,8 @@ fn why_not(fault: TraceFault) -> Unjudged
     }
 }
 
-// What is told of a verdict.
-fn verdict_on(alloc: Global, broken: Option<Broken>) -> Result<Verdict, Unjudged>
+/// What is told of a verdict. Refused only by `OutOfMemory`.
+pub fn verdict_on(alloc: Global, broken: Option<Broken>) -> Result<Verdict, Unjudged>
     ensures told { IfOk result (λ v. (string_bytes v.text ≡ verdict_text broken) × (v.status ≡ verdict_status broken)) }
     ensures refused { IfErr result (λ e. e ≡ Unjudged.OutOfMemory) }
 {
@@ -186,6 +263,7 @@ fn read_piece<I: Read>(
     alloc: Global,
     input: &mut Counted<I>,
     checker: &mut PiecewiseChecker,
+    tail: &mut Tail,
     before: u64,
 ) -> Result<bool, NoVerdict>
     requires { (bytes : List ℕ) × HasRead bytes checker.old }
@@ -198,8 +276,14 @@ fn read_piece<I: Read>(
     let mut buffer = [0u8; PIECE];
     match read_some(input, &mut buffer, before) {
         Ok(Some(count)) => match checker.read(alloc, &buffer[..count]) {
-            Ok(()) => Ok(true),
-            Err(fault) => Err(NoVerdict::Unjudged(why_not(fault))),
+            Ok(()) => {
+                tail.pass(&buffer[..count]);
+                Ok(true)
+            }
+            Err(fault) => {
+                tail.keep(alloc, &buffer[..count], fault.line);
+                Err(NoVerdict::Unjudged(why_not(fault)))
+            }
         },
         Ok(None) => Ok(false),
         Err(why) => Err(why),
@@ -211,13 +295,14 @@ fn read_all<I: Read>(
     alloc: Global,
     input: &mut Counted<I>,
     checker: &mut PiecewiseChecker,
+    tail: &mut Tail,
     before: u64,
 ) -> Result<(), NoVerdict>
     requires { HasRead [] checker.old }
     ensures read { OnOk result (IsReadWhole (I.remaining input.old.inner) checker.new) }
     ensures refused { IfErr result (λ e. IsUnread (I.remaining input.old.inner) before input.new.failed e) }
 {
-    while read_piece(alloc, input, checker, before)? {}
+    while read_piece(alloc, input, checker, tail, before)? {}
     Ok(())
 }
 

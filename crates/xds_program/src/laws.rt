@@ -8,7 +8,7 @@ pub fn words_ask_for_one_task()
     ensures faultless { FaultlessWordsAsk }
 {}
 
-/// Which words ask for an answer, for a script to be played and for a trace to be checked, in plain words.
+/// Which words ask for an answer, in plain words; and plain words that ask for a script to be played, and for a trace to be checked.
 pub fn plain_words_ask()
     ensures answer { AnswerWordsAsk }
     ensures play { PlayWordsAsk }

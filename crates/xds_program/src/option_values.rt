@@ -4,11 +4,13 @@ ghost use Rattle.std.specs.Option.{option_and_then};
 ghost use Rattle.clap.specs.Words.{first_of, found_of, rows_of, subcommand_rows_of};
 ghost use Rattle.xds_resource.specs.Types.{type_of_word};
 ghost use Rattle.xds_program.specs.Tasks.{variant_of_word};
-ghost use Rattle.xds_program.specs.Words.{AsksBy, AsksClient, AsksIn, AsksPoll, AsksServe, AsksServed, Finds, IsAddress, IsNumber};
+ghost use Rattle.xds_program.specs.Words.{AsksBy, AsksClient, AsksDelete, AsksGet, AsksIn, AsksPoll, AsksServe, AsksServed, Finds};
+ghost use Rattle.xds_program.specs.Words.{IsAddress, IsAddressAt, IsAddressGiven, IsNumber};
 ghost use Rattle.xds_program.specs.Words.{are_apart, has_numbers, is_alone, is_given, is_outside, names_in, text_in};
 
 use crate::tasks::{
-    ClientTask, PollTask, ServeTask, ServeWords, StatusTask, StreamVariant, Task, WritesTask,
+    CheckTask, ClientTask, DeleteTask, GetTask, PlayTask, PollTask, PutTask, ServeTask, ServeWords,
+    StatusTask, StreamVariant, Task, WritesTask,
 };
 use clap::ArgMatches;
 use std::alloc::{AllocError, Global};
@@ -23,10 +25,10 @@ pub(crate) fn task_in(alloc: Global, matches: &ArgMatches) -> Result<Option<Task
         return Ok(answer_in(given));
     }
     if let Some(given) = matches.subcommand_matches("play") {
-        return Ok(Some(play_in(given)));
+        return play_in(alloc, given);
     }
-    if matches.subcommand_matches("check").is_some() {
-        return Ok(Some(Task::Check));
+    if let Some(given) = matches.subcommand_matches("check") {
+        return check_in(alloc, given);
     }
     if let Some(given) = matches.subcommand_matches("serve") {
         return serve_in(alloc, given);
@@ -39,6 +41,15 @@ pub(crate) fn task_in(alloc: Global, matches: &ArgMatches) -> Result<Option<Task
     }
     if let Some(given) = matches.subcommand_matches("writes") {
         return writes_in(alloc, given);
+    }
+    if let Some(given) = matches.subcommand_matches("get") {
+        return get_in(alloc, given);
+    }
+    if let Some(given) = matches.subcommand_matches("put") {
+        return put_in(alloc, given);
+    }
+    if let Some(given) = matches.subcommand_matches("delete") {
+        return delete_in(alloc, given);
     }
     match matches.subcommand_matches("status") {
         Some(given) => status_in(alloc, given),
@@ -53,12 +64,25 @@ fn answer_in(given: &ArgMatches) -> Option<Task>
     Some(Task::Answer { replica })
 }
 
-fn play_in(given: &ArgMatches) -> Task
-    ensures { AsksBy (codes "play") (rows_of (found_of given.now)) result }
+fn play_in(alloc: Global, given: &ArgMatches) -> Result<Option<Task>, AllocError>
+    ensures { IfOk result (Finds (AsksBy (codes "play") (rows_of (found_of given.now)))) }
 {
-    Task::Play {
-        trace: number(given, "trace"),
-    }
+    let trace = number(given, "trace");
+    let picture = text_given(alloc, given, "picture")?;
+    Ok(Some(Task::Play(PlayTask { trace, picture })))
+}
+
+fn check_in(alloc: Global, given: &ArgMatches) -> Result<Option<Task>, AllocError>
+    ensures { IfOk result (Finds (AsksBy (codes "check") (rows_of (found_of given.now)))) }
+{
+    let so_far = is_given(given, "so-far");
+    let explain = is_given(given, "explain");
+    let picture = text_given(alloc, given, "picture")?;
+    Ok(Some(Task::Check(CheckTask {
+        so_far,
+        explain,
+        picture,
+    })))
 }
 
 fn serve_in(alloc: Global, given: &ArgMatches) -> Result<Option<Task>, AllocError>
@@ -109,18 +133,100 @@ fn status_in(alloc: Global, given: &ArgMatches) -> Result<Option<Task>, AllocErr
     }
 }
 
+fn get_in(alloc: Global, given: &ArgMatches) -> Result<Option<Task>, AllocError>
+    ensures { IfOk result (Finds (AsksBy (codes "get") (rows_of (found_of given.now)))) }
+{
+    match got(given) {
+        Some((addr, kind)) => {
+            let replica = number(given, "replica");
+            let token = text_given(alloc, given, "admin-token")?;
+            let names = names(alloc, given)?;
+            Ok(Some(Task::Get(GetTask {
+                addr,
+                token,
+                replica,
+                kind,
+                names,
+            })))
+        }
+        None => Ok(None),
+    }
+}
+
+// What `xds get` is asked for beside texts and what may be left out.
+fn got(given: &ArgMatches) -> Option<(SocketAddrV4, Option<TypeName>)>
+    ensures { Finds (λ p. IsAddress (rows_of (found_of given.now)) p.0
+        × (option_map type_of_word (first_of (codes "type") (rows_of (found_of given.now))) ≡ option_map Some p.1)) result }
+{
+    Some((address(given)?, kind_given(given)?))
+}
+
+fn put_in(alloc: Global, given: &ArgMatches) -> Result<Option<Task>, AllocError>
+    ensures { IfOk result (Finds (AsksBy (codes "put") (rows_of (found_of given.now)))) }
+{
+    match address(given) {
+        Some(addr) => {
+            let dry_run = is_given(given, "dry-run");
+            let all_or_nothing = is_given(given, "all-or-nothing");
+            let token = text_given(alloc, given, "admin-token")?;
+            Ok(Some(Task::Put(PutTask {
+                addr,
+                token,
+                dry_run,
+                all_or_nothing,
+            })))
+        }
+        None => Ok(None),
+    }
+}
+
+fn delete_in(alloc: Global, given: &ArgMatches) -> Result<Option<Task>, AllocError>
+    ensures { IfOk result (Finds (AsksBy (codes "delete") (rows_of (found_of given.now)))) }
+{
+    match deleted(given) {
+        Some((addr, replica, kind)) => {
+            let dry_run = is_given(given, "dry-run");
+            let token = text_given(alloc, given, "admin-token")?;
+            let names = names(alloc, given)?;
+            Ok(Some(Task::Delete(DeleteTask {
+                addr,
+                token,
+                replica,
+                kind,
+                dry_run,
+                names,
+            })))
+        }
+        None => Ok(None),
+    }
+}
+
+// What `xds delete` is asked for beside texts.
+fn deleted(given: &ArgMatches) -> Option<(SocketAddrV4, u16, TypeName)>
+    ensures { Finds (λ p. IsAddress (rows_of (found_of given.now)) p.0
+        × IsNumber (rows_of (found_of given.now)) (codes "replica") p.1
+        × (option_and_then type_of_word (first_of (codes "type") (rows_of (found_of given.now))) ≡ Some p.2)) result }
+{
+    Some((address(given)?, number(given, "replica")?, kind(given)?))
+}
+
 fn served(alloc: Global, given: &ArgMatches) -> Result<Option<ServeWords>, AllocError>
     ensures { IfOk result (Finds (AsksServed (rows_of (found_of given.now)))) }
 {
-    match numbered(given) {
-        Some((task, first_number)) => {
-            let folder = text_given(alloc, given, "record")?;
-            let load = text_given(alloc, given, "load")?;
-            let store = text_given(alloc, given, "store")?;
-            let writes = text_given(alloc, given, "writes")?;
+    match checked(given) {
+        Some((task, first_number, validate)) => {
+            let (folder, load, store) = three_given(alloc, given, "record", "load", "store")?;
+            let (writes, admin_token, from_folder) = three_given(
+                alloc,
+                given,
+                "writes",
+                "admin-token",
+                "from",
+            )?;
             let hold = is_given(given, "hold");
-            let admin_token = text_given(alloc, given, "admin-token")?;
             let log_json = is_given(given, "log-json");
+            let lint = is_given(given, "lint");
+            let pass_unvalidated = is_given(given, "pass-unvalidated");
             Ok(Some(ServeWords {
                 task,
                 first_number,
@@ -131,10 +237,26 @@ fn served(alloc: Global, given: &ArgMatches) -> Result<Option<ServeWords>, Alloc
                 hold,
                 admin_token,
                 log_json,
+                from_folder,
+                lint,
+                validate,
+                pass_unvalidated,
             }))
         }
         None => Ok(None),
     }
+}
+
+// What is served, the number of the first replica, if one is given, and the checker that is asked, if there is one.
+fn checked(given: &ArgMatches) -> Option<(ServeTask, Option<u16>, Option<SocketAddrV4>)>
+    ensures { Finds (λ p. AsksServe (rows_of (found_of given.now)) p.0
+        × Finds (IsNumber (rows_of (found_of given.now)) (codes "first-number")) p.1
+        × (has_numbers p.1 p.0.replicas ≡ true)
+        × IsAddressGiven (codes "validate") (rows_of (found_of given.now)) p.2) result }
+{
+    let (task, first_number) = numbered(given)?;
+    let validate = address_given(given, "validate")?;
+    Some((task, first_number, validate))
 }
 
 // What is served, and the number of the first replica, if one is given.
@@ -314,7 +436,26 @@ fn is_given(given: &ArgMatches, option: &str) -> bool
 pub(crate) fn address(given: &ArgMatches) -> Option<SocketAddrV4>
     ensures { Finds (IsAddress (rows_of (found_of given.now))) result }
 {
-    given.get_one::<SocketAddrV4>("addr")
+    address_at(given, "addr")
+}
+
+fn address_at(given: &ArgMatches, option: &str) -> Option<SocketAddrV4>
+    ensures { Finds (IsAddressAt option.now (rows_of (found_of given.now))) result }
+{
+    given.get_one::<SocketAddrV4>(option)
+}
+
+// The address that an option gives, if it is given.
+pub(crate) fn address_given(given: &ArgMatches, option: &str) -> Option<Option<SocketAddrV4>>
+    ensures { Finds (IsAddressGiven option.now (rows_of (found_of given.now))) result }
+{
+    let Some(_) = word(given, option) else {
+        return Some(None);
+    };
+    match address_at(given, option) {
+        Some(addr) => Some(Some(addr)),
+        None => None,
+    }
 }
 
 pub(crate) fn variant(given: &ArgMatches) -> Option<StreamVariant>
@@ -331,6 +472,19 @@ pub(crate) fn kind(given: &ArgMatches) -> Option<TypeName>
 {
     match word(given, "type") {
         Some(word) => TypeName::from_word(word),
+        None => None,
+    }
+}
+
+// The type, if one is given.
+fn kind_given(given: &ArgMatches) -> Option<Option<TypeName>>
+    ensures { Finds (λ k. option_map type_of_word (first_of (codes "type") (rows_of (found_of given.now))) ≡ option_map Some k) result }
+{
+    let Some(word) = word(given, "type") else {
+        return Some(None);
+    };
+    match TypeName::from_word(word) {
+        Some(kind) => Some(Some(kind)),
         None => None,
     }
 }
@@ -352,6 +506,24 @@ fn text_given(alloc: Global, given: &ArgMatches, option: &str) -> Result<Option<
         Some(text) => Ok(Some(String::from_str(alloc, text)?)),
         None => Ok(None),
     }
+}
+
+// The values of three options, of each that is given.
+fn three_given(
+    alloc: Global,
+    given: &ArgMatches,
+    one: &str,
+    other: &str,
+    last: &str,
+) -> Result<(Option<String>, Option<String>, Option<String>), AllocError>
+    ensures { IfOk result (λ t. (option_map string_bytes t.0 ≡ first_of one.now (rows_of (found_of given.now)))
+        × (option_map string_bytes t.1 ≡ first_of other.now (rows_of (found_of given.now)))
+        × (option_map string_bytes t.2 ≡ first_of last.now (rows_of (found_of given.now)))) }
+{
+    let one = text_given(alloc, given, one)?;
+    let other = text_given(alloc, given, other)?;
+    let last = text_given(alloc, given, last)?;
+    Ok((one, other, last))
 }
 
 fn word<'a>(given: &ArgMatches<'a>, option: &str) -> Option<&'a str>

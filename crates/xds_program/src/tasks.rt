@@ -8,10 +8,10 @@ use xds_resource::TypeName;
 pub enum Task {
     /// `xds answer`, as the replica of this number, from 1.
     Answer { replica: u16 },
-    /// `xds play`, for what its script shows, or for the trace of the replica of this number, from 1.
-    Play { trace: Option<u16> },
+    /// `xds play`.
+    Play(PlayTask),
     /// `xds check`.
-    Check,
+    Check(CheckTask),
     /// `xds serve`.
     Serve(ServeWords),
     /// `xds client`.
@@ -22,6 +22,50 @@ pub enum Task {
     Writes(WritesTask),
     /// `xds status`.
     Status(StatusTask),
+    /// `xds get`.
+    Get(GetTask),
+    /// `xds put`.
+    Put(PutTask),
+    /// `xds delete`.
+    Delete(DeleteTask),
+}
+
+/// What `xds play` is asked for.
+#[derive(Debug, Drop)]
+pub struct PlayTask {
+    /// The number of the replica whose trace is printed, from 1; what the script shows is printed, where there is none.
+    pub trace: Option<u16>,
+    /// The file that a picture of the script is written into; none, where there is none.
+    pub picture: Option<String>,
+}
+
+impl Model for PlayTask {
+    ghost use Rattle.std.specs.Prelude.{option_map, string_bytes};
+    ghost use Rattle.xds_program.specs.Tasks.{Plays};
+
+    ghost Value = { Plays };
+
+    ghost view = { λ p. record { trace = p.trace; picture = option_map string_bytes p.picture } };
+}
+
+/// What `xds check` is asked for.
+#[derive(Debug, Drop)]
+pub struct CheckTask {
+    /// Whether a trace that is cut short is judged up to where it is whole.
+    pub so_far: bool,
+    /// Whether it is explained why a rule is broken.
+    pub explain: bool,
+    /// The file that a picture of the trace is written into; none, where there is none.
+    pub picture: Option<String>,
+}
+
+impl Model for CheckTask {
+    ghost use Rattle.std.specs.Prelude.{option_map, string_bytes};
+    ghost use Rattle.xds_program.specs.Tasks.{Checks};
+
+    ghost Value = { Checks };
+
+    ghost view = { λ c. record { so_far = c.so_far; explain = c.explain; picture = option_map string_bytes c.picture } };
 }
 
 /// What a server is asked for.
@@ -68,6 +112,14 @@ pub struct ServeWords {
     pub admin_token: Option<String>,
     /// Whether what an operator cares for is told as JSON.
     pub log_json: bool,
+    /// The folder whose resources are all that shall be held; none, where there is none.
+    pub from_folder: Option<String>,
+    /// Whether references that lead nowhere are told.
+    pub lint: bool,
+    /// Where the checker listens that is asked before a resource is taken; none, where there is none.
+    pub validate: Option<SocketAddrV4>,
+    /// Whether a resource is taken, and that is told, where the checker is away.
+    pub pass_unvalidated: bool,
 }
 
 impl Model for ServeWords {
@@ -86,6 +138,10 @@ impl Model for ServeWords {
       hold = s.hold;
       admin_token = option_map string_bytes s.admin_token;
       log_json = s.log_json;
+      from_folder = option_map string_bytes s.from_folder;
+      lint = s.lint;
+      validate = s.validate;
+      pass_unvalidated = s.pass_unvalidated;
     } };
 }
 
@@ -230,4 +286,94 @@ impl Model for StatusTask {
     ghost Value = { Sees };
 
     ghost view = { λ s. record { addr = s.addr; token = option_map string_bytes s.token } };
+}
+
+/// What `xds get` is asked for.
+#[derive(Debug, Drop)]
+pub struct GetTask {
+    /// Where a server has its operator's port.
+    pub addr: SocketAddrV4,
+    /// The file of the token that it says there; none, where there is none.
+    pub token: Option<String>,
+    /// The number of the replica whose resources it gets, from 1; of all, where there is none.
+    pub replica: Option<u16>,
+    /// The type of the resources; all types, where there is none.
+    pub kind: Option<TypeName>,
+    /// The names of the resources, in the order of the words; all, where there are none.
+    pub names: Vec<String>,
+}
+
+impl Model for GetTask {
+    ghost use Rattle.std.specs.Prelude.{map, option_map, string_bytes};
+    ghost use Rattle.xds_program.specs.Tasks.{Gets};
+
+    ghost Value = { Gets };
+
+    ghost view = { λ g. record {
+      addr = g.addr;
+      token = option_map string_bytes g.token;
+      replica = g.replica;
+      kind = g.kind;
+      names = map string_bytes g.names.items;
+    } };
+}
+
+/// What `xds put` is asked for.
+#[derive(Debug, Drop)]
+pub struct PutTask {
+    /// Where a server has its operator's port.
+    pub addr: SocketAddrV4,
+    /// The file of the token that it says there; none, where there is none.
+    pub token: Option<String>,
+    /// Whether the changes are only looked at.
+    pub dry_run: bool,
+    /// Whether no change is made where one is refused.
+    pub all_or_nothing: bool,
+}
+
+impl Model for PutTask {
+    ghost use Rattle.std.specs.Prelude.{option_map, string_bytes};
+    ghost use Rattle.xds_program.specs.Tasks.{Puts};
+
+    ghost Value = { Puts };
+
+    ghost view = { λ p. record {
+      addr = p.addr;
+      token = option_map string_bytes p.token;
+      dry_run = p.dry_run;
+      all_or_nothing = p.all_or_nothing;
+    } };
+}
+
+/// What `xds delete` is asked for.
+#[derive(Debug, Drop)]
+pub struct DeleteTask {
+    /// Where a server has its operator's port.
+    pub addr: SocketAddrV4,
+    /// The file of the token that it says there; none, where there is none.
+    pub token: Option<String>,
+    /// The number of the replica that deletes, from 1.
+    pub replica: u16,
+    /// The type of the resources.
+    pub kind: TypeName,
+    /// Whether the changes are only looked at.
+    pub dry_run: bool,
+    /// The names of the resources, in the order of the words.
+    pub names: Vec<String>,
+}
+
+impl Model for DeleteTask {
+    ghost use Rattle.std.specs.Prelude.{map, option_map, string_bytes};
+    ghost use Rattle.xds_program.specs.Tasks.{Deletes};
+
+    ghost Value = { Deletes };
+
+    ghost view = { λ d. record {
+      addr = d.addr;
+      token = option_map string_bytes d.token;
+      replica = d.replica;
+      kind = d.kind;
+      dry_run = d.dry_run;
+      names = map string_bytes d.names.items;
+    } };
 }

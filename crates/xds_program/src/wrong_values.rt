@@ -5,7 +5,7 @@ ghost use Rattle.xds_program.specs.Words.{IsNumber};
 ghost use Rattle.xds_program.specs.WrongValues.{told_of, Blames, BlamesIn};
 
 use crate::option_values::{
-    address, are_apart, has_numbers, has_ports, is_alone, kind, number, variant,
+    address, address_given, are_apart, has_numbers, has_ports, is_alone, kind, number, variant,
 };
 use clap::ArgMatches;
 
@@ -26,6 +26,8 @@ pub enum WrongValue {
     Admin,
     /// The number of the last replica is above 65,535.
     Number,
+    /// `--validate` is no address of IPv4 with a port.
+    Validate,
     /// Another value.
     Other,
 }
@@ -46,6 +48,9 @@ impl WrongValue {
                 "--port, --rest-port: the ports of streams and those of REST meet",
             WrongValue::Admin => "--admin-port: it is a port of streams or of REST",
             WrongValue::Number => "--first-number: the number of the last replica is above 65535",
+            WrongValue::Validate => {
+                "--validate: an address of IPv4 and a port, as 127.0.0.1:18300; for localhost write 127.0.0.1"
+            }
             WrongValue::Other => "a value is none of those that the help names",
         }
     }
@@ -63,6 +68,22 @@ pub(crate) fn wrong_value(matches: &ArgMatches) -> WrongValue
     }
     if let Some(given) = matches.subcommand_matches("poll") {
         return wrong_of_poll(given);
+    }
+    wrong_of_operator(matches)
+}
+
+// The same, of the commands that ask a server's operator's port.
+fn wrong_of_operator(matches: &ArgMatches) -> WrongValue
+    ensures { BlamesIn (subcommand_rows_of matches.now) result }
+{
+    if let Some(given) = matches.subcommand_matches("get") {
+        return wrong_of_poll(given);
+    }
+    if let Some(given) = matches.subcommand_matches("delete") {
+        return wrong_of_poll(given);
+    }
+    if let Some(given) = matches.subcommand_matches("put") {
+        return wrong_of_status(given);
     }
     match matches.subcommand_matches("status") {
         Some(given) => wrong_of_status(given),
@@ -102,9 +123,19 @@ fn wrong_number(given: &ArgMatches, replicas: u16) -> WrongValue
     ensures { Blames (rows_of (found_of given.now)) result }
 {
     if has_numbers(number(given, "first-number"), replicas) {
-        WrongValue::Other
+        wrong_checker(given)
     } else {
         WrongValue::Number
+    }
+}
+
+fn wrong_checker(given: &ArgMatches) -> WrongValue
+    ensures { Blames (rows_of (found_of given.now)) result }
+{
+    if address_given(given, "validate").is_none() {
+        WrongValue::Validate
+    } else {
+        WrongValue::Other
     }
 }
 

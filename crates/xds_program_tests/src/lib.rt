@@ -9,6 +9,8 @@ mod play;
 #[cfg(test)]
 mod program;
 #[cfg(test)]
+mod told;
+#[cfg(test)]
 mod trace;
 #[cfg(test)]
 mod words;

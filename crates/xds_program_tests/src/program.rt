@@ -6,7 +6,7 @@ use std::test::Fail;
 use xds_cases::cases::{Outcome, hold, hold_stories, replaced, unfolded, words_of, written_out};
 use xds_frames::Counted;
 use xds_program::run::{Ran, run};
-use xds_program::{LineFault, answer_lines};
+use xds_program::{Drawing, LineFault, answer_lines};
 use xds_resource::Refusal;
 
 // The words of a command line, the program's name first.
@@ -25,8 +25,21 @@ fn end_of(alloc: Global, ran: &Ran) -> Result<String, Fail> {
         Ran::Poll(_) => "poll",
         Ran::Writes(_) => "writes",
         Ran::Status(_) => "status",
+        Ran::Get(_) => "get",
+        Ran::Put(_) => "put",
+        Ran::Delete(_) => "delete",
+        Ran::Drawn(drawing) => return drawn(alloc, drawing),
     };
     Ok(String::from_str(alloc, task)?)
+}
+
+// The status of a run that draws, the file of its picture, and whether that is an image as SVG.
+fn drawn(alloc: Global, drawing: &Drawing) -> Result<String, Fail> {
+    let status = drawing.status;
+    let file = drawing.file.as_str();
+    let svg = drawing.svg.as_str();
+    let is_svg = svg.starts_with("<svg ") && svg.trim_end().ends_with("</svg>");
+    Ok(format!(in alloc; "{status} draws {file} {is_svg}")?)
 }
 
 /// The end of a run over words and these devices.
@@ -45,23 +58,37 @@ pub(crate) fn end_over<I: Read, O: Write, E: Write>(
 }
 
 // The status of a run over the words of the first line and the input on the lines behind it, its
-// output and its error output. `~` is a line feed, and `A!`, `B!` and `Q!` are lines that put the
+// output and the first line of its error output. `~` is a line feed, and `A!`, `B!` and `Q!` are lines that put the
 // clusters `a` and `b` and the route `q`, and `G!` lines that put clusters in groups. An input
 // whose last line is ended has the outcome on a line of its own.
 pub(crate) struct Run;
 
 impl Outcome for Run {
     fn of(alloc: Global, given: &str) -> Result<String, Fail> {
-        let (given, input) = given.split_once('\n').ok_or("no input")?;
-        let input = replaced(alloc, input, "A!", A)?;
-        let input = replaced(alloc, input.as_str(), "B!", B)?;
-        let input = replaced(alloc, input.as_str(), "Q!", Q)?;
-        let grouped = unfolded(alloc, GROUPED)?;
-        let input = replaced(alloc, input.as_str(), "G!", grouped.as_str())?;
-        let input = replaced(alloc, input.as_str(), "~", "\n")?;
-        let input = written_out(alloc, input.as_str())?;
-        told(alloc, given, input.as_bytes())
+        run_of(alloc, given, false)
     }
+}
+
+// The same with its whole error output.
+pub(crate) struct Whole;
+
+impl Outcome for Whole {
+    fn of(alloc: Global, given: &str) -> Result<String, Fail> {
+        run_of(alloc, given, true)
+    }
+}
+
+// What a run tells, with all of its error output or the first line.
+fn run_of(alloc: Global, given: &str, is_whole: bool) -> Result<String, Fail> {
+    let (given, input) = given.split_once('\n').ok_or("no input")?;
+    let input = replaced(alloc, input, "A!", A)?;
+    let input = replaced(alloc, input.as_str(), "B!", B)?;
+    let input = replaced(alloc, input.as_str(), "Q!", Q)?;
+    let grouped = unfolded(alloc, GROUPED)?;
+    let input = replaced(alloc, input.as_str(), "G!", grouped.as_str())?;
+    let input = replaced(alloc, input.as_str(), "~", "\n")?;
+    let input = written_out(alloc, input.as_str())?;
+    told_so(alloc, given, input.as_bytes(), is_whole)
 }
 
 fn text(bytes: &[u8]) -> Result<&str, Fail> {
@@ -75,10 +102,11 @@ fn told_over(
     input: &[u8],
     output: &mut Counted<Vec<u8>>,
     errors: &mut Counted<Vec<u8>>,
+    is_whole: bool,
 ) -> Result<String, Fail> {
     let end = end_over(alloc, given, &mut Counted::new(input), output, errors)?;
     let output = text(output.inner.as_slice())?;
-    let errors = text(errors.inner.as_slice())?;
+    let errors = told_lines(text(errors.inner.as_slice())?, is_whole);
     let told = format!(in alloc; "{end} {output}{errors}")?;
     Ok(replaced(alloc, told.as_str(), "\n", "~")?)
 }
@@ -86,9 +114,25 @@ fn told_over(
 // The status of a run over words and an input, its output and its error output, with `~` for a line
 // feed.
 pub(crate) fn told(alloc: Global, given: &str, input: &[u8]) -> Result<String, Fail> {
+    told_so(alloc, given, input, true)
+}
+
+// The refusal that an error output begins with, its first line, or all that it tells.
+fn told_lines(errors: &str, is_whole: bool) -> &str {
+    if is_whole {
+        return errors;
+    }
+    match errors.find('\n') {
+        Some(0) => "",
+        Some(end) => &errors[..end + 1],
+        None => errors,
+    }
+}
+
+fn told_so(alloc: Global, given: &str, input: &[u8], is_whole: bool) -> Result<String, Fail> {
     let mut output = Counted::new(Vec::new(alloc));
     let mut errors = Counted::new(Vec::new(alloc));
-    let told = told_over(alloc, given, input, &mut output, &mut errors);
+    let told = told_over(alloc, given, input, &mut output, &mut errors, is_whole);
     drop(output);
     drop(errors);
     told
@@ -516,7 +560,12 @@ check --help => 0 |  ./xds check from examples/mesh_broken.trace | 0 1 2
 serve --help => 0 |  ./xds serve from examples/mesh.serve | 0 1 2
 client --help => 0 |  ./xds client --addr 127.0.0.1:18001 --variant delta \ | 0 1 2
 poll --help => 0 |  ./xds poll --addr 127.0.0.1:18101 --type route shop | 0 1 2
-help poll => 0 |  ./xds poll --addr 127.0.0.1:18101 --type route shop | 0 1 2",
+help poll => 0 |  ./xds poll --addr 127.0.0.1:18101 --type route shop | 0 1 2
+status --help => 0 |  ./xds status --addr 127.0.0.1:18200 | 0 1 2
+get --help => 0 |  ./xds get --addr 127.0.0.1:18200 --type cluster checkout | 0 1 2
+put --help => 0 |  ./xds put --addr 127.0.0.1:18200 from examples/mesh.serve | 0 1 2
+delete --help => 0 |  ./xds delete --addr 127.0.0.1:18200 --type cluster checkout | 0 1 2
+writes --help => 0 |  ./xds writes --store mesh.db | 0 1 2",
     )
 }
 
@@ -526,7 +575,10 @@ fn tasks_of_a_network_are_handed_on(rt: HostRuntime) -> Result<(), Fail> {
         &rt,
         "serve =>  serve 2
 client --addr 127.0.0.1:18000 --variant delta --type route --responses 1 q =>  client 2
-poll --addr 127.0.0.1:18100 --type cluster =>  poll 2",
+poll --addr 127.0.0.1:18100 --type cluster =>  poll 2
+get --addr 127.0.0.1:18200 =>  get 2
+put --addr 127.0.0.1:18200 =>  put 2
+delete --addr 127.0.0.1:18200 --type cluster a =>  delete 2",
     )
 }
 
@@ -661,10 +713,10 @@ impl Outcome for Failing {
 fn failing_devices_are_told(rt: HostRuntime) -> Result<(), Fail> {
     hold::<Failing, HostRuntime>(
         &rt,
-        r#"reader => 1 () (19 Device~) 1 0 0
-writer => 1 ({"nonce") (19 Device~) 0 1 0
-flush => 1 () (19 Device~) 0 1 0
-errors => 1 () (line) 0 0 1"#,
+        r#"reader => 1 () (19 Device~the standard input can't be read~) 1 0 0
+writer => 1 ({"nonce") (19 Device~the standard output can't be written~) 0 1 0
+flush => 1 () (19 Device~the standard output can't be written~) 0 1 0
+errors => 1 () (line) 0 0 2"#,
     )
 }
 

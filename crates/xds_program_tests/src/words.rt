@@ -4,7 +4,8 @@ use std::alloc::Global;
 use std::test::Fail;
 use xds_cases::cases::{Outcome, hold};
 use xds_program::{
-    ClientTask, PollTask, ServeTask, ServeWords, StatusTask, Task, WritesTask, task_of,
+    CheckTask, ClientTask, DeleteTask, GetTask, PlayTask, PollTask, PutTask, ServeTask, ServeWords,
+    StatusTask, Task, WritesTask, task_of,
 };
 
 // What words ask for, told in words; `help`, or `wrong`.
@@ -31,23 +32,78 @@ impl Outcome for Asked {
 fn told(alloc: Global, task: &Task) -> Result<String, Fail> {
     match task {
         Task::Answer { replica } => told_answer(alloc, *replica),
-        Task::Play { trace } => told_play(alloc, *trace),
-        Task::Check => Ok(String::from_str(alloc, "check")?),
+        Task::Play(play) => told_play(alloc, play),
+        Task::Check(check) => told_check(alloc, check),
         Task::Serve(serve) => told_recorded(alloc, serve),
         Task::Client(client) => told_client(alloc, client),
         Task::Poll(poll) => told_poll(alloc, poll),
         Task::Writes(writes) => told_writes(alloc, writes),
         Task::Status(status) => told_status(alloc, status),
+        Task::Get(get) => told_get(alloc, get),
+        Task::Put(put) => told_put(alloc, put),
+        Task::Delete(delete) => told_delete(alloc, delete),
     }
+}
+
+// A word and a text, where there is one.
+fn tell_given(text: &mut String, word: &str, given: &Option<String>) -> Result<(), Fail> {
+    if let Some(given) = given {
+        text.push_str(word)?;
+        text.push_str(given.as_str())?;
+    }
+    Ok(())
+}
+
+// A word, where it is so.
+fn tell_flag(text: &mut String, word: &str, is: bool) -> Result<(), Fail> {
+    if is {
+        text.push_str(word)?;
+    }
+    Ok(())
 }
 
 fn told_status(alloc: Global, status: &StatusTask) -> Result<String, Fail> {
     let addr = status.addr;
     let mut text = format!(in alloc; "status {addr}")?;
-    if let Some(file) = &status.token {
-        text.push_str(" token ")?;
-        text.push_str(file.as_str())?;
-    }
+    tell_given(&mut text, " token ", &status.token)?;
+    Ok(text)
+}
+
+fn told_get(alloc: Global, get: &GetTask) -> Result<String, Fail> {
+    let addr = get.addr;
+    let replica = get.replica;
+    let kind = get.kind;
+    let mut text = format!(in alloc; "get {addr} {replica:?} {kind:?}")?;
+    tell_given(&mut text, " token ", &get.token)?;
+    tell_names(&mut text, &get.names)?;
+    Ok(text)
+}
+
+fn told_put(alloc: Global, put: &PutTask) -> Result<String, Fail> {
+    let addr = put.addr;
+    let mut text = format!(in alloc; "put {addr}")?;
+    tell_given(&mut text, " token ", &put.token)?;
+    tell_flag(&mut text, " dry-run", put.dry_run)?;
+    tell_flag(&mut text, " all-or-nothing", put.all_or_nothing)?;
+    Ok(text)
+}
+
+fn told_delete(alloc: Global, delete: &DeleteTask) -> Result<String, Fail> {
+    let addr = delete.addr;
+    let replica = delete.replica;
+    let kind = delete.kind;
+    let mut text = format!(in alloc; "delete {addr} {replica} {kind:?}")?;
+    tell_given(&mut text, " token ", &delete.token)?;
+    tell_flag(&mut text, " dry-run", delete.dry_run)?;
+    tell_names(&mut text, &delete.names)?;
+    Ok(text)
+}
+
+fn told_check(alloc: Global, check: &CheckTask) -> Result<String, Fail> {
+    let mut text = String::from_str(alloc, "check")?;
+    tell_flag(&mut text, " so-far", check.so_far)?;
+    tell_flag(&mut text, " explain", check.explain)?;
+    tell_given(&mut text, " picture ", &check.picture)?;
     Ok(text)
 }
 
@@ -60,8 +116,11 @@ fn told_answer(alloc: Global, replica: u16) -> Result<String, Fail> {
     Ok(format!(in alloc; "answer {replica}")?)
 }
 
-fn told_play(alloc: Global, trace: Option<u16>) -> Result<String, Fail> {
-    Ok(format!(in alloc; "play {trace:?}")?)
+fn told_play(alloc: Global, play: &PlayTask) -> Result<String, Fail> {
+    let trace = play.trace;
+    let mut text = format!(in alloc; "play {trace:?}")?;
+    tell_given(&mut text, " picture ", &play.picture)?;
+    Ok(text)
 }
 
 fn told_recorded(alloc: Global, serve: &ServeWords) -> Result<String, Fail> {
@@ -96,7 +155,19 @@ fn told_recorded(alloc: Global, serve: &ServeWords) -> Result<String, Fail> {
         text.push_str(" token ")?;
         text.push_str(file.as_str())?;
     }
+    tell_held(alloc, &mut text, serve)?;
     Ok(text)
+}
+
+// What is told of how a server takes resources.
+fn tell_held(alloc: Global, text: &mut String, serve: &ServeWords) -> Result<(), Fail> {
+    tell_given(text, " from ", &serve.from_folder)?;
+    tell_flag(text, " lint", serve.lint)?;
+    if let Some(addr) = serve.validate {
+        let told = format!(in alloc; " validate {addr}")?;
+        text.push_str(told.as_str())?;
+    }
+    tell_flag(text, " pass-unvalidated", serve.pass_unvalidated)
 }
 
 fn told_serve(alloc: Global, serve: ServeTask) -> Result<String, Fail> {
@@ -191,6 +262,27 @@ play --trace 1 => play Some(1)
 play --trace=65535 -- => play Some(65535)
 check => check
 check -- => check
+check --so-far => check so-far
+check --picture a.svg --so-far --explain => check so-far explain picture a.svg
+check --explain --picture=a.svg -- => check explain picture a.svg
+check --explain --picture - => check explain picture -
+check --explain --picture= => check explain picture 
+play --picture a.svg => play None picture a.svg
+play --picture=--x --trace 3 => play Some(3) picture --x
+play --trace=3 --picture a.svg -- => play Some(3) picture a.svg
+check --explain --explain => wrong
+check --so-far --picture a.svg --so-far => wrong
+check --picture => wrong
+check --picture -a => wrong
+check --picture --explain => wrong
+check --picture a.svg --picture b.svg => wrong
+check --so-far=true => wrong
+check --so-far 1 => wrong
+check --explain -- --so-far => wrong
+play --picture => wrong
+play --picture a.svg b.svg => wrong
+play --picture a.svg --trace 0 => wrong
+play --so-far => wrong
 play --trace => wrong
 play --trace 0 => wrong
 play --trace 65536 => wrong
@@ -278,6 +370,19 @@ serve --writes a --writes b => wrong
 serve --hold --admin-token it --admin-port 1 => serve 2 18000 18100 None admin 1 hold token it
 serve --log-json --hold => serve 2 18000 18100 None hold log-json
 serve --log-json yes => wrong
+serve --from mesh --lint => serve 2 18000 18100 None from mesh lint
+serve --validate 127.0.0.1:18300 => serve 2 18000 18100 None validate 127.0.0.1:18300
+serve --pass-unvalidated --validate=10.0.0.1:1 --from=d
+     => serve 2 18000 18100 None from d validate 10.0.0.1:1 pass-unvalidated
+serve --from => wrong
+serve --from a --from b => wrong
+serve --lint --lint => wrong
+serve --lint yes => wrong
+serve --validate localhost:18300 => wrong
+serve --validate 127.0.0.1 => wrong
+serve --validate => wrong
+serve --validate 127.0.0.1:1 --validate 127.0.0.1:1 => wrong
+serve --pass-unvalidated=yes => wrong
 serve --admin-token => wrong
 serve --admin-token a --admin-token b => wrong
 status --addr 127.0.0.1:18200 => status 127.0.0.1:18200
@@ -292,6 +397,43 @@ writes => wrong
 writes --store a b => wrong
 writes --store a --store b => wrong
 serve --help => help",
+    )
+}
+
+#[test]
+fn words_ask_an_operator_s_port(rt: HostRuntime) -> Result<(), Fail> {
+    hold::<Asked, HostRuntime>(
+        &rt,
+        "get --addr 127.0.0.1:18200 => get 127.0.0.1:18200 None None
+get --addr 127.0.0.1:18200 --type cluster b a --replica 2 --admin-token it
+     => get 127.0.0.1:18200 Some(2) Some(Cluster) token it b a
+get --addr 127.0.0.1:18200 -- --type => get 127.0.0.1:18200 None None --type
+get => wrong
+get --addr localhost:18200 => wrong
+get --addr 127.0.0.1:18200 --type clusters => wrong
+get --addr 127.0.0.1:18200 --type => wrong
+get --addr 127.0.0.1:18200 --replica 0 => wrong
+get --addr 127.0.0.1:18200 --replica 65536 => wrong
+get --addr 127.0.0.1:18200 --dry-run => wrong
+get --help => help
+put --addr 127.0.0.1:18200 => put 127.0.0.1:18200
+put --all-or-nothing --dry-run --admin-token it --addr 127.0.0.1:18200
+     => put 127.0.0.1:18200 token it dry-run all-or-nothing
+put => wrong
+put --addr 127.0.0.1:18200 a => wrong
+put --addr 127.0.0.1 => wrong
+put --addr 127.0.0.1:18200 --dry-run --dry-run => wrong
+put --addr 127.0.0.1:18200 --type cluster => wrong
+delete --addr 127.0.0.1:18200 --type route a => delete 127.0.0.1:18200 1 Route a
+delete --addr 127.0.0.1:18200 --type route --replica 3 --dry-run --admin-token it b a b
+     => delete 127.0.0.1:18200 3 Route token it dry-run b a b
+delete --addr 127.0.0.1:18200 --type route => wrong
+delete --addr 127.0.0.1:18200 a => wrong
+delete --type route a => wrong
+delete --addr 127.0.0.1:18200 --type routes a => wrong
+delete --addr x --type route a => wrong
+delete --addr 127.0.0.1:18200 --type route --replica 0 a => wrong
+delete --addr 127.0.0.1:18200 --type route --all-or-nothing a => wrong",
     )
 }
 
@@ -397,7 +539,18 @@ fn the_option_that_is_wrong_is_named(rt: HostRuntime) -> Result<(), Fail> {
         &rt,
         "serve --admin-port 18000",
         "error: --admin-port: it is a port of streams or of REST~",
-    )
+    )?;
+    tells(
+        &rt,
+        "serve --validate localhost:18300",
+        "error: --validate: an address of IPv4 and a port, as 127.0.0.1:18300; for localhost write \
+         127.0.0.1~",
+    )?;
+    tells(&rt, "get --addr localhost:18200", addr)?;
+    tells(&rt, "get --addr 127.0.0.1:1 --type y", kind)?;
+    tells(&rt, "put --addr localhost:18200", addr)?;
+    tells(&rt, "delete --addr x --type y a", addr)?;
+    tells(&rt, "delete --addr 127.0.0.1:1 --type y a", kind)
 }
 
 #[test]

@@ -35,7 +35,7 @@ use Rattle.xds_stats.specs.declared.log_event.Rejection.{Rejection}
 use Rattle.xds_stats.specs.declared.log_event.LogEvent.{LogEvent}
 use Rattle.xds_stats.specs.declared.log_event.LogEvent.TheVariants.{Listening, Connected, FirstRequest, Rejected, Ended, TurnedAway, CutFailed, UnknownType, Changed, Stopping, Idle}
 use Rattle.xds_stats.specs.declared.log_event.Maker.{Maker}
-use Rattle.xds_stats.specs.declared.log_event.Maker.TheVariants.{Input, Port}
+use Rattle.xds_stats.specs.declared.log_event.Maker.TheVariants.{Input, Port, Folder}
 use Rattle.xds_stats.specs.Statuses.{quoted}
 
 -- what stands for a character of a text that a client sent: a question mark for one of control, for a quote, and for a backslash
@@ -79,6 +79,7 @@ number_text place number = if place == number then [] else codes " (number " ++ 
 abbrev pub maker_word : Maker → List ℕ
 maker_word Input = codes "input"
 maker_word Port = codes "port"
+maker_word Folder = codes "folder"
 
 -- what is told of an event
 abbrev pub message_of : LogEvent → List ℕ

@@ -48,6 +48,8 @@ pub enum Maker {
     Input,
     /// An operator's port.
     Port,
+    /// A folder that resources come from.
+    Folder,
 }
 
 impl Maker {
@@ -57,6 +59,7 @@ impl Maker {
         match self {
             Maker::Input => "input",
             Maker::Port => "port",
+            Maker::Folder => "folder",
         }
     }
 }

@@ -24,6 +24,7 @@ fn serving(port: u16) -> Serving {
         idle_seconds: None,
         admin_port: None,
         hold: false,
+        lint: false,
     }
 }
 
@@ -39,7 +40,9 @@ fn ends_by<
         load: None,
         store: None,
         writes: None,
+        from: None,
         token: None,
+        checker: None,
     };
     let status = serve(rt, input, &mut errors, teller, serving, files);
     let told = str::from_utf8(errors.inner.as_slice()).unwrap_or("no text");

@@ -21,10 +21,8 @@ impl Outcome for Chosen {
             Some(kind) => kind.word(),
             None => "any",
         };
-        let name = match &choice.name {
-            Some(name) => name.as_str(),
-            None => "any",
-        };
+        let names = names_of(alloc, &choice.names)?;
+        let name = names.as_str();
         let how = match (choice.is_tried, choice.is_whole) {
             (true, true) => "both",
             (true, false) => "tried",
@@ -33,6 +31,21 @@ impl Outcome for Chosen {
         };
         Ok(format!(in alloc; "{replica} {kind} {name} {how}")?)
     }
+}
+
+// Names with a bar between two, and a word where there are none.
+fn names_of(alloc: Global, names: &Vec<String>) -> Result<String, Fail> {
+    let mut text = String::new(alloc);
+    for name in names {
+        if !text.as_str().is_empty() {
+            text.push_str("|")?;
+        }
+        text.push_str(name.as_str())?;
+    }
+    if names.is_empty() {
+        text.push_str("any")?;
+    }
+    Ok(text)
 }
 
 #[test]
@@ -45,6 +58,8 @@ fn words_behind_a_question_mark_choose(rt: HostRuntime) -> Result<(), Fail> {
 'type=secret&name=a' => 0 secret a each
 'name=a%20b%26c' => 0 any a b&c each
 'name=a+b' => 0 any a b each
+'name=a&name=b&name=a' => 0 any a|b|a each
+'name=' => 0 any  each
 'dry-run' => 0 any any tried
 'dry-run=' => 0 any any tried
 'all-or-nothing' => 0 any any whole

@@ -194,6 +194,9 @@ fn a_comment_may_hold_any_bytes(rt: HostRuntime) -> Result<(), Fail> {
     let played = told(rt.alloc(), "play", b"#\xff\xfe\ncontent 1 route\n")?;
     assert_eq!(rt; played.as_str(), "0 none~");
     let refused = told(rt.alloc(), "play", b"content 1 route\n \xff\n")?;
-    assert_eq!(rt; refused.as_str(), "1 line 2: 21 BadScript~");
+    assert_eq!(rt;
+        refused.as_str(),
+        "1 line 2: 21 BadScript~line 2: not UTF-8~"
+    );
     Ok(())
 }

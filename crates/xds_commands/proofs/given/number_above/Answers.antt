@@ -1,4 +1,4 @@
-use Rattle.std.proofs.Common.{◌≤◌, subst, sym}
+use Rattle.std.proofs.Common.{subst, sym}
 use Rattle.xds_resource.specs.declared.types.TypeName.TheVariants.{Cluster, Endpoint, Listener, Route, Secret}
 use Rattle.xds_commands.specs.Given.{AllBelow}
 use Rattle.xds_commands.proofs.given.number_above.Goals as goal

@@ -1,5 +1,5 @@
 -- The mark that is found ends the first piece; where there is none, all is one piece.
-use Rattle.std.proofs.Common.{ap, ◌∙◌, arith}
+use Rattle.std.proofs.Common.{ap, ◌∙◌}
 use Rattle.std.proofs.lemmas.Str.Pattern.{split_parts}
 use Rattle.xds_world.specs.Lines.{pieces}
 use Rattle.xds_world.proofs.Splits.{pieces-joined, pieces-no_mark}

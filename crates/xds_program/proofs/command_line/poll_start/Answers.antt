@@ -6,5 +6,5 @@ use Rattle.xds_program.proofs.command_line.poll_start.Goals as goal
 
 pub returns : goal.returns
 returns c =
-    let o0 = one_option (new_app (codes "poll")) (required (text_option (codes "addr"))) _ _ c.addr_option.result c.named.ensures c.addr_option.ensures c.in_ok-poll.ensures in
+    let o0 = one_option (new_app (codes "poll")) (required (text_option (codes "addr"))) _ _ c.addr_option.result c.named-poll.ensures c.addr_option.ensures c.in_ok-poll.ensures in
     one_option_or _ (required (text_option (codes "type"))) _ c.type_option.result _ o0 c.type_option.ensures c.with_option-2.ensures

@@ -1,20 +1,13 @@
 use Rattle.std.proofs.Common.{codes}
-use Rattle.xds_program.specs.CommandLine.{flag_option, number_option, serve_start, text_option}
+use Rattle.xds_program.specs.CommandLine.{flag_option, serve_begun, text_option}
 use Rattle.xds_program.proofs.CommandLine.{one_option, one_option_or}
 use Rattle.xds_program.proofs.command_line.serve_command.Goals as goal
 
 pub returns : goal.returns
 returns c =
-    let o0 = one_option serve_start (flag_option (codes "keep-going")) _ _ c.flag_option.result c.in_ok-serve.ensures c.flag_option.ensures c.in_ok-serve-2.ensures in
-    let o1 = one_option _ (flag_option (codes "log")) _ _ c.flag_option-2.result o0 c.flag_option-2.ensures c.in_ok-serve-3.ensures in
-    let o2 = one_option _ (number_option (codes "max-streams")) _ _ c.number_option.result o1 c.number_option.ensures c.in_ok-serve-4.ensures in
-    let o3 = one_option _ (number_option (codes "idle-seconds")) _ _ c.number_option-2.result o2 c.number_option-2.ensures c.in_ok-serve-5.ensures in
-    let o4 = one_option _ (number_option (codes "admin-port")) _ _ c.number_option-3.result o3 c.number_option-3.ensures c.in_ok-serve-6.ensures in
-    let o5 = one_option _ (text_option (codes "record")) _ _ c.text_option.result o4 c.text_option.ensures c.in_ok-serve-7.ensures in
-    let o6 = one_option _ (number_option (codes "first-number")) _ _ c.number_option-4.result o5 c.number_option-4.ensures c.in_ok-serve-8.ensures in
-    let o7 = one_option _ (text_option (codes "load")) _ _ c.text_option-2.result o6 c.text_option-2.ensures c.in_ok-serve-9.ensures in
-    let o8 = one_option _ (text_option (codes "store")) _ _ c.text_option-3.result o7 c.text_option-3.ensures c.in_ok-serve-10.ensures in
-    let o9 = one_option _ (text_option (codes "writes")) _ _ c.text_option-4.result o8 c.text_option-4.ensures c.in_ok-serve-11.ensures in
-    let o10 = one_option _ (flag_option (codes "hold")) _ _ c.flag_option-3.result o9 c.flag_option-3.ensures c.in_ok-serve-12.ensures in
-    let o11 = one_option _ (text_option (codes "admin-token")) _ _ c.text_option-5.result o10 c.text_option-5.ensures c.in_ok-serve-13.ensures in
-    one_option_or _ (flag_option (codes "log-json")) _ c.flag_option-4.result _ o11 c.flag_option-4.ensures c.with_option-13.ensures
+    let o0 = one_option serve_begun (text_option (codes "admin-token")) _ _ c.text_option.result c.in_ok-serve.ensures c.text_option.ensures c.in_ok-serve-2.ensures in
+    let o1 = one_option _ (flag_option (codes "log-json")) _ _ c.flag_option.result o0 c.flag_option.ensures c.in_ok-serve-3.ensures in
+    let o2 = one_option _ (text_option (codes "from")) _ _ c.text_option-2.result o1 c.text_option-2.ensures c.in_ok-serve-4.ensures in
+    let o3 = one_option _ (flag_option (codes "lint")) _ _ c.flag_option-2.result o2 c.flag_option-2.ensures c.in_ok-serve-5.ensures in
+    let o4 = one_option _ (text_option (codes "validate")) _ _ c.text_option-3.result o3 c.text_option-3.ensures c.in_ok-serve-6.ensures in
+    one_option_or _ (flag_option (codes "pass-unvalidated")) _ c.flag_option-3.result _ o4 c.flag_option-3.ensures c.with_option-6.ensures

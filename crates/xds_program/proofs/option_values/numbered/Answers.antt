@@ -1,4 +1,4 @@
-use Rattle.std.proofs.Common.{◌∙◌, subst, sym}
+use Rattle.std.proofs.Common.{◌∙◌, sym}
 use Rattle.clap.specs.Words.{found_of, rows_of}
 use Rattle.xds_program.proofs.Ports.{no_numbers}
 use Rattle.xds_program.proofs.option_values.numbered.Goals as goal

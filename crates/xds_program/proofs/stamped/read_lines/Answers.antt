@@ -1,4 +1,4 @@
-use Rattle.std.proofs.Common.{ℕ, ◌+◌, sym, subst}
+use Rattle.std.proofs.Common.{◌+◌, sym, subst}
 use Rattle.xds_resource.specs.PerType.{PerType, at}
 use Rattle.xds_catalogue.specs.Holdings.{Holdings}
 use Rattle.xds_program.specs.Gathered.{IsReadTo}

@@ -9,6 +9,3 @@ returns-in-Some-subcommand_matches c = blames_in _ _ _ c.in-Some-subcommand_matc
 
 pub returns-in-Some-subcommand_matches-2 : goal.returns-in-Some-subcommand_matches-2
 returns-in-Some-subcommand_matches-2 c = blames_in _ _ _ c.in-Some-subcommand_matches-2.ensures.rows c.wrong_of_poll.ensures
-
-pub returns-in-Some-subcommand_matches-3 : goal.returns-in-Some-subcommand_matches-3
-returns-in-Some-subcommand_matches-3 c = blames_in _ _ _ c.in-Some-subcommand_matches-3.ensures.rows c.wrong_of_status.ensures

@@ -1,0 +1,8 @@
+use Rattle.serde_json.specs.View.{view}
+use Rattle.xds_resource.specs.Fields.{field}
+use Rattle.xds_json.specs.Versions.{IsVersions}
+use Rattle.xds_causes.proofs.FieldTests.{read_tells_or}
+use Rattle.xds_causes.proofs.fields.versions_wrong.Goals as goal
+
+pub returns-clause-wrong : goal.returns-clause-wrong
+returns-clause-wrong c = read_tells_or (IsVersions (field c.args.camel.now c.args.proto.now (view c.args.value.now))) (λ v. v) _ _ c.versions_field.ensures c.is_refused.ensures.tells

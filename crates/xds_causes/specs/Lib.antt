@@ -1,0 +1,6 @@
+pub mod Causes
+pub mod Fields
+pub mod Likeness
+pub mod PlainLines
+pub mod Told
+pub mod ToldLines

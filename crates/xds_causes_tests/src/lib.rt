@@ -1,0 +1,5 @@
+// Tests of what is told of lines that are refused. Nothing else stands here.
+#![tactic(auto)]
+
+#[cfg(test)]
+mod causes;

@@ -1,0 +1,7 @@
+pub mod Shown
+pub mod Sentences
+pub mod Looks
+pub mod BestLines
+pub mod Pictures
+pub mod Rows
+pub mod Laws

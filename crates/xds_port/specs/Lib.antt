@@ -1,0 +1,5 @@
+pub mod Answers
+pub mod Complaints
+pub mod Deletions
+pub mod Requests
+pub mod Verdicts

@@ -1,0 +1,9 @@
+use Rattle.std.proofs.Common.{subst, sym}
+use Rattle.xds_program.specs.Words.{Finds}
+use Rattle.xds_program.proofs.option_values.deleted.Goals as goal
+
+pub returns-in_err-address : goal.returns-in_err-address
+returns-in_err-address c = subst (Finds _) (sym c.from_residual.ensures) (λ p h. c.in_err-address.ensures p.0 h.0)
+
+pub returns-in_err-number : goal.returns-in_err-number
+returns-in_err-number c = subst (Finds _) (sym c.from_residual-in_err-number.ensures) (λ p h. c.in_err-number.ensures p.1 h.1)

@@ -1,0 +1,9 @@
+use Rattle.std.proofs.Common.{◌≡◌, ◌++◌, map}
+use Rattle.std.specs.FinMap as finmap
+use Rattle.xds_resource.specs.Names.{pairs}
+use Rattle.xds_sources.specs.Differences.{edit_of, puts_of}
+use Rattle.xds_sources.proofs.differences.push_puts.Given as goal
+
+-- what is made and what is left are all
+abbrev pub invariant-loop-key : goal.invariant-loop-key
+invariant-loop-key l = map edit_of l.changes.items ++ puts_of l.held (pairs l.key-iterator) ≡ map edit_of l.initial.changes.items ++ puts_of l.held (finmap.entries l.wanted)
