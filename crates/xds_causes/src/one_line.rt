@@ -4,7 +4,7 @@ ghost use Rattle.xds_causes.specs.PlainLines.{plain_byte, plain_line};
 
 use std::alloc::{AllocError, Global};
 
-/// The line of a text: each byte that no text shows, a line feed among them, is a question mark, and a line feed ends it.
+/// The line of a text: each byte below 32, a line feed among them, is a question mark, and a line feed ends it.
 pub fn plain_line(alloc: Global, text: &str) -> Result<Vec<u8>, AllocError>
     ensures { IfOk result (λ line. line.items ≡ plain_line text.now) }
 {
