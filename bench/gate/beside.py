@@ -58,6 +58,8 @@ LANES = (
     ("bench/gate/sources.py PROGRAM",),
     # What the commands that ask an operator's port say there, and print.
     ("bench/gate/asking.py PROGRAM",),
+    # How long responses are, what is told of it, and puts that are refused for it.
+    ("bench/gate/lengths.py PROGRAM",),
     # What it logs, for people and as JSON.
     ("bench/gate/log.py PROGRAM",),
     # Whom its operator's port answers, and who may read its files.

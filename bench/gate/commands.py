@@ -375,11 +375,13 @@ ACCEPTS = '{"resourceNames":["r","t"],"responseNonce":"1","versionInfo":"1.1.nam
 REJECTS = '{"resourceNames":["r","t"],"responseNonce":"2","errorDetail":{"message":"no"},"typeUrl":"RDS"}'
 SHOWN = (
     "content-type: application/json",
-    '{"replicas":[{"replica":1,"number":1,"streams":[{"stream":1,"peer":"127.0.0.1:',
+    '{"replicas":[{"replica":1,"number":1,"responses":[{"type":"cluster","bytes":97,"limit":16777215},',
+    '{"type":"secret","bytes":114,"limit":16777215}],"streams":[{"stream":1,"peer":"127.0.0.1:',
     '"node":"c","cluster":"g","variant":"sotw","since":"20',
     '"types":[{"type":"route","names":2,',
     '"rejection":"no","rejected":"2","state":"REJECTED","since":"20',
-    'Z"}]}]},{"replica":2,"number":2,"streams":[]}]}',
+    'Z"}]}]},{"replica":2,"number":2,"responses":[{"type":"cluster","bytes":97,',
+    '"limit":16777215}],"streams":[]}]}',
 )
 COUNTED = (
     "# TYPE xds_resources gauge~",

@@ -311,6 +311,13 @@ def hostile():
     server.stop()
 
 
+def response_bytes(server, kind, changes):
+    """How many bytes a stream's first response for `*` has, of what is listed of a type."""
+    bodies = [line[line.index("{"):] for line in server.get(f"/resources?type={kind}").splitlines()]
+    resources = f'"resources":[{",".join(bodies)}],' if bodies else ""
+    return len(f'{{"nonce":"1",{resources}"typeUrl":"{KINDS[kind]}","versionInfo":"1.{changes}"}}'.encode())
+
+
 def every_number():
     """All numbers of a server to which nothing happened but what is known."""
     server = Server("--keep-going", "--max-streams", "3", text="")
@@ -328,7 +335,8 @@ def every_number():
     for at in range(5):
         clients[0].answer(rejects=at < 2)
         clients[1].answer(rejects=at < 4)
-    comes(lambda: len(streams_of(server)) == 3)
+    looks = []
+    comes(lambda: looks.append(1) or len(streams_of(server)) == 3)
     for _ in range(6):
         turned = Stream(server.port)
         tell("a stream past the most is closed", turned.socket.recv(1) == b"")
@@ -339,6 +347,7 @@ def every_number():
         wanted[of_type("changes_total", kind)] = count + 1 + lost
         wanted[of_type("resources", kind)] = count - lost
         wanted[of_type("tombstones", kind)] = int(lost)
+        wanted[of_type("response_bytes", kind)] = response_bytes(server, kind, count + 1 + lost)
         for name in ("responses_total", "acks_total", "nacks_total"):
             wanted[of_type(name, kind)] = 0
     for client in clients[:2]:
@@ -362,10 +371,10 @@ def every_number():
     for name in list(found):
         if name.startswith("xds_put_to_accept_seconds"):
             tell(f"{name} is 0", found.pop(name) == 0)
-    # Three streams were opened, each request and each poll left a record, and so did the look at these numbers.
+    # Three streams were opened, each request and each poll left a record, and so did each look at the streams and the one at these numbers.
     lag, records = of_replica("put_to_last_response_seconds"), of_replica("records_total")
     taken = sum(client.taken for client in clients[:2])
-    least = before[records] + 3 + 2 * taken + 1
+    least = before[records] + 3 + 2 * taken + len(looks) + 1
     tell("the time from a put to the last poll is told", found.pop(lag, 0) > 0)
     counted = found.pop(records)
     # A writer may look once more than it finds something.

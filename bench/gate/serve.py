@@ -147,7 +147,7 @@ def judged_types(server):
 
 def records(server):
     """What a stream and changes leave in the journal."""
-    ends = lambda: comes(lambda: shown(server) == [])
+    ends = lambda: comes(lambda: server.get("/status.txt") == "no stream is open\n")
     ends()
     look = lambda: counted(server, "records_total")
     first, second = look(), look()
@@ -157,14 +157,15 @@ def records(server):
     stream = Stream(server.port)
     stream.send({"typeUrl": ROUTE, "resourceNames": ["n1"]})
     accepts(stream, stream.take(), ["n1"])
-    comes(lambda: shown(server)[0]["types"][0]["accepted"] != "")
+    looks = []
+    comes(lambda: looks.append(1) or shown(server)[0]["types"][0]["accepted"] != "")
     stream.socket.close()
     ends()
     time.sleep(0.2)
     fourth, fifth = look(), look()
-    each = second - first
-    # Its opening, request, response, acceptance, the look whether more is due at its end, its close, and that its writer learns of that.
-    tell("a stream leaves a record for each event", fourth - third == 7 + (fifth - fourth), (third, fourth, fifth, each))
+    # Its opening, request, response, acceptance, the look whether more is due at its end, its close, and that its writer learns of that; and
+    # a look at what is held for each status that was asked for.
+    tell("a stream leaves a record for each event", fourth - third == 7 + len(looks) + (fifth - fourth), (third, fourth, fifth, len(looks)))
 
 
 def polls(server):

@@ -30,7 +30,7 @@ IsSaidBy line number (Err f) = ((f.refusal ≡ OutOfMemory) ⊎ (change_in line 
 
 -- what a line of this number says, or why it is refused; or there was no memory for it
 abbrev pub IsSaid : List ℕ → Bool → ℕ → Said → Type 0
-IsSaid line true number said = (said.line ≡ number) × (said.what ≡ Err (record { refusal = OutOfMemory; cause = None }))
+IsSaid line true number said = (said.line ≡ number) × (said.what ≡ Err (record { refusal = OutOfMemory; cause = None; long = None }))
 IsSaid line false number said = (said.line ≡ number) × IsSaidBy line number said.what
 
 -- the number of the next line, which stops at the greatest that can be told

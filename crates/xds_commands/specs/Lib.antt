@@ -2,6 +2,7 @@ pub mod Asked
 pub mod Changes
 pub mod Checked
 pub mod Contents
+pub mod Fitting
 pub mod Doors
 pub mod Handing
 pub mod Inputs

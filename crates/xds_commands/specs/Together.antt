@@ -3,8 +3,7 @@
 --     made_line        the line of what became of a line of changes
 --     changes_status   the status that they are answered with
 use Rattle.std.specs.Prelude.{ℕ, List, ◌++◌, ◌==◌, ◌&&◌, ◌-◌, if◌then◌else◌, codes, decimal, get_or, length, nat_lt, take}
-use Rattle.xds_monitor.specs.Endings.{fault_line}
-use Rattle.xds_monitor.specs.Notes.{stamp_line}
+use Rattle.xds_monitor.specs.Notes.{refused_line, stamp_line}
 use Rattle.xds_commands.specs.declared.together.Made.{Made}
 use Rattle.xds_commands.specs.declared.together.Made.TheVariants.{Written, Would, Refused, Left}
 
@@ -16,7 +15,7 @@ without_return line = if nat_lt 0 (length line) && get_or line (length line - 1)
 abbrev pub made_line : ℕ → Made → List ℕ
 made_line line (Written stamp) = stamp_line line stamp.counter stamp.writer
 made_line line Would = codes "line " ++ (decimal line ++ codes ": would be made\n")
-made_line line (Refused refusal) = fault_line line refusal
+made_line line (Refused fault) = refused_line line fault
 made_line line Left = codes "line " ++ (decimal line ++ codes ": not made\n")
 
 -- The status that changes are answered with, of which so many were made, or would be, and so many weren't: 200 where each was, 207 where

@@ -1,6 +1,7 @@
 // An operator's port: what it answers. It waits for nobody longer than a second: not for a replica's thread, and not for who reads what
 // the server tells.
 ghost use Rattle.std.specs.Prelude.{◌≡◌, option_map, string_bytes, is_some, IfOk};
+ghost use Rattle.std.specs.List.{list_all};
 ghost use Rattle.xds_commands.specs.Stored.{stored_text};
 ghost use Rattle.xds_commands.specs.Routes.{also_at, found_at, routed, routed_among};
 ghost use Rattle.xds_commands.specs.Together.{without_return};
@@ -11,30 +12,26 @@ use crate::checker::Asks;
 use crate::choice::{Choice, Unchosen, choice_in};
 use crate::contents::push_content;
 use crate::door::refused_at;
-use crate::joint::{AllMade, Joint, Step, unstored_line};
+use crate::joint::{AllMade, Joint, Step, refused, unstored_line};
 use crate::kept::{Kept, Said};
 use crate::meter::{Meter, build_text};
 use crate::moves::Moves;
-use crate::order::{Answers, Order};
-use crate::page::{counts_html, head_html, replica_html, streams_html, tail_html};
+use crate::order::Answers;
+use crate::page::{head_html, tail_html};
+use crate::reached::{MOST_MILLISECONDS, Reached};
 use crate::sharing::{Listing, Merging, PLAIN, plain};
 use crate::sourcing::Source;
 use crate::storing::{Progress, Reached as Reach, Told, owned};
 use crate::timed::Deadline;
-use crate::together::{Made, changes_status};
+use crate::together::changes_status;
 use crate::wanting::{Wanted, read_wanted};
-use crossbeam_channel::{RecvTimeoutError, Sender, TryRecvError, unbounded};
 use std::alloc::Global;
 use std::mem;
-use std::sync::{Arc, Mutex, Wait};
+use std::sync::{Arc, Wait};
 use std::time::{Clock, Duration};
 use xds_core::Marks;
 use xds_http::{Head, Page, Pages, Part};
-use xds_message::Batch;
-use xds_monitor::{
-    Cause, End, Ending, Fault, Lookout, Tape, recorded_text, recordings_text, running_text,
-    stamp_line,
-};
+use xds_monitor::{Cause, End, Ending, Fault, recordings_text, running_text, stamp_line};
 use xds_program::VERSION;
 use xds_resource::{Refusal, Stamp};
 use xds_stats::{LogEvent, Look, Shown, millis_now, numbers_text, utc_text};
@@ -46,9 +43,6 @@ const NUMBERS: &str = "text/plain; version=0.0.4";
 const JSON: &str = "application/json";
 
 const HTML: &str = "text/html; charset=utf-8";
-
-// As many milliseconds as are waited for what replicas' threads answer to one request, or to one line of many.
-const MOST_MILLISECONDS: u64 = 1_000;
 
 // As many milliseconds as are waited for what was changed to be stored.
 const STORE_MILLISECONDS: u64 = 30_000;
@@ -151,28 +145,6 @@ pub fn routed(method: &str, path: &str) -> Result<Route, u16>
             }
         }
         None => Err(404),
-    }
-}
-
-/// A replica, as an operator's port reaches it.
-pub(crate) struct Reached {
-    pub lookout: Arc<Lookout>,
-    pub orders: Sender<Order>,
-    /// What its trace is recorded on, if it is.
-    pub tape: Option<Arc<Tape>>,
-    /// The answer to a question of what it holds, which didn't come in time.
-    pub late: Mutex<Option<Answers<Look>>>,
-}
-
-// Written out: docs/PROVING.md, "Drops".
-impl Drop for Reached {
-    fn drop(self) {
-        let Reached {
-            lookout: _,
-            orders: _,
-            tape: _,
-            late: _,
-        } = self;
     }
 }
 
@@ -331,6 +303,22 @@ fn found(kind: &'static str, text: String) -> Page {
     }
 }
 
+// A text that is there, where there was memory for it.
+fn found_of(kind: &'static str, text: Result<String, Refusal>) -> Result<Page, Refusal> {
+    match text {
+        Ok(text) => Ok(found(kind, text)),
+        Err(refusal) => Err(refusal),
+    }
+}
+
+// A page that says all, with nothing to be gone on with.
+fn whole(page: Result<Page, Refusal>) -> Result<Result<Page, Doing>, Refusal> {
+    match page {
+        Ok(page) => Ok(Ok(page)),
+        Err(refusal) => Err(refusal),
+    }
+}
+
 // The changes that a body says, of which none is made.
 fn changes_in(alloc: Global, body: &[u8]) -> Result<Changing, Refusal> {
     Ok(Changing {
@@ -366,30 +354,48 @@ impl Admin {
         body: &[u8],
     ) -> Result<Result<Page, Doing>, Refusal> {
         match route {
-            Route::Health => Ok(Ok(found(PLAIN, String::from_str(alloc, "ok\n")?))),
-            Route::Ready => Ok(Ok(self.ready(rt, alloc)?)),
-            Route::Open => {
-                self.ending.ask(rt);
-                self.ending
-                    .wait_open_within(rt, Duration::from_millis(MOST_MILLISECONDS));
-                Ok(Ok(self.ready(rt, alloc)?))
-            }
-            Route::Metrics => Ok(Ok(found(NUMBERS, self.numbers(rt, alloc)?))),
-            Route::Status => Ok(Ok(found(JSON, self.status(rt, alloc)?))),
+            Route::Health => whole(found_of(PLAIN, owned(alloc, "ok\n"))),
+            Route::Ready => whole(self.ready(rt, alloc)),
+            Route::Open => whole(self.open(rt, alloc)),
+            Route::Metrics => whole(found_of(NUMBERS, self.numbers(rt, alloc))),
+            Route::Status => whole(found_of(JSON, self.status(rt, alloc))),
             Route::Changes => self.begin_changes(alloc, head, body),
-            Route::Resources => Ok(Ok(self.chosen(rt, alloc, head)?)),
-            Route::Page => Ok(Ok(found(HTML, self.html(rt, alloc)?))),
-            Route::Lines => Ok(Ok(found(PLAIN, self.lines(rt, alloc)?))),
-            Route::Writes | Route::Merge => match self.wanted(head.query.as_str()) {
-                Ok((wanted, replica)) => share_writes(rt, alloc, route, wanted, replica, body),
-                Err(status) => Ok(Ok(bare(alloc, status))),
-            },
-            Route::Stop => {
-                let page = found(PLAIN, String::from_str(alloc, "stopping\n")?);
-                self.ending.log(rt, millis_now(rt), LogEvent::Stopping);
-                self.ending.end(rt, End::Stopped);
-                Ok(Ok(page))
-            }
+            Route::Resources => whole(self.chosen(rt, alloc, head)),
+            Route::Page => whole(found_of(HTML, self.html(rt, alloc))),
+            Route::Lines => whole(found_of(PLAIN, self.lines(rt, alloc))),
+            Route::Writes | Route::Merge => self.begin_writes(rt, alloc, route, head, body),
+            Route::Stop => whole(self.stop(rt, alloc)),
+        }
+    }
+
+    // Has clients answered, and says whether they are.
+    fn open<R: Wait + Clock>(&self, rt: &R, alloc: Global) -> Result<Page, Refusal> {
+        self.ending.ask(rt);
+        self.ending
+            .wait_open_within(rt, Duration::from_millis(MOST_MILLISECONDS));
+        self.ready(rt, alloc)
+    }
+
+    // Ends the server, and says so. Without memory for the page it goes on.
+    fn stop<R: Wait + Clock>(&self, rt: &R, alloc: Global) -> Result<Page, Refusal> {
+        let text = owned(alloc, "stopping\n")?;
+        self.ending.log(rt, millis_now(rt), LogEvent::Stopping);
+        self.ending.end(rt, End::Stopped);
+        Ok(found(PLAIN, text))
+    }
+
+    // Begins to list writes, or to merge those of a body, as the words behind the question mark say.
+    fn begin_writes<R: Wait + Clock>(
+        &self,
+        rt: &R,
+        alloc: Global,
+        route: Route,
+        head: &Head,
+        body: &[u8],
+    ) -> Result<Result<Page, Doing>, Refusal> {
+        match self.wanted(head.query.as_str()) {
+            Ok((wanted, replica)) => share_writes(rt, alloc, route, wanted, replica, body),
+            Err(status) => Ok(Ok(bare(alloc, status))),
         }
     }
 
@@ -400,13 +406,19 @@ impl Admin {
         head: &Head,
         body: &[u8],
     ) -> Result<Result<Page, Doing>, Refusal> {
-        let choice = match choice_in(alloc, head.query.as_str()) {
-            Ok(choice) => choice,
-            Err(unchosen) => return Ok(Ok(told(alloc, 400, unchosen.text()))),
-        };
-        if choice.is_of_resources() {
-            return Ok(Ok(told(alloc, 400, Unchosen::UnknownWord.text())));
+        match chosen_changes(alloc, head.query.as_str()) {
+            Ok(choice) => self.changes_as(alloc, &choice, body),
+            Err(text) => Ok(Ok(told(alloc, 400, text))),
         }
+    }
+
+    // The changes of a body, made together or looked at alone where that is chosen.
+    fn changes_as(
+        &self,
+        alloc: Global,
+        choice: &Choice,
+        body: &[u8],
+    ) -> Result<Result<Page, Doing>, Refusal> {
         let mut changing = changes_in(alloc, body)?;
         if choice.is_of_changes() {
             let joint = Joint::new(alloc, self.replicas.len(), choice.is_tried)?;
@@ -415,23 +427,26 @@ impl Admin {
         Ok(Err(Doing::Changes(changing)))
     }
 
-    // What replicas hold, as the words behind the question mark say: 404 where there is no such replica, or nothing of the name.
+    // What replicas hold, as the words behind the question mark say.
     fn chosen<R: Wait + Clock>(&self, rt: &R, alloc: Global, head: &Head) -> Result<Page, Refusal> {
-        let choice = match choice_in(alloc, head.query.as_str()) {
-            Ok(choice) => choice,
-            Err(unchosen) => return Ok(told(alloc, 400, unchosen.text())),
-        };
-        if choice.is_of_changes() {
-            return Ok(told(alloc, 400, Unchosen::UnknownWord.text()));
+        match chosen_resources(alloc, head.query.as_str()) {
+            Ok(choice) => self.chosen_by(rt, alloc, &choice),
+            Err(text) => Ok(told(alloc, 400, text)),
         }
-        if !self.has_replica(&choice) {
+    }
+
+    // The same by a choice: 404 where there is no such replica, or nothing of the names.
+    fn chosen_by<R: Wait + Clock>(
+        &self,
+        rt: &R,
+        alloc: Global,
+        choice: &Choice,
+    ) -> Result<Page, Refusal> {
+        if !self.has_replica(choice) {
             return Ok(told(alloc, 404, "no such replica\n"));
         }
-        match self.resources(rt, alloc, &choice)? {
-            Some(text) if text.as_str().is_empty() && !choice.names.is_empty() => {
-                Ok(told(alloc, 404, "9 NotFound\n"))
-            }
-            Some(text) => Ok(found(PLAIN, text)),
+        match self.resources(rt, alloc, choice)? {
+            Some(text) => Ok(resources_page(alloc, choice, text)),
             None => Ok(bare(alloc, 503)),
         }
     }
@@ -456,12 +471,8 @@ impl Admin {
         let deadline = Deadline::within(rt, Duration::from_millis(MOST_MILLISECONDS));
         let mut text = String::new(alloc);
         for replica in &self.replicas {
-            let place = replica.lookout.replica();
-            if choice.has_replica(place) {
-                let Some(held) = replica.content(rt, alloc, deadline) else {
-                    return Ok(None);
-                };
-                push_content(alloc, &mut text, place, &held, choice)?;
+            if !push_chosen(rt, alloc, &mut text, replica, choice, deadline)? {
+                return Ok(None);
             }
         }
         Ok(Some(text))
@@ -497,10 +508,32 @@ impl Admin {
     // What each replica holds, where its thread answers in time. All are asked before one is waited for.
     fn looks<R: Wait + Clock>(&self, rt: &R, alloc: Global) -> Result<Vec<Option<Look>>, Refusal> {
         let deadline = Deadline::within(rt, Duration::from_millis(MOST_MILLISECONDS));
+        let asked = self.asked(rt, alloc, deadline)?;
+        self.answers(rt, alloc, asked, deadline)
+    }
+
+    // Asks each replica what it holds, where there is room for the question in time.
+    fn asked<R: Wait + Clock>(
+        &self,
+        rt: &R,
+        alloc: Global,
+        deadline: Deadline,
+    ) -> Result<Vec<Option<Answers<Look>>>, Refusal> {
         let mut asked = Vec::new(alloc);
         for replica in &self.replicas {
             asked.push(replica.ask(rt, alloc, deadline))?;
         }
+        Ok(asked)
+    }
+
+    // What the replicas answer to these questions in time.
+    fn answers<R: Wait + Clock>(
+        &self,
+        rt: &R,
+        alloc: Global,
+        asked: Vec<Option<Answers<Look>>>,
+        deadline: Deadline,
+    ) -> Result<Vec<Option<Look>>, Refusal> {
         let mut looks = Vec::new(alloc);
         for (replica, asked) in self.replicas.iter().zip(asked) {
             looks.push(replica.look(rt, asked, deadline))?;
@@ -513,16 +546,33 @@ impl Admin {
         if self.ending.is_held(rt) {
             return Ok(bare(alloc, 503));
         }
-        for look in self.looks(rt, alloc)? {
-            if look.is_none() {
-                return Ok(bare(alloc, 503));
-            }
+        let looks = self.looks(rt, alloc)?;
+        if are_all_there(looks.as_slice()) {
+            found_of(PLAIN, owned(alloc, "ready\n"))
+        } else {
+            Ok(bare(alloc, 503))
         }
-        Ok(found(PLAIN, String::from_str(alloc, "ready\n")?))
     }
 
+    // The numbers of the whole server, in the text format of Prometheus.
     fn numbers<R: Wait + Clock>(&self, rt: &R, alloc: Global) -> Result<String, Refusal> {
         let looks = self.looks(rt, alloc)?;
+        let shown = self.shown(rt, alloc, looks)?;
+        let mut text = numbers_text(alloc, shown.as_slice())?;
+        drop(shown);
+        self.push_parts(rt, alloc, &mut text)?;
+        push(&mut text, build_text(alloc, VERSION))?;
+        push(&mut text, self.meter.text(alloc))?;
+        Ok(text)
+    }
+
+    // What was counted at each replica, with what it holds.
+    fn shown<R: Wait + Clock>(
+        &self,
+        rt: &R,
+        alloc: Global,
+        looks: Vec<Option<Look>>,
+    ) -> Result<Vec<Shown>, Refusal> {
         let mut shown = Vec::new(alloc);
         for (replica, look) in self.replicas.iter().zip(looks) {
             shown.push(Shown {
@@ -531,22 +581,27 @@ impl Admin {
                 numbers: replica.lookout.numbers(rt),
             })?;
         }
-        let mut text = numbers_text(alloc, shown.as_slice())?;
-        let recordings = self.recordings(rt, alloc)?;
-        text.push_str(recordings.as_str())?;
+        Ok(shown)
+    }
+
+    // Appends the numbers of the recordings, and of a store, a folder and a checker, where there are such.
+    fn push_parts<R: Wait + Clock>(
+        &self,
+        rt: &R,
+        alloc: Global,
+        text: &mut String,
+    ) -> Result<(), Refusal> {
+        push(text, self.recordings(rt, alloc))?;
         if let Some(store) = &self.store {
-            let stored = stored_text(alloc, store.told(rt))?;
-            text.push_str(stored.as_str())?;
+            push(text, stored_text(alloc, store.told(rt)))?;
         }
         if let Some(source) = &self.source {
-            text.push_str(source.numbers(rt, alloc)?.as_str())?;
+            push(text, source.numbers(rt, alloc))?;
         }
         if let Some(asks) = &self.asks {
-            text.push_str(asks.numbers(rt, alloc)?.as_str())?;
+            push(text, asks.numbers(rt, alloc))?;
         }
-        text.push_str(build_text(alloc, VERSION)?.as_str())?;
-        text.push_str(self.meter.text(alloc)?.as_str())?;
-        Ok(text)
+        Ok(())
     }
 
     // The open streams of all replicas, as lines of a plain text.
@@ -595,15 +650,16 @@ impl Admin {
         Ok(text)
     }
 
-    fn status<R: Wait>(&self, rt: &R, alloc: Global) -> Result<String, Refusal> {
+    fn status<R: Wait + Clock>(&self, rt: &R, alloc: Global) -> Result<String, Refusal> {
+        let looks = self.looks(rt, alloc)?;
         let mut text = String::from_str(alloc, "{\"replicas\":[")?;
         let mut is_first = true;
-        for replica in &self.replicas {
+        for (replica, look) in self.replicas.iter().zip(looks) {
             if !is_first {
                 text.push_str(",")?;
             }
             is_first = false;
-            let one = replica.status(rt, alloc)?;
+            let one = replica.status(rt, alloc, look)?;
             text.push_str(one.as_str())?;
         }
         text.push_str("]")?;
@@ -634,21 +690,35 @@ impl Admin {
             if !self.change_on(rt, alloc, work)? || !self.join_on(rt, alloc, work)? {
                 return Ok(Part::More);
             }
-            if let Some(page) = work.unmade(alloc)? {
+            if let Some(page) = self.made(rt, alloc, work)? {
                 return Ok(Part::Done(page));
-            }
-            let Some(_) = &self.store else {
-                return Ok(Part::Done(work.answered(alloc, true)));
-            };
-            match self.marks(rt, alloc)? {
-                Some(marks) => {
-                    let time = Duration::from_millis(STORE_MILLISECONDS);
-                    work.storing = Some((Deadline::within(rt, time), marks));
-                }
-                None => return Ok(Part::Done(work.answered(alloc, false))),
             }
         }
         Ok(self.store_on(rt, alloc, work))
+    }
+
+    // rule: stored
+    // What the lines are answered once all changes were made, unless these are to be stored first; then until when is kept.
+    fn made<R: Wait + Clock>(
+        &self,
+        rt: &R,
+        alloc: Global,
+        work: &mut Changing,
+    ) -> Result<Option<Page>, Refusal> {
+        if let Some(page) = work.unmade(alloc)? {
+            return Ok(Some(page));
+        }
+        if self.store.is_none() {
+            return Ok(Some(work.answered(alloc, true)));
+        }
+        match self.marks(rt, alloc)? {
+            Some(marks) => {
+                let time = Duration::from_millis(STORE_MILLISECONDS);
+                work.storing = Some((Deadline::within(rt, time), marks));
+                Ok(None)
+            }
+            None => Ok(Some(work.answered(alloc, false))),
+        }
     }
 
     // Waits for a while until all changes are stored. Answers what the lines are answered, once they are, or the store has failed.
@@ -713,11 +783,7 @@ impl Admin {
             let Some((line, is_last)) = self.next_line(rt, alloc, work) else {
                 return Ok(false);
             };
-            if work.joint.is_some() {
-                work.join(alloc, line, is_last)?;
-            } else {
-                self.answer_line(rt, alloc, line, work)?;
-            }
+            self.take_line(rt, alloc, line, is_last, work)?;
             if is_last {
                 return Ok(true);
             }
@@ -726,6 +792,22 @@ impl Admin {
             }
         }
         Ok(false)
+    }
+
+    // Takes what a line says: among changes that are made together, or made at once.
+    fn take_line<R: Wait + Clock>(
+        &self,
+        rt: &R,
+        alloc: Global,
+        line: Said,
+        is_last: bool,
+        work: &mut Changing,
+    ) -> Result<(), Refusal> {
+        if work.joint.is_some() {
+            work.join(alloc, line, is_last)
+        } else {
+            self.answer_line(rt, alloc, line, work)
+        }
     }
 
     // The next line of changes, once a checker has seen its resource, where there is one. None where it hasn't answered yet.
@@ -778,16 +860,28 @@ impl Admin {
             }
             Step::Wait => Ok(false),
             Step::Hand(place, changes) => {
-                let is_tried = joint.is_tried;
-                match self.hand(rt, alloc, place, changes, is_tried) {
-                    Some(from) => {
-                        let time = Duration::from_secs(JOINT_SECONDS);
-                        joint.wait_for(from, Deadline::within(rt, time));
-                    }
-                    None => joint.all_are(alloc, Made::Refused(Refusal::Device))?,
-                }
+                self.hand_joint(rt, alloc, joint, place, changes)?;
                 Ok(false)
             }
+        }
+    }
+
+    // Hands changes that are made together to a replica, which has ten minutes for them. Where it doesn't take them each is refused.
+    fn hand_joint<R: Wait + Clock>(
+        &self,
+        rt: &R,
+        alloc: Global,
+        joint: &mut Joint,
+        place: usize,
+        changes: Vec<Change>,
+    ) -> Result<(), Refusal> {
+        match self.hand(rt, alloc, place, changes, joint.is_tried) {
+            Some(from) => {
+                let time = Duration::from_secs(JOINT_SECONDS);
+                joint.wait_for(from, Deadline::within(rt, time));
+                Ok(())
+            }
+            None => joint.all_are(alloc, refused(Refusal::Device)),
         }
     }
 
@@ -827,16 +921,7 @@ impl Admin {
             drop(changes);
             return None;
         };
-        let Ok((to, from)) = unbounded(alloc) else {
-            drop(changes);
-            return None;
-        };
-        let order = Order::All(changes, is_tried, to);
-        let time = Duration::from_millis(MOST_MILLISECONDS);
-        match replica.orders.send_timeout(rt, order, time) {
-            Ok(()) => Some(from),
-            Err(_) => None,
-        }
+        replica.hand_all(rt, alloc, changes, is_tried)
     }
 
     // Adds what a line is answered: nothing, where it says nothing.
@@ -854,22 +939,12 @@ impl Admin {
             Err(fault) => Err(fault),
         };
         match made {
-            Ok(stamp) => {
-                work.made = work.made.saturating_add(1);
-                work.text
-                    .push_str(stamp_line(alloc, line, stamp)?.as_str())?;
-                let unstored = unstored_line(alloc, line, stamp)?;
-                work.unstored.push_str(unstored.as_str())?;
-            }
+            Ok(stamp) => work.count_made(alloc, line, stamp),
             Err(fault) => {
-                work.refused = work.refused.saturating_add(1);
                 self.ending.remember(rt, line, fault);
-                let refused = told_line(alloc, &work.whys, line, fault)?;
-                work.text.push_str(refused.as_str())?;
-                work.unstored.push_str(refused.as_str())?;
+                work.count_refused(alloc, line, fault)
             }
         }
-        Ok(())
     }
 
     // Makes a change at its replica, and waits for its stamp. Where one didn't answer in time, none is tried any more.
@@ -891,7 +966,7 @@ impl Admin {
         }
         match replica.make(rt, alloc, change) {
             Some(Ok(stamp)) => Ok(stamp),
-            Some(Err(refusal)) => Err(Fault::of(refusal)),
+            Some(Err(fault)) => Err(fault),
             None => {
                 *is_stuck = true;
                 Err(Fault::of(Refusal::Device))
@@ -918,6 +993,81 @@ fn share_writes<R: Wait + Clock>(
     }
 }
 
+// The choice of resources that a query says, or how it is told that it says none.
+fn chosen_resources(alloc: Global, query: &str) -> Result<Choice, &'static str> {
+    match choice_in(alloc, query) {
+        Ok(choice) => {
+            if choice.is_of_changes() {
+                Err(Unchosen::UnknownWord.text())
+            } else {
+                Ok(choice)
+            }
+        }
+        Err(unchosen) => Err(unchosen.text()),
+    }
+}
+
+// The same of changes.
+fn chosen_changes(alloc: Global, query: &str) -> Result<Choice, &'static str> {
+    match choice_in(alloc, query) {
+        Ok(choice) => {
+            if choice.is_of_resources() {
+                Err(Unchosen::UnknownWord.text())
+            } else {
+                Ok(choice)
+            }
+        }
+        Err(unchosen) => Err(unchosen.text()),
+    }
+}
+
+// What replicas hold of what was chosen: 404 where nothing has its names.
+fn resources_page(alloc: Global, choice: &Choice, text: String) -> Page {
+    if text.as_str().is_empty() && !choice.names.is_empty() {
+        return told(alloc, 404, "9 NotFound\n");
+    }
+    found(PLAIN, text)
+}
+
+// Appends what a replica holds of what was chosen, where it is chosen. Whether it answered in time.
+fn push_chosen<R: Wait + Clock>(
+    rt: &R,
+    alloc: Global,
+    text: &mut String,
+    replica: &Reached,
+    choice: &Choice,
+    deadline: Deadline,
+) -> Result<bool, Refusal> {
+    let place = replica.lookout.replica();
+    if !choice.has_replica(place) {
+        return Ok(true);
+    }
+    let Some(held) = replica.content(rt, alloc, deadline) else {
+        return Ok(false);
+    };
+    push_content(alloc, text, place, &held, choice)?;
+    Ok(true)
+}
+
+// Whether each of these is there.
+fn are_all_there(looks: &[Option<Look>]) -> bool
+    ensures { result ≡ list_all is_some looks.now }
+{
+    for look in looks {
+        if look.is_none() {
+            return false;
+        }
+    }
+    true
+}
+
+// Appends a text, where there was memory for it.
+fn push(text: &mut String, more: Result<String, Refusal>) -> Result<(), Refusal> {
+    let more = more?;
+    text.push_str(more.as_str())?;
+    Ok(())
+}
+
 // A line without a carriage return at its end.
 fn without_return(line: &[u8]) -> &[u8]
     ensures { result.now ≡ without_return line.now }
@@ -940,6 +1090,22 @@ impl Changing {
             false => UNSTORED,
         };
         plain(status, if are_stored { text } else { unstored })
+    }
+
+    // Adds what the line of a change is answered that was made.
+    fn count_made(&mut self, alloc: Global, line: u64, stamp: Stamp) -> Result<(), Refusal> {
+        self.made = self.made.saturating_add(1);
+        push(&mut self.text, stamp_line(alloc, line, stamp))?;
+        push(&mut self.unstored, unstored_line(alloc, line, stamp))
+    }
+
+    // Adds what a line is answered that was refused.
+    fn count_refused(&mut self, alloc: Global, line: u64, fault: Fault) -> Result<(), Refusal> {
+        self.refused = self.refused.saturating_add(1);
+        let refused = told_line(alloc, &self.whys, line, fault)?;
+        self.text.push_str(refused.as_str())?;
+        self.unstored.push_str(refused.as_str())?;
+        Ok(())
     }
 
     // What a checker told of the lines.
@@ -1016,160 +1182,5 @@ impl Changing {
                 (self.kept.end(alloc), true)
             }
         }
-    }
-}
-
-impl Reached {
-    // Asks what is held, unless it was asked before and didn't answer yet. None where there is no room for the question in time.
-    fn ask<R: Wait + Clock>(
-        &self,
-        rt: &R,
-        alloc: Global,
-        deadline: Deadline,
-    ) -> Option<Answers<Look>> {
-        if let Some(late) = self.late_answer(rt) {
-            return Some(late);
-        }
-        let Ok((to, from)) = unbounded(alloc) else {
-            return None;
-        };
-        match self
-            .orders
-            .send_timeout(rt, Order::Look(to), deadline.rest(rt))
-        {
-            Ok(()) => Some(from),
-            Err(_) => None,
-        }
-    }
-
-    // What a question before is still answered by. An answer that has come meanwhile is passed over.
-    fn late_answer<R: Wait>(&self, rt: &R) -> Option<Answers<Look>> {
-        let late = mem::replace(&mut *self.late.lock(rt), None);
-        match late {
-            Some(from) => match from.try_recv(rt) {
-                Err(TryRecvError::Empty) => Some(from),
-                _ => None,
-            },
-            None => None,
-        }
-    }
-
-    // What is held, by the answer to a question, where it comes in time.
-    fn look<R: Wait + Clock>(
-        &self,
-        rt: &R,
-        asked: Option<Answers<Look>>,
-        deadline: Deadline,
-    ) -> Option<Look> {
-        let Some(from) = asked else {
-            return None;
-        };
-        match from.recv_timeout(rt, deadline.rest(rt)) {
-            Ok(look) => look.ok(),
-            Err(RecvTimeoutError::Timeout) => {
-                *self.late.lock(rt) = Some(from);
-                None
-            }
-            Err(RecvTimeoutError::Disconnected) => None,
-        }
-    }
-
-    // Makes a change. None where its thread doesn't answer in time; then the change may be made later, or never.
-    fn make<R: Wait + Clock>(
-        &self,
-        rt: &R,
-        alloc: Global,
-        change: Change,
-    ) -> Option<Result<Stamp, Refusal>> {
-        let (to, from) = match unbounded(alloc) {
-            Ok(ends) => ends,
-            Err(_) => {
-                drop(change);
-                return Some(Err(Refusal::OutOfMemory));
-            }
-        };
-        let deadline = Deadline::within(rt, Duration::from_millis(MOST_MILLISECONDS));
-        let order = Order::Asked(change, to);
-        if self
-            .orders
-            .send_timeout(rt, order, deadline.rest(rt))
-            .is_err()
-        {
-            return None;
-        }
-        from.recv_timeout(rt, deadline.rest(rt)).ok()
-    }
-
-    // All that is held. None where its thread doesn't answer in time.
-    fn content<R: Wait + Clock>(&self, rt: &R, alloc: Global, deadline: Deadline) -> Option<Batch> {
-        let Ok((to, from)) = unbounded(alloc) else {
-            return None;
-        };
-        let order = Order::Entries(to);
-        if self
-            .orders
-            .send_timeout(rt, order, deadline.rest(rt))
-            .is_err()
-        {
-            return None;
-        }
-        match from.recv_timeout(rt, deadline.rest(rt)) {
-            Ok(Ok(held)) => Some(held),
-            _ => None,
-        }
-    }
-
-    // Its counts of changes. None where its thread doesn't answer in time.
-    fn marks<R: Wait + Clock>(&self, rt: &R, alloc: Global) -> Option<Marks> {
-        let Ok((to, from)) = unbounded(alloc) else {
-            return None;
-        };
-        let deadline = Deadline::within(rt, Duration::from_millis(MOST_MILLISECONDS));
-        let order = Order::Marks(to);
-        if self
-            .orders
-            .send_timeout(rt, order, deadline.rest(rt))
-            .is_err()
-        {
-            return None;
-        }
-        match from.recv_timeout(rt, deadline.rest(rt)) {
-            Ok(Ok(marks)) => Some(marks),
-            _ => None,
-        }
-    }
-
-    // What a browser shows of it: what it holds, where that is known, what was counted, and its streams.
-    fn html<R: Wait>(
-        &self,
-        rt: &R,
-        alloc: Global,
-        look: Option<Look>,
-        millis: u64,
-    ) -> Result<String, Refusal> {
-        let lookout = &self.lookout;
-        let mut text = replica_html(alloc, lookout.replica(), lookout.number())?;
-        let numbers = lookout.numbers(rt);
-        text.push_str(counts_html(alloc, look, &numbers)?.as_str())?;
-        text.push_str(lookout.picture(rt, alloc, millis)?.as_str())?;
-        let rows = lookout.rows(rt, alloc)?;
-        text.push_str(streams_html(alloc, rows.as_str())?.as_str())?;
-        Ok(text)
-    }
-
-    // What is shown of it: its recording, where there is one, and its streams.
-    fn status<R: Wait>(&self, rt: &R, alloc: Global) -> Result<String, Refusal> {
-        let place = self.lookout.replica();
-        let number = self.lookout.number();
-        let recording = match &self.tape {
-            Some(tape) => recorded_text(alloc, tape.ended(rt))?,
-            None => String::new(alloc),
-        };
-        let recording = recording.as_str();
-        let streams = self.lookout.streams(rt, alloc)?;
-        let streams = streams.as_str();
-        Ok(format!(in alloc;
-            "{{\"replica\":{place},\"number\":{number},{recording}\"streams\":{streams}}}"
-        )?)
     }
 }

@@ -1,5 +1,5 @@
 // `xds status`, `xds get`, `xds put` and `xds delete`: one request each to a server's operator's port, and what is shown of the answer.
-ghost use Rattle.std.specs.Prelude.{◌≡◌, ◌≤◌};
+ghost use Rattle.std.specs.Prelude.{◌≡◌, ◌≤◌, IfErr};
 ghost use Rattle.xds_commands.specs.Asked.{shown_of, text_shown};
 
 use crate::beginning::{Unbegun, bearer_in};
@@ -248,21 +248,53 @@ where
     E: Write,
     ensures { result ≤ 1 }
 {
+    match token_of(rt, port, errors) {
+        Ok(bearer) => ask_as(rt, port.addr, request, &bearer, asked, output, errors),
+        Err(status) => status,
+    }
+}
+
+// The token that a port is asked with, if there is one; else the status, once it is told why it can't be said.
+fn token_of<R, E>(rt: &R, port: Port<'_>, errors: &mut Counted<E>) -> Result<Option<String>, u8>
+where
+    R: Machine + Files<File = File>,
+    E: Write,
+    ensures { IfErr result (λ status. status ≤ 1) }
+{
     let alloc = rt.alloc();
-    let bearer = match port.token {
-        Some(file) => match bearer_in(rt, alloc, file.as_str()) {
-            Ok(bearer) => Some(bearer),
-            Err(fault) => return tell_unsaid(alloc, errors, file.as_str(), fault),
-        },
-        None => None,
+    let Some(file) = port.token else {
+        return Ok(None);
     };
-    let said = match &bearer {
+    match bearer_in(rt, alloc, file.as_str()) {
+        Ok(bearer) => Ok(Some(bearer)),
+        Err(fault) => Err(tell_unsaid(alloc, errors, file.as_str(), fault)),
+    }
+}
+
+// Asks a port with this token, if there is one, and shows what it answers. Answers the status.
+fn ask_as<R, O, E>(
+    rt: &R,
+    addr: SocketAddrV4,
+    request: Request<'_>,
+    bearer: &Option<String>,
+    asked: Asked,
+    output: &mut Counted<O>,
+    errors: &mut Counted<E>,
+) -> u8
+where
+    R: Machine + Files<File = File>,
+    O: Write,
+    E: Write,
+    ensures { result ≤ 1 }
+{
+    let alloc = rt.alloc();
+    let said = match bearer {
         Some(bearer) => Some(bearer.as_str()),
         None => None,
     };
-    match answered(rt, alloc, port.addr, &request.with_bearer(said)) {
-        Ok(answer) => show_answer(alloc, port.addr, answer.as_slice(), asked, output, errors),
-        Err(unanswered) => tell_unanswered(alloc, port.addr, unanswered, errors),
+    match answered(rt, alloc, addr, &request.with_bearer(said)) {
+        Ok(answer) => show_answer(alloc, addr, answer.as_slice(), asked, output, errors),
+        Err(unanswered) => tell_unanswered(alloc, addr, unanswered, errors),
     }
 }
 

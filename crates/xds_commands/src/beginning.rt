@@ -7,6 +7,7 @@ ghost use Rattle.xds_commands.specs.Given.{IsWorldOver, MergesSome};
 
 use crate::checker::Asks;
 use crate::door::bearer;
+use crate::fitting::{refused_text, start_fault};
 use crate::given::number_over;
 use crate::loading::load;
 use crate::machine::Runtime;
@@ -151,7 +152,7 @@ pub(crate) enum Unbegun {
     Store(StoreRefusal),
     /// What a folder says isn't taken, as this line tells.
     Source(String),
-    /// What a checker says of a file, as this line tells.
+    /// What a checker says of a file, or that a response is too long by it or by a folder, as this line tells.
     Checked(String),
     /// There is no memory.
     Refused(Refusal),
@@ -356,8 +357,7 @@ where
     serving.first_number = Some(first);
     let is_any = given.is_some() || load.is_some() || said.is_some();
     let world = if is_any {
-        let world = world_over(rt, alloc, serving, None, given, load)?;
-        Some(with_folder(alloc, serving, world, said)?)
+        Some(made_world(rt, alloc, serving, None, given, load, said)?)
     } else {
         drop(given);
         None
@@ -454,8 +454,7 @@ where
     };
     let mut serving = serving;
     serving.first_number = Some(first);
-    let world = world_over(rt, alloc, serving, Some(stored), given, load)?;
-    let world = with_folder(alloc, serving, world, said)?;
+    let world = made_world(rt, alloc, serving, Some(stored), given, load, said)?;
     if !is_more {
         return Ok((world, first));
     }
@@ -488,6 +487,111 @@ fn numbers_of(
             }
         }
         Err(refusal) => Err(Unbegun::Store(refusal)),
+    }
+}
+
+// What is held at the start: what is stored; over it the given writes; over these what all lines of a file come to; and over that what a
+// folder says. Where it is asked for, it is refused where a response is too long by the file or the folder.
+fn made_world<R>(
+    rt: &R,
+    alloc: Global,
+    serving: Serving,
+    stored: Option<Batch>,
+    given: Option<Batch>,
+    load: Option<Loaded<'_>>,
+    said: &Option<FolderSaid>,
+) -> Result<Batch, Unbegun>
+where
+    R: Runtime + Files<File = File>,
+{
+    if !serving.refuse_long {
+        let world = world_over(rt, alloc, serving, stored, given, load)?;
+        return with_folder(alloc, serving, world, said);
+    }
+    let before = match joined(alloc, &stored, &given) {
+        Ok(before) => before,
+        Err(refusal) => {
+            drop(stored);
+            drop(given);
+            return Err(Unbegun::Refused(refusal));
+        }
+    };
+    let world = world_over(rt, alloc, serving, stored, given, load);
+    let made = match world {
+        Ok(world) => with_folder(alloc, serving, world, said),
+        Err(fault) => Err(fault),
+    };
+    let fitting = match made {
+        Ok(world) => fitting_world(alloc, serving, &before, world, load),
+        Err(fault) => Err(fault),
+    };
+    drop(before);
+    fitting
+}
+
+// What is stored, and the given writes.
+fn joined(alloc: Global, stored: &Option<Batch>, given: &Option<Batch>) -> Result<Batch, Refusal> {
+    let mut held = Catalogues::new(alloc);
+    if let Err(refusal) = both_joined(alloc, &mut held, stored, given) {
+        drop(held);
+        return Err(refusal);
+    }
+    let batch = held.entries(alloc);
+    drop(held);
+    batch
+}
+
+fn both_joined(
+    alloc: Global,
+    held: &mut Catalogues,
+    stored: &Option<Batch>,
+    given: &Option<Batch>,
+) -> Result<(), Refusal> {
+    join_copy(alloc, held, stored)?;
+    join_copy(alloc, held, given)
+}
+
+// Joins a copy of a batch, if there is one.
+fn join_copy(alloc: Global, held: &mut Catalogues, batch: &Option<Batch>) -> Result<(), Refusal> {
+    match batch {
+        Some(batch) => join_some(alloc, held, Some(batch.try_copy(alloc)?)),
+        None => Ok(()),
+    }
+}
+
+// What is held at the start, unless a response is too long that was shorter by what was there before.
+fn fitting_world(
+    alloc: Global,
+    serving: Serving,
+    before: &Batch,
+    world: Batch,
+    load: Option<Loaded<'_>>,
+) -> Result<Batch, Unbegun> {
+    let of = match load {
+        Some(loaded) => loaded.file,
+        None => "the folder",
+    };
+    match start_fault(alloc, first_number(serving), before, &world) {
+        Ok(None) => Ok(world),
+        Ok(Some(fault)) => {
+            drop(world);
+            Err(source_line(refused_text(alloc, of, fault)))
+        }
+        Err(refusal) => {
+            drop(world);
+            Err(Unbegun::Refused(refusal))
+        }
+    }
+}
+
+// That what is said at the start isn't taken, as a text tells.
+fn source_line(text: Result<String, Refusal>) -> Unbegun {
+    let Ok(mut line) = text else {
+        return Unbegun::Refused(Refusal::OutOfMemory);
+    };
+    match line.push_str("\n") {
+        Ok(()) => Unbegun::Checked(line),
+        Err(_) => Unbegun::Refused(Refusal::OutOfMemory),
     }
 }
 

@@ -105,6 +105,7 @@ where
         words.hold,
         words.log_json,
         words.lint,
+        words.refuse_beyond_frame,
         is_terminal,
     );
     serve(rt, input, errors, teller, serving, files_in(&words))
@@ -158,9 +159,10 @@ fn serving_of(
     hold: bool,
     log_json: bool,
     lint: bool,
+    refuse_long: bool,
     is_terminal: bool,
 ) -> Serving
-    ensures { result ≡ serving_of task first_number hold log_json lint is_terminal }
+    ensures { result ≡ serving_of task first_number hold log_json lint refuse_long is_terminal }
 {
     Serving {
         first_number,
@@ -177,5 +179,6 @@ fn serving_of(
         admin_port: task.admin_port,
         hold,
         lint,
+        refuse_long,
     }
 }

@@ -172,12 +172,12 @@ impl Joint {
         if let Some((from, deadline)) = mem::replace(&mut self.waiting, None) {
             match from.recv_timeout(rt, pause) {
                 Ok(Ok(made)) => self.answered(made)?,
-                Ok(Err(refusal)) => self.all_are(alloc, Made::Refused(refusal))?,
+                Ok(Err(refusal)) => self.all_are(alloc, refused(refusal))?,
                 Err(RecvTimeoutError::Timeout) if !deadline.rest(rt).is_zero() => {
                     self.waiting = Some((from, deadline));
                     return Ok(Step::Wait);
                 }
-                Err(_) => self.all_are(alloc, Made::Refused(Refusal::Device))?,
+                Err(_) => self.all_are(alloc, refused(Refusal::Device))?,
             }
         }
         self.next(alloc)
@@ -281,16 +281,16 @@ impl Joint {
     // What became of the next change of a replica.
     fn made_at(&self, place: usize, places: &mut Vec<usize>) -> Made {
         let Some(at) = places.get_mut(place) else {
-            return Made::Refused(Refusal::Device);
+            return refused(Refusal::Device);
         };
         let now = *at;
         *at = now.saturating_add(1);
         match self.made.get(place) {
             Some(made) => match made.get(now) {
                 Some(made) => *made,
-                None => Made::Refused(Refusal::Device),
+                None => refused(Refusal::Device),
             },
-            None => Made::Refused(Refusal::Device),
+            None => refused(Refusal::Device),
         }
     }
 
@@ -313,6 +313,11 @@ pub(crate) fn unstored_line(alloc: Global, line: u64, stamp: Stamp) -> Result<St
     let counter = stamp.counter;
     let writer = stamp.writer;
     Ok(format!(in alloc; "line {line}: {counter}-{writer}, not stored\n")?)
+}
+
+/// A change that is refused so.
+pub(crate) fn refused(refusal: Refusal) -> Made {
+    Made::Refused(Fault::of(refusal))
 }
 
 fn is_good(made: Made) -> bool {

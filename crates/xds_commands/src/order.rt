@@ -4,6 +4,7 @@ use crate::together::Made;
 use crossbeam_channel::{Receiver, Sender};
 use xds_core::{Marks, Reply};
 use xds_message::Batch;
+use xds_monitor::Fault;
 use xds_resource::{Refusal, Stamp};
 use xds_stats::Look;
 
@@ -13,7 +14,7 @@ pub enum Order {
     /// To make a change, of which only a refusal is told.
     Change(Change),
     /// To make a change, and answer its stamp.
-    Asked(Change, Sender<Result<Stamp, Refusal>>),
+    Asked(Change, Sender<Result<Stamp, Fault>>),
     /// To look at what it holds.
     Look(Sender<Result<Look, Refusal>>),
     /// To answer its counts of changes.

@@ -3,6 +3,7 @@ ghost use Rattle.std.specs.Prelude.{◌≡◌};
 ghost use Rattle.std.specs.Result.{result_err};
 ghost use Rattle.xds_commands.specs.Messages.{refusal_in};
 
+use crate::fitting::make_fitting;
 use crate::gate::NoGate;
 use crate::machine::{Machine, Runtime};
 use crate::moves::{HearsMoves, Moves};
@@ -453,17 +454,17 @@ fn do_order<R: Wait + Clock, A: Served>(
     match order {
         Order::Change(change) => {
             let line = change.line;
-            let made = make_change(rt, node, seat, change.event);
+            let made = make_fitting(rt, alloc, node, seat, change.event, lookout);
             tell_made(rt, made, Maker::Input, lookout);
-            if let Err(refusal) = made {
+            if let Err(fault) = made {
                 lookout.refused(rt);
                 node.release(rt);
-                lookout.ending().refuse(rt, line, Fault::of(refusal));
+                lookout.ending().refuse(rt, line, fault);
                 node.hold(rt);
             }
         }
         Order::Asked(change, reply) => {
-            let made = make_change(rt, node, seat, change.event);
+            let made = make_fitting(rt, alloc, node, seat, change.event, lookout);
             if made.is_err() {
                 lookout.refused(rt);
             }
@@ -471,7 +472,7 @@ fn do_order<R: Wait + Clock, A: Served>(
             let _ = reply.send(rt, made);
         }
         Order::Look(reply) => {
-            let _ = reply.send(rt, look(rt, node, seat));
+            let _ = reply.send(rt, look(rt, alloc, node, seat, lookout.number()));
         }
         Order::Marks(reply) => {
             let _ = reply.send(rt, marks_now(rt, node, seat));
@@ -486,14 +487,14 @@ fn do_order<R: Wait + Clock, A: Served>(
             let _ = reply.send(rt, merge(rt, node, seat, batch));
         }
         Order::All(changes, is_tried, reply) => {
-            let made = make_all(rt, alloc, node, seat, changes, is_tried);
+            let made = make_all(rt, alloc, node, seat, changes, is_tried, lookout);
             if !is_tried {
                 count_refused(rt, &made, Maker::Port, lookout);
             }
             let _ = reply.send(rt, made);
         }
         Order::Sourced(changes, reply) => {
-            let made = make_all(rt, alloc, node, seat, changes, false);
+            let made = make_all(rt, alloc, node, seat, changes, false, lookout);
             count_refused(rt, &made, Maker::Folder, lookout);
             let _ = reply.send(rt, made);
         }
@@ -520,12 +521,7 @@ fn count_refused<R: Wait + Clock>(
 }
 
 // Tells a change that was made, and by whom, where such is told.
-fn tell_made<R: Wait + Clock>(
-    rt: &R,
-    made: Result<Stamp, Refusal>,
-    maker: Maker,
-    lookout: &Lookout,
-) {
+fn tell_made<R: Wait + Clock>(rt: &R, made: Result<Stamp, Fault>, maker: Maker, lookout: &Lookout) {
     if let Ok(stamp) = made {
         lookout.changed(rt, maker, stamp, millis_now(rt));
     }
@@ -589,11 +585,17 @@ const NOTHING: Marks = Marks {
     secret: 0,
 };
 
-// Looks at all that is held, by one event.
-fn look<R: Wait, A: Served>(rt: &R, node: &A, seat: &mut A::Seat) -> Result<Look, Refusal> {
+// Looks at all that is held at the replica of this number, by one event.
+fn look<R: Wait, A: Served>(
+    rt: &R,
+    alloc: Global,
+    node: &A,
+    seat: &mut A::Seat,
+    number: u16,
+) -> Result<Look, Refusal> {
     let answer = called(rt, node, &NoGate, seat, Event::Since(NOTHING));
     let look = match reply_in(&answer) {
-        Ok(reply) => look_in(reply),
+        Ok(reply) => look_in(alloc, number, reply),
         Err(refusal) => Err(refusal),
     };
     drop(answer);

@@ -2,7 +2,7 @@
 ghost use Rattle.std.specs.Prelude.{◌≡◌, ◌≤◌, IfOk, option_map, string_bytes};
 ghost use Rattle.xds_commands.specs.Servings.{limits_of};
 
-use crate::admin::{Admin, Reached};
+use crate::admin::Admin;
 use crate::beginning::{Begun, ServeFiles, begin_with, first_number, tell_unbegun};
 use crate::checker::{Asks, start_checker};
 use crate::linting::start_linting;
@@ -11,11 +11,13 @@ use crate::machine::{Machine, Runtime};
 use crate::meter::Meter;
 use crate::moves::Moves;
 use crate::order::Order;
+use crate::reached::Reached;
 use crate::replica::{Sends, Sockets, SocketsOver, Takes};
 use crate::serve_telling::{
     PortFault, status_of, tell, tell_admin, tell_end, tell_port, tell_replicas, tell_same_numbers,
     tell_tape, tell_until_end,
 };
+use crate::sizing::start_sizing;
 use crate::sourcing::{Source, start_sourcing};
 use crate::starting::{
     DRAIN_SECONDS, shared_asks, shared_tape, start_admin, start_input, start_opener, start_replica,
@@ -72,6 +74,8 @@ pub struct Serving {
     pub hold: bool,
     /// Whether references that lead nowhere are told.
     pub lint: bool,
+    /// Whether a put is refused by which the whole response of its type would be too long for a frame.
+    pub refuse_long: bool,
 }
 
 // As many milliseconds as who stopped the server has to take the answer.
@@ -336,10 +340,13 @@ impl Bindings {
 }
 
 // What works beside the replicas of a server: the folder that resources come from, if there is one, and how far the replicas have changed,
-// where references are told that lead nowhere.
+// where references are told that lead nowhere, or responses that are long.
 struct Beside {
     source: Option<Arc<Source>>,
     moves: Option<Arc<Moves>>,
+    // Which of both are told.
+    lints: bool,
+    logs: bool,
 }
 
 // Written out: docs/PROVING.md, "Drops".
@@ -348,6 +355,8 @@ impl Drop for Beside {
         let Beside {
             source: _,
             moves: _,
+            lints: _,
+            logs: _,
         } = self;
     }
 }
@@ -355,13 +364,21 @@ impl Drop for Beside {
 // What works beside the replicas.
 fn beside_of(begun: &Begun, moves: &Option<Arc<Moves>>) -> Result<Beside, Unbound> {
     let source = shared_if_any(&begun.source)?;
-    if begun.serving.lint {
+    let serving = begun.serving;
+    if serving.lint || serving.logs {
         let moves = shared_if_any(moves)?;
-        return Ok(Beside { source, moves });
+        return Ok(Beside {
+            source,
+            moves,
+            lints: serving.lint,
+            logs: serving.logs,
+        });
     }
     Ok(Beside {
         source,
         moves: None,
+        lints: false,
+        logs: false,
     })
 }
 
@@ -416,9 +433,10 @@ fn shared_if_any<T: Drop>(it: &Option<Arc<T>>) -> Result<Option<Arc<T>>, Unbound
     }
 }
 
-// How far the replicas of a server have changed, where there is an operator's port, or references are told that lead nowhere.
+// How far the replicas of a server have changed, where there is an operator's port, or references are told that lead nowhere, or responses
+// that are long.
 fn moves_of(alloc: Global, serving: Serving) -> Result<Option<Arc<Moves>>, Refusal> {
-    if serving.admin_port.is_none() && !serving.lint {
+    if serving.admin_port.is_none() && !serving.lint && !serving.logs {
         return Ok(None);
     }
     Ok(Some(Arc::new(alloc, Moves::new(alloc, serving.replicas)?)?))
@@ -643,6 +661,7 @@ fn limits_of(serving: Serving) -> Limits
     Limits {
         streams: serving.max_streams,
         idle_seconds: serving.idle_seconds,
+        refuses_long: serving.refuse_long,
     }
 }
 
@@ -744,8 +763,17 @@ fn start_beside<R: Machine>(
     ending: &Arc<Ending>,
 ) -> Result<(), Refusal> {
     let sourcing = start_sourcing(rt, alloc, &beside.source, senders, ending);
-    let linting = start_linting(rt, alloc, &beside.moves, senders, ending);
-    both(sourcing, linting)
+    let linting = if beside.lints {
+        start_linting(rt, alloc, &beside.moves, senders, ending)
+    } else {
+        Ok(())
+    };
+    let sizing = if beside.logs {
+        start_sizing(rt, alloc, &beside.moves, senders, ending)
+    } else {
+        Ok(())
+    };
+    both(sourcing, both(linting, sizing))
 }
 
 // The replicas, as an operator's port reaches them.

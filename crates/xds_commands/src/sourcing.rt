@@ -2,6 +2,7 @@
 ghost use Rattle.std.specs.Prelude.{◌≤◌};
 
 use crate::change::Change;
+use crate::fitting::refused_text;
 use crate::folder::{ReadsFolders, files_in, sight_in};
 use crate::machine::Runtime;
 use crate::opening::entries_of;
@@ -16,7 +17,7 @@ use std::sync::{Arc, Mutex, Wait};
 use std::time::{Clock, Duration};
 use xds_core::{Catalogues, Event};
 use xds_message::Batch;
-use xds_monitor::{Ending, Note};
+use xds_monitor::{Ending, Fault as Untaken, Note};
 use xds_resource::{AnyWrite, Groups, NameMap, Refusal, TypeName};
 use xds_sources::{
     Fault, SourceChange, SourceFile, Wanted, Wrong, difference, key_of, read_sources,
@@ -312,10 +313,21 @@ impl Source {
             }
         };
         let is_any = !changes.is_empty();
-        if is_any && !made_together(rt, alloc, changes, orders)? {
-            // Somebody else made a change in between. The next look tries it again.
-            drop(said);
-            return Ok(());
+        if is_any {
+            match made_together(rt, alloc, changes, orders)? {
+                Together::All => {}
+                Together::Long(fault) => {
+                    drop(said);
+                    let text = refused_text(alloc, self.path.as_str(), fault)?;
+                    self.fail(rt, alloc, text, ending);
+                    return Ok(());
+                }
+                Together::Left => {
+                    // Somebody else made a change in between. The next look tries it again.
+                    drop(said);
+                    return Ok(());
+                }
+            }
         }
         self.took(rt, alloc, said, is_any, ending)
     }
@@ -483,13 +495,24 @@ fn changes_of(alloc: Global, changes: Vec<SourceChange>) -> Result<Vec<Change>, 
     Ok(made)
 }
 
-// Makes changes at a replica together. Answers whether all were made.
+// What became of changes that were to be made together.
+#[derive(Clone, Copy)]
+enum Together {
+    // All were made.
+    All,
+    // A response would be too long by one of them.
+    Long(Untaken),
+    // One wasn't made.
+    Left,
+}
+
+// Makes changes at a replica together.
 fn made_together<R: Wait>(
     rt: &R,
     alloc: Global,
     changes: Vec<Change>,
     orders: &Sender<Order>,
-) -> Result<bool, Refusal> {
+) -> Result<Together, Refusal> {
     let (to, from) = match unbounded(alloc) {
         Ok(ends) => ends,
         Err(_) => {
@@ -505,14 +528,16 @@ fn made_together<R: Wait>(
     }
 }
 
-fn all_made(made: &Vec<Made>) -> bool {
+fn all_made(made: &Vec<Made>) -> Together {
+    let mut all = Together::All;
     for one in made {
         match one {
             Made::Written(_) => {}
-            Made::Would | Made::Refused(_) | Made::Left => return false,
+            Made::Refused(fault) if fault.long.is_some() => return Together::Long(*fault),
+            Made::Would | Made::Refused(_) | Made::Left => all = Together::Left,
         }
     }
-    true
+    all
 }
 
 /// A share of what orders are sent by.

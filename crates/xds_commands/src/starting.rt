@@ -381,8 +381,11 @@ pub(crate) fn shared_asks(asks: &Option<Arc<Asks>>) -> Result<Option<Arc<Asks>>,
     }
 }
 
-// Shares of what changes are sent by.
-fn copies(alloc: Global, senders: &[Sender<Order>]) -> Result<Vec<Sender<Order>>, Refusal> {
+/// Shares of what changes are sent by.
+pub(crate) fn copies(
+    alloc: Global,
+    senders: &[Sender<Order>],
+) -> Result<Vec<Sender<Order>>, Refusal> {
     let mut copies = Vec::new(alloc);
     for sender in senders {
         copies.push(sender.clone()?)?;

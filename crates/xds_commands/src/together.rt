@@ -3,13 +3,14 @@ ghost use Rattle.std.specs.Prelude.{◌≡◌, string_bytes, IfOk};
 ghost use Rattle.xds_commands.specs.Together.{changes_status, made_line};
 
 use crate::change::Change;
+use crate::fitting::long_among;
 use crate::replica::{entries, make_change};
 use std::alloc::Global;
 use std::collections::BTreeSet;
 use std::sync::Wait;
 use xds_core::Event;
 use xds_message::Batch;
-use xds_monitor::{Served, fault_line, stamp_line};
+use xds_monitor::{Fault, Lookout, Served, refused_line, stamp_line};
 use xds_resource::{Refusal, ResourceType, Stamp, TypeName, Write};
 
 /// What becomes of a change that is made together with others.
@@ -20,7 +21,7 @@ pub enum Made {
     /// It can be made, and isn't, since it is looked at alone.
     Would,
     /// It is refused.
-    Refused(Refusal),
+    Refused(Fault),
     /// It isn't made, since another one is refused.
     Left,
 }
@@ -32,7 +33,7 @@ pub fn made_line(alloc: Global, line: u64, made: Made) -> Result<String, Refusal
     match made {
         Made::Written(stamp) => stamp_line(alloc, line, stamp),
         Made::Would => Ok(format!(in alloc; "line {line}: would be made\n")?),
-        Made::Refused(refusal) => fault_line(alloc, line, refusal),
+        Made::Refused(fault) => refused_line(alloc, line, fault),
         Made::Left => Ok(format!(in alloc; "line {line}: not made\n")?),
     }
 }
@@ -52,7 +53,8 @@ pub fn changes_status(made: u64, refused: u64) -> u16
 }
 
 /// Makes changes at a replica, all of them or none, or says what would become of each. They are looked at first: a deletion of what isn't
-/// live by then is refused. Where one is refused all the same when it is made, those behind it are left, and those before it stay.
+/// live by then is refused, and so is a put that makes a response too long, where such are. Where one is refused all the same when it is
+/// made, those behind it are left, and those before it stay.
 pub(crate) fn make_all<R: Wait, A: Served>(
     rt: &R,
     alloc: Global,
@@ -60,11 +62,21 @@ pub(crate) fn make_all<R: Wait, A: Served>(
     seat: &mut A::Seat,
     changes: Vec<Change>,
     is_tried: bool,
+    lookout: &Lookout,
 ) -> Result<Vec<Made>, Refusal> {
     let held = entries(rt, node, seat)?;
     let looked = looked_at(alloc, &held, changes.as_slice());
     drop(held);
-    let looked = looked?;
+    let long = long_among(
+        rt,
+        alloc,
+        node,
+        seat,
+        changes.as_slice(),
+        !is_tried,
+        lookout,
+    );
+    let looked = faults_of(alloc, looked?, long?)?;
     if is_tried {
         return verdicts(alloc, &looked, Made::Would);
     }
@@ -92,7 +104,7 @@ fn make_each<R: Wait, A: Served>(
                 Ok(stamp) => Made::Written(stamp),
                 Err(refusal) => {
                     has_failed = true;
-                    Made::Refused(refusal)
+                    Made::Refused(Fault::of(refusal))
                 }
             }
         };
@@ -101,7 +113,28 @@ fn make_each<R: Wait, A: Served>(
     Ok(made)
 }
 
-fn are_any(looked: &Vec<Option<Refusal>>) -> bool {
+// Why each change isn't made, by what was found of all of them, and by the length of a response, as far as that was looked at.
+fn faults_of(
+    alloc: Global,
+    looked: Vec<Option<Refusal>>,
+    long: Vec<Option<Fault>>,
+) -> Result<Vec<Option<Fault>>, Refusal> {
+    let mut faults = Vec::new(alloc);
+    let mut long = long.into_iter();
+    for one in looked {
+        let length = match long.next() {
+            Some(fault) => fault,
+            None => None,
+        };
+        faults.push(match one {
+            Some(refusal) => Some(Fault::of(refusal)),
+            None => length,
+        })?;
+    }
+    Ok(faults)
+}
+
+fn are_any(looked: &Vec<Option<Fault>>) -> bool {
     for one in looked {
         if one.is_some() {
             return true;
@@ -111,15 +144,11 @@ fn are_any(looked: &Vec<Option<Refusal>>) -> bool {
 }
 
 // What becomes of changes that were looked at: those that aren't refused are this.
-fn verdicts(
-    alloc: Global,
-    looked: &Vec<Option<Refusal>>,
-    good: Made,
-) -> Result<Vec<Made>, Refusal> {
+fn verdicts(alloc: Global, looked: &Vec<Option<Fault>>, good: Made) -> Result<Vec<Made>, Refusal> {
     let mut made = Vec::new(alloc);
     for one in looked {
         made.push(match one {
-            Some(refusal) => Made::Refused(*refusal),
+            Some(fault) => Made::Refused(*fault),
             None => good,
         })?;
     }

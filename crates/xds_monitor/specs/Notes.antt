@@ -1,7 +1,9 @@
 -- What a server tells on its error output while it serves. This project's own.
 --     caused_line    the line of a line of the input that is refused, with what is wrong of it
---     refused_by     the same, or without that, where there is none
---     refused_line   the same, or without that, where it isn't known
+--     long_line      the line of one by which a response would be too long
+--     uncaused_line  the line of one whose line is well, by which a response may be too long
+--     refused_by     the line of either
+--     refused_line   the line of a line of the input that is refused, with what is known of it
 --     store_line     the line of what is so of the store
 --     said_line      a line of this text
 --     note_line      the line of a note
@@ -11,10 +13,12 @@ use Rattle.xds_resource.specs.declared.refusal.Refusal.{Refusal}
 use Rattle.xds_resource.specs.Refusals.{number_of, name_of}
 use Rattle.xds_causes.specs.declared.cause.Cause.{Cause}
 use Rattle.xds_monitor.specs.declared.fault.Fault.{Fault}
+use Rattle.xds_monitor.specs.declared.fault.LongResponse.{LongResponse}
 use Rattle.xds_monitor.specs.declared.note.Note.{Note}
 use Rattle.xds_monitor.specs.declared.note.Note.TheVariants.{Refused, Event, Json, Missed, RecordingEnded, Store, Said}
 use Rattle.xds_causes.specs.Causes.{cause_text}
 use Rattle.xds_stats.specs.Logging.{event_line, json_line}
+use Rattle.xds_stats.specs.Sizes.{long_text}
 use Rattle.xds_monitor.specs.Endings.{fault_line}
 use Rattle.xds_monitor.specs.Recordings.{recording_line}
 
@@ -23,13 +27,23 @@ abbrev pub caused_line : ℕ → Refusal → Cause → List ℕ
 caused_line line refusal cause =
     codes "line " ++ (decimal line ++ (codes ": " ++ (decimal (number_of refusal) ++ (codes " " ++ (name_of refusal ++ (codes ": " ++ (cause_text cause ++ codes "\n")))))))
 
-abbrev pub refused_by : ℕ → Refusal → Option Cause → List ℕ
-refused_by line refusal None = fault_line line refusal
-refused_by line refusal (Some cause) = caused_line line refusal cause
+-- the line of one by which a response would be too long
+abbrev pub long_line : ℕ → Refusal → LongResponse → List ℕ
+long_line line refusal long =
+    codes "line " ++ (decimal line ++ (codes ": " ++ (decimal (number_of refusal) ++ (codes " " ++ (name_of refusal ++ (codes ": " ++ (long_text long.kind long.bytes ++ codes "\n")))))))
+
+-- the line of one whose line is well, by which a response may be too long
+abbrev pub uncaused_line : ℕ → Refusal → Option LongResponse → List ℕ
+uncaused_line line refusal None = fault_line line refusal
+uncaused_line line refusal (Some long) = long_line line refusal long
+
+abbrev pub refused_by : ℕ → Refusal → Option Cause → Option LongResponse → List ℕ
+refused_by line refusal None long = uncaused_line line refusal long
+refused_by line refusal (Some cause) long = caused_line line refusal cause
 
 -- the same, or without that, where it isn't known
 abbrev pub refused_line : ℕ → Fault → List ℕ
-refused_line line fault = refused_by line fault.refusal fault.cause
+refused_line line fault = refused_by line fault.refusal fault.cause fault.long
 
 -- the line of what is so of the store
 abbrev pub store_line : List ℕ → List ℕ

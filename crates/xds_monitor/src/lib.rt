@@ -20,7 +20,7 @@ pub mod weighed;
 mod weights;
 
 pub use ending::{End, Ending, Next, Telling};
-pub use fault::Fault;
+pub use fault::{Fault, LongResponse};
 pub use lookout::{Limits, Lookout};
 pub use note::{Note, fault_line, refused_line, stamp_line};
 pub use recorded::Recorded;

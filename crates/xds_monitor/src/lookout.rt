@@ -25,6 +25,8 @@ pub struct Limits {
     pub streams: Option<u16>,
     /// Within how many seconds the first frame of each comes; at any time, where none is said.
     pub idle_seconds: Option<u16>,
+    /// Whether a put is refused by which the whole response of its type would be too long for a frame.
+    pub refuses_long: bool,
 }
 
 /// Where threads note what happens at a replica. It has a lock of its own, which is held for a note at a time, and never while the
@@ -83,6 +85,13 @@ impl Lookout {
         ensures { result ≡ self.now.limits.idle_seconds }
     {
         self.limits.idle_seconds
+    }
+
+    /// Whether a put is refused by which the whole response of its type would be too long for a frame.
+    pub fn refuses_long(&self) -> bool
+        ensures { result ≡ self.now.limits.refuses_long }
+    {
+        self.limits.refuses_long
     }
 
     /// A connection came: whether it is served as a stream. If so, it leaves once it ends. None is once the server ends.

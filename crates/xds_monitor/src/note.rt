@@ -1,14 +1,15 @@
 // What a server tells on its error output while it serves.
 ghost use Rattle.std.specs.Prelude.{◌≡◌, string_bytes, IfOk};
-ghost use Rattle.xds_monitor.specs.Notes.{note_line, refused_line, caused_line, said_line, stamp_line, store_line};
+ghost use Rattle.xds_monitor.specs.Notes.{note_line, refused_line, caused_line, long_line, said_line, stamp_line, store_line, uncaused_line};
 ghost use Rattle.xds_monitor.specs.Endings.{fault_line};
 ghost use Rattle.xds_monitor.specs.Recordings.{recording_line};
 
-use crate::fault::Fault;
+use crate::fault::{Fault, LongResponse};
 use std::alloc::Global;
 use xds_causes::Cause;
 use xds_resource::{Refusal, Stamp};
 use xds_stats::log_event::LogEvent;
+use xds_stats::long_text;
 
 /// Something that is told on the error output, a line each.
 #[derive(Drop)]
@@ -72,14 +73,43 @@ fn recording_line(alloc: Global, replica: u16, refusal: Refusal) -> Result<Strin
     Ok(format!(in alloc; "recording of replica {replica} ended: {number} {name}\n")?)
 }
 
-/// The line of a line of the input that is refused: with what is wrong of it, where that is known.
+/// The line of a line of the input that is refused: with what is wrong of it, or would be too long by it, where that is known.
 pub fn refused_line(alloc: Global, line: u64, fault: Fault) -> Result<String, Refusal>
     ensures { IfOk result (λ t. string_bytes t ≡ refused_line line fault) }
 {
     match fault.cause {
         Some(cause) => caused_line(alloc, line, fault.refusal, cause),
-        None => fault_line(alloc, line, fault.refusal),
+        None => uncaused_line(alloc, line, fault.refusal, fault.long),
     }
+}
+
+fn uncaused_line(
+    alloc: Global,
+    line: u64,
+    refusal: Refusal,
+    long: Option<LongResponse>,
+) -> Result<String, Refusal>
+    ensures { IfOk result (λ t. string_bytes t ≡ uncaused_line line refusal long) }
+{
+    match long {
+        Some(long) => long_line(alloc, line, refusal, long),
+        None => fault_line(alloc, line, refusal),
+    }
+}
+
+fn long_line(
+    alloc: Global,
+    line: u64,
+    refusal: Refusal,
+    long: LongResponse,
+) -> Result<String, Refusal>
+    ensures { IfOk result (λ t. string_bytes t ≡ long_line line refusal long) }
+{
+    let number = refusal.number();
+    let name = refusal.name();
+    let text = long_text(alloc, long.kind, long.bytes)?;
+    let text = text.as_str();
+    Ok(format!(in alloc; "line {line}: {number} {name}: {text}\n")?)
 }
 
 fn caused_line(alloc: Global, line: u64, refusal: Refusal, cause: Cause) -> Result<String, Refusal>

@@ -67,7 +67,8 @@ one_served rows s t h k =
     let lint = sym h.lint ∙ k.lint in
     let validate = one_address_given (codes "validate") rows s.validate t.validate h.validate k.validate in
     let pass_unvalidated = sym h.pass_unvalidated ∙ k.pass_unvalidated in
-    λ i. record { task = task i; first_number = first_number i; folder = folder i; load = load i; store = store i; writes = writes i; hold = hold i; admin_token = admin_token i; log_json = log_json i; from_folder = from_folder i; lint = lint i; validate = validate i; pass_unvalidated = pass_unvalidated i }
+    let refuse_beyond_frame = sym h.refuse_beyond_frame ∙ k.refuse_beyond_frame in
+    λ i. record { task = task i; first_number = first_number i; folder = folder i; load = load i; store = store i; writes = writes i; hold = hold i; admin_token = admin_token i; log_json = log_json i; from_folder = from_folder i; lint = lint i; validate = validate i; pass_unvalidated = pass_unvalidated i; refuse_beyond_frame = refuse_beyond_frame i }
 
 one_client : (rows : List Row) (c d : Watch) → AsksClient rows c → AsksClient rows d → c ≡ d
 one_client rows c d h k =

@@ -18,7 +18,7 @@
 --     serve_command                    `xds serve [--replicas N] [--port P] [--rest-port Q] [--streams S] [--keep-going] [--log]
 --                                      [--max-streams N] [--idle-seconds T] [--admin-port A] [--record DIR]
 --                                      [--first-number F] [--load FILE] [--store FILE] [--writes FILE] [--hold] [--admin-token FILE] [--log-json]
---                                      [--from DIR] [--lint] [--validate ADDRESS] [--pass-unvalidated]`
+--                                      [--from DIR] [--lint] [--validate ADDRESS] [--pass-unvalidated] [--refuse-beyond-frame]`
 --     writes_command                   `xds writes --store FILE`
 --     asking_command                   a command that asks a server's operator's port: `--addr A [--admin-token FILE]`
 --     status_command                   `xds status --addr A [--admin-token FILE]`
@@ -132,12 +132,13 @@ serve_begun =
 -- `xds serve`, with all its options
 abbrev pub serve_command : App
 serve_command =
-    with_rule (with_rule (with_rule (with_rule (with_rule (with_rule serve_begun (text_option (codes "admin-token")))
+    with_rule (with_rule (with_rule (with_rule (with_rule (with_rule (with_rule serve_begun (text_option (codes "admin-token")))
     (flag_option (codes "log-json")))
     (text_option (codes "from")))
     (flag_option (codes "lint")))
     (text_option (codes "validate")))
-    (flag_option (codes "pass-unvalidated"))
+    (flag_option (codes "pass-unvalidated")))
+    (flag_option (codes "refuse-beyond-frame"))
 
 -- `xds client`, with the options that say where it asks, how, and for what
 abbrev pub client_start : App

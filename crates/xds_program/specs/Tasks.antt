@@ -35,7 +35,7 @@ pub record Checks : Type 0 where
   pub explain : Bool
   pub picture : Option (List ℕ)
 
--- `xds serve`: what is served, the number of the first replica, the folder of the traces, the file that is loaded, that of the store and that of writes, if there are such, whether nobody is answered until it is told to, the file of the token, if there is one, whether it logs as JSON, the folder whose resources are all that shall be held, if there is one, whether it lints, the checker that it asks, if there is one, and whether it takes what isn't checked
+-- `xds serve`: what is served, the number of the first replica, the folder of the traces, the file that is loaded, that of the store and that of writes, if there are such, whether nobody is answered until it is told to, the file of the token, if there is one, whether it logs as JSON, the folder whose resources are all that shall be held, if there is one, whether it lints, the checker that it asks, if there is one, whether it takes what isn't checked, and whether it refuses puts that make a response too long
 pub record Serves : Type 0 where
   pub task : ServeTask
   pub first_number : Option ℕ
@@ -50,6 +50,7 @@ pub record Serves : Type 0 where
   pub lint : Bool
   pub validate : Option SocketAddrV4
   pub pass_unvalidated : Bool
+  pub refuse_beyond_frame : Bool
 
 -- `xds client`: a client that subscribes on a stream
 pub record Watch : Type 0 where

@@ -134,7 +134,7 @@ abbrev pub has_numbers : Option ℕ → ℕ → Bool
 has_numbers None replicas = true
 has_numbers (Some first) replicas = nat_le (first + replicas) 65536
 
--- the same, with the number of the first replica, the folder of the traces, the file that is loaded, that of the store and that of writes, whether it waits, the file of the token, whether it logs as JSON, the folder that is followed, whether it lints, the checker that it asks, and whether it takes what isn't checked: no replica's number is above 65,535
+-- the same, with the number of the first replica, the folder of the traces, the file that is loaded, that of the store and that of writes, whether it waits, the file of the token, whether it logs as JSON, the folder that is followed, whether it lints, the checker that it asks, whether it takes what isn't checked, and whether it refuses puts that make a response too long: no replica's number is above 65,535
 pub record AsksServed (rows : List Row) (serves : Serves) : Type 0 where
   pub task : AsksServe rows serves.task
   pub first_number : Finds (IsNumber rows (codes "first-number")) serves.first_number
@@ -150,6 +150,7 @@ pub record AsksServed (rows : List Row) (serves : Serves) : Type 0 where
   pub lint : is_given (codes "lint") rows ≡ serves.lint
   pub validate : IsAddressGiven (codes "validate") rows serves.validate
   pub pass_unvalidated : is_given (codes "pass-unvalidated") rows ≡ serves.pass_unvalidated
+  pub refuse_beyond_frame : is_given (codes "refuse-beyond-frame") rows ≡ serves.refuse_beyond_frame
 
 -- `xds client`
 pub record AsksClient (rows : List Row) (task : Watch) : Type 0 where

@@ -116,7 +116,9 @@ fn serve_command<'a>(alloc: Global) -> Result<Command<'a>, AllocError>
     let help = "Asks a checker there before it takes a resource";
     let serve = with_option(serve, text_option(alloc, "validate", "ADDRESS", help))?;
     let help = "Takes a resource where the checker is away";
-    with_option(serve, flag_option(alloc, "pass-unvalidated", help))
+    let serve = with_option(serve, flag_option(alloc, "pass-unvalidated", help))?;
+    let help = "Refuses puts that make a response too long";
+    with_option(serve, flag_option(alloc, "refuse-beyond-frame", help))
 }
 
 // `xds serve`, with those options, and those that say what it begins with.

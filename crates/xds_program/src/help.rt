@@ -87,6 +87,8 @@ With --hold polls have 503, and streams wait, until the input has a line
 say, and follows them. With --lint it tells references that lead nowhere. With
 --validate ADDRESS a checker there is asked before a resource is taken;
 with --pass-unvalidated a resource is taken, too, where the checker is away.
+With --refuse-beyond-frame a put is refused that makes the whole response of
+its type longer than a frame may be.
 Writes are stamped by the numbers of their replicas, F and the next ones with
 --first-number F: give each run new ones, so that no version means two bodies.
 Prints nothing; the error output has a line a replica, which says what is

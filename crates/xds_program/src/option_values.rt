@@ -227,6 +227,7 @@ fn served(alloc: Global, given: &ArgMatches) -> Result<Option<ServeWords>, Alloc
             let log_json = is_given(given, "log-json");
             let lint = is_given(given, "lint");
             let pass_unvalidated = is_given(given, "pass-unvalidated");
+            let refuse_beyond_frame = is_given(given, "refuse-beyond-frame");
             Ok(Some(ServeWords {
                 task,
                 first_number,
@@ -241,6 +242,7 @@ fn served(alloc: Global, given: &ArgMatches) -> Result<Option<ServeWords>, Alloc
                 lint,
                 validate,
                 pass_unvalidated,
+                refuse_beyond_frame,
             }))
         }
         None => Ok(None),

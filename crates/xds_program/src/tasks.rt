@@ -120,6 +120,8 @@ pub struct ServeWords {
     pub validate: Option<SocketAddrV4>,
     /// Whether a resource is taken, and that is told, where the checker is away.
     pub pass_unvalidated: bool,
+    /// Whether a put is refused by which the whole response of its type would be too long for a frame.
+    pub refuse_beyond_frame: bool,
 }
 
 impl Model for ServeWords {
@@ -142,6 +144,7 @@ impl Model for ServeWords {
       lint = s.lint;
       validate = s.validate;
       pass_unvalidated = s.pass_unvalidated;
+      refuse_beyond_frame = s.refuse_beyond_frame;
     } };
 }
 

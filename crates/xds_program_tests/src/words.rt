@@ -167,7 +167,8 @@ fn tell_held(alloc: Global, text: &mut String, serve: &ServeWords) -> Result<(),
         let told = format!(in alloc; " validate {addr}")?;
         text.push_str(told.as_str())?;
     }
-    tell_flag(text, " pass-unvalidated", serve.pass_unvalidated)
+    tell_flag(text, " pass-unvalidated", serve.pass_unvalidated)?;
+    tell_flag(text, " refuse-beyond-frame", serve.refuse_beyond_frame)
 }
 
 fn told_serve(alloc: Global, serve: ServeTask) -> Result<String, Fail> {
@@ -377,6 +378,8 @@ serve --pass-unvalidated --validate=10.0.0.1:1 --from=d
 serve --from => wrong
 serve --from a --from b => wrong
 serve --lint --lint => wrong
+serve --refuse-beyond-frame --hold => serve 2 18000 18100 None hold refuse-beyond-frame
+serve --refuse-beyond-frame 1 => wrong
 serve --lint yes => wrong
 serve --validate localhost:18300 => wrong
 serve --validate 127.0.0.1 => wrong

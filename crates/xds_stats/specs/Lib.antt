@@ -7,5 +7,7 @@ pub mod Looks
 pub mod Metrics
 pub mod Pages
 pub mod PlainStatus
+pub mod Responses
+pub mod Sizes
 pub mod States
 pub mod Statuses

@@ -29,11 +29,12 @@ use Rattle.log.specs.declared.level.Level.TheVariants.{Info, Warn, Error, Debug,
 use Rattle.log.specs.Line.{header_text}
 use Rattle.xds_resource.specs.declared.refusal.Refusal.{Refusal}
 use Rattle.xds_resource.specs.Refusals.{number_of, name_of}
+use Rattle.xds_resource.specs.Types.{row}
 use Rattle.xds_stats.specs.declared.log_event.Place.{Place}
 use Rattle.xds_stats.specs.declared.log_event.FirstRequest.{FirstRequest as First}
 use Rattle.xds_stats.specs.declared.log_event.Rejection.{Rejection}
 use Rattle.xds_stats.specs.declared.log_event.LogEvent.{LogEvent}
-use Rattle.xds_stats.specs.declared.log_event.LogEvent.TheVariants.{Listening, Connected, FirstRequest, Rejected, Ended, TurnedAway, CutFailed, UnknownType, Changed, Stopping, Idle}
+use Rattle.xds_stats.specs.declared.log_event.LogEvent.TheVariants.{Listening, Connected, FirstRequest, Rejected, Ended, TurnedAway, CutFailed, UnknownType, Changed, Stopping, Idle, Long}
 use Rattle.xds_stats.specs.declared.log_event.Maker.{Maker}
 use Rattle.xds_stats.specs.declared.log_event.Maker.TheVariants.{Input, Port, Folder}
 use Rattle.xds_stats.specs.Statuses.{quoted}
@@ -98,6 +99,8 @@ message_of (Changed replica maker stamp) =
     codes "replica " ++ (decimal replica ++ (codes ": a change by the " ++ (maker_word maker ++ (codes " is " ++ (decimal stamp.counter ++ (codes "-" ++ decimal stamp.writer))))))
 message_of Stopping = codes "stopping"
 message_of (Idle place seconds) = place_text place ++ (codes "no first frame within " ++ (decimal seconds ++ codes " s"))
+message_of (Long replica kind bytes) =
+    codes "replica " ++ (decimal replica ++ (codes ": the whole response of " ++ ((row kind).word ++ (codes " has " ++ (decimal bytes ++ codes " bytes, and a frame has 16777215 at most")))))
 
 abbrev pub end_level : Option Refusal → Level
 end_level None = Info
@@ -116,6 +119,7 @@ level_of (UnknownType place type_url) = Warn
 level_of (Changed replica maker stamp) = Info
 level_of Stopping = Info
 level_of (Idle place seconds) = Warn
+level_of (Long replica kind bytes) = Warn
 
 -- the line of a message
 abbrev pub log_line : Level → List ℕ → List ℕ
@@ -138,6 +142,7 @@ event_word (UnknownType place type_url) = codes "unknown type"
 event_word (Changed replica maker stamp) = codes "changed"
 event_word Stopping = codes "stopping"
 event_word (Idle place seconds) = codes "idle"
+event_word (Long replica kind bytes) = codes "long response"
 
 -- which stream of which replica, as members of an object behind others
 abbrev pub place_fields : Place → List ℕ
@@ -177,6 +182,8 @@ fields_of (Changed replica maker stamp) =
     codes ",\"replica\":" ++ (decimal replica ++ (codes ",\"by\":\"" ++ (maker_word maker ++ (codes "\",\"version\":\"" ++ (decimal stamp.counter ++ (codes "-" ++ (decimal stamp.writer ++ codes "\"")))))))
 fields_of Stopping = []
 fields_of (Idle place seconds) = place_fields place ++ (codes ",\"seconds\":" ++ decimal seconds)
+fields_of (Long replica kind bytes) =
+    codes ",\"replica\":" ++ (decimal replica ++ (codes ",\"type\":\"" ++ ((row kind).word ++ (codes "\",\"bytes\":" ++ (decimal bytes ++ codes ",\"limit\":16777215")))))
 
 -- a level in a word
 abbrev pub json_level : Level → List ℕ

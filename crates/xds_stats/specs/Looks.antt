@@ -1,13 +1,15 @@
 -- How much a replica holds. This project's own.
 --     counted_more   what is counted once one entry more is looked at: a resource that is live, or a deletion
 --     counted        what is counted of entries, from what was counted before
---     held_of        what is held of a type, by all its entries, after so many changes
+--     held_by_count  how much is held of a type, by all its entries, after so many changes
+--     held_of        the same with how many bytes the whole response has
 --     held_at        what is held of a type
 use Rattle.std.specs.Prelude.{ℕ, List, [], ◌∷◌, Option, Some, None}
 use Rattle.xds_resource.specs.declared.types.TypeName.{TypeName}
 use Rattle.xds_resource.specs.declared.types.TypeName.TheVariants.{Cluster, Endpoint, Listener, Route, Secret}
 use Rattle.xds_resource.specs.Writes.{StampedWrite}
 use Rattle.xds_stats.specs.Boards.{more}
+use Rattle.xds_stats.specs.Sizes.{first_response, response_bytes}
 use Rattle.xds_stats.specs.declared.look.Held.{Held}
 use Rattle.xds_stats.specs.declared.look.Look.{Look}
 
@@ -24,9 +26,13 @@ abbrev pub counted : List StampedWrite → Held → Held
 counted [] held = held
 counted (w ∷ ws) held = counted ws (counted_more w held)
 
--- what is held of a type, by all its entries, after so many changes
-abbrev pub held_of : ℕ → List StampedWrite → Held
-held_of changes ws = counted ws (record { changes = changes; resources = 0; tombstones = 0 })
+-- how much is held of a type, by all its entries, after so many changes
+abbrev pub held_by_count : ℕ → List StampedWrite → Held
+held_by_count changes ws = counted ws (record { changes = changes; resources = 0; tombstones = 0; bytes = 0 })
+
+-- the same with how many bytes the whole response has
+abbrev pub held_of : TypeName → ℕ → ℕ → List StampedWrite → Held
+held_of kind replica changes ws = record (held_by_count changes ws) { bytes = response_bytes kind replica changes first_response ws }
 
 -- what is held of a type
 abbrev pub held_at : Look → TypeName → Held

@@ -45,7 +45,7 @@ use Rattle.xds_stats.specs.declared.metrics.Kind.TheVariants.{Counter, Gauge, Hi
 use Rattle.xds_stats.specs.declared.pages.OfReplica.{OfReplica}
 use Rattle.xds_stats.specs.declared.pages.OfReplica.TheVariants.{Opened, TurnedAway, Records, Cuts, FailedCuts, Parts, LostParts, Refused}
 use Rattle.xds_stats.specs.declared.pages.OfType.{OfType}
-use Rattle.xds_stats.specs.declared.pages.OfType.TheVariants.{Changes, Resources, Tombstones, Responses, Acks, Nacks}
+use Rattle.xds_stats.specs.declared.pages.OfType.TheVariants.{Changes, Resources, Tombstones, Bytes, Responses, Acks, Nacks}
 use Rattle.xds_stats.specs.declared.pages.Shown.{Shown}
 
 -- ---- numbers of types
@@ -54,6 +54,7 @@ abbrev pub type_name : OfType → List ℕ
 type_name Changes = codes "xds_changes_total"
 type_name Resources = codes "xds_resources"
 type_name Tombstones = codes "xds_tombstones"
+type_name Bytes = codes "xds_response_bytes"
 type_name Responses = codes "xds_responses_total"
 type_name Acks = codes "xds_acks_total"
 type_name Nacks = codes "xds_nacks_total"
@@ -62,6 +63,7 @@ abbrev pub type_help : OfType → List ℕ
 type_help Changes = codes "Changes of what the replica holds, by its own writes and others'."
 type_help Resources = codes "Live resources."
 type_help Tombstones = codes "Deletions that are remembered."
+type_help Bytes = codes "Bytes of the whole response for *, as a stream would be told it first; 16777215 at most."
 type_help Responses = codes "Responses that streams were told."
 type_help Acks = codes "Responses that streams accepted."
 type_help Nacks = codes "Responses that streams rejected."
@@ -70,6 +72,7 @@ abbrev pub type_kind : OfType → Kind
 type_kind Changes = Counter
 type_kind Resources = Gauge
 type_kind Tombstones = Gauge
+type_kind Bytes = Gauge
 type_kind Responses = Counter
 type_kind Acks = Counter
 type_kind Nacks = Counter
@@ -79,6 +82,7 @@ abbrev pub held_number : OfType → Held → Option ℕ
 held_number Changes held = Some held.changes
 held_number Resources held = Some held.resources
 held_number Tombstones held = Some held.tombstones
+held_number Bytes held = Some held.bytes
 held_number Responses held = None
 held_number Acks held = None
 held_number Nacks held = None
@@ -88,6 +92,7 @@ abbrev pub counted_number : OfType → TypeCounts → Option ℕ
 counted_number Changes counts = None
 counted_number Resources counts = None
 counted_number Tombstones counts = None
+counted_number Bytes counts = None
 counted_number Responses counts = Some counts.responses
 counted_number Acks counts = Some counts.acks
 counted_number Nacks counts = Some counts.nacks
@@ -224,7 +229,7 @@ with_all_polls text replicas = with_each with_polls (text ++ help_line (codes "x
 -- with all numbers of types
 abbrev pub with_held : List ℕ → List Shown → List ℕ
 with_held text rs =
-    with_numbers_of Nacks (with_numbers_of Acks (with_numbers_of Responses (with_numbers_of Tombstones (with_numbers_of Resources (with_numbers_of Changes text rs) rs) rs) rs) rs) rs
+    with_numbers_of Nacks (with_numbers_of Acks (with_numbers_of Responses (with_numbers_of Bytes (with_numbers_of Tombstones (with_numbers_of Resources (with_numbers_of Changes text rs) rs) rs) rs) rs) rs) rs
 
 -- with what was counted of journals and changes
 abbrev pub with_journals : List ℕ → List Shown → List ℕ

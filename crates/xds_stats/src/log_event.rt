@@ -7,7 +7,7 @@ ghost use Rattle.xds_stats.specs.Logging.{log_line, excerpt, shown_char, message
 use crate::status_text::quoted;
 use log::{Level, Line, Metadata, Record};
 use std::alloc::Global;
-use xds_resource::{Refusal, Stamp};
+use xds_resource::{Refusal, Stamp, TypeName};
 
 /// As many characters of a text that a client sent as are shown, at most.
 pub const MOST_SHOWN: usize = 256;
@@ -89,6 +89,8 @@ pub enum LogEvent {
     Stopping,
     /// The first frame of a stream didn't come within so many seconds.
     Idle(Place, u16),
+    /// The whole response of a type has so many bytes at a replica: half as many as a frame may have, or more.
+    Long(u16, TypeName, u64),
 }
 
 // What stands for a character: a question mark for one of control, for a quote, and for a backslash.
@@ -132,6 +134,7 @@ impl LogEvent {
             | LogEvent::TurnedAway(_)
             | LogEvent::UnknownType(_, _)
             | LogEvent::Idle(_, _)
+            | LogEvent::Long(_, _, _)
             | LogEvent::CutFailed(_, _) => Level::Warn,
         }
     }
@@ -158,6 +161,9 @@ impl LogEvent {
             }
             LogEvent::Stopping => Ok(String::from_str(alloc, "stopping")?),
             LogEvent::Idle(place, seconds) => idle_text(alloc, *place, *seconds),
+            LogEvent::Long(replica, kind, bytes) => {
+                long_response_text(alloc, *replica, *kind, *bytes)
+            }
         }
     }
 
@@ -177,6 +183,7 @@ impl LogEvent {
             LogEvent::Changed(_, _, _) => "changed",
             LogEvent::Stopping => "stopping",
             LogEvent::Idle(_, _) => "idle",
+            LogEvent::Long(_, _, _) => "long response",
         }
     }
 
@@ -202,6 +209,7 @@ impl LogEvent {
             }
             LogEvent::Stopping => Ok(String::new(alloc)),
             LogEvent::Idle(place, seconds) => idle_fields(alloc, *place, *seconds),
+            LogEvent::Long(replica, kind, bytes) => long_fields(alloc, *replica, *kind, *bytes),
         }
     }
 
@@ -264,6 +272,29 @@ fn idle_fields(alloc: Global, place: Place, seconds: u16) -> Result<String, Refu
     let place = place_fields(alloc, place)?;
     let place = place.as_str();
     Ok(format!(in alloc; "{place},\"seconds\":{seconds}")?)
+}
+
+fn long_response_text(
+    alloc: Global,
+    replica: u16,
+    kind: TypeName,
+    bytes: u64,
+) -> Result<String, Refusal>
+    ensures { IfOk result (λ t. string_bytes t ≡ message_of (LogEvent.Long replica kind bytes)) }
+{
+    let kind = kind.word();
+    Ok(format!(in alloc;
+        "replica {replica}: the whole response of {kind} has {bytes} bytes, and a frame has 16777215 at most"
+    )?)
+}
+
+fn long_fields(alloc: Global, replica: u16, kind: TypeName, bytes: u64) -> Result<String, Refusal>
+    ensures { IfOk result (λ t. string_bytes t ≡ fields_of (LogEvent.Long replica kind bytes)) }
+{
+    let kind = kind.word();
+    Ok(format!(in alloc;
+        ",\"replica\":{replica},\"type\":\"{kind}\",\"bytes\":{bytes},\"limit\":16777215"
+    )?)
 }
 
 fn changed_text(alloc: Global, replica: u16, maker: Maker, stamp: Stamp) -> Result<String, Refusal>

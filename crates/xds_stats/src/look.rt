@@ -1,8 +1,11 @@
 // How much a replica holds.
-ghost use Rattle.std.specs.Prelude.{◌≡◌};
-ghost use Rattle.xds_stats.specs.Looks.{counted_more, held_of};
+ghost use Rattle.std.specs.Prelude.{◌≡◌, IfOk};
+ghost use Rattle.xds_resource.specs.declared.types.TypeName.TheVariants as types;
+ghost use Rattle.xds_stats.specs.Looks.{counted_more, held_by_count, held_of};
 
 use crate::numbers::more;
+use crate::sizes::response_bytes;
+use std::alloc::Global;
 use xds_core::{Marks, Reply};
 use xds_message::Batch;
 use xds_resource::{Refusal, ResourceType, TypeName, Write};
@@ -16,6 +19,8 @@ pub struct Held {
     pub resources: u64,
     /// How many deletions are remembered.
     pub tombstones: u64,
+    /// How many bytes the whole response of all that is live has.
+    pub bytes: u64,
 }
 
 /// How much a replica holds, of each type.
@@ -58,14 +63,15 @@ fn count<T: ResourceType>(held: Held, write: &Write<T>) -> Held
     held
 }
 
-// What is held of a type, by all its entries.
-fn held_of<T: ResourceType>(changes: u64, writes: &[Write<T>]) -> Held
-    ensures { result ≡ held_of changes writes.now }
+// How much is held of a type, by all its entries, but for the bytes of a response.
+fn held_by_count<T: ResourceType>(changes: u64, writes: &[Write<T>]) -> Held
+    ensures { result ≡ held_by_count changes writes.now }
 {
     let mut held = Held {
         changes,
         resources: 0,
         tombstones: 0,
+        bytes: 0,
     };
     for write in writes {
         held = count(held, write);
@@ -73,27 +79,41 @@ fn held_of<T: ResourceType>(changes: u64, writes: &[Write<T>]) -> Held
     held
 }
 
-/// How much is held where all entries are these, and there were so many changes.
-pub fn look_of(batch: &Batch, marks: Marks) -> Look
-    ensures cluster { result.cluster ≡ held_of marks.cluster batch.now.cluster }
-    ensures endpoint { result.endpoint ≡ held_of marks.endpoint batch.now.endpoint }
-    ensures listener { result.listener ≡ held_of marks.listener batch.now.listener }
-    ensures route { result.route ≡ held_of marks.route batch.now.route }
-    ensures secret { result.secret ≡ held_of marks.secret batch.now.secret }
+// What is held of a type at the replica of this number, by all its entries.
+fn held_of<T: ResourceType>(
+    alloc: Global,
+    replica: u16,
+    changes: u64,
+    writes: &[Write<T>],
+) -> Result<Held, Refusal>
+    ensures { IfOk result (λ h. h ≡ held_of T.TYPE replica changes writes.now) }
 {
-    Look {
-        cluster: held_of(marks.cluster, batch.cluster.as_slice()),
-        endpoint: held_of(marks.endpoint, batch.endpoint.as_slice()),
-        listener: held_of(marks.listener, batch.listener.as_slice()),
-        route: held_of(marks.route, batch.route.as_slice()),
-        secret: held_of(marks.secret, batch.secret.as_slice()),
-    }
+    let mut held = held_by_count(changes, writes);
+    held.bytes = response_bytes(alloc, replica, changes, writes)?;
+    Ok(held)
 }
 
-/// What a reply says of all that is held, if it does.
-pub fn look_in(reply: &Reply) -> Result<Look, Refusal> {
+/// How much is held at the replica of this number where all entries are these, and there were so many changes.
+pub fn look_of(alloc: Global, replica: u16, batch: &Batch, marks: Marks) -> Result<Look, Refusal>
+    ensures cluster { IfOk result (λ l. l.cluster ≡ held_of types.Cluster replica marks.cluster batch.now.cluster) }
+    ensures endpoint { IfOk result (λ l. l.endpoint ≡ held_of types.Endpoint replica marks.endpoint batch.now.endpoint) }
+    ensures listener { IfOk result (λ l. l.listener ≡ held_of types.Listener replica marks.listener batch.now.listener) }
+    ensures route { IfOk result (λ l. l.route ≡ held_of types.Route replica marks.route batch.now.route) }
+    ensures secret { IfOk result (λ l. l.secret ≡ held_of types.Secret replica marks.secret batch.now.secret) }
+{
+    Ok(Look {
+        cluster: held_of(alloc, replica, marks.cluster, batch.cluster.as_slice())?,
+        endpoint: held_of(alloc, replica, marks.endpoint, batch.endpoint.as_slice())?,
+        listener: held_of(alloc, replica, marks.listener, batch.listener.as_slice())?,
+        route: held_of(alloc, replica, marks.route, batch.route.as_slice())?,
+        secret: held_of(alloc, replica, marks.secret, batch.secret.as_slice())?,
+    })
+}
+
+/// What a reply says of all that is held at the replica of this number, if it does.
+pub fn look_in(alloc: Global, replica: u16, reply: &Reply) -> Result<Look, Refusal> {
     match reply {
-        Reply::Changed(batch, marks) => Ok(look_of(batch, *marks)),
+        Reply::Changed(batch, marks) => look_of(alloc, replica, batch, *marks),
         _ => Err(Refusal::OutOfMemory),
     }
 }

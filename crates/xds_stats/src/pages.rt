@@ -25,6 +25,7 @@ pub enum OfType {
     Changes,
     Resources,
     Tombstones,
+    Bytes,
     Responses,
     Acks,
     Nacks,
@@ -42,6 +43,7 @@ impl OfType {
             OfType::Changes => "xds_changes_total",
             OfType::Resources => "xds_resources",
             OfType::Tombstones => "xds_tombstones",
+            OfType::Bytes => "xds_response_bytes",
             OfType::Responses => "xds_responses_total",
             OfType::Acks => "xds_acks_total",
             OfType::Nacks => "xds_nacks_total",
@@ -56,6 +58,9 @@ impl OfType {
             OfType::Changes => "Changes of what the replica holds, by its own writes and others'.",
             OfType::Resources => "Live resources.",
             OfType::Tombstones => "Deletions that are remembered.",
+            OfType::Bytes => {
+                "Bytes of the whole response for *, as a stream would be told it first; 16777215 at most."
+            }
             OfType::Responses => "Responses that streams were told.",
             OfType::Acks => "Responses that streams accepted.",
             OfType::Nacks => "Responses that streams rejected.",
@@ -66,7 +71,7 @@ impl OfType {
         ensures { result ≡ type_kind self }
     {
         match self {
-            OfType::Resources | OfType::Tombstones => Kind::Gauge,
+            OfType::Resources | OfType::Tombstones | OfType::Bytes => Kind::Gauge,
             OfType::Changes | OfType::Responses | OfType::Acks | OfType::Nacks => Kind::Counter,
         }
     }
@@ -80,6 +85,7 @@ fn held_number(of: OfType, held: Held) -> Option<u64>
         OfType::Changes => Some(held.changes),
         OfType::Resources => Some(held.resources),
         OfType::Tombstones => Some(held.tombstones),
+        OfType::Bytes => Some(held.bytes),
         OfType::Responses | OfType::Acks | OfType::Nacks => None,
     }
 }
@@ -92,7 +98,7 @@ fn counted_number(of: OfType, counts: TypeCounts) -> Option<u64>
         OfType::Responses => Some(counts.responses),
         OfType::Acks => Some(counts.acks),
         OfType::Nacks => Some(counts.nacks),
-        OfType::Changes | OfType::Resources | OfType::Tombstones => None,
+        OfType::Changes | OfType::Resources | OfType::Tombstones | OfType::Bytes => None,
     }
 }
 
@@ -399,6 +405,7 @@ fn add_held(alloc: Global, metrics: &mut Metrics, shown: &[Shown]) -> Result<(),
     add_types(alloc, metrics, OfType::Changes, shown)?;
     add_types(alloc, metrics, OfType::Resources, shown)?;
     add_types(alloc, metrics, OfType::Tombstones, shown)?;
+    add_types(alloc, metrics, OfType::Bytes, shown)?;
     add_types(alloc, metrics, OfType::Responses, shown)?;
     add_types(alloc, metrics, OfType::Acks, shown)?;
     add_types(alloc, metrics, OfType::Nacks, shown)

@@ -25,6 +25,7 @@ fn serving(port: u16) -> Serving {
         admin_port: None,
         hold: false,
         lint: false,
+        refuse_long: false,
     }
 }
 

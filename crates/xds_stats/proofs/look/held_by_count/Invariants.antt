@@ -1,6 +1,6 @@
 use Rattle.std.proofs.Common.{◌≡◌, drop}
 use Rattle.xds_stats.specs.Looks.{counted}
-use Rattle.xds_stats.proofs.look.held_of.Given as goal
+use Rattle.xds_stats.proofs.look.held_by_count.Given as goal
 
 -- what is left of the entries is counted to what all of them are
 abbrev pub invariant-loop-write : goal.invariant-loop-write

@@ -1,5 +1,5 @@
 use Rattle.xds_stats.proofs.Counting.{count_more, count_all}
-use Rattle.xds_stats.proofs.look.held_of.Goals as goal
+use Rattle.xds_stats.proofs.look.held_by_count.Goals as goal
 
 pub loop-write-preserved : goal.loop-write-preserved
 loop-write-preserved g c =

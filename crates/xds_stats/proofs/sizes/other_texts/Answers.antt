@@ -1,0 +1,9 @@
+use Rattle.xds_stats.proofs.Sizing.{others_more, others_all}
+use Rattle.xds_stats.proofs.sizes.other_texts.Goals as goal
+
+pub loop-write-preserved : goal.loop-write-preserved
+loop-write-preserved g c =
+    others_more c.args.writes.now c.loop-write.write-index c.args.put.now c.write-item.result _ _ _ c.loop-write-test.true c.write-item.is c.in_ok-push_other.ensures c.loop-write.invariant
+
+pub returns : goal.returns
+returns g c = others_all c.args.writes.now c.loop-write.write-index c.args.put.now _ _ c.loop-write-test.false c.loop-write.invariant
