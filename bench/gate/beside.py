@@ -18,8 +18,9 @@ import threading
 import time
 
 TOP = os.path.dirname(os.path.dirname(os.path.dirname(os.path.abspath(__file__))))
-# Where the servers of the first script begin that has no ports of its own, and as many ports apart those of the next.
-FIRST_PORT, PORTS = 28_000, 200
+# Where the servers of the first script begin that has no ports of its own, and as many ports apart those of the next. All of them lie
+# below those that other scripts have of their own.
+FIRST_PORT, PORTS, OWN_PORTS = 12_000, 200, 20_000
 # Commands that follow each other in one lane, the longest first. `PROGRAM` stands for the program.
 LANES = (
     # README's commands, over a program that is compiled for it.
@@ -65,6 +66,7 @@ LANES = (
     # Whom its operator's port answers, and who may read its files.
     ("bench/gate/door.py PROGRAM",),
 )
+assert FIRST_PORT + PORTS * len(LANES) <= OWN_PORTS, "each script has ports of its own"
 # The status of some commands where they can't be tried here: there is no curl, no browser, or what they need can't be installed.
 SKIPPED, MAY_BE_SKIPPED = 2, ("bench/gate/readme.py", "bridge/test", "fleet/test", "bench/gate/page.py", "bench/gate/packed.py")
 printing = threading.Lock()

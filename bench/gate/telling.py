@@ -29,4 +29,4 @@ def free_ports(count, least, step=100):
             return first
         except OSError:
             continue
-    sys.exit("no free ports")
+    sys.exit(f"there are no {count} free ports in a row from {least} to 32000")
