@@ -1,21 +1,19 @@
--- What a server writes of its ports on its error output, and what its replicas refuse. This project's own.
+-- What a server writes of its ports on its error output. This project's own.
 --     port_fault_text  what is told of why a port can't be bound
 --     port_line        the line of a port that can't be bound
 --     admin_line       the line of an operator's port
 --     replica_line     the line of a replica: its place among those of the server, its number, and its ports
 --     same_numbers_line  what is told where replicas have the numbers of every run in which none was said, from this one on
 --     old_numbers_line   what is told where replicas would have numbers that are not above those of the writes of a file
---     file_fault_text  what is told of why a file can't be opened
 --     file_line        the line of a file that can't be opened
 --     no_token_line    the line of a file that has no token
 --     unloaded_line    the line of a file that isn't loaded, by one of its lines or by what else was refused
---     refusal_in       the refusal that an answer is, of which there may be a record or none
 use Rattle.std.specs.Prelude.{ℕ, List, ◌++◌, Option, Some, None, Result, Ok, Err, codes, decimal}
 use Rattle.xds_resource.specs.declared.refusal.Refusal.{Refusal}
 use Rattle.xds_resource.specs.Refusals.{number_of, name_of}
 use Rattle.xds_stats.specs.Logging.{number_text}
-use Rattle.xds_commands.specs.declared.serve_telling.FileFault.{FileFault}
-use Rattle.xds_commands.specs.declared.serve_telling.FileFault.TheVariants.{NoFile, Forbidden, Unknown}
+use Rattle.xds_machine.specs.declared.files.FileFault.{FileFault}
+use Rattle.xds_machine.specs.Files.{file_fault_text}
 use Rattle.xds_commands.specs.declared.serve_telling.PortFault.{PortFault}
 use Rattle.xds_commands.specs.declared.serve_telling.PortFault.TheVariants.{InUse, NotAllowed, Other}
 
@@ -49,12 +47,6 @@ same_numbers_line first =
 abbrev pub old_numbers_line : List ℕ → List ℕ
 old_numbers_line file = file ++ codes ": its writes have the numbers of these replicas, or greater ones: --first-number has to be above them\n"
 
--- what is told of why a file can't be opened
-abbrev pub file_fault_text : FileFault → List ℕ
-file_fault_text NoFile = codes ": no such file"
-file_fault_text Forbidden = codes ": not allowed"
-file_fault_text Unknown = codes ""
-
 -- the line of a file that can't be opened
 abbrev pub file_line : List ℕ → FileFault → List ℕ
 file_line file fault = file ++ (codes ": 19 Device" ++ (file_fault_text fault ++ codes "\n"))
@@ -68,9 +60,3 @@ no_token_line file = file ++ codes ": its first line is to be a token\n"
 abbrev pub unloaded_line : List ℕ → Option ℕ → Refusal → List ℕ
 unloaded_line file (Some line) refusal = file ++ (codes ": line " ++ (decimal line ++ (codes ": " ++ (decimal (number_of refusal) ++ (codes " " ++ (name_of refusal ++ codes "\n"))))))
 unloaded_line file None refusal = file ++ (codes ": " ++ (decimal (number_of refusal) ++ (codes " " ++ (name_of refusal ++ codes "\n"))))
-
--- the refusal that an answer is, of which there may be a record or none
-abbrev pub refusal_in : {T : Type 0} → Result (Result T Refusal) Refusal → Option Refusal
-refusal_in (Ok (Ok reply)) = None
-refusal_in (Ok (Err refusal)) = Some refusal
-refusal_in (Err refusal) = Some refusal

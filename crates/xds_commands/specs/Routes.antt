@@ -5,8 +5,8 @@
 --     routed_by      what a request of this method asks for, by what is found at its path, and what else is
 --     routed         what a request asks for, or the status that refuses it
 use Rattle.std.specs.Prelude.{ℕ, List, if◌then◌else◌, bytes_eq, Option, Some, None, Result, Ok, Err, codes}
-use Rattle.xds_commands.specs.declared.admin.Route.{Route}
-use Rattle.xds_commands.specs.declared.admin.Route.TheVariants.{Health, Ready, Open, Metrics, Status, Changes, Writes, Merge, Stop, Resources, Page, Lines}
+use Rattle.xds_commands.specs.declared.routes.Route.{Route}
+use Rattle.xds_commands.specs.declared.routes.Route.TheVariants.{Health, Ready, Open, Metrics, Status, Changes, Writes, Merge, Stop, Resources, Page, Lines}
 
 -- what is found at a path, and by which method
 abbrev pub found_at : List ℕ → Option (Route × List ℕ)

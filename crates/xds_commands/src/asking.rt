@@ -3,10 +3,8 @@ ghost use Rattle.std.specs.Prelude.{◌≡◌, ◌≤◌, IfErr};
 ghost use Rattle.xds_commands.specs.Asked.{shown_of, text_shown};
 
 use crate::beginning::{Unbegun, bearer_in};
-use crate::machine::Machine;
-use crate::port_client::{Request, Unanswered, answered, whole_answer};
 use crate::serve_telling::{
-    FileFault, tell, tell_device, tell_file, tell_no_token, tell_refused_by, tell_unsayable,
+    tell, tell_device, tell_file, tell_no_token, tell_refused_by, tell_unsayable,
 };
 use std::alloc::Global;
 use std::fs::File;
@@ -15,6 +13,9 @@ use std::net::SocketAddrV4;
 use std::rt::Files;
 use std::time::Duration;
 use xds_frames::{Counted, write_whole};
+use xds_machine::files::FileFault;
+use xds_machine::machine::Machine;
+use xds_machine::port_client::{Request, Unanswered, answered, whole_answer};
 use xds_port::{Answer, changes_target, delete_lines, resources_target};
 use xds_program::run::REFUSED;
 use xds_program::{DeleteTask, GetTask, PutTask, StatusTask};

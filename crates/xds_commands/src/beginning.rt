@@ -2,24 +2,13 @@
 ghost use Rattle.std.specs.Prelude.{◌≡◌, unwrap_or, is_some, IfOk, OnOk, List, ℕ};
 ghost use Rattle.std.specs.Prelude.{Option as Maybe};
 ghost use Rattle.xds_core.specs.Stores.{all_entries};
-ghost use Rattle.xds_commands.specs.Loads.{IsLoaded};
-ghost use Rattle.xds_commands.specs.Given.{IsWorldOver, MergesSome};
+ghost use Rattle.xds_changes.specs.Loads.{IsLoaded};
+ghost use Rattle.xds_changes.specs.Given.{IsWorldOver, MergesSome};
 
-use crate::checker::Asks;
-use crate::door::bearer;
-use crate::fitting::{refused_text, start_fault};
-use crate::given::number_over;
-use crate::loading::load;
-use crate::machine::Runtime;
 use crate::serve_telling::{
-    FileFault, tell, tell_file, tell_no_token, tell_old_numbers, tell_store, tell_text,
-    tell_unloaded,
+    tell, tell_file, tell_no_token, tell_old_numbers, tell_store, tell_text, tell_unloaded,
 };
 use crate::server::Serving;
-use crate::sourcing::{Said as FolderSaid, Source, made_over, said_by};
-use crate::storing::{FileStore, Progress, Storage};
-use crate::validating::first_refused;
-use crate::workers::share;
 use std::alloc::Global;
 use std::fs::{File, OpenOptions};
 use std::io::{Read, Write};
@@ -28,11 +17,24 @@ use std::os::unix::fs::OpenOptionsExt;
 use std::rt::Files;
 use std::sync::Arc;
 use std::{fs, str};
+use xds_changes::given::number_over;
+use xds_changes::loading::load;
+use xds_checker::checker::Asks;
+use xds_checker::validating::first_refused;
 use xds_core::Catalogues;
 use xds_frames::{Counted, read_whole};
+use xds_machine::door::bearer;
+use xds_machine::files::FileFault;
+use xds_machine::machine::Runtime;
+use xds_machine::stores::FileStore;
+use xds_machine::threads::share;
 use xds_message::Batch;
-use xds_monitor::{End, PRIVATE};
+use xds_monitor::PRIVATE;
+use xds_notes::End;
 use xds_program::read_writes;
+use xds_replicas::fitting::{refused_text, start_fault};
+use xds_replicas::sourcing::{Said as FolderSaid, Source, made_over, said_by};
+use xds_replicas::storing::{Progress, Storage};
 use xds_resource::Refusal;
 use xds_store::StoreRefusal;
 

@@ -7,7 +7,6 @@ ghost use Rattle.xds_commands.specs.Servings.{serving_of};
 use crate::asking::{delete_names, print_resources, print_status, put_changes};
 use crate::beginning::ServeFiles;
 use crate::drawing::draw;
-use crate::machine::{Machine, Runtime};
 use crate::polling::poll_once;
 use crate::progress::ProgressReader;
 use crate::server::{Serving, serve};
@@ -19,6 +18,7 @@ use std::net::{Net, SocketAddrV4, TcpListener, TcpStream};
 use std::rt::Files;
 use xds_frames::Counted;
 use xds_http::Connects;
+use xds_machine::machine::{Machine, Runtime};
 use xds_program::run::Ran;
 use xds_program::{ServeTask, ServeWords};
 

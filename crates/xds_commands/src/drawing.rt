@@ -2,7 +2,7 @@
 ghost use Rattle.std.specs.Prelude.{◌≡◌, ◌⊎◌};
 ghost use Rattle.xds_frames.specs.Devices.{Stays, seen};
 
-use crate::serve_telling::{FileFault, tell_file};
+use crate::serve_telling::tell_file;
 use std::alloc::Global;
 use std::fs::{File, OpenOptions};
 use std::io;
@@ -10,6 +10,7 @@ use std::io::Write;
 use std::os::unix::fs::OpenOptionsExt;
 use std::rt::Files;
 use xds_frames::{Counted, write_whole};
+use xds_machine::files::FileFault;
 use xds_monitor::PRIVATE;
 use xds_program::Drawing;
 

@@ -5,7 +5,7 @@ ghost use Rattle.xds_http.specs.Sent.{TellsNothing};
 ghost use Rattle.xds_commands.specs.Ends.{EndsPoll, ShowsReply, question_of};
 
 use crate::telling::tell_late;
-use crate::timed::{Deadline, gave_up};
+use crate::timed::gave_up;
 use std::alloc::{AllocGlobal, Global};
 use std::io::Write;
 use std::net::{Net, SocketAddr};
@@ -14,6 +14,7 @@ use std::sync::Wait;
 use std::time::Clock;
 use xds_frames::Counted;
 use xds_http::{Posts, Question, Told, poll_by};
+use xds_machine::deadline::Deadline;
 use xds_program::PollTask;
 use xds_program::run::{DONE, print, tell};
 use xds_resource::Refusal;

@@ -3,14 +3,14 @@ ghost use Rattle.std.specs.Prelude.{◌≡◌};
 ghost use Rattle.std.specs.Io.{ReadsAtMost};
 ghost use Rattle.std.specs.Io.KnownBytes.{ReadConsumes};
 
-use crate::machine::Runtime;
-use crate::workers::{share, start_worker};
 use std::alloc::{AllocError, AllocGlobal, Global};
 use std::io::{Read, Write};
 use std::sync::Arc;
 use std::sync::atomic::{AtomicBool, AtomicU64, Ordering};
 use std::time::{Clock, Duration};
 use std::{io, thread};
+use xds_machine::machine::Runtime;
+use xds_machine::threads::{share, start_worker};
 use xds_resource::Refusal;
 
 /// How many seconds pass before it is told how far a run is, and before each time that it is told again.

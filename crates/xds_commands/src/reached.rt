@@ -1,17 +1,18 @@
 // A replica as an operator's port reaches it: what its thread is asked, and for how long its answer is waited for.
-use crate::change::Change;
-use crate::joint::AllMade;
-use crate::order::{Answers, Order};
 use crate::page::{counts_html, replica_html, streams_html};
-use crate::timed::Deadline;
 use crossbeam_channel::{RecvTimeoutError, Sender, TryRecvError, unbounded};
 use std::alloc::Global;
 use std::mem;
 use std::sync::{Arc, Mutex, Wait};
 use std::time::{Clock, Duration};
+use xds_changes::change::Change;
+use xds_changes::order::{Answers, Order};
 use xds_core::Marks;
+use xds_machine::deadline::Deadline;
 use xds_message::Batch;
-use xds_monitor::{Fault, Lookout, Tape, recorded_text};
+use xds_monitor::{Lookout, Tape, recorded_text};
+use xds_notes::Fault;
+use xds_replicas::joint::AllMade;
 use xds_resource::{Refusal, Stamp};
 use xds_stats::{Look, responses_json, warnings_html};
 

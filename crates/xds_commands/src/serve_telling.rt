@@ -1,17 +1,19 @@
 // What a server tells on its error output.
 ghost use Rattle.std.specs.Prelude.{◌≡◌, string_bytes, IfOk, Ok};
-ghost use Rattle.xds_monitor.specs.Endings.{fault_line, refusal_line, status_of, TellsEnd, TellsLine, TellsText};
-ghost use Rattle.xds_commands.specs.Messages.{admin_line, file_fault_text, file_line, no_token_line, old_numbers_line, port_fault_text, port_line, replica_line, same_numbers_line, unloaded_line};
+ghost use Rattle.xds_notes.specs.Endings.{fault_line, refusal_line, status_of, TellsEnd, TellsLine, TellsText};
+ghost use Rattle.xds_commands.specs.Messages.{admin_line, file_line, no_token_line, old_numbers_line, port_fault_text, port_line, replica_line, same_numbers_line, unloaded_line};
 ghost use Rattle.xds_frames.specs.Devices.{seen};
 ghost use Rattle.xds_monitor.specs.Recordings.{tape_line};
 
-use crate::loading::number_at;
 use std::alloc::Global;
 use std::io::{ErrorKind, Write};
 use std::net::SocketAddrV4;
 use std::sync::Wait;
+use xds_changes::loading::number_at;
 use xds_frames::{Counted, write_whole};
-use xds_monitor::{End, Ending, Next, TapeFault, fault_line, tape_line};
+use xds_machine::files::FileFault;
+use xds_monitor::{TapeFault, tape_line};
+use xds_notes::{End, Ending, Next, fault_line};
 use xds_program::run;
 use xds_resource::Refusal;
 use xds_stats::number_text;
@@ -85,39 +87,6 @@ fn replica_line(
     Ok(format!(in alloc;
         "replica {place}{named}: streams on 127.0.0.1:{port}, REST on 127.0.0.1:{rest_port}\n"
     )?)
-}
-
-/// Why a file can't be opened.
-#[derive(Clone, Copy, Debug, PartialEq, Eq)]
-pub enum FileFault {
-    /// It isn't there.
-    NoFile,
-    /// Who runs the server may not read it.
-    Forbidden,
-    /// The system says something else.
-    Unknown,
-}
-
-impl FileFault {
-    /// The fault of a call that failed with an error of this kind.
-    pub(crate) fn of(kind: ErrorKind) -> FileFault {
-        match kind {
-            ErrorKind::NotFound | ErrorKind::NotADirectory => FileFault::NoFile,
-            ErrorKind::PermissionDenied => FileFault::Forbidden,
-            _ => FileFault::Unknown,
-        }
-    }
-
-    // What is told of it behind the refusal.
-    pub(crate) fn text(self) -> &'static str
-        ensures { result.now ≡ file_fault_text self }
-    {
-        match self {
-            FileFault::NoFile => ": no such file",
-            FileFault::Forbidden => ": not allowed",
-            FileFault::Unknown => "",
-        }
-    }
 }
 
 // The line of a file that can't be opened.

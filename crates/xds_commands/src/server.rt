@@ -4,29 +4,14 @@ ghost use Rattle.xds_commands.specs.Servings.{limits_of};
 
 use crate::admin::Admin;
 use crate::beginning::{Begun, ServeFiles, begin_with, first_number, tell_unbegun};
-use crate::checker::{Asks, start_checker};
-use crate::linting::start_linting;
-use crate::loading::number_at;
-use crate::machine::{Machine, Runtime};
-use crate::meter::Meter;
-use crate::moves::Moves;
-use crate::order::Order;
 use crate::reached::Reached;
-use crate::replica::{Sends, Sockets, SocketsOver, Takes};
 use crate::serve_telling::{
     PortFault, status_of, tell, tell_admin, tell_end, tell_port, tell_replicas, tell_same_numbers,
     tell_tape, tell_until_end,
 };
-use crate::sizing::start_sizing;
-use crate::sourcing::{Source, start_sourcing};
 use crate::starting::{
-    DRAIN_SECONDS, shared_asks, shared_tape, start_admin, start_input, start_opener, start_replica,
-    start_teller,
+    shared_asks, shared_tape, start_admin, start_input, start_opener, start_replica, start_teller,
 };
-use crate::storing::{Progress, owned};
-use crate::timed::Deadline;
-use crate::wires::{Links, Wires, both, crossed, wired};
-use crate::workers::share;
 use crossbeam_channel::{Receiver, Sender, bounded};
 use std::alloc::{AllocError, Global};
 use std::fs::File;
@@ -36,10 +21,26 @@ use std::rt::Files;
 use std::sync::{Arc, Mutex, Wait};
 use std::thread;
 use std::time::{Clock, Duration};
+use xds_changes::loading::number_at;
+use xds_changes::order::Order;
+use xds_checker::checker::{Asks, start_checker};
 use xds_exchange::link;
 use xds_frames::Counted;
+use xds_machine::deadline::Deadline;
+use xds_machine::machine::{Machine, Runtime};
+use xds_machine::meter::Meter;
+use xds_machine::threads::share;
+use xds_machine::wires::{Links, Wires, both, crossed, wired};
 use xds_message::Batch;
-use xds_monitor::{End, Ending, Limits, Lookout, Note, Tape, Telling, Unrecordable, tapes_in};
+use xds_monitor::{Limits, Lookout, Tape, Unrecordable, tapes_in};
+use xds_notes::ending::DRAIN_SECONDS;
+use xds_notes::{End, Ending, Note, Telling};
+use xds_replicas::linting::start_linting;
+use xds_replicas::moves::Moves;
+use xds_replicas::replica::{Sends, Sockets, SocketsOver, Takes};
+use xds_replicas::sizing::start_sizing;
+use xds_replicas::sourcing::{Source, start_sourcing};
+use xds_replicas::storing::{Progress, owned};
 use xds_resource::Refusal;
 use xds_stats::{LogEvent, millis_now};
 

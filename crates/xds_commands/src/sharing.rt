@@ -1,21 +1,21 @@
 // Writes at an operator's port: those that a replica holds are listed, and those that come are merged. Both wait for a replica's thread in
 // parts, between which other requests are answered.
-use crate::marking::marks_text;
-use crate::moves::Moves;
-use crate::order::{Answers, Order};
-use crate::timed::Deadline;
-use crate::wanting::Wanted;
 use crate::write_lines::{Lines, read_batch};
 use crossbeam_channel::{RecvTimeoutError, Sender, unbounded};
 use std::alloc::Global;
 use std::mem;
 use std::sync::Wait;
 use std::time::{Clock, Duration};
+use xds_changes::marking::marks_text;
+use xds_changes::order::{Answers, Order};
+use xds_changes::wanting::Wanted;
 use xds_core::Marks;
 use xds_http::{Page, Part};
+use xds_machine::deadline::Deadline;
 use xds_message::Batch;
-use xds_monitor::fault_line;
+use xds_notes::fault_line;
 use xds_program::LineFault;
+use xds_replicas::moves::Moves;
 use xds_resource::Refusal;
 
 /// What a text for people is, as `content-type` says it.

@@ -2,19 +2,7 @@
 ghost use Rattle.std.specs.Prelude.{◌≡◌, ◌≤◌};
 
 use crate::admin::Admin;
-use crate::checker::Asks;
-use crate::input::{Replicas, take_input};
-use crate::keeping::keep_input;
-use crate::machine::{Machine, Runtime};
-use crate::opening::open_when_asked;
-use crate::order::Order;
-use crate::ready_line::ReadyReader;
-use crate::replica::{ReplicaOver, run_replica};
 use crate::serve_telling::tell_all;
-use crate::storing::Follows;
-use crate::validating::take_checked;
-use crate::wires::{both, started};
-use crate::workers::{share, shares, start_worker};
 use crossbeam_channel::Sender;
 use std::alloc::Global;
 use std::io::{Read, Write};
@@ -23,14 +11,25 @@ use std::net::TcpListener;
 use std::sync::{Arc, Wait};
 use std::thread;
 use std::time::{Clock, Duration};
+use xds_changes::input::{Replicas, take_input};
+use xds_changes::keeping::keep_input;
+use xds_changes::order::{Order, copies};
+use xds_changes::ready_line::ReadyReader;
+use xds_checker::checker::Asks;
+use xds_checker::validating::take_checked;
 use xds_frames::Counted;
 use xds_http::{Replies, Seats, serve_pages};
-use xds_monitor::{End, Ending, Lookout, Piece, Recorded, Served, Tape, Turns, Watched, Weighed};
+use xds_machine::machine::{Machine, Runtime};
+use xds_machine::threads::{share, shares, start_worker};
+use xds_machine::wires::{both, started};
+use xds_monitor::{Lookout, Piece, Recorded, Served, Tape, Turns, Watched, Weighed};
 use xds_node::{Host, Line, Node, NodeName, Opened};
+use xds_notes::ending::DRAIN_SECONDS;
+use xds_notes::{End, Ending};
+use xds_replicas::opening::open_when_asked;
+use xds_replicas::replica::{ReplicaOver, run_replica};
+use xds_replicas::storing::Follows;
 use xds_resource::Refusal;
-
-/// As many seconds as frames that were begun have to be written at the end.
-pub(crate) const DRAIN_SECONDS: u64 = 3;
 
 // After how many seconds it is looked again whether what is recorded is still to be found.
 const LOOK_SECONDS: u64 = 1;
@@ -379,18 +378,6 @@ pub(crate) fn shared_asks(asks: &Option<Arc<Asks>>) -> Result<Option<Arc<Asks>>,
         Some(asks) => Ok(Some(share(asks)?)),
         None => Ok(None),
     }
-}
-
-/// Shares of what changes are sent by.
-pub(crate) fn copies(
-    alloc: Global,
-    senders: &[Sender<Order>],
-) -> Result<Vec<Sender<Order>>, Refusal> {
-    let mut copies = Vec::new(alloc);
-    for sender in senders {
-        copies.push(sender.clone()?)?;
-    }
-    Ok(copies)
 }
 
 // Takes the input to its end.

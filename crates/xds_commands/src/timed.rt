@@ -7,8 +7,9 @@ use std::alloc::Global;
 use std::io;
 use std::io::{ErrorKind, Read};
 use std::net::{Net, SocketAddr, SocketAddrV4, TcpStream};
-use std::time::{Clock, Duration, Instant};
+use std::time::{Clock, Duration};
 use xds_client::{Dials, Side};
+use xds_machine::deadline::Deadline;
 use xds_resource::Refusal;
 
 // A connection, made within so many seconds where such are given.
@@ -32,66 +33,6 @@ fn connected_within<N: Net<Stream = TcpStream>>(
     let socket = TcpStream::connect_timeout(net, &SocketAddr::V4(addr), time)?;
     socket.set_write_timeout(Some(time))?;
     Ok(socket)
-}
-
-/// When it is time to give up, if ever.
-#[derive(Clone, Copy)]
-pub struct Deadline {
-    at: Option<Instant>,
-}
-
-impl Deadline {
-    /// In so many seconds from now; never, where none are given, or the time isn't known.
-    pub(crate) fn after<C: Clock>(clock: &C, seconds: Option<u16>) -> Deadline {
-        let at = match (seconds, Instant::now(clock)) {
-            (Some(seconds), Ok(now)) => now.checked_add(Duration::from_secs(u64::from(seconds))),
-            _ => None,
-        };
-        Deadline { at }
-    }
-
-    /// In this time from now; never, where the time isn't known.
-    pub(crate) fn within<C: Clock>(clock: &C, time: Duration) -> Deadline {
-        let at = match Instant::now(clock) {
-            Ok(now) => now.checked_add(time),
-            Err(_) => None,
-        };
-        Deadline { at }
-    }
-
-    /// How long it is until then: no time, once it has come, and where it isn't known.
-    pub(crate) fn rest<C: Clock>(self, clock: &C) -> Duration {
-        match self.left(clock) {
-            Ok(Some(left)) => left,
-            _ => Duration::from_secs(0),
-        }
-    }
-
-    /// Never.
-    pub(crate) fn never() -> Deadline {
-        Deadline { at: None }
-    }
-
-    /// Whether it comes at all.
-    pub(crate) fn is_set(self) -> bool {
-        self.at.is_some()
-    }
-
-    /// How long it is until then, if it comes at all: no time, once it has come.
-    pub(crate) fn left<C: Clock>(self, clock: &C) -> io::Result<Option<Duration>> {
-        match self.at {
-            None => Ok(None),
-            Some(at) => Ok(Some(at.saturating_duration_since(Instant::now(clock)?))),
-        }
-    }
-
-    /// Whether it has come.
-    pub(crate) fn has_come<C: Clock>(self, clock: &C) -> bool {
-        match self.left(clock) {
-            Ok(Some(left)) => left.is_zero(),
-            _ => false,
-        }
-    }
 }
 
 /// After how many seconds a command gave up, where it ended by this refusal: after those that it was given, if they have passed.

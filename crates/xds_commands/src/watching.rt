@@ -4,13 +4,14 @@ ghost use Rattle.xds_frames.specs.Devices.{seen};
 ghost use Rattle.xds_commands.specs.Ends.{EndsClient, EndsClientBy, HasEnded, IsOf, variant_of};
 
 use crate::telling::{tell_http, tell_late, tell_refusal};
-use crate::timed::{Deadline, TimedDial, gave_up};
+use crate::timed::{TimedDial, gave_up};
 use std::alloc::{AllocGlobal, Global};
 use std::io::Write;
 use std::net::{Net, TcpStream};
 use std::time::Clock;
 use xds_client::{Dials, Ended, Subscription, run_at};
 use xds_frames::Counted;
+use xds_machine::deadline::Deadline;
 use xds_program::run::DONE;
 use xds_program::{ClientTask, StreamVariant};
 use xds_resource::Refusal;

@@ -1,14 +1,15 @@
 // The writes of a store, printed.
 ghost use Rattle.std.specs.Prelude.{◌≤◌};
 
-use crate::machine::Runtime;
-use crate::serve_telling::{FileFault, tell, tell_file, tell_store};
+use crate::serve_telling::{tell, tell_file, tell_store};
 use crate::write_lines::line_at;
 use std::alloc::Global;
 use std::fs::File;
 use std::io::Write;
 use std::rt::Files;
 use xds_frames::{Counted, write_whole};
+use xds_machine::files::FileFault;
+use xds_machine::machine::Runtime;
 use xds_message::Batch;
 use xds_program::WritesTask;
 use xds_program::run::DONE;

@@ -4,7 +4,6 @@
 --     tape_fault_text  what is told of why a file can't be made
 --     tape_path        the file of a replica's trace
 --     tape_line        the line of a file that can't be made
---     recording_line   the line of a recording that ended by a refusal
 --     recorded_text    what is shown of a recording: that it goes on, or the refusal by which it ended
 --     ended_sample     the line of whether a replica's recording ended by a refusal
 --     recordings_text  that line of each of some replicas, and what the number is and does
@@ -43,11 +42,6 @@ tape_path folder replica = folder ++ (codes "/replica-" ++ (decimal replica ++ c
 -- the line of a file that can't be made
 abbrev pub tape_line : List ℕ → ℕ → TapeFault → List ℕ
 tape_line folder replica fault = tape_path folder replica ++ (codes ": 19 Device" ++ (tape_fault_text fault ++ codes "\n"))
-
--- the line of a recording that ended by a refusal
-abbrev pub recording_line : ℕ → Refusal → List ℕ
-recording_line replica refusal =
-    codes "recording of replica " ++ (decimal replica ++ (codes " ended: " ++ (decimal (number_of refusal) ++ (codes " " ++ (name_of refusal ++ codes "\n")))))
 
 -- what is shown of a recording, as a field of JSON: that it goes on, or the refusal by which it ended
 abbrev pub recorded_text : Option Refusal → List ℕ

@@ -2,11 +2,7 @@
 // around a node that see to it; and how a server ends.
 #![tactic(auto)]
 
-pub mod ending;
-pub mod fault;
 pub mod lookout;
-pub mod note;
-pub mod recent;
 pub mod recorded;
 pub mod recorder;
 pub mod recording;
@@ -19,10 +15,7 @@ pub mod watched;
 pub mod weighed;
 mod weights;
 
-pub use ending::{End, Ending, Next, Telling};
-pub use fault::{Fault, LongResponse};
 pub use lookout::{Limits, Lookout};
-pub use note::{Note, fault_line, refused_line, stamp_line};
 pub use recorded::Recorded;
 pub use recorder::{Recorder, Tape};
 pub use recording::{Piece, Recording};
@@ -36,4 +29,3 @@ pub use tapes::{
 pub use turns::Turns;
 pub use watched::Watched;
 pub use weighed::{MOST_BYTES, Weighed};
-pub use xds_causes::{Cause, cause_of};

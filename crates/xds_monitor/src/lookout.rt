@@ -1,13 +1,13 @@
 // What is known of a replica for those who look: threads note it, and it is told or shown.
 ghost use Rattle.std.specs.Prelude.{◌≡◌};
 
-use crate::ending::Ending;
-use crate::note::Note;
 use std::alloc::Global;
 use std::sync::{Arc, Mutex, Wait};
 use xds_core::Reply;
 use xds_ledger::{Outcome, VariantName};
 use xds_message::Draft;
+use xds_notes::ending::Ending;
+use xds_notes::note::Note;
 use xds_resource::{Refusal, Stamp};
 use xds_stats::board::Board;
 use xds_stats::html::rows_html;

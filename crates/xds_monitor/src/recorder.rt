@@ -1,7 +1,6 @@
 // A replica's trace, as threads record it.
 ghost use Rattle.std.specs.Prelude.{◌≡◌};
 
-use crate::ending::left_of;
 use crate::recording::{Piece, Recording};
 use crate::reel::{Reel, Seals};
 use std::alloc::Global;
@@ -10,6 +9,7 @@ use std::io::Write;
 use std::sync::{Condvar, Mutex, Wait};
 use std::time::{Clock, Duration, Instant};
 use xds_node::Host;
+use xds_notes::ending::left_of;
 use xds_resource::Refusal;
 
 /// A recorder on a file.

@@ -1,5 +1,5 @@
 // How much a replica holds.
-ghost use Rattle.std.specs.Prelude.{◌≡◌, IfOk};
+ghost use Rattle.std.specs.Prelude.{◌≡◌, IfOk, IfErr};
 ghost use Rattle.xds_resource.specs.declared.types.TypeName.TheVariants as types;
 ghost use Rattle.xds_stats.specs.Looks.{counted_more, held_by_count, held_of};
 
@@ -86,7 +86,8 @@ fn held_of<T: ResourceType>(
     changes: u64,
     writes: &[Write<T>],
 ) -> Result<Held, Refusal>
-    ensures { IfOk result (λ h. h ≡ held_of T.TYPE replica changes writes.now) }
+    ensures ok { IfOk result (λ h. h ≡ held_of T.TYPE replica changes writes.now) }
+    ensures refused { IfErr result (λ e. e ≡ Refusal.OutOfMemory) }
 {
     let mut held = held_by_count(changes, writes);
     held.bytes = response_bytes(alloc, replica, changes, writes)?;
@@ -100,6 +101,7 @@ pub fn look_of(alloc: Global, replica: u16, batch: &Batch, marks: Marks) -> Resu
     ensures listener { IfOk result (λ l. l.listener ≡ held_of types.Listener replica marks.listener batch.now.listener) }
     ensures route { IfOk result (λ l. l.route ≡ held_of types.Route replica marks.route batch.now.route) }
     ensures secret { IfOk result (λ l. l.secret ≡ held_of types.Secret replica marks.secret batch.now.secret) }
+    ensures refused { IfErr result (λ e. e ≡ Refusal.OutOfMemory) }
 {
     Ok(Look {
         cluster: held_of(alloc, replica, marks.cluster, batch.cluster.as_slice())?,

@@ -1,5 +1,5 @@
 // How long the whole response of a type is, and what is told where it comes near what a frame may have.
-ghost use Rattle.std.specs.Prelude.{◌≡◌, [], ◌∷◌, ◌++◌, decimal, option_map, string_bytes, length, IfOk, OnOk};
+ghost use Rattle.std.specs.Prelude.{◌≡◌, [], ◌∷◌, ◌++◌, decimal, option_map, string_bytes, length, IfOk, IfErr, OnOk};
 ghost use Rattle.xds_message.specs.Drafts.{message_of};
 ghost use Rattle.xds_message.specs.Written.{response_object};
 ghost use Rattle.serde_json.specs.Written.{compact_text};
@@ -53,7 +53,8 @@ pub fn warning_of(bytes: u64) -> Option<&'static str>
 
 /// How a response is told that would be too long.
 pub fn long_text(alloc: Global, kind: TypeName, bytes: u64) -> Result<String, Refusal>
-    ensures { IfOk result (λ t. string_bytes t ≡ long_text kind bytes) }
+    ensures ok { IfOk result (λ t. string_bytes t ≡ long_text kind bytes) }
+    ensures refused { IfErr result (λ e. e ≡ Refusal.OutOfMemory) }
 {
     let kind = kind.word();
     Ok(format!(in alloc;
@@ -63,7 +64,8 @@ pub fn long_text(alloc: Global, kind: TypeName, bytes: u64) -> Result<String, Re
 
 // The texts of what is live of these writes.
 fn live_texts<T: ResourceType>(alloc: Global, writes: &[Write<T>]) -> Result<Vec<Body>, Refusal>
-    ensures { IfOk result (λ v. v.items ≡ live_texts writes.now) }
+    ensures ok { IfOk result (λ v. v.items ≡ live_texts writes.now) }
+    ensures refused { IfErr result (λ e. e ≡ Refusal.OutOfMemory) }
 {
     let mut bodies = Vec::new(alloc);
     for write in writes {
@@ -78,7 +80,8 @@ fn texts_with<T: ResourceType>(
     writes: &[Write<T>],
     put: &Write<T>,
 ) -> Result<Vec<Body>, Refusal>
-    ensures { IfOk result (λ v. v.items ≡ live_texts (with_put put.now writes.now)) }
+    ensures ok { IfOk result (λ v. v.items ≡ live_texts (with_put put.now writes.now)) }
+    ensures refused { IfErr result (λ e. e ≡ Refusal.OutOfMemory) }
 {
     let mut bodies = other_texts(alloc, writes, put)?;
     push_body(&mut bodies, put)?;
@@ -91,7 +94,8 @@ fn other_texts<T: ResourceType>(
     writes: &[Write<T>],
     put: &Write<T>,
 ) -> Result<Vec<Body>, Refusal>
-    ensures { IfOk result (λ v. v.items ≡ live_texts (others put.now writes.now)) }
+    ensures ok { IfOk result (λ v. v.items ≡ live_texts (others put.now writes.now)) }
+    ensures refused { IfErr result (λ e. e ≡ Refusal.OutOfMemory) }
 {
     let mut bodies = Vec::new(alloc);
     for write in writes {
@@ -106,7 +110,8 @@ fn push_other<T: ResourceType>(
     write: &Write<T>,
     put: &Write<T>,
 ) -> Result<(), Refusal>
-    ensures { OnOk result (bodies.new.items ≡ bodies.old.items ++ live_texts (others put.now (write.now ∷ []))) }
+    ensures ok { OnOk result (bodies.new.items ≡ bodies.old.items ++ live_texts (others put.now (write.now ∷ []))) }
+    ensures refused { IfErr result (λ e. e ≡ Refusal.OutOfMemory) }
 {
     if write.name() == put.name() {
         return Ok(());
@@ -116,12 +121,13 @@ fn push_other<T: ResourceType>(
 
 // How many bytes the text of a response has.
 fn draft_bytes(alloc: Global, draft: &SotwDraft) -> Result<u64, Refusal>
-    ensures { IfOk result (λ n. n ≡ length (compact_text (response_object (message_of draft.now)))) }
+    ensures ok { IfOk result (λ n. n ≡ length (compact_text (response_object (message_of draft.now)))) }
+    ensures refused { IfErr result (λ e. e ≡ Refusal.OutOfMemory) }
 {
     let pieces = draft.pieces(alloc)?;
     match pieces.length_up_to(usize::MAX) {
         Some(length) => Ok(length as u64),
-        None => Err(Refusal::FrameTooLong),
+        None => Err(Refusal::OutOfMemory),
     }
 }
 
@@ -134,7 +140,8 @@ fn bytes_of(
     number: u64,
     texts: Vec<Body>,
 ) -> Result<u64, Refusal>
-    ensures { IfOk result (λ n. n ≡ length (compact_text (response_object (message_of (record { kind = kind; version_info = replica_version replica changes; nonce = decimal number; bodies = texts.items }))))) }
+    ensures ok { IfOk result (λ n. n ≡ length (compact_text (response_object (message_of (record { kind = kind; version_info = replica_version replica changes; nonce = decimal number; bodies = texts.items }))))) }
+    ensures refused { IfErr result (λ e. e ≡ Refusal.OutOfMemory) }
 {
     let version = replica_version(alloc, replica, changes)?;
     let nonce = nonce_text(alloc, number)?;
@@ -151,7 +158,8 @@ pub fn response_bytes<T: ResourceType>(
     changes: u64,
     writes: &[Write<T>],
 ) -> Result<u64, Refusal>
-    ensures { IfOk result (λ n. n ≡ response_bytes T.TYPE replica changes first_response writes.now) }
+    ensures ok { IfOk result (λ n. n ≡ response_bytes T.TYPE replica changes first_response writes.now) }
+    ensures refused { IfErr result (λ e. e ≡ Refusal.OutOfMemory) }
 {
     let texts = live_texts(alloc, writes)?;
     bytes_of(alloc, T::TYPE, replica, changes, FIRST, texts)
@@ -164,7 +172,8 @@ pub fn longest_bytes<T: ResourceType>(
     changes: u64,
     writes: &[Write<T>],
 ) -> Result<u64, Refusal>
-    ensures { IfOk result (λ n. n ≡ response_bytes T.TYPE replica changes last_response writes.now) }
+    ensures ok { IfOk result (λ n. n ≡ response_bytes T.TYPE replica changes last_response writes.now) }
+    ensures refused { IfErr result (λ e. e ≡ Refusal.OutOfMemory) }
 {
     let texts = live_texts(alloc, writes)?;
     bytes_of(alloc, T::TYPE, replica, changes, LAST, texts)
@@ -178,7 +187,8 @@ fn bytes_with<T: ResourceType>(
     writes: &[Write<T>],
     put: &Write<T>,
 ) -> Result<u64, Refusal>
-    ensures { IfOk result (λ n. n ≡ response_bytes T.TYPE replica changes last_response (with_put put.now writes.now)) }
+    ensures ok { IfOk result (λ n. n ≡ response_bytes T.TYPE replica changes last_response (with_put put.now writes.now)) }
+    ensures refused { IfErr result (λ e. e ≡ Refusal.OutOfMemory) }
 {
     let texts = texts_with(alloc, writes, put)?;
     bytes_of(alloc, T::TYPE, replica, changes, LAST, texts)
@@ -204,7 +214,8 @@ pub fn beyond_by<T: ResourceType>(
     put: &Write<T>,
     writes: &[Write<T>],
 ) -> Result<Option<u64>, Refusal>
-    ensures { IfOk result (λ o. o ≡ beyond_by T.TYPE replica changes put.now writes.now) }
+    ensures ok { IfOk result (λ o. o ≡ beyond_by T.TYPE replica changes put.now writes.now) }
+    ensures refused { IfErr result (λ e. e ≡ Refusal.OutOfMemory) }
 {
     let before = longest_bytes(alloc, replica, changes, writes)?;
     let after = bytes_with(alloc, replica, changes, writes, put)?;

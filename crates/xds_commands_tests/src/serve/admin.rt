@@ -2,7 +2,8 @@
 use std::alloc::Global;
 use std::test::Fail;
 use xds_cases::cases::{Outcome, hold};
-use xds_commands::{Wanted, marks_text, read_wanted, routed};
+use xds_changes::{Wanted, marks_text, read_wanted};
+use xds_commands::routed;
 
 // What a request of a method and a path asks for.
 struct Routed;

@@ -1,5 +1,5 @@
 // What ends a server.
-use xds_monitor::{End, Ending, Telling};
+use xds_notes::{End, Ending, Telling};
 use xds_resource::Refusal;
 
 // Neither changes nor events are told.

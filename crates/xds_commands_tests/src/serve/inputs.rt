@@ -5,8 +5,9 @@ use std::net::{Net, TcpListener, TcpStream};
 use std::rt::Files;
 use std::test::Fail;
 use std::{io, str};
-use xds_commands::{Runtime, ServeFiles, Serving, serve};
+use xds_commands::{ServeFiles, Serving, serve};
 use xds_frames::{Counted, Faulty};
+use xds_machine::Runtime;
 
 // A server of one replica, of which streams stand at this port, and REST ten ports on.
 fn serving(port: u16) -> Serving {

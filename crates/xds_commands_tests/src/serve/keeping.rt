@@ -2,8 +2,8 @@
 use std::alloc::Global;
 use std::test::Fail;
 use xds_cases::cases::{Outcome, hold};
-use xds_commands::{Kept, MAX_LINE, Said};
-use xds_monitor::cause_of;
+use xds_causes::cause_of;
+use xds_changes::{Kept, MAX_LINE, Said};
 
 // What is wrong of a line.
 struct Wrong;

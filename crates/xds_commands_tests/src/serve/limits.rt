@@ -2,7 +2,7 @@
 use std::alloc::Global;
 use std::test::Fail;
 use xds_cases::cases::{Outcome, hold};
-use xds_commands::FirstFrame;
+use xds_machine::FirstFrame;
 use xds_stats::Doors;
 
 // Whether a first frame has come whole, of pieces that are written in hexadecimal digits.

@@ -2,9 +2,9 @@
 use std::alloc::Global;
 use std::test::Fail;
 use xds_cases::cases::{Outcome, hold};
-use xds_commands::choice::choice_in;
-use xds_commands::door::host_name;
-use xds_commands::meter::usage_in;
+use xds_changes::choice::choice_in;
+use xds_machine::door::host_name;
+use xds_machine::meter::usage_in;
 use xds_stats::utc_text;
 
 // What the words behind a question mark choose: the replica, the type, the name, and how changes are made.

@@ -1,7 +1,7 @@
 use Rattle.std.proofs.Common.{sym, subst, is_some, unwrap_or, IfOk}
 use Rattle.std.proofs.lemmas.Result.{IfOk-weaker}
 use Rattle.xds_core.specs.Stores.{Store}
-use Rattle.xds_commands.specs.Given.{IsHeldFirst, IsWorldOver, MergesSome}
+use Rattle.xds_changes.specs.Given.{IsHeldFirst, IsWorldOver, MergesSome}
 use Rattle.xds_commands.proofs.beginning.world_over.Goals as goal
 
 pub returns-in-Some : goal.returns-in-Some

@@ -1,7 +1,7 @@
 use Rattle.std.proofs.Common.{subst, sym}
 use Rattle.std.specs.Prelude.{string_bytes}
 use Rattle.xds_frames.specs.Devices.{seen}
-use Rattle.xds_monitor.specs.Endings.{TellsText}
+use Rattle.xds_notes.specs.Endings.{TellsText}
 use Rattle.xds_commands.proofs.serve_telling.put.Goals as goal
 
 pub returns-in-Err : goal.returns-in-Err

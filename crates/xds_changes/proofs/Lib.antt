@@ -1,0 +1,7 @@
+mod Changing
+mod Handings
+mod Takings
+mod KeptLines
+mod LoadSteps
+pub mod Pieces
+pub mod Numbering

@@ -1,0 +1,11 @@
+pub mod Changes
+pub mod Contents
+pub mod Handing
+pub mod Inputs
+pub mod HeldLines
+pub mod Keeping
+pub mod Loads
+pub mod Together
+pub mod MarkTexts
+pub mod Queries
+pub mod Given

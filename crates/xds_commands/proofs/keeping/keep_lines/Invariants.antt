@@ -1,6 +1,0 @@
-use Rattle.xds_commands.proofs.KeptLines.{IsKeptSoFar}
-use Rattle.xds_commands.proofs.keeping.keep_lines.Given as goal
-
-abbrev pub invariant-loop : goal.invariant-loop
-invariant-loop g l =
-    IsKeptSoFar (g.H.Hands.hands) (g.H.Keeps.refuses) l.initial.hands l.hands (g.I.Read.remaining l.initial.input) (g.I.Read.remaining l.input) l.kept

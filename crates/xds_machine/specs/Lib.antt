@@ -1,0 +1,5 @@
+pub mod Doors
+pub mod Limits
+pub mod Meters
+pub mod Wiring
+pub mod Files

@@ -1,0 +1,329 @@
+// A body of changes that are looked at alone, or made together, at an operator's port.
+use crate::linting::{copy_of, lines_after};
+use crossbeam_channel::RecvTimeoutError;
+use std::alloc::Global;
+use std::mem;
+use std::sync::Wait;
+use std::time::{Clock, Duration};
+use xds_causes::Cause;
+use xds_changes::change::Change;
+use xds_changes::kept::Said;
+use xds_changes::made::{Made, changes_status, made_line};
+use xds_changes::order::Answers;
+use xds_checker::checked_changes::{Whys, told_line};
+use xds_core::Event;
+use xds_machine::deadline::Deadline;
+use xds_message::Batch;
+use xds_notes::Fault;
+use xds_resource::{Refusal, Stamp};
+
+/// What a replica's thread answers of changes.
+pub type AllMade = Answers<Vec<Made>>;
+
+/// Changes of a body, as they come and are answered.
+pub struct Joint {
+    /// Whether they are looked at alone.
+    pub is_tried: bool,
+    // Each line that says something: its number, and the place of its replica, from 0, or why it is refused.
+    lines: Vec<(u64, Result<usize, Fault>)>,
+    // The changes of each replica that are still to be handed to it, and how many there were.
+    changes: Vec<Vec<Change>>,
+    counts: Vec<usize>,
+    // What became of them, replica by replica, as far as they are answered.
+    made: Vec<Vec<Made>>,
+    // The answer of the replica behind these, and until when it is to come.
+    waiting: Option<(AllMade, Deadline)>,
+    /// Whether all lines are read.
+    pub is_read: bool,
+    // Copies of changes that are looked at alone, and the references that would lead nowhere by them, a line each.
+    looked: Vec<Event>,
+    warnings: String,
+    /// What a checker told of the lines.
+    pub whys: Whys,
+}
+
+// Written out: docs/PROVING.md, "Drops".
+impl Drop for Joint {
+    fn drop(self) {
+        let Joint {
+            is_tried: _,
+            lines: _,
+            changes: _,
+            counts: _,
+            made: _,
+            waiting: _,
+            is_read: _,
+            looked: _,
+            warnings: _,
+            whys: _,
+        } = self;
+    }
+}
+
+/// What is to be done next for a body of changes.
+pub enum Step {
+    /// To hand these changes to a replica, by its place from 0.
+    Hand(usize, Vec<Change>),
+    /// To wait.
+    Wait,
+    /// Nothing: all is answered.
+    Done,
+}
+
+impl Joint {
+    /// Of so many replicas, of which no line has come.
+    pub fn new(alloc: Global, replicas: usize, is_tried: bool) -> Result<Joint, Refusal> {
+        let mut changes = Vec::new(alloc);
+        for _ in 0..replicas {
+            changes.push(Vec::new(alloc))?;
+        }
+        Ok(Joint {
+            is_tried,
+            lines: Vec::new(alloc),
+            changes,
+            counts: Vec::new(alloc),
+            made: Vec::new(alloc),
+            waiting: None,
+            is_read: false,
+            looked: Vec::new(alloc),
+            warnings: String::new(alloc),
+            whys: Vec::new(alloc),
+        })
+    }
+
+    /// Takes what a line says.
+    pub fn take(&mut self, alloc: Global, said: Said) -> Result<(), Refusal> {
+        let Said { line, what } = said;
+        match what {
+            Ok(None) => Ok(()),
+            Ok(Some(change)) => {
+                if let Err(refusal) = self.copy(alloc, &change) {
+                    drop(change);
+                    return Err(refusal);
+                }
+                self.add(line, change)
+            }
+            Err(fault) => Ok(self.lines.push((line, Err(fault)))?),
+        }
+    }
+
+    // Keeps a copy of a change that is looked at alone.
+    fn copy(&mut self, alloc: Global, change: &Change) -> Result<(), Refusal> {
+        if !self.is_tried {
+            return Ok(());
+        }
+        let Some(copy) = copy_of(alloc, &change.event)? else {
+            return Ok(());
+        };
+        match self.looked.push(copy) {
+            Ok(()) => Ok(()),
+            Err(_) => Err(Refusal::OutOfMemory),
+        }
+    }
+
+    /// Keeps the lines of the references that would lead nowhere by changes that are looked at alone, over what is held.
+    pub fn warn(&mut self, alloc: Global, held: &Batch) -> Result<(), Refusal> {
+        self.warnings = lines_after(alloc, held, &self.looked)?;
+        Ok(())
+    }
+
+    fn add(&mut self, line: u64, change: Change) -> Result<(), Refusal> {
+        let place = usize::from(change.replica).wrapping_sub(1);
+        let Some(changes) = self.changes.get_mut(place) else {
+            drop(change);
+            self.lines
+                .push((line, Err(Fault::by(Cause::NoSuchReplica))))?;
+            return Ok(());
+        };
+        match changes.push(change) {
+            Ok(()) => {}
+            Err(_) => return Err(Refusal::OutOfMemory),
+        }
+        Ok(self.lines.push((line, Ok(place)))?)
+    }
+
+    /// Whether the lines are of several replicas.
+    pub fn are_mixed(&self) -> bool {
+        let mut count = 0usize;
+        for changes in &self.changes {
+            if !changes.is_empty() {
+                count = count.saturating_add(1);
+            }
+        }
+        count > 1
+    }
+
+    // Whether a line is refused by what it says.
+    fn has_fault(&self) -> bool {
+        for line in &self.lines {
+            if line.1.is_err() {
+                return true;
+            }
+        }
+        false
+    }
+
+    /// What is to be done next, once all lines are read. It waits for a moment at most.
+    pub fn step<R: Wait + Clock>(
+        &mut self,
+        rt: &R,
+        alloc: Global,
+        pause: Duration,
+    ) -> Result<Step, Refusal> {
+        if let Some((from, deadline)) = mem::replace(&mut self.waiting, None) {
+            match from.recv_timeout(rt, pause) {
+                Ok(Ok(made)) => self.answered(made)?,
+                Ok(Err(refusal)) => self.all_are(alloc, refused(refusal))?,
+                Err(RecvTimeoutError::Timeout) if !deadline.rest(rt).is_zero() => {
+                    self.waiting = Some((from, deadline));
+                    return Ok(Step::Wait);
+                }
+                Err(_) => self.all_are(alloc, refused(Refusal::Device))?,
+            }
+        }
+        self.next(alloc)
+    }
+
+    // The next replica's changes, if there are such.
+    fn next(&mut self, alloc: Global) -> Result<Step, Refusal> {
+        let place = self.made.len();
+        let Some(changes) = self.changes.get_mut(place) else {
+            return Ok(Step::Done);
+        };
+        let changes = mem::replace(changes, Vec::new(alloc));
+        self.counts.push(changes.len())?;
+        if changes.is_empty() {
+            drop(changes);
+            self.answered(Vec::new(alloc))?;
+            return Ok(Step::Wait);
+        }
+        if !self.is_tried && self.has_fault() {
+            drop(changes);
+            self.all_are(alloc, Made::Left)?;
+            return Ok(Step::Wait);
+        }
+        Ok(Step::Hand(place, changes))
+    }
+
+    /// The answer of the replica that was handed its changes comes here, until then.
+    pub fn wait_for(&mut self, from: AllMade, deadline: Deadline) {
+        self.waiting = Some((from, deadline));
+    }
+
+    fn answered(&mut self, made: Vec<Made>) -> Result<(), Refusal> {
+        match self.made.push(made) {
+            Ok(()) => Ok(()),
+            Err(_) => Err(Refusal::OutOfMemory),
+        }
+    }
+
+    /// So is what became of all changes of the replica at work.
+    pub fn all_are(&mut self, alloc: Global, one: Made) -> Result<(), Refusal> {
+        let count = match self.counts.as_slice().last() {
+            Some(count) => *count,
+            None => 0,
+        };
+        let mut made = Vec::new(alloc);
+        for _ in 0..count {
+            made.push(one)?;
+        }
+        self.answered(made)
+    }
+
+    /// What the lines are answered once all is done, and the status.
+    pub fn text(&self, alloc: Global) -> Result<(u16, String), Refusal> {
+        let (good, bad, text) = self.told(alloc, true)?;
+        Ok((changes_status(good, bad), text))
+    }
+
+    /// What they are answered where what was made isn't stored.
+    pub fn unstored(&self, alloc: Global) -> Result<String, Refusal> {
+        let (_, _, text) = self.told(alloc, false)?;
+        Ok(text)
+    }
+
+    /// How many were made, or would be, and how many weren't.
+    pub fn counts(&self, alloc: Global) -> Result<(u64, u64), Refusal> {
+        let (good, bad, text) = self.told(alloc, true)?;
+        drop(text);
+        Ok((good, bad))
+    }
+
+    fn told(&self, alloc: Global, are_stored: bool) -> Result<(u64, u64, String), Refusal> {
+        let mut text = String::new(alloc);
+        let mut places = Vec::new(alloc);
+        for _ in 0..self.made.len() {
+            places.push(0usize)?;
+        }
+        let mut good = 0u64;
+        let mut bad = 0u64;
+        for (line, said) in &self.lines {
+            let one = match said {
+                Ok(place) => {
+                    let made = self.made_at(*place, &mut places);
+                    if is_good(made) {
+                        good = good.saturating_add(1);
+                    } else {
+                        bad = bad.saturating_add(1);
+                    }
+                    line_of(alloc, *line, made, are_stored)?
+                }
+                Err(fault) => {
+                    bad = bad.saturating_add(1);
+                    told_line(alloc, &self.whys, *line, *fault)?
+                }
+            };
+            text.push_str(one.as_str())?;
+        }
+        text.push_str(self.warnings.as_str())?;
+        Ok((good, bad, text))
+    }
+
+    // What became of the next change of a replica.
+    fn made_at(&self, place: usize, places: &mut Vec<usize>) -> Made {
+        let Some(at) = places.get_mut(place) else {
+            return refused(Refusal::Device);
+        };
+        let now = *at;
+        *at = now.saturating_add(1);
+        match self.made.get(place) {
+            Some(made) => match made.get(now) {
+                Some(made) => *made,
+                None => refused(Refusal::Device),
+            },
+            None => refused(Refusal::Device),
+        }
+    }
+
+    /// Whether no line says anything.
+    pub fn is_empty(&self) -> bool {
+        self.lines.is_empty()
+    }
+}
+
+// The line of a change that was made, and is stored or isn't, or wasn't made.
+fn line_of(alloc: Global, line: u64, made: Made, are_stored: bool) -> Result<String, Refusal> {
+    match made {
+        Made::Written(stamp) if !are_stored => unstored_line(alloc, line, stamp),
+        _ => made_line(alloc, line, made),
+    }
+}
+
+/// The line of a line that was made a write, which has this stamp, and isn't stored.
+pub fn unstored_line(alloc: Global, line: u64, stamp: Stamp) -> Result<String, Refusal> {
+    let counter = stamp.counter;
+    let writer = stamp.writer;
+    Ok(format!(in alloc; "line {line}: {counter}-{writer}, not stored\n")?)
+}
+
+/// A change that is refused so.
+pub fn refused(refusal: Refusal) -> Made {
+    Made::Refused(Fault::of(refusal))
+}
+
+fn is_good(made: Made) -> bool {
+    match made {
+        Made::Written(_) | Made::Would => true,
+        Made::Refused(_) | Made::Left => false,
+    }
+}

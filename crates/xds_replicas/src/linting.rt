@@ -1,0 +1,216 @@
+// References of resources that lead nowhere, as they are told while a server runs, and in the answer to a dry run.
+use crate::moves::Moves;
+use crate::opening::entries_of;
+use crate::sourcing::{live_in, sender_of};
+use crossbeam_channel::{Sender, unbounded};
+use std::alloc::Global;
+use std::collections::BTreeSet;
+use std::sync::{Arc, Wait};
+use std::time::Duration;
+use xds_changes::order::Order;
+use xds_core::{Event, Marks};
+use xds_machine::machine::Runtime;
+use xds_machine::threads::{share, start_worker};
+use xds_message::Batch;
+use xds_notes::{Ending, Note};
+use xds_resource::{
+    AnyResource, AnyWrite, Groups, NameMap, Refusal, Stamp, TypeName, Write, for_any,
+};
+use xds_sources::{Dangling, dangling_in, key_of};
+
+// After how many seconds it is looked again whether references lead nowhere.
+const LOOK_SECONDS: u64 = 1;
+
+/// The line of a reference that leads nowhere, without its end.
+pub fn dangling_line(alloc: Global, one: &Dangling) -> Result<String, Refusal> {
+    let from = one.from.as_str();
+    let to = one.to.as_str();
+    Ok(format!(in alloc; "{from} refers to {to}, which isn't held")?)
+}
+
+// The lines of all references that lead nowhere, each once.
+fn lines_of(alloc: Global, live: &NameMap<AnyWrite>) -> Result<BTreeSet<String>, Refusal> {
+    let mut lines = BTreeSet::new(alloc);
+    for one in dangling_in(alloc, live)? {
+        add(&mut lines, dangling_line(alloc, &one)?)?;
+    }
+    Ok(lines)
+}
+
+fn add(lines: &mut BTreeSet<String>, line: String) -> Result<(), Refusal> {
+    match lines.insert(line) {
+        Ok(_) => Ok(()),
+        Err(_) => Err(Refusal::OutOfMemory),
+    }
+}
+
+/// The lines of references that lead nowhere once these changes are made over what is held, and don't before.
+pub fn lines_after(alloc: Global, held: &Batch, changes: &Vec<Event>) -> Result<String, Refusal> {
+    let mut live = live_in(alloc, held)?;
+    let before = lines_of(alloc, &live)?;
+    for change in changes {
+        apply(alloc, &mut live, change)?;
+    }
+    let after = lines_of(alloc, &live)?;
+    let mut text = String::new(alloc);
+    for line in &after {
+        if !before.contains(line) {
+            text.push_str(line.as_str())?;
+            text.push_str("\n")?;
+        }
+    }
+    Ok(text)
+}
+
+// Makes a put or a deletion of what is live.
+fn apply(alloc: Global, live: &mut NameMap<AnyWrite>, change: &Event) -> Result<(), Refusal> {
+    match change {
+        Event::Put(resource, _) => {
+            let key = key_of(alloc, resource.type_name(), resource.name())?;
+            drop(live.insert(key, write_of(alloc, resource)?)?);
+            Ok(())
+        }
+        Event::Delete(kind, name) => {
+            let key = key_of(alloc, *kind, name.as_str())?;
+            drop(live.remove(key.as_str()));
+            Ok(())
+        }
+        _ => Ok(()),
+    }
+}
+
+// A write that puts a resource.
+fn write_of(alloc: Global, resource: &AnyResource) -> Result<AnyWrite, Refusal> {
+    let stamp = Stamp {
+        counter: 1,
+        writer: 1,
+    };
+    Ok(
+        for_any!(resource, AnyResource(resource) => AnyWrite of Write::put(stamp, resource.try_copy(alloc)?, Groups::none())),
+    )
+}
+
+/// A copy of a put or a deletion, which is looked at. No body is copied.
+pub fn copy_of(alloc: Global, change: &Event) -> Result<Option<Event>, Refusal> {
+    match change {
+        Event::Put(resource, _) => Ok(Some(Event::Put(resource.try_copy(alloc)?, Groups::none()))),
+        Event::Delete(kind, name) => Ok(Some(Event::Delete(
+            *kind,
+            String::from_str(alloc, name.as_str())?,
+        ))),
+        _ => Ok(None),
+    }
+}
+
+/// Starts the thread that tells references that lead nowhere at the first replica.
+pub fn start_linting<R: Runtime>(
+    rt: &R,
+    alloc: Global,
+    moves: &Option<Arc<Moves>>,
+    replicas: &[Sender<Order>],
+    ending: &Arc<Ending>,
+) -> Result<(), Refusal> {
+    let (Some(moves), Some(orders)) = (moves, replicas.first()) else {
+        return Ok(());
+    };
+    let owned = match (share(moves), sender_of(orders), share(ending)) {
+        (Ok(moves), Ok(orders), Ok(ending)) => Ok((moves, orders, ending)),
+        _ => Err(Refusal::OutOfMemory),
+    };
+    start_worker(rt, owned, move |rt, (moves, orders, ending)| {
+        follow_references(rt, alloc, &moves, &orders, &ending);
+    })
+}
+
+// What is known of the references that lead nowhere.
+struct Known {
+    // Those that were told, and those that are told if they still lead nowhere at the next look.
+    told: BTreeSet<String>,
+    waiting: BTreeSet<String>,
+    // The counts of changes at the last look, if there was one.
+    marks: Option<Marks>,
+}
+
+// Written out: docs/PROVING.md, "Drops".
+impl Drop for Known {
+    fn drop(self) {
+        let Known {
+            told: _,
+            waiting: _,
+            marks: _,
+        } = self;
+    }
+}
+
+fn follow_references<R: Runtime>(
+    rt: &R,
+    alloc: Global,
+    moves: &Moves,
+    orders: &Sender<Order>,
+    ending: &Ending,
+) {
+    let mut known = Known {
+        told: BTreeSet::new(alloc),
+        waiting: BTreeSet::new(alloc),
+        marks: None,
+    };
+    for _ in rt.forever() {
+        if ending
+            .wait_within(rt, Duration::from_secs(LOOK_SECONDS))
+            .is_some()
+        {
+            return;
+        }
+        let is_due = match known.marks {
+            Some(marks) => moves.is_past(rt, 1, marks) || !known.waiting.is_empty(),
+            None => true,
+        };
+        if is_due {
+            let _ = look(rt, alloc, &mut known, orders, ending);
+        }
+    }
+}
+
+// Tells the references that lead nowhere, and did at the last look, and weren't told.
+fn look<R: Wait>(
+    rt: &R,
+    alloc: Global,
+    known: &mut Known,
+    orders: &Sender<Order>,
+    ending: &Ending,
+) -> Result<(), Refusal> {
+    let marks = marks_of(rt, alloc, orders)?;
+    let held = entries_of(rt, alloc, orders)?;
+    let live = live_in(alloc, &held);
+    drop(held);
+    let live = live?;
+    let lines = lines_of(alloc, &live);
+    drop(live);
+    let mut told = BTreeSet::new(alloc);
+    let mut waiting = BTreeSet::new(alloc);
+    for line in lines? {
+        if known.told.contains(&line) {
+            add(&mut told, line)?;
+        } else if known.waiting.contains(&line) {
+            let text = String::from_str(alloc, line.as_str())?;
+            ending.announce(rt, Note::Said(text));
+            add(&mut told, line)?;
+        } else {
+            add(&mut waiting, line)?;
+        }
+    }
+    known.told = told;
+    known.waiting = waiting;
+    known.marks = Some(marks);
+    Ok(())
+}
+
+// The counts of changes of a replica, once it has done what it was asked before.
+fn marks_of<R: Wait>(rt: &R, alloc: Global, orders: &Sender<Order>) -> Result<Marks, Refusal> {
+    let (to, from) = unbounded(alloc)?;
+    let _ = orders.send(rt, Order::Marks(to));
+    match from.recv(rt) {
+        Ok(marks) => marks,
+        Err(_) => Err(Refusal::Device),
+    }
+}
