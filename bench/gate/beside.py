@@ -6,7 +6,8 @@
 Servers, clients and pauses are what most of their time goes to, so N lanes (three, or one on a machine of fewer than four processors) take
 a part of the time that one after another takes. Each script begins its servers at ports of its own. Those of the bridge and of the
 fleet follow each other, since both may install packages. With --only it runs those whose command has one of the words. A line for each says
-what came of it and in how many seconds; what can't be tried here, as where a package can't be installed, says so. The last line is
+what came of it and in how many seconds; what can't be tried here, as where a package can't be installed, says so. What a script that failed
+told last, and each line of its that says what is bad, stands at the end once more, where it is found in a log that is cut. The last line is
 'N passed, M failed, K skipped', and the status is 1 where M isn't 0.
 """
 import argparse
@@ -69,7 +70,10 @@ LANES = (
 assert FIRST_PORT + PORTS * len(LANES) <= OWN_PORTS, "each script has ports of its own"
 # The status of some commands where they can't be tried here: there is no curl, no browser, or what they need can't be installed.
 SKIPPED, MAY_BE_SKIPPED = 2, ("bench/gate/readme.py", "bridge/test", "fleet/test", "bench/gate/page.py", "bench/gate/packed.py")
+# As many of the last lines of a script that failed are told once more.
+LAST_LINES = 12
 printing = threading.Lock()
+failures = []
 
 
 def run(command, program, port):
@@ -84,6 +88,8 @@ def run(command, program, port):
     came = "can't be tried here" if is_skipped else f"FAILED with status {ran.returncode}" if ran.returncode else "passed"
     with printing:
         print(f"== {command}\n{ran.stdout.rstrip()}\n{command.split()[0]}: {came}, in {time.monotonic() - begun:.0f} s", flush=True)
+        if came.startswith("FAILED"):
+            failures.append((command, came, ran.stdout.rstrip().split("\n")))
     return "skipped" if is_skipped else "failed" if ran.returncode else "passed"
 
 
@@ -99,6 +105,10 @@ def main():
     with concurrent.futures.ThreadPoolExecutor(given.lanes) as pool:
         ran = [pool.submit(lambda lane=lane, port=FIRST_PORT + PORTS * at: [run(it, program, port) for it in lane]) for at, lane in enumerate(lanes)]
         found = [came for it in ran for came in it.result()]
+    for command, came, told in failures:
+        at = len(told) - LAST_LINES
+        print(f"== {command}: {came}")
+        print("\n".join(line for place, line in enumerate(told) if place >= at or line.startswith("bad ")))
     print(f"{found.count('passed')} passed, {found.count('failed')} failed, {found.count('skipped')} skipped")
     sys.exit(1 if "failed" in found else 0)
 

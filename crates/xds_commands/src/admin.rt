@@ -1,7 +1,6 @@
 // An operator's port: what it answers. It waits for nobody longer than a second: not for a replica's thread, and not for who reads what
 // the server tells.
 ghost use Rattle.std.specs.Prelude.{◌≡◌, option_map, string_bytes, is_some, IfOk};
-ghost use Rattle.std.specs.List.{list_all};
 ghost use Rattle.xds_commands.specs.Stored.{stored_text};
 ghost use Rattle.xds_commands.specs.Routes.{routed};
 
@@ -354,12 +353,22 @@ impl Admin {
         if self.ending.is_held(rt) {
             return Ok(bare(alloc, 503));
         }
-        let looks = self.looks(rt, alloc)?;
-        if are_all_there(looks.as_slice()) {
+        if self.are_answering(rt, alloc) {
             found_of(PLAIN, owned(alloc, "ready\n"))
         } else {
             Ok(bare(alloc, 503))
         }
+    }
+
+    // Whether the thread of each replica answers in time how often it changed, which takes as long whatever it holds.
+    fn are_answering<R: Wait + Clock>(&self, rt: &R, alloc: Global) -> bool {
+        let deadline = Deadline::within(rt, Duration::from_millis(MOST_MILLISECONDS));
+        for replica in &self.replicas {
+            if replica.marks_by(rt, alloc, deadline).is_none() {
+                return false;
+            }
+        }
+        true
     }
 
     // The numbers of the whole server, in the text format of Prometheus.
@@ -560,14 +569,3 @@ fn push_chosen<R: Wait + Clock>(
     Ok(true)
 }
 
-// Whether each of these is there.
-fn are_all_there(looks: &[Option<Look>]) -> bool
-    ensures { result ≡ list_all is_some looks.now }
-{
-    for look in looks {
-        if look.is_none() {
-            return false;
-        }
-    }
-    true
-}

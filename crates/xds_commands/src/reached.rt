@@ -173,10 +173,20 @@ impl Reached {
 
     /// Its counts of changes. None where its thread doesn't answer in time.
     pub(crate) fn marks<R: Wait + Clock>(&self, rt: &R, alloc: Global) -> Option<Marks> {
+        let deadline = Deadline::within(rt, Duration::from_millis(MOST_MILLISECONDS));
+        self.marks_by(rt, alloc, deadline)
+    }
+
+    /// The same, where its thread doesn't answer by a deadline.
+    pub(crate) fn marks_by<R: Wait + Clock>(
+        &self,
+        rt: &R,
+        alloc: Global,
+        deadline: Deadline,
+    ) -> Option<Marks> {
         let Ok((to, from)) = unbounded(alloc) else {
             return None;
         };
-        let deadline = Deadline::within(rt, Duration::from_millis(MOST_MILLISECONDS));
         if !self.hand(rt, Order::Marks(to), deadline) {
             return None;
         }
