@@ -108,7 +108,7 @@ def main():
     for command, came, told in failures:
         at = len(told) - LAST_LINES
         print(f"== {command}: {came}")
-        print("\n".join(line for place, line in enumerate(told) if place >= at or line.startswith("bad ")))
+        print("\n".join(line for place, line in enumerate(told) if place >= at or line.startswith("BAD ")))
     print(f"{found.count('passed')} passed, {found.count('failed')} failed, {found.count('skipped')} skipped")
     sys.exit(1 if "failed" in found else 0)
 
