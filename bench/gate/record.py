@@ -229,7 +229,7 @@ def place_of(pick, lines, fits):
 def spoilt(pick, lines):
     """Spoilt copies: of each what was done, the lines, and whether it is no trace (or breaks a rule)."""
     stream = rb"(?:request|response) (\d+) "
-    at = place_of(pick, lines, lambda it: it.startswith(b"response"))
+    at = place_of(pick, lines, lambda it: it.startswith(b"response") and re.search(rb"change \d", it))
     number = re.match(stream, lines[at])[1]
     yield "a response that stands twice", lines[: at + 1] + [lines[at]] + lines[at + 1 :], False
     yield "a response without a nonce", lines[:at] + [NONCE.sub(b'"nonce":""', lines[at])] + lines[at + 1 :], False
