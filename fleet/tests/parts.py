@@ -339,14 +339,16 @@ def writes_in(lines):
 
 
 def checked(path):
-    """What `xds check` says of a trace. Of one that broke off, as of a server that was killed, what stands there is checked."""
+    """What `xds check` says of a trace: `ok`, also where it has no lines, which it tells beside that, or all that it tells. Of one that broke
+    off, as of a server that was killed, what stands there is checked."""
     with open(path, "rb") as file:
         text = file.read()
     if text.startswith(b"?"):
         text = text[:text.rindex(b"\n") + 1] if b"\n" in text else b""
         text = {b"pen": b"o", b"rit": b"w", b"equ": b"r"}.get(text[1:4], b"") + text[1:] if text else b""
-    ran = subprocess.run([XDS, "check"], input=text, stdout=subprocess.PIPE, stderr=subprocess.STDOUT, timeout=3 * PATIENCE, check=False)
-    return ran.stdout.decode().strip()
+    ran = subprocess.run([XDS, "check"], input=text, capture_output=True, timeout=3 * PATIENCE, check=False)
+    said = ran.stdout.decode().strip()
+    return said if said == "ok" else f"{said}\n{ran.stderr.decode()}".strip()
 
 
 class Places:
