@@ -166,41 +166,58 @@ pruned_list_fits v t s h b l fits = record {
   ];
 }
 
--- once what changed was looked at and what is owed nothing was let go, as far as there was memory for either
-pub tidied_fits : {X Y : Type 0} (v : VariantName) (t : TypeName) (s : Selection) (h : Holdings) (b : Beliefs) (old middle new : Listed) (looked : Result X Refusal) (left : Result Y Refusal) → OnOk looked (StaysSufficient h old middle)
-    → OnErr looked (middle ≡ old) → OnOk left (new ≡ pruned v t s h b middle) → OnErr left (new ≡ middle) → Fits v t s h b old → Fits v t s h b new
-tidied_fits {X} {Y} v t s h b old middle new looked left stays same gone kept fits = after left gone kept
-  where
-    mid : (r : Result X Refusal) → OnOk r (StaysSufficient h old middle) → OnErr r (middle ≡ old) → Fits v t s h b middle
-    mid (Ok x) stays same = stays.fits v t s b fits
-    mid (Err e) stays same = subst (Fits v t s h b) (sym same) fits
+-- ---- a list of which what is owed was left
 
-    after : (r : Result Y Refusal) → OnOk r (new ≡ pruned v t s h b middle) → OnErr r (new ≡ middle) → Fits v t s h b new
-    after (Ok y) gone kept = subst (Fits v t s h b) (sym gone) (pruned_list_fits v t s h b middle (mid looked stays same))
-    after (Err e) gone kept = subst (Fits v t s h b) (sym kept) (mid looked stays same)
+left_at : (owed since : Bool) (o latest : Option ℕ) → option_or (option_and_then (λ number. if owed then Some number else None) o) (if since then (if owed then latest else None) else None)
+    ≡ option_or (option_and_then (λ number. if owed then Some number else None) (option_or o (cond since latest None))) None
+left_at true since (Some k) latest = refl
+left_at true true None None = refl
+left_at true true None (Some n) = refl
+left_at true false None latest = refl
+left_at false true (Some k) latest = refl
+left_at false false (Some k) latest = refl
+left_at false true None None = refl
+left_at false true None (Some n) = refl
+left_at false false None latest = refl
+
+or_none : (o : Option ℕ) → option_or o None ≡ o
+or_none None = refl
+or_none (Some k) = refl
+
+found_if : (o before : Option ℕ) (b : Bool) → before ≡ None → (if b then option_or o before else before) ≡ (if b then o else None)
+found_if o before true is = ap (option_or o) is ∙ or_none o
+found_if o before false is = is
+
+-- what a walk from nothing found
+pub found_owed : (h : Holdings) (mark : ℕ) (m : Latest) (f : List ℕ → Option ℕ) → ((q : List ℕ) → finmap.get m q ≡ (if is_since h mark q then option_or (f q) (finmap.get {R = text_cmp} finmap.empty q) else finmap.get {R = text_cmp} finmap.empty q))
+    → (q : List ℕ) → finmap.get m q ≡ (if is_since h mark q then f q else None)
+found_owed h mark m f found q = found q ∙ found_if (f q) (finmap.get {R = text_cmp} finmap.empty q) (is_since h mark q) (finmap.get-empty text_cmp q)
+
+-- the names that are owed of those that changed since, and then of those that are listed, are what is left once the list was refreshed and pruned
+pub left_names : (v : VariantName) (t : TypeName) (s : Selection) (h : Holdings) (b : Beliefs) (l : Listed) (since kept : Latest)
+    → ((q : List ℕ) → finmap.get since q ≡ (if is_since h l.mark q then (if is_owed v t s h.entries b q then finmap.get h.latest q else None) else None))
+    → kept ≡ put_all (λ name number. if is_owed v t s h.entries b name then Some number else None) since (finmap.entries l.names) → kept ≡ (pruned v t s h b (refreshed h l)).names
+left_names v t s h b l since kept found is =
+    same_names _ _ (λ q. ap (λ (m : Latest). finmap.get m q) is ∙ get-put_all (λ name number. if is_owed v t s h.entries b name then Some number else None) since l.names q
+    ∙ ap (option_or (option_and_then (λ number. if is_owed v t s h.entries b q then Some number else None) (finmap.get l.names q))) (found q)
+    ∙ left_at (is_owed v t s h.entries b q) (is_since h l.mark q) (finmap.get l.names q) (finmap.get h.latest q)
+    ∙ ap (λ o. option_or (option_and_then (λ number. if is_owed v t s h.entries b q then Some number else None) o) None) (sym (get-refreshed h l q))
+    ∙ sym (get-pruned v t s h b (refreshed h l) q))
+
+-- such a list suffices, and so does the one that was, where there was no memory for it
+pub tidied_fits : {X : Type 0} (v : VariantName) (t : TypeName) (s : Selection) (h : Holdings) (b : Beliefs) (old new : Listed) (left : Result X Refusal) → OnOk left (new ≡ pruned v t s h b (refreshed h old)) → OnOk left (IsNumbered h)
+    → OnErr left (new ≡ old) → Fits v t s h b old → Fits v t s h b new
+tidied_fits v t s h b old new (Ok x) is numbered same fits = subst (Fits v t s h b) (sym is) (pruned_list_fits v t s h b (refreshed h old) (refreshed_list_fits v t s h b old numbered fits))
+tidied_fits v t s h b old new (Err e) is numbered same fits = subst (Fits v t s h b) (sym same) fits
 
 pub keeps_itself : (old new : Listed) → new ≡ old → KeepsSending old new
 keeps_itself old new same = record { sent_mark = ap (λ (l : Listed). l.sent_mark) same; mark = subst (λ (l : Listed). old.mark ≤ l.mark) (sym same) (le-itself old.mark) }
 
 -- and it keeps the mark of the sending
-pub tidied_keeps_sending : {X Y : Type 0} (v : VariantName) (t : TypeName) (s : Selection) (h : Holdings) (b : Beliefs) (old middle new : Listed) (looked : Result X Refusal) (left : Result Y Refusal) → OnOk looked (StaysSufficient h old middle)
-    → OnErr looked (middle ≡ old) → OnOk left (new ≡ pruned v t s h b middle) → OnErr left (new ≡ middle) → old.mark ≤ h.changes → KeepsSending old new
-tidied_keeps_sending {X} {Y} v t s h b old middle new looked left stays same gone kept low = after left gone kept
-  where
-    mid : (r : Result X Refusal) → OnOk r (StaysSufficient h old middle) → OnErr r (middle ≡ old) → KeepsSending old middle
-    mid (Ok x) stays same = stays.sending low
-    mid (Err e) stays same = keeps_itself old middle same
-
-    on : (next : Listed) → next.sent_mark ≡ middle.sent_mark → next.mark ≡ middle.mark → KeepsSending old next
-    on next sending mark = record { sent_mark = sending ∙ (mid looked stays same).sent_mark; mark = subst (λ n. old.mark ≤ n) (sym mark) (mid looked stays same).mark }
-
-    after : (r : Result Y Refusal) → OnOk r (new ≡ pruned v t s h b middle) → OnErr r (new ≡ middle) → KeepsSending old new
-    after (Ok y) gone kept = on new (ap (λ (l : Listed). l.sent_mark) gone) (ap (λ (l : Listed). l.mark) gone)
-    after (Err e) gone kept = on new (ap (λ (l : Listed). l.sent_mark) kept) (ap (λ (l : Listed). l.mark) kept)
-
-or_none : (o : Option ℕ) → option_or o None ≡ o
-or_none None = refl
-or_none (Some k) = refl
+pub tidied_keeps_sending : {X : Type 0} (v : VariantName) (t : TypeName) (s : Selection) (h : Holdings) (b : Beliefs) (old new : Listed) (left : Result X Refusal) → OnOk left (new ≡ pruned v t s h b (refreshed h old)) → OnErr left (new ≡ old)
+    → old.mark ≤ h.changes → KeepsSending old new
+tidied_keeps_sending v t s h b old new (Ok x) is same low = record { sent_mark = ap (λ (l : Listed). l.sent_mark) is; mark = subst (λ (l : Listed). old.mark ≤ l.mark) (sym is) low }
+tidied_keeps_sending v t s h b old new (Err e) is same low = keeps_itself old new same
 
 -- a copy, name by name
 pub copied : (m : Latest) → put_all (λ name number. Some number) finmap.empty (finmap.entries m) ≡ m

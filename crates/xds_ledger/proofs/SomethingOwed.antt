@@ -21,7 +21,7 @@ is_some_of (Some x) e = (x, refl)
 
 -- ---- a test of the names of a map
 
-by_names : {X : Type 0} (p : List ℕ → Bool) (es : List (List ℕ × X)) → list_any (λ e. p e.0) es ≡ list_any p (map (λ e. e.0) es)
+pub by_names : {X : Type 0} (p : List ℕ → Bool) (es : List (List ℕ × X)) → list_any (λ e. p e.0) es ≡ list_any p (map (λ e. e.0) es)
 by_names p [] = refl
 by_names p (e ∷ es) = ap (λ b. p e.0 || b) (by_names p es)
 

@@ -7,6 +7,7 @@ pub mod Repeats
 pub mod OfferLaws
 pub mod Listed
 pub mod ListLaws
+pub mod Sharing
 pub mod Believing
 pub mod Parts
 pub mod Changes

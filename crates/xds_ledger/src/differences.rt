@@ -41,7 +41,7 @@ impl Model for Differences {
 }
 
 // Puts a value in the place of another. Of a type parameter, a drop is one step to the proof.
-fn put_at<V: Drop>(place: &mut V, value: V)
+pub(crate) fn put_at<V: Drop>(place: &mut V, value: V)
     ensures { place.new ≡ value }
 {
     *place = value;

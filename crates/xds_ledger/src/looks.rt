@@ -18,7 +18,7 @@ impl<T: ResourceType, V: Variant> Ledger<T, V> {
     /// above the list's mark, or no response was accepted yet.
     pub fn may_send(&self, changes: u64) -> bool {
         !self.account.awaits_answer()
-            && (self.listed.names().iter().len() > 0
+            && (self.listed.has_names()
                 || self.listed.mark() < changes
                 || !self.account.has_accepted())
     }

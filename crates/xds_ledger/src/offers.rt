@@ -85,6 +85,28 @@ fn put_owed<T: ResourceType>(
     said.put(alloc, name, due)
 }
 
+// Adds what is owed of some names and can be told.
+fn with_due<T: ResourceType>(
+    alloc: Global,
+    variant: VariantName,
+    interest: &Interest<T>,
+    catalogue: &Catalogue<T>,
+    beliefs: &Beliefs,
+    due: NameMap<Due>,
+    names: &NameMap<u64>,
+) -> Result<NameMap<Due>, Refusal>
+    ensures ok { IfOk result (λ m. m ≡ put_all (λ name number. told_of variant T.TYPE interest.now catalogue.now.entries beliefs.now name) due (finmap.entries names.now)) }
+    ensures err { IfErr result (λ e. e ≡ OutOfMemory) }
+{
+    let mut said = due;
+    for (name, _number) in names.iter() {
+        put_owed(
+            alloc, variant, interest, catalogue, beliefs, &mut said, name,
+        )?;
+    }
+    Ok(said)
+}
+
 // What is owed of the listed names and can be told.
 fn listed_due<T: ResourceType>(
     alloc: Global,
@@ -97,13 +119,13 @@ fn listed_due<T: ResourceType>(
     ensures ok { IfOk result (λ m. m ≡ put_all (λ name number. told_of variant T.TYPE interest.now catalogue.now.entries beliefs.now name) finmap.empty (finmap.entries listed.now.names)) }
     ensures err { IfErr result (λ e. e ≡ OutOfMemory) }
 {
-    let mut said = NameMap::new(alloc);
-    for (name, _number) in listed.names().iter() {
-        put_owed(
-            alloc, variant, interest, catalogue, beliefs, &mut said, name,
-        )?;
+    let (base, added) = listed.names();
+    let none = NameMap::new(alloc);
+    let due = with_due(alloc, variant, interest, catalogue, beliefs, none, added)?;
+    match base {
+        Some(base) => with_due(alloc, variant, interest, catalogue, beliefs, due, base),
+        None => Ok(due),
     }
-    Ok(said)
 }
 
 // Adds what is owed of the names that changed since a mark, and can be told.

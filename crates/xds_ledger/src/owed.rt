@@ -20,7 +20,7 @@ use crate::version::Version;
 use std::alloc::Global;
 use xds_catalogue::Catalogue;
 use xds_interest::Interest;
-use xds_resource::{Refusal, ResourceType, Stamp, TypeName};
+use xds_resource::{NameMap, Refusal, ResourceType, Stamp, TypeName};
 
 // rule: tombstones, rule: owed, rule: covered-only
 // The stamp at which a name is present: of the live write that the interest covers. It takes no memory.
@@ -98,6 +98,25 @@ pub(crate) fn name_owed<T: ResourceType>(
 }
 
 // rule: owed
+// Whether something is owed of one of some names.
+fn owed_among<T: ResourceType>(
+    variant: VariantName,
+    interest: &Interest<T>,
+    catalogue: &Catalogue<T>,
+    beliefs: &Beliefs,
+    names: &NameMap<u64>,
+) -> bool
+    ensures { result ≡ list_any (λ e. is_owed variant T.TYPE interest.now catalogue.now.entries beliefs.now e.0) (finmap.entries names.now) }
+{
+    for (name, _number) in names.iter() {
+        if name_owed(variant, interest, catalogue, beliefs, name) {
+            return true;
+        }
+    }
+    false
+}
+
+// rule: owed
 // Whether something is owed of a listed name.
 fn listed_owed<T: ResourceType>(
     variant: VariantName,
@@ -108,12 +127,14 @@ fn listed_owed<T: ResourceType>(
 ) -> bool
     ensures { result ≡ list_any (λ e. is_owed variant T.TYPE interest.now catalogue.now.entries beliefs.now e.0) (finmap.entries listed.now.names) }
 {
-    for (name, _number) in listed.names().iter() {
-        if name_owed(variant, interest, catalogue, beliefs, name) {
-            return true;
-        }
+    let (base, added) = listed.names();
+    if owed_among(variant, interest, catalogue, beliefs, added) {
+        return true;
     }
-    false
+    match base {
+        Some(base) => owed_among(variant, interest, catalogue, beliefs, base),
+        None => false,
+    }
 }
 
 // rule: owed

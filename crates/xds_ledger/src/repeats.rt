@@ -90,6 +90,26 @@ fn still_says_where_said<T: ResourceType>(
 }
 
 // rule: refused-offer
+// Whether it does so of each of some names.
+fn still_says_among<T: ResourceType>(
+    refused: &NameMap<Due>,
+    variant: VariantName,
+    interest: &Interest<T>,
+    catalogue: &Catalogue<T>,
+    beliefs: &Beliefs,
+    names: &NameMap<u64>,
+) -> bool
+    ensures { result ≡ list_all (λ e. still_says refused.now variant T.TYPE interest.now catalogue.now.entries beliefs.now e.0) (finmap.entries names.now) }
+{
+    for (name, _number) in names.iter() {
+        if !still_says(refused, variant, interest, catalogue, beliefs, name) {
+            return false;
+        }
+    }
+    true
+}
+
+// rule: refused-offer
 // Whether it does so of each listed name.
 fn still_says_where_listed<T: ResourceType>(
     refused: &NameMap<Due>,
@@ -101,12 +121,14 @@ fn still_says_where_listed<T: ResourceType>(
 ) -> bool
     ensures { result ≡ list_all (λ e. still_says refused.now variant T.TYPE interest.now catalogue.now.entries beliefs.now e.0) (finmap.entries listed.now.names) }
 {
-    for (name, _number) in listed.names().iter() {
-        if !still_says(refused, variant, interest, catalogue, beliefs, name) {
-            return false;
-        }
+    let (base, added) = listed.names();
+    if !still_says_among(refused, variant, interest, catalogue, beliefs, added) {
+        return false;
     }
-    true
+    match base {
+        Some(base) => still_says_among(refused, variant, interest, catalogue, beliefs, base),
+        None => true,
+    }
 }
 
 // rule: refused-offer
