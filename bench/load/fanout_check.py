@@ -1,8 +1,9 @@
 """What bench/load/fanout.py --check does: both servers do the same work, as far as the plain one does it.
 
-A story of random puts, deletions, requests, refusals and new streams, four streams at a time of both variants and
-all types, is played at a server, and each response must be, byte by byte, that of the reading of the protocol in
-bench/oracle/play.py. So that it is known which response comes when, each event is waited for: a put or a deletion is
+A story of random puts, deletions, requests, refusals and new streams, of both variants, is played at a server, and
+each response must be, byte by byte, that of the reading of the protocol in bench/oracle/play.py. There are stories of
+two forms: four streams ask for the star or a few names of all types, or twelve name up to twenty of forty endpoints
+each, and now and then clusters, so that most changes concern some of them alone. So that it is known which response comes when, each event is waited for: a put or a deletion is
 followed by a put of the secret `probe`, which one more stream is told of, and a request that is owed nothing by one
 for that secret."""
 import json
@@ -11,6 +12,7 @@ import socket
 import subprocess
 import os
 import sys
+from typing import NamedTuple
 
 sys.path.insert(0, os.path.abspath(f"{__file__}/../../oracle"))
 from fanout_server import NotHere, Server, Wrong, framed
@@ -24,11 +26,29 @@ PATIENCE, SILENCE = 60, 0.2
 EVENTS = 500
 
 
+class Form(NamedTuple):
+    """What a story has: the streams at a time, the types that are changed and asked for, names, and how many a list has."""
+
+    streams: int
+    changed: list
+    asked: list
+    names: list
+    lists: list
+
+
+FORMS = [
+    Form(4, list(TYPES)[:4], ["cluster", *list(TYPES)[:4]], NAMES, [0, 0, 1, 1, 2]),
+    Form(12, ["endpoint"] * 4 + ["cluster"], ["endpoint"] * 4 + ["cluster"], [f"e{it}" for it in range(40)], [0, 1, 5, 10, 20]),
+]
+
+
 class Stream:
     """A stream at the server, and what the reading has of it."""
 
     def __init__(self, port, replica, is_delta):
         self.socket = socket.create_connection(("127.0.0.1", port), PATIENCE)
+        # What is sent before it was answered isn't held back.
+        self.socket.setsockopt(socket.IPPROTO_TCP, socket.TCP_NODELAY, 1)
         self.replica, self.is_delta = replica, is_delta
         self.number, self.last = replica.open(is_delta), {}
 
@@ -105,14 +125,14 @@ class Stream:
 
 
 class Play:
-    def __init__(self, server, seed):
-        self.server, self.replica, self.pick = server, Replica(1), random.Random(seed)
+    def __init__(self, server, seed, form):
+        self.server, self.replica, self.pick, self.form = server, Replica(1), random.Random(seed), form
         self.marks = 0
         self.probe = self.opened(True)
         self.probe.ask("secret", ["probe"])
         self.probe.compare()
         self.probe.ask("secret", [], self.probe.last["secret"])
-        self.streams = [self.opened(number % 2 == 0) for number in range(4)]
+        self.streams = [self.opened(number % 2 == 0) for number in range(form.streams)]
         self.change([])
 
     def opened(self, is_delta):
@@ -140,17 +160,17 @@ class Play:
         return f"delete 1 {kind} {name}"
 
     def some_change(self):
-        kind, name = self.pick.choice(list(TYPES)[:4]), self.pick.choice(NAMES)
+        kind, name = self.pick.choice(self.form.changed), self.pick.choice(self.form.names)
         # A line can't delete a name with a space in it.
         is_put = self.pick.random() < 0.65 or " " in name
         self.change([self.put(kind, name) if is_put else self.delete(kind, name)])
 
     def some_request(self):
-        pick = self.pick
-        stream, kind = pick.choice(self.streams), pick.choice(["cluster", "cluster", *list(TYPES)[1:4]])
+        pick, form = self.pick, self.form
+        stream, kind = pick.choice(self.streams), pick.choice(form.asked)
         session = self.replica.streams[stream.number][1][kind]
-        names = pick.sample([*NAMES, "*"], pick.choice([0, 0, 1, 1, 2]))
-        others = pick.sample([*NAMES, "*"], pick.choice([0, 0, 1, 2])) if stream.is_delta else ()
+        names = pick.sample([*form.names, "*"], pick.choice(form.lists))
+        others = pick.sample([*form.names, "*"], pick.choice([0, 0, 1, 2])) if stream.is_delta else ()
         if session.asked and pick.random() < 0.6:
             # It only answers.
             names, others = ([], ()) if stream.is_delta else (sorted(session.names) + ["*"] * session.star, ())
@@ -159,7 +179,7 @@ class Play:
         versions = None
         if stream.is_delta and not session.asked and pick.random() < 0.5:
             live = self.replica.catalogues[kind].live
-            versions = {name: pick.choice([(live(name) or ["9-1"])[0], "1-1", "x"]) for name in pick.sample(NAMES, 2)}
+            versions = {name: pick.choice([(live(name) or ["9-1"])[0], "1-1", "x"]) for name in pick.sample(form.names, 2)}
         stream.ask(kind, names, nonce, pick.random() < 0.25, others, versions)
         if not stream.compare():
             stream.settle()
@@ -209,15 +229,17 @@ def run(programs, given):
     """Plays stories at each server, and answers the status."""
     said = {}
     for name, program in programs.items():
-        for seed in range(given.seed, given.seed + given.seeds):
-            server = Server(program)
-            try:
-                Play(server, seed).play(EVENTS)
-            except Wrong as fault:
-                raise Wrong(f"{name}, seed {seed}: {fault}") from None
-            finally:
-                server.stop()
-        print(f"{name}: {given.seeds} stories of {EVENTS} events, each response as it is to be", flush=True)
+        for form in FORMS:
+            for seed in range(given.seed, given.seed + given.seeds):
+                server = Server(program)
+                try:
+                    Play(server, seed, form).play(EVENTS)
+                except Wrong as fault:
+                    raise Wrong(f"{name}, {form.streams} streams, seed {seed}: {fault}") from None
+                finally:
+                    server.stop()
+            what = f"{given.seeds} stories of {form.streams} streams and {EVENTS} events"
+            print(f"{name}: {what}, each response as it is to be", flush=True)
         server = Server(program)
         try:
             said[name] = by_client(server, given.program)

@@ -94,6 +94,9 @@ class Server:
         found = re.compile(r"^voluntary_ctxt_switches:\s+(\d+)", re.M)
         return sum(int(found.search(it).group(1)) for it in self.tasks("status"))
 
+    def threads(self):
+        return len(list(self.tasks("stat")))
+
     def quiet(self):
         """Waits until no thread of it wants a processor."""
         ends, still, before = time.monotonic() + PATIENCE, 0, self.processor()
@@ -107,16 +110,16 @@ class Server:
         raise Wrong(f"the server wasn't quiet after {PATIENCE} s")
 
     def has_all(self, story):
-        """Waits until the last of the clusters is there."""
+        """Waits until the last of the resources is there."""
         with socket.create_connection(("127.0.0.1", self.port), PATIENCE) as stream:
-            file, names = stream.makefile("rb"), [story.name(story.clusters - 1)]
-            message = {"resourceNamesSubscribe": names, "typeUrl": URL}
+            file, names = stream.makefile("rb"), [story.name(story.count - 1)]
+            message = {"resourceNamesSubscribe": names, "typeUrl": story.url}
             while True:
                 stream.sendall(framed(3, json.dumps(message).encode()))
                 response = json.loads(file.read(int.from_bytes(file.read(4), "big"))[1:])
                 if response.get("resources"):
                     return
-                message = {"responseNonce": response["nonce"], "typeUrl": URL}
+                message = {"responseNonce": response["nonce"], "typeUrl": story.url}
 
     def stop(self):
         self.run.kill()

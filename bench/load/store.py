@@ -191,7 +191,7 @@ def streams(given, folder, table):
         for has_store in (False, True):
             file = os.path.join(folder, f"fanout{turn}.db")
             start = f'exec {shlex.quote(given.program)} "$@"' + (f" --store {shlex.quote(file)}" if has_store else "")
-            found[has_store].append(fanout.Round(["sh", "-c", start, "sh"], (given.streams, 100, "delta"), asked).found)
+            found[has_store].append(fanout.Round(["sh", "-c", start, "sh"], fanout.Case(given.streams, 100, "delta"), asked).found)
     names = [row for row, _ in fanout.ROWS]
     for what, row, due in (("the first client has it, ms", "a put: first client, ms", None), ("the last client has it, ms", "  last client, ms", 1.1), ("processor time, ms", "  processor time, ms", None)):
         at = names.index(row, names.index("a put: first client, ms"))

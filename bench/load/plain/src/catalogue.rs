@@ -1,7 +1,7 @@
 //! What the plain server holds of one type, and the texts of responses that many streams have in common.
 use serde_json::Value;
 use std::collections::hash_map::DefaultHasher;
-use std::collections::{BTreeMap, HashMap};
+use std::collections::{BTreeMap, BTreeSet, HashMap};
 use std::hash::{Hash, Hasher};
 use std::sync::{Arc, Mutex};
 
@@ -88,7 +88,9 @@ pub enum Key {
 
 pub struct Catalogue {
     of: &'static Type,
-    entries: BTreeMap<Name, Entry>,
+    entries: HashMap<Name, Entry>,
+    /// The names of all entries, in ascending order.
+    names: BTreeSet<Name>,
     /// The name that each change was of, if it is the last of that name.
     log: BTreeMap<u64, Name>,
     pub changes: u64,
@@ -98,7 +100,8 @@ pub struct Catalogue {
 
 impl Catalogue {
     pub fn new(of: &'static Type) -> Self {
-        Self { of, entries: BTreeMap::new(), log: BTreeMap::new(), changes: 0, shared: Mutex::new(HashMap::new()) }
+        let (entries, names, log) = (HashMap::new(), BTreeSet::new(), BTreeMap::new());
+        Self { of, entries, names, log, changes: 0, shared: Mutex::new(HashMap::new()) }
     }
 
     fn changed(&mut self, name: &Name, before: Option<u64>) {
@@ -114,6 +117,9 @@ impl Catalogue {
         let change = self.changes;
         let found = self.entries.get_key_value(name).map(|(name, entry)| (name.clone(), entry.change));
         let (name, before) = found.map_or_else(|| (Name::from(name), None), |(name, before)| (name, Some(before)));
+        if before.is_none() {
+            self.names.insert(name.clone());
+        }
         let fresh = || Entry { change, body: None, born: change, past: Vec::new() };
         let entry = self.entries.entry(name.clone()).or_insert_with(fresh);
         if entry.body.is_none() {
@@ -138,6 +144,11 @@ impl Catalogue {
         self.changed(&name, Some(before));
     }
 
+    /// A name, which shares its text with the entry where there is one.
+    pub fn name(&self, name: &str) -> Name {
+        self.entries.get_key_value(name).map_or_else(|| Name::from(name), |(name, _)| name.clone())
+    }
+
     pub fn entry(&self, name: &str) -> Option<&Entry> {
         self.entries.get(name)
     }
@@ -148,7 +159,7 @@ impl Catalogue {
     }
 
     pub fn all_live(&self) -> impl Iterator<Item = (&Name, u64)> {
-        self.entries.iter().filter(|(_, entry)| entry.body.is_some()).map(|(name, entry)| (name, entry.change))
+        self.names.iter().filter_map(|name| Some((name, self.live(name)?)))
     }
 
     /// The names that changed after a change.

@@ -2,6 +2,7 @@
 //! `plain serve` that of bench/load/fanout.py.
 mod answer;
 mod catalogue;
+mod index;
 mod request;
 mod serve;
 mod session;

@@ -6,10 +6,11 @@
 //! when it is read.
 //!
 //! How it is made: as many event loops (epoll) as there are processors share out the streams, and a stream belongs
-//! to one loop, so that nothing of it is locked. Bodies are kept as text. A response from behind its nonce on is
-//! made once and shared by all streams that are told the same; it is let go of with the next change, or once a
-//! second has passed. A response is written by one call with its head. All lines that one read brings are applied
-//! together, and then the loops are woken.
+//! to one loop, so that nothing of it is locked. Bodies are kept as text. A response to the star from behind its
+//! nonce on is made once and shared by all streams that are told the same; it is let go of with the next change, or
+//! once a second has passed. A response is written by one call with its head. All lines that one read brings are
+//! applied together, and then the loops are woken. Each loop has an index of its streams by the names that they
+//! want, and looks at those alone that a change concerns.
 //!
 //! What it leaves out, beside every proof: groups (`putin`), other replicas and merging, polls over HTTP, journals
 //! and traces, `--streams`, numbers of refusals but `21 BadScript`, the node and the inside of `errorDetail`, the
@@ -17,6 +18,7 @@
 //! it was deleted and came again.
 use crate::answer::{depth, is_whole};
 use crate::catalogue::{Catalogue, Response, TYPES};
+use crate::index::Index;
 use crate::request;
 use crate::session::Session;
 use serde_json::Value;
@@ -46,6 +48,7 @@ mod poll {
         fn epoll_create1(flags: i32) -> i32;
         fn epoll_ctl(poll: i32, what: i32, file: i32, event: *mut Event) -> i32;
         fn epoll_wait(poll: i32, events: *mut Event, most: i32, milliseconds: i32) -> i32;
+        fn listen(socket: i32, most: i32) -> i32;
     }
 
     pub const IN: u32 = 1;
@@ -58,6 +61,12 @@ mod poll {
     fn checked(answer: i32) -> i32 {
         assert!(answer >= 0, "{}", io::Error::last_os_error());
         answer
+    }
+
+    /// So many connections of a listener may wait to be accepted; of the standard library's it is 128.
+    pub fn queue(listener: i32, most: i32) {
+        // SAFETY: it takes no pointer.
+        checked(unsafe { listen(listener, most) });
     }
 
     impl Poll {
@@ -141,18 +150,18 @@ impl Stream {
     }
 
     /// Reads what there is, and takes each whole request.
-    fn read(&mut self, shared: &Shared, buffer: &mut [u8]) -> Result<(), End> {
+    fn read(&mut self, shared: &Shared, indexes: &mut Indexes, buffer: &mut [u8]) -> Result<(), End> {
         match (&self.socket).read(buffer) {
             Ok(0) => Err(End),
             Ok(count) if self.input.is_empty() => {
-                let used = self.take_all(shared, &buffer[..count])?;
+                let used = self.take_all(shared, indexes, &buffer[..count])?;
                 self.input.extend_from_slice(&buffer[used..count]);
                 Ok(())
             }
             Ok(count) => {
                 let mut input = std::mem::take(&mut self.input);
                 input.extend_from_slice(&buffer[..count]);
-                let used = self.take_all(shared, &input)?;
+                let used = self.take_all(shared, indexes, &input)?;
                 if used < input.len() {
                     input.drain(..used);
                     self.input = input;
@@ -165,7 +174,7 @@ impl Stream {
     }
 
     /// Takes the whole frames of some bytes. Answers how many bytes they are.
-    fn take_all(&mut self, shared: &Shared, bytes: &[u8]) -> Result<usize, End> {
+    fn take_all(&mut self, shared: &Shared, indexes: &mut Indexes, bytes: &[u8]) -> Result<usize, End> {
         let mut used = 0;
         while let Some(head) = bytes.get(used..used + 4) {
             let length = u32::from_be_bytes([head[0], head[1], head[2], head[3]]) as usize;
@@ -173,13 +182,13 @@ impl Stream {
                 return Err(End);
             }
             let Some(frame) = bytes.get(used + 4..used + 4 + length) else { break };
-            self.take(shared, frame[0], &frame[1..])?;
+            self.take(shared, indexes, frame[0], &frame[1..])?;
             used += 4 + length;
         }
         Ok(used)
     }
 
-    fn take(&mut self, shared: &Shared, kind: u8, text: &[u8]) -> Result<(), End> {
+    fn take(&mut self, shared: &Shared, indexes: &mut Indexes, kind: u8, text: &[u8]) -> Result<(), End> {
         let is_delta = match kind {
             1 => false,
             3 => true,
@@ -190,9 +199,10 @@ impl Stream {
             return Err(End);
         }
         let Some(at) = request.kind else { return Ok(()) };
-        let session = self.sessions[at].get_or_insert_with(|| Box::new(Session::new(&TYPES[at], is_delta)));
+        let number = self.number;
+        let session = self.sessions[at].get_or_insert_with(|| Box::new(Session::new(number, &TYPES[at], is_delta)));
         let catalogues = shared.catalogues.read().unwrap();
-        session.take(&catalogues[at], request);
+        session.take(&catalogues[at], &mut indexes[at], request);
         self.poll(&catalogues)
     }
 
@@ -245,11 +255,24 @@ impl Stream {
 /// What an event is of, where it is of no stream.
 const BELL: u64 = 0;
 
+type Streams = HashMap<u64, Stream>;
+
+/// By type.
+type Indexes = [Index; TYPES.len()];
+
+/// Lets go of a stream.
+fn remove(streams: &mut Streams, indexes: &mut Indexes, number: u64) {
+    let Some(stream) = streams.remove(&number) else { return };
+    for (session, index) in stream.sessions.iter().zip(indexes) {
+        session.iter().for_each(|session| session.leave(index));
+    }
+}
+
 /// A loop over the streams that it was handed.
 fn serve(shared: &Shared, door: &Door, mut bell: UnixStream) {
     let (poll, mut buffer) = (poll::Poll::new(), vec![0; 1 << 16]);
     let mut events = [poll::Event { is: 0, of: 0 }; 256];
-    let (mut streams, mut last) = (HashMap::<u64, Stream>::new(), BELL);
+    let (mut streams, mut indexes, mut last) = (Streams::new(), Indexes::default(), BELL);
     poll.add(bell.as_raw_fd(), BELL);
     let mut may_forget = false;
     loop {
@@ -268,34 +291,40 @@ fn serve(shared: &Shared, door: &Door, mut bell: UnixStream) {
                     poll.add(socket.as_raw_fd(), last);
                     streams.insert(last, Stream::new(socket, last));
                 }
-                tell_all(shared, &poll, &mut streams);
+                tell_concerned(shared, &poll, &mut streams, &mut indexes);
             } else if let Some(stream) = streams.get_mut(&of) {
-                let had_all = is & !poll::OUT == 0 || stream.read(shared, &mut buffer).is_ok();
+                let had_all = is & !poll::OUT == 0 || stream.read(shared, &mut indexes, &mut buffer).is_ok();
                 if !had_all || stream.write(&poll).is_err() {
                     let _ = stream.write(&poll);
-                    streams.remove(&of);
+                    remove(&mut streams, &mut indexes, of);
                 }
             }
         }
     }
 }
 
-/// Makes the responses that are due on all streams, and then writes them.
-fn tell_all(shared: &Shared, poll: &poll::Poll, streams: &mut HashMap<u64, Stream>) {
-    let mut told = Vec::new();
+/// Makes the responses that are due on the streams that a change concerns, and then writes them.
+fn tell_concerned(shared: &Shared, poll: &poll::Poll, streams: &mut Streams, indexes: &mut Indexes) {
+    let (mut concerned, mut told) = (Vec::new(), Vec::new());
     let catalogues = shared.catalogues.read().unwrap();
-    for stream in streams.values_mut() {
+    for (index, catalogue) in indexes.iter_mut().zip(catalogues.iter()) {
+        index.add_concerned(catalogue, &mut concerned);
+    }
+    concerned.sort_unstable();
+    concerned.dedup();
+    for number in concerned {
+        let Some(stream) = streams.get_mut(&number) else { continue };
         let had = stream.output.len();
         let polled = stream.poll(&catalogues);
         if polled.is_err() || stream.output.len() > had {
-            told.push((stream.number, polled));
+            told.push((number, polled));
         }
     }
     drop(catalogues);
     for (number, polled) in told {
         let Some(stream) = streams.get_mut(&number) else { continue };
         if stream.write(poll).and(polled).is_err() {
-            streams.remove(&number);
+            remove(streams, indexes, number);
         }
     }
 }
@@ -406,6 +435,7 @@ pub fn main(words: &[String]) {
         eprintln!("127.0.0.1:{port}: 19 Device");
         exit(1);
     };
+    poll::queue(listener.as_raw_fd(), 1024);
     let loops = thread::available_parallelism().map_or(1, |it| it.get());
     let mut bells = Vec::new();
     let doors = (0..loops).map(|_| {

@@ -3,8 +3,10 @@
 //!
 //! A stream with the star and no names of its own, which most are, holds two numbers: all was told as it was after
 //! `told` changes, and what lived after `gone` changes may be there at the client. Names that differ from that stand
-//! in `held`.
+//! in `held`, and so do all that a client names. The index of the loop knows the names that are wanted, and an
+//! acceptance goes over the names of its response alone.
 use crate::catalogue::{Catalogue, Key, Name, Offer, Response, Type};
+use crate::index::Index;
 use crate::request::{Names, Request};
 use std::collections::{BTreeMap, BTreeSet};
 use std::sync::Arc;
@@ -33,6 +35,8 @@ struct Unanswered {
 }
 
 pub struct Session {
+    /// The number of the stream, by which the index has it.
+    stream: u64,
     is_delta: bool,
     of: &'static Type,
     asked: bool,
@@ -61,8 +65,9 @@ fn change_of(version: &str) -> Option<u64> {
 }
 
 impl Session {
-    pub fn new(of: &'static Type, is_delta: bool) -> Self {
+    pub fn new(stream: u64, of: &'static Type, is_delta: bool) -> Self {
         Self {
+            stream,
             is_delta,
             of,
             asked: false,
@@ -82,7 +87,7 @@ impl Session {
     }
 
     /// Takes a request, or ignores it where its nonce is out of date.
-    pub fn take(&mut self, catalogue: &Catalogue, request: Request) {
+    pub fn take(&mut self, catalogue: &Catalogue, index: &mut Index, request: Request) {
         let is_first = !self.asked;
         if !is_first {
             if self.unanswered.is_some() && request.nonce == self.last_nonce {
@@ -95,14 +100,16 @@ impl Session {
         self.is_fresh = true;
         let complete = self.of.is_complete;
         match request.names {
-            Names::Listed(names) => {
+            Names::Listed(mut names) => {
                 self.named = self.named || !names.is_empty();
                 let star = complete && (!self.named || names.iter().any(|name| name == "*"));
-                if star == self.star && self.held.is_empty() && names.iter().all(|name| complete && name == "*") {
+                names.retain(|name| !complete || name != "*");
+                names.sort_unstable();
+                names.dedup();
+                if star == self.star && self.wanted().eq(names.iter().map(String::as_str)) {
                     return;
                 }
-                let listed: BTreeSet<Name> =
-                    names.into_iter().filter(|it| !complete || it != "*").map(Name::from).collect();
+                let listed: BTreeSet<Name> = names.iter().map(|name| catalogue.name(name)).collect();
                 let dropped: Vec<Name> = self
                     .held
                     .iter()
@@ -113,20 +120,22 @@ impl Session {
                 let mut wanted: BTreeMap<Name, bool> = dropped.into_iter().map(|name| (name, false)).collect();
                 let is_new = |name: &Name| all || !self.held.get(name).is_some_and(|held| held.is_wanted);
                 wanted.extend(listed.into_iter().filter(is_new).map(|name| (name, true)));
-                self.want(catalogue, star, all, wanted, |is_wanted| is_wanted);
+                self.want(catalogue, index, star, all, wanted, |is_wanted| is_wanted);
             }
             Names::Changed { subscribed, unsubscribed, versions } => {
                 let is_star = |it: &String| complete && it == "*";
                 if is_first && subscribed.is_empty() {
                     self.star = complete && !unsubscribed.iter().any(is_star);
+                    index.set_star(self.stream, self.star);
                 } else if !subscribed.is_empty() || !unsubscribed.is_empty() {
                     let (gets, loses) = (subscribed.iter().any(is_star), unsubscribed.iter().any(is_star));
                     let star = gets || self.star && !loses;
-                    let names = |of: Vec<String>| of.into_iter().filter(|it| !is_star(it)).map(Name::from);
+                    let names =
+                        |of: Vec<String>| of.into_iter().filter(|it| !is_star(it)).map(|it| catalogue.name(&it));
                     let mut wanted: BTreeMap<Name, bool> =
                         names(unsubscribed).filter(|_| !is_first).map(|name| (name, false)).collect();
                     wanted.extend(names(subscribed).map(|name| (name, true)));
-                    self.want(catalogue, star, gets || loses, wanted, |_| true);
+                    self.want(catalogue, index, star, gets || loses, wanted, |_| true);
                 }
                 for (name, version) in versions.into_iter().filter(|_| is_first) {
                     let told = change_of(&version).map_or(Told::Unsure, Told::At);
@@ -137,11 +146,25 @@ impl Session {
         self.looks_at_all = self.looks_at_all || is_first;
     }
 
+    /// The names that are wanted, in ascending order.
+    fn wanted(&self) -> impl Iterator<Item = &str> {
+        self.held.iter().filter(|(_, held)| held.is_wanted).map(|(name, _)| &**name)
+    }
+
+    /// Takes the stream out of the index, as it ends.
+    pub fn leave(&self, index: &mut Index) {
+        index.set_star(self.stream, false);
+        for (name, _) in self.held.iter().filter(|(_, held)| held.is_wanted) {
+            index.set_name(self.stream, name, false);
+        }
+    }
+
     /// Sets the star, and which names are wanted or not wanted any more, of which `is_mentioned` says whether the
     /// request has them. Where all is touched, every name is, and else these.
     fn want(
         &mut self,
         catalogue: &Catalogue,
+        index: &mut Index,
         star: bool,
         all: bool,
         wanted: BTreeMap<Name, bool>,
@@ -153,14 +176,16 @@ impl Session {
             }
         }
         for (name, is_wanted) in &wanted {
-            let had = match self.held.get(name) {
+            let had = || match self.held.get(name) {
                 Some(held) => held.told != Told::No,
                 None => catalogue.entry(name).is_some_and(|entry| entry.lived_at(self.gone)),
             };
-            let is_unsure = (star || *is_wanted) && (had || is_mentioned(*is_wanted));
+            let is_unsure = (star || *is_wanted) && (is_mentioned(*is_wanted) || had());
             let told = if is_unsure { Told::Unsure } else { Told::No };
             self.held.insert(name.clone(), Held { is_wanted: *is_wanted, told });
+            index.set_name(self.stream, name, *is_wanted);
         }
+        index.set_star(self.stream, star);
         if all {
             self.told = 0;
             if !star {
@@ -188,6 +213,13 @@ impl Session {
         (self.was_accepted, self.refused) = (true, None);
         let Unanswered { offer, to, all, touched } = unanswered;
         let is_whole = !self.is_delta && self.of.is_complete;
+        if !self.star && !is_whole && !all && touched.is_empty() {
+            // Of the other names nothing changes, and none of all is owed unless it changes after the response.
+            for (name, change) in &offer.names {
+                self.was_told(name, *change);
+            }
+            return;
+        }
         if !self.held.is_empty() || all || !touched.is_empty() {
             self.looks_at_all = true;
             if is_whole && !all {
@@ -212,6 +244,15 @@ impl Session {
         }
     }
 
+    /// A client without the star took this of a name.
+    fn was_told(&mut self, name: &Name, change: Option<u64>) {
+        let Some(held) = self.held.get_mut(name) else { return };
+        held.told = change.map_or(Told::No, Told::At);
+        if !held.is_wanted && change.is_none() {
+            self.held.remove(name);
+        }
+    }
+
     /// What is owed of a name of `held`.
     fn owed(&self, catalogue: &Catalogue, name: &Name, held: &Held) -> Option<Option<u64>> {
         let live = if self.star || held.is_wanted { catalogue.live(name) } else { None };
@@ -226,7 +267,9 @@ impl Session {
     /// All that is owed, in ascending order of names.
     fn all_owed(&self, catalogue: &Catalogue, seen: u64) -> Vec<(Name, Option<u64>)> {
         let of_held = |name: &Name| Some((name.clone(), self.owed(catalogue, name, self.held.get(name)?)?));
-        let mut owed: Vec<(Name, Option<u64>)> = if self.looks_at_all {
+        // The shorter way, where either is right.
+        let is_long = catalogue.changes - seen > self.held.len() as u64;
+        let mut owed: Vec<(Name, Option<u64>)> = if self.looks_at_all || is_long {
             self.held.keys().filter_map(of_held).collect()
         } else {
             catalogue.since(seen).filter_map(of_held).collect()
