@@ -619,6 +619,24 @@ def a_stream_without_a_first_frame_is_ended():
     server.ends("a server ends with its idle streams")
 
 
+def workers_are_as_many_as_are_asked_for():
+    counts = {}
+    for workers in (1, 4):
+        server = Served(f"--first-number 1 --streams 41 --workers {workers}", replicas=2)
+        with Link(server.port) as first:
+            found = first.answered(ASKS_FOR_CLUSTERS)
+            before = len(os.listdir(f"/proc/{server.run.pid}/task"))
+            links = [Link(server.port) for _ in range(40)]
+            all_found = [it.answered(ASKS_FOR_CLUSTERS) for it in links]
+            counts[workers] = before, len(os.listdir(f"/proc/{server.run.pid}/task"))
+            for it in links:
+                it.socket.close()
+        tell(f"streams are answered by {workers} workers", found and all(all_found), (found, all_found))
+        server.ends(f"a server of {workers} workers ends with its streams")
+    tell("40 streams more take no thread more", all(before == after for before, after in counts.values()), counts)
+    tell("each replica has as many workers as are asked for", counts[4][0] - counts[1][0] == 2 * 3, counts)
+
+
 REJECTS_ALL = '{"errorDetail":{"code":3,"message":"no \\"way\\"\\nat all"},"responseNonce":"1","typeUrl":"CDS"}'
 
 
@@ -761,6 +779,7 @@ CASES = (
     refused_lines_are_told,
     a_connection_past_the_most_is_closed,
     a_stream_without_a_first_frame_is_ended,
+    workers_are_as_many_as_are_asked_for,
     what_happens_on_a_stream_is_told,
     a_recorded_run_is_checked,
     pictures_are_written,

@@ -209,7 +209,7 @@ def threads(server):
 
 
 def never_reads():
-    """The stream of a client that never reads ends after some seconds, and leaves no thread."""
+    """The stream of a client that never reads ends after some seconds, and takes no thread."""
     server = Server("--log")
     told = []
     reader = threading.Thread(target=lambda: told.extend(server.run.stderr), daemon=True)
@@ -228,12 +228,12 @@ def never_reads():
         streams.append(stream)
     last = time.time()
     time.sleep(max(0, PARTING - 2 - (last - begun)))
-    tell("a client that doesn't read has some seconds", threads(server) == before + 2 * len(streams), (threads(server), before))
-    comes(lambda: threads(server) <= before)
+    open_streams = lambda: counted(server, "streams", variant="sotw")
+    tell("a client that doesn't read has some seconds", open_streams() == len(streams), open_streams())
+    comes(lambda: open_streams() == 0)
     took = time.time() - last
-    tell("then its stream has ended, and no thread of it is left", threads(server) <= before and PARTING - 1 < took < PARTING + BUSY, (threads(server), before, took))
-    count = counted(server, "streams", variant="sotw")
-    tell("nor is it counted", count == 0, count)
+    tell("then its stream has ended", open_streams() == 0 and PARTING - 1 < took < PARTING + BUSY, (open_streams(), took))
+    tell("and no thread was started for it", threads(server) == before, (threads(server), before))
     ended = lambda: sum("ended by 19 Device" in it for it in told)
     tell("and that its client didn't take it is told", comes(lambda: ended() == len(streams)), told[-8:])
     for stream in streams:

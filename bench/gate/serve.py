@@ -357,7 +357,7 @@ def may_have(server, threads):
 
 
 def no_threads():
-    """A stream for which there is no thread is closed, and leaves nothing behind."""
+    """Streams take no thread: they are served where no thread more may start."""
     if os.getuid():
         # Threads are counted by user, and only who may do all can be another.
         print("     not tried, since the program can't run as another user")
@@ -377,27 +377,13 @@ def few_threads(server):
     comes(lambda: counted(server, "resources", type="route") == 1)
     threads = lambda: int(re.search(r"Threads:\s+(\d+)", open(f"/proc/{server.run.pid}/status", encoding="ascii").read())[1])
     first = threads()
-    for room in (0, 1):
-        for _ in range(5):
-            comes(lambda: threads() == first)
-            may_have(server, first + room)
-            stream = Stream(server.port)
-            try:
-                stream.send({"typeUrl": ROUTE, "resourceNames": ["a"]})
-            except ConnectionError:
-                pass
-            ended = is_closed(stream)
-            if not ended:
-                break
-        tell(f"a stream is closed for which there is {'one thread of two' if room else 'no thread'}", ended)
-    may_have(server, sys.maxsize)
-    turned = counted(server, "streams_turned_away_total")
+    may_have(server, first)
     streams = [taken_place(server) for _ in range(3)]
-    tell("then each place is free", all(streams), streams)
-    tell("and no other stream is shown", len(shown(server)) == 3, shown(server))
+    tell("streams are served where no thread more may start", all(streams), streams)
+    tell("and none was started", threads() == first, (threads(), first))
+    tell("a stream more is closed", is_closed(Stream(server.port)))
     for it in streams:
         it and it.socket.close()
-    tell("none was turned away", turned == 0, turned)
     server.stop()
 
 

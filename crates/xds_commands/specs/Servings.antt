@@ -14,6 +14,7 @@ serving_of task first_number hold log_json lint refuse_long is_terminal = record
   port = task.port;
   rest_port = task.rest_port;
   streams = task.streams;
+  workers = task.workers;
   keep_going = task.keep_going;
   tells = is_terminal;
   logs = task.log || log_json;
@@ -28,4 +29,4 @@ serving_of task first_number hold log_json lint refuse_long is_terminal = record
 
 -- what the streams of a replica may be then
 abbrev pub limits_of : Serving → Limits
-limits_of serving = record { streams = serving.max_streams; idle_seconds = serving.idle_seconds; refuses_long = serving.refuse_long }
+limits_of serving = record { streams = serving.max_streams; idle_seconds = serving.idle_seconds; refuses_long = serving.refuse_long; workers = serving.workers }

@@ -568,4 +568,3 @@ fn push_chosen<R: Wait + Clock>(
     push_content(alloc, text, place, &held, choice)?;
     Ok(true)
 }
-

@@ -2,10 +2,11 @@
 ghost use Rattle.std.specs.Prelude.{◌≡◌, ◌≤◌, IfErr};
 ghost use Rattle.xds_commands.specs.Asked.{shown_of, text_shown};
 
-use crate::beginning::{Unbegun, bearer_in};
+use crate::beginning::bearer_in;
 use crate::serve_telling::{
     tell, tell_device, tell_file, tell_no_token, tell_refused_by, tell_unsayable,
 };
+use crate::unbegun::Unbegun;
 use std::alloc::Global;
 use std::fs::File;
 use std::io::{ErrorKind, Read, Write};

@@ -1,27 +1,19 @@
 // What a server begins with: the numbers of its replicas, and what is there before anybody is answered.
-ghost use Rattle.std.specs.Prelude.{◌≡◌, unwrap_or, is_some, IfOk, OnOk, List, ℕ};
-ghost use Rattle.std.specs.Prelude.{Option as Maybe};
-ghost use Rattle.xds_core.specs.Stores.{all_entries};
-ghost use Rattle.xds_changes.specs.Loads.{IsLoaded};
-ghost use Rattle.xds_changes.specs.Given.{IsWorldOver, MergesSome};
+ghost use Rattle.std.specs.Prelude.{◌≡◌, unwrap_or, is_some};
 
-use crate::serve_telling::{
-    tell, tell_file, tell_no_token, tell_old_numbers, tell_store, tell_text, tell_unloaded,
-};
 use crate::server::Serving;
+use crate::unbegun::{Unbegun, Unwritten};
+use crate::world::{Loaded, made_world, stored_world};
 use std::alloc::Global;
 use std::fs::{File, OpenOptions};
-use std::io::{Read, Write};
+use std::io::Read;
 use std::net::SocketAddrV4;
 use std::os::unix::fs::OpenOptionsExt;
 use std::rt::Files;
 use std::sync::Arc;
 use std::{fs, str};
 use xds_changes::given::number_over;
-use xds_changes::loading::load;
 use xds_checker::checker::Asks;
-use xds_checker::validating::first_refused;
-use xds_core::Catalogues;
 use xds_frames::{Counted, read_whole};
 use xds_machine::door::bearer;
 use xds_machine::files::FileFault;
@@ -30,9 +22,7 @@ use xds_machine::stores::FileStore;
 use xds_machine::threads::share;
 use xds_message::Batch;
 use xds_monitor::PRIVATE;
-use xds_notes::End;
 use xds_program::read_writes;
-use xds_replicas::fitting::{refused_text, start_fault};
 use xds_replicas::sourcing::{Said as FolderSaid, Source, made_over, said_by};
 use xds_replicas::storing::{Progress, Storage};
 use xds_resource::Refusal;
@@ -58,13 +48,6 @@ pub struct ServeFiles<'a> {
     pub token: Option<&'a str>,
     /// The address of the checker that resources are shown before they are taken, if there is one, and whether they are taken where it is away.
     pub checker: Option<(SocketAddrV4, bool)>,
-}
-
-/// A file of lines that are made before anybody is answered, and what a checker of their resources is asked by, if there is one.
-#[derive(Clone, Copy)]
-struct Loaded<'a> {
-    file: &'a str,
-    asks: Option<&'a Asks>,
 }
 
 /// What a server begins with.
@@ -124,40 +107,6 @@ impl Begun {
             None => Ok(None),
         }
     }
-}
-
-/// Why the stamped writes of a file aren't taken.
-#[derive(Clone, Copy)]
-pub(crate) enum Unwritten {
-    /// The file can't be opened.
-    File(FileFault),
-    /// A line of it is refused, or it can't be read.
-    Line(Option<u64>, Refusal),
-    /// The replicas have no numbers above those of the replicas that made these writes.
-    Numbers,
-}
-
-/// Why a server doesn't begin.
-#[derive(Drop)]
-pub(crate) enum Unbegun {
-    /// The file of the token can't be opened.
-    Token(FileFault),
-    /// It has none.
-    NoToken,
-    /// The stamped writes aren't taken.
-    Writes(Unwritten),
-    /// The file that is to be loaded can't be opened.
-    File(FileFault),
-    /// A line of it is refused, or it can't be read.
-    Load(End),
-    /// The store is refused.
-    Store(StoreRefusal),
-    /// What a folder says isn't taken, as this line tells.
-    Source(String),
-    /// What a checker says of a file, or that a response is too long by it or by a folder, as this line tells.
-    Checked(String),
-    /// There is no memory.
-    Refused(Refusal),
 }
 
 // rule: loaded-first
@@ -240,8 +189,8 @@ fn source_of(
 }
 
 // rule: loaded-first
-// What is there from the start, once what a folder says is made over it by the first replica, if there is one.
-fn with_folder(
+/// What is there from the start, once what a folder says is made over it by the first replica, if there is one.
+pub(crate) fn with_folder(
     alloc: Global,
     serving: Serving,
     world: Batch,
@@ -424,54 +373,9 @@ where
     }
 }
 
-// rule: stored
-// All that a store has, and over it what is given, which is stored, too; and the first of the numbers that were taken for it.
-fn stored_world<R>(
-    rt: &R,
-    alloc: Global,
-    store: &mut FileStore,
-    serving: Serving,
-    given: Option<Batch>,
-    load: Option<Loaded<'_>>,
-    said: &Option<FolderSaid>,
-) -> Result<(Batch, u16), Unbegun>
-where
-    R: Runtime + Files<File = File>,
-{
-    let is_more = given.is_some() || load.is_some() || said.is_some();
-    let stored = match store.read_all() {
-        Ok(stored) => stored,
-        Err(refusal) => {
-            drop(given);
-            return Err(Unbegun::Store(refusal));
-        }
-    };
-    let first = match numbers_of(store, serving, &given) {
-        Ok(first) => first,
-        Err(fault) => {
-            drop(stored);
-            drop(given);
-            return Err(fault);
-        }
-    };
-    let mut serving = serving;
-    serving.first_number = Some(first);
-    let world = made_world(rt, alloc, serving, Some(stored), given, load, said)?;
-    if !is_more {
-        return Ok((world, first));
-    }
-    match store.put_batch(&world) {
-        Ok(()) => Ok((world, first)),
-        Err(refusal) => {
-            drop(world);
-            Err(Unbegun::Store(refusal))
-        }
-    }
-}
-
 // rule: new-numbers
-// Takes the numbers of a server's replicas, above those of the replicas that made the given writes, and answers the first.
-fn numbers_of(
+/// Takes the numbers of a server's replicas, above those of the replicas that made the given writes, and answers the first.
+pub(crate) fn numbers_of(
     store: &mut FileStore,
     serving: Serving,
     given: &Option<Batch>,
@@ -492,165 +396,6 @@ fn numbers_of(
     }
 }
 
-// What is held at the start: what is stored; over it the given writes; over these what all lines of a file come to; and over that what a
-// folder says. Where it is asked for, it is refused where a response is too long by the file or the folder.
-fn made_world<R>(
-    rt: &R,
-    alloc: Global,
-    serving: Serving,
-    stored: Option<Batch>,
-    given: Option<Batch>,
-    load: Option<Loaded<'_>>,
-    said: &Option<FolderSaid>,
-) -> Result<Batch, Unbegun>
-where
-    R: Runtime + Files<File = File>,
-{
-    if !serving.refuse_long {
-        let world = world_over(rt, alloc, serving, stored, given, load)?;
-        return with_folder(alloc, serving, world, said);
-    }
-    let before = match joined(alloc, &stored, &given) {
-        Ok(before) => before,
-        Err(refusal) => {
-            drop(stored);
-            drop(given);
-            return Err(Unbegun::Refused(refusal));
-        }
-    };
-    let world = world_over(rt, alloc, serving, stored, given, load);
-    let made = match world {
-        Ok(world) => with_folder(alloc, serving, world, said),
-        Err(fault) => Err(fault),
-    };
-    let fitting = match made {
-        Ok(world) => fitting_world(alloc, serving, &before, world, load),
-        Err(fault) => Err(fault),
-    };
-    drop(before);
-    fitting
-}
-
-// What is stored, and the given writes.
-fn joined(alloc: Global, stored: &Option<Batch>, given: &Option<Batch>) -> Result<Batch, Refusal> {
-    let mut held = Catalogues::new(alloc);
-    if let Err(refusal) = both_joined(alloc, &mut held, stored, given) {
-        drop(held);
-        return Err(refusal);
-    }
-    let batch = held.entries(alloc);
-    drop(held);
-    batch
-}
-
-fn both_joined(
-    alloc: Global,
-    held: &mut Catalogues,
-    stored: &Option<Batch>,
-    given: &Option<Batch>,
-) -> Result<(), Refusal> {
-    join_copy(alloc, held, stored)?;
-    join_copy(alloc, held, given)
-}
-
-// Joins a copy of a batch, if there is one.
-fn join_copy(alloc: Global, held: &mut Catalogues, batch: &Option<Batch>) -> Result<(), Refusal> {
-    match batch {
-        Some(batch) => join_some(alloc, held, Some(batch.try_copy(alloc)?)),
-        None => Ok(()),
-    }
-}
-
-// What is held at the start, unless a response is too long that was shorter by what was there before.
-fn fitting_world(
-    alloc: Global,
-    serving: Serving,
-    before: &Batch,
-    world: Batch,
-    load: Option<Loaded<'_>>,
-) -> Result<Batch, Unbegun> {
-    let of = match load {
-        Some(loaded) => loaded.file,
-        None => "the folder",
-    };
-    match start_fault(alloc, first_number(serving), before, &world) {
-        Ok(None) => Ok(world),
-        Ok(Some(fault)) => {
-            drop(world);
-            Err(source_line(refused_text(alloc, of, fault)))
-        }
-        Err(refusal) => {
-            drop(world);
-            Err(Unbegun::Refused(refusal))
-        }
-    }
-}
-
-// That what is said at the start isn't taken, as a text tells.
-fn source_line(text: Result<String, Refusal>) -> Unbegun {
-    let Ok(mut line) = text else {
-        return Unbegun::Refused(Refusal::OutOfMemory);
-    };
-    match line.push_str("\n") {
-        Ok(()) => Unbegun::Checked(line),
-        Err(_) => Unbegun::Refused(Refusal::OutOfMemory),
-    }
-}
-
-// What is held at the start: what is stored; over it the given writes; over these what all lines of a file come to.
-fn world_over<R>(
-    rt: &R,
-    alloc: Global,
-    serving: Serving,
-    stored: Option<Batch>,
-    given: Option<Batch>,
-    load: Option<Loaded<'_>>,
-) -> Result<Batch, Unbegun>
-where
-    R: Runtime + Files<File = File>,
-    ensures { IfOk result (IsWorldOver (unwrap_or serving.first_number 1) serving.replicas stored given (is_some load.entry)) }
-{
-    let mut held = Catalogues::new(alloc);
-    if let Err(refusal) = join_some(alloc, &mut held, stored) {
-        drop(held);
-        drop(given);
-        return Err(Unbegun::Refused(refusal));
-    }
-    if let Err(refusal) = join_some(alloc, &mut held, given) {
-        drop(held);
-        return Err(Unbegun::Refused(refusal));
-    }
-    match load {
-        Some(loaded) => world_in(rt, alloc, loaded, serving, held),
-        None => all_of(alloc, held),
-    }
-}
-
-// Joins a batch, if there is one.
-fn join_some(alloc: Global, held: &mut Catalogues, batch: Option<Batch>) -> Result<(), Refusal>
-    ensures { OnOk result (MergesSome held.old batch held.new) }
-{
-    match batch {
-        Some(batch) => match held.join_all(alloc, batch) {
-            Ok(_) => Ok(()),
-            Err(refusal) => Err(refusal),
-        },
-        None => Ok(()),
-    }
-}
-
-// All that is held.
-fn all_of(alloc: Global, held: Catalogues) -> Result<Batch, Unbegun>
-    ensures { IfOk result (λ b. b ≡ all_entries held) }
-{
-    let batch = held.entries(alloc);
-    drop(held);
-    match batch {
-        Ok(batch) => Ok(batch),
-        Err(refusal) => Err(Unbegun::Refused(refusal)),
-    }
-}
-
 fn storage_of(
     alloc: Global,
     path: &str,
@@ -662,91 +407,6 @@ fn storage_of(
     Ok(Arc::new(alloc, Storage::new(alloc, path, store, progress))?)
 }
 
-// rule: loaded-first
-// All that the lines of a file come to, over what is held.
-fn world_in<R>(
-    rt: &R,
-    alloc: Global,
-    loaded: Loaded<'_>,
-    serving: Serving,
-    held: Catalogues,
-) -> Result<Batch, Unbegun>
-where
-    R: Runtime + Files<File = File>,
-    ensures { IfOk result (λ b. (before : Maybe (List ℕ)) × (after : Maybe (List ℕ)) × IsLoaded (unwrap_or serving.first_number 1) serving.replicas held before after b) }
-{
-    let mut opened = match File::open(rt, loaded.file) {
-        Ok(opened) => opened,
-        Err(error) => {
-            drop(held);
-            return Err(Unbegun::File(FileFault::of(error.kind())));
-        }
-    };
-    match loaded.asks {
-        Some(asks) => {
-            let bytes = match seen_bytes(rt, alloc, opened, loaded.file, asks) {
-                Ok(bytes) => bytes,
-                Err(fault) => {
-                    drop(held);
-                    return Err(fault);
-                }
-            };
-            world_of(rt, alloc, &mut bytes.as_slice(), serving, held)
-        }
-        None => world_of(rt, alloc, &mut opened, serving, held),
-    }
-}
-
-// All that the lines of a text come to, over what is held.
-fn world_of<R, I>(
-    rt: &R,
-    alloc: Global,
-    input: &mut I,
-    serving: Serving,
-    held: Catalogues,
-) -> Result<Batch, Unbegun>
-where
-    R: Runtime,
-    I: Read,
-    ensures { IfOk result (λ b. (before : Maybe (List ℕ)) × (after : Maybe (List ℕ)) × IsLoaded (unwrap_or serving.first_number 1) serving.replicas held before after b) }
-{
-    let first = first_number(serving);
-    match load(rt, alloc, input, held, first, serving.replicas) {
-        Ok(world) => Ok(world),
-        Err(end) => Err(Unbegun::Load(end)),
-    }
-}
-
-// All of a file, of whose resources a checker takes each. It is read once, so what was seen is what is made.
-fn seen_bytes<R>(
-    rt: &R,
-    alloc: Global,
-    opened: File,
-    file: &str,
-    asks: &Asks,
-) -> Result<Vec<u8>, Unbegun>
-where
-    R: Runtime + Files<File = File>,
-{
-    let bytes = match read_whole(alloc, &mut Counted::new(opened)) {
-        Ok(bytes) => bytes,
-        Err(refusal) => return Err(Unbegun::Load(End::Refused(refusal))),
-    };
-    match first_refused(rt, alloc, &mut bytes.as_slice(), asks) {
-        Ok(None) => Ok(bytes),
-        Ok(Some(line)) => Err(checked_line(alloc, file, line.as_str())),
-        Err(refusal) => Err(Unbegun::Refused(refusal)),
-    }
-}
-
-// That a checker doesn't take a line of a file.
-fn checked_line(alloc: Global, file: &str, line: &str) -> Unbegun {
-    match format!(in alloc; "{file}: {line}\n") {
-        Ok(text) => Unbegun::Checked(text),
-        Err(_) => Unbegun::Refused(Refusal::OutOfMemory),
-    }
-}
-
 // rule: new-numbers
 /// The number of the first replica.
 pub(crate) fn first_number(serving: Serving) -> u16
@@ -755,58 +415,5 @@ pub(crate) fn first_number(serving: Serving) -> u16
     match serving.first_number {
         Some(first) => first,
         None => 1,
-    }
-}
-
-/// Tells why a server doesn't begin, and answers the status.
-pub(crate) fn tell_unbegun<E: Write>(
-    alloc: Global,
-    errors: &mut Counted<E>,
-    files: ServeFiles<'_>,
-    fault: Unbegun,
-) -> u8
-    ensures { result ≡ 1 }
-{
-    let file = named(files.load);
-    match fault {
-        Unbegun::Token(fault) => tell_file(alloc, errors, named(files.token), fault),
-        Unbegun::NoToken => tell_no_token(alloc, errors, named(files.token)),
-        Unbegun::Writes(fault) => tell_unwritten(alloc, errors, named(files.writes), fault),
-        Unbegun::File(fault) => tell_file(alloc, errors, file, fault),
-        Unbegun::Load(End::Line(line, refusal)) => {
-            tell_unloaded(alloc, errors, file, Some(line), refusal)
-        }
-        Unbegun::Load(End::Refused(refusal)) => tell_unloaded(alloc, errors, file, None, refusal),
-        Unbegun::Load(End::Streams | End::Stopped) => {
-            tell_unloaded(alloc, errors, file, None, Refusal::Device)
-        }
-        Unbegun::Source(text) => tell_text(errors, text),
-        Unbegun::Store(refusal) => tell_store(alloc, errors, named(files.store), refusal),
-        Unbegun::Checked(text) => tell_text(errors, text),
-        Unbegun::Refused(refusal) => tell(alloc, errors, refusal),
-    }
-}
-
-// Tells why the stamped writes of a file aren't taken, and answers the status.
-fn tell_unwritten<E: Write>(
-    alloc: Global,
-    errors: &mut Counted<E>,
-    file: &str,
-    fault: Unwritten,
-) -> u8
-    ensures { result ≡ 1 }
-{
-    match fault {
-        Unwritten::File(fault) => tell_file(alloc, errors, file, fault),
-        Unwritten::Line(line, refusal) => tell_unloaded(alloc, errors, file, line, refusal),
-        Unwritten::Numbers => tell_old_numbers(alloc, errors, file),
-    }
-}
-
-// The name of a file, if there is one.
-fn named(file: Option<&str>) -> &str {
-    match file {
-        Some(file) => file,
-        None => "",
     }
 }

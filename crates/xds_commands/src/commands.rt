@@ -170,6 +170,7 @@ fn serving_of(
         port: task.port,
         rest_port: task.rest_port,
         streams: task.streams,
+        workers: task.workers,
         keep_going: task.keep_going,
         tells: is_terminal,
         logs: task.log || log_json,

@@ -5,6 +5,7 @@
 pub mod admin;
 pub mod asking;
 mod beginning;
+mod binding;
 mod changing;
 pub mod commands;
 mod drawing;
@@ -19,7 +20,9 @@ mod sharing;
 mod starting;
 mod telling;
 mod timed;
+mod unbegun;
 pub mod watching;
+mod world;
 pub mod write_lines;
 mod writes;
 

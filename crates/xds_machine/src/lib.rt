@@ -5,19 +5,14 @@
 pub mod deadline;
 pub mod door;
 pub mod files;
-pub mod first_frame;
 pub mod folder;
-pub mod idle;
 pub mod machine;
 pub mod meter;
 pub mod port_client;
-pub mod proxied;
 pub mod stores;
 pub mod threads;
 pub mod wires;
 
-pub use first_frame::FirstFrame;
 pub use folder::ReadsFolders;
 pub use machine::{Machine, Runtime};
-pub use proxied::{Beginning, address_in, beginning_of};
 pub use stores::OpensStores;

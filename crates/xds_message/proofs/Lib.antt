@@ -12,4 +12,5 @@ pub mod DeltaWrittenLemmas
 pub mod DraftLemmas
 pub mod JoinedLemmas
 pub mod PieceLemmas
+mod UnsentLemmas
 pub use Rattle.xds_json.proofs.Lists

@@ -10,5 +10,6 @@ pub mod Joined
 pub mod Pieces
 pub mod Drafts
 pub mod DraftTexts
+pub mod Unsent
 pub use Rattle.xds_json.specs.Spelling
 pub use Rattle.xds_json.specs.Versions

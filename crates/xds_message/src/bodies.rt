@@ -88,6 +88,25 @@ impl Bodies {
         }
     }
 
+    /// The list, shared. Refused only by `OutOfMemory`.
+    pub(crate) fn shared_list(&self) -> Result<ArcSlice<Body, Global>, Refusal>
+        ensures ok { IfOk result (λ l. arc_slice_items l ≡ self.now) }
+        ensures refused { IfErr result (λ e. e ≡ OutOfMemory) }
+    {
+        Ok(self.list.clone()?)
+    }
+
+    /// How they read with commas between them, shared, if that was made. Refused only by `OutOfMemory`.
+    pub(crate) fn shared_text(&self) -> Result<Option<ArcStr<Global>>, Refusal>
+        ensures ok { IfOk result (λ o. IfSome o (λ t. arc_str_bytes t ≡ with_commas (map body_text self.now))) }
+        ensures refused { IfErr result (λ e. e ≡ OutOfMemory) }
+    {
+        match &self.joined {
+            Some(text) => Ok(Some(text.clone()?)),
+            None => Ok(None),
+        }
+    }
+
     /// The same list. No text is copied. Refused only by `OutOfMemory`.
     pub fn try_copy(&self) -> Result<Bodies, Refusal>
         ensures ok { IfOk result (λ b. b ≡ self.now) }

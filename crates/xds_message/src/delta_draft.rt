@@ -1,9 +1,11 @@
 // Responses of the incremental variant before they are written.
-ghost use Rattle.std.specs.Prelude.{◌≡◌, ◌++◌, List, ℕ, length, map, string_bytes, IfOk, IfErr, OnOk, OnErr, All};
+ghost use Rattle.std.specs.Prelude.{◌≡◌, ◌≤◌, ◌++◌, List, ℕ, length, map, string_bytes, IfOk, IfErr, OnOk, OnErr, All};
 ghost use Rattle.std.specs.Arc.{arc_slice_items};
 ghost use Rattle.serde_json.specs.Written.{compact_text};
 ghost use Rattle.xds_resource.specs.declared.refusal.Refusal.TheVariants.{OutOfMemory};
+ghost use Rattle.xds_frames.specs.Frames.{longest};
 ghost use Rattle.xds_message.specs.DeltaWritten.{resource_object, delta_response_object};
+ghost use Rattle.xds_message.specs.Joined.{with_commas};
 ghost use Rattle.xds_message.specs.Pieces.{resource_text};
 ghost use Rattle.xds_message.specs.Drafts.{body_text, drafted_resource, delta_message_of, with_resource, IsBodyText, IsSoundDelta};
 ghost use Rattle.xds_message.specs.Responses.{resource_of, delta_response_of};
@@ -12,6 +14,7 @@ use crate::body::Body;
 use crate::delta_response::{DeltaDiscoveryResponse, DeltaResource};
 use crate::joining::{Join, join_key, join_list, join_list_ends, join_text};
 use crate::pieces::{Parts, Pieces, Stored};
+use crate::unsent::Unsent;
 use std::alloc::Global;
 use std::marker::Model;
 use std::sync::{ArcSlice, ArcStr};
@@ -252,6 +255,27 @@ impl DeltaDraft {
         ensures text { IfOk result (λ p. p ≡ compact_text (delta_response_object (delta_message_of self.now))) }
         ensures refused { IfErr result (λ e. e ≡ OutOfMemory) }
     {
+        let (head, tail) = self.ends(alloc)?;
+        Ok(Pieces::around_resources(head, self.resources.as_slice(), tail))
+    }
+
+    /// A frame of the same text, of which a block holds the beginning, as it is left to be written. The resources' texts are where
+    /// they are stored. Refused only by `OutOfMemory`.
+    pub fn unsent(&self, alloc: Global, block: Vec<u8>) -> Result<Unsent, Refusal>
+        requires { length (compact_text (delta_response_object (delta_message_of self.now))) ≤ longest }
+        ensures ok { IfOk result (λ u. u ≡ block.items ++ compact_text (delta_response_object (delta_message_of self.now))) }
+        ensures refused { IfErr result (λ e. e ≡ OutOfMemory) }
+    {
+        let (head, tail) = self.ends(alloc)?;
+        Unsent::around_resources(block, head, &self.resources, tail)
+    }
+
+    // What stands before the resources, and behind them.
+    fn ends(&self, alloc: Global) -> Result<(String, String), Refusal>
+        ensures text { IfOk result
+            (λ e. string_bytes e.0 ++ (with_commas (map resource_text self.now.resources) ++ string_bytes e.1) ≡ compact_text (delta_response_object (delta_message_of self.now))) }
+        ensures refused { IfErr result (λ e. e ≡ OutOfMemory) }
+    {
         let resources = self.resources.as_slice();
         let mut head = String::from_str(alloc, "{")?;
         let mut tail = String::new(alloc);
@@ -263,7 +287,7 @@ impl DeltaDraft {
         let later = join_text(alloc, &mut tail, later, "systemVersionInfo", version)?;
         join_text(alloc, &mut tail, later, "typeUrl", self.kind.url())?;
         tail.push_str("}")?;
-        Ok(Pieces::around_resources(head, resources, tail))
+        Ok((head, tail))
     }
 
     /// An equal draft. No body is copied.

@@ -1,6 +1,7 @@
 // Responses of either variant, before they are written and as messages.
-ghost use Rattle.std.specs.Prelude.{◌≡◌, string_bytes, IfOk, IfErr, OnOk};
+ghost use Rattle.std.specs.Prelude.{◌≡◌, ◌≤◌, ◌++◌, length, string_bytes, IfOk, IfErr, OnOk};
 ghost use Rattle.xds_resource.specs.declared.refusal.Refusal.TheVariants.{OutOfMemory};
+ghost use Rattle.xds_frames.specs.Frames.{longest};
 ghost use Rattle.xds_message.specs.DraftTexts.{text_of, nonce_of, kind_of, HoldsBodyTexts, IsMessageOf};
 
 use crate::delta_draft::DeltaDraft;
@@ -8,6 +9,7 @@ use crate::delta_response::DeltaDiscoveryResponse;
 use crate::pieces::Pieces;
 use crate::response::DiscoveryResponse;
 use crate::sotw_draft::SotwDraft;
+use crate::unsent::Unsent;
 use std::alloc::Global;
 use xds_resource::{Refusal, TypeName};
 
@@ -77,6 +79,19 @@ impl Draft {
         match self {
             Draft::Sotw(draft) => draft.pieces(alloc),
             Draft::Delta(draft) => draft.pieces(alloc),
+        }
+    }
+
+    /// A frame of the same text, of which a block holds the beginning, as it is left to be written. The texts of resources are where
+    /// they are stored. Refused only by `OutOfMemory`.
+    pub fn unsent(&self, alloc: Global, block: Vec<u8>) -> Result<Unsent, Refusal>
+        requires { length (text_of self.now) ≤ longest }
+        ensures ok { IfOk result (λ u. u ≡ block.items ++ text_of self.now) }
+        ensures refused { IfErr result (λ e. e ≡ OutOfMemory) }
+    {
+        match self {
+            Draft::Sotw(draft) => draft.unsent(alloc, block),
+            Draft::Delta(draft) => draft.unsent(alloc, block),
         }
     }
 

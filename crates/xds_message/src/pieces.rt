@@ -256,7 +256,7 @@ fn put_two<W: Write>(
 }
 
 // The bytes that stand before a text: a comma, where one stands before.
-fn comma(later: bool) -> &'static [u8]
+pub(crate) fn comma(later: bool) -> &'static [u8]
     ensures { result.now ≡ comma_before later }
 {
     if later { b"," } else { b"" }

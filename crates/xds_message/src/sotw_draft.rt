@@ -1,9 +1,10 @@
 // State-of-the-world responses before they are written.
-ghost use Rattle.std.specs.Prelude.{◌≡◌, ◌++◌, map, string_bytes, IfOk, IfErr, OnOk, OnErr, All};
+ghost use Rattle.std.specs.Prelude.{◌≡◌, ◌≤◌, ◌++◌, length, map, string_bytes, IfOk, IfErr, OnOk, OnErr, All};
 ghost use Rattle.serde_json.specs.View.{view};
 ghost use Rattle.serde_json.specs.Written.{compact_text};
 ghost use Rattle.xds_resource.specs.Resources.{value_of};
 ghost use Rattle.xds_resource.specs.declared.refusal.Refusal.TheVariants.{OutOfMemory};
+ghost use Rattle.xds_frames.specs.Frames.{longest};
 ghost use Rattle.xds_message.specs.Drafts.{message_of, with_text, body_text, IsBodyText, IsSoundResponse};
 ghost use Rattle.xds_message.specs.Joined.{with_commas};
 ghost use Rattle.xds_message.specs.Responses.{response_of};
@@ -14,6 +15,7 @@ use crate::body::Body;
 use crate::joining::{join_list, join_list_ends, join_text};
 use crate::pieces::Pieces;
 use crate::response::DiscoveryResponse;
+use crate::unsent::Unsent;
 use serde_json::Value;
 use std::alloc::Global;
 use std::marker::Model;
@@ -118,6 +120,27 @@ impl SotwDraft {
         ensures text { IfOk result (λ p. p ≡ compact_text (response_object (message_of self.now))) }
         ensures refused { IfErr result (λ e. e ≡ OutOfMemory) }
     {
+        let (head, tail) = self.ends(alloc)?;
+        Ok(Pieces::around(head, &self.bodies, tail))
+    }
+
+    /// A frame of the same text, of which a block holds the beginning, as it is left to be written. The bodies are where they are
+    /// stored. Refused only by `OutOfMemory`.
+    pub fn unsent(&self, alloc: Global, block: Vec<u8>) -> Result<Unsent, Refusal>
+        requires { length (compact_text (response_object (message_of self.now))) ≤ longest }
+        ensures ok { IfOk result (λ u. u ≡ block.items ++ compact_text (response_object (message_of self.now))) }
+        ensures refused { IfErr result (λ e. e ≡ OutOfMemory) }
+    {
+        let (head, tail) = self.ends(alloc)?;
+        Unsent::around(block, head, &self.bodies, tail)
+    }
+
+    // What stands before the bodies, and behind them.
+    fn ends(&self, alloc: Global) -> Result<(String, String), Refusal>
+        ensures text { IfOk result
+            (λ e. string_bytes e.0 ++ (with_commas (map body_text self.now.bodies) ++ string_bytes e.1) ≡ compact_text (response_object (message_of self.now))) }
+        ensures refused { IfErr result (λ e. e ≡ OutOfMemory) }
+    {
         let bodies = self.bodies.as_slice();
         let mut head = String::from_str(alloc, "{")?;
         let mut tail = String::new(alloc);
@@ -132,7 +155,7 @@ impl SotwDraft {
             self.version.as_str(),
         )?;
         tail.push_str("}")?;
-        Ok(Pieces::around(head, &self.bodies, tail))
+        Ok((head, tail))
     }
 
     /// The stored texts of the resources.

@@ -2,9 +2,10 @@
 use std::alloc::Global;
 use std::sync::{ArcSlice, ArcStr};
 use std::test::Fail;
-use xds_frames::Counted;
+use xds_frames::frame::LONGEST;
+use xds_frames::{Counted, FrameKind, write_frame};
 use xds_message::{
-    Bodies, Body, DeltaDraft, Draft, DraftResource, Pieces, Response, SotwDraft, push_body,
+    Bodies, Body, DeltaDraft, Draft, DraftResource, Pieces, Response, SotwDraft, Unsent, push_body,
     push_resource,
 };
 use xds_resource::{Cluster, Groups, Refusal, Resource, Stamp, TypeName, Write};
@@ -208,5 +209,73 @@ fn delta_drafts_are_joined(rt: HostRuntime) -> Result<(), Fail> {
     let length = want.len();
     let all = format!(in alloc; "1.2 1 1 2 cluster 1 {want} {want}\nSome({length}) true > {want}")?;
     assert_eq!(rt; told.as_str(), all.as_str());
+    Ok(())
+}
+
+// What is left of a frame, taken so many bytes at a time, as far as they lie together.
+fn taken(alloc: Global, mut left: Unsent, step: usize) -> Result<Vec<u8>, Refusal> {
+    let mut out = Vec::new(alloc);
+    for _ in 0..100_000 {
+        let chunk = left.chunk();
+        let count = chunk.len().min(step);
+        if count == 0 {
+            break;
+        }
+        out.extend_from_slice(&chunk[..count])?;
+        left.advance(count);
+    }
+    Ok(out)
+}
+
+// Whether the frame of a draft, left to be written by a block of about so many bytes, is the frame of its text.
+fn is_left(alloc: Global, draft: &Draft, room: usize, step: usize) -> Result<bool, Refusal> {
+    let text = draft.write(alloc)?;
+    if text.as_str().len() > LONGEST {
+        return Err(Refusal::FrameTooLong);
+    }
+    let frame = write_frame(alloc, FrameKind::DiscoveryResponse, text.as_bytes())?;
+    let mut block = Vec::with_capacity(alloc, room)?;
+    block.extend_from_slice(&frame.as_slice()[..frame.len().min(5)])?;
+    let out = taken(alloc, draft.unsent(alloc, block)?, step)?;
+    Ok(out.as_slice() == frame.as_slice())
+}
+
+// The same of small blocks and of large ones, byte by byte and by odd pieces.
+fn is_left_by_all(alloc: Global, draft: &Draft) -> Result<bool, Refusal> {
+    for room in [0, 5, 16, 90, 130, 300, 4_096] {
+        for step in [1, 3, 7, 101, 10_000] {
+            if !is_left(alloc, draft, room, step)? {
+                return Ok(false);
+            }
+        }
+    }
+    Ok(true)
+}
+
+// A draft of three clusters.
+fn three(alloc: Global) -> Result<Draft, Refusal> {
+    let mut resources = Vec::new(alloc);
+    push_both(alloc, &mut resources)?;
+    push_both(alloc, &mut resources)?;
+    push_both(alloc, &mut resources)?;
+    let version = text(alloc, "1.2")?;
+    let nonce = text(alloc, "1")?;
+    let (stated, removed) = (ArcSlice::from_vec(resources)?, Vec::new(alloc));
+    let draft = DeltaDraft::new(TypeName::Cluster, version, nonce, stated, removed);
+    Ok(Draft::Delta(draft))
+}
+
+// The texts of resources may be longer than the block.
+#[test]
+fn a_frame_is_left_to_be_written_as_its_draft_is_written(rt: HostRuntime) -> Result<(), Fail> {
+    let alloc = rt.alloc();
+    let alone = Draft::Sotw(stating(alloc, bodies_of(alloc, 4)?)?);
+    let shared = Draft::Sotw(stating(alloc, bodies_of(alloc, 4)?.shared(alloc)?)?);
+    let empty = Draft::Sotw(stating(alloc, bodies_of(alloc, 0)?)?);
+    assert!(rt; is_left_by_all(alloc, &alone)?);
+    assert!(rt; is_left_by_all(alloc, &shared)?);
+    assert!(rt; is_left_by_all(alloc, &empty)?);
+    assert!(rt; is_left_by_all(alloc, &three(alloc)?)?);
+    assert!(rt; is_left_by_all(alloc, &Draft::Delta(delta_draft(alloc)?))?);
     Ok(())
 }

@@ -27,6 +27,8 @@ pub struct Limits {
     pub idle_seconds: Option<u16>,
     /// Whether a put is refused by which the whole response of its type would be too long for a frame.
     pub refuses_long: bool,
+    /// By how many threads they are served, from 1; by one for each processor, where none is said.
+    pub workers: Option<u16>,
 }
 
 /// Where threads note what happens at a replica. It has a lock of its own, which is held for a note at a time, and never while the
@@ -85,6 +87,13 @@ impl Lookout {
         ensures { result ≡ self.now.limits.idle_seconds }
     {
         self.limits.idle_seconds
+    }
+
+    /// By how many threads the streams are served, if that is said.
+    pub fn workers(&self) -> Option<u16>
+        ensures { result ≡ self.now.limits.workers }
+    {
+        self.limits.workers
     }
 
     /// Whether a put is refused by which the whole response of its type would be too long for a frame.

@@ -3,6 +3,7 @@ use crate::lookout::Lookout;
 use crate::recorder::Tape;
 use crate::recording::Piece;
 use crate::served::Served;
+use futures::task::{Context, Poll};
 use std::sync::{Arc, Wait};
 use xds_core::{Event, Marks, Reply};
 use xds_node::{Due, Host, Unrecorded};
@@ -45,6 +46,8 @@ impl<A: Served + Host<Segment: Piece>> Host for Recorded<A> {
     ghost told = { A.told };
 
     ghost refused = { A.refused };
+
+    ghost rings = { λ h. A.rings h.node };
 
     fn call<R: Wait>(
         &self,
@@ -90,6 +93,10 @@ impl<A: Served + Host<Segment: Piece>> Host for Recorded<A> {
 
     fn wait_due<R: Wait>(&self, rt: &R, stream: u64) -> Due {
         self.node.wait_due(rt, stream)
+    }
+
+    fn poll_due<R: Wait>(&self, rt: &R, cx: &mut Context<'_>, stream: u64) -> Poll<Due> {
+        self.node.poll_due(rt, cx, stream)
     }
 
     fn wait_changed<R: Wait>(&self, rt: &R, seen: Marks) -> Option<Marks> {

@@ -5,6 +5,7 @@ ghost use Rattle.xds_stats.specs.Boards.{stream_of};
 use crate::lookout::Lookout;
 use crate::served::Served;
 use crate::turns::Turns;
+use futures::task::{Context, Poll};
 use std::alloc::Global;
 use std::sync::{Arc, Mutex, MutexGuard, Wait};
 use std::time::Clock;
@@ -120,6 +121,8 @@ impl<A: Served, C: Clock> Host for Watched<A, C> {
 
     ghost refused = { A.refused };
 
+    ghost rings = { λ h. A.rings h.node };
+
     fn call<R: Wait>(
         &self,
         rt: &R,
@@ -168,6 +171,10 @@ impl<A: Served, C: Clock> Host for Watched<A, C> {
 
     fn wait_due<R: Wait>(&self, rt: &R, stream: u64) -> Due {
         self.node.wait_due(rt, stream)
+    }
+
+    fn poll_due<R: Wait>(&self, rt: &R, cx: &mut Context<'_>, stream: u64) -> Poll<Due> {
+        self.node.poll_due(rt, cx, stream)
     }
 
     fn wait_changed<R: Wait>(&self, rt: &R, seen: Marks) -> Option<Marks> {

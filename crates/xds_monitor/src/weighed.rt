@@ -1,6 +1,7 @@
 // A node whose journal is cut by its weight, too.
 use crate::served::Served;
 use crate::weights::{answer_weight, event_weight, written_weight};
+use futures::task::{Context, Poll};
 use std::alloc::Global;
 use std::sync::{Mutex, Wait};
 use xds_core::{Event, Marks, Reply};
@@ -97,6 +98,8 @@ impl<A: Served> Host for Weighed<A> {
 
     ghost refused = { A.refused };
 
+    ghost rings = { λ h. A.rings h.node };
+
     fn call<R: Wait>(
         &self,
         rt: &R,
@@ -121,6 +124,10 @@ impl<A: Served> Host for Weighed<A> {
 
     fn wait_due<R: Wait>(&self, rt: &R, stream: u64) -> Due {
         self.node.wait_due(rt, stream)
+    }
+
+    fn poll_due<R: Wait>(&self, rt: &R, cx: &mut Context<'_>, stream: u64) -> Poll<Due> {
+        self.node.poll_due(rt, cx, stream)
     }
 
     fn wait_changed<R: Wait>(&self, rt: &R, seen: Marks) -> Option<Marks> {

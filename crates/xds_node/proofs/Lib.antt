@@ -1,3 +1,4 @@
+pub mod Pollings
 mod Framing
 pub mod Passing
 pub mod Sendings
@@ -23,3 +24,4 @@ pub mod Mergings
 pub mod Unpacking
 pub mod Comparing
 pub mod Packing
+pub mod Owings

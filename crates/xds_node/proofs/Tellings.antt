@@ -18,8 +18,8 @@ use Rattle.xds_core.specs.Legal.{Record}
 use Rattle.xds_exchange.specs.Ends.{Begins}
 use Rattle.xds_node.specs.declared.exchange.Ended.{Ended}
 use Rattle.xds_node.specs.declared.exchange.Ended.TheVariants as ended
-use Rattle.xds_node.specs.declared.exchange.Unsent.{Unsent}
-use Rattle.xds_node.specs.declared.exchange.Unsent.TheVariants as unsent
+use Rattle.xds_node.specs.declared.exchange.SendFailure.{SendFailure}
+use Rattle.xds_node.specs.declared.exchange.SendFailure.TheVariants as unsent
 use Rattle.xds_node.specs.declared.parcels.Receipt.{Receipt}
 use Rattle.xds_node.specs.declared.parcels.Receipt.TheVariants.{Merged, Lost}
 use Rattle.xds_node.specs.Parcels.{batch_frame, changed_in, packed, parcels_of}
@@ -89,11 +89,11 @@ put-whole all old new ws rest o (put, is, cut) next none =
     let empty : ws ≡ [] = (subst (λ (x : Option (PerType (List StampedWrite))). IsNextPart ws x rest) none next).0 in
     is ∙ ap (λ l. old ++ l) (sym (cut ∙ ap (λ (l : List TypedWrite). put ++ parcels_of l) empty ∙ append-nil put))
 
-pub put-stopped : (all old mid new left : List (List ℕ × Bool)) (e : Unsent) → IsPut all old mid left → new ≡ mid → IsReason e → Puts {T = Unit {0}} all old new (Err e)
+pub put-stopped : (all old mid new left : List (List ℕ × Bool)) (e : SendFailure) → IsPut all old mid left → new ≡ mid → IsReason e → Puts {T = Unit {0}} all old new (Err e)
 put-stopped all old mid new left e (put, is, cut) same reason = (reason, (put, same ∙ is, (left, cut)))
 
 -- nothing of them was put
-pub put-none : (all old new : List (List ℕ × Bool)) (e : Unsent) → new ≡ old → IsReason e → Puts {T = Unit {0}} all old new (Err e)
+pub put-none : (all old new : List (List ℕ × Bool)) (e : SendFailure) → new ≡ old → IsReason e → Puts {T = Unit {0}} all old new (Err e)
 put-none all old new e same reason = (reason, ([], same ∙ sym (append-nil old), (all, refl)))
 
 -- ---- a batch
@@ -109,7 +109,7 @@ module _ (ws order : List TypedWrite) (old new : List (List ℕ × Bool)) (had h
   pub settles_gone : new ≡ old ++ parcels_of ws → has ≡ had → Settles (parcels_of order) old new had has (Err unsent.Unlinked)
   settles_gone put none = (tt, (parcels_of order, put ∙ ap (λ l. old ++ parcels_of l) same, ([], sym (append-nil (parcels_of order)))), none)
 
-  pub settles_err : (e : Unsent) → Puts {T = Unit {0}} (parcels_of ws) old new (Err e) → has ≡ had → Settles (parcels_of order) old new had has (Err e)
+  pub settles_err : (e : SendFailure) → Puts {T = Unit {0}} (parcels_of ws) old new (Err e) → has ≡ had → Settles (parcels_of order) old new had has (Err e)
   settles_err e (reason, (put, is, begins)) none = (reason, (put, is, subst (λ (l : List TypedWrite). Begins put (parcels_of l)) same begins), none)
 
 pub settles_unfilled : (parcels old : List (List ℕ × Bool)) (had : List Receipt) (e : Refusal) → e ≡ OutOfMemory → Settles parcels old old had had (Err (unsent.Refused e))
@@ -207,7 +207,7 @@ module _ (marks : PerType ℕ) (s0 s1 : List (ℕ × Record)) (r0 r1 : List Reco
       apart same = absurd cc
 
   -- a batch that was told, and isn't sent
-  left_over : (reply : Reply) (batch : PerType (List StampedWrite)) (e : Unsent) → Answering s0 s1 r0 r1 (Since marks) (Ok reply) → batch ≡ (changed_in reply).0
+  left_over : (reply : Reply) (batch : PerType (List StampedWrite)) (e : SendFailure) → Answering s0 s1 r0 r1 (Since marks) (Ok reply) → batch ≡ (changed_in reply).0
       → Settles (parcels_of (in_order batch)) p0 p1 g0 g1 (Err e)
       → (t : Turn) × (t.marks ≡ marks) × (t.after ≡ each 0) × (s1 ≡ s0 ++ t.told) × (r1 ≡ r0 ++ t.tried) × (p1 ≡ p0 ++ t.put) × (g1 ≡ g0 ++ t.receipts) × IsCutOff t
   left_over reply batch e (tries, grew, ((n, is, below), tried)) batch_is (reason, (put, more, begins), same) =
@@ -234,7 +234,7 @@ module _ (marks : PerType ℕ) (s0 s1 : List (ℕ × Record)) (r0 r1 : List Reco
   turn_lost after reply batch receipt told batch_is zeros is settles =
       lost_by after reply batch told batch_is zeros (subst (λ (x : Receipt). Settles (parcels_of (in_order batch)) p0 p1 g0 g1 (Ok x)) is settles)
 
-  ended_by : (after : PerType ℕ) (reply : Reply) (batch : PerType (List StampedWrite)) (u : Unsent) → Answering s0 s1 r0 r1 (Since marks) (Ok reply) → batch ≡ (changed_in reply).0 → after ≡ each 0
+  ended_by : (after : PerType ℕ) (reply : Reply) (batch : PerType (List StampedWrite)) (u : SendFailure) → Answering s0 s1 r0 r1 (Since marks) (Ok reply) → batch ≡ (changed_in reply).0 → after ≡ each 0
       → Settles (parcels_of (in_order batch)) p0 p1 g0 g1 (Err u) → Turned after (given_up u)
   ended_by after reply batch unsent.Unlinked told batch_is zeros settles =
       let (t, a, b, c, d, e, f, off) = left_over reply batch unsent.Unlinked told batch_is settles in
@@ -244,7 +244,7 @@ module _ (marks : PerType ℕ) (s0 s1 : List (ℕ × Record)) (r0 r1 : List Reco
       (t, a, b ∙ sym zeros, c, d, e, f, (given_off t off, inr (inr (something t off, settles.0))))
 
   -- rule: marks
-  pub turn_given_up : (after : PerType ℕ) (reply : Reply) (batch : PerType (List StampedWrite)) (u : Unsent) (r : Result Bool Refusal) → Answering s0 s1 r0 r1 (Since marks) (Ok reply)
+  pub turn_given_up : (after : PerType ℕ) (reply : Reply) (batch : PerType (List StampedWrite)) (u : SendFailure) (r : Result Bool Refusal) → Answering s0 s1 r0 r1 (Since marks) (Ok reply)
       → batch ≡ (changed_in reply).0 → after ≡ each 0 → Settles (parcels_of (in_order batch)) p0 p1 g0 g1 (Err u) → r ≡ given_up u → Turned after r
   turn_given_up after reply batch u r told batch_is zeros settles is = subst (λ (x : Result Bool Refusal). Turned after x) (sym is) (ended_by after reply batch u told batch_is zeros settles)
 

@@ -185,7 +185,7 @@ module _ (stream : ℕ) where
       },
     )
 
-    reads_with : (T U : Type 0) (one : Result T Refusal) (res : Result U Refusal)
+    pub reads_with : (T U : Type 0) (one : Result T Refusal) (res : Result U Refusal)
         → Told old mid had now (λ told tried. IsRead stream told tried held (dev r q i j) after) → Told mid new now has (λ told tried. HasRead {T = T} stream told tried after (dev q p j h) one)
         → ((rest : List ℕ) (last : List (ℕ × Record)) (tries : List Record) → j ≡ i → IsEnd {T = T} stream rest last tries one (dev q p j h) → IsEnd {T = U} stream rest last tries res (dev r p i h))
         → Told old new had has (λ told tried. HasRead {T = U} stream told tried held (dev r p i h) res)

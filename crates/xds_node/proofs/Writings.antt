@@ -49,7 +49,7 @@ abbrev IsFull : ℕ → Record → Type 0
 IsFull stream t = t ≡ in_vain (poll_of stream) JournalFull
 
 -- of no poll
-no_tries : (stream : ℕ) → AreTries stream [] []
+pub no_tries : (stream : ℕ) → AreTries stream [] []
 no_tries stream = (All-nil (IsFull stream), omega arith)
 
 -- of one
@@ -62,7 +62,7 @@ one_try stream entry tries (inr one) =
     subst (λ (l : List Record). AreTries stream (entry ∷ []) l) (sym one) full
 
 -- of more
-more_tries : (stream : ℕ) (xs ys : List (ℕ × Record)) (tried tries : List Record) → AreTries stream xs tried → AreTries stream ys tries → AreTries stream (xs ++ ys) (tried ++ tries)
+pub more_tries : (stream : ℕ) (xs ys : List (ℕ × Record)) (tried tries : List Record) → AreTries stream xs tried → AreTries stream ys tries → AreTries stream (xs ++ ys) (tried ++ tries)
 more_tries stream xs ys tried tries (are, few) (then_are, then_few) =
     (All-append (IsFull stream) tried tries are then_are, omega (arith, few, then_few, length-append xs ys, length-append tried tries))
 

@@ -44,8 +44,8 @@ use Rattle.xds_exchange.specs.Ends.{Begins}
 use Rattle.xds_node.specs.Told.{LeavesNoRecord}
 use Rattle.xds_node.specs.declared.exchange.Ended.{Ended}
 use Rattle.xds_node.specs.declared.exchange.Ended.TheVariants.{Stopped, Unlinked}
-use Rattle.xds_node.specs.declared.exchange.Unsent.{Unsent}
-use Rattle.xds_node.specs.declared.exchange.Unsent.TheVariants as unsent
+use Rattle.xds_node.specs.declared.exchange.SendFailure.{SendFailure}
+use Rattle.xds_node.specs.declared.exchange.SendFailure.TheVariants as unsent
 use Rattle.xds_node.specs.declared.parcels.Receipt.{Receipt}
 use Rattle.xds_node.specs.declared.parcels.Receipt.TheVariants.{Merged, Lost}
 use Rattle.xds_node.specs.WorkersTold.{IsGranted, IsTriedBefore, IsTriedInVain}
@@ -210,22 +210,22 @@ pub record HasMerged (told : List (ℕ × Record)) (tried : List Record) (taken 
 -- ---- their steps
 
 -- why a batch isn't sent: the other end is gone, or there was no memory
-abbrev pub IsReason : Unsent → Type 0
+abbrev pub IsReason : SendFailure → Type 0
 IsReason unsent.Unlinked = ⊤
 IsReason (unsent.Refused e) = e ≡ OutOfMemory
 
 -- what a turn answers whose batch isn't sent
-abbrev pub given_up : Unsent → Result Bool Refusal
+abbrev pub given_up : SendFailure → Result Bool Refusal
 given_up unsent.Unlinked = Ok false
 given_up (unsent.Refused e) = Err e
 
 -- some parcels are put behind others, or a beginning of them
-abbrev pub Puts : {T : Type 0} → List (List ℕ × Bool) → List (List ℕ × Bool) → List (List ℕ × Bool) → Result T Unsent → Type 0
+abbrev pub Puts : {T : Type 0} → List (List ℕ × Bool) → List (List ℕ × Bool) → List (List ℕ × Bool) → Result T SendFailure → Type 0
 Puts parcels old new (Ok x) = new ≡ old ++ parcels
 Puts parcels old new (Err e) = IsReason e × ((put : List (List ℕ × Bool)) × (new ≡ old ++ put) × Begins put parcels)
 
 -- and one receipt is taken for them, if there are any
-abbrev pub Settles : List (List ℕ × Bool) → List (List ℕ × Bool) → List (List ℕ × Bool) → List Receipt → List Receipt → Result Receipt Unsent → Type 0
+abbrev pub Settles : List (List ℕ × Bool) → List (List ℕ × Bool) → List (List ℕ × Bool) → List Receipt → List Receipt → Result Receipt SendFailure → Type 0
 Settles parcels old new had has (Ok receipt) =
     (new ≡ old ++ parcels) × (((parcels ≡ []) × (receipt ≡ Merged) × (has ≡ had)) ⊎ ((parcels ≢ []) × (has ≡ had ++ receipt ∷ [])))
 Settles parcels old new had has (Err e) = IsReason e × ((put : List (List ℕ × Bool)) × (new ≡ old ++ put) × Begins put parcels) × (has ≡ had)

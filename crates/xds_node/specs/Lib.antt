@@ -1,3 +1,4 @@
+pub mod Waiting
 pub mod Requests
 pub mod Records
 pub mod Sending
@@ -19,3 +20,5 @@ pub mod Reading
 pub mod Parcels
 pub mod Exchanging
 pub mod Whole
+pub mod Owing
+pub mod Concerns

@@ -1,11 +1,13 @@
 // What lies under a node's lock.
-ghost use Rattle.std.specs.Prelude.{◌≡◌, ◌+◌, ◌<◌, ◌≤◌, ◌==◌, ◌⊎◌, ◌∷◌, ◌++◌, [], length, true, All, Contains, MatchBool, IsPermutation, IfOk, IfErr, OnErr};
+ghost use Rattle.std.specs.Prelude.{◌≡◌, ◌+◌, ◌<◌, ◌≤◌, ◌==◌, ◌⊎◌, ◌∷◌, ◌++◌, [], length, true, All, Contains, MatchBool, IsPermutation, IfOk, IfErr, IfSome, OnErr, Some};
 ghost use Rattle.std.specs.List.{flat_map};
 ghost use Rattle.xds_resource.specs.Stamps.{max_counter};
 ghost use Rattle.xds_resource.specs.declared.refusal.Refusal.TheVariants.{OutOfMemory, CounterSpent, JournalFull};
 ghost use Rattle.xds_core.specs.Since.{marks_of};
 ghost use Rattle.xds_core.specs.Counts.{counts_of};
 ghost use Rattle.xds_core.specs.Seen.{event_of, answer_of};
+ghost use Rattle.futures.specs.Task.{Covers, Keeps};
+ghost use Rattle.futures.specs.Poll.{IfReady, OnPending};
 ghost use Rattle.xds_node.specs.Entries.{AllBelow};
 ghost use Rattle.xds_node.specs.Holdings.{keeper};
 ghost use Rattle.xds_node.specs.Books.{Books, most_records, opened_books, base_of, present, next_number, all_entries_of, record_of, with_record, with_seat, after_cut, IsFull};
@@ -13,14 +15,17 @@ ghost use Rattle.xds_node.specs.Pieces.{piece_of, last_entries, StandsInStory, G
 ghost use Rattle.xds_node.specs.Told.{no_calls, also_told, also_refused, IsStepAt, LeavesNoRecord};
 ghost use Rattle.xds_node.specs.Wakes.{due_at, narrowed, wait_ends};
 
+use crate::concern::Concern;
 use crate::history::History;
 use crate::line::Line;
 use crate::rule::NodeName;
 use crate::seat::{Seat, Unrecorded, gather};
 use crate::segment::Segment;
+use crate::sleepers::Sleepers;
 use crate::token::{Token, Tokens};
 use crate::twice::answered_twice;
 use crate::wakes::{LaneSet, Waiting, Wake};
+use futures::task::{Context, Poll, Source, Waker};
 use std::alloc::Global;
 use std::marker::Model;
 use std::mem;
@@ -52,11 +57,13 @@ pub struct Desk<N: NodeName> {
     seats: u64,
     token: Token<Line, N>,
     alloc: Global,
-    // Which writers wait, and whether the node was stopped. Nothing that is recorded depends on it.
+    // Which writers and which tasks wait, and whether the node was stopped. Nothing that is recorded depends on it.
     waiting: Waiting,
+    sleepers: Sleepers,
     stopped: bool,
-    // How many hold writers back.
+    // How many hold writers back, and what was written meanwhile.
     holders: u64,
+    held_back: Concern,
 }
 
 // Written out: docs/PROVING.md, "Drops".
@@ -71,8 +78,10 @@ impl<N: NodeName> Drop for Desk<N> {
             token: _,
             alloc: _,
             waiting: _,
+            sleepers: _,
             stopped: _,
             holders: _,
+            held_back: _,
         } = self;
     }
 }
@@ -108,8 +117,10 @@ impl<N: NodeName> Desk<N> {
             token,
             alloc,
             waiting,
+            sleepers: Sleepers::new(alloc),
             stopped: false,
             holders: 0,
+            held_back: Concern::none(alloc),
         }
     }
 
@@ -212,8 +223,10 @@ impl<N: NodeName> Desk<N> {
             mut token,
             alloc: _,
             waiting: _,
+            sleepers: _,
             stopped: _,
             holders: _,
+            held_back: _,
         } = self;
         drop(core);
         let complete = seats.len() as u64 == made;
@@ -273,6 +286,108 @@ impl<N: NodeName> Desk<N> {
     {
         self.waiting.remove(stream);
         self.waiting.next()
+    }
+
+    // rule: wake-ups
+    /// What a wait for a stream ends by now; where by nothing, or by a response that is held back, its task waits.
+    pub fn poll_due(&mut self, source: &Source, cx: &mut Context<'_>, stream: u64) -> Poll<Due>
+        ensures due { IfReady result (λ due. wait_ends (due_at (present self.old) stream) ≡ Some due) }
+        ensures same { self.new ≡ self.old }
+        ensures registered { OnPending result (Covers cx.new (λ s. s ≡ source.now.id)) }
+        ensures kept { Keeps cx.old cx.new }
+    {
+        if let Some(due) = self.due_now(stream) {
+            return Poll::Ready(due);
+        }
+        let is_held = self.is_held();
+        let _ = self.sleepers.wait(source, cx, stream, is_held);
+        Poll::Pending
+    }
+
+    // What a wait for a stream ends by, unless by nothing, or by a response that is held back.
+    fn due_now(&self, stream: u64) -> Option<Due>
+        ensures { IfSome result (λ due. wait_ends (due_at (present self.now) stream) ≡ Some due) }
+    {
+        match self.core.due(stream) {
+            None => Some(Due::Closed),
+            Some(true) => {
+                if self.is_held() {
+                    return None;
+                }
+                Some(Due::Ready)
+            }
+            Some(false) => None,
+        }
+    }
+
+    // rule: wake-ups
+    /// What an event leaves of the tasks that may wait: a stream that opens has a slot, and one that asks wants what it asks for.
+    pub fn note(&mut self, wake: Wake, concern: &Concern, reply: &Reply)
+        ensures { self.new ≡ self.old }
+    {
+        if let Reply::Opened(stream) = reply {
+            self.sleepers.open(*stream);
+        }
+        if let Wake::Writer(stream) = wake {
+            self.sleepers.want(stream, concern);
+        }
+    }
+
+    // rule: wake-ups
+    /// The tasks that an event wakes by its answer: those of the streams that may be told what it writes, or that of one stream. While
+    /// writers are held back that is only the task of a stream that was closed.
+    pub fn called(
+        &mut self,
+        wake: Wake,
+        concern: &Concern,
+        reply: &Reply,
+    ) -> (Vec<Waker>, Option<Waker>)
+        ensures { self.new ≡ self.old }
+    {
+        match wake {
+            Wake::Nobody => (Vec::new(self.alloc), None),
+            Wake::Writer(stream) => (Vec::new(self.alloc), self.called_one(stream, reply)),
+            Wake::All => (self.called_all(concern), None),
+        }
+    }
+
+    // rule: wake-ups
+    fn called_one(&mut self, stream: u64, reply: &Reply) -> Option<Waker>
+        ensures { self.new ≡ self.old }
+    {
+        if let Reply::Closed = reply {
+            return self.sleepers.closed(stream);
+        }
+        if self.is_held() {
+            self.sleepers.hold(stream);
+            return None;
+        }
+        self.sleepers.taken(stream)
+    }
+
+    // rule: wake-ups
+    // The tasks of the streams that may be told what was written, unless writers are held back; then that is kept.
+    fn called_all(&mut self, concern: &Concern) -> Vec<Waker>
+        ensures { self.new ≡ self.old }
+    {
+        if self.is_held() {
+            self.held_back.add(concern, self.alloc);
+            return Vec::new(self.alloc);
+        }
+        self.sleepers.taken_all(concern)
+    }
+
+    // rule: wake-ups
+    /// The tasks that are woken once writers are held back no longer: those that waited from then on, and those of the streams that may be
+    /// told what was written meanwhile.
+    pub fn released(&mut self) -> Vec<Waker>
+        ensures { self.new ≡ self.old }
+    {
+        if self.is_held() {
+            return Vec::new(self.alloc);
+        }
+        let held_back = mem::replace(&mut self.held_back, Concern::none(self.alloc));
+        self.sleepers.taken_all(&held_back)
     }
 
     // rule: wake-ups

@@ -13,7 +13,7 @@ pub enum Ended {
 
 // Why a batch isn't sent.
 #[derive(Clone, Copy, Debug, PartialEq, Eq, Drop)]
-pub enum Unsent {
+pub enum SendFailure {
     Unlinked,
     Refused(Refusal),
 }

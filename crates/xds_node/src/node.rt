@@ -5,9 +5,12 @@ ghost use Rattle.xds_resource.specs.declared.refusal.Refusal.TheVariants.{OutOfM
 ghost use Rattle.xds_core.specs.Counts.{counts_of};
 ghost use Rattle.xds_core.specs.Legal.{IsLegal};
 ghost use Rattle.xds_core.specs.Seen.{event_of, answer_of};
+ghost use Rattle.futures.specs.Task.{Covers, Keeps};
+ghost use Rattle.futures.specs.Poll.{OnPending};
 ghost use Rattle.xds_node.specs.Pieces.{last_entries, StandsInStory, GoesOn, IsWhole};
 ghost use Rattle.xds_node.specs.Told.{no_calls, also_refused, IsTold, IsStepAt, LeavesNoRecord};
 
+use crate::concern::Concern;
 use crate::desk::{Desk, Due};
 use crate::history::History;
 use crate::line::Line;
@@ -16,6 +19,7 @@ use crate::seat::{Seat, Unrecorded};
 use crate::segment::Segment;
 use crate::token::{Opened, Tokens};
 use crate::wakes::{Lanes, Waiting, Wake};
+use futures::task::{Context, Poll, Source};
 use std::alloc::Global;
 use std::sync::{Mutex, Wait};
 use xds_core::{Event, Marks, Reply};
@@ -26,6 +30,9 @@ pub struct Node<N: NodeName> {
     desk: Mutex<Desk<N>>,
     tokens: Tokens<Line, N>,
     lanes: Lanes,
+    // At which tasks wait for something due.
+    due: Source,
+    alloc: Global,
 }
 
 // Written out: docs/PROVING.md, "Drops".
@@ -35,6 +42,8 @@ impl<N: NodeName> Drop for Node<N> {
             desk: _,
             tokens: _,
             lanes: _,
+            due: _,
+            alloc: _,
         } = self;
     }
 }
@@ -56,6 +65,8 @@ impl<N: NodeName> Node<N> {
             desk: Mutex::new(Desk::new(alloc, replica, token, waiting)),
             tokens,
             lanes,
+            due: Source::new(),
+            alloc,
         })
     }
 
@@ -84,12 +95,16 @@ impl<N: NodeName> Node<N> {
         ensures noted { IfErr result (λ e. seat.new ≡ also_refused (event_of event) e.refusal seat.old) }
     {
         let wake = Wake::by(&event);
+        let concern = Concern::of(self.alloc, &event);
         let mut desk = self.desk.lock(rt);
         let answer = desk.call(&self.tokens, seat, event);
         if let Ok(Ok(reply)) = &answer {
+            desk.note(wake, &concern, reply);
             let wake = desk.narrowed(wake.answered(reply));
             let first = desk.woken(wake);
+            let called = desk.called(wake, &concern, reply);
             drop(desk);
+            drop(called);
             self.lanes.wake(wake, first);
         }
         answer
@@ -116,6 +131,16 @@ impl<N: NodeName> Node<N> {
         unreachable!()
     }
 
+    // rule: wake-ups
+    /// The same for a task: ready where a wait would end, and else pending, and the task is woken where that may be so. A stream that isn't
+    /// open is told at once, also while writers are held back. It is no event. It may wait for the lock.
+    pub fn poll_due<R: Wait>(&self, rt: &R, cx: &mut Context<'_>, stream: u64) -> Poll<Due>
+        ensures registered { OnPending result (Covers cx.new (λ s. s ≡ self.now.due.id)) }
+        ensures kept { Keeps cx.old cx.new }
+    {
+        self.desk.lock(rt).poll_due(&self.due, cx, stream)
+    }
+
     /// From here on to [`Node::release`] no writer begins a response, so that several changes make one. It is no event. It may wait
     /// for the lock.
     pub fn hold<R: Wait>(&self, rt: &R) {
@@ -125,7 +150,11 @@ impl<N: NodeName> Node<N> {
     // rule: wake-ups
     /// Ends what [`Node::hold`] began, and wakes the writers that wait. It is no event. It may wait for the lock.
     pub fn release<R: Wait>(&self, rt: &R) {
-        let first = self.desk.lock(rt).release();
+        let mut desk = self.desk.lock(rt);
+        let first = desk.release();
+        let called = desk.released();
+        drop(desk);
+        drop(called);
         self.lanes.wake(Wake::All, first);
     }
 
@@ -200,6 +229,8 @@ impl<N: NodeName> Node<N> {
             desk,
             tokens,
             lanes: _,
+            due: _,
+            alloc: _,
         } = self;
         desk.into_inner().close(tokens, seats)
     }

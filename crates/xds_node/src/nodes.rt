@@ -1,4 +1,4 @@
-// A node, as worker threads know it.
+// A node, as its workers know it.
 
 use crate::desk::Due;
 use crate::hosts::Host;
@@ -6,11 +6,14 @@ use crate::node::Node;
 use crate::rule::NodeName;
 use crate::seat::{Seat, Unrecorded};
 use crate::segment::Segment;
+use futures::task::{Context, Poll};
 use std::sync::Wait;
 use xds_core::{Event, Marks, Reply};
 use xds_resource::Refusal;
 
 impl<N: NodeName> Host for Node<N> {
+    ghost use Rattle.std.specs.Prelude.{◌≡◌};
+
     type Seat = Seat<N>;
 
     type Segment = Segment<N>;
@@ -18,6 +21,8 @@ impl<N: NodeName> Host for Node<N> {
     ghost told = { λ s. s.told };
 
     ghost refused = { λ s. s.refused };
+
+    ghost rings = { λ n s. s ≡ n.due.id };
 
     fn call<R: Wait>(
         &self,
@@ -38,6 +43,10 @@ impl<N: NodeName> Host for Node<N> {
 
     fn wait_due<R: Wait>(&self, rt: &R, stream: u64) -> Due {
         Node::wait_due(self, rt, stream)
+    }
+
+    fn poll_due<R: Wait>(&self, rt: &R, cx: &mut Context<'_>, stream: u64) -> Poll<Due> {
+        Node::poll_due(self, rt, cx, stream)
     }
 
     fn wait_changed<R: Wait>(&self, rt: &R, seen: Marks) -> Option<Marks> {

@@ -13,7 +13,7 @@ ghost use Rattle.xds_node.specs.Parcels.{batch_frame, changed_in, parcels_of};
 ghost use Rattle.xds_node.specs.declared.parcels.Receipt.{Receipt};
 
 use crate::calls::answered;
-use crate::exchange::{Ended, Unsent};
+use crate::exchange::{Ended, SendFailure};
 use crate::hosts::{Gate, Host};
 use crate::node::differ;
 use crate::parcels::{Parcel, Receipt};
@@ -139,12 +139,12 @@ fn tell<H: Host, G: Gate<H::Segment>, R: Wait>(
 
 // rule: marks
 // How a turn ends whose batch isn't sent.
-fn given_up(unsent: Unsent) -> Result<bool, Refusal>
+fn given_up(unsent: SendFailure) -> Result<bool, Refusal>
     ensures { result ≡ given_up unsent }
 {
     match unsent {
-        Unsent::Unlinked => Ok(false),
-        Unsent::Refused(refusal) => Err(refusal),
+        SendFailure::Unlinked => Ok(false),
+        SendFailure::Refused(refusal) => Err(refusal),
     }
 }
 
@@ -168,7 +168,7 @@ fn settle<R: Wait>(
     batch: Batch,
     out: &mut Outgoing<Parcel>,
     receipts: &mut Incoming<Receipt>,
-) -> Result<Receipt, Unsent>
+) -> Result<Receipt, SendFailure>
     ensures end { IsSameEnd out.old out.new }
     ensures source { IsSameSource receipts.old receipts.new }
     ensures settles { Settles (parcels_of (in_order batch)) (put_by out.old) (put_by out.new)
@@ -176,7 +176,7 @@ fn settle<R: Wait>(
 {
     let mut outbox = Outbox::new(alloc);
     if let Err(refusal) = outbox.fill(batch) {
-        return Err(Unsent::Refused(refusal));
+        return Err(SendFailure::Refused(refusal));
     }
     let is_empty = outbox.len() == 0;
     if let Err(unsent) = put_all(rt, alloc, &mut outbox, out) {
@@ -187,7 +187,7 @@ fn settle<R: Wait>(
     }
     match receipts.take(rt) {
         Some(receipt) => Ok(receipt),
-        None => Err(Unsent::Unlinked),
+        None => Err(SendFailure::Unlinked),
     }
 }
 
@@ -197,7 +197,7 @@ fn put_all<R: Wait>(
     alloc: Global,
     outbox: &mut Outbox,
     out: &mut Outgoing<Parcel>,
-) -> Result<(), Unsent>
+) -> Result<(), SendFailure>
     ensures end { IsSameEnd out.old out.new }
     ensures puts { Puts (parcels_of outbox.old) (put_by out.old) (put_by out.new) result }
 {
@@ -209,7 +209,7 @@ fn put_all<R: Wait>(
                 }
             }
             Ok(None) => return Ok(()),
-            Err(refusal) => return Err(Unsent::Refused(refusal)),
+            Err(refusal) => return Err(SendFailure::Refused(refusal)),
         }
     }
     unreachable!()
@@ -222,17 +222,17 @@ fn put_part<R: Wait>(
     part: &Batch,
     last: bool,
     out: &mut Outgoing<Parcel>,
-) -> Result<(), Unsent>
+) -> Result<(), SendFailure>
     requires { IsFrame (batch_frame part.now) }
     ensures end { IsSameEnd out.old out.new }
     ensures puts { Puts ((frame_bytes (batch_frame part.now), last) ∷ []) (put_by out.old) (put_by out.new) result }
     ensures err { OnErr result (put_by out.new ≡ put_by out.old) }
 {
     match Parcel::pack(alloc, part, last) {
-        Err(refusal) => Err(Unsent::Refused(refusal)),
+        Err(refusal) => Err(SendFailure::Refused(refusal)),
         Ok(parcel) => match out.put(rt, parcel) {
             Ok(()) => Ok(()),
-            Err(_) => Err(Unsent::Unlinked),
+            Err(_) => Err(SendFailure::Unlinked),
         },
     }
 }

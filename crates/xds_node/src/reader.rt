@@ -3,13 +3,17 @@ ghost use Rattle.std.specs.Prelude.{◌≡◌, ℕ, List, [], ◌++◌, IsOk, Ma
 ghost use Rattle.xds_core.specs.Legal.{Record};
 ghost use Rattle.xds_frames.specs.Devices.{seen};
 ghost use Rattle.xds_core.specs.StreamsSeen.{message_of};
-ghost use Rattle.xds_node.specs.Reading.{Asks, HasRead, ReadsAll, TurnReads};
+ghost use Rattle.xds_node.specs.Reading.{Asks, HasRead, ReadsAll};
 
+use crate::alone::queue_of_one;
 use crate::calls::{answered, close};
-use crate::hosts::{Gate, Host, Place};
-use crate::reading::{fill, next_request};
-use std::alloc::Global;
+use crate::hosts::{Gate, Host};
+use crate::poll_reader::poll_requests;
+use crate::ways::ByCalls;
+use futures::task::{Poll, Queue};
+use std::alloc::{AllocGlobal, Global};
 use std::io::Read;
+use std::random::RandomSource;
 use std::sync::Wait;
 use xds_core::{Event, Request};
 use xds_frames::{Counted, Decoder};
@@ -22,7 +26,7 @@ use xds_resource::Refusal;
 /// It answers `Ok` where the input ends between frames and nothing was refused, and else the first refusal: of a frame or
 /// of its message, as `run_stream` tells them, of the request, and `NoStream` where the stream was closed meanwhile;
 /// `JournalFull` and `OutOfMemory` where a request left no record.
-pub fn serve_reader<H: Host, G: Gate<H::Segment>, D: Read, R: Wait>(
+pub fn serve_reader<H: Host, G: Gate<H::Segment>, D: Read, R: Wait + RandomSource + AllocGlobal>(
     rt: &R,
     alloc: Global,
     node: &H,
@@ -40,8 +44,8 @@ pub fn serve_reader<H: Host, G: Gate<H::Segment>, D: Read, R: Wait>(
     served
 }
 
-// Reads and asks to the end of the input, or the first refusal.
-fn read_requests<H: Host, G: Gate<H::Segment>, D: Read, R: Wait>(
+// Reads and asks to the end of the input, or the first refusal, by polls that this thread makes.
+fn read_requests<H: Host, G: Gate<H::Segment>, D: Read, R: Wait + RandomSource + AllocGlobal>(
     rt: &R,
     alloc: Global,
     node: &H,
@@ -54,47 +58,56 @@ fn read_requests<H: Host, G: Gate<H::Segment>, D: Read, R: Wait>(
         × (H.refused seat.new ≡ H.refused seat.old ++ tried)
         × HasRead stream told tried [] (seen D.remaining reader.old reader.new) result }
 {
+    match queue_of_one(rt) {
+        Ok(queue) => read_by(rt, alloc, &queue, node, seat, stream, reader, gate),
+        Err(refusal) => Err(refusal),
+    }
+}
+
+// Polls until the reading ends.
+fn read_by<H: Host, G: Gate<H::Segment>, D: Read, R: Wait>(
+    rt: &R,
+    alloc: Global,
+    queue: &Queue,
+    node: &H,
+    seat: &mut H::Seat,
+    stream: u64,
+    reader: &mut Counted<D>,
+    gate: &G,
+) -> Result<(), Refusal>
+    ensures { (told : List (ℕ × Record)) × (tried : List Record) × (H.told seat.new ≡ H.told seat.old ++ told)
+        × (H.refused seat.new ≡ H.refused seat.old ++ tried)
+        × HasRead stream told tried [] (seen D.remaining reader.old reader.new) result }
+{
     let mut decoder = Decoder::new(alloc);
+    let mut passed = false;
     for _ in rt.forever() {
-        match turn(rt, alloc, node, seat, stream, &mut decoder, reader, gate) {
-            Ok(true) => {}
-            Ok(false) => return Ok(()),
-            Err(refusal) => return Err(refusal),
+        let Some(mut cx) = queue.next(rt) else {
+            continue;
+        };
+        let polled = poll_requests::<H, G, D, ByCalls, R>(
+            rt,
+            alloc,
+            node,
+            seat,
+            stream,
+            &mut decoder,
+            reader,
+            &mut passed,
+            gate,
+            &mut cx,
+        );
+        cx.end(&polled);
+        match polled {
+            Poll::Pending => {}
+            Poll::Ready(end) => return end,
         }
     }
     unreachable!()
 }
 
-// Asks for the next frame, or reads a piece where none is there whole. Answers whether there is more to be done.
-fn turn<H: Host, G: Gate<H::Segment>, D: Read, R: Wait>(
-    rt: &R,
-    alloc: Global,
-    node: &H,
-    seat: &mut H::Seat,
-    stream: u64,
-    decoder: &mut Decoder,
-    reader: &mut Counted<D>,
-    gate: &G,
-) -> Result<bool, Refusal>
-    ensures { (told : List (ℕ × Record)) × (tried : List Record) × (H.told seat.new ≡ H.told seat.old ++ told)
-        × (H.refused seat.new ≡ H.refused seat.old ++ tried)
-        × TurnReads stream told tried decoder.old (seen D.remaining reader.old reader.new) result decoder.new }
-{
-    match next_request(alloc, decoder) {
-        Ok(Some(request)) => match ask(rt, node, gate, seat, stream, request) {
-            Ok(()) => Ok(true),
-            Err(refusal) => Err(refusal),
-        },
-        Ok(None) => {
-            gate.pass(rt, Place::BeforeRead, stream);
-            fill(decoder, reader)
-        }
-        Err(refusal) => Err(refusal),
-    }
-}
-
 // Hands a request to the node.
-fn ask<H: Host, G: Gate<H::Segment>, R: Wait>(
+pub(crate) fn ask<H: Host, G: Gate<H::Segment>, R: Wait>(
     rt: &R,
     node: &H,
     gate: &G,

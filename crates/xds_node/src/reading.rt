@@ -16,7 +16,7 @@ use xds_message::{DeltaDiscoveryRequest, DiscoveryRequest};
 use xds_resource::Refusal;
 
 /// As many bytes as are read at once.
-const PIECE: usize = 4096;
+pub(crate) const PIECE: usize = 4096;
 
 // The request that a frame's text spells.
 fn request_of(alloc: Global, kind: FrameKind, text: &[u8]) -> Result<Request, Refusal>

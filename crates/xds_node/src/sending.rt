@@ -20,7 +20,7 @@ const BLOCK: usize = 32_768;
 // Room for what stands round the texts of resources that are written as one.
 const ENDS: usize = 512;
 
-fn kind_of(draft: &Draft) -> FrameKind
+pub(crate) fn kind_of(draft: &Draft) -> FrameKind
     ensures { result ≡ kind_of draft.now }
 {
     match draft {
@@ -29,8 +29,8 @@ fn kind_of(draft: &Draft) -> FrameKind
     }
 }
 
-// What stands before a text in its frame, in a block that has room for some of the text, too.
-fn head_of(alloc: Global, kind: FrameKind, text: &Pieces<'_>) -> Result<Vec<u8>, Refusal>
+/// What stands before a text in its frame, in a block that has room for some of the text, too.
+pub(crate) fn head_of(alloc: Global, kind: FrameKind, text: &Pieces<'_>) -> Result<Vec<u8>, Refusal>
     ensures ok { IfOk result (λ head. IsHeadOf (record { kind = kind; text = text.now }) head.items) }
     ensures refused { IfErr result (λ e. IsUnframed (record { kind = kind; text = text.now }) e) }
 {

@@ -1,20 +1,22 @@
 // The writing thread of a stream.
-ghost use Rattle.std.specs.Prelude.{◌≡◌, ◌≢◌, ℕ, List, [], ◌++◌, MatchBool, Result, Ok, Err};
+ghost use Rattle.std.specs.Prelude.{◌≡◌, ◌≢◌, ℕ, List, [], ◌++◌, MatchBool, None, Result, Ok, Err};
 ghost use Rattle.xds_resource.specs.declared.refusal.Refusal.TheVariants.{NoStream};
 ghost use Rattle.xds_core.specs.Legal.{Record};
 ghost use Rattle.xds_frames.specs.Devices.{seen};
-ghost use Rattle.xds_node.specs.Writing.{HasWritten, Responds, TurnWrites, WritesAll};
+ghost use Rattle.xds_node.specs.Owing.{GivesUp, WritesFrom, write_at};
+ghost use Rattle.xds_node.specs.Writing.{WritesAll};
 
-use crate::asking::draft_in;
-use crate::calls::{answered, close};
-use crate::hosts::{Gate, Host, Place};
-use crate::sending::send;
-use std::alloc::Global;
+use crate::alone::queue_of_one;
+use crate::hosts::{Gate, Host};
+use crate::poll_writer::{close_at_stop, next_response, poll_responses};
+use crate::ways::ByCalls;
+use futures::task::{Poll, Queue};
+use std::alloc::{AllocGlobal, Global};
 use std::io::Write;
+use std::random::RandomSource;
 use std::sync::Wait;
-use xds_core::Event;
 use xds_frames::Counted;
-use xds_message::Draft;
+use xds_message::Unsent;
 use xds_resource::Refusal;
 
 /// The writing thread of a stream: it waits until a response is due, polls, and writes the response as a frame, outside of
@@ -23,7 +25,7 @@ use xds_resource::Refusal;
 /// It answers `Ok` once a poll finds the stream closed; then it asks for nothing more. Any other refusal is answered once it
 /// asked for the close of the stream, as `serve_reader` does: of a poll (`NonceSpent`; `JournalFull` and `OutOfMemory` where it
 /// left no record), or of a response, as `FrameTooLong`, `Device` and `OutOfMemory`, of which a beginning may be written.
-pub fn serve_writer<H: Host, G: Gate<H::Segment>, W: Write, R: Wait>(
+pub fn serve_writer<H: Host, G: Gate<H::Segment>, W: Write, R: Wait + RandomSource + AllocGlobal>(
     rt: &R,
     alloc: Global,
     node: &H,
@@ -36,17 +38,14 @@ pub fn serve_writer<H: Host, G: Gate<H::Segment>, W: Write, R: Wait>(
         × (H.refused seat.new ≡ H.refused seat.old ++ tried)
         × WritesAll stream told tried (seen W.contents writer.old writer.new) result }
 {
-    match write_responses(rt, alloc, node, seat, stream, writer, gate) {
-        Ok(()) => Ok(()),
-        Err(refusal) => {
-            close(rt, node, gate, seat, stream);
-            Err(refusal)
-        }
-    }
+    let served = write_responses(rt, alloc, node, seat, stream, writer, gate);
+    close_at_stop(rt, node, gate, seat, stream, &served);
+    served
 }
 
-// Polls and writes until a poll finds the stream closed.
-fn write_responses<H: Host, G: Gate<H::Segment>, W: Write, R: Wait>(
+// Polls and writes until a poll finds the stream closed, by polls that this thread makes. Where there is no memory for that, what is due is
+// given up.
+fn write_responses<H: Host, G: Gate<H::Segment>, W: Write, R: Wait + RandomSource + AllocGlobal>(
     rt: &R,
     alloc: Global,
     node: &H,
@@ -55,74 +54,76 @@ fn write_responses<H: Host, G: Gate<H::Segment>, W: Write, R: Wait>(
     writer: &mut Counted<W>,
     gate: &G,
 ) -> Result<(), Refusal>
-    ensures { (told : List (ℕ × Record)) × (tried : List Record) × (H.told seat.new ≡ H.told seat.old ++ told)
-        × (H.refused seat.new ≡ H.refused seat.old ++ tried)
-        × HasWritten stream told tried (seen W.contents writer.old writer.new) result }
+    ensures { WritesFrom stream (write_at H.told H.refused W.contents seat.old None [] writer.old) result
+        (write_at H.told H.refused W.contents seat.new None [] writer.new) }
 {
     for _ in rt.forever() {
-        match turn(rt, alloc, node, seat, stream, writer, gate) {
-            Ok(true) => {}
-            Ok(false) => return Ok(()),
-            Err(refusal) => return Err(refusal),
+        if let Ok(queue) = queue_of_one(rt) {
+            return write_by(rt, alloc, &queue, node, seat, stream, writer, gate);
+        }
+        if let Some(end) = give_up(rt, node, seat, stream, gate) {
+            return end;
         }
     }
     unreachable!()
 }
 
-// One poll, and its response written. Answers whether the stream is open.
-fn turn<H: Host, G: Gate<H::Segment>, W: Write, R: Wait>(
+// Waits until something is due, and polls for a response that can't be written. Answers how the writing ends, unless none was given.
+fn give_up<H: Host, G: Gate<H::Segment>, R: Wait>(
+    rt: &R,
+    node: &H,
+    seat: &mut H::Seat,
+    stream: u64,
+    gate: &G,
+) -> Option<Result<(), Refusal>>
+    ensures { GivesUp stream (H.told seat.old) (H.told seat.new) (H.refused seat.old) (H.refused seat.new) result }
+{
+    node.wait_due(rt, stream);
+    match next_response(rt, node, seat, stream, gate) {
+        Ok(Some(draft)) => {
+            drop(draft);
+            Some(Err(Refusal::OutOfMemory))
+        }
+        Ok(None) => None,
+        Err(end) => Some(end),
+    }
+}
+
+// Polls until the writing ends.
+fn write_by<H: Host, G: Gate<H::Segment>, W: Write, R: Wait>(
     rt: &R,
     alloc: Global,
+    queue: &Queue,
     node: &H,
     seat: &mut H::Seat,
     stream: u64,
     writer: &mut Counted<W>,
     gate: &G,
-) -> Result<bool, Refusal>
-    ensures { (told : List (ℕ × Record)) × (tried : List Record) × (H.told seat.new ≡ H.told seat.old ++ told)
-        × (H.refused seat.new ≡ H.refused seat.old ++ tried)
-        × TurnWrites stream told tried (seen W.contents writer.old writer.new) result }
+) -> Result<(), Refusal>
+    ensures { WritesFrom stream (write_at H.told H.refused W.contents seat.old None [] writer.old) result
+        (write_at H.told H.refused W.contents seat.new None [] writer.new) }
 {
-    node.wait_due(rt, stream);
-    match answered(rt, node, gate, seat, Event::Poll(stream, None)) {
-        Ok(reply) => {
-            match respond(rt, alloc, stream, draft_in(reply), writer, gate) {
-                Ok(()) => Ok(true),
-                Err(refusal) => Err(refusal),
-            }
-        }
-        Err(refusal) => {
-            if is_closed(refusal) {
-                return Ok(false);
-            }
-            Err(refusal)
+    let mut given = None;
+    let mut owed = Unsent::none(alloc);
+    for _ in rt.forever() {
+        let Some(mut cx) = queue.next(rt) else {
+            continue;
+        };
+        let polled = poll_responses::<H, G, W, ByCalls, R>(
+            rt, alloc, node, seat, stream, &mut given, &mut owed, writer, gate, &mut cx,
+        );
+        cx.end(&polled);
+        match polled {
+            Poll::Pending => {}
+            Poll::Ready(end) => return end,
         }
     }
+    unreachable!()
 }
 
 // Whether a refusal tells that a stream isn't open.
-fn is_closed(refusal: Refusal) -> bool
+pub(crate) fn is_closed(refusal: Refusal) -> bool
     ensures { MatchBool result (refusal ≡ NoStream) (refusal ≢ NoStream) }
 {
     refusal == Refusal::NoStream
-}
-
-// Writes a response, if there is one.
-fn respond<S: Drop, G: Gate<S>, W: Write, R: Wait>(
-    rt: &R,
-    alloc: Global,
-    stream: u64,
-    response: Option<Draft>,
-    writer: &mut Counted<W>,
-    gate: &G,
-) -> Result<(), Refusal>
-    ensures { Responds response result (seen W.contents writer.old writer.new) }
-{
-    match response {
-        None => Ok(()),
-        Some(draft) => {
-            gate.pass(rt, Place::BeforeWrite, stream);
-            send(alloc, &draft, writer)
-        }
-    }
 }

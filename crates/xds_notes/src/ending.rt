@@ -96,6 +96,8 @@ impl State {
     fn count(&mut self)
         ensures left { self.new.left ≡ option_map (λ n. n - 1) self.old.left }
         ensures end { self.new.end ≡ counted_end self.old.left self.old.end }
+        ensures kept { (self.new.notes ≡ self.old.notes) × (self.new.missed ≡ self.old.missed) }
+        ensures rest { (self.new.is_closed ≡ self.old.is_closed) × (self.new.is_told ≡ self.old.is_told) × (self.new.writing ≡ self.old.writing) × (self.new.is_held ≡ self.old.is_held) × (self.new.is_asked ≡ self.old.is_asked) }
     {
         if let Some(left) = self.left {
             let left = left.saturating_sub(1);
@@ -110,6 +112,8 @@ impl State {
     fn tell(&mut self, end: End)
         ensures left { self.new.left ≡ self.old.left }
         ensures end { self.new.end ≡ first_end self.old.end end }
+        ensures kept { (self.new.notes ≡ self.old.notes) × (self.new.missed ≡ self.old.missed) }
+        ensures rest { (self.new.is_closed ≡ self.old.is_closed) × (self.new.is_told ≡ self.old.is_told) × (self.new.writing ≡ self.old.writing) × (self.new.is_held ≡ self.old.is_held) × (self.new.is_asked ≡ self.old.is_asked) }
     {
         if self.end.is_none() {
             self.end = Some(end);
@@ -130,6 +134,7 @@ impl State {
     fn take(&mut self, note: Note)
         ensures end { (self.new.left ≡ self.old.left) × (self.new.end ≡ self.old.end) }
         ensures told { TakesNote (has_place self.old.end self.old.notes.items) self.old.is_closed note self.old.notes.items self.new.notes.items self.old.missed self.new.missed }
+        ensures rest { (self.new.is_closed ≡ self.old.is_closed) × (self.new.is_told ≡ self.old.is_told) × (self.new.writing ≡ self.old.writing) × (self.new.is_held ≡ self.old.is_held) × (self.new.is_asked ≡ self.old.is_asked) }
     {
         if self.has_place() {
             self.push(note);
@@ -143,6 +148,7 @@ impl State {
     fn announce(&mut self, note: Note)
         ensures end { (self.new.left ≡ self.old.left) × (self.new.end ≡ self.old.end) }
         ensures told { Announces self.old.is_closed note self.old.notes.items self.new.notes.items self.old.missed self.new.missed }
+        ensures rest { (self.new.is_closed ≡ self.old.is_closed) × (self.new.is_told ≡ self.old.is_told) × (self.new.writing ≡ self.old.writing) × (self.new.is_held ≡ self.old.is_held) × (self.new.is_asked ≡ self.old.is_asked) }
     {
         if self.is_closed {
             drop(note);
@@ -155,6 +161,7 @@ impl State {
     fn push(&mut self, note: Note)
         ensures end { (self.new.left ≡ self.old.left) × (self.new.end ≡ self.old.end) }
         ensures told { Adds self.old.is_closed note self.old.notes.items self.new.notes.items self.old.missed self.new.missed }
+        ensures rest { (self.new.is_closed ≡ self.old.is_closed) × (self.new.is_told ≡ self.old.is_told) × (self.new.writing ≡ self.old.writing) × (self.new.is_held ≡ self.old.is_held) × (self.new.is_asked ≡ self.old.is_asked) }
     {
         match self.notes.push_back(note) {
             Ok(()) => {}
@@ -167,6 +174,7 @@ impl State {
         ensures end { (self.new.left ≡ self.old.left) × (self.new.end ≡ self.old.end) }
         ensures missed { self.new.missed ≡ counts_missed self.old.is_closed self.old.missed }
         ensures notes { self.new.notes ≡ self.old.notes }
+        ensures rest { (self.new.is_closed ≡ self.old.is_closed) × (self.new.is_told ≡ self.old.is_told) × (self.new.writing ≡ self.old.writing) × (self.new.is_held ≡ self.old.is_held) × (self.new.is_asked ≡ self.old.is_asked) }
     {
         if !self.is_closed {
             self.missed = self.missed.saturating_add(1);
@@ -178,6 +186,7 @@ impl State {
     fn next(&mut self) -> Option<Next>
         ensures end { (self.new.left ≡ self.old.left) × (self.new.end ≡ self.old.end) }
         ensures next { IsNext self.old.end self.old.is_closed self.old.notes.items self.new.notes.items self.old.missed self.new.missed result }
+        ensures rest { (self.new.is_closed ≡ self.old.is_closed) × (self.new.is_told ≡ self.old.is_told) × (self.new.writing ≡ self.old.writing) × (self.new.is_held ≡ self.old.is_held) × (self.new.is_asked ≡ self.old.is_asked) }
     {
         if let Some(note) = self.notes.pop_front() {
             return Some(Next::Note(note));
@@ -455,16 +464,14 @@ impl Ending {
         self.state.lock(rt).end.is_some()
     }
 
-    /// A frame of a response is begun. Once the server ends it waits for ever.
-    pub fn begin_frame<R: Wait>(&self, rt: &R) {
+    /// A frame of a response is begun, unless the server ends: then none is. Answers whether it is. It may wait for the lock.
+    pub fn begin_frame<R: Wait>(&self, rt: &R) -> bool {
         let mut state = self.state.lock(rt);
-        for _ in rt.forever() {
-            if state.end.is_none() {
-                state.writing = state.writing.saturating_add(1);
-                return;
-            }
-            state = self.quiet.wait(rt, state);
+        if state.end.is_some() {
+            return false;
         }
+        state.writing = state.writing.saturating_add(1);
+        true
     }
 
     /// A frame that was begun is written, or given up.

@@ -45,12 +45,13 @@ one_serve rows s t h k =
     let port = one_number rows (codes "port") s.port t.port h.port k.port in
     let rest_port = one_number rows (codes "rest-port") s.rest_port t.rest_port h.rest_port k.rest_port in
     let streams = one_found (IsNumber rows (codes "streams")) (one_number rows (codes "streams")) s.streams t.streams h.streams k.streams in
+    let workers = one_found (IsNumber rows (codes "workers")) (one_number rows (codes "workers")) s.workers t.workers h.workers k.workers in
     let keep_going = sym h.keep_going ∙ k.keep_going in
     let log = sym h.log ∙ k.log in
     let max_streams = one_found (IsNumber rows (codes "max-streams")) (one_number rows (codes "max-streams")) s.max_streams t.max_streams h.max_streams k.max_streams in
     let idle_seconds = one_found (IsNumber rows (codes "idle-seconds")) (one_number rows (codes "idle-seconds")) s.idle_seconds t.idle_seconds h.idle_seconds k.idle_seconds in
     let admin_port = one_found (IsNumber rows (codes "admin-port")) (one_number rows (codes "admin-port")) s.admin_port t.admin_port h.admin_port k.admin_port in
-    λ i. record { replicas = replicas i; port = port i; rest_port = rest_port i; streams = streams i; keep_going = keep_going i; log = log i; max_streams = max_streams i; idle_seconds = idle_seconds i; admin_port = admin_port i }
+    λ i. record { replicas = replicas i; port = port i; rest_port = rest_port i; streams = streams i; workers = workers i; keep_going = keep_going i; log = log i; max_streams = max_streams i; idle_seconds = idle_seconds i; admin_port = admin_port i }
 
 one_served : (rows : List Row) (s t : Serves) → AsksServed rows s → AsksServed rows t → s ≡ t
 one_served rows s t h k =

@@ -12,10 +12,11 @@
 --     replicas_option                  `--replicas`, 2 if left out
 --     port_option                      `--port`, 18000 if left out
 --     rest_port_option                 `--rest-port`, 18100 if left out
---     serve_start                      `xds serve`, with the options that say what is served where, and for how long
+--     workers_option                   `--workers`, up to 256
+--     serve_start                      `xds serve`, with the options that say what is served where, for how long, and by how many threads
 --     serve_told                       and what it tells, and to whom
 --     serve_begun                      and what it begins with
---     serve_command                    `xds serve [--replicas N] [--port P] [--rest-port Q] [--streams S] [--keep-going] [--log]
+--     serve_command                    `xds serve [--replicas N] [--port P] [--rest-port Q] [--streams S] [--workers N] [--keep-going] [--log]
 --                                      [--max-streams N] [--idle-seconds T] [--admin-port A] [--record DIR]
 --                                      [--first-number F] [--load FILE] [--store FILE] [--writes FILE] [--hold] [--admin-token FILE] [--log-json]
 --                                      [--from DIR] [--lint] [--validate ADDRESS] [--pass-unvalidated] [--refuse-beyond-frame]`
@@ -102,13 +103,17 @@ port_option = with_default (codes "18000") (number_option (codes "port"))
 abbrev pub rest_port_option : Rule
 rest_port_option = with_default (codes "18100") (number_option (codes "rest-port"))
 
--- `xds serve`, with the options that say what is served where, and for how long
+abbrev pub workers_option : Rule
+workers_option = number_up_to 256 (codes "workers")
+
+-- `xds serve`, with the options that say what is served where, for how long, and by how many threads
 abbrev pub serve_start : App
 serve_start =
-    with_rule (with_rule (with_rule (with_rule (new_app (codes "serve")) replicas_option)
+    with_rule (with_rule (with_rule (with_rule (with_rule (new_app (codes "serve")) replicas_option)
     port_option)
     rest_port_option)
-    (number_option (codes "streams"))
+    (number_option (codes "streams")))
+    workers_option
 
 -- and what it tells, and to whom
 abbrev pub serve_told : App

@@ -118,6 +118,7 @@ pub record AsksServe (rows : List Row) (task : ServeTask) : Type 0 where
   pub port : IsNumber rows (codes "port") task.port
   pub rest_port : IsNumber rows (codes "rest-port") task.rest_port
   pub streams : Finds (IsNumber rows (codes "streams")) task.streams
+  pub workers : Finds (IsNumber rows (codes "workers")) task.workers
   pub keep_going : is_given (codes "keep-going") rows ≡ task.keep_going
   pub log : is_given (codes "log") rows ≡ task.log
   pub max_streams : Finds (IsNumber rows (codes "max-streams")) task.max_streams

@@ -3,7 +3,7 @@ ghost use Rattle.std.specs.Prelude.{◌≡◌, false, IfOk, codes};
 ghost use Rattle.clap.specs.Words.{App, app_of, new_app, rule_of, with_rule, with_subcommand};
 ghost use Rattle.xds_program.specs.CommandLine.{IsCommand, IsLocal, IsOption, answer_command, asking_command, check_command};
 ghost use Rattle.xds_program.specs.CommandLine.{client_command, client_start, delete_command, flag_option, get_command, poll_start};
-ghost use Rattle.xds_program.specs.CommandLine.{port_option, put_command, rest_port_option, serve_begun, serve_start, serve_told};
+ghost use Rattle.xds_program.specs.CommandLine.{port_option, put_command, rest_port_option, serve_begun, serve_start, serve_told, workers_option};
 ghost use Rattle.xds_program.specs.CommandLine.{command_line, first_commands, name_words, number_option, play_command, serving_commands};
 ghost use Rattle.xds_program.specs.CommandLine.{poll_command, replicas_option, required, serve_command, text_option};
 ghost use Rattle.xds_program.specs.CommandLine.{status_command, with_default, wanting_command, writes_command};
@@ -157,7 +157,7 @@ fn serve_told<'a>(alloc: Global) -> Result<Command<'a>, AllocError>
     with_option(serve, text_option(alloc, "record", "DIR", help))
 }
 
-// `xds serve`, with the options that say what is served where, and for how long.
+// `xds serve`, with the options that say what is served where, for how long, and by how many threads.
 fn serve_start<'a>(alloc: Global) -> Result<Command<'a>, AllocError>
     ensures { IfOk result (IsCommand serve_start) }
 {
@@ -169,7 +169,19 @@ fn serve_start<'a>(alloc: Global) -> Result<Command<'a>, AllocError>
     )?;
     let serve = with_option(serve, port_option(alloc))?;
     let serve = with_option(serve, rest_port_option(alloc))?;
-    with_option(serve, number_option(alloc, "streams", "S", help))
+    let serve = with_option(serve, number_option(alloc, "streams", "S", help))?;
+    with_option(serve, workers_option(alloc))
+}
+
+// `--workers N`.
+fn workers_option<'a>(alloc: Global) -> Arg<'a>
+    ensures { IsOption workers_option result }
+{
+    Arg::new(alloc, "workers")
+        .long("workers")
+        .value_name("N")
+        .value_parser(value_parser!(u16).range(1..=256))
+        .help("This many threads for a replica's streams, up to 256")
 }
 
 // `--replicas N`.

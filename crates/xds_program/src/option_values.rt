@@ -283,6 +283,7 @@ fn serving(given: &ArgMatches) -> Option<ServeTask>
     let port = number(given, "port")?;
     let rest_port = number(given, "rest-port")?;
     let streams = number(given, "streams");
+    let workers = number(given, "workers");
     let keep_going = is_given(given, "keep-going");
     let log = is_given(given, "log");
     let max_streams = number(given, "max-streams");
@@ -298,6 +299,7 @@ fn serving(given: &ArgMatches) -> Option<ServeTask>
             port,
             rest_port,
             streams,
+            workers,
             keep_going,
             log,
             max_streams,

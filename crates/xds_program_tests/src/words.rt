@@ -177,6 +177,7 @@ fn told_serve(alloc: Global, serve: ServeTask) -> Result<String, Fail> {
         port,
         rest_port,
         streams,
+        workers,
         keep_going,
         log,
         max_streams,
@@ -187,13 +188,18 @@ fn told_serve(alloc: Global, serve: ServeTask) -> Result<String, Fail> {
     let logs = if log { " log" } else { "" };
     let limits = limits_told(alloc, max_streams, idle_seconds)?;
     let limits = limits.as_str();
+    let workers = match workers {
+        Some(count) => format!(in alloc; " workers {count}")?,
+        None => String::new(alloc),
+    };
+    let workers = workers.as_str();
     let admin = match admin_port {
         Some(port) => format!(in alloc; " admin {port}")?,
         None => String::new(alloc),
     };
     let admin = admin.as_str();
     Ok(format!(in alloc;
-        "serve {replicas} {port} {rest_port} {streams:?}{keeps}{logs}{limits}{admin}"
+        "serve {replicas} {port} {rest_port} {streams:?}{workers}{keeps}{logs}{limits}{admin}"
     )?)
 }
 
@@ -331,6 +337,12 @@ serve --rest-port 0 => wrong
 serve --streams 0 => wrong
 serve --streams 65536 => wrong
 serve --streams -1 => wrong
+serve --workers 1 => serve 2 18000 18100 None workers 1
+serve --log --workers 256 => serve 2 18000 18100 None workers 256 log
+serve --workers 0 => wrong
+serve --workers 257 => wrong
+serve --workers two => wrong
+serve --workers 2 --workers 2 => wrong
 serve --streams => wrong
 serve --port 1 --port 1 => wrong
 serve 1 => wrong

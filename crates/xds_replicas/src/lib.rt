@@ -2,19 +2,15 @@
 #![tactic(auto)]
 
 pub mod fitting;
-pub mod gate;
 pub mod joint;
 pub mod linting;
 pub mod moves;
 pub mod opening;
-pub mod parting;
 pub mod replica;
 pub mod sizing;
 pub mod sourcing;
 pub mod storing;
-pub mod streams;
 pub mod together;
 pub mod workers;
 
-pub use gate::NoGate;
 pub use workers::Shared;

@@ -4,10 +4,8 @@ ghost use Rattle.std.specs.Result.{result_err};
 ghost use Rattle.xds_replicas.specs.Replies.{refusal_in};
 
 use crate::fitting::make_fitting;
-use crate::gate::NoGate;
 use crate::moves::{HearsMoves, Moves};
 use crate::storing::{Follows, Storage, changed_since, marks_now};
-use crate::streams::serve_streams;
 use crate::together::make_all;
 use crate::workers::{Shared, place};
 use crossbeam_channel::Receiver;
@@ -26,10 +24,11 @@ use xds_machine::wires::{Bound, both};
 use xds_message::Batch;
 use xds_monitor::{Lookout, Served};
 use xds_node::{Host, Parcel, Receipt, called, exchange_in, exchange_out};
-use xds_notes::Fault;
 use xds_notes::ending::DRAIN_SECONDS;
+use xds_notes::{End, Fault};
 use xds_resource::{Refusal, Stamp};
 use xds_stats::{Look, Maker, look_in, millis_now};
+use xds_streams::{NoGate, serve_streams};
 
 /// Ends of the channels by which a replica tells another what changed: for what it tells, and for what becomes of it.
 pub type Sends = (Outgoing<Parcel>, Incoming<Receipt>);
@@ -381,7 +380,7 @@ where
     })
 }
 
-// The thread that takes connections.
+// The thread that takes connections, and starts those that serve them. Where it can't, or can't go on, the server ends.
 fn start_streams<R, A>(
     rt: &R,
     alloc: Global,
@@ -390,11 +389,13 @@ fn start_streams<R, A>(
     lookout: &Arc<Lookout>,
 ) -> Result<(), Refusal>
 where
-    R: Runtime,
+    R: Machine,
     A: Shared,
 {
     start_worker(rt, shares(node, lookout), move |rt, (node, lookout)| {
-        serve_streams(*rt, alloc, &listener, &node, &lookout);
+        if serve_streams(rt, alloc, listener, &*node, &lookout).is_err() {
+            lookout.ending().end(rt, End::Refused(Refusal::OutOfMemory));
+        }
     })
 }
 

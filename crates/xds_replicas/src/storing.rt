@@ -2,7 +2,6 @@
 ghost use Rattle.std.specs.Prelude.{◌≡◌};
 ghost use Rattle.xds_replicas.specs.Moved.{has_all};
 
-use crate::gate::NoGate;
 use std::alloc::Global;
 use std::sync::{Arc, Condvar, Mutex, Wait};
 use std::time::{Clock, Duration, Instant};
@@ -15,6 +14,7 @@ use xds_node::{Host, called};
 use xds_notes::Note;
 use xds_resource::Refusal;
 use xds_store::StoreRefusal;
+use xds_streams::NoGate;
 
 // What is told of a store that had failed and has all writes again.
 const GOES_ON: &str = "has all writes again";

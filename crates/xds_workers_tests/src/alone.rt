@@ -3,10 +3,9 @@ use crate::calls::{open, put, refused};
 use crate::exchanges::crossed;
 use crate::gates::Open;
 use crate::short::Short;
-use crate::sites::{Site, Trial, tried};
+use crate::sites::{Machine, Site, Trial, tried};
 use crate::streams::REQUEST;
 use std::alloc::Global;
-use std::sync::Wait;
 use std::test::Fail;
 use xds_core::{Event, Request};
 use xds_exchange::{Incoming, Outgoing, link};
@@ -27,7 +26,7 @@ pub(crate) fn outcome<T: Drop>(answer: Result<T, Refusal>) -> Result<(), Refusal
 }
 
 // What the reader of a stream answers where one request comes.
-fn reads<A: Host, R: Wait>(
+fn reads<A: Host, R: Machine>(
     rt: &R,
     alloc: Global,
     node: &A,
@@ -38,7 +37,7 @@ fn reads<A: Host, R: Wait>(
 }
 
 /// The same by this gate.
-pub(crate) fn reads_by<A: Host, G: Gate<A::Segment>, R: Wait>(
+pub(crate) fn reads_by<A: Host, G: Gate<A::Segment>, R: Machine>(
     rt: &R,
     alloc: Global,
     node: &A,
@@ -52,7 +51,7 @@ pub(crate) fn reads_by<A: Host, G: Gate<A::Segment>, R: Wait>(
 }
 
 // What the writer of a stream answers, of which this write fails, and how many bytes it wrote.
-fn writes<A: Host, R: Wait>(
+fn writes<A: Host, R: Machine>(
     rt: &R,
     alloc: Global,
     node: &A,
@@ -64,7 +63,7 @@ fn writes<A: Host, R: Wait>(
 }
 
 /// The same by this gate.
-pub(crate) fn writes_by<A: Host, G: Gate<A::Segment>, R: Wait>(
+pub(crate) fn writes_by<A: Host, G: Gate<A::Segment>, R: Machine>(
     rt: &R,
     alloc: Global,
     node: &A,
@@ -79,7 +78,7 @@ pub(crate) fn writes_by<A: Host, G: Gate<A::Segment>, R: Wait>(
 }
 
 /// Opens a stream, and asks for the clusters on it.
-pub(crate) fn asked<A: Host, R: Wait>(
+pub(crate) fn asked<A: Host, R: Machine>(
     rt: &R,
     alloc: Global,
     node: &A,
@@ -102,7 +101,7 @@ struct Streams {
     after: Result<(), Refusal>,
 }
 
-fn streams_by<A: Host, R: Wait>(
+fn streams_by<A: Host, R: Machine>(
     rt: &R,
     alloc: Global,
     node: &A,
@@ -127,7 +126,7 @@ struct AtStreams;
 impl Trial for AtStreams {
     type Came = Streams;
 
-    fn at<A: Site, R: Wait>(&self, rt: &R, alloc: Global, node: A) -> Result<Streams, Refusal> {
+    fn at<A: Site, R: Machine>(&self, rt: &R, alloc: Global, node: A) -> Result<Streams, Refusal> {
         let mut seat = node.seat(rt)?;
         streams_by(rt, alloc, &node, &mut seat)
     }
@@ -164,7 +163,7 @@ struct Full {
 
 // An exchange of a node: what telling comes to, how many of the parcels of one empty batch were
 // dropped, and the receipt.
-fn exchanged<A: Host, R: Wait>(
+fn exchanged<A: Host, R: Machine>(
     rt: &R,
     alloc: Global,
     node: &A,
@@ -184,7 +183,7 @@ struct WhereFull;
 impl Trial for WhereFull {
     type Came = Full;
 
-    fn at<A: Site, R: Wait>(&self, rt: &R, alloc: Global, node: A) -> Result<Full, Refusal> {
+    fn at<A: Site, R: Machine>(&self, rt: &R, alloc: Global, node: A) -> Result<Full, Refusal> {
         let mut seat = node.seat(rt)?;
         node.stop(rt);
         let filler = node.seat(rt)?;
@@ -228,7 +227,7 @@ fn a_journal_that_stays_full_is_told(rt: HostRuntime) -> Result<(), Fail> {
 }
 
 // What telling a peer comes to that is gone: where nothing is to be told, and where a cluster is.
-fn tells_twice<A: Host, R: Wait>(
+fn tells_twice<A: Host, R: Machine>(
     rt: &R,
     alloc: Global,
     node: &A,
@@ -247,7 +246,7 @@ struct ToNobody;
 impl Trial for ToNobody {
     type Came = (Ended, Ended);
 
-    fn at<A: Site, R: Wait>(
+    fn at<A: Site, R: Machine>(
         &self,
         rt: &R,
         alloc: Global,

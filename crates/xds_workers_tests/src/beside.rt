@@ -5,11 +5,10 @@ ghost use Rattle.std.specs.Thread.{IsSend};
 use crate::calls;
 use crate::calls::{holds, open, put, refused};
 use crate::gates::Held;
-use crate::sites::{Site, both};
+use crate::sites::{Machine, Site, both};
 use crate::streams::{Pieces, REQUEST, RESPONSE, Served, by_two};
 use std::alloc::Global;
 use std::marker::Brand;
-use std::sync::Wait;
 use std::test::Fail;
 use std::thread::{Threads, join};
 use xds_core::Event;
@@ -26,7 +25,7 @@ const WITH_A: &[u8] = b"{\"nonce\":\"1\",\
 const MOST_TURNS: u64 = 1_000_000;
 
 // A new stream of a node, with two seats.
-fn stream_of<A: Site, R: Wait>(rt: &R, node: &A) -> Result<(u64, (A::Seat, A::Seat)), Refusal> {
+fn stream_of<A: Site, R: Machine>(rt: &R, node: &A) -> Result<(u64, (A::Seat, A::Seat)), Refusal> {
     let mut seats = both(node.seat(rt), node.seat(rt))?;
     let stream = open(rt, node, &mut seats.0);
     both(stream, Ok(seats))
@@ -34,7 +33,7 @@ fn stream_of<A: Site, R: Wait>(rt: &R, node: &A) -> Result<(u64, (A::Seat, A::Se
 
 // Once the other stream is held a cluster is put, and this stream is served whole. Then the other
 // is let go.
-fn goes_on<A: Host + Sync, R: Threads + Wait + Sync>(
+fn goes_on<A: Host + Sync, R: Threads + Machine + Sync>(
     rt: &R,
     alloc: Global,
     node: &A,
@@ -58,7 +57,7 @@ where
 
 // Serves two streams that send the same bytes, of which the first is held, and comes in pieces of
 // this size.
-fn beside<A: Site + Sync, R: Threads + Wait + Sync>(
+fn beside<A: Site + Sync, R: Threads + Machine + Sync>(
     rt: &R,
     alloc: Global,
     node: &A,
@@ -93,7 +92,7 @@ struct Full {
 }
 
 // Asks whether a stream that is closed is owed something, until that finds no room.
-fn fill<A: Host, R: Wait>(rt: &R, node: &A, seat: &mut A::Seat) -> Result<(), Refusal> {
+fn fill<A: Host, R: Machine>(rt: &R, node: &A, seat: &mut A::Seat) -> Result<(), Refusal> {
     for _ in 0..=MOST_RECORDS {
         match refused(node.call(rt, seat, Event::Owes(1, None))) {
             Err(Refusal::NoStream) => {}
@@ -103,7 +102,7 @@ fn fill<A: Host, R: Wait>(rt: &R, node: &A, seat: &mut A::Seat) -> Result<(), Re
     Ok(())
 }
 
-fn full_and_cut<A: Site, R: Wait>(rt: &R, alloc: Global, node: &A) -> Result<Full, Refusal> {
+fn full_and_cut<A: Site, R: Machine>(rt: &R, alloc: Global, node: &A) -> Result<Full, Refusal> {
     let mut seat = node.seat(rt)?;
     let filled = fill(rt, node, &mut seat);
     let first = put(rt, alloc, node, &mut seat, "b");
@@ -119,7 +118,7 @@ fn full_and_cut<A: Site, R: Wait>(rt: &R, alloc: Global, node: &A) -> Result<Ful
 }
 
 // The first of two streams isn't written to until the other was served. Then the journal is filled.
-fn unread_and_full<A: Site + Sync, R: Threads + Wait + Sync>(
+fn unread_and_full<A: Site + Sync, R: Threads + Machine + Sync>(
     rt: &R,
     alloc: Global,
     node: Result<A, Refusal>,
@@ -137,7 +136,7 @@ where
     )
 }
 
-fn unread<N: NodeName + Send + Sync, R: Threads + Wait + Sync>(
+fn unread<N: NodeName + Send + Sync, R: Threads + Machine + Sync>(
     rt: &R,
     alloc: Global,
     opened: Opened<Line>,
@@ -192,7 +191,7 @@ fn a_peer_that_never_reads_holds_nobody_else(rt: HostRuntime) -> Result<(), Fail
 }
 
 // Cuts a node until a stream is let go, and answers how often.
-fn cuts<A: Host, R: Wait>(rt: &R, node: &A, slow: &Held) -> Result<u64, Refusal> {
+fn cuts<A: Host, R: Machine>(rt: &R, node: &A, slow: &Held) -> Result<u64, Refusal> {
     for turn in 0..MOST_TURNS {
         drop(node.cut(rt)?);
         if slow.is_free(rt) {
@@ -204,7 +203,7 @@ fn cuts<A: Host, R: Wait>(rt: &R, node: &A, slow: &Held) -> Result<u64, Refusal>
 
 // The first of two streams is held within its frame until the other was served, and the node is cut
 // all the while.
-fn half_and_cut<A: Site + Sync, R: Threads + Wait + Sync>(
+fn half_and_cut<A: Site + Sync, R: Threads + Machine + Sync>(
     rt: &R,
     alloc: Global,
     node: Result<A, Refusal>,
@@ -227,7 +226,7 @@ where
     both(served, turns)
 }
 
-fn half<N: NodeName + Send + Sync, R: Threads + Wait + Sync>(
+fn half<N: NodeName + Send + Sync, R: Threads + Machine + Sync>(
     rt: &R,
     alloc: Global,
     opened: Opened<Line>,

@@ -1,6 +1,7 @@
 // A node that takes no record of a merge once, and one that counts what it tells.
 use crate::calls::Told;
 use crate::filling::fill;
+use futures::task::{Context, Poll};
 use std::sync::{Condvar, Mutex, Wait};
 use xds_core::{Event, Marks, Reply};
 use xds_node::{Due, Host, MOST_RECORDS, Unrecorded};
@@ -75,6 +76,8 @@ impl<A: Host> Host for Frail<A> {
 
     ghost refused = { A.refused };
 
+    ghost rings = { λ h. A.rings h.node };
+
     fn call<R: Wait>(
         &self,
         rt: &R,
@@ -106,6 +109,10 @@ impl<A: Host> Host for Frail<A> {
 
     fn wait_due<R: Wait>(&self, rt: &R, stream: u64) -> Due {
         self.node.wait_due(rt, stream)
+    }
+
+    fn poll_due<R: Wait>(&self, rt: &R, cx: &mut Context<'_>, stream: u64) -> Poll<Due> {
+        self.node.poll_due(rt, cx, stream)
     }
 
     fn wait_changed<R: Wait>(&self, rt: &R, seen: Marks) -> Option<Marks> {
@@ -173,6 +180,8 @@ impl<A: Host> Host for Watched<A> {
 
     ghost refused = { A.refused };
 
+    ghost rings = { λ h. A.rings h.node };
+
     fn call<R: Wait>(
         &self,
         rt: &R,
@@ -194,6 +203,10 @@ impl<A: Host> Host for Watched<A> {
 
     fn wait_due<R: Wait>(&self, rt: &R, stream: u64) -> Due {
         self.node.wait_due(rt, stream)
+    }
+
+    fn poll_due<R: Wait>(&self, rt: &R, cx: &mut Context<'_>, stream: u64) -> Poll<Due> {
+        self.node.poll_due(rt, cx, stream)
     }
 
     fn wait_changed<R: Wait>(&self, rt: &R, seen: Marks) -> Option<Marks> {

@@ -1,4 +1,5 @@
 // Gates of the tests.
+use futures::task::{Context, Poll};
 use std::sync::{Condvar, Mutex, Wait};
 use xds_node::{Gate, Place};
 
@@ -6,7 +7,15 @@ use xds_node::{Gate, Place};
 pub(crate) struct Open;
 
 impl<S: Drop> Gate<S> for Open {
-    fn pass<R: Wait>(&self, _rt: &R, _place: Place, _stream: u64) {}
+    fn poll_pass<R: Wait>(
+        &self,
+        _rt: &R,
+        _cx: &mut Context<'_>,
+        _place: Place,
+        _stream: u64,
+    ) -> Poll<()> {
+        Poll::Ready(())
+    }
 
     fn keep<R: Wait>(&self, _rt: &R, segment: S) {
         drop(segment);
@@ -95,11 +104,18 @@ impl Held {
 }
 
 impl<S: Drop> Gate<S> for Held {
-    fn pass<R: Wait>(&self, rt: &R, place: Place, _stream: u64) {
+    fn poll_pass<R: Wait>(
+        &self,
+        rt: &R,
+        _cx: &mut Context<'_>,
+        place: Place,
+        _stream: u64,
+    ) -> Poll<()> {
         match place {
             Place::BeforeRead => self.before_read(rt),
             Place::BeforeWrite => self.before_write(rt),
         }
+        Poll::Ready(())
     }
 
     fn keep<R: Wait>(&self, _rt: &R, segment: S) {

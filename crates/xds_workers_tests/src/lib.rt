@@ -19,9 +19,13 @@ mod frail;
 #[cfg(test)]
 mod gates;
 #[cfg(test)]
+mod halves;
+#[cfg(test)]
 mod limits;
 #[cfg(test)]
 mod lost;
+#[cfg(test)]
+mod named;
 #[cfg(test)]
 mod parcels;
 #[cfg(test)]

@@ -2,7 +2,8 @@
 use crate::alone::{asked, outcome, reads_by, writes_by};
 use crate::calls::{open, refused};
 use crate::short::Short;
-use crate::sites::{Site, Trial, tried};
+use crate::sites::{Machine, Site, Trial, tried};
+use futures::task::{Context, Poll};
 use std::alloc::Global;
 use std::sync::{Mutex, Wait};
 use std::test::Fail;
@@ -37,18 +38,25 @@ impl Counting {
         }
     }
 
-    fn passed<R: Wait>(&self, rt: &R) -> Passed {
+    fn passed<R: Machine>(&self, rt: &R) -> Passed {
         *self.passed.lock(rt)
     }
 }
 
 impl<S: Drop> Gate<S> for Counting {
-    fn pass<R: Wait>(&self, rt: &R, place: Place, _stream: u64) {
+    fn poll_pass<R: Wait>(
+        &self,
+        rt: &R,
+        _cx: &mut Context<'_>,
+        place: Place,
+        _stream: u64,
+    ) -> Poll<()> {
         let mut passed = self.passed.lock(rt);
         match place {
             Place::BeforeRead => passed.reads = passed.reads.saturating_add(1),
             Place::BeforeWrite => passed.writes = passed.writes.saturating_add(1),
         }
+        Poll::Ready(())
     }
 
     fn keep<R: Wait>(&self, rt: &R, segment: S) {
@@ -67,7 +75,7 @@ struct Workers {
     after: Result<(), Refusal>,
 }
 
-fn both_pass<A: Host, R: Wait>(
+fn both_pass<A: Host, R: Machine>(
     rt: &R,
     alloc: Global,
     node: &A,
@@ -93,7 +101,7 @@ struct AtGates;
 impl Trial for AtGates {
     type Came = Workers;
 
-    fn at<A: Site, R: Wait>(&self, rt: &R, alloc: Global, node: A) -> Result<Workers, Refusal> {
+    fn at<A: Site, R: Machine>(&self, rt: &R, alloc: Global, node: A) -> Result<Workers, Refusal> {
         let mut seat = node.seat(rt)?;
         both_pass(rt, alloc, &node, &mut seat)
     }
@@ -122,7 +130,7 @@ struct WhereFull;
 impl Trial for WhereFull {
     type Came = (Result<(), Refusal>, Passed, u64);
 
-    fn at<A: Site, R: Wait>(
+    fn at<A: Site, R: Machine>(
         &self,
         rt: &R,
         _alloc: Global,

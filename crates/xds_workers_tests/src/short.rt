@@ -1,6 +1,7 @@
 // A node whose journal is short.
 use crate::filling::fill;
 use crate::sites::Site;
+use futures::task::{Context, Poll};
 use std::sync::{Mutex, Wait};
 use xds_core::{Event, Marks, Reply};
 use xds_node::{Due, Host, MOST_RECORDS, Unrecorded};
@@ -55,6 +56,8 @@ impl<A: Host> Host for Short<A> {
 
     ghost refused = { A.refused };
 
+    ghost rings = { λ h. A.rings h.node };
+
     fn call<R: Wait>(
         &self,
         rt: &R,
@@ -96,6 +99,10 @@ impl<A: Host> Host for Short<A> {
         self.node.wait_due(rt, stream)
     }
 
+    fn poll_due<R: Wait>(&self, rt: &R, cx: &mut Context<'_>, stream: u64) -> Poll<Due> {
+        self.node.poll_due(rt, cx, stream)
+    }
+
     fn wait_changed<R: Wait>(&self, rt: &R, seen: Marks) -> Option<Marks> {
         self.node.wait_changed(rt, seen)
     }
@@ -108,5 +115,13 @@ impl<A: Site> Site for Short<A> {
 
     fn stop<R: Wait>(&self, rt: &R) {
         self.node.stop(rt)
+    }
+
+    fn hold<R: Wait>(&self, rt: &R) {
+        self.node.hold(rt);
+    }
+
+    fn release<R: Wait>(&self, rt: &R) {
+        self.node.release(rt);
     }
 }

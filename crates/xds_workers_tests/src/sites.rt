@@ -2,8 +2,9 @@
 // proof.
 ghost use Rattle.std.specs.Prelude.{◌≡◌};
 
-use std::alloc::Global;
+use std::alloc::{AllocGlobal, Global};
 use std::marker::Brand;
+use std::random::RandomSource;
 use std::sync::Wait;
 use xds_node::{Host, Line, Node, NodeName, Opened, Seat};
 use xds_resource::Refusal;
@@ -15,6 +16,12 @@ pub(crate) trait Site: Host + Drop {
 
     /// Tells those that wait for changes that none will be made any more.
     fn stop<R: Wait>(&self, rt: &R);
+
+    /// Holds writers back.
+    fn hold<R: Wait>(&self, rt: &R);
+
+    /// Holds them back no longer.
+    fn release<R: Wait>(&self, rt: &R);
 }
 
 impl<N: NodeName> Site for Node<N> {
@@ -24,6 +31,14 @@ impl<N: NodeName> Site for Node<N> {
 
     fn stop<R: Wait>(&self, rt: &R) {
         Node::stop(self, rt)
+    }
+
+    fn hold<R: Wait>(&self, rt: &R) {
+        Node::hold(self, rt);
+    }
+
+    fn release<R: Wait>(&self, rt: &R) {
+        Node::release(self, rt);
     }
 }
 
@@ -35,15 +50,28 @@ pub(crate) fn both<X: Drop, Y: Drop>(
     Ok((one?, other?))
 }
 
+/// What the workers of a stream take of a runtime.
+pub(crate) trait Machine: Wait + RandomSource + AllocGlobal {}
+
+impl<R> Machine for R
+where
+    R: Wait + RandomSource + AllocGlobal,
+{}
+
 /// What a test does with a node, and what comes of it.
 pub(crate) trait Trial {
     type Came: Drop;
 
-    fn at<A: Site, R: Wait>(&self, rt: &R, alloc: Global, node: A) -> Result<Self::Came, Refusal>;
+    fn at<A: Site, R: Machine>(
+        &self,
+        rt: &R,
+        alloc: Global,
+        node: A,
+    ) -> Result<Self::Came, Refusal>;
 }
 
 /// What comes of a trial at a new node, of replica 1.
-pub(crate) fn tried<T: Trial, R: Wait>(
+pub(crate) fn tried<T: Trial, R: Machine>(
     rt: &R,
     alloc: Global,
     trial: &T,
@@ -52,7 +80,7 @@ pub(crate) fn tried<T: Trial, R: Wait>(
     tried_with::<Brand, T, R>(rt, alloc, opened, trial)
 }
 
-fn tried_with<N: NodeName, T: Trial, R: Wait>(
+fn tried_with<N: NodeName, T: Trial, R: Machine>(
     rt: &R,
     alloc: Global,
     opened: Opened<Line>,
@@ -64,7 +92,7 @@ fn tried_with<N: NodeName, T: Trial, R: Wait>(
     tried_at(rt, alloc, Node::<N>::new(alloc, opened, 1), trial)
 }
 
-fn tried_at<A: Site, T: Trial, R: Wait>(
+fn tried_at<A: Site, T: Trial, R: Machine>(
     rt: &R,
     alloc: Global,
     node: Result<A, Refusal>,

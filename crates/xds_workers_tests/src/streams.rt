@@ -3,12 +3,11 @@ ghost use Rattle.std.specs.Prelude.{◌≡◌};
 
 use crate::calls::{holds, open};
 use crate::gates::Held;
-use crate::sites::{Site, both};
+use crate::sites::{Machine, Site, both};
 use std::alloc::Global;
 use std::io;
 use std::io::Read;
 use std::marker::Brand;
-use std::sync::Wait;
 use std::test::Fail;
 use std::thread::{Threads, join};
 use xds_frames::{Counted, FrameKind, write_frame};
@@ -47,7 +46,7 @@ pub(crate) struct Served {
     pub(crate) output: Vec<u8>,
 }
 
-fn reads<A: Host, R: Wait>(
+fn reads<A: Host, R: Machine>(
     rt: &R,
     alloc: Global,
     node: &A,
@@ -61,7 +60,7 @@ fn reads<A: Host, R: Wait>(
     serve_reader(rt, alloc, node, &mut seat, stream, &mut reader, gate)
 }
 
-fn writes<A: Host, R: Wait>(
+fn writes<A: Host, R: Machine>(
     rt: &R,
     alloc: Global,
     node: &A,
@@ -76,7 +75,7 @@ fn writes<A: Host, R: Wait>(
 }
 
 /// Serves an open stream by two threads, each with a seat.
-pub(crate) fn by_two<A: Host + Sync, R: Threads + Wait + Sync>(
+pub(crate) fn by_two<A: Host + Sync, R: Threads + Machine + Sync>(
     rt: &R,
     alloc: Global,
     node: &A,
@@ -104,7 +103,7 @@ where
 
 // Serves a stream of a node that holds nothing. The read of this number waits until so many frames
 // are to be written.
-fn serve_one<A: Site + Sync, R: Threads + Wait + Sync>(
+fn serve_one<A: Site + Sync, R: Threads + Machine + Sync>(
     rt: &R,
     alloc: Global,
     node: Result<A, Refusal>,
@@ -121,7 +120,7 @@ where
     Ok(by_two(rt, alloc, &node, seats, stream, input, gate))
 }
 
-fn serve<N: NodeName + Send + Sync, R: Threads + Wait + Sync>(
+fn serve<N: NodeName + Send + Sync, R: Threads + Machine + Sync>(
     rt: &R,
     alloc: Global,
     opened: Opened<Line>,
@@ -135,7 +134,7 @@ fn serve<N: NodeName + Send + Sync, R: Threads + Wait + Sync>(
 }
 
 // The same of these bytes, in pieces of this size.
-fn serve_in_pieces<R: Threads + Wait + Sync>(
+fn serve_in_pieces<R: Threads + Machine + Sync>(
     rt: &R,
     alloc: Global,
     bytes: &[u8],
@@ -164,7 +163,7 @@ fn is_answered(alloc: Global, served: &Served) -> Result<(), Fail> {
 }
 
 // The same where it comes in pieces of this size.
-fn answers<R: Threads + Wait + Sync>(
+fn answers<R: Threads + Machine + Sync>(
     rt: &R,
     alloc: Global,
     size: usize,

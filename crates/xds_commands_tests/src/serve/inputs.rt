@@ -16,6 +16,7 @@ fn serving(port: u16) -> Serving {
         port,
         rest_port: port.saturating_add(10),
         streams: None,
+        workers: None,
         keep_going: false,
         tells: false,
         logs: false,

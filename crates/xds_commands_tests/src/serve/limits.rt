@@ -2,8 +2,8 @@
 use std::alloc::Global;
 use std::test::Fail;
 use xds_cases::cases::{Outcome, hold};
-use xds_machine::FirstFrame;
 use xds_stats::Doors;
+use xds_streams::FirstFrame;
 
 // Whether a first frame has come whole, of pieces that are written in hexadecimal digits.
 struct Whole;

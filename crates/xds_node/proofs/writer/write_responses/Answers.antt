@@ -1,14 +1,16 @@
-use Rattle.xds_node.proofs.Writings.{written-ended, written-start, written-more, written-stopped}
+use Rattle.std.proofs.Common.{[], None}
+use Rattle.xds_node.specs.Owing.{write_at}
+use Rattle.xds_node.proofs.Owings.{asked_at, gave_up_at}
 use Rattle.xds_node.proofs.writer.write_responses.Goals as goal
 
-pub loop-init : goal.loop-init
-loop-init g c = written-start _ _ _ _ _
+pub returns-in-Ok : goal.returns-in-Ok
+returns-in-Ok g c =
+    c.loop.invariant _ (write_at g.H.Host.told g.H.Host.refused g.W.Write.contents c.write_by.new.seat None [] c.write_by.new.writer) c.write_by.ensures
+
+pub returns-in-Some-give_up : goal.returns-in-Some-give_up
+returns-in-Some-give_up g c =
+    c.loop.invariant _ (write_at g.H.Host.told g.H.Host.refused g.W.Write.contents c.give_up.new.seat None [] c.loop.writer)
+    (gave_up_at _ _ _ _ _ _ _ c.in-Some-give_up.end c.in-Some-give_up.ensures)
 
 pub loop-preserved : goal.loop-preserved
-loop-preserved g c = written-more _ _ _ _ _ _ _ _ _ _ _ _ _ c.loop.invariant (rw c.in-Ok-true.field-0-test at c.in-Ok-true.ensures)
-
-pub returns-in-Ok-false : goal.returns-in-Ok-false
-returns-in-Ok-false g c = written-ended _ _ _ _ _ _ _ _ _ _ _ _ _ (tt {0}) c.loop.invariant (rw c.in-Ok-false.field-0-test at c.in-Ok-false.ensures)
-
-pub returns-in-Err : goal.returns-in-Err
-returns-in-Err g c = written-stopped _ _ _ _ _ _ _ _ _ _ _ _ _ _ c.loop.invariant c.in-Err.ensures
+loop-preserved g c = λ r z h. c.loop.invariant r z (asked_at _ _ _ _ _ _ _ None c.in_default-give_up.ensures r z h)

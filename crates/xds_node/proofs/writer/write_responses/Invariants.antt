@@ -1,9 +1,7 @@
-use Rattle.xds_frames.specs.Devices.{seen}
-use Rattle.xds_node.specs.Writing.{IsWritten}
-use Rattle.xds_node.proofs.Callings.{Told}
+use Rattle.std.proofs.Common.{[], None}
+use Rattle.xds_node.specs.Owing.{WriteLeads, write_at}
 use Rattle.xds_node.proofs.writer.write_responses.Given as goal
 
 abbrev pub invariant-loop : goal.invariant-loop
 invariant-loop g l =
-    Told (g.H.Host.told l.initial.seat) (g.H.Host.told l.seat) (g.H.Host.refused l.initial.seat) (g.H.Host.refused l.seat)
-    (λ told tried. IsWritten l.stream told tried (seen g.W.Write.contents l.initial.writer l.writer))
+    WriteLeads l.stream (write_at g.H.Host.told g.H.Host.refused g.W.Write.contents l.initial.seat None [] l.initial.writer) (write_at g.H.Host.told g.H.Host.refused g.W.Write.contents l.seat None [] l.writer)

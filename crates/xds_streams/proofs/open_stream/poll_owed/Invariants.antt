@@ -1,0 +1,5 @@
+use Rattle.futures.specs.Task.{Keeps}
+use Rattle.xds_streams.proofs.open_stream.poll_owed.Given as goal
+
+abbrev pub invariant-loop : goal.invariant-loop
+invariant-loop l = Keeps l.initial.cx l.cx
