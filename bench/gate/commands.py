@@ -619,16 +619,28 @@ def a_stream_without_a_first_frame_is_ended():
     server.ends("a server ends with its idle streams")
 
 
+def threads_of(server):
+    """How many threads it has, once none more has started for a while."""
+    last, since = 0, time.time()
+    until = since + LIMIT
+    while time.time() < min(since + 1, until):
+        count = len(os.listdir(f"/proc/{server.run.pid}/task"))
+        if count != last:
+            last, since = count, time.time()
+        time.sleep(0.02)
+    return last
+
+
 def workers_are_as_many_as_are_asked_for():
     counts = {}
     for workers in (1, 4):
         server = Served(f"--first-number 1 --streams 41 --workers {workers}", replicas=2)
         with Link(server.port) as first:
             found = first.answered(ASKS_FOR_CLUSTERS)
-            before = len(os.listdir(f"/proc/{server.run.pid}/task"))
+            before = threads_of(server)
             links = [Link(server.port) for _ in range(40)]
             all_found = [it.answered(ASKS_FOR_CLUSTERS) for it in links]
-            counts[workers] = before, len(os.listdir(f"/proc/{server.run.pid}/task"))
+            counts[workers] = before, threads_of(server)
             for it in links:
                 it.socket.close()
         tell(f"streams are answered by {workers} workers", found and all(all_found), (found, all_found))

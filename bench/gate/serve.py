@@ -376,7 +376,12 @@ def no_threads():
 def few_threads(server):
     comes(lambda: counted(server, "resources", type="route") == 1)
     threads = lambda: int(re.search(r"Threads:\s+(\d+)", open(f"/proc/{server.run.pid}/status", encoding="ascii").read())[1])
-    first = threads()
+    # All threads that it has are started in its first moments.
+    first, since = 0, time.time()
+    while time.time() < since + 1:
+        if threads() != first:
+            first, since = threads(), time.time()
+        time.sleep(0.02)
     may_have(server, first)
     streams = [taken_place(server) for _ in range(3)]
     tell("streams are served where no thread more may start", all(streams), streams)
