@@ -253,7 +253,7 @@ fn a_write_wakes_the_tasks_of_the_streams_that_named_it(rt: HostRuntime) -> Resu
                 ],
                 before: &[],
                 quiet: &[Step::Put(C)],
-                last: Step::Put(B),
+                last: Step::Put(A),
             },
         ],
         "a write of one of its names wakes it, and no other",
