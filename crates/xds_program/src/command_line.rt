@@ -181,7 +181,7 @@ fn workers_option<'a>(alloc: Global) -> Arg<'a>
         .long("workers")
         .value_name("N")
         .value_parser(value_parser!(u16).range(1..=256))
-        .help("This many threads for a replica's streams, up to 256")
+        .help("Threads for the streams of a replica, up to 256")
 }
 
 // `--replicas N`.
