@@ -5,17 +5,15 @@ use crate::server::Serving;
 use crate::unbegun::{Unbegun, Unwritten};
 use crate::world::{Loaded, made_world, stored_world};
 use std::alloc::Global;
+use std::fs;
 use std::fs::{File, OpenOptions};
-use std::io::Read;
 use std::net::SocketAddrV4;
 use std::os::unix::fs::OpenOptionsExt;
 use std::rt::Files;
 use std::sync::Arc;
-use std::{fs, str};
 use xds_changes::given::number_over;
 use xds_checker::checker::Asks;
 use xds_frames::{Counted, read_whole};
-use xds_machine::door::bearer;
 use xds_machine::files::FileFault;
 use xds_machine::machine::Runtime;
 use xds_machine::stores::FileStore;
@@ -27,9 +25,7 @@ use xds_replicas::sourcing::{Said as FolderSaid, Source, made_over, said_by};
 use xds_replicas::storing::{Progress, Storage};
 use xds_resource::Refusal;
 use xds_store::StoreRefusal;
-
-// As many bytes of the file of a token as are looked at.
-const MOST_TOKEN: usize = 4_096;
+use xds_tools::bearing::{NoBearer, bearer_in};
 
 /// The files of a server by their names, as far as it has such.
 #[derive(Clone, Copy)]
@@ -123,7 +119,7 @@ where
     R: Runtime + Files<File = File>,
 {
     let bearer = match files.token {
-        Some(file) => Some(bearer_in(rt, alloc, file)?),
+        Some(file) => Some(bearer_of(rt, alloc, file)?),
         None => None,
     };
     let given = match files.writes {
@@ -231,26 +227,16 @@ fn writes_in<R: Files<File = File>>(rt: &R, alloc: Global, file: &str) -> Result
     }
 }
 
-/// What requests at the operator's port say: the token that is the first line of a file.
-pub(crate) fn bearer_in<R>(rt: &R, alloc: Global, file: &str) -> Result<String, Unbegun>
+// What requests at the operator's port say, by the file of its token.
+fn bearer_of<R>(rt: &R, alloc: Global, file: &str) -> Result<String, Unbegun>
 where
     R: Files<File = File>,
 {
-    let mut opened = match File::open(rt, file) {
-        Ok(opened) => opened,
-        Err(error) => return Err(Unbegun::Token(FileFault::of(error.kind()))),
-    };
-    let mut bytes = [0; MOST_TOKEN];
-    let count = match opened.read(&mut bytes) {
-        Ok(count) => count,
-        Err(error) => return Err(Unbegun::Token(FileFault::of(error.kind()))),
-    };
-    let Some(token) = token_in(&bytes[..count.min(MOST_TOKEN)]) else {
-        return Err(Unbegun::NoToken);
-    };
-    match bearer(alloc, token) {
+    match bearer_in(rt, alloc, file) {
         Ok(bearer) => Ok(bearer),
-        Err(refusal) => Err(Unbegun::Refused(refusal)),
+        Err(NoBearer::File(fault)) => Err(Unbegun::Token(fault)),
+        Err(NoBearer::NoToken) => Err(Unbegun::NoToken),
+        Err(NoBearer::Refused(refusal)) => Err(Unbegun::Refused(refusal)),
     }
 }
 
@@ -273,18 +259,6 @@ fn unmake<R: Files<File = File>>(rt: &R, path: &str, refusal: StoreRefusal) {
         }
         _ => {}
     }
-}
-
-// The first line of a text, without what ends it, where it isn't empty, and is whole in the bytes that are looked at.
-fn token_in(bytes: &[u8]) -> Option<&str> {
-    let text = str::from_utf8(bytes).ok()?;
-    let line = match text.split_once('\n') {
-        Some((line, _)) => line,
-        None if bytes.len() < MOST_TOKEN => text,
-        None => return None,
-    };
-    let token = line.trim();
-    if token.is_empty() { None } else { Some(token) }
 }
 
 // Without a store.

@@ -2,7 +2,6 @@
 ghost use Rattle.std.specs.Prelude.{◌≡◌, IfOk, option_map, string_bytes};
 
 use crate::beginning::Begun;
-use crate::serve_telling::PortFault;
 use crate::server::Serving;
 use std::alloc::Global;
 use std::fs::File;
@@ -19,6 +18,7 @@ use xds_replicas::sourcing::Source;
 use xds_replicas::storing::Progress;
 use xds_resource::Refusal;
 use xds_stats::millis_now;
+use xds_tools::serve_telling::PortFault;
 
 /// An operator's port that is bound: its socket, how far the replicas have changed, what tells what this process takes, and what requests
 /// there say, if they say something.

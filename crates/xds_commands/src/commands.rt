@@ -1,17 +1,12 @@
 // A run of the program with a network beside it.
 ghost use Rattle.std.specs.Prelude.{◌≡◌, ◌≤◌, option_map, string_bytes};
 ghost use Rattle.xds_frames.specs.Devices.{seen};
-ghost use Rattle.xds_commands.specs.Ends.{GoesOn};
+ghost use Rattle.xds_tools.specs.Ends.{GoesOn};
 ghost use Rattle.xds_commands.specs.Servings.{serving_of};
 
-use crate::asking::{delete_names, print_resources, print_status, put_changes};
 use crate::beginning::ServeFiles;
-use crate::drawing::draw;
-use crate::polling::poll_once;
 use crate::progress::ProgressReader;
 use crate::server::{Serving, serve};
-use crate::watching::watch;
-use crate::writes::print_writes;
 use std::fs::File;
 use std::io::{Read, Write};
 use std::net::{Net, SocketAddrV4, TcpListener, TcpStream};
@@ -21,6 +16,11 @@ use xds_http::Connects;
 use xds_machine::machine::{Machine, Runtime};
 use xds_program::run::Ran;
 use xds_program::{ServeTask, ServeWords};
+use xds_tools::asking::{delete_names, print_resources, print_status, put_changes};
+use xds_tools::drawing::draw;
+use xds_tools::polling::poll_once;
+use xds_tools::watching::watch;
+use xds_tools::writes::print_writes;
 
 /// Runs the program with these words, the first of which is its name, and answers the status. The words are looked
 /// at before any input, and before any connection. A server takes the input in a thread of its own, and its threads go

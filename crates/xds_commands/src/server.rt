@@ -6,10 +6,6 @@ use crate::admin::Admin;
 use crate::beginning::{Begun, ServeFiles, begin_with, first_number};
 use crate::binding::{Beside, Bindings, BoundAdmin, Unbound, all_bound, bound};
 use crate::reached::Reached;
-use crate::serve_telling::{
-    status_of, tell, tell_admin, tell_end, tell_port, tell_replicas, tell_same_numbers, tell_tape,
-    tell_until_end,
-};
 use crate::starting::{
     shared_asks, shared_tape, start_admin, start_input, start_opener, start_replica, start_teller,
 };
@@ -44,6 +40,10 @@ use xds_replicas::sourcing::{Source, start_sourcing};
 use xds_replicas::storing::{Progress, owned};
 use xds_resource::Refusal;
 use xds_stats::{LogEvent, millis_now};
+use xds_tools::serve_telling::{
+    status_of, tell, tell_admin, tell_end, tell_port, tell_replicas, tell_same_numbers, tell_tape,
+    tell_until_end,
+};
 
 /// What a server is asked for.
 #[derive(Clone, Copy, Debug, PartialEq, Eq)]

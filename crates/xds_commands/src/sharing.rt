@@ -1,6 +1,5 @@
 // Writes at an operator's port: those that a replica holds are listed, and those that come are merged. Both wait for a replica's thread in
 // parts, between which other requests are answered.
-use crate::write_lines::{Lines, read_batch};
 use crossbeam_channel::{RecvTimeoutError, Sender, unbounded};
 use std::alloc::Global;
 use std::mem;
@@ -17,6 +16,7 @@ use xds_notes::fault_line;
 use xds_program::LineFault;
 use xds_replicas::moves::Moves;
 use xds_resource::Refusal;
+use xds_tools::write_lines::{Lines, read_batch};
 
 /// What a text for people is, as `content-type` says it.
 pub(crate) const PLAIN: &str = "text/plain; charset=utf-8";

@@ -2,7 +2,6 @@
 ghost use Rattle.std.specs.Prelude.{◌≡◌, ◌≤◌};
 
 use crate::admin::Admin;
-use crate::serve_telling::tell_all;
 use crossbeam_channel::Sender;
 use std::alloc::Global;
 use std::io::{Read, Write};
@@ -30,6 +29,7 @@ use xds_replicas::opening::open_when_asked;
 use xds_replicas::replica::{ReplicaOver, run_replica};
 use xds_replicas::storing::Follows;
 use xds_resource::Refusal;
+use xds_tools::serve_telling::tell_all;
 
 // After how many seconds it is looked again whether what is recorded is still to be found.
 const LOOK_SECONDS: u64 = 1;

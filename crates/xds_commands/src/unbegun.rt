@@ -2,9 +2,6 @@
 ghost use Rattle.std.specs.Prelude.{◌≡◌};
 
 use crate::beginning::ServeFiles;
-use crate::serve_telling::{
-    tell, tell_file, tell_no_token, tell_old_numbers, tell_store, tell_text, tell_unloaded,
-};
 use std::alloc::Global;
 use std::io::Write;
 use xds_frames::Counted;
@@ -13,6 +10,9 @@ use xds_notes::End;
 use xds_replicas::sourcing::Source;
 use xds_resource::Refusal;
 use xds_store::StoreRefusal;
+use xds_tools::serve_telling::{
+    tell, tell_file, tell_no_token, tell_old_numbers, tell_store, tell_text, tell_unloaded,
+};
 
 /// Why the stamped writes of a file aren't taken.
 #[derive(Clone, Copy)]

@@ -1,0 +1,4 @@
+pub mod Asked
+pub mod Ends
+pub mod Messages
+pub mod WriteLines
