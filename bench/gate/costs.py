@@ -1,11 +1,11 @@
 #!/usr/bin/env python3
 """What each function and each file of lemmas takes to be proved, crate by crate, in seconds of processor time.
 
-    bench/gate/costs.py [--most N] [--tsv FILE] [CRATE ..]
+    bench/gate/costs.py [--tests] [--most N] [--tsv FILE] [CRATE ..]
 
 Each crate is checked from nothing with one job, in a copy of the repository, over the libraries below it as they are built in
 out/; one whose libraries aren't built there is told and passed over. With no names, all crates of the program are measured, lowest
-first. A checked module is kept in a file as soon as it is done: the time from one to the next is what it took, scaled so that all of
+first. With --tests a crate's tests are checked in place of the crate. A checked module is kept in a file as soon as it is done: the time from one to the next is what it took, scaled so that all of
 them come to the processor time of the check. The modules of one function are added up.
 
 It prints a row a crate: its processor time, and of it what comes before the first function, the functions, the files of lemmas,
@@ -28,14 +28,14 @@ TOP = os.path.dirname(os.path.dirname(os.path.dirname(os.path.abspath(__file__))
 # Checks the crate of a folder as `rt check` does, over what is built below it, and takes nothing from other clones of the repository.
 CHECK = """
 import os, sys
-rt, top, folder, *flags = sys.argv[1:]
+rt, top, folder, tests, *flags = sys.argv[1:]
 sys.path.insert(0, rt)
 import rtlib
 guard = rtlib.guarded()
 os.chdir(folder)
 os.makedirs("out/incremental", exist_ok=True)
 crate = rtlib.Crate(folder, top, {})
-os.execvp(rtlib.RATTLE, [rtlib.RATTLE, "check", *crate.words(["--jobs", "1"]), "--incremental", "out/incremental", *flags])
+os.execvp(rtlib.RATTLE, [rtlib.RATTLE, "check", *crate.words(["--jobs", "1"], tests=tests == "tests"), "--incremental", "out/incremental", *flags])
 """
 
 # What the modules of one function are called behind its path.
@@ -150,8 +150,8 @@ class Costs:
         )
 
 
-def measured(crate, used):
-    """What a check of a crate takes; none where it isn't proved."""
+def measured(crate, used, tests):
+    """What a check of a crate, or of its tests, takes; none where it isn't proved."""
     with tempfile.TemporaryDirectory(prefix="costs-", dir=os.environ.get("COSTS_DIR")) as room:
         folder = copied(room, crate, used)
         rt = os.path.dirname(os.path.realpath(shutil.which("rt")))
@@ -159,7 +159,7 @@ def measured(crate, used):
         log = os.path.join(room, "log")
         with open(log, "w", encoding="utf-8") as file:
             run = subprocess.run(
-                [sys.executable, "-c", CHECK, rt, room, folder, "--stage-times", os.path.join(room, "stages")],
+                [sys.executable, "-c", CHECK, rt, room, folder, "tests" if tests else "", "--stage-times", os.path.join(room, "stages")],
                 cwd=folder, stdin=subprocess.DEVNULL, stdout=file, stderr=subprocess.STDOUT,
             )
         ended, after = time.time(), resource.getrusage(resource.RUSAGE_CHILDREN)
@@ -173,7 +173,8 @@ def measured(crate, used):
 
 
 def main():
-    asked = argparse.ArgumentParser(usage="bench/gate/costs.py [--most N] [--tsv FILE] [CRATE ..]")
+    asked = argparse.ArgumentParser(usage="bench/gate/costs.py [--tests] [--most N] [--tsv FILE] [CRATE ..]")
+    asked.add_argument("--tests", action="store_true")
     asked.add_argument("--most", type=int, default=100)
     asked.add_argument("--tsv")
     asked.add_argument("crates", nargs="*")
@@ -188,7 +189,7 @@ def main():
         if absent:
             print(f"{crate}: not built below it: {' '.join(absent)}", file=sys.stderr)
             continue
-        costs = measured(crate, used)
+        costs = measured(crate, used, asked.tests)
         if costs:
             print(costs.row(), flush=True)
             dearest += [(took, f"{crate}::{path}" if kind == "function" else f"crates/{crate}/{path}") for (kind, path), took in costs.each.items()]
