@@ -37,7 +37,7 @@ LANES = (
     # Recorded runs, which are checked.
     ("bench/gate/record.py PROGRAM",),
     # Slow peers, and many: the limits of docs/SERVING.md.
-    ("bench/gate/limits.py PROGRAM many late in_use",),
+    ("bench/gate/limits.py PROGRAM many few crowd late in_use",),
     # What its memory grows by.
     ("bench/gate/memory.py PROGRAM",),
     # What it counts, beside a script's own count; Prometheus' promtool has nothing to say of it.

@@ -1,17 +1,19 @@
 #!/usr/bin/env python3
 """Slow peers of `xds serve`, and many: what the limits of docs/SERVING.md come to, over sockets.
 
-    python3 bench/gate/limits.py PROGRAM [slow | many | few | late | in_use ..]
+    python3 bench/gate/limits.py PROGRAM [slow | many | few | crowd | late | in_use ..]
 
 The program serves one replica. Over HTTP a head, a body and a connection are begun and left, more connections are opened than may be
 (many), and a reply isn't read; over streams a frame is begun and left, and responses aren't read. Meanwhile a poll and a stream are
 answered each half second, and it is told how long the slowest took (slow). Then a server with few descriptors is given more
-connections than it has descriptors for (few). At a server of one cluster bodies are begun and left, at the port of polls and at an
+connections than it has descriptors for (few). To a server of one cluster 5,000 clients connect at once, and each must be told it
+(crowd). At a server of one cluster bodies are begun and left, at the port of polls and at an
 operator's (late), and connections are in use beside more than there may be (in_use). Without such a word it tries all, takes some 80
 seconds, and prints a line a limit. The status is 1 where one isn't as the document says.
 """
 import json
 import resource
+import selectors
 import socket
 import subprocess
 import sys
@@ -199,12 +201,57 @@ def few(program):
     yield told("200 connections at a server with 64 descriptors", alive and good and stream, f"it goes on, and once they are closed a poll is {'answered' if good else 'refused'} and a stream, too")
 
 
+def threads(server):
+    with open(f"/proc/{server.run.pid}/status", encoding="utf-8") as file:
+        return next(int(line.split()[1]) for line in file if line.startswith("Threads:"))
+
+
+def crowd(program):
+    """5,000 clients at once. How many, where fewer descriptors may be had, is told."""
+    most = resource.getrlimit(resource.RLIMIT_NOFILE)[1]
+    number = 5000 if most == resource.RLIM_INFINITY else min(5000, most - 200)
+    resource.setrlimit(resource.RLIMIT_NOFILE, (number + 200, most))
+    server = Server(program, descriptors=number + 200, clusters=1)
+    begin, before, waits = time.monotonic(), threads(server), selectors.DefaultSelector()
+    asks = framed(1, ('{"typeUrl":"%s"}' % URL).encode())
+    for _ in range(number):
+        link = socket.socket()
+        link.setblocking(False)
+        link.connect_ex(("127.0.0.1", server.port))
+        waits.register(link, selectors.EVENT_WRITE, b"")
+    answered = 0
+    while answered < number and time.monotonic() < begin + 60:
+        for key, events in waits.select(1):
+            if events & selectors.EVENT_WRITE:
+                if key.fileobj.getsockopt(socket.SOL_SOCKET, socket.SO_ERROR):
+                    waits.unregister(key.fileobj)
+                    continue
+                key.fileobj.send(asks)
+                waits.modify(key.fileobj, selectors.EVENT_READ, b"")
+                continue
+            try:
+                piece = key.fileobj.recv(1 << 16)
+            except ConnectionError:
+                piece = b""
+            held = key.data + piece
+            is_told = len(held) > 4 and len(held) >= 4 + int.from_bytes(held[:4], "big")
+            answered += is_told
+            if is_told or not piece:
+                waits.unregister(key.fileobj)
+            else:
+                waits.modify(key.fileobj, selectors.EVENT_READ, held)
+    seconds, after = time.monotonic() - begin, threads(server)
+    server.run.kill()
+    yield told(f"{number} clients that connect at once", answered == number and after == before, f"{answered} are told what they ask for, the last after {seconds:.1f} s, by {after} threads")
+
+
 def main(words):
     # Of each case what is told, and how many clusters its server has.
     cases = {"slow": (slow, CLUSTERS), "many": (many, CLUSTERS), "late": (late, 1), "in_use": (in_use, 1)}
-    if not words or set(words[1:]) - {*cases, "few"}:
+    alone = {"few": few, "crowd": crowd}
+    if not words or set(words[1:]) - {*cases, *alone}:
         sys.exit(__doc__)
-    asked, good = words[1:] or [*cases, "few"], []
+    asked, good = words[1:] or [*cases, *alone], []
     for name, (case, clusters) in cases.items():
         if name in asked:
             server = Server(words[0], clusters=clusters)
@@ -212,8 +259,9 @@ def main(words):
                 good += case(server)
             finally:
                 server.run.kill()
-    if "few" in asked:
-        good += few(words[0])
+    for name, case in alone.items():
+        if name in asked:
+            good += case(words[0])
     return 0 if all(good) else 1
 
 
