@@ -8,7 +8,10 @@
 --     file_line        the line of a file that can't be opened
 --     no_token_line    the line of a file that has no token
 --     unloaded_line    the line of a file that isn't loaded, by one of its lines or by what else was refused
-use Rattle.std.specs.Prelude.{ℕ, List, ◌++◌, Option, Some, None, Result, Ok, Err, codes, decimal}
+--     unsayable_line   the line of a name that can't stand in a line of changes
+--     why_refused      why a question is refused by a status of HTTP, with what is said of it
+--     refused_by_line  the line of a status of HTTP by which a question is refused, with why, if that is said
+use Rattle.std.specs.Prelude.{ℕ, ◌==◌, ◌&&◌, ◌||◌, List, length, if◌then◌else◌, ◌++◌, Option, Some, None, codes, decimal}
 use Rattle.xds_resource.specs.declared.refusal.Refusal.{Refusal}
 use Rattle.xds_resource.specs.Refusals.{number_of, name_of}
 use Rattle.xds_stats.specs.Logging.{number_text}
@@ -60,3 +63,19 @@ no_token_line file = file ++ codes ": its first line is to be a token\n"
 abbrev pub unloaded_line : List ℕ → Option ℕ → Refusal → List ℕ
 unloaded_line file (Some line) refusal = file ++ (codes ": line " ++ (decimal line ++ (codes ": " ++ (decimal (number_of refusal) ++ (codes " " ++ (name_of refusal ++ codes "\n"))))))
 unloaded_line file None refusal = file ++ (codes ": " ++ (decimal (number_of refusal) ++ (codes " " ++ (name_of refusal ++ codes "\n"))))
+
+-- the line of a name that can't stand in a line of changes
+abbrev pub unsayable_line : List ℕ
+unsayable_line = codes "5 BadName: a name that is empty, or has a space or the end of a line in it, can't stand in a line of changes\n"
+
+-- why a question is refused by a status of HTTP, with what is said of it
+abbrev pub why_refused : ℕ → List ℕ → List ℕ
+why_refused status said =
+    if status == 401 then codes "--admin-token FILE says the token"
+    else (if (status == 404) && (length said == 0) then codes "no operator's port of this version is there"
+    else (if status == 413 then codes "more than 4,194,304 bytes of changes"
+    else (if (status == 414) || (status == 431) then codes "the names are too long for one request" else said)))
+
+-- the line of a status of HTTP by which a question is refused, with why, if that is said
+abbrev pub refused_by_line : ℕ → List ℕ → List ℕ
+refused_by_line status why = if length why == 0 then codes "the server answers " ++ (decimal status ++ codes "\n") else codes "the server answers " ++ (decimal status ++ (codes ": " ++ (why ++ codes "\n")))

@@ -1,7 +1,7 @@
 // What a server tells on its error output.
 ghost use Rattle.std.specs.Prelude.{◌≡◌, string_bytes, IfOk, Ok};
 ghost use Rattle.xds_notes.specs.Endings.{fault_line, refusal_line, status_of, TellsEnd, TellsLine, TellsText};
-ghost use Rattle.xds_tools.specs.Messages.{admin_line, file_line, no_token_line, old_numbers_line, port_fault_text, port_line, replica_line, same_numbers_line, unloaded_line};
+ghost use Rattle.xds_tools.specs.Messages.{admin_line, file_line, no_token_line, old_numbers_line, port_fault_text, port_line, refused_by_line, replica_line, same_numbers_line, unloaded_line, unsayable_line, why_refused};
 ghost use Rattle.xds_frames.specs.Devices.{seen};
 ghost use Rattle.xds_monitor.specs.Recordings.{tape_line};
 
@@ -132,18 +132,27 @@ pub fn tell_device<E: Write>(
 }
 
 // The line of a status of HTTP by which a question is refused, with what is said of it, if something is.
-fn refused_by_line(alloc: Global, status: u16, said: &str) -> Result<String, Refusal> {
-    let why = match status {
+fn refused_by_line(alloc: Global, status: u16, said: &str) -> Result<String, Refusal>
+    ensures { IfOk result (λ t. string_bytes t ≡ refused_by_line status (why_refused status said.now)) }
+{
+    let why = why_refused(status, said);
+    if why.is_empty() {
+        return Ok(format!(in alloc; "the server answers {status}\n")?);
+    }
+    Ok(format!(in alloc; "the server answers {status}: {why}\n")?)
+}
+
+// Why a question is refused by a status of HTTP, with what is said of it.
+fn why_refused<'a>(status: u16, said: &'a str) -> &'a str
+    ensures { result.now ≡ why_refused status said.now }
+{
+    match status {
         401 => "--admin-token FILE says the token",
         404 if said.is_empty() => "no operator's port of this version is there",
         413 => "more than 4,194,304 bytes of changes",
         414 | 431 => "the names are too long for one request",
         _ => said,
-    };
-    if why.is_empty() {
-        return Ok(format!(in alloc; "the server answers {status}\n")?);
     }
-    Ok(format!(in alloc; "the server answers {status}: {why}\n")?)
 }
 
 /// Tells the status of HTTP by which a question is refused, with what is said of it, and answers the status of the program.
@@ -153,14 +162,17 @@ pub fn tell_refused_by<E: Write>(
     status: u16,
     said: &str,
 ) -> u8
-    ensures { result ≡ 1 }
+    ensures told { TellsLine (refused_by_line status (why_refused status said.now)) (seen E.contents errors.old errors.new) }
+    ensures status { result ≡ 1 }
 {
     put(errors, refused_by_line(alloc, status, said));
     REFUSED
 }
 
 // The line of a name that can't be said in a line of changes.
-fn unsayable_line(alloc: Global) -> Result<String, Refusal> {
+fn unsayable_line(alloc: Global) -> Result<String, Refusal>
+    ensures { IfOk result (λ t. string_bytes t ≡ unsayable_line) }
+{
     Ok(String::from_str(
         alloc,
         "5 BadName: a name that is empty, or has a space or the end of a line in it, can't stand in a line of changes\n",
@@ -169,7 +181,8 @@ fn unsayable_line(alloc: Global) -> Result<String, Refusal> {
 
 /// Tells that a name can't be said in a line of changes, and answers the status.
 pub fn tell_unsayable<E: Write>(alloc: Global, errors: &mut Counted<E>) -> u8
-    ensures { result ≡ 1 }
+    ensures told { TellsLine unsayable_line (seen E.contents errors.old errors.new) }
+    ensures status { result ≡ 1 }
 {
     put(errors, unsayable_line(alloc));
     REFUSED
@@ -236,7 +249,8 @@ pub fn tell_store<E: Write>(
 
 /// Tells a text, and answers the status.
 pub fn tell_text<E: Write>(errors: &mut Counted<E>, text: String) -> u8
-    ensures { result ≡ 1 }
+    ensures told { TellsText string_bytes (Ok text) (seen E.contents errors.old errors.new) }
+    ensures status { result ≡ 1 }
 {
     put(errors, Ok(text));
     REFUSED
