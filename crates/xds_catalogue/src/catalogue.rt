@@ -1,5 +1,5 @@
 // The catalogue of one type.
-ghost use Rattle.std.specs.Prelude.{◌≡◌, ◌≤◌, ◌<◌, ◌^◌, ◌∷◌, [], length, nat_lt, map, is_some, true, false, IfSome, IfNone, IsOk, IfOk, IfErr, OnErr};
+ghost use Rattle.std.specs.Prelude.{◌≡◌, ◌-◌, ◌≤◌, ◌<◌, ◌^◌, ◌∷◌, [], length, nat_lt, map, is_some, true, false, IfSome, IfNone, IsOk, IfOk, IfErr, OnErr};
 ghost use Rattle.std.specs.List.{filter};
 ghost use Rattle.std.specs.Option.{option_map};
 ghost use Rattle.std.specs.Arc.{arc_str_bytes};
@@ -103,6 +103,26 @@ impl<T: ResourceType> Catalogue<T> {
         let (number, name) = self.tables.numbers().first_from(after + 1)?;
         let held = self.tables.names().get(name)?;
         Some((number, held.write()))
+    }
+
+    // rule: marks
+    /// How many changes lie above this number.
+    pub fn changes_since(&self, after: u64) -> u64
+        ensures count { result ≡ self.now.changes - after }
+        ensures numbered { IsNumbered self.now }
+    {
+        self.tables.changes().saturating_sub(after)
+    }
+
+    // rule: marks
+    /// The number of the latest change of a name's entry, or none where it has no entry. It takes no memory.
+    pub fn latest_change(&self, name: &str) -> Option<u64>
+        ensures { result ≡ finmap.get self.now.latest name.now }
+    {
+        match self.tables.names().get(name) {
+            Some(held) => Some(held.change()),
+            None => None,
+        }
     }
 
     /// The write that stands under a name, be it a deletion.

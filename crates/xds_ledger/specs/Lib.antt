@@ -9,6 +9,7 @@ pub mod Listed
 pub mod ListLaws
 pub mod Sharing
 pub mod Believing
+pub mod Named
 pub mod Parts
 pub mod Changes
 pub mod Overlay

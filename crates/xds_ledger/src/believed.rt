@@ -61,6 +61,16 @@ fn shared(base: &Option<SharedMap<Due>>) -> Result<Option<SharedMap<Due>>, Refus
     }
 }
 
+// The offer, if there is one.
+fn told_of(base: &Option<SharedMap<Due>>) -> Option<&NameMap<Due>>
+    ensures { option_map (λ m. m.now) result ≡ base.now }
+{
+    match base {
+        Some(offer) => Some(offer.as_map()),
+        None => None,
+    }
+}
+
 impl Beliefs {
     pub fn new(alloc: Global) -> Beliefs
         ensures { result ≡ finmap.empty }
@@ -104,6 +114,22 @@ impl Beliefs {
             Some(_) => false,
             None => self.changed.is_empty(),
         }
+    }
+
+    // What an offer told, if one was accepted as it was, and the differences from it.
+    pub(crate) fn parts(&self) -> (Option<&NameMap<Due>>, &Differences)
+        ensures { overlaid (told_by (option_map (λ m. m.now) result.0)) result.1.now ≡ self.now }
+    {
+        (told_of(&self.base), &self.changed)
+    }
+
+    /// How many names were told or differ: no fewer than those of which something is believed, if they can be counted.
+    pub(crate) fn how_many(&self) -> u64 {
+        let told = match &self.base {
+            Some(offer) => offer.as_map().iter().len() as u64,
+            None => 0,
+        };
+        told.saturating_add(self.changed.iter().len() as u64)
     }
 
     /// Puts an entry at a name, if there is one to put. Refused only by `OutOfMemory`.

@@ -17,6 +17,7 @@ pub mod ledger;
 pub mod listed;
 mod listing;
 mod looks;
+mod named;
 pub mod names;
 pub mod nonces;
 pub mod offers;

@@ -12,6 +12,7 @@ ghost use Rattle.xds_ledger.specs.Sharing.{base_names, over};
 
 use crate::believed::Beliefs;
 use crate::differences::put_at;
+use crate::named::{looks_by_name, owed_by_name};
 use crate::owed::name_owed;
 use crate::shared_map::SharedMap;
 use crate::variant::VariantName;
@@ -413,6 +414,27 @@ fn with_owed_listed<T: ResourceType>(
 // rule: owed
 // Those of the names that changed since a mark that something is owed of, with the numbers of their latest changes.
 fn owed_since<T: ResourceType>(
+    alloc: Global,
+    variant: VariantName,
+    interest: &Interest<T>,
+    catalogue: &Catalogue<T>,
+    beliefs: &Beliefs,
+    mark: u64,
+) -> Result<NameMap<u64>, Refusal>
+    ensures ok { IfOk result (λ m. (name : List ℕ) → finmap.get m name ≡ (if is_since catalogue.now mark name
+        then (if is_owed variant T.TYPE interest.now catalogue.now.entries beliefs.now name then finmap.get catalogue.now.latest name else None) else None)) }
+    ensures numbered { IfOk result (λ m. IsNumbered catalogue.now) }
+    ensures refused { IfErr result (λ e. e ≡ OutOfMemory) }
+{
+    if looks_by_name(interest, catalogue, beliefs, mark) {
+        return owed_by_name(alloc, variant, interest, catalogue, beliefs, mark);
+    }
+    owed_by_change(alloc, variant, interest, catalogue, beliefs, mark)
+}
+
+// rule: owed
+// The same by a walk through the changes above the mark.
+fn owed_by_change<T: ResourceType>(
     alloc: Global,
     variant: VariantName,
     interest: &Interest<T>,

@@ -14,6 +14,7 @@ ghost use Rattle.xds_ledger.specs.Variants.{is_told};
 use crate::believed::Beliefs;
 use crate::entry::Due;
 use crate::listed::Listed;
+use crate::named::{is_owed_by_name, looks_by_name};
 use crate::told::Believed;
 use crate::variant::VariantName;
 use crate::version::Version;
@@ -140,6 +141,25 @@ fn listed_owed<T: ResourceType>(
 // rule: owed
 // Whether something is owed of a name that changed since a mark.
 fn changed_owed<T: ResourceType>(
+    variant: VariantName,
+    interest: &Interest<T>,
+    catalogue: &Catalogue<T>,
+    beliefs: &Beliefs,
+    mark: u64,
+) -> bool
+    ensures found { result ≡ true → (name : List ℕ) × (is_owed variant T.TYPE interest.now catalogue.now.entries beliefs.now name ≡ true) }
+    ensures none { result ≡ false → (name : List ℕ) → is_since catalogue.now mark name ≡ true → is_owed variant T.TYPE interest.now catalogue.now.entries beliefs.now name ≡ false }
+    ensures numbered { result ≡ false → IsNumbered catalogue.now }
+{
+    if looks_by_name(interest, catalogue, beliefs, mark) {
+        return is_owed_by_name(variant, interest, catalogue, beliefs, mark);
+    }
+    is_owed_by_change(variant, interest, catalogue, beliefs, mark)
+}
+
+// rule: owed
+// The same by a walk through the changes above the mark.
+fn is_owed_by_change<T: ResourceType>(
     variant: VariantName,
     interest: &Interest<T>,
     catalogue: &Catalogue<T>,

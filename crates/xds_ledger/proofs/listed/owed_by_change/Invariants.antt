@@ -3,7 +3,7 @@ use Rattle.std.specs.Prelude.{if◌then◌else◌}
 use Rattle.std.specs.FinMap as finmap
 use Rattle.xds_ledger.specs.Owed.{is_owed}
 use Rattle.xds_ledger.proofs.Walking.{IsWalkedTo}
-use Rattle.xds_ledger.proofs.listed.owed_since.Given as goal
+use Rattle.xds_ledger.proofs.listed.owed_by_change.Given as goal
 
 abbrev pub invariant-loop-number : goal.invariant-loop-number
 invariant-loop-number g l =

@@ -4,7 +4,7 @@ use Rattle.std.specs.FinMap as finmap
 use Rattle.xds_ledger.specs.Owed.{is_owed}
 use Rattle.xds_ledger.proofs.Fitting.{found_owed}
 use Rattle.xds_ledger.proofs.Walking.{IsWalkedTo, walk_begins, walk_further, walk_ends}
-use Rattle.xds_ledger.proofs.listed.owed_since.Goals as goal
+use Rattle.xds_ledger.proofs.listed.owed_by_change.Goals as goal
 
 pub loop-number-init : goal.loop-number-init
 loop-number-init g c =

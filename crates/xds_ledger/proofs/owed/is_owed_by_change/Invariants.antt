@@ -1,7 +1,7 @@
 use Rattle.std.proofs.Common.{◌≡◌, ◌-◌, false}
 use Rattle.xds_ledger.specs.Owed.{is_owed}
 use Rattle.xds_ledger.proofs.LookedAt.{LookedAt}
-use Rattle.xds_ledger.proofs.owed.changed_owed.Given as goal
+use Rattle.xds_ledger.proofs.owed.is_owed_by_change.Given as goal
 
 -- nothing is owed of a name that was looked at
 abbrev pub invariant-loop-number : goal.invariant-loop-number

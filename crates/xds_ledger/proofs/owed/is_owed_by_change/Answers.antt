@@ -1,7 +1,7 @@
 use Rattle.std.proofs.Common.{◌≡◌, ℕ, List, Bool, false, sym, ap, ◌∙◌}
 use Rattle.xds_ledger.specs.Owed.{is_owed}
 use Rattle.xds_ledger.proofs.LookedAt.{none_looked_at, one_looked_at, all_looked_at}
-use Rattle.xds_ledger.proofs.owed.changed_owed.Goals as goal
+use Rattle.xds_ledger.proofs.owed.is_owed_by_change.Goals as goal
 
 pub loop-number-init : goal.loop-number-init
 loop-number-init g c = none_looked_at (λ name. is_owed c.args.variant g.T.ResourceType.TYPE c.args.interest.now c.args.catalogue.now.entries c.args.beliefs.now name ≡ false) c.args.catalogue.now c.args.mark
