@@ -1,6 +1,6 @@
 -- That an offer which was accepted, with the differences of the names that were touched since, is what is believed then.
 use Rattle.std.proofs.Common.{◌≡◌, ℕ, List, [], ◌∷◌, Bool, true, false, ◌||◌, Option, Some, None, refl, sym, ap, ◌∙◌}
-use Rattle.std.specs.Prelude.{unwrap_or, option_map, if◌then◌else◌, IfSome}
+use Rattle.std.specs.Prelude.{unwrap_or, is_some, option_map, if◌then◌else◌, IfSome}
 use Rattle.std.specs.Option.{option_or, option_and_then}
 use Rattle.std.specs.List.{list_any}
 use Rattle.std.specs.FinMap as finmap
@@ -9,7 +9,7 @@ use Rattle.xds_resource.specs.declared.types.TypeName.{TypeName}
 use Rattle.xds_resource.specs.Writes.{text_cmp}
 use Rattle.xds_resource.specs.Names.{put_each}
 use Rattle.xds_resource.proofs.NameMaps.{same_names}
-use Rattle.xds_resource.proofs.MadeMaps.{get-put_each}
+use Rattle.xds_resource.proofs.MadeMaps.{get-put_all, get-put_each}
 use Rattle.xds_interest.specs.Touches.{Touch, touches}
 use Rattle.xds_interest.proofs.Texts.{contains-from_texts}
 use Rattle.xds_ledger.specs.declared.variant.VariantName.{VariantName}
@@ -19,7 +19,7 @@ use Rattle.xds_ledger.specs.Variants.{is_whole}
 use Rattle.xds_ledger.specs.Owed.{Beliefs}
 use Rattle.xds_ledger.specs.Believing.{Sent, was_touched, once_told, believed_accepted, beliefs_accepted}
 use Rattle.xds_ledger.specs.Overlay.{Differences, told_by, overlaid}
-use Rattle.xds_ledger.specs.Accepting.{is_named_since, change_since}
+use Rattle.xds_ledger.specs.Accepting.{is_named_since, change_since, beside, kept_beside}
 use Rattle.xds_ledger.specs.Ledgers.{Account, Names, answered, beliefs_after, taken}
 use Rattle.xds_ledger.proofs.BeliefsByName.{accepted_by_name}
 use Rattle.xds_ledger.proofs.Overlaying.{believed_at}
@@ -47,28 +47,50 @@ names_put f old names of q is =
 
 -- ---- one name
 
-kept : (whole : Bool) (e : Option Entry) → unwrap_or (option_map Some (believed_accepted false true None e)) None ≡ believed_accepted whole true None e
-kept true None = refl
-kept true (Some x) = refl
-kept false None = refl
-kept false (Some x) = refl
+-- what a name makes that no request touched
+abbrev kept_at : Bool → Option Due → Option Entry → Option (Option Entry)
+kept_at whole o e = if whole then None else option_or (option_and_then (λ x. if is_some o then None else Some (Some x)) e) None
 
-accept_step : (touched whole : Bool) (o : Option Due) (e : Option Entry) → (whole ≡ false → e ≡ None)
-    → unwrap_or (if touched then option_map Some (believed_accepted false true o e) else None) (option_and_then once_told o) ≡ believed_accepted whole touched o e
-accept_step true whole (Some d) e alone = refl
-accept_step true whole None e alone = kept whole e
-accept_step false whole (Some d) e alone = refl
-accept_step false true None e alone = refl
-accept_step false false None e alone = sym (alone refl)
+accept_step : (touched whole : Bool) (o : Option Due) (e : Option Entry)
+    → unwrap_or (if touched then option_or (option_map Some (believed_accepted false true o e)) (kept_at whole o e) else kept_at whole o e) (option_and_then once_told o) ≡ believed_accepted whole touched o e
+accept_step true whole (Some d) e = refl
+accept_step true true None None = refl
+accept_step true true None (Some x) = refl
+accept_step true false None None = refl
+accept_step true false None (Some x) = refl
+accept_step false true (Some d) e = refl
+accept_step false true None e = refl
+accept_step false false (Some d) None = refl
+accept_step false false (Some d) (Some x) = refl
+accept_step false false None None = refl
+accept_step false false None (Some x) = refl
 
-pub accepted_is : (whole : Bool) (sent : Sent) (b : Beliefs) (d : Differences) → list_any (λ t. t.all) sent.touched ≡ false → (whole ≡ false → b ≡ finmap.empty)
-    → ((q : List ℕ) → finmap.get d q ≡ (if is_named_since sent q then change_since sent b q else None))
+get-kept : (whole : Bool) (sent : Sent) (b : Beliefs) (q : List ℕ) → finmap.get (kept_beside whole sent b) q ≡ kept_at whole (finmap.get sent.offer q) (finmap.get b q)
+get-kept true sent b q = finmap.get-empty text_cmp q
+get-kept false sent b q =
+    get-put_all (beside sent) finmap.empty b q ∙ ap (option_or (option_and_then (beside sent q) (finmap.get b q))) (finmap.get-empty text_cmp q)
+
+pub accepted_is : (whole : Bool) (sent : Sent) (b : Beliefs) (d : Differences) → list_any (λ t. t.all) sent.touched ≡ false
+    → ((q : List ℕ) → finmap.get d q ≡ (if is_named_since sent q then option_or (change_since sent b q) (finmap.get (kept_beside whole sent b) q) else finmap.get (kept_beside whole sent b) q))
     → overlaid (told_by (Some sent.offer)) d ≡ beliefs_accepted whole sent b
-accepted_is whole sent b d some alone is =
+accepted_is whole sent b d some is =
     same_names _ _ (λ q. believed_at (Some sent.offer) d q
-    ∙ ap (λ o. unwrap_or o (option_and_then once_told (finmap.get sent.offer q))) (is q ∙ ap (λ t. if t then change_since sent b q else None) (sym (named_if_touched sent.touched q some)))
-    ∙ accept_step (was_touched sent q) whole (finmap.get sent.offer q) (finmap.get b q) (λ partly. ap (λ (m : Beliefs). finmap.get m q) (alone partly) ∙ finmap.get-empty text_cmp q)
+    ∙ ap (λ o. unwrap_or o (option_and_then once_told (finmap.get sent.offer q)))
+    (is q ∙ (λ i. if sym (named_if_touched sent.touched q some) i then option_or (change_since sent b q) (get-kept whole sent b q i) else get-kept whole sent b q i))
+    ∙ accept_step (was_touched sent q) whole (finmap.get sent.offer q) (finmap.get b q)
     ∙ sym (accepted_by_name whole sent b q))
+
+-- once f was put at each name that one more request touched
+again_at : (c s : Option (Option Entry)) → option_or c (option_or c s) ≡ option_or c s
+again_at None s = refl
+again_at (Some x) s = refl
+
+pub put_further : (any here : Bool) (c s : Option (Option Entry))
+    → (if here then option_or c (if any then option_or c s else s) else (if any then option_or c s else s)) ≡ (if any || here then option_or c s else s)
+put_further true true c s = again_at c s
+put_further true false c s = refl
+put_further false true c s = refl
+put_further false false c s = refl
 
 -- ---- an account
 

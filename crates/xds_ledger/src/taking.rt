@@ -1,6 +1,6 @@
-// How an account takes a request. An offer that was accepted is believed by holding it, where it is the whole or
-// nothing was believed held. Else what is believed changes in place, name by name of those that the request and the
-// response that it answers speak of. It is made anew where a request touches every name.
+// How an account takes a request. An offer that was accepted is believed by holding it, where it is the whole or speaks
+// of at least half as many names as were believed held. Else what is believed changes in place, name by name of those
+// that the request and the response that it answers speak of. It is made anew where a request touches every name.
 ghost use Rattle.std.specs.Prelude.{◌≡◌, ◌&&◌, not, false, IfOk, IfErr, IfSome, OnOk, OnErr};
 ghost use Rattle.xds_resource.specs.declared.refusal.Refusal.TheVariants.{OutOfMemory};
 ghost use Rattle.xds_ledger.specs.Changes.{Lead, changes_answered};
@@ -44,7 +44,8 @@ impl<T: ResourceType, V: Variant> Account<T, V> {
     /// `OutOfMemory`, and then nothing is taken. Where it accepts a response that is the whole, or before which
     /// nothing was believed held, it looks at the names alone that it mentions or that were touched since the
     /// response was sent, and else at those of the response, too. It looks at all that are believed held only where
-    /// every name is touched, or was since a whole response was sent that it accepts.
+    /// these are at most twice as many as the names of the response that it accepts, where every name is touched, or
+    /// where every name was touched since a whole response was sent that it accepts.
     pub fn take(
         &mut self,
         alloc: Global,
@@ -97,11 +98,17 @@ impl<T: ResourceType, V: Variant> Account<T, V> {
         let Some(sent) = &self.sent else {
             return Ok(None);
         };
-        if sent.touches_all() || !(whole || self.beliefs.is_empty()) {
+        if sent.touches_all() || !(whole || self.is_told_most(sent)) {
             return Ok(None);
         }
         let next = accepted_as_offered(alloc, whole, sent, &self.beliefs)?;
         Ok(Some(next))
+    }
+
+    // Whether the offer of a response speaks of half as many names as are believed held, or more.
+    fn is_told_most(&self, sent: &Sent) -> bool {
+        let told = sent.offer.as_map().iter().len() as u64;
+        self.beliefs.how_many() <= told.saturating_mul(2)
     }
 
     // Takes a request that accepts the unanswered response, once it is known what is believed then.

@@ -1,8 +1,7 @@
-use Rattle.std.proofs.Common.{ap, ◌∙◌}
+use Rattle.std.proofs.Common.{ap}
 use Rattle.std.specs.FinMap as finmap
-use Rattle.xds_resource.specs.Writes.{text_cmp}
 use Rattle.xds_ledger.specs.Overlay.{Differences}
 use Rattle.xds_ledger.proofs.accepting.differences_since.Goals as goal
 
 pub loop-touched-init : goal.loop-touched-init
-loop-touched-init c = λ q. ap (λ (m : Differences). finmap.get m q) c.new-next.ensures ∙ finmap.get-empty text_cmp q
+loop-touched-init c = λ q. ap (λ (m : Differences). finmap.get m q) c.in_ok-next.ensures.ok
