@@ -14,13 +14,13 @@ use Rattle.xds_ledger.specs.declared.entry.Entry.{Entry}
 use Rattle.xds_ledger.specs.declared.entry.Entry.TheVariants.{Told, Unsure}
 use Rattle.xds_ledger.specs.declared.entry.Due.{Due}
 use Rattle.xds_ledger.specs.declared.entry.Due.TheVariants.{Stated, Removed}
-use Rattle.xds_ledger.specs.Variants.{is_whole, is_told, tells_removals}
+use Rattle.xds_ledger.specs.Variants.{is_whole, is_told}
 use Rattle.xds_ledger.specs.Owed.{Beliefs, version_shown, present, owed}
 use Rattle.xds_ledger.specs.Offers.{Offer, offer}
 use Rattle.xds_ledger.specs.Listed as lists
 use Rattle.xds_ledger.specs.Listed.{Listed, is_listed, IsPast, IsLater, KeepsSending, pruned}
 use Rattle.xds_ledger.specs.Ledgers.{Account, Sent, Names, was_touched, touched_since, believed_accepted, beliefs_accepted, beliefs_taken, beliefs_after, nonce_text, send, answers, answered, accept, settled, taken}
-use Rattle.xds_ledger.specs.Lists.{Books, told_of_present, IsForetold, Foretells, Fits, FitsNext, StaysPresent, accepts, ListsTouched}
+use Rattle.xds_ledger.specs.Lists.{Books, IsForetold, Foretells, Fits, FitsNext, StaysPresent, accepts, ListsTouched}
 use Rattle.xds_ledger.specs.BookLaws.{SentBooksFit, LaterBooksFit, RefreshedBooksFit, PrunedBooksFit, AcceptanceKeepsFitting}
 use Rattle.xds_ledger.proofs.ByName.{offer_says_it}
 use Rattle.xds_ledger.proofs.BeliefsByName.{accepted_by_name, untouched_keeps_belief}
@@ -50,86 +50,88 @@ said told e p = if option_map_or told (owed e p) false then owed e p else None
 told_due : (told : Due → Bool) (d : Due) → told d ≡ true → (if option_map_or told (Some d) false then Some d else None) ≡ Some d
 told_due told d is = ap (λ b. if b then Some d else None) is
 
-same_or_stated : (told : Due → Bool) (w v : List ℕ) (b : Bool) → bytes_eq w v ≡ b → told (Stated v) ≡ true
-    → believed_accepted false false (if option_map_or told (if b then None else Some (Stated v)) false then (if b then None else Some (Stated v)) else None) (Some (Told w)) ≡ Some (Told v)
-same_or_stated told w v true is all = ap (λ x. Some (Told x)) (bytes_eq_tells w v is)
-same_or_stated told w v false is all = ap (λ o. believed_accepted false false o (Some (Told w))) (told_due told (Stated v) all)
-
--- where all that is due is told, an accepted response that isn't the whole leaves what is present
-partly : (told : Due → Bool) (e : Option Entry) (p : Option (List ℕ)) → ((d : Due) → told d ≡ true) → believed_accepted false false (said told e p) e ≡ option_map Told p
-partly told None None all = refl
-partly told None (Some v) all = ap (λ o. believed_accepted false false o None) (told_due told (Stated v) (all (Stated v)))
-partly told (Some (Told w)) None all = ap (λ o. believed_accepted false false o (Some (Told w))) (told_due told Removed (all Removed))
-partly told (Some (Told w)) (Some v) all = same_or_stated told w v (bytes_eq w v) refl (all (Stated v))
-partly told (Some Unsure) None all = ap (λ o. believed_accepted false false o (Some Unsure)) (told_due told Removed (all Removed))
-partly told (Some Unsure) (Some v) all = ap (λ o. believed_accepted false false o (Some Unsure)) (told_due told (Stated v) (all (Stated v)))
-
--- and so does one that is the whole
-wholly : (e : Option Entry) (p : Option (List ℕ)) → believed_accepted true false (option_map Stated p) e ≡ option_map Told p
-wholly e None = refl
-wholly e (Some v) = refl
-
-either_way : (whole : Bool) (told : Due → Bool) (e : Option Entry) (p : Option (List ℕ)) → ((d : Due) → told d ≡ true)
-    → believed_accepted whole false (if whole then option_map Stated p else said told e p) e ≡ option_map Told p
-either_way true told e p all = wholly e p
-either_way false told e p all = partly told e p all
-
-all_told : (v : VariantName) (t : TypeName) → tells_removals v t ≡ true → (d : Due) → is_told v t d ≡ true
-all_told v t is (Stated version) = refl
-all_told v t is Removed = is
-
--- whatever was believed before
-pub offer_foretells : (v : VariantName) (t : TypeName) (s : Selection) (m : Entries) (b : Beliefs) (q : List ℕ) → tells_removals v t ≡ true
-    → believed_accepted (is_whole v t) false (finmap.get (offer v t s m b) q) (finmap.get b q) ≡ told_of_present s m q
-offer_foretells v t s m b q tells =
-    ap (λ o. believed_accepted (is_whole v t) false o (finmap.get b q)) (offer_says_it v t s m b q)
-    ∙ either_way (is_whole v t) (is_told v t) (finmap.get b q) (present s m q) (all_told v t tells)
-
--- ---- lists of what is told as it is
-
+-- of a name that is told as it is
 not_owed : (told : Due → Bool) (p : Option (List ℕ)) → option_map_or told (owed (option_map Told p) p) false ≡ false
 not_owed told None = refl
 not_owed told (Some v) = ap (λ b. option_map_or told (if b then None else Some (Stated v)) false) (bytes_eq_same v)
 
-present_list_fits : (v : VariantName) (t : TypeName) (s : Selection) (h : Holdings) (b : Beliefs) (l : Listed) → l.mark ≤ h.changes
-    → ((name : List ℕ) → is_listed l name ≡ false → IsPast h l.mark name → finmap.get b name ≡ told_of_present s h.entries name) → lists.Fits v t s h b l
-present_list_fits v t s h b l low tells = record {
-  counted = low;
-  others = λ name out past.
-      ap (λ e. option_map_or (is_told v t) (owed e (present s h.entries name)) false) (tells name out past) ∙ not_owed (is_told v t) (present s h.entries name);
-}
+-- what is owed of a name once an offer that says this of it is accepted
+abbrev owed_then : (Due → Bool) → Option Due → Option Entry → Option (List ℕ) → Bool
+owed_then told o e p = option_map_or told (owed (believed_accepted false false o e) p) false
+
+-- where a version is stated
+once_stated : (told : Due → Bool) (e : Option Entry) (v : List ℕ) → told (Stated v) ≡ true → owed_then told (if option_map_or told (Some (Stated v)) false then Some (Stated v) else None) e (Some v) ≡ false
+once_stated told e v is = ap (λ o. owed_then told o e (Some v)) (told_due told (Stated v) is) ∙ not_owed told (Some v)
+
+same_or_stated : (told : Due → Bool) (w v : List ℕ) (b : Bool) → bytes_eq w v ≡ b → told (Stated v) ≡ true
+    → owed_then told (if option_map_or told (if b then None else Some (Stated v)) false then (if b then None else Some (Stated v)) else None) (Some (Told w)) (Some v) ≡ false
+same_or_stated told w v true is stated = ap (λ b. option_map_or told (if b then None else Some (Stated v)) false) is
+same_or_stated told w v false is stated = once_stated told (Some (Told w)) v stated
+
+-- where a removal is told, or isn't
+removed_or_kept : (told : Due → Bool) (e : Entry) (b : Bool) → told Removed ≡ b → ((x : Option (List ℕ)) → x ≡ None → owed (Some e) x ≡ Some Removed) → owed_then told (if b then Some Removed else None) (Some e) None ≡ false
+removed_or_kept told e true is gone = refl
+removed_or_kept told e false is gone = ap (λ o. option_map_or told o false) (gone None refl) ∙ is
+
+-- an accepted response that isn't the whole leaves nothing owed that can be told
+partly : (told : Due → Bool) (e : Option Entry) (p : Option (List ℕ)) → ((v : List ℕ) → told (Stated v) ≡ true) → owed_then told (said told e p) e p ≡ false
+partly told None None stated = refl
+partly told None (Some v) stated = once_stated told None v (stated v)
+partly told (Some (Told w)) None stated = removed_or_kept told (Told w) (told Removed) refl (λ x is. ap (owed (Some (Told w))) is)
+partly told (Some (Told w)) (Some v) stated = same_or_stated told w v (bytes_eq w v) refl (stated v)
+partly told (Some Unsure) None stated = removed_or_kept told Unsure (told Removed) refl (λ x is. ap (owed (Some Unsure)) is)
+partly told (Some Unsure) (Some v) stated = once_stated told (Some Unsure) v (stated v)
+
+-- and so does one that is the whole
+wholly : (told : Due → Bool) (e : Option Entry) (p : Option (List ℕ)) → option_map_or told (owed (believed_accepted true false (option_map Stated p) e) p) false ≡ false
+wholly told e None = refl
+wholly told e (Some v) = not_owed told (Some v)
+
+either_way : (whole : Bool) (told : Due → Bool) (e : Option Entry) (p : Option (List ℕ)) → ((v : List ℕ) → told (Stated v) ≡ true)
+    → option_map_or told (owed (believed_accepted whole false (if whole then option_map Stated p else said told e p) e) p) false ≡ false
+either_way true told e p stated = wholly told e p
+either_way false told e p stated = partly told e p stated
+
+-- whatever was believed before
+pub offer_foretells : (v : VariantName) (t : TypeName) (s : Selection) (m : Entries) (b : Beliefs) (q : List ℕ)
+    → option_map_or (is_told v t) (owed (believed_accepted (is_whole v t) false (finmap.get (offer v t s m b) q) (finmap.get b q)) (present s m q)) false ≡ false
+offer_foretells v t s m b q =
+    ap (λ o. option_map_or (is_told v t) (owed (believed_accepted (is_whole v t) false o (finmap.get b q)) (present s m q)) false) (offer_says_it v t s m b q)
+    ∙ either_way (is_whole v t) (is_told v t) (finmap.get b q) (present s m q) (λ version. refl)
 
 -- ---- what stays known
 
 -- once an offer of these holdings was sent
 pub sent_foretells : (v : VariantName) (t : TypeName) (s : Selection) (h : Holdings) (a : Account) (l : Listed) (o : Offer) (nonce : ℕ) → o ≡ offer v t s h.entries a.beliefs → Foretells v t s h (send a o nonce) (lists.with_sending l)
-sent_foretells v t s h a l o nonce is = λ tells. record {
+sent_foretells v t s h a l o nonce is = record {
   below = le-itself l.mark;
-  present = λ name untouched past.
-      ap (λ (x : Offer). believed_accepted (is_whole v t) false (finmap.get x name) (finmap.get a.beliefs name)) is ∙ offer_foretells v t s h.entries a.beliefs name tells;
+  settled = λ name untouched past.
+      ap (λ (x : Offer). option_map_or (is_told v t) (owed (believed_accepted (is_whole v t) false (finmap.get x name) (finmap.get a.beliefs name)) (present s h.entries name)) false) is
+      ∙ offer_foretells v t s h.entries a.beliefs name;
 }
 
 -- at a catalogue to which writes came
 pub later_foretells : (v : VariantName) (t : TypeName) (s : Selection) (h later : Holdings) (a : Account) (l : Listed) → IsLater h later → l.mark ≤ h.changes → Foretells v t s h a l → Foretells v t s later a l
-later_foretells v t s h later a l is counted known = λ tells.
+later_foretells v t s h later a l is counted known =
     both_hold (IsForetold v t s later a.beliefs l.mark) a.sent l.sent_mark
     (λ sent m here there.
-    let told = both_at (IsForetold v t s h a.beliefs l.mark) a.sent l.sent_mark sent m here there (known tells) in
+    let told = both_at (IsForetold v t s h a.beliefs l.mark) a.sent l.sent_mark sent m here there known in
     let low : m ≤ h.changes = le-onward m l.mark h.changes told.below counted in
     record {
       below = told.below;
-      present = λ name untouched past.
+      settled = λ name untouched past.
           let entry = is.same name (past_more later m h.changes name low past) in
-          told.present name untouched (is.past name m low past) ∙ ap (λ o. option_map Told (option_and_then (version_shown s name) o)) (sym entry);
+          ap (λ o. option_map_or (is_told v t) (owed (believed_accepted (is_whole v t) false (finmap.get sent.offer name) (finmap.get a.beliefs name)) (option_and_then (version_shown s name) o)) false) entry
+          ∙ told.settled name untouched (is.past name m low past);
     })
 
 -- once the list was looked through
 pub looked_foretells : (v : VariantName) (t : TypeName) (s : Selection) (h : Holdings) (a : Account) (l new : Listed) → KeepsSending l new → Foretells v t s h a l → Foretells v t s h a new
-looked_foretells v t s h a l new keeps known = λ tells.
+looked_foretells v t s h a l new keeps known =
     both_hold (IsForetold v t s h a.beliefs new.mark) a.sent new.sent_mark
     (λ sent m here there.
-    let told = both_at (IsForetold v t s h a.beliefs l.mark) a.sent l.sent_mark sent m here (sym keeps.sent_mark ∙ there) (known tells) in
-    record { below = le-onward m l.mark new.mark told.below keeps.mark; present = told.present })
+    let told = both_at (IsForetold v t s h a.beliefs l.mark) a.sent l.sent_mark sent m here (sym keeps.sent_mark ∙ there) known in
+    record { below = le-onward m l.mark new.mark told.below keeps.mark; settled = told.settled })
 
 -- ---- a request that doesn't answer
 
@@ -167,10 +169,11 @@ module _ (v : VariantName) (t : TypeName) (s next : Selection) (h : Holdings) (a
       → IsForetold v t next h (beliefs_after names a.beliefs) wide.mark (touched_since sent names.touched) m
   touched_is_foretold sent m high none stays told = record {
     below = le-onward m l.mark wide.mark told.below high;
-    present = λ name untouched past.
+    settled = λ name untouched past.
         let parts = touched_neither sent names.touched name untouched in
-        ap (believed_accepted (is_whole v t) false (finmap.get sent.offer name)) (left_alone names a.beliefs name parts.1 (none name)) ∙ told.present name parts.0 past
-        ∙ ap (option_map Told) (stays name parts.1 (past_more h m l.mark name told.below past));
+        (λ i. option_map_or (is_told v t)
+        (owed (believed_accepted (is_whole v t) false (finmap.get sent.offer name) (left_alone names a.beliefs name parts.1 (none name) i)) (sym (stays name parts.1 (past_more h m l.mark name told.below past)) i)) false)
+        ∙ told.settled name parts.0 past;
   }
 
   -- by cases on what is unanswered, and on the mark that is kept
@@ -213,21 +216,24 @@ module _ (v : VariantName) (t : TypeName) (old : Books) (l : Listed) (nonce : Li
     after = taken (accept v t old.account sent) names
 
     known : IsForetold v t s h old.account.beliefs old.listed.mark sent l.mark
-    known = both_at (IsForetold v t s h old.account.beliefs old.listed.mark) old.account.sent old.listed.sent_mark sent l.mark here touched.mark (fits.foretold touched.told)
+    known = both_at (IsForetold v t s h old.account.beliefs old.listed.mark) old.account.sent old.listed.sent_mark sent l.mark here touched.mark fits.foretold
 
     since : (name : List ℕ) → is_listed l name ≡ false → was_touched sent name ≡ false
     since = subst (λ o. IfSome o (λ x. (name : List ℕ) → is_listed l name ≡ false → was_touched x name ≡ false)) here touched.since
 
     accepted_fits : Fits v t next h (record { account = after; listed = l })
     accepted_fits = record {
-      list = present_list_fits v t next h after.beliefs l (le-onward l.mark old.listed.mark h.changes known.below fits.list.counted)
-          (λ name out past.
-          left_alone names (beliefs_accepted (is_whole v t) sent old.account.beliefs) name (touched.untouched name out) (touched.unsaid name out)
-          ∙ accepted_by_name (is_whole v t) sent old.account.beliefs name
-          ∙ ap (λ x. believed_accepted (is_whole v t) x (finmap.get sent.offer name) (finmap.get old.account.beliefs name)) (since name out)
-          ∙ known.present name (since name out) past
-          ∙ ap (option_map Told) (stays name (touched.untouched name out) (past_more h l.mark old.listed.mark name known.below past)));
-      foretold = λ tells. tt;
+      list = record {
+        counted = le-onward l.mark old.listed.mark h.changes known.below fits.list.counted;
+        others = λ name out past.
+            (λ i. option_map_or (is_told v t)
+            (owed ((left_alone names (beliefs_accepted (is_whole v t) sent old.account.beliefs) name (touched.untouched name out) (touched.unsaid name out)
+            ∙ accepted_by_name (is_whole v t) sent old.account.beliefs name
+            ∙ ap (λ x. believed_accepted (is_whole v t) x (finmap.get sent.offer name) (finmap.get old.account.beliefs name)) (since name out)) i)
+            (sym (stays name (touched.untouched name out) (past_more h l.mark old.listed.mark name known.below past)) i)) false)
+            ∙ known.settled name (since name out) past;
+      };
+      foretold = tt;
     }
 
   accepted_at : (o : Option Sent) → old.account.sent ≡ o → is_some o ≡ true → FitsNext v t names.touched old (record { account = taken (settled v t old.account nonce rejects) names; listed = l })

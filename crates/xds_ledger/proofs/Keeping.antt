@@ -29,7 +29,7 @@ use Rattle.xds_ledger.specs.BookLaws.{SentSessionFits}
 
 -- before the first request every list suffices
 pub new_kept_fits : (v : VariantName) (t : TypeName) (cluster : List ℕ) (h : Holdings) → SessionFits v t h (new_kept cluster)
-new_kept_fits v t cluster h = record { list = new_list_fits v t (unasked cluster).interest h; foretold = λ tells. tt; unbegun = λ _. refl; star = (kept_star_is_of_complete t).0 cluster }
+new_kept_fits v t cluster h = record { list = new_list_fits v t (unasked cluster).interest h; foretold = tt; unbegun = λ _. refl; star = (kept_star_is_of_complete t).0 cluster }
 
 -- once writes came
 pub later_session_fits : (v : VariantName) (t : TypeName) (h later : Holdings) (k : Kept) → IsLater h later → SessionFits v t h k → SessionFits v t later k

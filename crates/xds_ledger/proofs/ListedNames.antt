@@ -10,7 +10,6 @@ use Rattle.xds_resource.specs.Writes.{text_cmp}
 use Rattle.xds_interest.proofs.Texts.{contains-from_texts}
 use Rattle.xds_ledger.specs.Listed.{Listed, is_listed, from_mark}
 use Rattle.xds_ledger.specs.declared.variant.VariantName.{VariantName}
-use Rattle.xds_ledger.specs.Variants.{tells_removals}
 use Rattle.xds_ledger.specs.Accepting.{is_named_since}
 use Rattle.xds_ledger.specs.Ledgers.{Sent, Names, was_touched}
 use Rattle.xds_ledger.specs.Lists.{Books, ListsNames, ListsNext, with_names}
@@ -30,14 +29,13 @@ pub none_listed : (mark : ℕ) (l : Listed) (q : List ℕ) → l ≡ from_mark m
 none_listed mark l q is = ap (λ (x : Listed). is_listed x q) is ∙ ap is_some (finmap.get-empty text_cmp q)
 
 -- the list once the unanswered response was accepted, with the touched names alone
-pub touched_are_listed : (v : VariantName) (t : TypeName) (b : Books) (accepting : Bool) (names : Names) (sent : Sent) (m : ℕ) (r : Result Listed Refusal) → accepting ≡ true → tells_removals v t ≡ true → names.touched.all ≡ false
+pub touched_are_listed : (v : VariantName) (t : TypeName) (b : Books) (accepting : Bool) (names : Names) (sent : Sent) (m : ℕ) (r : Result Listed Refusal) → accepting ≡ true → names.touched.all ≡ false
     → b.account.sent ≡ Some sent → b.listed.sent_mark ≡ Some m → list_any (λ x. x.all) sent.touched ≡ false → IfOk r (λ l. l.mark ≡ m)
     → IfOk r (λ l. (q : List ℕ) → is_listed l q ≡ false → (is_named_since sent q ≡ false) × (set.contains names.touched.names q ≡ false) × (finmap.get names.versions q ≡ None))
     → IfOk r (λ l. ListsNext v t b accepting names l)
-touched_are_listed v t b accepting names sent m (Err e) accepted told none here there some mark known = tt
-touched_are_listed v t b accepting names sent m (Ok l) accepted told none here there some mark known = inl (record {
+touched_are_listed v t b accepting names sent m (Err e) accepted none here there some mark known = tt
+touched_are_listed v t b accepting names sent m (Ok l) accepted none here there some mark known = inl (record {
   accepted = accepted;
-  told = told;
   mark = there ∙ ap Some (sym mark);
   since = subst (λ o. IfSome o (λ x. (name : List ℕ) → is_listed l name ≡ false → was_touched x name ≡ false)) (sym here) (λ name out. named_if_touched sent.touched name some ∙ (known name out).0);
   untouched = λ name out. (λ i. none i || (known name out).1 i);

@@ -330,8 +330,8 @@ pub taken_books_fit : (v : VariantName) (t : TypeName) (old new : Books) (nonce 
 taken_books_fit v t old new nonce rejects names lists_it left from next h fits stays = record {
   list = subst (λ (x : Account). lists.Fits v t next h x.beliefs new.listed) (sym left)
       (taken_list_fits v t old.account nonce rejects names.interest names.touched names.mentioned names.versions from next h old.listed new.listed lists_it.wider lists_it.request fits.list stays);
-  foretold = λ tells. subst (λ (x : Account). IfSome x.sent (λ sent. IfSome new.listed.sent_mark (IsForetold v t next h x.beliefs new.listed.mark sent))) (sym left)
-      (taken_is_foretold v t from next h old.account names old.listed new.listed nonce rejects lists_it.wider.sending lists_it.request.sending (fits.foretold tells) stays);
+  foretold = subst (λ (x : Account). IfSome x.sent (λ sent. IfSome new.listed.sent_mark (IsForetold v t next h x.beliefs new.listed.mark sent))) (sym left)
+      (taken_is_foretold v t from next h old.account names old.listed new.listed nonce rejects lists_it.wider.sending lists_it.request.sending fits.foretold stays);
 }
 
 pub request_keeps_fitting : RequestKeepsFitting

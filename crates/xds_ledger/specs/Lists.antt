@@ -3,7 +3,7 @@
 --     Books, books_code   an account, with the list of what may be owed
 --     new_books           before the first request
 --     sent_books          once an offer was sent as the response of this number
---     told_of_present     what a client is believed to hold of a name that holds all that is present
+--     is_owed_then        whether something is owed of a name once the unanswered response is accepted
 --     IsForetold          of an unanswered response it is known what its acceptance leaves
 --     Foretells           where there is one, and the list has the mark of its sending
 --     Fits                the list suffices for a client of this interest, at a catalogue of these holdings
@@ -39,13 +39,11 @@ use Rattle.xds_interest.specs.Asked.{IsStarOfComplete}
 use Rattle.xds_interest.specs.Touches.{Touch, touches}
 use Rattle.xds_catalogue.specs.Holdings.{Holdings, Entries}
 use Rattle.xds_ledger.specs.declared.variant.VariantName.{VariantName}
-use Rattle.xds_ledger.specs.declared.entry.Entry.{Entry}
-use Rattle.xds_ledger.specs.declared.entry.Entry.TheVariants.{Told}
-use Rattle.xds_ledger.specs.Owed.{Beliefs, present}
+use Rattle.xds_ledger.specs.Owed.{Beliefs, present, owed}
 use Rattle.xds_ledger.specs.Offers.{Offer}
 use Rattle.xds_ledger.specs.Listed as lists
 use Rattle.xds_ledger.specs.Listed.{Listed, listed_code, unlisted, is_listed, IsPast, IsWider}
-use Rattle.xds_ledger.specs.Variants.{is_whole, tells_removals}
+use Rattle.xds_ledger.specs.Variants.{is_whole, is_told}
 use Rattle.xds_ledger.specs.Ledgers.{Account, account_code, Sent, Names, was_touched, believed_accepted, untold, send, answers}
 use Rattle.xds_ledger.specs.Sessions as sessions
 use Rattle.xds_ledger.specs.Sessions.{Session, session_code, unopened}
@@ -66,20 +64,21 @@ new_books = record { account = untold; listed = unlisted }
 abbrev pub sent_books : Books → Offer → ℕ → Books
 sent_books b o nonce = record { account = send b.account o nonce; listed = lists.with_sending b.listed }
 
--- what a client is believed to hold of a name that holds all that is present for this interest
-abbrev pub told_of_present : Selection → Entries → List ℕ → Option Entry
-told_of_present s m name = option_map Told (present s m name)
+-- rule: owed
+-- whether something is owed that can be told of a name that no request touched since the response was sent, once that is accepted
+abbrev pub is_owed_then : VariantName → TypeName → Selection → Entries → Beliefs → Sent → List ℕ → Bool
+is_owed_then v t s m b sent name =
+    option_map_or (is_told v t) (owed (believed_accepted (is_whole v t) false (finmap.get sent.offer name) (finmap.get b name)) (present s m name)) false
 
 -- Of an unanswered response it is known what its acceptance leaves of each name that no request touched since it was sent, and whose
--- latest change isn't above the list's mark then: what is present. The list's mark isn't below that one.
+-- latest change isn't above the list's mark then: nothing is owed of it that can be told. The list's mark isn't below that one.
 pub record IsForetold (v : VariantName) (t : TypeName) (s : Selection) (h : Holdings) (b : Beliefs) (mark : ℕ) (sent : Sent) (sent_mark : ℕ) : Type 0 where
   pub below : sent_mark ≤ mark
-  pub present : (name : List ℕ) → was_touched sent name ≡ false → IsPast h sent_mark name
-      → believed_accepted (is_whole v t) false (finmap.get sent.offer name) (finmap.get b name) ≡ told_of_present s h.entries name
+  pub settled : (name : List ℕ) → was_touched sent name ≡ false → IsPast h sent_mark name → is_owed_then v t s h.entries b sent name ≡ false
 
--- where removals are told, of the response that is unanswered, if the list has the mark of its sending
+-- of the response that is unanswered, if the list has the mark of its sending
 abbrev pub Foretells : VariantName → TypeName → Selection → Holdings → Account → Listed → Type 0
-Foretells v t s h a l = tells_removals v t ≡ true → IfSome a.sent (λ sent. IfSome l.sent_mark (IsForetold v t s h a.beliefs l.mark sent))
+Foretells v t s h a l = IfSome a.sent (λ sent. IfSome l.sent_mark (IsForetold v t s h a.beliefs l.mark sent))
 
 -- The list suffices for a client of this interest, at a catalogue of these holdings, and so does what is left of it once the
 -- unanswered response is accepted.
@@ -127,7 +126,6 @@ pub record ListsNames (v : VariantName) (t : TypeName) (b : Books) (accepting : 
 -- touched since it was sent, those that this one touches, and those of which it says a version. The mark is that of the sending.
 pub record ListsTouched (v : VariantName) (t : TypeName) (b : Books) (accepting : Bool) (names : Names) (l : Listed) : Type 0 where
   pub accepted : accepting ≡ true
-  pub told : tells_removals v t ≡ true
   pub mark : b.listed.sent_mark ≡ Some l.mark
   pub since : IfSome b.account.sent (λ sent. (name : List ℕ) → is_listed l name ≡ false → was_touched sent name ≡ false)
   pub untouched : (name : List ℕ) → is_listed l name ≡ false → touches names.touched name ≡ false

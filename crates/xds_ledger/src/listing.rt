@@ -8,7 +8,7 @@ ghost use Rattle.std.specs.FinSet as set;
 ghost use Rattle.xds_resource.specs.declared.refusal.Refusal.TheVariants.{OutOfMemory};
 ghost use Rattle.xds_ledger.specs.Accepting.{is_named_since};
 ghost use Rattle.xds_ledger.specs.Listed.{is_listed, with_name, without_mark, without_sending};
-ghost use Rattle.xds_ledger.specs.Variants.{is_whole, tells_removals};
+ghost use Rattle.xds_ledger.specs.Variants.{is_whole};
 ghost use Rattle.xds_ledger.specs.Lists.{accepts, with_names, with_said, with_offer, with_all, ListsNames, ListsNext};
 
 use crate::ledger::Ledger;
@@ -154,13 +154,12 @@ impl<T: ResourceType, V: Variant> Ledger<T, V> {
     // that leaves of the names that requests didn't touch.
     fn foretold(&self, accepts: bool, touched: &Touched) -> Option<(&Sent, u64)>
         ensures accepted { IfSome result (λ p. accepts ≡ true) }
-        ensures told { IfSome result (λ p. tells_removals V.NAME T.TYPE ≡ true) }
         ensures some { IfSome result (λ p. touched.now.all ≡ false) }
         ensures sent { IfSome result (λ p. self.now.account.sent ≡ Some p.0.now) }
         ensures mark { IfSome result (λ p. self.now.listed.sent_mark ≡ Some p.1) }
         ensures since { IfSome result (λ p. list_any (λ t. t.all) p.0.now.touched ≡ false) }
     {
-        if !accepts || touched.all() || !V::NAME.tells_removals(T::TYPE) {
+        if !accepts || touched.all() {
             return None;
         }
         let Some(sent) = self.account.sent() else {

@@ -106,7 +106,7 @@ stays_present old new h mark touched same is name out past =
 
 -- before the first request
 pub new_books_fit : (v : VariantName) (t : TypeName) (s : Selection) (h : Holdings) (b : Books) → b ≡ new_books → Fits v t s h b
-new_books_fit v t s h b is = subst (Fits v t s h) (sym is) (record { list = new_list_fits v t s h; foretold = λ tells. tt })
+new_books_fit v t s h b is = subst (Fits v t s h) (sym is) (record { list = new_list_fits v t s h; foretold = tt })
 
 -- once a request was taken
 pub books_taken : (v : VariantName) (t : TypeName) (old new : Selection) (h : Holdings) (before after : Books) (touched : Touch) → FitsNext v t touched before after → old.cluster ≡ new.cluster → touched ≡ sotw_touch old new → Fits v t old h before

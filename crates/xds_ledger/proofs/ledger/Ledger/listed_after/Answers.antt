@@ -1,7 +1,6 @@
 use Rattle.std.proofs.Common.{◌≡◌, true, false, Some, sym, ap, subst, ◌∙◌}
 use Rattle.std.specs.Prelude.{IfSome}
 use Rattle.std.specs.List.{list_any}
-use Rattle.xds_ledger.specs.Variants.{tells_removals}
 use Rattle.xds_ledger.specs.Ledgers.{Names}
 use Rattle.xds_ledger.specs.Lists.{Books, accepts}
 use Rattle.xds_ledger.proofs.ListedNames.{touched_are_listed, wider_is_listed}
@@ -14,7 +13,6 @@ returns-in-Some-clause-ok g c =
     let now : Books = c.args.self.now in
     touched_are_listed v t now (accepts now.account c.args.nonce.now c.args.rejects) c.args.names.now c.in-Some.sent.now c.in-Some.mark c.list_touched.result
     (sym c.accepts-accepts.ensures ∙ subst (λ o. IfSome o (λ p. c.accepts-accepts.result ≡ true)) c.in-Some.is c.foretold.ensures.accepted)
-    (subst (λ o. IfSome o (λ p. tells_removals v t ≡ true)) c.in-Some.is c.foretold.ensures.told)
     (ap (λ (n : Names). n.touched.all) (sym c.names.view_is) ∙ subst (λ o. IfSome o (λ p. c.names.inside.touched.now.all ≡ false)) c.in-Some.is c.foretold.ensures.some)
     (subst (λ o. IfSome o (λ p. now.account.sent ≡ Some p.0.now)) c.in-Some.is c.foretold.ensures.sent)
     (subst (λ o. IfSome o (λ p. now.listed.sent_mark ≡ Some p.1)) c.in-Some.is c.foretold.ensures.mark)
