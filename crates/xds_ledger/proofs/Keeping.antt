@@ -1,7 +1,7 @@
 -- When the list of a session suffices: from the start, after a request of either variant, after a look at what changed, and once
 -- writes came.
-use Rattle.std.proofs.Common.{◌≡◌, ℕ, List, Bool, true, false, Option, Some, None, Result, Ok, Err, refl, sym, ap, subst, ◌∙◌}
-use Rattle.std.specs.Prelude.{if◌then◌else◌, OnOk, OnErr}
+use Rattle.std.proofs.Common.{◌≡◌, ℕ, ◌≤◌, List, Bool, true, false, Option, Some, None, Result, Ok, Err, refl, sym, ap, subst, ◌∙◌}
+use Rattle.std.specs.Prelude.{is_some, if◌then◌else◌, OnOk, OnErr}
 use Rattle.std.specs.Option.{option_and_then}
 use Rattle.std.specs.FinMap as finmap
 use Rattle.xds_resource.specs.declared.refusal.Refusal.{Refusal}
@@ -12,12 +12,13 @@ use Rattle.xds_interest.specs.Asked.{Asked, unasked, sotw_asked, delta_asked, Is
 use Rattle.xds_interest.specs.Delta.{Mention}
 use Rattle.xds_interest.specs.Touches.{Touch, touches, sotw_touch, delta_touch}
 use Rattle.xds_interest.proofs.AskedLaws.{kept_star_is_of_complete, untouched_keeps_cover_of_kept, untouched_keeps_cover_of_kept_in_delta}
-use Rattle.xds_catalogue.specs.Holdings.{Holdings}
+use Rattle.xds_catalogue.specs.Holdings.{Holdings, Latest}
 use Rattle.xds_ledger.specs.declared.variant.VariantName.{VariantName}
-use Rattle.xds_ledger.specs.Owed.{live_version, version_shown}
+use Rattle.xds_ledger.specs.Owed.{live_version, version_shown, is_owed}
 use Rattle.xds_ledger.specs.Listed as lists
-use Rattle.xds_ledger.specs.Listed.{Listed, IsPast, IsLater, StaysSufficient}
+use Rattle.xds_ledger.specs.Listed.{Listed, IsPast, IsLater, StaysSufficient, relisted}
 use Rattle.xds_ledger.proofs.ByName.{present_absent}
+use Rattle.xds_ledger.proofs.Choosing.{le-itself}
 use Rattle.xds_ledger.proofs.Fitting.{new_list_fits, none_at_first, later_holdings_fit, keeps_itself}
 use Rattle.xds_ledger.proofs.Foretelling.{sent_foretells, later_foretells, looked_foretells}
 use Rattle.xds_ledger.specs.Ledgers.{Account}
@@ -142,3 +143,19 @@ pub next_fits : {R : Type 0} (v : VariantName) (t : TypeName) (h : Holdings) (re
 next_fits v t h respond k now after count o d n is same leaves fits =
     subst (SessionFits v t h) (sym leaves)
     (sent_fits v t h k o n (next_offer v t h.entries respond now.session count o d n is ∙ ap (λ (s : Session). offer v t s.asked.interest h.entries s.account.beliefs) (sym same)) fits)
+
+unowed_by : (owed there : Bool) → (owed ≡ true → there ≡ true) → there ≡ false → owed ≡ false
+unowed_by false there known out = refl
+unowed_by true there known out = let never : true ≡ false = sym (known refl) ∙ out in absurd cc
+
+-- rule: owed
+-- once names were listed in place of others, and something is owed of no other name
+pub relisted_fits : (v : VariantName) (t : TypeName) (s : Selection) (h : Holdings) (b : Books) (names : Latest) (changes : ℕ) → changes ≡ h.changes → ((q : List ℕ) → is_owed v t s h.entries b.account.beliefs q ≡ true → is_some (finmap.get names q) ≡ true)
+    → Fits v t s h b → Fits v t s h (record b { listed = relisted changes names b.listed })
+relisted_fits v t s h b names changes is owed fits = record {
+  list = record {
+    counted = subst (λ n. n ≤ h.changes) (sym is) (le-itself h.changes);
+    others = λ name out past. unowed_by (is_owed v t s h.entries b.account.beliefs name) (is_some (finmap.get names name)) (owed name) out;
+  };
+  foretold = looked_foretells v t s h b.account b.listed (relisted changes names b.listed) (record { sent_mark = refl; mark = subst (λ n. b.listed.mark ≤ n) (sym is) fits.list.counted }) fits.foretold;
+}

@@ -12,6 +12,7 @@
 --     changed_since         the names that changed since a mark, with the numbers of their latest changes
 --     refreshed             once the changes above the mark were looked at
 --     pruned                without the names that are owed nothing now
+--     relisted              with these names alone, once all changes were looked at
 --     with_name             with one name more
 --     without_mark          with every change to be looked at again
 --     with_sending          once a response was sent
@@ -91,6 +92,10 @@ refreshed h l = record { mark = h.changes; names = put_all (λ name number. Some
 -- without the names that are owed nothing now
 abbrev pub pruned : VariantName → TypeName → Selection → Holdings → Beliefs → Listed → Listed
 pruned v t s h b l = record l { names = put_all (λ name number. if is_owed v t s h.entries b name then Some number else None) finmap.empty (finmap.entries l.names) }
+
+-- with these names alone, once all changes up to this count were looked at
+abbrev pub relisted : ℕ → Latest → Listed → Listed
+relisted changes names l = record l { mark = changes; names = names }
 
 -- with one name more
 abbrev pub with_name : Listed → List ℕ → Listed

@@ -3,7 +3,7 @@
 ghost use Rattle.std.specs.Prelude.{◌≡◌, is_some, IfOk, IfErr, OnOk, OnErr};
 ghost use Rattle.std.specs.FinMap as finmap;
 ghost use Rattle.xds_resource.specs.declared.refusal.Refusal.TheVariants.{OutOfMemory};
-ghost use Rattle.xds_ledger.specs.Listed.{StaysSufficient, changed_since};
+ghost use Rattle.xds_ledger.specs.Listed.{StaysSufficient, changed_since, relisted};
 ghost use Rattle.xds_ledger.specs.Offers.{offer as offer_of};
 ghost use Rattle.xds_ledger.specs.Ledgers as ledgers;
 ghost use Rattle.xds_ledger.specs.Ledgers.{settled, taken};
@@ -73,6 +73,14 @@ impl<T: ResourceType, V: Variant> Ledger<T, V> {
         ensures { result ≡ ledgers.is_stale self.now.account nonce.now }
     {
         self.account.is_stale(nonce)
+    }
+
+    // rule: one-unanswered
+    /// Whether a response is unanswered.
+    pub fn awaits_answer(&self) -> bool
+        ensures { result ≡ is_some self.now.account.sent }
+    {
+        self.account.awaits_answer()
     }
 
     /// What a response would say now.
@@ -165,6 +173,14 @@ impl<T: ResourceType, V: Variant> Ledger<T, V> {
         let beliefs = self.account.beliefs();
         self.listed
             .tidy(alloc, V::NAME, interest, catalogue, beliefs);
+    }
+
+    /// Lists these names and no others at this count of changes. It takes no memory. Where something is owed of no other name
+    /// at a catalogue of that count, the list suffices.
+    pub fn relist(&mut self, alloc: Global, names: SharedMap<u64>, changes: u64)
+        ensures { self.new ≡ record self.old { listed = relisted changes names self.old.listed } }
+    {
+        self.listed.relist(alloc, names, changes);
     }
 
     /// Notes that an offer was sent, as the response of this number. It takes no memory. Where the offer is that of a

@@ -7,7 +7,7 @@ ghost use Rattle.xds_resource.specs.declared.refusal.Refusal.TheVariants.{OutOfM
 ghost use Rattle.xds_resource.specs.Names.{pairs, put_all, put_some};
 ghost use Rattle.xds_catalogue.specs.Holdings.{IsNumbered};
 ghost use Rattle.xds_ledger.specs.Owed.{is_owed};
-ghost use Rattle.xds_ledger.specs.Listed.{unlisted, from_mark, is_since, Fits, KeepsSending, StaysSufficient, changed_since, refreshed, pruned, with_name, without_mark, with_sending, without_sending};
+ghost use Rattle.xds_ledger.specs.Listed.{unlisted, from_mark, is_since, Fits, KeepsSending, StaysSufficient, changed_since, refreshed, pruned, relisted, with_name, without_mark, with_sending, without_sending};
 ghost use Rattle.xds_ledger.specs.Sharing.{base_names, over};
 
 use crate::believed::Beliefs;
@@ -137,6 +137,15 @@ impl Listed {
             Some(names) => has_some(names.as_map()),
             None => false,
         }
+    }
+
+    /// Lists these names and no others, which others may list, too, at this count of changes. It takes no memory.
+    pub fn relist(&mut self, alloc: Global, names: SharedMap<u64>, changes: u64)
+        ensures { self.new ≡ relisted changes names self.old }
+    {
+        put_at(&mut self.base, Some(names));
+        put_at(&mut self.added, NameMap::new(alloc));
+        self.mark = changes;
     }
 
     // Lists these names and no others.

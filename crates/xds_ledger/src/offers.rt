@@ -14,7 +14,7 @@ ghost use Rattle.xds_ledger.specs.Variants.{is_whole};
 use crate::believed::Beliefs;
 use crate::entry::Due;
 use crate::listed::Listed;
-use crate::owed::{due_of, name_owed, present};
+use crate::owed::{due_of, is_owed, present};
 use crate::shared_map::SharedMap;
 use crate::variant::VariantName;
 use crate::version::Version;
@@ -78,10 +78,12 @@ fn put_owed<T: ResourceType>(
     ensures ok { OnOk result (said.new ≡ put_some said.old name.now (told_of variant T.TYPE interest.now catalogue.now.entries beliefs.now name.now)) }
     ensures err { IfErr result (λ e. e ≡ OutOfMemory) }
 {
-    if !name_owed(variant, interest, catalogue, beliefs, name) {
+    let entry = beliefs.get(name);
+    let stamp = present(interest, catalogue, name);
+    if !is_owed(variant, T::TYPE, entry, stamp) {
         return Ok(());
     }
-    let due = due_of(alloc, beliefs.get(name), present(interest, catalogue, name))?;
+    let due = due_of(alloc, entry, stamp)?;
     said.put(alloc, name, due)
 }
 

@@ -1,4 +1,5 @@
 pub mod SotwMade
+mod StatedByName
 pub mod Bodies
 pub mod DeltaMade
 pub mod Stating

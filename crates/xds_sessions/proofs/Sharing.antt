@@ -1,20 +1,24 @@
 -- That what is kept for the clients of a cluster that want everything is what each of them is told.
 use Rattle.std.proofs.Common.{arith, ◌≡◌, ◌<◌, ◌≤◌, ◌+◌, ◌⊎◌, ℕ, List, Bool, true, false, cond, Option, Some, None, Result, Ok, Err, refl, sym, ap, ◌∙◌, subst, inl, inr}
-use Rattle.std.specs.Prelude.{IfSome, OnOk, OnErr, bytes_eq, if◌then◌else◌, option_map}
+use Rattle.std.specs.Prelude.{IfSome, OnOk, OnErr, bytes_eq, is_some, if◌then◌else◌, option_map}
+use Rattle.std.specs.Option.{option_or, option_and_then, option_map_or}
 use Rattle.std.specs.FinMap as finmap
 use Rattle.std.proofs.lemmas.Cmp.{nat_list_cmp_total}
 use Rattle.xds_resource.specs.declared.refusal.Refusal.{Refusal}
 use Rattle.xds_resource.specs.declared.types.TypeName.{TypeName}
 use Rattle.xds_resource.specs.Writes.{text_cmp}
+use Rattle.xds_resource.specs.Names.{put_all}
+use Rattle.xds_resource.proofs.MadeMaps.{get-put_all}
 use Rattle.xds_resource.proofs.NameMaps.{bytes_eq_tells, get-insert, same_names}
 use Rattle.xds_interest.specs.Interests.{Selection}
-use Rattle.xds_catalogue.specs.Holdings.{Entries}
+use Rattle.xds_catalogue.specs.Holdings.{Entries, Latest}
 use Rattle.xds_ledger.specs.declared.variant.VariantName.{VariantName}
+use Rattle.xds_ledger.specs.declared.entry.Due.{Due}
 use Rattle.xds_ledger.specs.declared.entry.Due.TheVariants.{Stated}
-use Rattle.xds_ledger.specs.Owed.{Beliefs, present, owed_of, is_owed}
+use Rattle.xds_ledger.specs.Owed.{Beliefs, present, owed as owed_by, owed_of, is_owed}
 use Rattle.xds_ledger.specs.Offers.{Offer, offered, offer}
 use Rattle.xds_ledger.specs.Sessions.{Session}
-use Rattle.xds_ledger.specs.Variants.{is_whole}
+use Rattle.xds_ledger.specs.Variants.{is_whole, is_told}
 use Rattle.xds_ledger.proofs.ByName.{offer_says_it}
 use Rattle.xds_sessions.specs.declared.wildcards.Wildcard.{Wildcard}
 use Rattle.xds_sessions.specs.Wildcards.{all_of, first_offer, IsFirst, IsShared, AreShared, most_shared}
@@ -85,3 +89,38 @@ first_of v t s m b (inr nothing) = ap (offer v t s m) (sym nothing)
 pub first_offered : (v : VariantName) (t : TypeName) (k : Session) (m : Entries) → IsFirst v t k → first_offer v t k.asked.interest.cluster m ≡ offer v t k.asked.interest m k.account.beliefs
 first_offered v t k m first =
     first_of v t (all_of k.asked.interest.cluster) m k.account.beliefs first.whole ∙ ap (λ (s : Selection). offer v t s m k.account.beliefs) (sym first.wants_all)
+
+-- ---- the names of an offer
+
+there_alike : (o : Option Due) → is_some (option_or (option_and_then (λ due. Some 0) o) None) ≡ is_some o
+there_alike None = refl
+there_alike (Some due) = refl
+
+-- a map that was made of its names has the same
+pub same_names_there : (o : Offer) (names : Latest) → names ≡ put_all (λ name due. Some 0) finmap.empty (finmap.entries o) → (q : List ℕ) → is_some (finmap.get names q) ≡ is_some (finmap.get o q)
+same_names_there o names is q =
+    ap (λ (m : Latest). is_some (finmap.get m q)) is
+    ∙ ap is_some (get-put_all (λ name due. Some 0) finmap.empty o q ∙ ap (option_or (option_and_then (λ due. Some 0) (finmap.get o q))) (finmap.get-empty text_cmp q))
+    ∙ there_alike (finmap.get o q)
+
+said_where_owed : (whole : Bool) (told : Due → Bool) (p : Option (List ℕ)) → option_map_or told (option_map Stated p) false ≡ true
+    → is_some (if whole then option_map Stated p else (if option_map_or told (option_map Stated p) false then option_map Stated p else None)) ≡ true
+said_where_owed whole told None owed = absurd cc
+said_where_owed true told (Some v) owed = refl
+said_where_owed false told (Some v) owed = ap (λ b. is_some (if b then Some (Stated v) else None)) owed
+
+-- rule: owed
+-- where nothing is believed, an offer speaks of all that is owed
+nothing_else_owed : (v : VariantName) (t : TypeName) (s : Selection) (m : Entries) (b : Beliefs) (q : List ℕ) → finmap.get b q ≡ None → is_owed v t s m b q ≡ true → is_some (finmap.get (offer v t s m b) q) ≡ true
+nothing_else_owed v t s m b q none owed =
+    ap is_some (offer_says_it v t s m b q)
+    ∙ (λ i. is_some (if is_whole v t then option_map Stated (present s m q) else (if option_map_or (is_told v t) (owed_by (none i) (present s m q)) false then owed_by (none i) (present s m q) else None)))
+    ∙ said_where_owed (is_whole v t) (is_told v t) (present s m q) (sym (λ i. option_map_or (is_told v t) (owed_by (none i) (present s m q)) false) ∙ owed)
+
+-- rule: owed
+-- so the names that are shared are all that is owed to a client that wants everything and holds nothing
+pub owed_is_shared : {S : Type 0} (v : VariantName) (t : TypeName) (IsSaid : Entries → Selection → Offer → S → Type 0) (k : Session) (m : Entries) (w : Wildcard S) (names : Latest) → IsShared v t IsSaid m k.asked.interest.cluster w → IsFirst v t k
+    → k.account.beliefs ≡ finmap.empty → names ≡ w.names → (q : List ℕ) → is_owed v t k.asked.interest m k.account.beliefs q ≡ true → is_some (finmap.get names q) ≡ true
+owed_is_shared v t IsSaid k m w names shared first nothing same q owed =
+    ap (λ (n : Latest). is_some (finmap.get n q)) same ∙ shared.names_are q ∙ ap (λ (o : Offer). is_some (finmap.get o q)) (shared.offer_is ∙ first_offered v t k m first)
+    ∙ nothing_else_owed v t k.asked.interest m k.account.beliefs q (ap (λ (b : Beliefs). finmap.get b q) nothing ∙ finmap.get-empty text_cmp q) owed

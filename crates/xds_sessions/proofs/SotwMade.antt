@@ -19,25 +19,12 @@ use Rattle.xds_catalogue.specs.Content.{content}
 use Rattle.xds_sessions.specs.SotwPolls.{take_list, stated_bodies}
 use Rattle.xds_sessions.specs.SotwParts.{pushed_all}
 
-abbrev offered : Offer → StampedWrite → Bool
-offered o w = is_some (finmap.get o w.name)
-
 abbrev pub body_of : StampedWrite → Option (List ℕ)
 body_of w = w.body
 
 pub texts_step : (bodies : List (List ℕ)) (body : Option (List ℕ)) (rest : List (List ℕ)) → with_text bodies body ++ rest ≡ bodies ++ cons_option body rest
 texts_step bodies None rest = refl
 texts_step bodies (Some b) rest = append_assoc bodies (b ∷ []) rest
-
-push_step : (o : Offer) (bodies : List (List ℕ)) (w : StampedWrite) (ws : List StampedWrite) (said : Bool)
-    → ((more : List (List ℕ)) → pushed_all o more ws ≡ more ++ filter_map body_of (filter (offered o) ws))
-    → pushed_all o (if said then with_text bodies w.body else bodies) ws ≡ bodies ++ filter_map body_of (cond said (w ∷ filter (offered o) ws) (filter (offered o) ws))
-push_step o bodies w ws true rest = rest (with_text bodies w.body) ∙ texts_step bodies w.body (filter_map body_of (filter (offered o) ws))
-push_step o bodies w ws false rest = rest bodies
-
-pub pushed_together : (o : Offer) (ws : List StampedWrite) (bodies : List (List ℕ)) → pushed_all o bodies ws ≡ bodies ++ filter_map body_of (filter (offered o) ws)
-pushed_together o [] bodies = sym (append-nil bodies)
-pushed_together o (w ∷ ws) bodies = push_step o bodies w ws (offered o w) (pushed_together o ws)
 
 -- a request that is taken leaves what is kept of the names, and the account with its names taken
 pub list_taken : (t : TypeName) (s : Session) (nonce : List ℕ) (rejects : Bool) (names : List (List ℕ)) (asked : Asked) (account : Account) → not (is_stale s nonce) ≡ true → asked ≡ sotw_asked t s.asked names
@@ -65,7 +52,3 @@ list_ignored t s nonce rejects names no_longer =
     let all : Session =
     record { asked = a; account = resume (touch (settled StateOfTheWorld t s.account nonce rejects) a.interest (sotw_touch s.asked.interest a.interest) a.interest.names) finmap.empty } in
     sym (ap (λ b. if b then all else s) no_longer)
-
--- the texts that are gathered are those that the response states
-pub bodies_made : (m : Entries) (s : Selection) (o : Offer) (ws : List StampedWrite) (bodies : List (List ℕ)) → bodies ≡ pushed_all o [] ws → ws ≡ content m s → bodies ≡ stated_bodies m s o
-bodies_made m s o ws bodies made shown = made ∙ ap (pushed_all o []) shown ∙ pushed_together o (content m s) []

@@ -6,7 +6,7 @@
 --     AreShared     and so for each cluster
 --     most_shared   the most clusters for which it is kept, of one type and variant
 --     Fits          what is kept of both variants is what clients are told at these entries, and no more than that
-use Rattle.std.specs.Prelude.{◌≡◌, ◌≤◌, ◌⊎◌, ℕ, List, true, IfSome}
+use Rattle.std.specs.Prelude.{◌≡◌, ◌≤◌, ◌⊎◌, ℕ, List, true, is_some, IfSome}
 use Rattle.std.specs.FinMap as finmap
 use Rattle.std.specs.FinSet as set
 use Rattle.xds_resource.specs.declared.types.TypeName.{TypeName}
@@ -40,6 +40,7 @@ pub record IsFirst (v : VariantName) (t : TypeName) (s : Session) : Type 0 where
 pub record IsShared {S : Type 0} (v : VariantName) (t : TypeName) (IsSaid : Entries → Selection → Offer → S → Type 0) (m : Entries) (cluster : List ℕ) (w : Wildcard S) : Type 0 where
   pub offer_is : w.offer ≡ first_offer v t cluster m
   pub said_is : IsSaid m (all_of cluster) w.offer w.said
+  pub names_are : (name : List ℕ) → is_some (finmap.get w.names name) ≡ is_some (finmap.get w.offer name)
 
 -- and so for each cluster
 abbrev pub AreShared : {S : Type 0} → VariantName → TypeName → (Entries → Selection → Offer → S → Type 0) → Entries → finmap.FinMap text_cmp (Wildcard S) → Type 0

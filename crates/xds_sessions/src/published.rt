@@ -13,7 +13,7 @@ ghost use Rattle.xds_sessions.specs.Wildcards.{IsShared, all_of};
 
 use crate::delta_response::{Said, said_by};
 use crate::sotw_response::stated_bodies;
-use crate::wildcards::{Wildcard, Wildcards};
+use crate::wildcards::{Wildcard, Wildcards, names_of};
 use std::alloc::Global;
 use std::marker::Model;
 use xds_catalogue::{Catalogue, PendingJoin};
@@ -203,7 +203,8 @@ impl<T: ResourceType> Published<T> {
         let offer = self.first_offer(alloc, VariantName::StateOfTheWorld, interest)?;
         let stated = stated_bodies(alloc, &self.catalogue, interest, offer.as_map())?;
         let said = stated.shared(alloc)?;
-        let made = Wildcard { offer, said };
+        let names = names_of(alloc, offer.as_map())?;
+        let made = Wildcard { offer, said, names };
         self.wildcards.make_room(alloc);
         self.wildcards.sotw.put(alloc, cluster, Some(made))
     }
@@ -219,7 +220,8 @@ impl<T: ResourceType> Published<T> {
         }
         let offer = self.first_offer(alloc, VariantName::Delta, interest)?;
         let said = said_by(alloc, &self.catalogue, offer.as_map())?;
-        let made = Wildcard { offer, said };
+        let names = names_of(alloc, offer.as_map())?;
+        let made = Wildcard { offer, said, names };
         self.wildcards.make_room(alloc);
         self.wildcards.delta.put(alloc, cluster, Some(made))
     }

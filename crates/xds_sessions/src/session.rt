@@ -1,8 +1,9 @@
 // One type on one stream: what the client asked for, and what it was told.
-ghost use Rattle.std.specs.Prelude.{◌≡◌, ◌<◌, ◌≤◌, ◌⊎◌, true, if◌then◌else◌, map, string_bytes, is_some, IsSome, IfSome, IfOk, IfErr, OnOk, OnErr};
+ghost use Rattle.std.specs.Prelude.{◌≡◌, ◌<◌, ◌≤◌, ◌⊎◌, ℕ, List, true, if◌then◌else◌, map, string_bytes, is_some, IsSome, IfSome, IfOk, IfErr, OnOk, OnErr};
 ghost use Rattle.std.specs.FinMap as finmap;
 ghost use Rattle.xds_resource.specs.Stamps.{max_counter};
 ghost use Rattle.xds_resource.specs.declared.refusal.Refusal.TheVariants.{OutOfMemory, NonceSpent};
+ghost use Rattle.xds_ledger.specs.Owed.{is_owed};
 ghost use Rattle.xds_ledger.specs.Offers.{offer};
 ghost use Rattle.xds_ledger.specs.Sessions as sessions;
 ghost use Rattle.xds_ledger.specs.Sessions.{IsNext, HasPolled, is_stale, sending};
@@ -214,11 +215,44 @@ impl<T: ResourceType, V: Speaks<T>> Session<T, V> {
         ensures same { self.new.session ≡ self.old.session }
         ensures fits { SessionFits V.NAME T.TYPE catalogue.now self.new }
     {
-        if !V::has_begun(&self.names) {
+        if !V::has_begun(&self.names) || self.list_first(alloc, catalogue) {
             return;
         }
         self.ledger
             .tidy(alloc, V::interest(&self.names), catalogue.catalogue());
+    }
+
+    // rule: owed
+    // Lists what is owed to a client that wants everything and holds nothing, as its list shares the names with others, if they are
+    // there. Answers whether it does.
+    fn list_first(&mut self, alloc: Global, catalogue: &Published<T>) -> bool
+        requires fits { SessionFits V.NAME T.TYPE catalogue.now self.old }
+        requires begun { self.old.session.asked.begun ≡ true }
+        ensures same { self.new.session ≡ self.old.session }
+        ensures fits { SessionFits V.NAME T.TYPE catalogue.now self.new }
+    {
+        let Some(names) = self.first_names(catalogue) else {
+            return false;
+        };
+        let changes = catalogue.catalogue().changes();
+        self.ledger.relist(alloc, names, changes);
+        true
+    }
+
+    // rule: owed
+    // The names that are shared for such clients, if this is one.
+    fn first_names(&self, catalogue: &Published<T>) -> Option<SharedMap<u64>>
+        ensures { IfSome result (λ m. (name : List ℕ)
+            → is_owed V.NAME T.TYPE self.now.session.asked.interest catalogue.now.entries self.now.session.account.beliefs name ≡ true
+            → is_some (finmap.get m name) ≡ true) }
+    {
+        if !self.ledger.believes_nothing() {
+            return None;
+        }
+        match self.wildcard(catalogue) {
+            Some(wildcard) => wildcard.names.try_copy().ok(),
+            None => None,
+        }
     }
 
     // rule: nonce-numbers
@@ -248,7 +282,7 @@ impl<T: ResourceType, V: Speaks<T>> Session<T, V> {
         Ok(Some(draft))
     }
 
-    // rule: nonce-numbers
+    // rule: one-unanswered, rule: nonce-numbers
     /// What `poll` has to send, if there is a response to send: its offer, the response, and the numbers of the stream once its
     /// own is drawn. It isn't sent before `send`. Refused as `poll` is.
     pub fn next(
@@ -265,6 +299,9 @@ impl<T: ResourceType, V: Speaks<T>> Session<T, V> {
         ensures fits { SessionFits V.NAME T.TYPE catalogue.now self.new }
         ensures refused { IfErr result (λ e. IsSome (sending V.NAME T.TYPE self.old.session catalogue.now.entries) × (((e ≡ NonceSpent) × (nonces ≡ max_counter)) ⊎ ((e ≡ OutOfMemory) × (nonces < max_counter)))) }
     {
+        if self.ledger.awaits_answer() {
+            return Ok(None);
+        }
         self.tidy(alloc, catalogue);
         self.next_tidied(alloc, replica, catalogue, nonces)
     }

@@ -1,8 +1,10 @@
 // The response that an offer makes.
-ghost use Rattle.std.specs.Prelude.{◌≡◌, [], map, decimal, IfOk, IfErr, OnOk};
+ghost use Rattle.std.specs.Prelude.{◌≡◌, decimal, IfOk, IfErr, OnOk};
 ghost use Rattle.xds_resource.specs.declared.refusal.Refusal.TheVariants.{OutOfMemory};
 ghost use Rattle.xds_ledger.specs.Texts as texts;
-ghost use Rattle.xds_sessions.specs.SotwParts.{pushed, pushed_all};
+ghost use Rattle.xds_catalogue.specs.Holdings.{IsCatalogue};
+ghost use Rattle.xds_message.specs.Drafts.{with_text};
+ghost use Rattle.xds_sessions.specs.SotwParts.{body_at};
 ghost use Rattle.xds_sessions.specs.SotwPolls.{stated_bodies};
 
 use std::alloc::Global;
@@ -11,43 +13,50 @@ use xds_interest::Interest;
 use xds_ledger::Due;
 use xds_ledger::texts::{interest_version, nonce_text};
 use xds_message::{Bodies, Body, SotwDraft, push_body};
-use xds_resource::{NameMap, Refusal, ResourceType, Write};
+use xds_resource::{NameMap, Refusal, ResourceType};
 
-// rule: best-writes
-// Puts the text of a write behind others, if the offer speaks of its name.
-fn push_offered<T: ResourceType>(
+// rule: best-writes, rule: covered-only
+// Puts the text of what is live under a name behind others, if the interest covers it.
+fn push_named<T: ResourceType>(
     bodies: &mut Vec<Body>,
-    offer: &NameMap<Due>,
-    write: &Write<T>,
+    catalogue: &Catalogue<T>,
+    interest: &Interest<T>,
+    name: &str,
 ) -> Result<(), Refusal>
-    ensures ok { OnOk result (bodies.new.items ≡ pushed offer.now bodies.old.items write.now) }
+    ensures ok { OnOk result (bodies.new.items ≡ with_text bodies.old.items (body_at catalogue.now.entries interest.now name.now)) }
+    ensures named { IsCatalogue catalogue.now.entries }
     ensures refused { IfErr result (λ e. e ≡ OutOfMemory) }
 {
-    if offer.contains(write.name()) {
+    let Some(write) = catalogue.get(name) else {
+        return Ok(());
+    };
+    if interest.covers(name, write.groups()) {
         push_body(bodies, write)?;
     }
     Ok(())
 }
 
-// The texts of the writes of whose names the offer speaks.
-fn push_all<T: ResourceType>(
+// rule: best-writes
+// The texts of what is live under the names of an offer, and covered.
+fn push_each<T: ResourceType>(
     alloc: Global,
+    catalogue: &Catalogue<T>,
+    interest: &Interest<T>,
     offer: &NameMap<Due>,
-    writes: &[&Write<T>],
 ) -> Result<Vec<Body>, Refusal>
-    ensures ok { IfOk result (λ v. v.items ≡ pushed_all offer.now [] (map (λ w. w.now) writes.now)) }
+    ensures ok { IfOk result (λ v. v.items ≡ stated_bodies catalogue.now.entries interest.now offer.now) }
     ensures refused { IfErr result (λ e. e ≡ OutOfMemory) }
 {
     let mut all = Vec::new(alloc);
-    for write in writes {
-        push_offered(&mut all, offer, write)?;
+    for (name, _due) in offer.iter() {
+        push_named(&mut all, catalogue, interest, name)?;
     }
     Ok(all)
 }
 
 // rule: best-writes
 /// The texts that a response with this offer states. They depend on the offer and on what is held alone, so that all clients
-/// which are offered the same share them.
+/// which are offered the same share them. It looks at the names of the offer alone.
 pub(crate) fn stated_bodies<T: ResourceType>(
     alloc: Global,
     catalogue: &Catalogue<T>,
@@ -57,8 +66,7 @@ pub(crate) fn stated_bodies<T: ResourceType>(
     ensures ok { IfOk result (λ b. b ≡ stated_bodies catalogue.now.entries interest.now offer.now) }
     ensures refused { IfErr result (λ e. e ≡ OutOfMemory) }
 {
-    let shown = catalogue.content(alloc, interest)?;
-    let bodies = push_all(alloc, offer, &shown)?;
+    let bodies = push_each(alloc, catalogue, interest, offer)?;
     let stated = Bodies::new(bodies)?;
     Ok(stated)
 }

@@ -1,6 +1,7 @@
 // What all clients are told that want everything of a type and are believed to hold nothing of it, by the text of their cluster.
-ghost use Rattle.std.specs.Prelude.{◌≡◌, ◌<◌, true};
+ghost use Rattle.std.specs.Prelude.{◌≡◌, ◌<◌, ℕ, List, true, is_some, IfOk, IfErr};
 ghost use Rattle.std.specs.FinMap as finmap;
+ghost use Rattle.xds_resource.specs.declared.refusal.Refusal.TheVariants.{OutOfMemory};
 ghost use Rattle.xds_resource.specs.declared.types.TypeName.{TypeName};
 ghost use Rattle.xds_catalogue.specs.Holdings.{Entries};
 ghost use Rattle.xds_sessions.specs.Wildcards.{Fits, all_of, most_shared};
@@ -10,7 +11,7 @@ use std::alloc::Global;
 use xds_interest::Interest;
 use xds_ledger::{Due, SharedMap};
 use xds_message::Bodies;
-use xds_resource::{NameMap, ResourceType};
+use xds_resource::{NameMap, Refusal, ResourceType};
 
 /// Whether an interest is in everything, and names nothing.
 pub fn wants_all<T: ResourceType>(interest: &Interest<T>) -> bool
@@ -19,17 +20,34 @@ pub fn wants_all<T: ResourceType>(interest: &Interest<T>) -> bool
     interest.has_star() && interest.names().len() == 0
 }
 
-/// An offer, and what its responses say, whoever is told.
+/// An offer, what its responses say, whoever is told, and its names, which the lists of those share that are told.
 pub struct Wildcard<S> {
     pub(crate) offer: SharedMap<Due>,
     pub(crate) said: S,
+    pub(crate) names: SharedMap<u64>,
 }
 
 // Written out: docs/PROVING.md, "Drops".
 impl<S: Drop> Drop for Wildcard<S> {
     fn drop(self) {
-        let Wildcard { offer: _, said: _ } = self;
+        let Wildcard {
+            offer: _,
+            said: _,
+            names: _,
+        } = self;
     }
+}
+
+/// The names of an offer, for a list of what may be owed. Refused only by `OutOfMemory`.
+pub(crate) fn names_of(alloc: Global, offer: &NameMap<Due>) -> Result<SharedMap<u64>, Refusal>
+    ensures ok { IfOk result (λ m. (name : List ℕ) → is_some (finmap.get m name) ≡ is_some (finmap.get offer.now name)) }
+    ensures refused { IfErr result (λ e. e ≡ OutOfMemory) }
+{
+    let mut names = NameMap::new(alloc);
+    for (name, _due) in offer.iter() {
+        names.put(alloc, name, Some(0))?;
+    }
+    SharedMap::new(alloc, names)
 }
 
 // The most clusters for which what clients share is kept, of one type and variant. Clients choose the texts of their clusters, so
