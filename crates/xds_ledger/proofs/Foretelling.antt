@@ -1,11 +1,11 @@
 -- What is known of an unanswered response: once it is sent, at later holdings, once names were touched, and once it is accepted.
-use Rattle.std.proofs.Common.{◌≡◌, ℕ, ◌≤◌, List, [], ◌∷◌, ◌||◌, ◌&&◌, not, Bool, true, false, Option, Some, None, refl, sym, ap, subst, ◌∙◌, arith}
+use Rattle.std.proofs.Common.{◌≡◌, ℕ, ◌≤◌, List, [], ◌∷◌, ◌||◌, ◌&&◌, not, Bool, true, false, Option, Some, None, refl, sym, ap, subst, ◌∙◌}
 use Rattle.std.specs.Prelude.{bytes_eq, if◌then◌else◌, is_some, option_map, IfSome}
 use Rattle.std.specs.Option.{option_or, option_and_then, option_map_or}
 use Rattle.std.specs.FinMap as finmap
 use Rattle.std.proofs.lemmas.List.Folds.{list_any-append}
 use Rattle.xds_resource.specs.declared.types.TypeName.{TypeName}
-use Rattle.xds_resource.proofs.NameMaps.{bytes_eq_same, bytes_eq_tells}
+use Rattle.xds_resource.proofs.NameMaps.{bytes_eq_same}
 use Rattle.xds_interest.specs.Interests.{Selection}
 use Rattle.xds_interest.specs.Touches.{Touch, touches}
 use Rattle.xds_catalogue.specs.Holdings.{Holdings, Entries}

@@ -23,7 +23,7 @@ use Rattle.xds_ledger.proofs.Fitting.{new_list_fits, none_at_first, later_holdin
 use Rattle.xds_ledger.proofs.Foretelling.{sent_foretells, later_foretells, looked_foretells}
 use Rattle.xds_ledger.specs.Ledgers.{Account}
 use Rattle.xds_ledger.specs.Offers.{Offer, offer}
-use Rattle.xds_ledger.specs.Lists.{Books, Kept, Fits, Foretells, new_kept, sent_books, sent_kept, FitsNext, StaysPresent, SessionFits, StaysFit}
+use Rattle.xds_ledger.specs.Lists.{Books, Kept, Fits, Foretells, new_kept, sent_kept, FitsNext, StaysPresent, SessionFits, StaysFit}
 use Rattle.xds_ledger.specs.Sessions.{Session, IsNext}
 use Rattle.xds_ledger.proofs.Polling.{next_offer}
 use Rattle.xds_ledger.specs.BookLaws.{SentSessionFits}

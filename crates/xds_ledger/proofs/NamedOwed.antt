@@ -6,27 +6,26 @@ use Rattle.std.specs.Option.{option_or, option_and_then, option_map_or}
 use Rattle.std.specs.List.{list_any}
 use Rattle.std.specs.FinMap as finmap
 use Rattle.std.specs.FinSet as set
-use Rattle.std.proofs.lemmas.Bool.{true≢false}
 use Rattle.xds_resource.specs.declared.types.TypeName.{TypeName}
 use Rattle.xds_resource.specs.Writes.{StampedWrite, text_cmp}
 use Rattle.xds_resource.specs.Names.{put_all, put_each}
 use Rattle.xds_resource.proofs.NameMaps.{has_text}
 use Rattle.xds_resource.proofs.MadeMaps.{get-put_all, get-put_each}
-use Rattle.xds_interest.specs.Interests.{Selection, covers, is_open_to}
+use Rattle.xds_interest.specs.Interests.{Selection, is_open_to}
 use Rattle.xds_interest.proofs.Texts.{contains-from_texts}
 use Rattle.xds_catalogue.specs.Holdings.{Holdings, Latest}
 use Rattle.xds_ledger.specs.declared.variant.VariantName.{VariantName}
 use Rattle.xds_ledger.specs.declared.entry.Entry.{Entry}
 use Rattle.xds_ledger.specs.declared.entry.Due.{Due}
 use Rattle.xds_ledger.specs.Variants.{is_told}
-use Rattle.xds_ledger.specs.Owed.{Beliefs, owed, live_version, version_shown, present, is_owed}
+use Rattle.xds_ledger.specs.Owed.{Beliefs, owed, live_version, version_shown, is_owed}
 use Rattle.xds_ledger.specs.Offers.{Offer}
 use Rattle.xds_ledger.specs.Listed.{is_since}
 use Rattle.xds_ledger.specs.Named.{is_owed_since, owed_number, told_entries}
 use Rattle.xds_ledger.specs.Believing.{once_told}
 use Rattle.xds_ledger.specs.Overlay.{Differences, told_in, told_by, overlaid}
 use Rattle.xds_ledger.proofs.Overlaying.{believed_at}
-use Rattle.xds_ledger.proofs.SomethingOwed.{named_fails, is_some_of}
+use Rattle.xds_ledger.proofs.SomethingOwed.{named_fails}
 use Rattle.xds_ledger.proofs.Choosing.{listed_fails}
 
 -- what an offer says of a name, if there is one

@@ -27,7 +27,7 @@
 --     sent_kept           once an offer was sent as the response of this number
 --     SessionFits         the list of a session suffices, at a catalogue of these holdings
 --     StaysFit            wherever the list of a session sufficed, it suffices
-use Rattle.std.specs.Prelude.{◌≡◌, ◌⊎◌, ℕ, ◌≤◌, List, [], ◌∷◌, Bool, true, false, ◌&&◌, ◌||◌, not, if◌then◌else◌, Option, Some, None, option_map, IfSome, refl}
+use Rattle.std.specs.Prelude.{◌≡◌, ◌⊎◌, ℕ, ◌≤◌, List, [], ◌∷◌, Bool, true, false, ◌&&◌, ◌||◌, not, if◌then◌else◌, Some, None, IfSome, refl}
 use Rattle.std.specs.Option.{option_map_or}
 use Rattle.std.specs.FinMap as finmap
 use Rattle.std.specs.FinSet as set

@@ -76,9 +76,7 @@ fn is_owed_since<T: ResourceType>(
     ensures { result ≡ is_owed_since variant T.TYPE interest.now catalogue.now beliefs.now mark name.now }
 {
     match catalogue.latest_change(name) {
-        Some(number) => {
-            mark < number && name_owed(variant, interest, catalogue, beliefs, name)
-        }
+        Some(number) => { mark < number && name_owed(variant, interest, catalogue, beliefs, name) }
         None => false,
     }
 }

@@ -1,6 +1,6 @@
 -- That what is kept for the clients of a cluster that want everything is what each of them is told.
 use Rattle.std.proofs.Common.{arith, ◌≡◌, ◌<◌, ◌≤◌, ◌+◌, ◌⊎◌, ℕ, List, Bool, true, false, cond, Option, Some, None, Result, Ok, Err, refl, sym, ap, ◌∙◌, subst, inl, inr}
-use Rattle.std.specs.Prelude.{IfSome, OnOk, OnErr, bytes_eq, is_some, if◌then◌else◌, option_map}
+use Rattle.std.specs.Prelude.{IfSome, IfOk, OnOk, OnErr, bytes_eq, is_some, if◌then◌else◌, option_map}
 use Rattle.std.specs.Option.{option_or, option_and_then, option_map_or}
 use Rattle.std.specs.FinMap as finmap
 use Rattle.std.proofs.lemmas.Cmp.{nat_list_cmp_total}
@@ -92,15 +92,18 @@ first_offered v t k m first =
 
 -- ---- the names of an offer
 
-there_alike : (o : Option Due) → is_some (option_or (option_and_then (λ due. Some 0) o) None) ≡ is_some o
+abbrev pub put_no_number : Due → Option ℕ
+put_no_number due = Some 0
+
+there_alike : (o : Option Due) → is_some (option_or (option_and_then put_no_number o) None) ≡ is_some o
 there_alike None = refl
 there_alike (Some due) = refl
 
 -- a map that was made of its names has the same
-pub same_names_there : (o : Offer) (names : Latest) → names ≡ put_all (λ name due. Some 0) finmap.empty (finmap.entries o) → (q : List ℕ) → is_some (finmap.get names q) ≡ is_some (finmap.get o q)
+pub same_names_there : (o : Offer) (names : Latest) → names ≡ put_all (λ name due. put_no_number due) finmap.empty (finmap.entries o) → (q : List ℕ) → is_some (finmap.get names q) ≡ is_some (finmap.get o q)
 same_names_there o names is q =
     ap (λ (m : Latest). is_some (finmap.get m q)) is
-    ∙ ap is_some (get-put_all (λ name due. Some 0) finmap.empty o q ∙ ap (option_or (option_and_then (λ due. Some 0) (finmap.get o q))) (finmap.get-empty text_cmp q))
+    ∙ ap is_some (get-put_all (λ name due. put_no_number due) finmap.empty o q ∙ ap (option_or (option_and_then put_no_number (finmap.get o q))) (finmap.get-empty text_cmp q))
     ∙ there_alike (finmap.get o q)
 
 said_where_owed : (whole : Bool) (told : Due → Bool) (p : Option (List ℕ)) → option_map_or told (option_map Stated p) false ≡ true
@@ -124,3 +127,15 @@ pub owed_is_shared : {S : Type 0} (v : VariantName) (t : TypeName) (IsSaid : Ent
 owed_is_shared v t IsSaid k m w names shared first nothing same q owed =
     ap (λ (n : Latest). is_some (finmap.get n q)) same ∙ shared.names_are q ∙ ap (λ (o : Offer). is_some (finmap.get o q)) (shared.offer_is ∙ first_offered v t k m first)
     ∙ nothing_else_owed v t k.asked.interest m k.account.beliefs q (ap (λ (b : Beliefs). finmap.get b q) nothing ∙ finmap.get-empty text_cmp q) owed
+
+-- as a call gives them
+pub names_are_owed : {S : Type 0} (v : VariantName) (t : TypeName) (IsSaid : Entries → Selection → Offer → S → Type 0) (k : Session) (m : Entries) (w : Wildcard S) (r : Option Latest) → IsShared v t IsSaid m k.asked.interest.cluster w → IsFirst v t k
+    → k.account.beliefs ≡ finmap.empty → IfSome r (λ n. n ≡ w.names) → IfSome r (λ n. (q : List ℕ) → is_owed v t k.asked.interest m k.account.beliefs q ≡ true → is_some (finmap.get n q) ≡ true)
+names_are_owed v t IsSaid k m w None shared first nothing same = tt
+names_are_owed v t IsSaid k m w (Some names) shared first nothing same = owed_is_shared v t IsSaid k m w names shared first nothing same
+
+-- a shared map that was made so
+pub shared_as_made : (o : Offer) (names : Latest) (r : Result Latest Refusal) → names ≡ put_all (λ name due. put_no_number due) finmap.empty (finmap.entries o) → IfOk r (λ m. m ≡ names)
+    → IfOk r (λ m. (q : List ℕ) → is_some (finmap.get m q) ≡ is_some (finmap.get o q))
+shared_as_made o names (Err e) is made = tt
+shared_as_made o names (Ok m) is made = same_names_there o m (made ∙ is)

@@ -1,7 +1,7 @@
 -- That what the code makes is the response, and what it leaves is the session.
-use Rattle.std.proofs.Common.{◌≡◌, ℕ, List, [], ◌∷◌, ◌++◌, Bool, true, false, cond, Option, Some, None, refl, sym, ap, ◌∙◌, append_assoc, append-nil, not}
-use Rattle.std.specs.Prelude.{is_some, if◌then◌else◌}
-use Rattle.std.specs.List.{filter, filter_map, cons_option}
+use Rattle.std.proofs.Common.{◌≡◌, ℕ, List, [], ◌∷◌, ◌++◌, Bool, true, false, Option, Some, None, refl, sym, ap, ◌∙◌, append_assoc, not}
+use Rattle.std.specs.Prelude.{if◌then◌else◌}
+use Rattle.std.specs.List.{cons_option}
 use Rattle.std.specs.FinMap as finmap
 use Rattle.xds_resource.specs.declared.types.TypeName.{TypeName}
 use Rattle.xds_resource.specs.Writes.{StampedWrite, text_cmp}
@@ -10,14 +10,10 @@ use Rattle.std.specs.FinSet as set
 use Rattle.xds_interest.specs.Touches.{Touch, sotw_touch}
 use Rattle.xds_message.specs.Drafts.{with_text}
 use Rattle.xds_ledger.specs.declared.variant.VariantName.TheVariants.{StateOfTheWorld}
-use Rattle.xds_ledger.specs.Offers.{Offer}
 use Rattle.xds_ledger.specs.Ledgers.{Account, settled, touch, resume}
 use Rattle.xds_ledger.specs.Sessions.{Session, is_stale}
 use Rattle.xds_interest.specs.Interests.{Selection}
-use Rattle.xds_catalogue.specs.Holdings.{Entries}
-use Rattle.xds_catalogue.specs.Content.{content}
-use Rattle.xds_sessions.specs.SotwPolls.{take_list, stated_bodies}
-use Rattle.xds_sessions.specs.SotwParts.{pushed_all}
+use Rattle.xds_sessions.specs.SotwPolls.{take_list}
 
 abbrev pub body_of : StampedWrite → Option (List ℕ)
 body_of w = w.body

@@ -127,7 +127,7 @@ none_offered o (w ∷ ws) none =
 
 -- rule: best-writes
 -- whether a name was looked up, which tells that each write stands under its name, or there was none
-pub all_pushed : (m : Entries) (s : Selection) (o : Offer) (bodies : List (List ℕ)) → IsCatalogue m ⊎ (finmap.entries o ≡ []) → bodies ≡ pushed_each m s [] (finmap.keys o) → bodies ≡ stated_bodies m s o
+pub all_pushed : (m : Entries) (s : Selection) (o : Offer) (bodies : List (List ℕ)) → IsCatalogue m ⊎ ([] ≡ finmap.entries o) → bodies ≡ pushed_each m s [] (finmap.keys o) → bodies ≡ stated_bodies m s o
 all_pushed m s o bodies (inl named) made = made ∙ each_pushed m s [] (finmap.keys o) ∙ stated_by_name m s o named
 all_pushed m s o bodies (inr none) made =
-    made ∙ ap (λ (es : List (List ℕ × Due)). pushed_each m s [] (map (λ e. e.0) es)) none ∙ sym (ap (filter_map text_of) (none_offered o (content m s) none))
+    made ∙ ap (λ (es : List (List ℕ × Due)). pushed_each m s [] (map (λ e. e.0) es)) (sym none) ∙ sym (ap (filter_map text_of) (none_offered o (content m s) (sym none)))

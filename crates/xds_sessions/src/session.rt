@@ -14,7 +14,7 @@ ghost use Rattle.xds_sessions.specs.Wildcards.{IsFirst, IsShared};
 
 use crate::published::Published;
 use crate::speaks::Speaks;
-use crate::wildcards::{Wildcard, wants_all};
+use crate::wildcards::{Wildcard, shared_names, wants_all};
 use std::alloc::Global;
 use std::marker::Model;
 use xds_interest::ClusterText;
@@ -215,9 +215,21 @@ impl<T: ResourceType, V: Speaks<T>> Session<T, V> {
         ensures same { self.new.session ≡ self.old.session }
         ensures fits { SessionFits V.NAME T.TYPE catalogue.now self.new }
     {
-        if !V::has_begun(&self.names) || self.list_first(alloc, catalogue) {
+        if !V::has_begun(&self.names) {
             return;
         }
+        if !self.list_first(alloc, catalogue) {
+            self.tidy_list(alloc, catalogue);
+        }
+    }
+
+    // The same of the list, name by name.
+    fn tidy_list(&mut self, alloc: Global, catalogue: &Published<T>)
+        requires fits { SessionFits V.NAME T.TYPE catalogue.now self.old }
+        requires begun { self.old.session.asked.begun ≡ true }
+        ensures same { self.new.session ≡ self.old.session }
+        ensures fits { SessionFits V.NAME T.TYPE catalogue.now self.new }
+    {
         self.ledger
             .tidy(alloc, V::interest(&self.names), catalogue.catalogue());
     }
@@ -250,7 +262,7 @@ impl<T: ResourceType, V: Speaks<T>> Session<T, V> {
             return None;
         }
         match self.wildcard(catalogue) {
-            Some(wildcard) => wildcard.names.try_copy().ok(),
+            Some(wildcard) => shared_names(wildcard),
             None => None,
         }
     }

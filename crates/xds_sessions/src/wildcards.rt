@@ -1,5 +1,5 @@
 // What all clients are told that want everything of a type and are believed to hold nothing of it, by the text of their cluster.
-ghost use Rattle.std.specs.Prelude.{◌≡◌, ◌<◌, ℕ, List, true, is_some, IfOk, IfErr};
+ghost use Rattle.std.specs.Prelude.{◌≡◌, ◌<◌, ℕ, List, true, is_some, IfSome, IfOk, IfErr};
 ghost use Rattle.std.specs.FinMap as finmap;
 ghost use Rattle.xds_resource.specs.declared.refusal.Refusal.TheVariants.{OutOfMemory};
 ghost use Rattle.xds_resource.specs.declared.types.TypeName.{TypeName};
@@ -35,6 +35,16 @@ impl<S: Drop> Drop for Wildcard<S> {
             said: _,
             names: _,
         } = self;
+    }
+}
+
+/// The names, with one owner more, if the owners can be counted. It takes no memory.
+pub(crate) fn shared_names<S: Drop>(wildcard: &Wildcard<S>) -> Option<SharedMap<u64>>
+    ensures { IfSome result (λ m. m ≡ wildcard.now.names) }
+{
+    match wildcard.names.try_copy() {
+        Ok(names) => Some(names),
+        Err(_) => None,
     }
 }
 

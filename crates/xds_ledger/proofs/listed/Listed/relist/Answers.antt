@@ -1,5 +1,4 @@
-use Rattle.std.proofs.Common.{Some, ap, ◌∙◌}
-use Rattle.xds_catalogue.specs.Holdings.{Latest}
+use Rattle.std.proofs.Common.{ap, ◌∙◌}
 use Rattle.xds_ledger.specs.Listed.{Listed}
 use Rattle.xds_ledger.specs.Sharing.{base_names}
 use Rattle.xds_ledger.proofs.SharedNames.{over_none}

@@ -1,9 +1,10 @@
 use Rattle.std.proofs.Common.{◌≡◌, sym, ap, ◌∙◌}
+use Rattle.std.specs.Prelude.{is_some}
 use Rattle.std.specs.FinMap as finmap
 use Rattle.xds_interest.specs.Interests.{Selection}
 use Rattle.xds_catalogue.specs.Holdings.{Holdings}
 use Rattle.xds_ledger.specs.declared.variant.VariantName.TheVariants.{Delta}
-use Rattle.xds_ledger.specs.Offers.{offer}
+use Rattle.xds_ledger.specs.Offers.{Offer, offer}
 use Rattle.xds_sessions.specs.DeltaPolls.{said_by}
 use Rattle.xds_sessions.specs.Wildcards.{all_of}
 use Rattle.xds_sessions.proofs.Sharing.{kept_more, few_more, few_kept}
@@ -23,6 +24,7 @@ invariant_of-self g c =
           kept_more Delta t (λ m s o x. x ≡ said_by m o) m c.make_room.new.self.delta c.put.new.self cluster _ c.put.result c.put.ensures.ok c.put.ensures.err
           (record {
             offer_is = made ∙ ap (λ (s : Selection). offer Delta t s m finmap.empty) all;
+            names_are = λ name. c.in_ok-names.ensures.ok name ∙ ap (λ (o : Offer). is_some (finmap.get o name)) c.as_map-2.ensures;
             said_is = c.in_ok-said.ensures.ok ∙ ap (said_by m) c.as_map.ensures;
           })
           room.delta;

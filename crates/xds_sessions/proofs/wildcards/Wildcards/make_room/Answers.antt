@@ -1,6 +1,3 @@
-use Rattle.xds_resource.specs.declared.types.TypeName.{TypeName}
-use Rattle.xds_catalogue.specs.Holdings.{Entries}
-use Rattle.xds_sessions.specs.Wildcards.{Fits}
 use Rattle.xds_sessions.proofs.wildcards.Wildcards.make_room.Goals as goal
 
 pub returns-then-not-has_room-clause-fits : goal.returns-then-not-has_room-clause-fits
