@@ -196,7 +196,8 @@ impl<T: ResourceType, V: Variant> Ledger<T, V> {
     /// Refused only by `OutOfMemory`, and then nothing is taken. Where it accepts a response that is the whole, or
     /// before which nothing was believed held, it looks at the names alone that it mentions or that were touched
     /// since the response was sent, and else at those of the response and the listed ones, too. It looks at all that
-    /// are believed held only where every name is touched, or was since a whole response was sent that it accepts.
+    /// are believed held only where these are at most twice as many as the names of the response that it accepts,
+    /// where every name is touched, or where every name was since a whole response was sent that it accepts.
     pub fn take(
         &mut self,
         alloc: Global,
