@@ -25,3 +25,7 @@ pub mod Unpacking
 pub mod Comparing
 pub mod Packing
 pub mod Owings
+mod Fingerprints
+mod Covers
+mod WakesCover
+mod WantsCover

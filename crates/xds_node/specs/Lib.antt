@@ -22,3 +22,6 @@ pub mod Exchanging
 pub mod Whole
 pub mod Owing
 pub mod Concerns
+pub mod Prints
+pub mod Gathered
+pub mod WakeLaws

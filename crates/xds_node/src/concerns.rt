@@ -1,9 +1,9 @@
-// Which resource types an event concerns, and which a stream wants.
+// Sets of resource types, and those that an event concerns.
 ghost use Rattle.std.specs.Prelude.{◌≡◌, ◌&&◌, ◌||◌, true, false};
 ghost use Rattle.xds_resource.specs.PerType.{each};
 ghost use Rattle.xds_resource.specs.Types.{type_of_url};
 ghost use Rattle.xds_core.specs.Seen.{event_of};
-ghost use Rattle.xds_node.specs.Concerns.{asked_for, concerned, joined, meets, only, set_of, written};
+ghost use Rattle.xds_node.specs.Concerns.{asked_for, concerned, includes, joined, meets, only, set_of, written};
 
 use xds_core::Event;
 use xds_message::Batch;
@@ -92,6 +92,21 @@ impl TypeSet {
             route: either(self.route, other.route),
             secret: either(self.secret, other.secret),
         }
+    }
+
+    /// Whether all that are in the other are in this.
+    pub fn includes(self, other: TypeSet) -> bool
+        ensures { result ≡ includes (set_of self) (set_of other) }
+    {
+        let first = both(
+            either(self.cluster, !other.cluster),
+            either(self.endpoint, !other.endpoint),
+        );
+        let last = both(
+            either(self.route, !other.route),
+            either(self.secret, !other.secret),
+        );
+        both(both(first, either(self.listener, !other.listener)), last)
     }
 
     /// Whether a type is in both.

@@ -1,0 +1,11 @@
+use Rattle.xds_node.proofs.WakesCover.{only_reached_writes_count, wakes_cover_the_owed, wakes_cover_the_due}
+use Rattle.xds_node.proofs.laws.wakes_cover_the_owed.Goals as goal
+
+pub returns-clause-reached : goal.returns-clause-reached
+returns-clause-reached c = only_reached_writes_count
+
+pub returns-clause-owed : goal.returns-clause-owed
+returns-clause-owed c = wakes_cover_the_owed
+
+pub returns-clause-due : goal.returns-clause-due
+returns-clause-due c = wakes_cover_the_due

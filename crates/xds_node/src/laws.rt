@@ -1,0 +1,17 @@
+// Laws of wake-ups. Each is a function that does nothing, whose clause is the law.
+ghost use Rattle.xds_node.specs.WakeLaws.{OnlyReachedWritesCount, WakesCoverTheDue, WakesCoverTheOwed, WantsBegin, WantsCoverRequests};
+
+// rule: wake-ups
+/// A write changes what a stream is owed by a name alone that the stream asked for, so it wakes all who may be owed something by it.
+pub fn wakes_cover_the_owed()
+    ensures reached { OnlyReachedWritesCount }
+    ensures owed { WakesCoverTheOwed }
+    ensures due { WakesCoverTheDue }
+{}
+
+// rule: wake-ups
+/// What a stream wants covers all that its requests asked for, from its opening on.
+pub fn wants_cover_requests()
+    ensures begin { WantsBegin }
+    ensures requests { WantsCoverRequests }
+{}
