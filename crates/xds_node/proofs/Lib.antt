@@ -29,3 +29,4 @@ mod Fingerprints
 mod Covers
 mod WakesCover
 mod WantsCover
+mod Woken

@@ -1,5 +1,5 @@
 -- A write changes what a stream is owed by names alone that the stream asked for.
-use Rattle.std.proofs.Common.{◌≡◌, ◌≢◌, ⊎_elim, ℕ, List, [], ◌∷◌, ◌++◌, map, Bool, true, false, cond, ◌&&◌, ◌||◌, not, Option, Some, None, Ok, refl, sym, ap, subst, ◌∙◌}
+use Rattle.std.proofs.Common.{◌≡◌, ◌≢◌, ⊎_elim, ℕ, List, [], ◌∷◌, ◌++◌, map, Bool, true, false, cond, ◌&&◌, ◌||◌, not, Option, Some, None, Result, Ok, Err, refl, sym, ap, subst, ◌∙◌}
 use Rattle.std.specs.Prelude.{if◌then◌else◌, is_some, option_map, find, bytes_eq}
 use Rattle.std.specs.Option.{option_map_or, option_and_then}
 use Rattle.std.specs.List.{list_any}
@@ -9,6 +9,7 @@ use Rattle.std.proofs.lemmas.Bool.{true≢false, both_ways, or_parts, or_left}
 use Rattle.std.proofs.lemmas.Cmp.{nat_list_cmp_total}
 use Rattle.std.proofs.lemmas.List.Folds.{list_any_at, Any-from_list_any}
 use Rattle.xds_resource.specs.declared.types.TypeName.{TypeName}
+use Rattle.xds_resource.specs.declared.refusal.Refusal.{Refusal}
 use Rattle.xds_resource.specs.declared.types.TypeName.TheVariants.{Cluster, Endpoint, Listener, Route, Secret}
 use Rattle.xds_resource.specs.declared.refusal.Refusal.TheVariants.{CounterSpent}
 use Rattle.xds_resource.specs.PerType.{at, each, with_at}
@@ -24,7 +25,7 @@ use Rattle.xds_interest.specs.Interests.{Selection, reaches, has_name, is_open_t
 use Rattle.xds_catalogue.specs.Holdings.{Holdings, Entries, IsCatalogue}
 use Rattle.xds_catalogue.specs.Joins.{joined}
 use Rattle.xds_catalogue.specs.Local.{next_counter}
-use Rattle.xds_catalogue.proofs.Catalogues.{get-catalogue_of, best-values}
+use Rattle.xds_catalogue.proofs.Catalogues.{get-catalogue_of, best-values, catalogue_of-IsCatalogue}
 use Rattle.xds_ledger.specs.declared.variant.VariantName.{VariantName}
 use Rattle.xds_ledger.specs.declared.entry.Due.TheVariants.{Stated}
 use Rattle.xds_ledger.specs.Variants.{is_whole, is_told}
@@ -43,7 +44,7 @@ use Rattle.xds_core.specs.Streams.{Stream, owes_of, to_send, first_due}
 use Rattle.xds_core.proofs.StepLaws.{only_writes_change_the_store, streams_stand_apart, done_with, put_is, delete_is, unless_once}
 use Rattle.xds_node.specs.Concerns.{only, written_names, writes, asks, IsInBoth, IsConcernOf, may_meet}
 use Rattle.xds_node.specs.Wakes.{due_at}
-use Rattle.xds_node.specs.WakeLaws.{HoldsCatalogues, Wants, OnlyReachedWritesCount, WakesCoverTheOwed, WakesCoverTheDue}
+use Rattle.xds_node.specs.WakeLaws.{HoldsCatalogues, CoversWrites, Wants, OnlyReachedWritesCount, WakesCoverTheOwed, WakesCoverTheDue, WakesCoverTheHeld}
 use Rattle.xds_node.specs.declared.concern.Concern.{Concern}
 use Rattle.xds_node.proofs.Covers.{never_fewer}
 
@@ -183,13 +184,17 @@ only_reached_writes_count c later e reply s t held is none =
 -- ---- who is owed something
 
 -- a name that is written, and that a stream reaches, is in both
-shared_name : (e : Event) (s : Stream) (t : TypeName) (made wants : Concern) → IsConcernOf e made → Wants wants s
+shared_name : (e : Event) (s : Stream) (t : TypeName) (made wants : Concern) → CoversWrites made e → Wants wants s
     → list_any (reaches (at s.sessions t).asked.interest) (written_names e t) ≡ true → (name : List ℕ) × IsInBoth made wants t name
 shared_name e s t made wants of_event of_stream some =
     let there = Any-from_list_any (reaches (at s.sessions t).asked.interest) (written_names e t) some in
     let name = there.1 in
     let named : writes e t name ≡ true = list_any_at (bytes_eq name) (written_names e t) there.0 name there.2 (ap (bytes_eq name) there.3 ∙ bytes_eq_same name) in
-    (name, (of_event.covered t name (or_left (writes e t name) (asks e t name) named), of_stream.names t name there.4))
+    (name, (of_event t name named, of_stream.names t name there.4))
+
+-- that of an event covers what it writes
+covers_writes : (e : Event) (made : Concern) → IsConcernOf e made → CoversWrites made e
+covers_writes e made of_event t name named = of_event.covered t name (or_left (writes e t name) (asks e t name) named)
 
 by_test : {P : Type 0} (b x y : Bool) → (b ≡ false → y ≡ x) → x ≡ false → y ≡ true → (b ≡ true → P) → P
 by_test true x y same was now gives = gives refl
@@ -199,7 +204,7 @@ by_test false x y same was now gives = absurd (both_ways x was (sym (same refl) 
 pub wakes_cover_the_owed : WakesCoverTheOwed
 wakes_cover_the_owed c later e reply s t made wants held is of_event of_stream was now =
     by_test (list_any (reaches (at s.sessions t).asked.interest) (written_names e t)) (owes_of c.store s t) (owes_of later.store s t)
-    (λ none. (only_reached_writes_count c later e reply s t held is none).0) was now (shared_name e s t made wants of_event of_stream)
+    (λ none. (only_reached_writes_count c later e reply s t held is none).0) was now (shared_name e s t made wants (covers_writes e made of_event) of_stream)
 
 -- ---- who is due a response
 
@@ -237,16 +242,82 @@ due_is c n s b there is = some_same (ap (option_map (λ (k : Stream). is_some (f
   some_same {x} e = ap (or_else x) e
 
 -- where a response of a type is due that wasn't before
-due_meets : (c later : Core) (e : Event) (reply : Reply) (s : Stream) (t : TypeName) (made wants : Concern) → HoldsCatalogues c.store → step c e ≡ Ok (reply, later) → IsConcernOf e made → Wants wants s
+due_meets : (c later : Core) (e : Event) (reply : Reply) (s : Stream) (t : TypeName) (made wants : Concern) → HoldsCatalogues c.store → step c e ≡ Ok (reply, later) → CoversWrites made e → Wants wants s
     → is_some (to_send c.store s t) ≡ false → is_some (to_send later.store s t) ≡ true → may_meet made wants ≡ true
 due_meets c later e reply s t made wants held is of_event of_stream was now =
     let shared = by_test (list_any (reaches (at s.sessions t).asked.interest) (written_names e t)) (is_some (to_send c.store s t)) (is_some (to_send later.store s t))
     (λ none. ap (λ o. is_some o) (only_reached_writes_count c later e reply s t held is none).1) was now (shared_name e s t made wants of_event of_stream) in
     never_fewer made wants t shared.0 shared.1
 
+-- the same of any type
+stream_meets : (c later : Core) (e : Event) (reply : Reply) (n : ℕ) (s : Stream) (made wants : Concern) → HoldsCatalogues c.store → stream_changed c e ≢ Some n → step c e ≡ Ok (reply, later)
+    → finmap.get c.streams n ≡ Some s → CoversWrites made e → Wants wants s → due_at c n ≡ Some false → due_at later n ≡ Some true → may_meet made wants ≡ true
+stream_meets c later e reply n s made wants held apart is there of_event of_stream was now =
+    let still = ap (λ (k : Core). finmap.get k.streams n) (sym (ap (left_by c) is)) ∙ streams_stand_apart c e n apart ∙ there in
+    let differs = some_differs (λ t. is_some (to_send c.store s t)) (λ t. is_some (to_send later.store s t)) types (due_is c n s false there was) (due_is later n s true still now) in
+    due_meets c later e reply s differs.0 made wants held is of_event of_stream differs.1 differs.2
+
 -- rule: wake-ups
 pub wakes_cover_the_due : WakesCoverTheDue
 wakes_cover_the_due c later e reply n s made wants held write is there of_event of_stream was now =
-    let still = ap (λ (k : Core). finmap.get k.streams n) (sym (ap (left_by c) is)) ∙ streams_stand_apart c e n (no_stream e c n write) ∙ there in
-    let differs = some_differs (λ t. is_some (to_send c.store s t)) (λ t. is_some (to_send later.store s t)) types (due_is c n s false there was) (due_is later n s true still now) in
-    due_meets c later e reply s differs.0 made wants held is of_event of_stream differs.1 differs.2
+    stream_meets c later e reply n s made wants held (no_stream e c n write) is there (covers_writes e made of_event) of_stream was now
+
+-- ---- one event after another
+
+joined_sound : (p : Store) (u t : TypeName) (ws : List StampedWrite) → HoldsCatalogues p → IsCatalogue (at (with_at p u (joined (at p u) ws)) t).entries
+joined_sound p u t ws held =
+    ⊎_elim
+    (λ here. subst (λ (h : Holdings). IsCatalogue h.entries) (sym (ap (at (with_at p u (joined (at p u) ws))) here.0 ∙ at-with_at p u (joined (at p u) ws)))
+    (catalogue_of-IsCatalogue (finmap.values (at p u).entries ++ ws)))
+    (λ other. subst (λ (h : Holdings). IsCatalogue h.entries) (sym (at-with_at_other p u (joined (at p u) ws) t other.0)) (held t)) (same_type t u)
+
+stays_sound : (p q : Store) → q ≡ p → HoldsCatalogues p → HoldsCatalogues q
+stays_sound p q same held = subst HoldsCatalogues (sym same) held
+
+-- each write still stands under its own name
+still_sound : (c later : Core) (e : Event) (reply : Reply) → HoldsCatalogues c.store → step c e ≡ Ok (reply, later) → HoldsCatalogues later.store
+still_sound c later Open reply held is = stays_sound c.store later.store (unwritten_store c later Open reply refl is) held
+still_sound c later (Request n m) reply held is = stays_sound c.store later.store (unwritten_store c later (Request n m) reply refl is) held
+still_sound c later (Poll n which) reply held is = stays_sound c.store later.store (unwritten_store c later (Poll n which) reply refl is) held
+still_sound c later (Owes n which) reply held is = stays_sound c.store later.store (unwritten_store c later (Owes n which) reply refl is) held
+still_sound c later (Close n) reply held is = stays_sound c.store later.store (unwritten_store c later (Close n) reply refl is) held
+still_sound c later (Put u r groups) reply held is =
+    let made = done_with (λ p. (Written p.0 c.replica, record c { store = p.1 })) (putting_at c.store u r groups c.replica) (reply, later) is in
+    let store = ap (λ x. x.1.store) made.2 ∙ (put_is c.store u r groups c.replica made.0 made.1).1 in
+    stays_sound _ later.store store (λ t. joined_sound c.store u t (written (next_counter (at c.store u)) c.replica r groups ∷ []) held)
+still_sound c later (Delete u name) reply held is =
+    let made = done_with (λ p. (Written p.0 c.replica, record c { store = p.1 })) (deleting_at c.store u name c.replica) (reply, later) is in
+    let store = ap (λ x. x.1.store) made.2 ∙ (delete_is c.store u name c.replica made.0 made.1).1 in
+    stays_sound _ later.store store (λ t. joined_sound c.store u t (deleted (next_counter (at c.store u)) c.replica name ∷ []) held)
+still_sound c later (Merge b) reply held is =
+    let made = done_with (λ p. (Merged p.0, record c { store = p.1 })) (merging c.store b) (reply, later) is in
+    let store = ap (λ x. x.1.store) made.2 ∙ ap (λ x. x.1) (unless_once (is_spent c.store b) CounterSpent (grown c.store b, merged c.store b) made.0 made.1) in
+    stays_sound (merged c.store b) later.store store
+    (λ t. subst (λ (h : Holdings). IsCatalogue h.entries) (sym (at-merged c.store b t)) (catalogue_of-IsCatalogue (finmap.values (at c.store t).entries ++ at b t)))
+still_sound c later Snapshot reply held is = stays_sound c.store later.store (unwritten_store c later Snapshot reply refl is) held
+still_sound c later (Rest u names version cluster) reply held is = stays_sound c.store later.store (unwritten_store c later (Rest u names version cluster) reply refl is) held
+still_sound c later (Since marks) reply held is = stays_sound c.store later.store (unwritten_store c later (Since marks) reply refl is) held
+
+due_there : (c : Core) (n : ℕ) (s : Stream) → finmap.get c.streams n ≡ Some s → due_at c n ≡ Some (is_some (first_due c.store s types))
+due_there c n s there = ap (option_map (λ (k : Stream). is_some (first_due c.store k types))) there
+
+-- an event elsewhere, after which a response is due, or is due by what happens then
+held_on : (c : Core) (e : Event) (r : Result (Reply × Core) Refusal) (n : ℕ) (s : Stream) (made wants : Concern) → step c e ≡ r → HoldsCatalogues c.store → stream_changed c e ≢ Some n → CoversWrites made e
+    → finmap.get c.streams n ≡ Some s → Wants wants s → due_at c n ≡ Some false → finmap.get (left_by c r).streams n ≡ Some s
+    → (HoldsCatalogues (left_by c r).store → due_at (left_by c r) n ≡ Some false → may_meet made wants ≡ true) → may_meet made wants ≡ true
+held_on c e (Ok p) n s made wants is held apart of_event there of_stream was still later = held_at (is_some (first_due p.1.store s types)) (due_there p.1 n s still) where
+  held_at : (b : Bool) → due_at p.1 n ≡ Some b → may_meet made wants ≡ true
+  held_at true now = stream_meets c p.1 e p.0 n s made wants held apart is there of_event of_stream was now
+  held_at false none = later (still_sound c p.1 e p.0 held is) none
+held_on c e (Err refusal) n s made wants is held apart of_event there of_stream was still later = later held was
+
+abbrev some_bool : Option Bool → Bool
+some_bool None = true
+some_bool (Some b) = b
+
+-- rule: wake-ups
+pub wakes_cover_the_held : WakesCoverTheHeld
+wakes_cover_the_held c [] n s made wants held elsewhere covered there of_stream was now = absurd (true≢false (sym (ap some_bool now) ∙ ap some_bool was))
+wakes_cover_the_held c (e ∷ es) n s made wants held elsewhere covered there of_stream was now =
+    held_on c e (step c e) n s made wants refl held elsewhere.0 covered.0 there of_stream was (streams_stand_apart c e n elsewhere.0 ∙ there)
+    (λ sound none. wakes_cover_the_held (left_by c (step c e)) es n s made wants sound elsewhere.1 covered.1 (streams_stand_apart c e n elsewhere.0 ∙ there) of_stream none now)

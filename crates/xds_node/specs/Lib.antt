@@ -25,3 +25,4 @@ pub mod Concerns
 pub mod Prints
 pub mod Gathered
 pub mod WakeLaws
+pub mod Sleeping

@@ -1,12 +1,14 @@
 // Laws of wake-ups. Each is a function that does nothing, whose clause is the law.
-ghost use Rattle.xds_node.specs.WakeLaws.{OnlyReachedWritesCount, WakesCoverTheDue, WakesCoverTheOwed, WantsBegin, WantsCoverRequests};
+ghost use Rattle.xds_node.specs.WakeLaws.{OnlyReachedWritesCount, WakesCoverTheDue, WakesCoverTheHeld, WakesCoverTheOwed, WantsBegin, WantsCoverRequests};
 
 // rule: wake-ups
-/// A write changes what a stream is owed by a name alone that the stream asked for, so it wakes all who may be owed something by it.
+/// A write changes what a stream is owed by a name alone that the stream asked for, so it wakes all who may be owed something by it; and so
+/// do all writes together that were made while writers were held back.
 pub fn wakes_cover_the_owed()
     ensures reached { OnlyReachedWritesCount }
     ensures owed { WakesCoverTheOwed }
     ensures due { WakesCoverTheDue }
+    ensures held { WakesCoverTheHeld }
 {}
 
 // rule: wake-ups

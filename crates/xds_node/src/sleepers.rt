@@ -1,7 +1,8 @@
 // Tasks that wait until something is due to their streams.
-ghost use Rattle.std.specs.Prelude.{◌≡◌};
+ghost use Rattle.std.specs.Prelude.{◌≡◌, true, map};
 ghost use Rattle.futures.specs.Task.{Covers, Keeps};
 ghost use Rattle.futures.specs.Poll.{OnPending};
+ghost use Rattle.xds_node.specs.Sleeping.{is_woken, left_in, woken};
 
 use crate::concern::Concern;
 use futures::task::{Context, Poll, Source, Waker};
@@ -17,6 +18,35 @@ struct Slot {
     waker: Option<Waker>,
     // Whether its task is woken once writers are held back no longer, whatever was written meanwhile.
     is_held: bool,
+}
+
+impl Slot {
+    // rule: wake-ups
+    // Whether its task is woken by what was written.
+    fn is_woken_by(&self, written: &Concern) -> bool
+        ensures { result ≡ is_woken written.now self.now }
+    {
+        self.is_held || self.wants.meets(written)
+    }
+
+    // Its task is taken, if what was written wakes it.
+    fn look(&mut self, written: &Concern, taken: &mut Vec<Waker>)
+        ensures { self.new ≡ left_in written.now self.old }
+    {
+        if self.is_woken_by(written) {
+            self.leave(taken);
+        }
+    }
+
+    // Its task is taken, and waits no longer. Where there is no memory to keep it, it is woken here.
+    fn leave(&mut self, taken: &mut Vec<Waker>)
+        ensures { self.new ≡ woken self.old }
+    {
+        self.is_held = false;
+        if let Some(waker) = self.waker.take() {
+            drop(taken.push(waker));
+        }
+    }
 }
 
 /// Tasks that wait: a slot for each stream that is open, in the order of their numbers, which ascend as they open. Whoever drops a
@@ -126,20 +156,22 @@ impl Sleepers {
         is_held: bool,
     ) -> Poll<()>
         ensures pending { result ≡ Poll.Pending }
+        ensures used { self.new.is_used ≡ true }
         ensures registered { Covers cx.new (λ s. s ≡ source.now.id) }
         ensures kept { Keeps cx.old cx.new }
     {
-        self.is_used = true;
         if self.slot(stream).is_none() {
             self.put(stream, Concern::all(self.alloc));
         }
-        match self.slot(stream) {
+        let pending = match self.slot(stream) {
             Some(slot) => {
                 slot.is_held = is_held;
                 cx.register(source, &mut slot.waker)
             }
             None => cx.yield_now(),
-        }
+        };
+        self.is_used = true;
+        pending
     }
 
     // rule: wake-ups
@@ -163,18 +195,16 @@ impl Sleepers {
     // rule: wake-ups
     /// The tasks of the streams that may be told what was written, and those that were held, which wait no longer. Where there is no memory
     /// to keep one, it is woken here.
-    pub fn taken_all(&mut self, written: &Concern) -> Vec<Waker> {
+    pub fn taken_all(&mut self, written: &Concern) -> Vec<Waker>
+        ensures used { self.new.is_used ≡ self.old.is_used }
+        ensures taken { self.old.is_used ≡ true → self.new.slots.items ≡ map (left_in written.now) self.old.slots.items }
+    {
         let mut taken = Vec::new(self.alloc);
         if !self.is_used {
             return taken;
         }
-        for slot in &mut self.slots {
-            if slot.is_held || slot.wants.meets(written) {
-                slot.is_held = false;
-                if let Some(waker) = slot.waker.take() {
-                    drop(taken.push(waker));
-                }
-            }
+        for slot in self.slots.iter_mut() {
+            slot.look(written, &mut taken);
         }
         taken
     }
