@@ -21,7 +21,9 @@ use xds_http::{Replies, Seats, serve_pages};
 use xds_machine::machine::{Machine, Runtime};
 use xds_machine::threads::{share, shares, start_worker};
 use xds_machine::wires::{both, started};
-use xds_monitor::{Lookout, Piece, Recorded, Served, Tape, Turns, Watched, Weighed};
+use xds_monitor::{
+    Instrumented, JournalWeight, Lookout, Observer, Piece, SegmentSink, Served, Tape, Turns,
+};
 use xds_node::{Host, Line, Node, NodeName, Opened};
 use xds_notes::ending::DRAIN_SECONDS;
 use xds_notes::{End, Ending};
@@ -75,7 +77,7 @@ where
     requires own { number ≡ N.replica }
 {
     match Node::<N>::new(alloc, opened, number) {
-        Ok(node) => start_recorded(rt, alloc, node, replica, lookout, tape),
+        Ok(node) => start_instrumented(rt, alloc, node, replica, lookout, tape),
         Err(refusal) => {
             drop(replica);
             Err(refusal)
@@ -83,10 +85,8 @@ where
     }
 }
 
-// What stands round a node is put round it by one function each: with all of it in one, a proof of the call finds no end.
-
 // Starts the threads of a replica by this node, whose journal goes to a tape, if there is one.
-fn start_recorded<R, A, S>(
+fn start_instrumented<R, A, S>(
     rt: &R,
     alloc: Global,
     node: A,
@@ -96,13 +96,13 @@ fn start_recorded<R, A, S>(
 ) -> Result<(), Refusal>
 where
     R: Machine,
-    A: Served + Host<Segment: Piece + Send> + Drop + Send + Sync + 'static,
+    A: Served + Host<Segment: Piece> + Drop + Send + Sync + 'static,
     <A as Host>::Seat: Send + 'static,
     A::PostSeat: Send,
     S: Follows + Drop + Send + Sync + 'static,
 {
-    match recorded_node(node, lookout, tape) {
-        Ok(node) => start_watched(rt, alloc, node, replica, lookout, tape),
+    match instrumented_node(alloc, node, *rt, lookout, tape) {
+        Ok(node) => start_shared(rt, alloc, node, replica, lookout, tape),
         Err(refusal) => {
             drop(replica);
             Err(refusal)
@@ -110,18 +110,36 @@ where
     }
 }
 
-// A node whose journal goes to this tape, if there is one.
-fn recorded_node<A: Served + Host<Segment: Piece> + Drop>(
+// A node whose events are noted, and whose journal goes to this tape, if there is one.
+fn instrumented_node<A: Served + Host<Segment: Piece> + Drop, C: Clock + Drop>(
+    alloc: Global,
     node: A,
+    clock: C,
     lookout: &Arc<Lookout>,
     tape: Option<&Arc<Tape>>,
-) -> Result<Recorded<A>, Refusal> {
-    match (share(lookout), shared_tape(tape)) {
-        (Ok(lookout), Ok(tape)) => Ok(Recorded::new(node, tape, lookout)),
+) -> Result<Instrumented<A, C>, Refusal> {
+    match (observer_of(alloc, clock, lookout), shared_tape(tape)) {
+        (Ok(observer), Ok(tape)) => {
+            let weight = JournalWeight::new(alloc, tape.is_some());
+            let sink = SegmentSink::new(tape);
+            Ok(Instrumented::new(node, weight, observer, sink))
+        }
         _ => {
             drop(node);
             Err(Refusal::OutOfMemory)
         }
+    }
+}
+
+// What notes events at this lookout.
+fn observer_of<C: Clock + Drop>(
+    alloc: Global,
+    clock: C,
+    lookout: &Arc<Lookout>,
+) -> Result<Observer<C>, Refusal> {
+    match (share(lookout), Turns::new(alloc)) {
+        (Ok(lookout), Ok(turns)) => Ok(Observer::new(alloc, clock, lookout, turns)),
+        _ => Err(Refusal::OutOfMemory),
     }
 }
 
@@ -133,8 +151,8 @@ pub(crate) fn shared_tape(tape: Option<&Arc<Tape>>) -> Result<Option<Arc<Tape>>,
     }
 }
 
-// Serves a replica by a node whose events are noted.
-fn start_watched<R, A, S>(
+// Starts the threads of a replica by a node that they share.
+fn start_shared<R, A, S>(
     rt: &R,
     alloc: Global,
     node: A,
@@ -144,55 +162,14 @@ fn start_watched<R, A, S>(
 ) -> Result<(), Refusal>
 where
     R: Machine,
-    A: Served + Drop + Send + Sync + 'static,
+    A: Served + Seats + Drop + Send + Sync + 'static,
     <A as Host>::Seat: Send + 'static,
     A::Segment: Send,
     A::PostSeat: Send,
+    <A as Replies>::Seat: Send,
     S: Follows + Drop + Send + Sync + 'static,
 {
-    match watched_node(alloc, node, *rt, lookout) {
-        Ok(node) => start_weighed(rt, alloc, node, replica, lookout, tape),
-        Err(refusal) => {
-            drop(replica);
-            Err(refusal)
-        }
-    }
-}
-
-// A node whose events are noted.
-fn watched_node<A: Served + Drop, C: Clock + Drop>(
-    alloc: Global,
-    node: A,
-    clock: C,
-    lookout: &Arc<Lookout>,
-) -> Result<Watched<A, C>, Refusal> {
-    match (share(lookout), Turns::new(alloc)) {
-        (Ok(lookout), Ok(turns)) => Ok(Watched::new(alloc, node, clock, lookout, turns)),
-        _ => {
-            drop(node);
-            Err(Refusal::OutOfMemory)
-        }
-    }
-}
-
-// Serves a replica by a node whose journal is cut by its weight.
-fn start_weighed<R, A, S>(
-    rt: &R,
-    alloc: Global,
-    node: A,
-    replica: ReplicaOver<S>,
-    lookout: &Arc<Lookout>,
-    tape: Option<&Arc<Tape>>,
-) -> Result<(), Refusal>
-where
-    R: Machine,
-    A: Served + Drop + Send + Sync + 'static,
-    <A as Host>::Seat: Send + 'static,
-    A::Segment: Send,
-    A::PostSeat: Send,
-    S: Follows + Drop + Send + Sync + 'static,
-{
-    match Arc::new(alloc, Weighed::new(alloc, node, tape.is_some())) {
+    match Arc::new(alloc, node) {
         Ok(node) => start_node(rt, alloc, node, replica, lookout, tape),
         Err(_) => {
             drop(replica);

@@ -3,12 +3,16 @@ ghost use Rattle.std.specs.Prelude.{◌≡◌};
 
 use std::alloc::{AllocGlobal, Global};
 use std::marker::Brand;
-use std::sync::Wait;
+use std::sync::{Arc, Wait};
 use std::test::Fail;
+use std::time::Clock;
 use xds_core::{Event, Request};
 use xds_message::DiscoveryRequest;
-use xds_monitor::{Served, Weighed};
+use xds_monitor::{
+    Instrumented, JournalWeight, Limits, Lookout, Observer, SegmentSink, Served, Turns,
+};
 use xds_node::{Host, Line, Node, NodeName, Opened};
+use xds_notes::{Ending, Telling};
 use xds_resource::{AnyResource, Groups, Refusal};
 
 // A cluster whose body has somewhat more than a million bytes.
@@ -90,8 +94,26 @@ struct Story {
     streams: u64,
 }
 
+// What notes the events of the node, and tells nothing.
+fn observer_of<C: Clock + Drop>(alloc: Global, clock: C) -> Result<Observer<C>, Refusal> {
+    let telling = Telling {
+        changes: false,
+        events: false,
+        json: false,
+    };
+    let limits = Limits {
+        streams: None,
+        idle_seconds: None,
+        refuses_long: false,
+        workers: None,
+    };
+    let ending = Arc::new(alloc, Ending::after(alloc, None, telling))?;
+    let lookout = Arc::new(alloc, Lookout::new(alloc, 1, 1, limits, ending))?;
+    Ok(Observer::new(alloc, clock, lookout, Turns::new(alloc)?))
+}
+
 // How many records its journal has then.
-fn records_after<N: NodeName, R: Wait>(
+fn records_after<N: NodeName, R: Wait + Clock + Copy + Drop>(
     rt: &R,
     alloc: Global,
     opened: Opened<Line>,
@@ -100,21 +122,30 @@ fn records_after<N: NodeName, R: Wait>(
     requires name { opened ≡ N.id }
     requires own { 1 ≡ N.replica }
 {
-    let node = Weighed::new(alloc, Node::<N>::new(alloc, opened, 1)?, story.is_recorded);
+    let node = Node::<N>::new(alloc, opened, 1)?;
+    let observer = observer_of(alloc, *rt)?;
+    let weight = JournalWeight::new(alloc, story.is_recorded);
+    let node = Instrumented::new(node, weight, observer, SegmentSink::new(None));
     let mut seat = node.seat(rt)?;
     put_often(rt, alloc, &node, &mut seat, story.puts)?;
     tell_often(rt, alloc, &node, &mut seat, story.streams)?;
-    let segment = node.cut(rt)?;
+    let segment = node.node().cut(rt)?;
     Ok(segment.records().len())
 }
 
-fn left_after<R: Wait + AllocGlobal>(rt: &R, story: Story) -> Result<usize, Refusal> {
+fn left_after<R: Wait + Clock + AllocGlobal + Copy + Drop>(
+    rt: &R,
+    story: Story,
+) -> Result<usize, Refusal> {
     let alloc = rt.alloc();
     let opened = Opened::<Line>::new(alloc)?;
     records_after::<Brand, R>(rt, alloc, opened, story)
 }
 
-fn left_after_puts<R: Wait + AllocGlobal>(rt: &R, puts: usize) -> Result<usize, Refusal> {
+fn left_after_puts<R: Wait + Clock + AllocGlobal + Copy + Drop>(
+    rt: &R,
+    puts: usize,
+) -> Result<usize, Refusal> {
     let story = Story {
         is_recorded: false,
         puts,
@@ -123,7 +154,7 @@ fn left_after_puts<R: Wait + AllocGlobal>(rt: &R, puts: usize) -> Result<usize, 
     left_after(rt, story)
 }
 
-fn left_after_streams<R: Wait + AllocGlobal>(
+fn left_after_streams<R: Wait + Clock + AllocGlobal + Copy + Drop>(
     rt: &R,
     is_recorded: bool,
     streams: u64,
