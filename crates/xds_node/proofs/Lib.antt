@@ -30,3 +30,4 @@ mod Covers
 mod WakesCover
 mod WantsCover
 mod Woken
+mod Orderly

@@ -275,7 +275,7 @@ stays_sound : (p q : Store) → q ≡ p → HoldsCatalogues p → HoldsCatalogue
 stays_sound p q same held = subst HoldsCatalogues (sym same) held
 
 -- each write still stands under its own name
-still_sound : (c later : Core) (e : Event) (reply : Reply) → HoldsCatalogues c.store → step c e ≡ Ok (reply, later) → HoldsCatalogues later.store
+pub still_sound : (c later : Core) (e : Event) (reply : Reply) → HoldsCatalogues c.store → step c e ≡ Ok (reply, later) → HoldsCatalogues later.store
 still_sound c later Open reply held is = stays_sound c.store later.store (unwritten_store c later Open reply refl is) held
 still_sound c later (Request n m) reply held is = stays_sound c.store later.store (unwritten_store c later (Request n m) reply refl is) held
 still_sound c later (Poll n which) reply held is = stays_sound c.store later.store (unwritten_store c later (Poll n which) reply refl is) held

@@ -1,5 +1,7 @@
 -- That a wake covers all who may be owed something. This project's own.
 --     HoldsCatalogues     each write stands under its own name, of each type
+--     IsOrderly           of a replica that; and its open streams have numbers that were given
+--     ReplicasAreOrderly  every replica is so, from its beginning on
 --     has_asked           whether a stream has asked for something of a type
 --     Wants               a concern covers all that a stream asked for
 --     OnlyReachedWritesCount  a stream is owed something else, or sent something else, by a write alone of a name that it reaches
@@ -23,7 +25,7 @@ use Rattle.xds_core.specs.Events as events
 use Rattle.xds_core.specs.Events.{Event, Reply}
 use Rattle.xds_core.specs.Laws.{is_write, stream_changed}
 use Rattle.xds_core.specs.Legal.{after}
-use Rattle.xds_core.specs.Steps.{Core, step}
+use Rattle.xds_core.specs.Steps.{Core, fresh, step}
 use Rattle.xds_core.specs.Stores.{Store}
 use Rattle.xds_core.specs.Streams.{Stream, opening, owes_of, to_send}
 use Rattle.xds_node.specs.Concerns.{set_of, written_names, writes, covers, IsInBoth, IsConcernOf, IsJoined, may_meet}
@@ -33,6 +35,15 @@ use Rattle.xds_node.specs.declared.concern.Concern.{Concern}
 -- each write stands under its own name, of each type
 abbrev pub HoldsCatalogues : Store → Type 0
 HoldsCatalogues store = (t : TypeName) → IsCatalogue (at store t).entries
+
+-- Each write stands under its own name, of each type, and the open streams have numbers that were given.
+pub record IsOrderly (c : Core) : Type 0 where
+  pub catalogues : HoldsCatalogues c.store
+  pub numbered : (n : ℕ) (s : Stream) → finmap.get c.streams n ≡ Some s → n ≤ c.opened
+
+-- A replica at which nothing happened is so, and each event leaves it so.
+abbrev pub ReplicasAreOrderly : Type 0
+ReplicasAreOrderly = ((replica : ℕ) → IsOrderly (fresh replica)) × ((c later : Core) (e : Event) (reply : Reply) → step c e ≡ Ok (reply, later) → IsOrderly c → IsOrderly later)
 
 -- whether a stream has asked for something of a type
 abbrev pub has_asked : Stream → TypeName → Bool

@@ -1,5 +1,5 @@
 // Laws of wake-ups. Each is a function that does nothing, whose clause is the law.
-ghost use Rattle.xds_node.specs.WakeLaws.{OnlyReachedWritesCount, WakesCoverTheDue, WakesCoverTheHeld, WakesCoverTheOwed, WantsBegin, WantsCoverRequests};
+ghost use Rattle.xds_node.specs.WakeLaws.{OnlyReachedWritesCount, ReplicasAreOrderly, WakesCoverTheDue, WakesCoverTheHeld, WakesCoverTheOwed, WantsBegin, WantsCoverRequests};
 
 // rule: wake-ups
 /// A write changes what a stream is owed by a name alone that the stream asked for, so it wakes all who may be owed something by it; and so
@@ -16,4 +16,9 @@ pub fn wakes_cover_the_owed()
 pub fn wants_cover_requests()
     ensures begin { WantsBegin }
     ensures requests { WantsCoverRequests }
+{}
+
+/// What the laws of wake-ups premise of a replica, every replica keeps.
+pub fn replicas_are_orderly()
+    ensures { ReplicasAreOrderly }
 {}
