@@ -3,7 +3,6 @@ ghost use Rattle.std.specs.Prelude.{◌≡◌, ◌||◌, ℕ, List, [], ◌∷�
 ghost use Rattle.xds_resource.specs.PerType.{at};
 ghost use Rattle.xds_resource.specs.declared.types.TypeName.{TypeName};
 ghost use Rattle.xds_resource.specs.Types.{type_of_url};
-ghost use Rattle.xds_interest.specs.Interests.{has_name};
 ghost use Rattle.xds_interest.specs.SotW.{is_named};
 ghost use Rattle.xds_core.specs.Seen.{event_of, message_of};
 ghost use Rattle.xds_core.specs.Streams.{url_of};
