@@ -96,13 +96,13 @@ fn start_instrumented<R, A, S>(
 ) -> Result<(), Refusal>
 where
     R: Machine,
-    A: Served + Host<Segment: Piece> + Drop + Send + Sync + 'static,
+    A: Served + Host<Segment: Piece + Send> + Drop + Send + Sync + 'static,
     <A as Host>::Seat: Send + 'static,
     A::PostSeat: Send,
     S: Follows + Drop + Send + Sync + 'static,
 {
     match instrumented_node(alloc, node, *rt, lookout, tape) {
-        Ok(node) => start_shared(rt, alloc, node, replica, lookout, tape),
+        Ok(node) => start_node(rt, alloc, node, replica, lookout, tape),
         Err(refusal) => {
             drop(replica);
             Err(refusal)
@@ -117,12 +117,13 @@ fn instrumented_node<A: Served + Host<Segment: Piece> + Drop, C: Clock + Drop>(
     clock: C,
     lookout: &Arc<Lookout>,
     tape: Option<&Arc<Tape>>,
-) -> Result<Instrumented<A, C>, Refusal> {
+) -> Result<Arc<Instrumented<A, C>>, Refusal> {
     match (observer_of(alloc, clock, lookout), shared_tape(tape)) {
         (Ok(observer), Ok(tape)) => {
             let weight = JournalWeight::new(alloc, tape.is_some());
             let sink = SegmentSink::new(tape);
-            Ok(Instrumented::new(node, weight, observer, sink))
+            let node = Instrumented::new(node, weight, observer, sink);
+            Ok(Arc::new(alloc, node)?)
         }
         _ => {
             drop(node);
@@ -148,33 +149,6 @@ pub(crate) fn shared_tape(tape: Option<&Arc<Tape>>) -> Result<Option<Arc<Tape>>,
     match tape {
         Some(tape) => Ok(Some(share(tape)?)),
         None => Ok(None),
-    }
-}
-
-// Starts the threads of a replica by a node that they share.
-fn start_shared<R, A, S>(
-    rt: &R,
-    alloc: Global,
-    node: A,
-    replica: ReplicaOver<S>,
-    lookout: &Arc<Lookout>,
-    tape: Option<&Arc<Tape>>,
-) -> Result<(), Refusal>
-where
-    R: Machine,
-    A: Served + Seats + Drop + Send + Sync + 'static,
-    <A as Host>::Seat: Send + 'static,
-    A::Segment: Send,
-    A::PostSeat: Send,
-    <A as Replies>::Seat: Send,
-    S: Follows + Drop + Send + Sync + 'static,
-{
-    match Arc::new(alloc, node) {
-        Ok(node) => start_node(rt, alloc, node, replica, lookout, tape),
-        Err(_) => {
-            drop(replica);
-            Err(Refusal::OutOfMemory)
-        }
     }
 }
 
