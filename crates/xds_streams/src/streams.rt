@@ -1,6 +1,6 @@
 // The streams of a replica: each connection is a task of a runtime, whose threads are as many as were asked for, however many streams
 // there are.
-ghost use Rattle.std.specs.Prelude.{◌≡◌, ◌<◌, IfOk, IfSome};
+ghost use Rattle.std.specs.Prelude.{◌≡◌, ◌<◌, None, IfOk, IfSome};
 ghost use Rattle.futures.specs.Task.{IsArmed, Keeps};
 ghost use Rattle.futures.specs.Poll.{OnPending};
 
@@ -10,6 +10,7 @@ use futures::Future;
 use futures::executor::TaskSet;
 use futures::task::{Context, Poll};
 use std::alloc::{AllocGlobal, Global};
+use std::collections::VecDeque;
 use std::io;
 use std::net::Net;
 use std::random::RandomSource;
@@ -26,6 +27,13 @@ use xds_stats::Moment;
 
 /// As many connections as one poll takes before it lets others run.
 const TURNS: usize = 64;
+
+/// As many connections as wait at most to be served, once they were taken. Those beyond wait in the system's queue, which has room for
+/// few: a client that finds it full asks again after a second.
+const MOST_WAITING: usize = 1_024;
+
+/// As many threads as serve the streams of a replica where none is said. All calls of a replica take one lock, for which more threads wait.
+const WORKERS: usize = 2;
 
 /// As many milliseconds as are waited after the system gave no connection, as where it has no descriptor left.
 const PAUSE_MILLISECONDS: u64 = 10;
@@ -47,8 +55,8 @@ pub(crate) trait Serves: Drop {
     fn pause(&self) -> Option<Sleep>;
 }
 
-/// Takes connections for as long as the process runs, each as a task of a runtime with as many threads as its limits say, or one for each
-/// processor. It returns only where the system refuses it something.
+/// Takes connections for as long as the process runs, each as a task of a runtime with as many threads as its limits say, or two. It
+/// returns only where the system refuses it something.
 pub fn serve_streams<'a, R, A>(
     rt: &'a R,
     alloc: Global,
@@ -79,17 +87,18 @@ where
     serve_by(rt, &mut runtime, listener, server)
 }
 
-// A runtime with so many threads; with one for each processor where none is said.
+// A runtime with so many threads; with two where none is said.
 fn runtime_with<R>(rt: &R, workers: Option<u16>) -> io::Result<Runtime>
 where
     R: Threads + Clock + Net + RandomSource + AllocGlobal,
-    ensures { IfOk result (λ runtime. IfSome workers (λ count. 0 < count → runtime.worker_threads ≡ count)) }
+    ensures said { IfOk result (λ runtime. IfSome workers (λ count. 0 < count → runtime.worker_threads ≡ count)) }
+    ensures unsaid { workers ≡ None → IfOk result (λ runtime. runtime.worker_threads ≡ 2) }
 {
-    let builder = Builder::new_multi_thread();
-    match workers {
-        Some(count) if count > 0 => builder.worker_threads(usize::from(count)).build(rt),
-        _ => builder.build(rt),
-    }
+    let count = match workers {
+        Some(count) if count > 0 => usize::from(count),
+        _ => WORKERS,
+    };
+    Builder::new_multi_thread().worker_threads(count).build(rt)
 }
 
 // Runs what serves each connection.
@@ -109,6 +118,7 @@ where
         server,
         listener,
         tasks: &tasks,
+        waiting: VecDeque::new(rt.alloc()),
         pause: None,
     };
     runtime.block_on_with(rt, &tasks, accepting)
@@ -159,6 +169,8 @@ struct Accepting<'b, F: Future, S> {
     server: S,
     listener: TcpListener,
     tasks: &'b TaskSet<F>,
+    // Connections that were taken and aren't served yet.
+    waiting: VecDeque<TcpStream>,
     pause: Option<Sleep>,
 }
 
@@ -169,6 +181,7 @@ impl<'b, F: Future, S: Drop> Drop for Accepting<'b, F, S> {
             server: _,
             listener: _,
             tasks: _,
+            waiting: _,
             pause: _,
         } = self;
     }
@@ -176,7 +189,7 @@ impl<'b, F: Future, S: Drop> Drop for Accepting<'b, F, S> {
 
 impl<'b, F: Future<Output = ()>, S: Serves<Task = F>> Accepting<'b, F, S> {
     // Serves a connection, or closes it.
-    fn take(&self, socket: TcpStream) {
+    fn serve(&self, socket: TcpStream) {
         let Some(task) = self.server.task(socket) else {
             return;
         };
@@ -200,8 +213,8 @@ impl<'b, F: Future<Output = ()>, S: Serves<Task = F>> Accepting<'b, F, S> {
         Poll::Ready(())
     }
 
-    // Takes the next connection.
-    fn poll_next(&mut self, cx: &mut Context<'_>) -> Poll<()>
+    // Takes the next connection, which waits then to be served; or closes it, where there is no memory.
+    fn poll_taken(&mut self, cx: &mut Context<'_>) -> Poll<()>
         ensures armed { OnPending result (IsArmed cx.new) }
         ensures kept { Keeps cx.old cx.new }
     {
@@ -211,7 +224,7 @@ impl<'b, F: Future<Output = ()>, S: Serves<Task = F>> Accepting<'b, F, S> {
         match self.listener.poll_accept(cx) {
             Poll::Pending => Poll::Pending,
             Poll::Ready(Ok((socket, _))) => {
-                self.take(socket);
+                drop(self.waiting.push_back(socket));
                 Poll::Ready(())
             }
             Poll::Ready(Err(_)) => {
@@ -219,6 +232,24 @@ impl<'b, F: Future<Output = ()>, S: Serves<Task = F>> Accepting<'b, F, S> {
                 Poll::Ready(())
             }
         }
+    }
+
+    // Takes a connection, or else serves one that waits. Where many come at once the system's queue of them is emptied first.
+    fn poll_next(&mut self, cx: &mut Context<'_>) -> Poll<()>
+        ensures armed { OnPending result (IsArmed cx.new) }
+        ensures kept { Keeps cx.old cx.new }
+    {
+        if self.waiting.len() < MOST_WAITING {
+            match self.poll_taken(cx) {
+                Poll::Ready(()) => return Poll::Ready(()),
+                Poll::Pending if self.waiting.is_empty() => return Poll::Pending,
+                Poll::Pending => {}
+            }
+        }
+        if let Some(socket) = self.waiting.pop_front() {
+            self.serve(socket);
+        }
+        Poll::Ready(())
     }
 }
 
