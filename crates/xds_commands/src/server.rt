@@ -59,7 +59,7 @@ pub struct Serving {
     pub rest_port: u16,
     /// After how many ended streams the server ends; never, where none is said.
     pub streams: Option<u16>,
-    /// By how many threads each replica serves its streams; by one for each processor, where none is said.
+    /// By how many threads each replica serves its streams; by two, where none is said.
     pub workers: Option<u16>,
     /// Whether a line of the input that is refused is told, and the next is read.
     pub keep_going: bool,

@@ -27,7 +27,7 @@ pub struct Limits {
     pub idle_seconds: Option<u16>,
     /// Whether a put is refused by which the whole response of its type would be too long for a frame.
     pub refuses_long: bool,
-    /// By how many threads they are served, from 1; by one for each processor, where none is said.
+    /// By how many threads they are served, from 1; by two, where none is said.
     pub workers: Option<u16>,
 }
 

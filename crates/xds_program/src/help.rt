@@ -89,8 +89,8 @@ say, and follows them. With --lint it tells references that lead nowhere. With
 with --pass-unvalidated a resource is taken, too, where the checker is away.
 With --refuse-beyond-frame a put is refused that makes the whole response of
 its type longer than a frame may be.
-Streams are served by a thread for each processor and replica, or by as many
-as --workers says, however many streams there are.
+The streams of a replica are served by two threads, or by as many as --workers
+says, however many streams there are.
 Writes are stamped by the numbers of their replicas, F and the next ones with
 --first-number F: give each run new ones, so that no version means two bodies.
 Prints nothing; the error output has a line a replica, which says what is

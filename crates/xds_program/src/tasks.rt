@@ -79,7 +79,7 @@ pub struct ServeTask {
     pub rest_port: u16,
     /// After how many ended streams it ends, from 1; never, where there is none.
     pub streams: Option<u16>,
-    /// By how many threads each replica serves its streams, from 1 to 256; by one for each processor, where there is none.
+    /// By how many threads each replica serves its streams, from 1 to 256; by two, where there is none.
     pub workers: Option<u16>,
     /// Whether a line of the input that is refused is told, and the next is read.
     pub keep_going: bool,

@@ -1,4 +1,4 @@
-// The streams of a replica as tasks of a runtime: its threads are as many as processors, however many streams there are.
+// The streams of a replica as tasks of a runtime: its threads are as many as are said, however many streams there are.
 #![tactic(auto)]
 
 mod arriving;
