@@ -5,7 +5,8 @@ use crate::beginning::Begun;
 use crate::server::Serving;
 use std::alloc::Global;
 use std::fs::File;
-use std::net::{Ipv4Addr, Net, SocketAddrV4, TcpListener, TcpStream};
+use std::net::{Ipv4Addr, Net, SocketAddr, SocketAddrV4, TcpListener, TcpStream};
+use std::os::fd::OwnedFd;
 use std::rt::Files;
 use std::sync::Arc;
 use xds_machine::machine::Machine;
@@ -246,13 +247,16 @@ fn copied_text(alloc: Global, text: &Option<String>) -> Result<Option<String>, R
     }
 }
 
+// Binds a port of this machine, with the longest queue of new connections that the system allows: a client that finds it full asks again
+// after a second.
 fn bind<R>(rt: &R, first: u16, index: u16) -> Result<TcpListener, Unbound>
 where
     R: Net<Listener = TcpListener, Stream = TcpStream>,
 {
     let port = first.wrapping_add(index);
-    match TcpListener::bind(rt, SocketAddrV4::new(Ipv4Addr::LOCALHOST, port)) {
-        Ok(listener) => Ok(listener),
+    let addr = SocketAddr::V4(SocketAddrV4::new(Ipv4Addr::LOCALHOST, port));
+    match mio::net::TcpListener::bind(rt, addr) {
+        Ok(listener) => Ok(TcpListener::from(OwnedFd::from(listener))),
         Err(error) => Err(Unbound::Port(port, PortFault::of(error.kind()))),
     }
 }
