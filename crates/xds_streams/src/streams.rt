@@ -28,8 +28,8 @@ use xds_stats::Moment;
 /// As many connections as one poll takes before it lets others run.
 const TURNS: usize = 64;
 
-/// As many connections as wait at most to be served, once they were taken. Those beyond wait in the system's queue, which has room for
-/// few: a client that finds it full asks again after a second.
+/// As many connections as wait at most to be served, once they were taken. Those beyond wait in the system's queue: a client that finds it
+/// full asks again after a second.
 const MOST_WAITING: usize = 1_024;
 
 /// As many threads as serve the streams of a replica where none is said. All calls of a replica take one lock, for which more threads wait.
