@@ -1,3 +1,4 @@
 pub mod Fitting
 pub mod Moved
 pub mod Replies
+pub mod Lines

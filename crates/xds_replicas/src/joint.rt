@@ -1,4 +1,7 @@
 // A body of changes that are looked at alone, or made together, at an operator's port.
+ghost use Rattle.std.specs.Prelude.{◌≡◌, string_bytes, IfOk};
+ghost use Rattle.xds_replicas.specs.Lines.{unstored_line};
+
 use crate::linting::{copy_of, lines_after};
 use crossbeam_channel::RecvTimeoutError;
 use std::alloc::Global;
@@ -310,7 +313,9 @@ fn line_of(alloc: Global, line: u64, made: Made, are_stored: bool) -> Result<Str
 }
 
 /// The line of a line that was made a write, which has this stamp, and isn't stored.
-pub fn unstored_line(alloc: Global, line: u64, stamp: Stamp) -> Result<String, Refusal> {
+pub fn unstored_line(alloc: Global, line: u64, stamp: Stamp) -> Result<String, Refusal>
+    ensures { IfOk result (λ t. string_bytes t ≡ unstored_line line stamp.counter stamp.writer) }
+{
     let counter = stamp.counter;
     let writer = stamp.writer;
     Ok(format!(in alloc; "line {line}: {counter}-{writer}, not stored\n")?)

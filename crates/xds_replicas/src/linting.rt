@@ -1,4 +1,7 @@
 // References of resources that lead nowhere, as they are told while a server runs, and in the answer to a dry run.
+ghost use Rattle.std.specs.Prelude.{◌≡◌, string_bytes, IfOk};
+ghost use Rattle.xds_replicas.specs.Lines.{dangling_line};
+
 use crate::moves::Moves;
 use crate::opening::entries_of;
 use crate::sourcing::{live_in, sender_of};
@@ -22,7 +25,9 @@ use xds_sources::{Dangling, dangling_in, key_of};
 const LOOK_SECONDS: u64 = 1;
 
 /// The line of a reference that leads nowhere, without its end.
-pub fn dangling_line(alloc: Global, one: &Dangling) -> Result<String, Refusal> {
+pub fn dangling_line(alloc: Global, one: &Dangling) -> Result<String, Refusal>
+    ensures { IfOk result (λ t. string_bytes t ≡ dangling_line (string_bytes one.now.from) (string_bytes one.now.to)) }
+{
     let from = one.from.as_str();
     let to = one.to.as_str();
     Ok(format!(in alloc; "{from} refers to {to}, which isn't held")?)

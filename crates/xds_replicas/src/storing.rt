@@ -1,5 +1,6 @@
 // A store while a server runs: it is told what changes at each replica, as one more peer of all of them.
-ghost use Rattle.std.specs.Prelude.{◌≡◌};
+ghost use Rattle.std.specs.Prelude.{◌≡◌, true, string_bytes, IfOk};
+ghost use Rattle.xds_core.specs.declared.catalogues.Marks.{Marks};
 ghost use Rattle.xds_replicas.specs.Moved.{has_all};
 
 use std::alloc::Global;
@@ -264,7 +265,9 @@ impl State {
 }
 
 /// Counts of changes of a replica at which nothing changed.
-pub fn nothing() -> Marks {
+pub fn nothing() -> Marks
+    ensures { (known : Marks) → has_all known result ≡ true }
+{
     Marks {
         cluster: 0,
         endpoint: 0,
@@ -474,7 +477,9 @@ impl Unstored {
 }
 
 /// A text of its own.
-pub fn owned(alloc: Global, text: &str) -> Result<String, Refusal> {
+pub fn owned(alloc: Global, text: &str) -> Result<String, Refusal>
+    ensures { IfOk result (λ t. string_bytes t ≡ text.now) }
+{
     Ok(String::from_str(alloc, text)?)
 }
 
