@@ -1,5 +1,5 @@
 -- That an offer is the next one again where both say the same of each name.
-use Rattle.std.proofs.Common.{◌≡◌, ℕ, List, [], ◌∷◌, Bool, true, false, cond, ◌&&◌, Option, Some, None, refl, sym, ap, ◌∙◌}
+use Rattle.std.proofs.Common.{◌≡◌, ℕ, List, [], ◌∷◌, Bool, true, false, cond, ◌&&◌, ◌||◌, Option, Some, None, refl, sym, ap, ◌∙◌}
 use Rattle.std.specs.Prelude.{bytes_eq, is_some, option_map, if◌then◌else◌}
 use Rattle.std.specs.List.{list_all}
 use Rattle.std.specs.FinMap as finmap
@@ -17,7 +17,7 @@ use Rattle.xds_ledger.specs.Variants.{is_whole}
 use Rattle.xds_ledger.specs.Owed.{Beliefs, present, owed_of, is_owed}
 use Rattle.xds_ledger.specs.Listed.{Listed, is_listed, is_since, Fits}
 use Rattle.xds_ledger.specs.Offers.{Offer, offered, offer, same_offer}
-use Rattle.xds_ledger.specs.Repeats.{same_saying, still_says}
+use Rattle.xds_ledger.specs.Repeats.{same_saying, still_says, has_what_is_said}
 use Rattle.xds_ledger.proofs.ByName.{present_absent, offer_says_it}
 use Rattle.xds_ledger.proofs.Fitting.{none_at_first, past_if, unowed_else}
 use Rattle.xds_ledger.proofs.SameOffers.{same_due_itself, same_due_tells, offers_are_told_apart}
@@ -56,6 +56,10 @@ pub one_fails : {X : Type 0} (p : List ℕ → Bool) (es : List (List ℕ × X))
 one_fails p [] none = absurd cc
 one_fails p (e ∷ es) none = fails_first p e es (p e.0) refl none (one_fails p es)
 
+neither_second : (a b : Bool) → (a || b) ≡ false → b ≡ false
+neither_second true b e = absurd cc
+neither_second false b e = e
+
 module _ (refused : Offer) (v : VariantName) (t : TypeName) (s : Selection) (m : Entries) (b : Beliefs) where
   -- rule: refused-offer
   -- where they agree of each name, they are the same
@@ -74,6 +78,15 @@ module _ (refused : Offer) (v : VariantName) (t : TypeName) (s : Selection) (m :
   -- what the entries of a map tell
   pub differs_among : {X : Type 0} (n : finmap.FinMap text_cmp X) → list_all (λ e. still_says refused v t s m b e.0) (finmap.entries n) ≡ false → false ≡ same_offer (offer v t s m b) refused
   differs_among n apart = let one = one_fails (still_says refused v t s m b) (finmap.entries n) apart in sym (differs_where one.0 one.1)
+
+  -- rule: refused-offer
+  -- where a name is to be said that the offer doesn't speak of, they differ
+  pub differs_at : (name : List ℕ) → has_what_is_said refused v t s m b name ≡ false → same_offer (offer v t s m b) refused ≡ false
+  differs_at name unsaid = differs_where name (neither_second (is_some (finmap.get refused name)) _ unsaid)
+
+  -- what the entries of a map tell of that
+  pub differs_unsaid : {X : Type 0} (n : finmap.FinMap text_cmp X) → list_all (λ e. has_what_is_said refused v t s m b e.0) (finmap.entries n) ≡ false → false ≡ same_offer (offer v t s m b) refused
+  differs_unsaid n apart = let one = one_fails (has_what_is_said refused v t s m b) (finmap.entries n) apart in sym (differs_at one.0 one.1)
 
 -- ---- the names that aren't looked at
 
@@ -95,19 +108,26 @@ module _ (v : VariantName) (t : TypeName) (s : Selection) (h : Holdings) (b : Be
   abbrev test : List ℕ → Bool
   test q = still_says refused v t s h.entries b q
 
+  abbrev has : List ℕ → Bool
+  has q = has_what_is_said refused v t s h.entries b q
+
+  -- of a name that the offer doesn't speak of
+  unsaid_passes : (q : List ℕ) → finmap.get refused q ≡ None → has q ≡ true → test q ≡ true
+  unsaid_passes q none passes = (λ i. is_some (sym none i) || test q) ∙ passes
+
   each_at : (q : List ℕ) (r : Option Due) (o : Option ℕ) (since : Bool) → finmap.get refused q ≡ r → finmap.get l.names q ≡ o → is_since h mark q ≡ since → mark ≡ (if is_whole v t then 0 else l.mark) → Fits v t s h b l → IsNumbered h
-      → list_all (λ e. test e.0) (finmap.entries refused) ≡ true → list_all (λ e. test e.0) (finmap.entries l.names) ≡ true → ((name : List ℕ) → is_since h mark name ≡ true → test name ≡ true) → test q ≡ true
-  each_at q (Some d) o since has there is from fits numbered said listed changed = named_passes test refused q d said has
-  each_at q None (Some k) since has there is from fits numbered said listed changed = named_passes test l.names q k listed there
-  each_at q None None true has there is from fits numbered said listed changed = changed q is
-  each_at q None None false has there is from fits numbered said listed changed =
-      λ i. same_saying (has i) (silent v t s h b l q (is_whole v t) refl numbered fits (ap is_some there) (ap (λ n. is_since h n q) (sym from) ∙ is) i)
+      → list_all (λ e. test e.0) (finmap.entries refused) ≡ true → list_all (λ e. has e.0) (finmap.entries l.names) ≡ true → ((name : List ℕ) → is_since h mark name ≡ true → has name ≡ true) → test q ≡ true
+  each_at q (Some d) o since held there is from fits numbered said listed changed = named_passes test refused q d said held
+  each_at q None (Some k) since none there is from fits numbered said listed changed = unsaid_passes q none (named_passes has l.names q k listed there)
+  each_at q None None true none there is from fits numbered said listed changed = unsaid_passes q none (changed q is)
+  each_at q None None false none there is from fits numbered said listed changed =
+      λ i. same_saying (none i) (silent v t s h b l q (is_whole v t) refl numbered fits (ap is_some there) (ap (λ n. is_since h n q) (sym from) ∙ is) i)
 
   -- rule: refused-offer
   -- once they agree of each name that was refused or is listed, those that changed since decide
-  pub others_decide : (result : Bool) → mark ≡ (if is_whole v t then 0 else l.mark) → Fits v t s h b l → list_all (λ e. test e.0) (finmap.entries refused) ≡ true → list_all (λ e. test e.0) (finmap.entries l.names) ≡ true
-      → (result ≡ true → (name : List ℕ) → is_since h mark name ≡ true → test name ≡ true) → (result ≡ false → (name : List ℕ) × (test name ≡ false)) → (result ≡ true → IsNumbered h)
+  pub others_decide : (result : Bool) → mark ≡ (if is_whole v t then 0 else l.mark) → Fits v t s h b l → list_all (λ e. test e.0) (finmap.entries refused) ≡ true → list_all (λ e. has e.0) (finmap.entries l.names) ≡ true
+      → (result ≡ true → (name : List ℕ) → is_since h mark name ≡ true → has name ≡ true) → (result ≡ false → (name : List ℕ) × (has name ≡ false)) → (result ≡ true → IsNumbered h)
       → result ≡ same_offer (offer v t s h.entries b) refused
   others_decide true from fits said listed all one numbered =
       sym (repeats_where refused v t s h.entries b (λ q. each_at q (finmap.get refused q) (finmap.get l.names q) (is_since h mark q) refl refl refl from fits (numbered refl) said listed (all refl)))
-  others_decide false from fits said listed all one numbered = let other = one refl in sym (differs_where refused v t s h.entries b other.0 other.1)
+  others_decide false from fits said listed all one numbered = let other = one refl in sym (differs_at refused v t s h.entries b other.0 other.1)

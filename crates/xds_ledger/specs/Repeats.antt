@@ -4,7 +4,8 @@
 --     said_of       what a response says of a name, from its entry and the version that is present
 --     same_saying   whether two say the same of a name, be it nothing
 --     still_says    whether an offer says of a name what a response would say now
-use Rattle.std.specs.Prelude.{ℕ, List, Bool, true, false, if◌then◌else◌, Option, Some, None, option_map}
+--     has_what_is_said   whether an offer speaks of a name, or a response would say nothing of it now
+use Rattle.std.specs.Prelude.{ℕ, List, Bool, true, false, ◌||◌, if◌then◌else◌, Option, Some, None, option_map, is_some}
 use Rattle.std.specs.Option.{option_map_or}
 use Rattle.std.specs.FinMap as finmap
 use Rattle.xds_resource.specs.declared.types.TypeName.{TypeName}
@@ -47,3 +48,8 @@ same_saying (Some d) (Some e) = same_due d e
 -- whether an offer says of a name what a response would say now
 abbrev pub still_says : Offer → VariantName → TypeName → Selection → Entries → Beliefs → List ℕ → Bool
 still_says refused v t s m b name = same_saying (finmap.get refused name) (offered v t s m b name)
+
+-- rule: refused-offer
+-- whether an offer speaks of a name, or a response would say nothing of it now
+abbrev pub has_what_is_said : Offer → VariantName → TypeName → Selection → Entries → Beliefs → List ℕ → Bool
+has_what_is_said refused v t s m b name = is_some (finmap.get refused name) || still_says refused v t s m b name

@@ -123,13 +123,19 @@ impl Beliefs {
         (told_of(&self.base), &self.changed)
     }
 
-    /// How many names were told or differ: no fewer than those of which something is believed, if they can be counted.
-    pub(crate) fn how_many(&self) -> u64 {
+    /// How many names were told, and how many differ.
+    pub(crate) fn sizes(&self) -> (u64, u64) {
         let told = match &self.base {
             Some(offer) => offer.as_map().iter().len() as u64,
             None => 0,
         };
-        told.saturating_add(self.changed.iter().len() as u64)
+        (told, self.changed.iter().len() as u64)
+    }
+
+    /// How many names were told or differ: no fewer than those of which something is believed, if they can be counted.
+    pub(crate) fn how_many(&self) -> u64 {
+        let (told, different) = self.sizes();
+        told.saturating_add(different)
     }
 
     /// Puts an entry at a name, if there is one to put. Refused only by `OutOfMemory`.

@@ -1,19 +1,20 @@
 // What a server keeps of one type on one stream, beside the interest: an account of what it told, and a list of what
 // it may owe.
-ghost use Rattle.std.specs.Prelude.{◌≡◌, is_some, IfOk, IfErr, OnOk, OnErr};
+ghost use Rattle.std.specs.Prelude.{◌≡◌, true, is_some, IfSome, IfOk, IfErr, OnOk, OnErr};
 ghost use Rattle.std.specs.FinMap as finmap;
 ghost use Rattle.xds_resource.specs.declared.refusal.Refusal.TheVariants.{OutOfMemory};
 ghost use Rattle.xds_ledger.specs.Listed.{StaysSufficient, changed_since, relisted};
-ghost use Rattle.xds_ledger.specs.Offers.{offer as offer_of};
+ghost use Rattle.xds_ledger.specs.Offers.{offer as offer_of, same_offer};
 ghost use Rattle.xds_ledger.specs.Ledgers as ledgers;
 ghost use Rattle.xds_ledger.specs.Ledgers.{settled, taken};
 ghost use Rattle.xds_ledger.specs.Lists.{Fits, FitsNext, new_books, refreshed, sent_books};
+ghost use Rattle.xds_ledger.specs.Variants.{is_delta};
 
 use crate::account::Account;
 use crate::entry::Due;
-use crate::listed::Listed;
+use crate::listed::{Listed, has_some};
 use crate::names::Names;
-use crate::offers::offer;
+use crate::offers::{offer, partly};
 use crate::owed::something_owed;
 use crate::repeats::repeats;
 use crate::shared_map::SharedMap;
@@ -22,7 +23,10 @@ use std::alloc::Global;
 use std::marker::Model;
 use xds_catalogue::Catalogue;
 use xds_interest::Interest;
-use xds_resource::{Refusal, ResourceType};
+use xds_resource::{NameMap, Refusal, ResourceType};
+
+// How many names an offer may have that is made for others, too.
+const FEW: usize = 64;
 
 /// What a client was told of one type on one stream, what is unanswered, and which names it may be owed.
 pub struct Ledger<T: ResourceType, V: Variant> {
@@ -131,6 +135,90 @@ impl<T: ResourceType, V: Variant> Ledger<T, V> {
             && !self.repeats(interest, catalogue)
     }
 
+    /// What the next response would say, where it isn't the whole, some names may be owed, and few. Refused only by `OutOfMemory`.
+    pub fn short_offer(
+        &self,
+        alloc: Global,
+        interest: &Interest<T>,
+        catalogue: &Catalogue<T>,
+    ) -> Result<Option<SharedMap<Due>>, Refusal>
+        ensures ok { IfOk result (λ o. IfSome o (λ m. Fits V.NAME T.TYPE interest.now catalogue.now self.now
+            → m ≡ offer_of V.NAME T.TYPE interest.now catalogue.now.entries self.now.account.beliefs)) }
+        ensures err { IfErr result (λ e. e ≡ OutOfMemory) }
+    {
+        if V::NAME.is_whole(T::TYPE) || !self.has_few(catalogue) {
+            return Ok(None);
+        }
+        let beliefs = self.account.beliefs();
+        let said = partly(alloc, V::NAME, interest, catalogue, beliefs, &self.listed)?;
+        if !has_some(&said) {
+            return Ok(None);
+        }
+        Ok(Some(SharedMap::new(alloc, said)?))
+    }
+
+    // Whether few names are listed, and few changes lie above the list's mark.
+    fn has_few(&self, catalogue: &Catalogue<T>) -> bool {
+        let (base, added) = self.listed.names();
+        let shared = match base {
+            Some(names) => names.iter().len(),
+            None => 0,
+        };
+        shared <= FEW
+            && added.iter().len() <= FEW
+            && catalogue.changes_since(self.listed.mark()) <= FEW as u64
+    }
+
+    // rule: refused-offer
+    /// Whether the next response would say what an offer says. It takes no memory, and looks at the names of the offer, the listed
+    /// ones and the changes above the mark alone, but where a response is the whole.
+    pub fn would_say(
+        &self,
+        interest: &Interest<T>,
+        catalogue: &Catalogue<T>,
+        offer: &NameMap<Due>,
+    ) -> bool
+        requires { Fits V.NAME T.TYPE interest.now catalogue.now self.now }
+        ensures { result ≡ same_offer (offer_of V.NAME T.TYPE interest.now catalogue.now.entries self.now.account.beliefs) offer.now }
+    {
+        let beliefs = self.account.beliefs();
+        repeats(offer, V::NAME, interest, catalogue, beliefs, &self.listed)
+    }
+
+    // rule: one-unanswered, rule: refused-offer
+    /// What `sends` answers, from the offer of the next response where the variant is incremental: with no look at a name, but where an
+    /// offer was refused. It takes no memory.
+    pub fn sends_offer(
+        &self,
+        interest: &Interest<T>,
+        catalogue: &Catalogue<T>,
+        offer: &NameMap<Due>,
+    ) -> bool
+        requires fits { Fits V.NAME T.TYPE interest.now catalogue.now self.now }
+        requires delta { is_delta V.NAME ≡ true }
+        requires offer { offer.now ≡ offer_of V.NAME T.TYPE interest.now catalogue.now.entries self.now.account.beliefs }
+        ensures { result ≡ is_some (ledgers.sending V.NAME T.TYPE interest.now catalogue.now.entries self.now.account) }
+    {
+        !self.account.awaits_answer()
+            && self.is_due_by(interest, catalogue, offer)
+            && !self.repeats(interest, catalogue)
+    }
+
+    // rule: owed
+    // Whether a response is due, from its offer.
+    fn is_due_by(
+        &self,
+        _interest: &Interest<T>,
+        _catalogue: &Catalogue<T>,
+        offer: &NameMap<Due>,
+    ) -> bool
+        requires delta { is_delta V.NAME ≡ true }
+        requires offer { offer.now ≡ offer_of V.NAME T.TYPE _interest.now _catalogue.now.entries self.now.account.beliefs }
+        ensures { result ≡ ledgers.is_due V.NAME T.TYPE _interest.now _catalogue.now.entries self.now.account }
+    {
+        has_some(offer)
+    }
+
     // rule: refused-offer
     // Whether the offer of the next response is the one that was refused last.
     fn repeats(&self, interest: &Interest<T>, catalogue: &Catalogue<T>) -> bool
@@ -138,14 +226,7 @@ impl<T: ResourceType, V: Variant> Ledger<T, V> {
         ensures { result ≡ ledgers.is_refused self.now.account (offer_of V.NAME T.TYPE interest.now catalogue.now.entries self.now.account.beliefs) }
     {
         match self.account.refused() {
-            Some(refused) => repeats(
-                refused.as_map(),
-                V::NAME,
-                interest,
-                catalogue,
-                self.account.beliefs(),
-                &self.listed,
-            ),
+            Some(refused) => self.would_say(interest, catalogue, refused.as_map()),
             None => false,
         }
     }

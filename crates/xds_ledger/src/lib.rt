@@ -23,6 +23,7 @@ pub mod nonces;
 pub mod offers;
 pub mod outcome;
 pub mod owed;
+mod rebasing;
 pub mod repeats;
 pub mod sent;
 pub mod shared_map;

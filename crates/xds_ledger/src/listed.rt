@@ -340,7 +340,7 @@ fn with_listed(
 }
 
 // Whether there is a name.
-fn has_some(names: &NameMap<u64>) -> bool
+pub(crate) fn has_some<V: Drop>(names: &NameMap<V>) -> bool
     ensures { result ≡ list_any (λ e. true) (finmap.entries names.now) }
 {
     match names.iter().next() {

@@ -1,5 +1,5 @@
 // What a response says, from what was told and what the catalogue holds.
-ghost use Rattle.std.specs.Prelude.{◌≡◌, ℕ, List, Some, true, map, if◌then◌else◌, IfOk, IfErr, OnOk};
+ghost use Rattle.std.specs.Prelude.{◌≡◌, ℕ, List, Some, true, false, map, if◌then◌else◌, IfOk, IfErr, OnOk};
 ghost use Rattle.std.specs.Option.{option_or};
 ghost use Rattle.std.specs.FinMap as finmap;
 ghost use Rattle.xds_resource.specs.declared.refusal.Refusal.TheVariants.{OutOfMemory};
@@ -179,6 +179,25 @@ fn said<T: ResourceType>(
     if variant.is_whole(T::TYPE) {
         return wholly(alloc, interest, catalogue);
     }
+    let said = partly(alloc, variant, interest, catalogue, beliefs, listed)?;
+    Ok(said)
+}
+
+// rule: owed
+/// What is owed and can be told, of the listed names and of those that changed since the mark: what a response says that isn't the
+/// whole, where the list suffices.
+pub(crate) fn partly<T: ResourceType>(
+    alloc: Global,
+    variant: VariantName,
+    interest: &Interest<T>,
+    catalogue: &Catalogue<T>,
+    beliefs: &Beliefs,
+    listed: &Listed,
+) -> Result<NameMap<Due>, Refusal>
+    ensures ok { IfOk result (λ m. is_whole variant T.TYPE ≡ false → Fits variant T.TYPE interest.now catalogue.now beliefs.now listed.now
+        → m ≡ offer variant T.TYPE interest.now catalogue.now.entries beliefs.now) }
+    ensures err { IfErr result (λ e. e ≡ OutOfMemory) }
+{
     let due = listed_due(alloc, variant, interest, catalogue, beliefs, listed)?;
     let mark = listed.mark();
     let said = with_changed(alloc, variant, interest, catalogue, beliefs, mark, due)?;

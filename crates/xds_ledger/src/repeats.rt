@@ -7,7 +7,7 @@ ghost use Rattle.xds_catalogue.specs.Holdings.{IsNumbered};
 ghost use Rattle.xds_ledger.specs.Listed.{Fits, is_since};
 ghost use Rattle.xds_ledger.specs.Offers.{offer, same_offer};
 ghost use Rattle.xds_ledger.specs.Overlay.{entry_of};
-ghost use Rattle.xds_ledger.specs.Repeats.{due_said, said_of as due_of, still_says};
+ghost use Rattle.xds_ledger.specs.Repeats.{due_said, has_what_is_said, said_of as due_of, still_says};
 
 use crate::believed::Beliefs;
 use crate::entry::Due;
@@ -71,6 +71,21 @@ fn still_says<T: ResourceType>(
 }
 
 // rule: refused-offer
+// Whether an offer speaks of a name, or a response would say nothing of it now. It takes no memory.
+fn has_what_is_said<T: ResourceType>(
+    refused: &NameMap<Due>,
+    variant: VariantName,
+    interest: &Interest<T>,
+    catalogue: &Catalogue<T>,
+    beliefs: &Beliefs,
+    name: &str,
+) -> bool
+    ensures { result ≡ has_what_is_said refused.now variant T.TYPE interest.now catalogue.now.entries beliefs.now name.now }
+{
+    refused.contains(name) || still_says(refused, variant, interest, catalogue, beliefs, name)
+}
+
+// rule: refused-offer
 // Whether it does so of each name that it speaks of.
 fn still_says_where_said<T: ResourceType>(
     refused: &NameMap<Due>,
@@ -90,8 +105,8 @@ fn still_says_where_said<T: ResourceType>(
 }
 
 // rule: refused-offer
-// Whether it does so of each of some names.
-fn still_says_among<T: ResourceType>(
+// Whether an offer speaks of each of some names that a response would say something of.
+fn has_what_is_said_among<T: ResourceType>(
     refused: &NameMap<Due>,
     variant: VariantName,
     interest: &Interest<T>,
@@ -99,10 +114,10 @@ fn still_says_among<T: ResourceType>(
     beliefs: &Beliefs,
     names: &NameMap<u64>,
 ) -> bool
-    ensures { result ≡ list_all (λ e. still_says refused.now variant T.TYPE interest.now catalogue.now.entries beliefs.now e.0) (finmap.entries names.now) }
+    ensures { result ≡ list_all (λ e. has_what_is_said refused.now variant T.TYPE interest.now catalogue.now.entries beliefs.now e.0) (finmap.entries names.now) }
 {
     for (name, _number) in names.iter() {
-        if !still_says(refused, variant, interest, catalogue, beliefs, name) {
+        if !has_what_is_said(refused, variant, interest, catalogue, beliefs, name) {
             return false;
         }
     }
@@ -110,8 +125,8 @@ fn still_says_among<T: ResourceType>(
 }
 
 // rule: refused-offer
-// Whether it does so of each listed name.
-fn still_says_where_listed<T: ResourceType>(
+// The same of each listed name.
+fn has_what_is_said_where_listed<T: ResourceType>(
     refused: &NameMap<Due>,
     variant: VariantName,
     interest: &Interest<T>,
@@ -119,21 +134,21 @@ fn still_says_where_listed<T: ResourceType>(
     beliefs: &Beliefs,
     listed: &Listed,
 ) -> bool
-    ensures { result ≡ list_all (λ e. still_says refused.now variant T.TYPE interest.now catalogue.now.entries beliefs.now e.0) (finmap.entries listed.now.names) }
+    ensures { result ≡ list_all (λ e. has_what_is_said refused.now variant T.TYPE interest.now catalogue.now.entries beliefs.now e.0) (finmap.entries listed.now.names) }
 {
     let (base, added) = listed.names();
-    if !still_says_among(refused, variant, interest, catalogue, beliefs, added) {
+    if !has_what_is_said_among(refused, variant, interest, catalogue, beliefs, added) {
         return false;
     }
     match base {
-        Some(base) => still_says_among(refused, variant, interest, catalogue, beliefs, base),
+        Some(base) => has_what_is_said_among(refused, variant, interest, catalogue, beliefs, base),
         None => true,
     }
 }
 
 // rule: refused-offer
-// Whether it does so of each name that changed since a mark.
-fn still_says_where_changed<T: ResourceType>(
+// The same of each name that changed since a mark.
+fn has_what_is_said_where_changed<T: ResourceType>(
     refused: &NameMap<Due>,
     variant: VariantName,
     interest: &Interest<T>,
@@ -142,13 +157,13 @@ fn still_says_where_changed<T: ResourceType>(
     mark: u64,
 ) -> bool
     ensures all { result ≡ true → (name : List ℕ) → is_since catalogue.now mark name ≡ true
-        → still_says refused.now variant T.TYPE interest.now catalogue.now.entries beliefs.now name ≡ true }
-    ensures one { result ≡ false → (name : List ℕ) × (still_says refused.now variant T.TYPE interest.now catalogue.now.entries beliefs.now name ≡ false) }
+        → has_what_is_said refused.now variant T.TYPE interest.now catalogue.now.entries beliefs.now name ≡ true }
+    ensures one { result ≡ false → (name : List ℕ) × (has_what_is_said refused.now variant T.TYPE interest.now catalogue.now.entries beliefs.now name ≡ false) }
     ensures numbered { result ≡ true → IsNumbered catalogue.now }
 {
     let mut after = mark;
     while let Some((number, write)) = catalogue.next_change(after) {
-        if !still_says(refused, variant, interest, catalogue, beliefs, write.name()) {
+        if !has_what_is_said(refused, variant, interest, catalogue, beliefs, write.name()) {
             return false;
         }
         after = number;
@@ -173,11 +188,11 @@ pub fn repeats<T: ResourceType>(
     if !still_says_where_said(refused, variant, interest, catalogue, beliefs) {
         return false;
     }
-    if !still_says_where_listed(refused, variant, interest, catalogue, beliefs, listed) {
+    if !has_what_is_said_where_listed(refused, variant, interest, catalogue, beliefs, listed) {
         return false;
     }
     let mark = first_mark(variant.is_whole(T::TYPE), listed);
-    still_says_where_changed(refused, variant, interest, catalogue, beliefs, mark)
+    has_what_is_said_where_changed(refused, variant, interest, catalogue, beliefs, mark)
 }
 
 // rule: refused-offer

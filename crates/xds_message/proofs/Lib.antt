@@ -2,6 +2,7 @@ pub mod StampedWriteLemmas
 pub mod ReadGroups
 pub mod ReadWrites
 pub mod BatchLemmas
+mod Unescaped
 mod InOrder
 pub mod OneMessage
 pub mod ReadsBack

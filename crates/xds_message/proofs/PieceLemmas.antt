@@ -1,7 +1,6 @@
 -- How far the pieces of a text were written, and how long they are.
 use Rattle.std.proofs.Common.{◌≡◌, ◌<◌, ◌+◌, arith, length-append, ℕ, List, [], ◌∷◌, ◌++◌, Bool, true, false, map, length, Option, refl, ap, sym, ◌∙◌, subst, append_assoc, append-nil}
 use Rattle.std.specs.Io.KnownBytes.{Appends}
-use Rattle.serde_json.specs.Written.{comma_if}
 use Rattle.xds_frames.specs.Devices.{Device, WrotePart}
 use Rattle.xds_frames.specs.Gathering.{Passes}
 use Rattle.xds_frames.proofs.Gatherings.{of_calls, part_of_more, part_behind, passes_none, passes_more, passes_whole}
@@ -18,13 +17,6 @@ pub put_none : (b : Option (List ℕ)) (f : ℕ) (held all : List ℕ) → ArePu
 put_none b f held all = record { bytes = []; passes = passes_none b f held [] held (sym (append-nil held)); all_is = refl }
 
 -- ---- stored texts with commas between them
-
-comma_is : (later : Bool) → comma_if later ≡ comma_before later
-comma_is false = refl
-comma_is true = refl
-
-joined_so_far : (out comma text rest : List ℕ) → ((out ++ comma) ++ text) ++ rest ≡ out ++ ((comma ++ text) ++ rest)
-joined_so_far out comma text rest = simp append_assoc
 
 module _ {A : Type 0} (text : A → List ℕ) where
   -- the text of what is left, behind another or as the first
@@ -69,11 +61,11 @@ module _ {A : Type 0} (text : A → List ℕ) where
       subst (λ (bytes : List ℕ). Passes d held bytes left) (sym (append-nil p.bytes) ∙ ap (λ (l : List ℕ). p.bytes ++ l) (sym (ap (rest_behind later) none ∙ nothing_behind later)) ∙ p.all_is) p.passes
 
   -- a text is joined, and the comma before it
-  pub text_more : (later : Bool) (item : A) (items these : List A) (out middle new all : List ℕ) → these ≡ item ∷ items → out ++ rest_behind later these ≡ all
-      → middle ≡ out ++ comma_if later → new ≡ middle ++ text item → new ++ rest_behind true items ≡ all
-  text_more later item items these out middle new all is joined with_comma with_text =
-      ap (λ (l : List ℕ). l ++ rest_behind true items) (with_text ∙ ap (λ (l : List ℕ). l ++ text item) (with_comma ∙ ap (λ (l : List ℕ). out ++ l) (comma_is later)))
-      ∙ joined_so_far out (comma_before later) (text item) (rest_behind true items)
+  pub text_more : (later : Bool) (item : A) (items these : List A) (out new all : List ℕ) → these ≡ item ∷ items → out ++ rest_behind later these ≡ all
+      → new ≡ out ++ (comma_before later ++ text item) → new ++ rest_behind true items ≡ all
+  text_more later item items these out new all is joined grown =
+      ap (λ (l : List ℕ). l ++ rest_behind true items) grown
+      ∙ append_assoc out (comma_before later ++ text item) (rest_behind true items)
       ∙ ap (λ (l : List ℕ). out ++ l) (sym (rest_step later item items) ∙ ap (rest_behind later) (sym is))
       ∙ joined
 

@@ -1,6 +1,5 @@
 // Responses of the incremental variant before they are written.
 ghost use Rattle.std.specs.Prelude.{◌≡◌, ◌≤◌, ◌++◌, List, ℕ, length, map, string_bytes, IfOk, IfErr, OnOk, OnErr, All};
-ghost use Rattle.std.specs.Arc.{arc_slice_items};
 ghost use Rattle.serde_json.specs.Written.{compact_text};
 ghost use Rattle.xds_resource.specs.declared.refusal.Refusal.TheVariants.{OutOfMemory};
 ghost use Rattle.xds_frames.specs.Frames.{longest};
@@ -14,10 +13,11 @@ use crate::body::Body;
 use crate::delta_response::{DeltaDiscoveryResponse, DeltaResource};
 use crate::joining::{Join, join_key, join_list, join_list_ends, join_text};
 use crate::pieces::{Parts, Pieces, Stored};
+use crate::stated::Resources;
 use crate::unsent::Unsent;
 use std::alloc::Global;
 use std::marker::Model;
-use std::sync::{ArcSlice, ArcStr};
+use std::sync::ArcStr;
 use xds_json::copy_texts;
 use xds_resource::{Refusal, ResourceType, TypeName, Write};
 
@@ -110,7 +110,7 @@ pub struct DeltaDraft {
     kind: TypeName,
     version: String,
     nonce: String,
-    resources: ArcSlice<DraftResource, Global>,
+    resources: Resources,
     removed: Vec<String>,
 }
 
@@ -129,7 +129,6 @@ impl Drop for DeltaDraft {
 
 impl Model for DeltaDraft {
     ghost use Rattle.std.specs.Prelude.{map, string_bytes};
-    ghost use Rattle.std.specs.Arc.{arc_slice_items};
     ghost use Rattle.xds_message.specs.Drafts.{DraftedDelta};
 
     ghost Value = { DraftedDelta };
@@ -138,7 +137,7 @@ impl Model for DeltaDraft {
       kind = d.kind;
       system_version_info = string_bytes d.version;
       nonce = string_bytes d.nonce;
-      resources = arc_slice_items d.resources;
+      resources = d.resources;
       removed_resources = map string_bytes d.removed.items;
     } };
 }
@@ -149,11 +148,11 @@ impl DeltaDraft {
         kind: TypeName,
         version: String,
         nonce: String,
-        resources: ArcSlice<DraftResource, Global>,
+        resources: Resources,
         removed: Vec<String>,
     ) -> DeltaDraft
         ensures { result
-            ≡ record { kind = kind; system_version_info = string_bytes version; nonce = string_bytes nonce; resources = arc_slice_items resources; removed_resources = map string_bytes removed.items } }
+            ≡ record { kind = kind; system_version_info = string_bytes version; nonce = string_bytes nonce; resources = resources; removed_resources = map string_bytes removed.items } }
     {
         DeltaDraft {
             kind,
@@ -189,7 +188,7 @@ impl DeltaDraft {
     pub fn stated(&self) -> usize
         ensures { result ≡ length self.now.resources }
     {
-        self.resources.len()
+        self.resources.as_slice().len()
     }
 
     /// The names that the client is to drop.
@@ -256,7 +255,7 @@ impl DeltaDraft {
         ensures refused { IfErr result (λ e. e ≡ OutOfMemory) }
     {
         let (head, tail) = self.ends(alloc)?;
-        Ok(Pieces::around_resources(head, self.resources.as_slice(), tail))
+        Ok(Pieces::around_resources(head, &self.resources, tail))
     }
 
     /// A frame of the same text, of which a block holds the beginning, as it is left to be written. The resources' texts are where
@@ -290,7 +289,8 @@ impl DeltaDraft {
         Ok((head, tail))
     }
 
-    /// An equal draft. No body is copied.
+    /// An equal draft, to be kept and not to be written: it holds no joined text, which would outlive the change that it was made
+    /// for. No body is copied.
     pub fn try_copy(&self, alloc: Global) -> Result<DeltaDraft, Refusal>
         ensures ok { IfOk result (λ d. d ≡ self.now) }
         ensures refused { IfErr result (λ e. e ≡ OutOfMemory) }
@@ -299,7 +299,7 @@ impl DeltaDraft {
             kind: self.kind,
             version: String::from_str(alloc, self.version.as_str())?,
             nonce: String::from_str(alloc, self.nonce.as_str())?,
-            resources: self.resources.clone()?,
+            resources: self.resources.unjoined()?,
             removed: copy_texts(alloc, &self.removed)?,
         })
     }

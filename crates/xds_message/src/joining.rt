@@ -1,5 +1,7 @@
 // JSON texts that are joined piece by piece, with no value made of the whole.
-ghost use Rattle.std.specs.Prelude.{◌≡◌, ◌∷◌, [], ◌++◌, Bool, Some, map, string_bytes, IfOk, IfErr, OnOk};
+ghost use Rattle.std.specs.Prelude.{◌≡◌, ◌∷◌, [], ◌++◌, Bool, true, Some, map, string_bytes, IfOk, IfErr, OnOk};
+ghost use Rattle.std.specs.List.{list_all};
+ghost use Rattle.json.specs.Run.{is_plain};
 ghost use Rattle.serde_json.specs.Data.{Data, string, array};
 ghost use Rattle.serde_json.specs.View.{items_of};
 ghost use Rattle.serde_json.specs.Written.{compact_text, comma_if};
@@ -37,11 +39,45 @@ impl Join for String {
     }
 }
 
+// Whether a byte of a text stands in quotes as it is.
+fn is_plain(byte: u8) -> bool
+    ensures { result ≡ is_plain byte }
+{
+    byte != b'"' && byte != b'\\' && byte >= b' '
+}
+
+// Whether a text stands in quotes as it is: it has no quote, no backslash and no control character.
+fn needs_no_escape(text: &str) -> bool
+    ensures { result ≡ list_all is_plain text.now }
+{
+    let bytes = text.as_bytes();
+    for byte in bytes {
+        if !is_plain(*byte) {
+            return false;
+        }
+    }
+    true
+}
+
+// Appends a text that needs no escape in quotes.
+fn join_unescaped(out: &mut String, text: &str) -> Result<(), Refusal>
+    requires { list_all is_plain text.now ≡ true }
+    ensures ok { OnOk result (string_bytes out.new ≡ string_bytes out.old ++ compact_text (string text.now)) }
+    ensures refused { IfErr result (λ e. e ≡ OutOfMemory) }
+{
+    out.push_str("\"")?;
+    out.push_str(text)?;
+    Ok(out.push_str("\"")?)
+}
+
 /// Appends a text in quotes, with its escapes.
 pub(crate) fn join_quoted(alloc: Global, out: &mut String, text: &str) -> Result<(), Refusal>
     ensures ok { OnOk result (string_bytes out.new ≡ string_bytes out.old ++ compact_text (string text.now)) }
     ensures refused { IfErr result (λ e. e ≡ OutOfMemory) }
 {
+    if needs_no_escape(text) {
+        return join_unescaped(out, text);
+    }
     let quoted = Value::try_from_str(alloc, text)?.to_string(alloc)?;
     Ok(out.push_str(quoted.as_str())?)
 }

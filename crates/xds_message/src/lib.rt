@@ -5,7 +5,6 @@
 #![tactic(auto)]
 
 pub mod batch;
-mod bodies;
 mod body;
 pub mod delta_draft;
 pub mod delta_request;
@@ -19,12 +18,12 @@ pub mod pieces;
 pub mod request;
 pub mod response;
 pub mod sotw_draft;
+mod stated;
 pub mod unsent;
 pub mod write_laws;
 pub mod writes;
 
 pub use batch::Batch;
-pub use bodies::Bodies;
 pub use body::Body;
 pub use delta_draft::{DeltaDraft, DraftResource, push_resource};
 pub use delta_request::DeltaDiscoveryRequest;
@@ -34,6 +33,7 @@ pub use pieces::Pieces;
 pub use request::DiscoveryRequest;
 pub use response::DiscoveryResponse;
 pub use sotw_draft::{SotwDraft, push_body};
+pub use stated::{Bodies, Resources, Stated};
 pub use unsent::Unsent;
 pub use writes::{WriteReader, read_write, write_object};
 pub use xds_json::{Node, Status, Versions, copy_texts};

@@ -7,9 +7,9 @@ ghost use Rattle.xds_message.specs.Drafts.{body_text};
 ghost use Rattle.xds_message.specs.Joined.{with_commas};
 ghost use Rattle.xds_message.specs.Pieces.{comma_before, resource_text};
 
-use crate::bodies::Bodies;
 use crate::body::Body;
 use crate::delta_draft::DraftResource;
+use crate::stated::{Bodies, Resources};
 use std::alloc::Global;
 use std::io::Write;
 use std::marker::Model;
@@ -18,14 +18,14 @@ use xds_resource::Refusal;
 
 /// A stored text in pieces that follow one another.
 #[derive(Clone, Copy)]
-pub(crate) struct Parts<'a> {
+pub struct Parts<'a> {
     pub(crate) head: &'a str,
     pub(crate) body: &'a str,
     pub(crate) tail: &'a str,
 }
 
 /// What has a compact text that is stored, in pieces.
-pub(crate) trait Stored {
+pub trait Stored: Drop {
     ghost use Rattle.std.specs.Prelude.{◌≡◌, ◌++◌, List, ℕ};
 
     // The text.
@@ -80,14 +80,18 @@ impl<'a> Pieces<'a> {
     /// The same round resources with their names and versions.
     pub(crate) fn around_resources(
         head: String,
-        resources: &'a [DraftResource],
+        resources: &'a Resources,
         tail: String,
     ) -> Pieces<'a>
         ensures { result ≡ string_bytes head ++ (with_commas (map resource_text resources.now) ++ string_bytes tail) }
     {
+        let (joined, resources): (&'a str, &'a [DraftResource]) = match resources.joined() {
+            Some(text) => (text, &[]),
+            None => ("", resources.as_slice()),
+        };
         Pieces {
             head,
-            joined: "",
+            joined,
             resources,
             bodies: &[],
             tail,

@@ -10,11 +10,11 @@ ghost use Rattle.xds_message.specs.Joined.{with_commas};
 ghost use Rattle.xds_message.specs.Responses.{response_of};
 ghost use Rattle.xds_message.specs.Written.{response_object};
 
-use crate::bodies::Bodies;
 use crate::body::Body;
 use crate::joining::{join_list, join_list_ends, join_text};
 use crate::pieces::Pieces;
 use crate::response::DiscoveryResponse;
+use crate::stated::Bodies;
 use crate::unsent::Unsent;
 use serde_json::Value;
 use std::alloc::Global;

@@ -1,6 +1,5 @@
 // What is left to be written of a response's frame, with the texts of resources where they are stored.
 ghost use Rattle.std.specs.Prelude.{◌≡◌, ◌<◌, ◌≤◌, ◌==◌, ◌++◌, [], length, map, drop, string_bytes, vec_capacity, IfOk, IfErr};
-ghost use Rattle.std.specs.Arc.{arc_slice_items};
 ghost use Rattle.xds_resource.specs.declared.refusal.Refusal.TheVariants.{OutOfMemory};
 ghost use Rattle.xds_frames.specs.Frames.{longest};
 ghost use Rattle.xds_message.specs.Drafts.{body_text};
@@ -8,13 +7,14 @@ ghost use Rattle.xds_message.specs.Joined.{with_commas};
 ghost use Rattle.xds_message.specs.Pieces.{resource_text};
 ghost use Rattle.xds_message.specs.Unsent.{IsFrontOf, IsHeld};
 
-use crate::bodies::Bodies;
 use crate::body::Body;
 use crate::delta_draft::DraftResource;
 use crate::filling::{Said, Texts};
+use crate::pieces::Stored;
+use crate::stated::{Bodies, Resources, Stated};
 use std::alloc::Global;
 use std::marker::Model;
-use std::sync::{ArcSlice, ArcStr};
+use std::sync::ArcStr;
 use xds_resource::Refusal;
 
 /// What is left to be written of a frame. The texts of resources are where they are stored: as many bytes as a block has room for
@@ -152,28 +152,28 @@ impl Unsent {
     pub(crate) fn around_resources(
         block: Vec<u8>,
         head: String,
-        resources: &ArcSlice<DraftResource, Global>,
+        resources: &Resources,
         tail: String,
     ) -> Result<Unsent, Refusal>
-        requires { length (with_commas (map resource_text (arc_slice_items resources.now))) ≤ longest }
-        ensures ok { IfOk result (λ u. u ≡ block.items ++ (string_bytes head ++ (with_commas (map resource_text (arc_slice_items resources.now)) ++ string_bytes tail))) }
+        requires { length (with_commas (map resource_text resources.now)) ≤ longest }
+        ensures ok { IfOk result (λ u. u ≡ block.items ++ (string_bytes head ++ (with_commas (map resource_text resources.now) ++ string_bytes tail))) }
         ensures refused { IfErr result (λ e. e ≡ OutOfMemory) }
     {
-        let texts = Texts::of(resources.clone()?);
-        begun(block, head, Said::none(), texts, Texts::none(), tail)
+        let (joined, texts) = said_or_stored(resources)?;
+        begun(block, head, joined, texts, Texts::none(), tail)
     }
 }
 
-// Stored bodies: how they read together, where that was made, and else each.
-fn said_or_stored(bodies: &Bodies) -> Result<(Said, Texts<Body>), Refusal>
-    requires { length (with_commas (map body_text bodies.now)) ≤ longest }
-    ensures ok { IfOk result (λ r. r.0 ++ r.1 ≡ with_commas (map body_text bodies.now)) }
+// Stored texts: how they read together, where that was made, and else each.
+fn said_or_stored<S: Stored>(stated: &Stated<S>) -> Result<(Said, Texts<S>), Refusal>
+    requires { length (with_commas (map S.text stated.now)) ≤ longest }
+    ensures ok { IfOk result (λ r. r.0 ++ r.1 ≡ with_commas (map S.text stated.now)) }
     ensures refused { IfErr result (λ e. e ≡ OutOfMemory) }
 {
-    if let Some(text) = bodies.shared_text()? {
+    if let Some(text) = stated.shared_text()? {
         return Ok((Said::of(text), Texts::none()));
     }
-    Ok((Said::none(), Texts::of(bodies.shared_list()?)))
+    Ok((Said::none(), Texts::of(stated.shared_list()?)))
 }
 
 // A frame of which a block holds the beginning, and these texts stand behind it.

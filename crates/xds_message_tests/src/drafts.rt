@@ -1,12 +1,12 @@
 // A draft is written as the text that its message is written as.
 use std::alloc::Global;
-use std::sync::{ArcSlice, ArcStr};
+use std::sync::ArcStr;
 use std::test::Fail;
 use xds_frames::frame::LONGEST;
 use xds_frames::{Counted, FrameKind, write_frame};
 use xds_message::{
-    Bodies, Body, DeltaDraft, Draft, DraftResource, Pieces, Response, SotwDraft, Unsent, push_body,
-    push_resource,
+    Bodies, Body, DeltaDraft, Draft, DraftResource, Pieces, Resources, Response, SotwDraft, Unsent,
+    push_body, push_resource,
 };
 use xds_resource::{Cluster, Groups, Refusal, Resource, Stamp, TypeName, Write};
 
@@ -176,7 +176,7 @@ fn delta_draft(alloc: Global) -> Result<DeltaDraft, Refusal> {
     removed.push(text(alloc, "s")?)?;
     let version = text(alloc, "1.2")?;
     let nonce = text(alloc, "1")?;
-    let stated = ArcSlice::from_vec(resources)?;
+    let stated = Resources::new(resources)?;
     Ok(DeltaDraft::new(TypeName::Cluster, version, nonce, stated, removed))
 }
 
@@ -252,17 +252,46 @@ fn is_left_by_all(alloc: Global, draft: &Draft) -> Result<bool, Refusal> {
     Ok(true)
 }
 
-// A draft of three clusters.
-fn three(alloc: Global) -> Result<Draft, Refusal> {
+// Three clusters with their names and versions.
+fn resources_of_three(alloc: Global) -> Result<Resources, Refusal> {
     let mut resources = Vec::new(alloc);
     push_both(alloc, &mut resources)?;
     push_both(alloc, &mut resources)?;
     push_both(alloc, &mut resources)?;
+    Resources::new(resources)
+}
+
+// A draft of these resources.
+fn telling(alloc: Global, stated: Resources) -> Result<Draft, Refusal> {
     let version = text(alloc, "1.2")?;
     let nonce = text(alloc, "1")?;
-    let (stated, removed) = (ArcSlice::from_vec(resources)?, Vec::new(alloc));
+    let removed = Vec::new(alloc);
     let draft = DeltaDraft::new(TypeName::Cluster, version, nonce, stated, removed);
     Ok(Draft::Delta(draft))
+}
+
+// A draft of three clusters.
+fn three(alloc: Global) -> Result<Draft, Refusal> {
+    telling(alloc, resources_of_three(alloc)?)
+}
+
+// Resources that are made for many responses are written as one piece, and as they are written each for itself. A copy holds no
+// joined text.
+#[test]
+fn shared_resources_are_one_piece(rt: HostRuntime) -> Result<(), Fail> {
+    let alloc = rt.alloc();
+    let alone = three(alloc)?;
+    let shared = telling(alloc, resources_of_three(alloc)?.shared(alloc)?)?;
+    let copy = shared.try_copy(alloc)?;
+    assert!(rt; shared.pieces(alloc)?.is_joined());
+    assert!(rt; !alone.pieces(alloc)?.is_joined());
+    assert!(rt; !copy.pieces(alloc)?.is_joined());
+    assert!(rt;
+        put_together(alloc, &shared.pieces(alloc)?, 64)?.as_str()
+            == put_together(alloc, &alone.pieces(alloc)?, 64)?.as_str()
+    );
+    assert!(rt; is_left_by_all(alloc, &shared)?);
+    Ok(())
 }
 
 // The texts of resources may be longer than the block.

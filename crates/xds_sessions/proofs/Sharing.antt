@@ -18,35 +18,35 @@ use Rattle.xds_ledger.specs.declared.entry.Due.TheVariants.{Stated}
 use Rattle.xds_ledger.specs.Owed.{Beliefs, present, owed as owed_by, owed_of, is_owed}
 use Rattle.xds_ledger.specs.Offers.{Offer, offered, offer}
 use Rattle.xds_ledger.specs.Sessions.{Session}
-use Rattle.xds_ledger.specs.Variants.{is_whole, is_told}
+use Rattle.xds_ledger.specs.Variants.{is_delta, is_whole, is_told}
 use Rattle.xds_ledger.proofs.ByName.{offer_says_it}
+use Rattle.xds_ledger.proofs.SaysSomething.{owed_is_said}
 use Rattle.xds_sessions.specs.declared.wildcards.Wildcard.{Wildcard}
-use Rattle.xds_sessions.specs.Wildcards.{all_of, first_offer, IsFirst, IsShared, AreShared, most_shared}
+use Rattle.xds_sessions.specs.Wildcards.{all_of, first_offer, IsFirst, IsShared, most_shared}
 
 -- nothing is kept
-pub none_shared : {S : Type 0} (v : VariantName) (t : TypeName) (IsSaid : Entries → Selection → Offer → S → Type 0) (m : Entries) (kept : finmap.FinMap text_cmp (Wildcard S))
-    → kept ≡ finmap.empty → AreShared v t IsSaid m kept
-none_shared {S} v t IsSaid m kept is cluster =
+pub none_shared : {S : Type 0} (P : List ℕ → Wildcard S → Type 0) (kept : finmap.FinMap text_cmp (Wildcard S)) → kept ≡ finmap.empty → (cluster : List ℕ) → IfSome (finmap.get kept cluster) (P cluster)
+none_shared {S} P kept is cluster =
     let none : finmap.get kept cluster ≡ None = ap (λ (k : finmap.FinMap text_cmp (Wildcard S)). finmap.get k cluster) is ∙ finmap.get-empty text_cmp cluster in
-    subst (λ (o : Option (Wildcard S)). IfSome o (IsShared v t IsSaid m cluster)) (sym none) tt
+    subst (λ (o : Option (Wildcard S)). IfSome o (P cluster)) (sym none) tt
 
 -- one more is kept
-more_at : {S : Type 0} (v : VariantName) (t : TypeName) (IsSaid : Entries → Selection → Offer → S → Type 0) (m : Entries) (cluster q : List ℕ) (w : Wildcard S) (held : Option (Wildcard S)) (same : Bool)
-    → bytes_eq cluster q ≡ same → IsShared v t IsSaid m cluster w → IfSome held (IsShared v t IsSaid m q) → IfSome (cond same (Some w) held) (IsShared v t IsSaid m q)
-more_at v t IsSaid m cluster q w held true equal shared before = subst (λ (c : List ℕ). IsShared v t IsSaid m c w) (bytes_eq_tells cluster q equal) shared
-more_at v t IsSaid m cluster q w held false equal shared before = before
+more_at : {S : Type 0} (P : List ℕ → Wildcard S → Type 0) (cluster q : List ℕ) (w : Wildcard S) (held : Option (Wildcard S)) (same : Bool)
+    → bytes_eq cluster q ≡ same → P cluster w → IfSome held (P q) → IfSome (cond same (Some w) held) (P q)
+more_at P cluster q w held true equal shared before = subst (λ (c : List ℕ). P c w) (bytes_eq_tells cluster q equal) shared
+more_at P cluster q w held false equal shared before = before
 
-one_more : {S : Type 0} (v : VariantName) (t : TypeName) (IsSaid : Entries → Selection → Offer → S → Type 0) (m : Entries) (kept new : finmap.FinMap text_cmp (Wildcard S)) (cluster : List ℕ) (w : Wildcard S)
-    → new ≡ finmap.insert kept cluster w → IsShared v t IsSaid m cluster w → AreShared v t IsSaid m kept → AreShared v t IsSaid m new
-one_more {S} v t IsSaid m kept new cluster w is shared held q =
-    subst (λ (o : Option (Wildcard S)). IfSome o (IsShared v t IsSaid m q)) (sym (ap (λ (k : finmap.FinMap text_cmp (Wildcard S)). finmap.get k q) is ∙ get-insert kept cluster w q))
-    (more_at v t IsSaid m cluster q w (finmap.get kept q) (bytes_eq cluster q) refl shared (held q))
+one_more : {S : Type 0} (P : List ℕ → Wildcard S → Type 0) (kept new : finmap.FinMap text_cmp (Wildcard S)) (cluster : List ℕ) (w : Wildcard S)
+    → new ≡ finmap.insert kept cluster w → P cluster w → ((q : List ℕ) → IfSome (finmap.get kept q) (P q)) → (q : List ℕ) → IfSome (finmap.get new q) (P q)
+one_more {S} P kept new cluster w is shared held q =
+    subst (λ (o : Option (Wildcard S)). IfSome o (P q)) (sym (ap (λ (k : finmap.FinMap text_cmp (Wildcard S)). finmap.get k q) is ∙ get-insert kept cluster w q))
+    (more_at P cluster q w (finmap.get kept q) (bytes_eq cluster q) refl shared (held q))
 
 -- one more is kept, or there was no memory for it
-pub kept_more : {S A : Type 0} (v : VariantName) (t : TypeName) (IsSaid : Entries → Selection → Offer → S → Type 0) (m : Entries) (kept new : finmap.FinMap text_cmp (Wildcard S)) (cluster : List ℕ) (w : Wildcard S)
-    (r : Result A Refusal) → OnOk r (new ≡ finmap.insert kept cluster w) → OnErr r (new ≡ kept) → IsShared v t IsSaid m cluster w → AreShared v t IsSaid m kept → AreShared v t IsSaid m new
-kept_more v t IsSaid m kept new cluster w (Ok x) done left shared held = one_more v t IsSaid m kept new cluster w done shared held
-kept_more v t IsSaid m kept new cluster w (Err e) done left shared held = subst (AreShared v t IsSaid m) (sym left) held
+pub kept_more : {S A : Type 0} (P : List ℕ → Wildcard S → Type 0) (kept new : finmap.FinMap text_cmp (Wildcard S)) (cluster : List ℕ) (w : Wildcard S) (r : Result A Refusal)
+    → OnOk r (new ≡ finmap.insert kept cluster w) → OnErr r (new ≡ kept) → P cluster w → ((q : List ℕ) → IfSome (finmap.get kept q) (P q)) → (q : List ℕ) → IfSome (finmap.get new q) (P q)
+kept_more P kept new cluster w (Ok x) done left shared held = one_more P kept new cluster w done shared held
+kept_more {S} P kept new cluster w (Err e) done left shared held = λ q. subst (λ (k : finmap.FinMap text_cmp (Wildcard S)). IfSome (finmap.get k q) (P q)) (sym left) (held q)
 
 -- where there was room for one more, there are not too many
 one_counted : (n : ℕ) (b : Bool) → n < most_shared → cond b n (n + 1) ≤ most_shared
@@ -139,3 +139,9 @@ pub shared_as_made : (o : Offer) (names : Latest) (r : Result Latest Refusal) �
     → IfOk r (λ m. (q : List ℕ) → is_some (finmap.get m q) ≡ is_some (finmap.get o q))
 shared_as_made o names (Err e) is made = tt
 shared_as_made o names (Ok m) is made = same_names_there o m (made ∙ is)
+
+-- rule: owed
+-- an incremental offer speaks of all that is owed
+pub owed_is_offered : (v : VariantName) (t : TypeName) (s : Selection) (m : Entries) (b : Beliefs) (o : Offer) (names : Latest) → is_delta v ≡ true → o ≡ offer v t s m b → ((q : List ℕ) → is_some (finmap.get names q) ≡ is_some (finmap.get o q))
+    → (q : List ℕ) → is_owed v t s m b q ≡ true → is_some (finmap.get names q) ≡ true
+owed_is_offered v t s m b o names delta is same q owed = same q ∙ ap (λ (x : Offer). is_some (finmap.get x q)) is ∙ owed_is_said v t s m b q delta owed

@@ -4,6 +4,7 @@
 --     IsFirst       what a session is offered next is that
 --     IsShared      what is kept for the clients of a cluster is what each of them is told
 --     AreShared     and so for each cluster
+--     SaysItsOffer  what is kept of a response is what it says, and its names
 --     most_shared   the most clusters for which it is kept, of one type and variant
 --     Fits          what is kept of both variants is what clients are told at these entries, and no more than that
 use Rattle.std.specs.Prelude.{◌≡◌, ◌≤◌, ◌⊎◌, ℕ, List, true, is_some, IfSome}
@@ -21,7 +22,7 @@ use Rattle.xds_ledger.specs.Offers.{Offer, offer}
 use Rattle.xds_sessions.specs.declared.wildcards.Wildcard.{Wildcard}
 use Rattle.xds_sessions.specs.declared.wildcards.Wildcards.{Wildcards}
 use Rattle.xds_sessions.specs.SotwPolls.{stated_bodies}
-use Rattle.xds_sessions.specs.DeltaPolls.{said_by}
+use Rattle.xds_sessions.specs.DeltaPolls.{Said, said_by}
 
 -- the interest of a client of this cluster that wants everything, and names nothing
 abbrev pub all_of : List ℕ → Selection
@@ -46,6 +47,11 @@ pub record IsShared {S : Type 0} (v : VariantName) (t : TypeName) (IsSaid : Entr
 abbrev pub AreShared : {S : Type 0} → VariantName → TypeName → (Entries → Selection → Offer → S → Type 0) → Entries → finmap.FinMap text_cmp (Wildcard S) → Type 0
 AreShared v t IsSaid m kept = (cluster : List ℕ) → IfSome (finmap.get kept cluster) (IsShared v t IsSaid m cluster)
 
+-- What is kept of an incremental response is what each response with its offer says, and the offer's names.
+pub record SaysItsOffer (m : Entries) (w : Wildcard Said) : Type 0 where
+  pub said_is : w.said ≡ said_by m w.offer
+  pub names_are : (name : List ℕ) → is_some (finmap.get w.names name) ≡ is_some (finmap.get w.offer name)
+
 -- the most clusters for which it is kept, of one type and variant: clients choose the texts of their clusters
 abbrev pub most_shared : ℕ
 most_shared = 16
@@ -54,5 +60,7 @@ most_shared = 16
 pub record Fits (t : TypeName) (m : Entries) (w : Wildcards) : Type 0 where
   pub sotw : AreShared StateOfTheWorld t (λ m s o x. x ≡ stated_bodies m s o) m w.sotw
   pub delta : AreShared Delta t (λ m s o x. x ≡ said_by m o) m w.delta
+  pub told : (cluster : List ℕ) → IfSome (finmap.get w.told cluster) (SaysItsOffer m)
   pub few_sotw : finmap.len w.sotw ≤ most_shared
   pub few_delta : finmap.len w.delta ≤ most_shared
+  pub few_told : finmap.len w.told ≤ most_shared

@@ -8,17 +8,16 @@ ghost use Rattle.xds_sessions.specs.DeltaPolls.{said_by};
 
 use std::alloc::Global;
 use std::marker::Model;
-use std::sync::ArcSlice;
 use xds_catalogue::Catalogue;
 use xds_ledger::Due;
 use xds_ledger::texts::{nonce_text, replica_version};
-use xds_message::{DeltaDraft, DraftResource, copy_texts, push_resource};
+use xds_message::{DeltaDraft, DraftResource, Resources, copy_texts, push_resource};
 use xds_resource::{NameMap, Refusal, ResourceType};
 
 /// What a response says: the resources that it states, and the names that are gone. It depends on the offer and on what is held
 /// alone, so that all clients which are offered the same share it.
 pub struct Said {
-    resources: ArcSlice<DraftResource, Global>,
+    resources: Resources,
     removed: Vec<String>,
 }
 
@@ -34,12 +33,25 @@ impl Drop for Said {
 
 impl Model for Said {
     ghost use Rattle.std.specs.Prelude.{map, string_bytes};
-    ghost use Rattle.std.specs.Arc.{arc_slice_items};
     ghost use Rattle.xds_sessions.specs.DeltaPolls as polls;
 
     ghost Value = { polls.Said };
 
-    ghost view = { λ s. record { resources = arc_slice_items s.resources; removed = map string_bytes s.removed.items } };
+    ghost view = { λ s. record { resources = s.resources; removed = map string_bytes s.removed.items } };
+}
+
+impl Said {
+    /// The same, as many responses will say it: how the resources' texts read together is made here. Refused only by `OutOfMemory`.
+    pub(crate) fn shared(self, alloc: Global) -> Result<Said, Refusal>
+        ensures ok { IfOk result (λ s. s ≡ self) }
+        ensures refused { IfErr result (λ e. e ≡ OutOfMemory) }
+    {
+        let Said { resources, removed } = self;
+        Ok(Said {
+            resources: resources.shared(alloc)?,
+            removed,
+        })
+    }
 }
 
 // What a response says, while it is gathered.
@@ -104,7 +116,7 @@ impl Gathered {
     {
         let Gathered { resources, removed } = self;
         Ok(Said {
-            resources: ArcSlice::from_vec(resources)?,
+            resources: Resources::new(resources)?,
             removed,
         })
     }
@@ -160,7 +172,7 @@ pub(crate) fn response<T: ResourceType>(
 {
     let version = replica_version(alloc, replica, changes)?;
     let nonce = nonce_text(alloc, number)?;
-    let resources = said.resources.clone()?;
+    let resources = said.resources.try_copy()?;
     let removed = copy_texts(alloc, &said.removed)?;
     Ok(DeltaDraft::new(T::TYPE, version, nonce, resources, removed))
 }

@@ -9,7 +9,7 @@ ghost use Rattle.xds_ledger.specs.declared.variant.VariantName.TheVariants as va
 ghost use Rattle.xds_ledger.specs.Offers as ledgers;
 ghost use Rattle.xds_sessions.specs.SotwPolls as sotw;
 ghost use Rattle.xds_sessions.specs.DeltaPolls as delta;
-ghost use Rattle.xds_sessions.specs.Wildcards.{IsShared, all_of};
+ghost use Rattle.xds_sessions.specs.Wildcards.{IsShared, SaysItsOffer, all_of};
 
 use crate::delta_response::{Said, said_by};
 use crate::sotw_response::stated_bodies;
@@ -23,8 +23,8 @@ use xds_message::Bodies;
 use xds_resource::{Groups, Refusal, Resource, ResourceType, Stamp, Write};
 
 /// The catalogue of the type `T`. Contracts see what it holds. Beside it is kept what all clients of a cluster are told that
-/// want everything and hold nothing: made once, shared by their responses, and let go when something changes, or where it would be
-/// kept for more than 16 clusters.
+/// want everything and hold nothing, and what one was told that holds something: made once, shared by their responses, and let go
+/// when something changes, or where it would be kept for more than 16 clusters.
 pub struct Published<T: ResourceType> {
     catalogue: Catalogue<T>,
     wildcards: Wildcards,
@@ -219,10 +219,34 @@ impl<T: ResourceType> Published<T> {
             return Ok(());
         }
         let offer = self.first_offer(alloc, VariantName::Delta, interest)?;
-        let said = said_by(alloc, &self.catalogue, offer.as_map())?;
+        let stated = said_by(alloc, &self.catalogue, offer.as_map())?;
+        let said = stated.shared(alloc)?;
         let names = names_of(alloc, offer.as_map())?;
         let made = Wildcard { offer, said, names };
         self.wildcards.make_room(alloc);
         self.wildcards.delta.put(alloc, cluster, Some(made))
+    }
+
+    /// What an incremental response says that a client of this cluster was told since the last change, if it is kept.
+    pub fn delta_told(&self, cluster: &str) -> Option<&Wildcard<Said>>
+        ensures { IfSome result (λ w. SaysItsOffer self.now.entries w.now) }
+    {
+        self.wildcards.told.get(cluster)
+    }
+
+    /// Keeps what an incremental response with this offer says, for clients of this cluster that are offered the same.
+    pub fn share_told(
+        &mut self,
+        alloc: Global,
+        cluster: &str,
+        offer: SharedMap<Due>,
+    ) -> Result<(), Refusal>
+        ensures { self.new ≡ self.old }
+    {
+        let said = said_by(alloc, &self.catalogue, offer.as_map())?;
+        let names = names_of(alloc, offer.as_map())?;
+        let made = Wildcard { offer, said, names };
+        self.wildcards.make_room(alloc);
+        self.wildcards.told.put(alloc, cluster, Some(made))
     }
 }

@@ -5,6 +5,7 @@ ghost use Rattle.xds_resource.specs.Stamps.{max_counter};
 ghost use Rattle.xds_resource.specs.declared.refusal.Refusal.TheVariants.{OutOfMemory, NonceSpent};
 ghost use Rattle.xds_ledger.specs.Owed.{is_owed};
 ghost use Rattle.xds_ledger.specs.Offers.{offer};
+ghost use Rattle.xds_ledger.specs.Variants.{is_delta};
 ghost use Rattle.xds_ledger.specs.Sessions as sessions;
 ghost use Rattle.xds_ledger.specs.Sessions.{IsNext, HasPolled, is_stale, sending};
 ghost use Rattle.xds_ledger.specs.Lists.{SessionFits, new_kept, sent_kept};
@@ -131,29 +132,29 @@ impl<T: ResourceType, V: Speaks<T>> Session<T, V> {
             && (V::NAME.is_whole(T::TYPE) || self.ledger.believes_nothing())
     }
 
-    // The response that clients of this session's interest share.
+    // The response that is made of what others are told, too.
     fn respond_alike(
         &self,
         alloc: Global,
         replica: u16,
         catalogue: &Published<T>,
-        wildcard: &Wildcard<V::Said>,
+        shared: &Wildcard<V::Said>,
         number: u64,
     ) -> Result<(SharedMap<Due>, V::Draft), Refusal>
-        requires shared { IsShared V.NAME T.TYPE V.IsSaid catalogue.now.entries self.now.session.asked.interest.cluster wildcard.now }
-        requires first { IsFirst V.NAME T.TYPE self.now.session }
+        requires offer { shared.now.offer ≡ offer V.NAME T.TYPE self.now.session.asked.interest catalogue.now.entries self.now.session.account.beliefs }
+        requires said { V.IsSaid catalogue.now.entries self.now.session.asked.interest shared.now.offer shared.now.said }
         ensures offer { IfOk result (λ p. p.0 ≡ offer V.NAME T.TYPE self.now.session.asked.interest catalogue.now.entries self.now.session.account.beliefs) }
         ensures draft { IfOk result (λ p. p.1 ≡ V.response replica T.TYPE catalogue.now self.now.session.asked.interest p.0 number) }
         ensures refused { IfErr result (λ e. e ≡ OutOfMemory) }
     {
         let interest = V::interest(&self.names);
-        let offer = wildcard.offer.try_copy()?;
+        let offer = shared.offer.try_copy()?;
         let draft = V::respond(
             alloc,
             replica,
             catalogue.catalogue(),
             interest,
-            &wildcard.said,
+            &shared.said,
             number,
         )?;
         Ok((offer, draft))
@@ -180,15 +181,38 @@ impl<T: ResourceType, V: Speaks<T>> Session<T, V> {
         Ok((offer, draft))
     }
 
-    /// Has what the clients of this session's interest share made, where its next response shares it: as far as there is memory
-    /// for it. It changes nothing that is seen.
+    /// Has what the clients of this session's interest share made, where its next response shares it or what is believed is to stand
+    /// as differences from it, and else what its next response says, where that is short: as far as there is memory for it. It changes
+    /// nothing that is seen.
     pub fn share(&self, alloc: Global, catalogue: &mut Published<T>)
         ensures { catalogue.new ≡ catalogue.old }
     {
-        if V::has_begun(&self.names) && self.is_first() {
-            if self.ledger.may_send(catalogue.catalogue().changes()) {
-                drop(V::share(alloc, catalogue, V::interest(&self.names)));
-            }
+        if !V::has_begun(&self.names) || !self.ledger.may_send(catalogue.catalogue().changes()) {
+            return;
+        }
+        let interest = V::interest(&self.names);
+        if wants_all(interest) && (self.is_first() || self.ledger.differs_much()) {
+            drop(V::share(alloc, catalogue, interest));
+        }
+        if V::NAME.is_delta() && !self.is_first() {
+            drop(self.share_told(alloc, catalogue));
+        }
+    }
+
+    // Keeps what the next response says for others that may be offered the same, where it is short and nothing is kept.
+    fn share_told(&self, alloc: Global, catalogue: &mut Published<T>) -> Result<(), Refusal>
+        ensures { catalogue.new ≡ catalogue.old }
+    {
+        let interest = V::interest(&self.names);
+        if V::told(catalogue, interest.cluster()).is_some() {
+            return Ok(());
+        }
+        match self
+            .ledger
+            .short_offer(alloc, interest, catalogue.catalogue())?
+        {
+            Some(offer) => V::share_told(alloc, catalogue, interest.cluster(), offer),
+            None => Ok(()),
         }
     }
 
@@ -243,12 +267,13 @@ impl<T: ResourceType, V: Speaks<T>> Session<T, V> {
         ensures same { self.new.session ≡ self.old.session }
         ensures fits { SessionFits V.NAME T.TYPE catalogue.now self.new }
     {
-        let Some(names) = self.first_names(catalogue) else {
-            return false;
-        };
-        let changes = catalogue.catalogue().changes();
-        self.ledger.relist(alloc, names, changes);
-        true
+        match self.first_names(catalogue) {
+            Some(names) => {
+                self.relist(alloc, catalogue, names);
+                true
+            }
+            None => false,
+        }
     }
 
     // rule: owed
@@ -314,8 +339,173 @@ impl<T: ResourceType, V: Speaks<T>> Session<T, V> {
         if self.ledger.awaits_answer() {
             return Ok(None);
         }
+        match self.told(catalogue) {
+            Some(told) => self.next_alike(alloc, replica, catalogue, nonces, told),
+            None => self.next_apart(alloc, replica, catalogue, nonces),
+        }
+    }
+
+    // rule: one-unanswered, rule: nonce-numbers
+    // The next response, which is made for this session alone, or shared by those that hold nothing.
+    fn next_apart(
+        &mut self,
+        alloc: Global,
+        replica: u16,
+        catalogue: &Published<T>,
+        nonces: Nonces,
+    ) -> Result<Option<(SharedMap<Due>, V::Draft, Nonces)>, Refusal>
+        requires { SessionFits V.NAME T.TYPE catalogue.now self.old }
+        ensures ok { IfOk result (λ next. IsNext V.NAME T.TYPE catalogue.now.entries (V.response replica T.TYPE catalogue.now self.old.session.asked.interest) self.old.session nonces next) }
+        ensures bound { IfOk result (λ next. IfSome next (λ p. p.2 ≤ max_counter)) }
+        ensures same { self.new.session ≡ self.old.session }
+        ensures fits { SessionFits V.NAME T.TYPE catalogue.now self.new }
+        ensures refused { IfErr result (λ e. IsSome (sending V.NAME T.TYPE self.old.session catalogue.now.entries) × (((e ≡ NonceSpent) × (nonces ≡ max_counter)) ⊎ ((e ≡ OutOfMemory) × (nonces < max_counter)))) }
+    {
         self.tidy(alloc, catalogue);
+        self.rebase(alloc, catalogue);
         self.next_tidied(alloc, replica, catalogue, nonces)
+    }
+
+    // What others were told since the last change, where the next response would say the same.
+    fn told<'a>(&self, catalogue: &'a Published<T>) -> Option<&'a Wildcard<V::Said>>
+        requires { SessionFits V.NAME T.TYPE catalogue.now self.now }
+        ensures said { IfSome result (λ w. V.IsSaid catalogue.now.entries self.now.session.asked.interest w.now.offer w.now.said) }
+        ensures names { IfSome result (λ w. (name : List ℕ) → is_some (finmap.get w.now.names name) ≡ is_some (finmap.get w.now.offer name)) }
+        ensures offer { IfSome result (λ w. w.now.offer ≡ offer V.NAME T.TYPE self.now.session.asked.interest catalogue.now.entries self.now.session.account.beliefs) }
+        ensures delta { IfSome result (λ w. is_delta V.NAME ≡ true) }
+        ensures begun { IfSome result (λ w. self.now.session.asked.begun ≡ true) }
+    {
+        if !V::NAME.is_delta() || !V::has_begun(&self.names) {
+            return None;
+        }
+        let interest = V::interest(&self.names);
+        let told = V::told(catalogue, interest.cluster())?;
+        let offer = told.offer.as_map();
+        if self
+            .ledger
+            .would_say(interest, catalogue.catalogue(), offer)
+        {
+            Some(told)
+        } else {
+            None
+        }
+    }
+
+    // rule: one-unanswered, rule: nonce-numbers
+    // The next response, where it says what others were told, too.
+    fn next_alike(
+        &mut self,
+        alloc: Global,
+        replica: u16,
+        catalogue: &Published<T>,
+        nonces: Nonces,
+        told: &Wildcard<V::Said>,
+    ) -> Result<Option<(SharedMap<Due>, V::Draft, Nonces)>, Refusal>
+        requires fits { SessionFits V.NAME T.TYPE catalogue.now self.old }
+        requires said { V.IsSaid catalogue.now.entries self.old.session.asked.interest told.now.offer told.now.said }
+        requires names { (name : List ℕ) → is_some (finmap.get told.now.names name) ≡ is_some (finmap.get told.now.offer name) }
+        requires offer { told.now.offer ≡ offer V.NAME T.TYPE self.old.session.asked.interest catalogue.now.entries self.old.session.account.beliefs }
+        requires delta { is_delta V.NAME ≡ true }
+        requires begun { self.old.session.asked.begun ≡ true }
+        ensures ok { IfOk result (λ next. IsNext V.NAME T.TYPE catalogue.now.entries (V.response replica T.TYPE catalogue.now self.old.session.asked.interest) self.old.session nonces next) }
+        ensures bound { IfOk result (λ next. IfSome next (λ p. p.2 ≤ max_counter)) }
+        ensures same { self.new.session ≡ self.old.session }
+        ensures fits { SessionFits V.NAME T.TYPE catalogue.now self.new }
+        ensures refused { IfErr result (λ e. IsSome (sending V.NAME T.TYPE self.old.session catalogue.now.entries) × (((e ≡ NonceSpent) × (nonces ≡ max_counter)) ⊎ ((e ≡ OutOfMemory) × (nonces < max_counter)))) }
+    {
+        self.list_told(alloc, catalogue, told);
+        self.rebase(alloc, catalogue);
+        self.next_told(alloc, replica, catalogue, nonces, told)
+    }
+
+    // Lists the names of the offer alone, if their owners can be counted.
+    fn list_told(&mut self, alloc: Global, catalogue: &Published<T>, told: &Wildcard<V::Said>)
+        requires fits { SessionFits V.NAME T.TYPE catalogue.now self.old }
+        requires names { (name : List ℕ) → is_some (finmap.get told.now.names name) ≡ is_some (finmap.get told.now.offer name) }
+        requires offer { told.now.offer ≡ offer V.NAME T.TYPE self.old.session.asked.interest catalogue.now.entries self.old.session.account.beliefs }
+        requires delta { is_delta V.NAME ≡ true }
+        requires begun { self.old.session.asked.begun ≡ true }
+        ensures same { self.new.session ≡ self.old.session }
+        ensures fits { SessionFits V.NAME T.TYPE catalogue.now self.new }
+    {
+        if let Some(names) = shared_names(told) {
+            self.relist(alloc, catalogue, names);
+        }
+    }
+
+    // Lists these names alone.
+    fn relist(&mut self, alloc: Global, catalogue: &Published<T>, names: SharedMap<u64>)
+        requires fits { SessionFits V.NAME T.TYPE catalogue.now self.old }
+        requires begun { self.old.session.asked.begun ≡ true }
+        requires owed { (name : List ℕ) → is_owed V.NAME T.TYPE self.old.session.asked.interest catalogue.now.entries self.old.session.account.beliefs name ≡ true
+            → is_some (finmap.get names name) ≡ true }
+        ensures same { self.new.session ≡ self.old.session }
+        ensures fits { SessionFits V.NAME T.TYPE catalogue.now self.new }
+    {
+        let changes = catalogue.catalogue().changes();
+        self.ledger.relist(alloc, names, changes);
+    }
+
+    // Has what is believed stand as differences from what clients of this session's interest are offered first, where it differs much
+    // from what it stands on. It changes nothing that is seen.
+    fn rebase(&mut self, alloc: Global, catalogue: &Published<T>)
+        requires { SessionFits V.NAME T.TYPE catalogue.now self.old }
+        ensures { self.new ≡ self.old }
+    {
+        let interest = V::interest(&self.names);
+        if !wants_all(interest) || !self.ledger.differs_much() {
+            return;
+        }
+        let Some(wildcard) = V::wildcard(catalogue, interest.cluster()) else {
+            return;
+        };
+        let Ok(offer) = wildcard.offer.try_copy() else {
+            return;
+        };
+        self.ledger
+            .rebase(alloc, interest, catalogue.catalogue(), offer);
+    }
+
+    // rule: owed
+    // What `sends` answers, where the next response says what others were told.
+    fn sends_told(&self, catalogue: &Published<T>, told: &Wildcard<V::Said>) -> bool
+        requires fits { SessionFits V.NAME T.TYPE catalogue.now self.now }
+        requires offer { told.now.offer ≡ offer V.NAME T.TYPE self.now.session.asked.interest catalogue.now.entries self.now.session.account.beliefs }
+        requires delta { is_delta V.NAME ≡ true }
+        requires begun { self.now.session.asked.begun ≡ true }
+        ensures { result ≡ is_some (sending V.NAME T.TYPE self.now.session catalogue.now.entries) }
+    {
+        let interest = V::interest(&self.names);
+        self.ledger
+            .sends_offer(interest, catalogue.catalogue(), told.offer.as_map())
+    }
+
+    // rule: one-unanswered, rule: nonce-numbers
+    // The response itself, if one is to be sent.
+    fn next_told(
+        &self,
+        alloc: Global,
+        replica: u16,
+        catalogue: &Published<T>,
+        nonces: Nonces,
+        told: &Wildcard<V::Said>,
+    ) -> Result<Option<(SharedMap<Due>, V::Draft, Nonces)>, Refusal>
+        requires fits { SessionFits V.NAME T.TYPE catalogue.now self.now }
+        requires said { V.IsSaid catalogue.now.entries self.now.session.asked.interest told.now.offer told.now.said }
+        requires offer { told.now.offer ≡ offer V.NAME T.TYPE self.now.session.asked.interest catalogue.now.entries self.now.session.account.beliefs }
+        requires delta { is_delta V.NAME ≡ true }
+        requires begun { self.now.session.asked.begun ≡ true }
+        ensures ok { IfOk result (λ next. IsNext V.NAME T.TYPE catalogue.now.entries (V.response replica T.TYPE catalogue.now self.now.session.asked.interest) self.now.session nonces next) }
+        ensures bound { IfOk result (λ next. IfSome next (λ p. p.2 ≤ max_counter)) }
+        ensures refused { IfErr result (λ e. IsSome (sending V.NAME T.TYPE self.now.session catalogue.now.entries) × (((e ≡ NonceSpent) × (nonces ≡ max_counter)) ⊎ ((e ≡ OutOfMemory) × (nonces < max_counter)))) }
+    {
+        if !self.sends_told(catalogue, told) {
+            return Ok(None);
+        }
+        let mut drawn = nonces;
+        let number = drawn.next()?;
+        let (offer, draft) = self.respond_alike(alloc, replica, catalogue, told, number)?;
+        Ok(Some((offer, draft, drawn)))
     }
 
     // rule: one-unanswered, rule: nonce-numbers

@@ -13,13 +13,14 @@ use crate::wildcards::Wildcard;
 use std::alloc::Global;
 use xds_catalogue::Catalogue;
 use xds_interest::{ClusterText, DeltaNames, Interest, SotwNames};
-use xds_ledger::{Delta, Due, StateOfTheWorld, Variant};
+use xds_ledger::{Delta, Due, SharedMap, StateOfTheWorld, Variant};
 use xds_message::{Bodies, DeltaDraft, SotwDraft};
 use xds_resource::{NameMap, Refusal, ResourceType};
 
 /// What a variant decides of a session of one type: how it keeps what the requests asked for, and what a response says.
 pub trait Speaks<T: ResourceType>: Variant {
-    ghost use Rattle.std.specs.Prelude.{◌≡◌, ℕ};
+    ghost use Rattle.std.specs.Prelude.{◌≡◌, ℕ, List, is_some};
+    ghost use Rattle.std.specs.FinMap as finmap;
     ghost use Rattle.xds_resource.specs.declared.types.TypeName.{TypeName};
     ghost use Rattle.xds_interest.specs.Asked.{Asked};
     ghost use Rattle.xds_interest.specs.Interests.{Selection};
@@ -82,6 +83,20 @@ pub trait Speaks<T: ResourceType>: Variant {
         interest: &Interest<T>,
     ) -> Result<(), Refusal>
         requires { interest.now ≡ all_of interest.now.cluster }
+        ensures { published.new ≡ published.old };
+
+    /// What a client of this cluster was told since the last change, if it is kept, whatever clients want.
+    fn told<'a>(published: &'a Published<T>, cluster: &str) -> Option<&'a Wildcard<Self::Said>>
+        ensures said { IfSome result (λ w. (s : Selection) → IsSaid published.now.entries s w.now.offer w.now.said) }
+        ensures names { IfSome result (λ w. (name : List ℕ) → is_some (finmap.get w.now.names name) ≡ is_some (finmap.get w.now.offer name)) };
+
+    /// Keeps what a response with this offer says, as `told` answers it, where it is the same whatever clients want.
+    fn share_told(
+        alloc: Global,
+        published: &mut Published<T>,
+        cluster: &str,
+        offer: SharedMap<Due>,
+    ) -> Result<(), Refusal>
         ensures { published.new ≡ published.old };
 
     /// The response that says this, as the one of this number on its stream. Refused only by `OutOfMemory`.
@@ -147,6 +162,19 @@ impl<T: ResourceType> Speaks<T> for StateOfTheWorld {
         published.share_sotw(alloc, interest)
     }
 
+    fn told<'a>(_published: &'a Published<T>, _cluster: &str) -> Option<&'a Wildcard<Bodies>> {
+        None
+    }
+
+    fn share_told(
+        _alloc: Global,
+        _published: &mut Published<T>,
+        _cluster: &str,
+        _offer: SharedMap<Due>,
+    ) -> Result<(), Refusal> {
+        Ok(())
+    }
+
     fn respond(
         alloc: Global,
         replica: u16,
@@ -207,6 +235,19 @@ impl<T: ResourceType> Speaks<T> for Delta {
         interest: &Interest<T>,
     ) -> Result<(), Refusal> {
         published.share_delta(alloc, interest)
+    }
+
+    fn told<'a>(published: &'a Published<T>, cluster: &str) -> Option<&'a Wildcard<Said>> {
+        published.delta_told(cluster)
+    }
+
+    fn share_told(
+        alloc: Global,
+        published: &mut Published<T>,
+        cluster: &str,
+        offer: SharedMap<Due>,
+    ) -> Result<(), Refusal> {
+        published.share_told(alloc, cluster, offer)
     }
 
     fn respond(

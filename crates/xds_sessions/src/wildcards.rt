@@ -68,12 +68,18 @@ const MOST_SHARED: usize = 16;
 pub(crate) struct Wildcards {
     pub(crate) sotw: NameMap<Wildcard<Bodies>>,
     pub(crate) delta: NameMap<Wildcard<Said>>,
+    // Beside these, what a client of the cluster was offered that holds something.
+    pub(crate) told: NameMap<Wildcard<Said>>,
 }
 
 // Written out: docs/PROVING.md, "Drops".
 impl Drop for Wildcards {
     fn drop(self) {
-        let Wildcards { sotw: _, delta: _ } = self;
+        let Wildcards {
+            sotw: _,
+            delta: _,
+            told: _,
+        } = self;
     }
 }
 
@@ -83,10 +89,12 @@ impl Wildcards {
         ensures fits { (t : TypeName) (m : Entries) → Fits t m result }
         ensures sotw { finmap.len result.sotw < most_shared }
         ensures delta { finmap.len result.delta < most_shared }
+        ensures told { finmap.len result.told < most_shared }
     {
         Wildcards {
             sotw: NameMap::new(alloc),
             delta: NameMap::new(alloc),
+            told: NameMap::new(alloc),
         }
     }
 
@@ -95,8 +103,9 @@ impl Wildcards {
         ensures fits { (t : TypeName) (m : Entries) → Fits t m self.old → Fits t m self.new }
         ensures sotw { finmap.len self.new.sotw < most_shared }
         ensures delta { finmap.len self.new.delta < most_shared }
+        ensures told { finmap.len self.new.told < most_shared }
     {
-        if !has_room(&self.sotw) || !has_room(&self.delta) {
+        if !has_room(&self.sotw) || !has_room(&self.delta) || !has_room(&self.told) {
             *self = Wildcards::none(alloc);
         }
     }

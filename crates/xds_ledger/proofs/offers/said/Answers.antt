@@ -1,6 +1,6 @@
 use Rattle.std.proofs.Common.{◌≡◌, true, false, sym, ap, ◌∙◌}
 use Rattle.xds_ledger.specs.Variants.{is_whole}
-use Rattle.xds_ledger.proofs.OfferMade.{whole_of, partial_offer_made}
+use Rattle.xds_ledger.proofs.OfferMade.{whole_of}
 use Rattle.xds_ledger.proofs.offers.said.Goals as goal
 
 pub returns-then-is_whole-clause-ok : goal.returns-then-is_whole-clause-ok
@@ -12,7 +12,5 @@ returns-then-is_whole-clause-ok g c =
 pub returns-clause-ok : goal.returns-clause-ok
 returns-clause-ok g c =
     let v = c.args.variant in
-    let t = g.T.ResourceType.TYPE in
-    let partly : is_whole v t ≡ false = sym (c.is_whole.ensures ∙ ap (is_whole v) c.TYPE.ensures) ∙ c.if-is_whole.false in
-    partial_offer_made v t c.args.interest.now c.args.catalogue.now c.args.beliefs.now c.args.listed.now c.mark-mark.result c.in_ok-due.due c.in_ok-said.said partly c.in_ok-said.ensures.numbered c.requires c.mark-mark.ensures
-    c.in_ok-due.ensures.ok c.in_ok-said.ensures.ok
+    let partly : is_whole v g.T.ResourceType.TYPE ≡ false = sym (c.is_whole.ensures ∙ ap (is_whole v) c.TYPE.ensures) ∙ c.if-is_whole.false in
+    c.in_ok-said.ensures.ok partly c.requires

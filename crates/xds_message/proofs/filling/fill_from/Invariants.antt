@@ -1,4 +1,4 @@
-use Rattle.std.proofs.Common.{◌≡◌, ◌≤◌, ◌+◌, ◌++◌, length, drop, vec_capacity, ℕ}
+use Rattle.std.proofs.Common.{◌≡◌, ◌≤◌, ◌+◌, ◌++◌, length, drop, vec_capacity}
 use Rattle.xds_message.specs.Unsent.{IsPlaceIn, left_at}
 use Rattle.xds_message.proofs.filling.fill_from.Given as goal
 

@@ -1,4 +1,4 @@
-use Rattle.std.proofs.Common.{◌++◌, List, ℕ, drop, length, length-drop, subst, arith}
+use Rattle.std.proofs.Common.{◌++◌, List, ℕ, drop, length-drop, subst, arith}
 use Rattle.xds_message.specs.Pieces.{comma_before}
 use Rattle.xds_message.specs.Unsent.{IsFrontOf}
 use Rattle.xds_message.proofs.UnsentLemmas.{positive, put_behind}

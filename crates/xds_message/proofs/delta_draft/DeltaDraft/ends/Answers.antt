@@ -1,5 +1,4 @@
 use Rattle.std.proofs.Common.{[], ◌∷◌, ◌++◌, List, map, codes, string_bytes, ap, sym, ◌∙◌}
-use Rattle.std.specs.Arc.{arc_slice_items}
 use Rattle.serde_json.specs.Data.{string}
 use Rattle.serde_json.specs.Written.{compact_text}
 use Rattle.xds_message.specs.Written.{Fields, text_data, list_data, object_set}
@@ -27,7 +26,7 @@ returns-clause-text c =
     let joined = object_joined [] _ _ _ c.in_ok-join_text.field-0 all c.in_ok-head.ensures.ok members closed tt in
     let texts = ap (map (λ s. string (string_bytes s))) c.as_slice-removed.ensures.value ∙ map-twice string_bytes string c.self.inside.removed.items in
     let objects =
-    ap (map (λ (r : DraftedResource). resource_object (drafted_resource r))) c.as_slice-resources.ensures.value ∙ map-twice drafted_resource resource_object (arc_slice_items c.self.inside.resources) in
+    map-twice drafted_resource resource_object c.as_slice-resources.result.now ∙ ap (λ (rs : List DraftedResource). map resource_object (map drafted_resource rs)) c.as_slice-resources.ensures.value in
     ap (λ (m : DraftedDelta). head ++ (with_commas (map resource_text m.resources) ++ string_bytes c.push_str.new.self)) (sym c.self.view_is)
     ∙ ap (λ (resources : List DraftedResource). head ++ (with_commas (map resource_text resources) ++ string_bytes c.push_str.new.self)) (sym c.as_slice-resources.ensures.value)
     ∙ joined

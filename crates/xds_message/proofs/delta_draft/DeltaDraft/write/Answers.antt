@@ -1,5 +1,4 @@
-use Rattle.std.proofs.Common.{[], ◌∷◌, map, codes, string_bytes, ap, ◌∙◌}
-use Rattle.std.specs.Arc.{arc_slice_items}
+use Rattle.std.proofs.Common.{[], ◌∷◌, List, map, codes, string_bytes, ap, ◌∙◌}
 use Rattle.serde_json.specs.Data.{string}
 use Rattle.serde_json.specs.Written.{compact_text}
 use Rattle.xds_message.specs.Written.{Fields, text_data, list_data, object_set}
@@ -20,7 +19,7 @@ returns-clause-text c =
     let joined = object_joined [] _ _ _ c.in_ok-join_text.field-0 all c.in_ok-out.ensures.ok members c.in_ok-push_str.ensures.bytes tt in
     let texts = ap (map (λ s. string (string_bytes s))) c.as_slice.ensures.value ∙ map-twice string_bytes string c.self.inside.removed.items in
     let objects =
-    ap (map (λ (r : DraftedResource). resource_object (drafted_resource r))) c.as_slice-2.ensures.value ∙ map-twice drafted_resource resource_object (arc_slice_items c.self.inside.resources) in
+    map-twice drafted_resource resource_object c.as_slice-2.result.now ∙ ap (λ (rs : List DraftedResource). map resource_object (map drafted_resource rs)) c.as_slice-2.ensures.value in
     joined
     ∙ (λ i. compact_text (object_set (
     (codes "nonce", text_data (c.as_str.ensures.value i))

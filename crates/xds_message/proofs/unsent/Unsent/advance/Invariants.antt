@@ -1,4 +1,4 @@
-use Rattle.std.proofs.Common.{◌≡◌, ◌≤◌, ◌-◌, length, drop, ℕ}
+use Rattle.std.proofs.Common.{◌≡◌, ◌≤◌, ◌-◌, length, drop}
 use Rattle.xds_message.proofs.unsent.Unsent.advance.Given as goal
 
 abbrev pub invariant-loop-left : goal.invariant-loop-left

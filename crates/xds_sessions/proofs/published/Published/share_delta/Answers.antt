@@ -6,7 +6,7 @@ use Rattle.xds_catalogue.specs.Holdings.{Holdings}
 use Rattle.xds_ledger.specs.declared.variant.VariantName.TheVariants.{Delta}
 use Rattle.xds_ledger.specs.Offers.{Offer, offer}
 use Rattle.xds_sessions.specs.DeltaPolls.{said_by}
-use Rattle.xds_sessions.specs.Wildcards.{all_of}
+use Rattle.xds_sessions.specs.Wildcards.{IsShared, all_of}
 use Rattle.xds_sessions.proofs.Sharing.{kept_more, few_more, few_kept}
 use Rattle.xds_sessions.proofs.published.Published.share_delta.Goals as goal
 
@@ -21,14 +21,16 @@ invariant_of-self g c =
     let room = c.make_room.ensures.fits t m c.self.invariant in
     record {
       delta =
-          kept_more Delta t (λ m s o x. x ≡ said_by m o) m c.make_room.new.self.delta c.put.new.self cluster _ c.put.result c.put.ensures.ok c.put.ensures.err
+          kept_more (IsShared Delta t (λ m s o x. x ≡ said_by m o) m) c.make_room.new.self.delta c.put.new.self cluster _ c.put.result c.put.ensures.ok c.put.ensures.err
           (record {
             offer_is = made ∙ ap (λ (s : Selection). offer Delta t s m finmap.empty) all;
             names_are = λ name. c.in_ok-names.ensures.ok name ∙ ap (λ (o : Offer). is_some (finmap.get o name)) c.as_map-2.ensures;
-            said_is = c.in_ok-said.ensures.ok ∙ ap (said_by m) c.as_map.ensures;
+            said_is = c.in_ok-said.ensures.ok ∙ c.in_ok-stated.ensures.ok ∙ ap (said_by m) c.as_map.ensures;
           })
           room.delta;
       sotw = room.sotw;
+      told = room.told;
       few_delta = few_more c.make_room.new.self.delta c.put.new.self cluster _ c.put.result c.put.ensures.ok c.put.ensures.err c.make_room.ensures.delta;
       few_sotw = few_kept c.make_room.new.self.sotw c.make_room.ensures.sotw;
+      few_told = few_kept c.make_room.new.self.told c.make_room.ensures.told;
     }

@@ -6,7 +6,7 @@ use Rattle.xds_catalogue.specs.Holdings.{Holdings}
 use Rattle.xds_ledger.specs.declared.variant.VariantName.TheVariants.{StateOfTheWorld}
 use Rattle.xds_ledger.specs.Offers.{Offer, offer}
 use Rattle.xds_sessions.specs.SotwPolls.{stated_bodies}
-use Rattle.xds_sessions.specs.Wildcards.{all_of}
+use Rattle.xds_sessions.specs.Wildcards.{IsShared, all_of}
 use Rattle.xds_sessions.proofs.Sharing.{kept_more, few_more, few_kept}
 use Rattle.xds_sessions.proofs.published.Published.share_sotw.Goals as goal
 
@@ -21,7 +21,7 @@ invariant_of-self g c =
     let room = c.make_room.ensures.fits t m c.self.invariant in
     record {
       sotw =
-          kept_more StateOfTheWorld t (λ m s o x. x ≡ stated_bodies m s o) m c.make_room.new.self.sotw c.put.new.self cluster _ c.put.result c.put.ensures.ok c.put.ensures.err
+          kept_more (IsShared StateOfTheWorld t (λ m s o x. x ≡ stated_bodies m s o) m) c.make_room.new.self.sotw c.put.new.self cluster _ c.put.result c.put.ensures.ok c.put.ensures.err
           (record {
             offer_is = made ∙ ap (λ (s : Selection). offer StateOfTheWorld t s m finmap.empty) all;
             names_are = λ name. c.in_ok-names.ensures.ok name ∙ ap (λ (o : Offer). is_some (finmap.get o name)) c.as_map-2.ensures;
@@ -29,6 +29,8 @@ invariant_of-self g c =
           })
           room.sotw;
       delta = room.delta;
+      told = room.told;
       few_sotw = few_more c.make_room.new.self.sotw c.put.new.self cluster _ c.put.result c.put.ensures.ok c.put.ensures.err c.make_room.ensures.sotw;
       few_delta = few_kept c.make_room.new.self.delta c.make_room.ensures.delta;
+      few_told = few_kept c.make_room.new.self.told c.make_room.ensures.told;
     }
