@@ -8,3 +8,5 @@ pub mod AskedLaws
 pub mod NameSets
 pub mod Made
 pub mod Adding
+pub mod Again
+pub mod Ordered

@@ -3,6 +3,7 @@
 --     nothing             a client of this cluster that wants nothing
 --     everything          all of a complete type, and nothing of an incomplete one
 --     unasked             before the first request of a client of this cluster
+--     list_says           state of the world: what a list says of a client without a cluster, where one before it named something or not
 --     sotw_asked          state of the world: after one list more
 --     star_after          delta: whether the star stands after one request more, where it stood before or not
 --     names_after         delta: the explicit names after one request more
@@ -49,12 +50,17 @@ abbrev pub unasked : List ℕ → Asked
 unasked cluster = record { begun = false; named = false; interest = nothing cluster }
 
 -- rule: listed-names
+-- state of the world: what a list says of a client without a cluster, where one before it named something or none did
+abbrev pub list_says : TypeName → Bool → List (List ℕ) → Selection
+list_says t named names = if named || is_named names then listed t names else everything t
+
+-- rule: listed-names
 -- state of the world: after one list more
 abbrev pub sotw_asked : TypeName → Asked → List (List ℕ) → Asked
 sotw_asked t a names = record {
   begun = true;
   named = a.named || is_named names;
-  interest = in_cluster a.interest.cluster (if a.named || is_named names then listed t names else everything t);
+  interest = in_cluster a.interest.cluster (list_says t a.named names);
 }
 
 -- rule: delta-names

@@ -15,6 +15,7 @@
 --     DeltaIsKept                      and so it is with delta requests
 --     WideningIsUndone                 with more explicit names, and without those that came, all is as before
 --     NarrowingIsTheRest               with the explicit names that a delta request subscribes
+--     UnchangedTouchesNothing          an interest that stays as it is touches no name
 --     SotwTouchIsASet                  the touched names of the state of the world, as a set
 --     DeltaTouchIsASet                 the touched names of a delta request, as a set
 --     KeptStarIsOfComplete             only a complete type's star stands in what is kept
@@ -32,7 +33,7 @@ use Rattle.xds_interest.specs.SotW.{listed, sotw_interest}
 use Rattle.xds_interest.specs.Delta.{Mention, delta_interest}
 use Rattle.xds_interest.specs.Touched.{sotw_touches, delta_touches}
 use Rattle.xds_interest.specs.Asked.{Asked, IsStarOfComplete, unasked, sotw_asked, sotw_kept, delta_asked, delta_kept, wanted_by, widened, without_names, narrowed}
-use Rattle.xds_interest.specs.Touches.{touches, sotw_touch, delta_touch}
+use Rattle.xds_interest.specs.Touches.{no_touch, touches, sotw_touch, delta_touch}
 
 -- rule: listed-names
 -- once something was named, the last list says all
@@ -128,6 +129,10 @@ WideningIsUndone = (before : Asked) (names : set.FinSet text_cmp) → without_na
 abbrev pub NarrowingIsTheRest : Type 0
 NarrowingIsTheRest =
     (t : TypeName) (before : Asked) (m : Mention) → narrowed (widened before (wanted_by t before m).names) (wanted_by t before m) m.unsubscribe ≡ delta_asked t before m
+
+-- an interest that stays as it is touches no name
+abbrev pub UnchangedTouchesNothing : Type 0
+UnchangedTouchesNothing = (s : Selection) → sotw_touch s s ≡ no_touch
 
 -- the touched names, as a set
 abbrev pub SotwTouchIsASet : Type 0

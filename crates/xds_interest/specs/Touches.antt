@@ -1,9 +1,10 @@
 -- The names that a request touches, as a set: each of some names, or every name. This project's own.
 --     Touch, touch_code            whether every name is touched, and those that are touched in any case
+--     no_touch                     no name
 --     touches                      whether a name is touched
 --     sotw_touch                   from an old interest to a new one of the state of the world
 --     delta_touch                  by a delta request
-use Rattle.std.specs.Prelude.{ℕ, List, ◌++◌, Bool, ◌&&◌, ◌||◌, refl}
+use Rattle.std.specs.Prelude.{ℕ, List, ◌++◌, Bool, false, ◌&&◌, ◌||◌, refl}
 use Rattle.std.specs.FinSet as set
 use Rattle.std.specs.Coded.{Coded, code_by, coded×, coded_ℕ, coded_bool, coded_list}
 use Rattle.xds_resource.specs.declared.types.TypeName.{TypeName}
@@ -21,6 +22,10 @@ pub record Touch : Type 0 where
 abbrev pub touch_code : Coded Touch
 touch_code =
     code_by (Bool × set.FinSet text_cmp) (coded× coded_bool (set.code (coded_list coded_ℕ))) (λ t. (t.all, t.names)) (λ p. record { all = p.0; names = p.1 }) (λ _. refl)
+
+-- no name
+abbrev pub no_touch : Touch
+no_touch = record { all = false; names = set.empty }
 
 abbrev pub touches : Touch → List ℕ → Bool
 touches t name = t.all || set.contains t.names name

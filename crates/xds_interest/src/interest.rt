@@ -1,12 +1,12 @@
 // The interest of one client in one type.
-ghost use Rattle.std.specs.Prelude.{◌≡◌, map, [], ◌∷◌, IfOk, IfErr, OnOk, OnErr};
+ghost use Rattle.std.specs.Prelude.{◌≡◌, true, map, [], ◌∷◌, IfOk, IfErr, OnOk, OnErr};
 ghost use Rattle.std.specs.String.{string_bytes, string_cmp};
 ghost use Rattle.std.specs.List.Sorted.{IsStrictlySortedBy};
 ghost use Rattle.std.specs.FinSet as set;
 ghost use Rattle.xds_resource.specs.declared.refusal.Refusal.TheVariants.{OutOfMemory};
 ghost use Rattle.xds_interest.specs.Interests.{reaches, covers, is_open_to, in_cluster};
 ghost use Rattle.xds_interest.specs.SotW.{sotw_interest};
-ghost use Rattle.xds_interest.specs.Asked.{nothing};
+ghost use Rattle.xds_interest.specs.Asked.{nothing, list_says};
 ghost use Rattle.xds_interest.specs.Touches.{sotw_touch};
 
 use crate::cluster::ClusterText;
@@ -58,6 +58,14 @@ fn opens_star(kind: TypeName, names: &[String]) -> bool
     kind.is_complete() && (names.is_empty() || has_star_text(names))
 }
 
+// rule: listed-names, rule: star-covers
+// Whether the star stands after a list, where one before it named something or none did.
+fn star_after(kind: TypeName, named: bool, names: &[String]) -> bool
+    ensures { result ≡ (list_says kind named (map string_bytes names.now)).star }
+{
+    kind.is_complete() && ((!named && names.is_empty()) || has_star_text(names))
+}
+
 // rule: star-covers, rule: groups
 // Whether the star of a client of this cluster covers a write of these groups.
 fn is_open_to(groups: &Groups, cluster: &str) -> bool
@@ -102,6 +110,16 @@ impl<T: ResourceType> Interest<T> {
         let mut explicit = NameSet::new(alloc);
         explicit.insert_names(T::TYPE, names)?;
         Ok(Interest::of_parts(star, explicit, cluster))
+    }
+
+    // rule: listed-names
+    // Whether the interest is that of a client that sends this list, where a list before it named something or none did. It isn't
+    // told of each such list (`NameSet::are_listed`).
+    pub(crate) fn is_after(&self, alloc: Global, named: bool, names: &[String]) -> bool
+        ensures { result ≡ true → in_cluster self.now.cluster (list_says T.TYPE named (map string_bytes names.now)) ≡ self.now }
+    {
+        self.star == star_after(T::TYPE, named, names)
+            && self.names.are_listed(alloc, T::TYPE, names)
     }
 
     /// Whether the client wants a resource of this name, of some groups or other: as one of its

@@ -1,6 +1,6 @@
 //! What interests are, as statements that the prover checks. The functions do nothing.
 ghost use Rattle.xds_interest.specs.Examples.{SotwClusters, SotwRoutes, SotwTwice, DeltaClusters, DeltaRoutes};
-ghost use Rattle.xds_interest.specs.Laws.{WhileNothingIsNamed, LastListSaysAll, ListReachesItsNames, OneRequestMore, OneRequestMoreForTheStar, StarIsNoName, IncompleteHasNoStar, UntouchedKeepsReach, UntouchedKeepsReachInDelta, CoveredIsReached, WithoutGroupsReachedIsCovered, UntouchedKeepsCover, SotwIsKept, DeltaIsKept, WideningIsUndone, NarrowingIsTheRest, SotwTouchIsASet, DeltaTouchIsASet, KeptStarIsOfComplete, UntouchedKeepsReachOfKept, UntouchedKeepsReachOfKeptInDelta, UntouchedKeepsCoverOfKept, UntouchedKeepsCoverOfKeptInDelta};
+ghost use Rattle.xds_interest.specs.Laws.{WhileNothingIsNamed, LastListSaysAll, ListReachesItsNames, OneRequestMore, OneRequestMoreForTheStar, StarIsNoName, IncompleteHasNoStar, UntouchedKeepsReach, UntouchedKeepsReachInDelta, CoveredIsReached, WithoutGroupsReachedIsCovered, UntouchedKeepsCover, SotwIsKept, DeltaIsKept, WideningIsUndone, NarrowingIsTheRest, UnchangedTouchesNothing, SotwTouchIsASet, DeltaTouchIsASet, KeptStarIsOfComplete, UntouchedKeepsReachOfKept, UntouchedKeepsReachOfKeptInDelta, UntouchedKeepsCoverOfKept, UntouchedKeepsCoverOfKeptInDelta};
 
 // rule: listed-names
 /// Streams of state of the world, worked out request by request. An empty list is the star of
@@ -72,8 +72,9 @@ pub fn requests_in_two_steps()
     ensures rest { NarrowingIsTheRest }
 {}
 
-/// The touched names as a set are those of the definition.
+/// The touched names as a set are those of the definition. An interest that stays as it is touches none.
 pub fn touched_names_are_a_set()
+    ensures unchanged { UnchangedTouchesNothing }
     ensures sotw { SotwTouchIsASet }
     ensures delta { DeltaTouchIsASet }
 {}

@@ -1,12 +1,12 @@
 // Sets of names, which interests and touched names are made of.
-ghost use Rattle.std.specs.Prelude.{◌≡◌, map, IfOk, IfErr, OnOk, OnErr};
+ghost use Rattle.std.specs.Prelude.{◌≡◌, true, map, IfOk, IfErr, OnOk, OnErr};
 ghost use Rattle.std.specs.String.{string_bytes, string_cmp};
 ghost use Rattle.std.specs.List.Sorted.{IsStrictlySortedBy};
 ghost use Rattle.std.specs.FinSet as set;
 ghost use Rattle.xds_resource.specs.declared.refusal.Refusal.TheVariants.{OutOfMemory};
 ghost use Rattle.xds_interest.specs.Interests.{names_among};
 
-use crate::lists::is_star;
+use crate::lists::{has_star, in_order, is_star};
 use std::alloc::Global;
 use std::collections::BTreeSet;
 use std::collections::btree_set::Iter;
@@ -60,6 +60,62 @@ impl NameSet {
         ensures ascending { IsStrictlySortedBy string_cmp result }
     {
         self.names.iter()
+    }
+
+    // rule: star-covers
+    // Whether the texts of a request of the type that are names are those of the set. It isn't told of each such list, but of one that
+    // has them in ascending order, each once, for which it takes no memory; and of one that has as many texts as the set names, for
+    // which it takes a block of references, where there is one.
+    pub(crate) fn are_listed(&self, alloc: Global, kind: TypeName, texts: &[String]) -> bool
+        ensures { result ≡ true → self.now ≡ set.from_list (names_among kind (map string_bytes texts.now)) }
+    {
+        self.are_in_turn(kind, texts) || self.are_shuffled(alloc, kind, texts)
+    }
+
+    // Whether the texts that are names, in their order, are the names of the set in ascending order.
+    fn are_in_turn(&self, kind: TypeName, texts: &[String]) -> bool
+        ensures { result ≡ true → self.now ≡ set.from_list (names_among kind (map string_bytes texts.now)) }
+    {
+        let mut left = self.iter();
+        for text in texts {
+            if is_star(kind, text) {
+                continue;
+            }
+            let Some(name) = left.next() else {
+                return false;
+            };
+            if name.as_str() != text.as_str() {
+                return false;
+            }
+        }
+        left.next().is_none()
+    }
+
+    // The same of texts once they are in order, of which none is the star.
+    fn are_shuffled(&self, alloc: Global, kind: TypeName, texts: &[String]) -> bool
+        ensures { result ≡ true → self.now ≡ set.from_list (names_among kind (map string_bytes texts.now)) }
+    {
+        if self.names.len() != texts.len() || has_star(kind, texts) {
+            return false;
+        }
+        let Ok(ordered) = in_order(alloc, texts) else {
+            return false;
+        };
+        self.are_these(&ordered)
+    }
+
+    // Whether these are the names of the set in ascending order.
+    fn are_these(&self, texts: &[&str]) -> bool
+        ensures { result ≡ true → self.now ≡ set.from_list (map (λ s. s.now) texts.now) }
+    {
+        let mut passed = 0;
+        for name in self.iter() {
+            if passed == texts.len() || name.as_str() != texts[passed] {
+                return false;
+            }
+            passed += 1;
+        }
+        passed == texts.len()
     }
 
     // Puts a copy of a name in.

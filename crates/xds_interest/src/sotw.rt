@@ -1,5 +1,5 @@
 // What is kept of the name lists of a state-of-the-world stream.
-ghost use Rattle.std.specs.Prelude.{◌≡◌, map, IfOk, IfErr, OnOk, OnErr};
+ghost use Rattle.std.specs.Prelude.{◌≡◌, true, map, IfOk, IfErr, OnOk, OnErr};
 ghost use Rattle.std.specs.String.{string_bytes};
 ghost use Rattle.xds_resource.specs.declared.refusal.Refusal.TheVariants.{OutOfMemory};
 ghost use Rattle.xds_interest.specs.Asked.{unasked, sotw_asked};
@@ -84,6 +84,18 @@ impl<T: ResourceType> SotwNames<T> {
             named: self.named || !names.is_empty(),
             interest,
         })
+    }
+
+    // rule: listed-names
+    /// Whether one list more leaves what is kept as it is. No name is copied. It isn't told of each such list, but of one that has the
+    /// explicit names in ascending order, each once, for which it takes no memory; and of one that has as many texts as there are
+    /// such names, for which it takes a block of references. Where there is none, it answers `false`.
+    pub fn says_again(&self, alloc: Global, names: &[String]) -> bool
+        ensures { result ≡ true → sotw_asked T.TYPE self.now (map string_bytes names.now) ≡ self.now }
+    {
+        self.begun
+            && (self.named || names.is_empty())
+            && self.interest.is_after(alloc, self.named, names)
     }
 
     // rule: listed-names

@@ -4,7 +4,7 @@ ghost use Rattle.std.specs.String.{string_bytes, string_cmp};
 ghost use Rattle.std.specs.List.Sorted.{IsStrictlySortedBy};
 ghost use Rattle.std.specs.FinSet as set;
 ghost use Rattle.xds_resource.specs.declared.refusal.Refusal.TheVariants.{OutOfMemory};
-ghost use Rattle.xds_interest.specs.Touches.{touches};
+ghost use Rattle.xds_interest.specs.Touches.{touches, no_touch};
 
 use crate::names::NameSet;
 use std::alloc::Global;
@@ -40,6 +40,13 @@ impl Touched {
         ensures { result ≡ record { all = all; names = names } }
     {
         Touched { all, names }
+    }
+
+    /// No name. It takes no memory.
+    pub fn nothing(alloc: Global) -> Touched
+        ensures { result ≡ no_touch }
+    {
+        Touched::of_parts(false, NameSet::new(alloc))
     }
 
     /// Whether the name is touched.

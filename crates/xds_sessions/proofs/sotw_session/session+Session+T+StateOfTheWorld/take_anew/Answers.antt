@@ -1,4 +1,4 @@
-use Rattle.std.proofs.Common.{◌≡◌, true, map, string_bytes, ap, subst, ◌∙◌, rules, not}
+use Rattle.std.proofs.Common.{◌≡◌, true, map, string_bytes, ap, subst, ◌∙◌, not}
 use Rattle.std.specs.FinSet as set
 use Rattle.xds_interest.specs.Interests.{Selection}
 use Rattle.xds_interest.specs.Touches.{sotw_touch}
@@ -8,13 +8,13 @@ use Rattle.xds_ledger.specs.Lists.{Kept, FitsNext, StaysFit}
 use Rattle.xds_ledger.specs.Sessions.{Session, is_stale}
 use Rattle.xds_ledger.proofs.Keeping.{list_stays_fit}
 use Rattle.xds_sessions.proofs.SotwMade.{list_taken_by}
-use Rattle.xds_sessions.proofs.sotw_session.session+Session+T+StateOfTheWorld.take_list.Goals as goal
+use Rattle.xds_sessions.proofs.sotw_session.session+Session+T+StateOfTheWorld.take_anew.Goals as goal
 
 pub returns-clause-ok : goal.returns-clause-ok
 returns-clause-ok g c =
     let s : Session = c.args.self.now.session in
     let before : Session = record { asked = c.self.inside.names; account = c.self.inside.ledger.account } in
-    let held : not (is_stale s c.args.nonce.now) ≡ true = search rules in
+    let held : not (is_stale s c.args.nonce.now) ≡ true = ap not c.requires.fresh in
     let touches : c.in_ok-touched.touched ≡ sotw_touch before.asked.interest c.interest-interest.result.now =
     c.in_ok-touched.ensures.ok ∙ ap (λ (i : Selection). sotw_touch i c.interest-interest.result.now) c.interest.ensures in
     list_taken_by g.T.ResourceType.TYPE s before c.args.nonce.now c.args.rejects (map string_bytes c.args.list.now) c.in_ok-names.names c.take.new.self.account c.interest-interest.result.now
