@@ -191,6 +191,12 @@ unfolding IsStrictlySortedBy
 strings_ascend [] h = tt
 strings_ascend (k ∷ ks) h = (below_strings k ks h.0, strings_ascend ks h.1)
 
+-- texts that ascend
+pub texts_ascend : (ns : List (List ℕ)) → IsStrictlySortedBy text_cmp ns → Ascend ns
+unfolding IsStrictlySortedBy
+texts_ascend [] h = tt
+texts_ascend (n ∷ ns) h = (h.0, texts_ascend ns h.1)
+
 -- a loop over the entries, or over names, one further
 pub filter_map-map : {X Y Z : Type 0} (f : Y → Option Z) (h : X → Y) (xs : List X) → filter_map f (map h xs) ≡ filter_map (λ x. f (h x)) xs
 filter_map-map f h [] = refl

@@ -1,13 +1,13 @@
 // The catalogue of one type.
 ghost use Rattle.std.specs.Prelude.{◌≡◌, ◌-◌, ◌≤◌, ◌<◌, ◌^◌, ◌∷◌, [], length, nat_lt, map, is_some, true, false, IfSome, IfNone, IsOk, IfOk, IfErr, OnErr};
-ghost use Rattle.std.specs.List.{filter};
+ghost use Rattle.std.specs.List.{filter, filter_map};
 ghost use Rattle.std.specs.Option.{option_map};
 ghost use Rattle.std.specs.Arc.{arc_str_bytes};
 ghost use Rattle.std.specs.FinMap as finmap;
 ghost use Rattle.xds_resource.specs.Refusals.{Gives, unless_refused};
 ghost use Rattle.xds_resource.specs.Resources.{is_valid_name};
 ghost use Rattle.xds_catalogue.specs.Holdings.{nothing_held, IsCatalogue, IsNumbered};
-ghost use Rattle.xds_catalogue.specs.Content.{content, is_shown};
+ghost use Rattle.xds_catalogue.specs.Content.{content, is_shown, live_at};
 ghost use Rattle.xds_resource.specs.Stamps.{max_counter};
 ghost use Rattle.xds_catalogue.specs.Joins.{joined, joining};
 ghost use Rattle.xds_catalogue.specs.Local.{putting, deleting, has_live, spent_conditions, next_counter};
@@ -273,6 +273,16 @@ impl<T: ResourceType> Catalogue<T> {
         }
         let entries = self.entries(alloc)?;
         shown_of(alloc, &entries, interest)
+    }
+
+    // rule: tombstones
+    /// What stands live under each of some names, in the order of these. Refused only by `OutOfMemory`.
+    pub fn live_under(&self, alloc: Global, names: &[&str]) -> Result<Vec<&Write<T>>, Refusal>
+        ensures ok { IfOk result (λ v. map (λ w. w.now) v.items ≡ filter_map (live_at self.now.entries) (map (λ n. n.now) names.now)) }
+        ensures named { IsCatalogue self.now.entries }
+        ensures err { IfErr result (λ e. e ≡ Refusal.OutOfMemory) }
+    {
+        self.tables.names().live_under(alloc, names)
     }
 
     /// An equal catalogue, with memory of its own. Refused only by `OutOfMemory`.

@@ -1,6 +1,7 @@
 // The map from names: what stands under each name, and the number of the change that put it there.
 ghost use Rattle.std.specs.Prelude.{◌≡◌, map, false, OnOk, OnErr, IfOk, IfErr};
 ghost use Rattle.std.specs.Option.{option_map};
+ghost use Rattle.std.specs.List.{filter_map};
 ghost use Rattle.std.specs.FinMap as finmap;
 ghost use Rattle.xds_catalogue.specs.Holdings.{IsCatalogue};
 ghost use Rattle.xds_catalogue.specs.Content.{content, live_at};
@@ -179,6 +180,25 @@ impl<T: ResourceType> Names<T> {
             }
         }
         Ok(shown)
+    }
+
+    // rule: tombstones
+    // What stands live under each of some names, in the order of these.
+    pub(crate) fn live_under(
+        &self,
+        alloc: Global,
+        names: &[&str],
+    ) -> Result<Vec<&Write<T>>, Refusal>
+        ensures ok { IfOk result (λ v. map (λ w. w.now) v.items ≡ filter_map (live_at self.now.entries) (map (λ n. n.now) names.now)) }
+        ensures err { IfErr result (λ e. e ≡ Refusal.OutOfMemory) }
+    {
+        let mut live = Vec::with_capacity(alloc, names.len())?;
+        for name in names {
+            if let Some(write) = self.live(name) {
+                live.push(write)?;
+            }
+        }
+        Ok(live)
     }
 
     // An equal map, with memory of its own.

@@ -51,8 +51,8 @@ impl<T: ResourceType> Model for Interest<T> {
 }
 
 // rule: listed-names, rule: star-covers
-// Whether a stream's first list is the star, since it names nothing or names `*`.
-fn opens_star(kind: TypeName, names: &[String]) -> bool
+/// Whether a stream's first list is the star, since it names nothing or names `*`.
+pub fn opens_star(kind: TypeName, names: &[String]) -> bool
     ensures { result ≡ (sotw_interest kind (map string_bytes names.now ∷ [])).star }
 {
     kind.is_complete() && (names.is_empty() || has_star_text(names))

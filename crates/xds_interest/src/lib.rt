@@ -12,7 +12,8 @@ pub mod touched;
 
 pub use cluster::ClusterText;
 pub use delta::DeltaNames;
-pub use interest::Interest;
+pub use interest::{Interest, opens_star};
+pub use lists::in_order;
 pub use names::NameSet;
 pub use sotw::SotwNames;
 pub use touched::Touched;

@@ -59,8 +59,8 @@ fn borrowed(alloc: Global, texts: &[String]) -> Result<Vec<&str>, Refusal>
 }
 
 // rule: listed-names
-// The texts of a list in ascending byte order, each once, of which none is copied. Refused only by `OutOfMemory`.
-pub(crate) fn in_order(alloc: Global, texts: &[String]) -> Result<Vec<&str>, Refusal>
+/// The texts of a list in ascending byte order, each once, of which none is copied. Refused only by `OutOfMemory`.
+pub fn in_order(alloc: Global, texts: &[String]) -> Result<Vec<&str>, Refusal>
     ensures texts { IfOk result (λ v. set.from_list {R = text_cmp} (map (λ s. s.now) v.items) ≡ set.from_list (map string_bytes texts.now)) }
     ensures ascending { IfOk result (λ v. IsStrictlySortedBy text_cmp (map (λ s. s.now) v.items)) }
     ensures err { IfErr result (λ e. e ≡ OutOfMemory) }

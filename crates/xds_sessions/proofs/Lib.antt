@@ -5,3 +5,4 @@ pub mod DeltaMade
 pub mod Stating
 mod InPlace
 pub mod Sharing
+mod NamedRests
