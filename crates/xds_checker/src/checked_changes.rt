@@ -1,4 +1,8 @@
 // Changes at an operator's port whose resources a checker sees before they are made. Nobody waits for it longer than a moment at a time.
+ghost use Rattle.std.specs.Prelude.{◌≡◌, Err, None, map, string_bytes, IfOk};
+ghost use Rattle.std.specs.Option.{option_map};
+ghost use Rattle.xds_checker.specs.Checked.{told_line, why_after};
+
 use crate::checker::{Asks, Told, asked_of};
 use crate::validating::{Unchecked, judged, unchecked_line};
 use crossbeam_channel::{Receiver, RecvTimeoutError};
@@ -63,7 +67,9 @@ pub fn begin_asking<R: Wait>(
 }
 
 // A line that is refused so, whatever it says.
-fn refused_as(said: Said, refusal: Refusal) -> Said {
+fn refused_as(said: Said, refusal: Refusal) -> Said
+    ensures { result ≡ record { line = said.line; what = Err (record { refusal = refusal; cause = None; long = None }) } }
+{
     let line = said.line;
     drop(said);
     Said {
@@ -116,12 +122,25 @@ fn keep_why(alloc: Global, whys: &mut Whys, line: u64, unchecked: &Unchecked) {
 }
 
 /// The line of a line of changes that is refused, with what is told of why, where something is.
-pub fn told_line(alloc: Global, whys: &Whys, line: u64, fault: Fault) -> Result<String, Refusal> {
-    for (number, text) in whys.iter().rev() {
+pub fn told_line(alloc: Global, whys: &Whys, line: u64, fault: Fault) -> Result<String, Refusal>
+    ensures { IfOk result (λ t. string_bytes t ≡ told_line (map (λ w. (w.0, string_bytes w.1)) whys.now.items) line fault) }
+{
+    match why_of(whys, line) {
+        Some(why) => Ok(format!(in alloc; "{why}\n")?),
+        None => refused_line(alloc, line, fault),
+    }
+}
+
+// What is told of why a line isn't made, if something is: the last of what was kept of it.
+fn why_of<'a>(whys: &'a Whys, line: u64) -> Option<&'a str>
+    ensures { option_map (λ t. t.now) result ≡ why_after None (map (λ w. (w.0, string_bytes w.1)) whys.now.items) line }
+{
+    let mut found = None;
+    for (number, text) in whys {
         if *number == line {
-            let text = text.as_str();
-            return Ok(format!(in alloc; "{text}\n")?);
+            found = Some(text.as_str());
+            continue;
         }
     }
-    refused_line(alloc, line, fault)
+    found
 }

@@ -2,7 +2,7 @@
 ghost use Rattle.std.specs.Prelude.{◌≡◌, string_bytes, IfOk};
 ghost use Rattle.std.specs.Option.{option_map};
 ghost use Rattle.xds_core.specs.Seen.{event_of};
-ghost use Rattle.xds_checker.specs.Checked.{asked_text, counted_text, is_taken};
+ghost use Rattle.xds_checker.specs.Checked.{asked_text, counted_text, is_taken, told_absent};
 
 use crossbeam_channel::{Receiver, Sender, bounded, unbounded};
 use std::alloc::Global;
@@ -193,7 +193,9 @@ fn told_at<R: Machine>(rt: &R, alloc: Global, addr: SocketAddrV4, text: &str) ->
 }
 
 // What is told where a checker has no answer.
-fn told_absent(unanswered: Unanswered) -> Told {
+fn told_absent(unanswered: Unanswered) -> Told
+    ensures { result ≡ told_absent unanswered }
+{
     match unanswered {
         Unanswered::NoMemory => Err(Refusal::OutOfMemory),
         Unanswered::Unreachable => Ok(Verdict::Away(Absence::Unreachable)),
@@ -203,8 +205,13 @@ fn told_absent(unanswered: Unanswered) -> Told {
 }
 
 impl Known {
+    ghost use Rattle.std.specs.Prelude.{◌≡◌, false};
+    ghost use Rattle.xds_checker.specs.Checked.{known_after};
+
     // The same, once this was told of a resource.
-    fn with(self, verdict: &Verdict) -> Known {
+    fn with(self, verdict: &Verdict) -> Known
+        ensures { result ≡ known_after self verdict.now }
+    {
         let mut known = self;
         let absence = match verdict {
             Verdict::Good => {
@@ -228,10 +235,57 @@ impl Known {
     }
 
     // The same, once it is told that the checker is away, or isn't.
-    fn as_told(self) -> Known {
+    fn as_told(self) -> Known
+        ensures { result ≡ record self { is_untold = false } }
+    {
         let mut known = self;
         known.is_untold = false;
         known
+    }
+}
+
+/// What is asked of resources before they are taken. What a server asks its checker by is such.
+pub trait Judges {
+    ghost use Rattle.std.specs.Prelude.{◌≡◌, ℕ, List, Bool, Result};
+    ghost use Rattle.xds_resource.specs.declared.refusal.Refusal.{Refusal};
+    ghost use Rattle.xds_port.specs.declared.verdict.Verdict.{Verdict};
+
+    // What may be told of the resource of a text.
+    ghost tells: { Self → List ℕ → Result Verdict Refusal → Type 0 };
+
+    // Whether a resource is taken of which nothing is said.
+    ghost passes: { Self → Bool };
+
+    /// Asks of a resource, and waits for the answer, which is counted.
+    fn judge<R: Wait>(&self, rt: &R, alloc: Global, text: &str) -> Told
+        ensures { tells self.now text.now result };
+
+    /// Whether a resource is taken of which nothing is said.
+    fn takes_unseen(&self) -> bool
+        ensures { result ≡ passes self.now };
+
+    /// Tells that what is asked has gone away, or is back, where that isn't told yet.
+    fn tell_turn<R: Wait>(&self, rt: &R, alloc: Global, ending: &Ending);
+}
+
+impl Judges for Asks {
+    ghost use Rattle.std.specs.Prelude.{⊤};
+
+    // Nothing is claimed of what another thread tells.
+    ghost tells = { λ _ _ _. ⊤ };
+
+    ghost passes = { λ a. a.passes };
+
+    fn judge<R: Wait>(&self, rt: &R, alloc: Global, text: &str) -> Told {
+        self.check(rt, alloc, text)
+    }
+
+    fn takes_unseen(&self) -> bool {
+        self.passes
+    }
+
+    fn tell_turn<R: Wait>(&self, rt: &R, alloc: Global, ending: &Ending) {
+        self.tell(rt, alloc, ending);
     }
 }
 

@@ -1,9 +1,10 @@
 // Changes whose resources a checker sees before they are made: those of the input, and those of a file that is loaded.
-ghost use Rattle.std.specs.Prelude.{◌≡◌, None};
+ghost use Rattle.std.specs.Prelude.{◌≡◌, ◌||◌, not, Some, string_bytes, IfOk};
+ghost use Rattle.std.specs.Option.{option_map};
 ghost use Rattle.xds_core.specs.Seen.{event_of};
-ghost use Rattle.xds_checker.specs.Checked.{asked_text};
+ghost use Rattle.xds_checker.specs.Checked.{IsChecked, asked_text, judged, refusal_by, unchecked_line, whole_line};
 
-use crate::checker::{Asks, Told, asked_of, is_taken};
+use crate::checker::{Asks, Judges, Told, asked_of, is_taken};
 use std::alloc::Global;
 use std::io::Read;
 use std::sync::Wait;
@@ -41,7 +42,9 @@ pub fn unchecked_line(
     alloc: Global,
     line: u64,
     unchecked: &Unchecked,
-) -> Result<Option<String>, Refusal> {
+) -> Result<Option<String>, Refusal>
+    ensures { IfOk result (λ o. option_map string_bytes o ≡ unchecked_line line unchecked.now.refusal (option_map string_bytes unchecked.now.why)) }
+{
     let Some(why) = &unchecked.why else {
         return Ok(None);
     };
@@ -52,7 +55,9 @@ pub fn unchecked_line(
 }
 
 // Why a resource isn't taken of which this is told.
-fn refused_by(alloc: Global, verdict: &Verdict) -> Unchecked {
+fn refused_by(alloc: Global, verdict: &Verdict) -> Unchecked
+    ensures { result.refusal ≡ refusal_by verdict.now }
+{
     match verdict {
         Verdict::Bad(complaint) => Unchecked {
             refusal: Refusal::BadResource,
@@ -76,7 +81,9 @@ fn away_text(alloc: Global, why: Result<String, Refusal>) -> Result<String, Refu
 }
 
 /// Why a resource isn't taken of which this was told, if it isn't.
-pub fn judged(alloc: Global, told: Told, passes: bool) -> Option<Unchecked> {
+pub fn judged(alloc: Global, told: Told, passes: bool) -> Option<Unchecked>
+    ensures { option_map (λ u. u.refusal) result ≡ judged told passes }
+{
     match told {
         Ok(verdict) => {
             if is_taken(&verdict, passes) {
@@ -90,29 +97,36 @@ pub fn judged(alloc: Global, told: Told, passes: bool) -> Option<Unchecked> {
 }
 
 // Why a change isn't made, as a checker says, if it isn't.
-fn checked<R: Wait>(rt: &R, alloc: Global, asks: &Asks, change: &Change) -> Option<Unchecked>
-    ensures { asked_text (event_of change.now.event) ≡ None → result ≡ None }
+fn checked<R: Wait, C: Judges>(
+    rt: &R,
+    alloc: Global,
+    asks: &C,
+    change: &Change,
+) -> Option<Unchecked>
+    ensures { IsChecked (C.tells asks.now) (C.passes asks.now) (asked_text (event_of change.now.event)) (option_map (λ u. u.refusal) result) }
 {
     let text = asked_of(&change.event)?;
-    judged(alloc, asks.check(rt, alloc, text), asks.passes)
+    judged(alloc, asks.judge(rt, alloc, text), asks.takes_unseen())
 }
 
 /// What hands on the changes of an input whose resources a checker takes. Others are told; without `keeps` the first of them ends the
 /// server, as a line that is no change does, and none is handed on behind it.
 #[derive(Drop)]
-pub struct Validating<'a, H> {
+pub struct Validating<'a, H, C> {
     pub hands: H,
     pub alloc: Global,
-    pub asks: &'a Asks,
+    pub asks: &'a C,
     pub ending: &'a Ending,
     pub keeps: bool,
     pub is_over: bool,
 }
 
-impl<'a, H> Validating<'a, H> {
+impl<'a, H, C> Validating<'a, H, C> {
     // Tells that a change isn't made. Without `keeps` it ends the server.
     fn refuse_change<R: Wait>(&mut self, rt: &R, line: u64, unchecked: &Unchecked)
-        ensures { self.new.hands ≡ self.old.hands }
+        ensures hands { self.new.hands ≡ self.old.hands }
+        ensures over { self.new.is_over ≡ (self.old.is_over || not self.old.keeps) }
+        ensures kept { (self.new.keeps ≡ self.old.keeps) × (self.new.asks ≡ self.old.asks) }
     {
         let fault = Fault::of(unchecked.refusal);
         match unchecked_line(self.alloc, line, unchecked) {
@@ -129,10 +143,10 @@ impl<'a, H> Validating<'a, H> {
     }
 }
 
-impl<'a, H: Hands> Hands for Validating<'a, H> {
+impl<'a, H: Hands, C: Judges> Hands for Validating<'a, H, C> {
     ghost use Rattle.xds_checker.specs.Checked.{HandsChecked};
 
-    ghost hands = { λ s t w. HandsChecked H.hands s.is_over s.hands t.hands w };
+    ghost hands = { λ s t w. HandsChecked H.hands (C.tells s.asks.now) (C.passes s.asks.now) s.keeps s.is_over t.is_over s.hands t.hands w };
 
     fn hand<R: Wait>(&mut self, rt: &R, change: Change) {
         if self.is_over {
@@ -141,7 +155,7 @@ impl<'a, H: Hands> Hands for Validating<'a, H> {
         }
         let line = change.line;
         let unchecked = checked(rt, self.alloc, self.asks, &change);
-        self.asks.tell(rt, self.alloc, self.ending);
+        self.asks.tell_turn(rt, self.alloc, self.ending);
         match unchecked {
             Some(unchecked) => {
                 drop(change);
@@ -152,7 +166,7 @@ impl<'a, H: Hands> Hands for Validating<'a, H> {
     }
 }
 
-impl<'a, H: Keeps> Keeps for Validating<'a, H> {
+impl<'a, H: Keeps, C: Judges> Keeps for Validating<'a, H, C> {
     ghost refuses = { λ s t line refusal. H.refuses s.hands t.hands line refusal };
 
     fn refuse<R: Wait>(&mut self, rt: &R, line: u64, fault: Fault) {
@@ -233,7 +247,9 @@ pub fn first_refused<I: Read, R: Wait>(
 }
 
 // The line of a line that isn't made, without its end.
-fn whole_line(alloc: Global, line: u64, unchecked: &Unchecked) -> Result<Option<String>, Refusal> {
+fn whole_line(alloc: Global, line: u64, unchecked: &Unchecked) -> Result<Option<String>, Refusal>
+    ensures { IfOk result (λ o. option_map string_bytes o ≡ Some (whole_line line unchecked.now.refusal (option_map string_bytes unchecked.now.why))) }
+{
     if let Some(text) = unchecked_line(alloc, line, unchecked)? {
         return Ok(Some(text));
     }
